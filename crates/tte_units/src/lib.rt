@@ -1,0 +1,13 @@
+//! Time in whole units of 2^-16 ns, rates of clocks and speeds of links.
+#![tactic(auto)]
+
+mod rates;
+mod speed;
+mod units;
+
+pub use rates::{Ppb, slip};
+pub use speed::{Speed, octets};
+pub use units::{Units, mean};
+
+#[cfg(test)]
+mod tests;

@@ -1,0 +1,20 @@
+ghost use Rattle.std.specs.Prelude.{◌≡◌, ◌^◌, pos, neg_ℤ, ◌<ℤ◌};
+ghost use Rattle.tte_units.specs.Mean.{mean_of, IsMean};
+
+/// A time, a clock's reading or a delay, in units of 2^-16 ns: 1 ns is 65,536 units.
+#[derive(Clone, Copy, Debug, PartialEq, Eq, Hash, PartialOrd, Ord)]
+pub struct Units(pub i64);
+
+/// The mean of two numbers of units, rounded towards minus infinity.
+///
+/// Both lie strictly between -2^61 and 2^61.
+pub fn mean(a: Units, b: Units) -> Units
+    requires a_low { neg_ℤ (pos (2 ^ 61)) <ℤ a.0 }
+    requires a_high { a.0 <ℤ pos (2 ^ 61) }
+    requires b_low { neg_ℤ (pos (2 ^ 61)) <ℤ b.0 }
+    requires b_high { b.0 <ℤ pos (2 ^ 61) }
+    ensures value { result.0 ≡ mean_of a.0 b.0 }
+    ensures floor { IsMean a.0 b.0 result.0 }
+{
+    Units((a.0 + b.0).div_euclid(2))
+}
