@@ -1,0 +1,5 @@
+pub mod Zeros
+pub mod Encoding
+pub mod Spellings
+pub mod Outcomes
+pub mod Sequences

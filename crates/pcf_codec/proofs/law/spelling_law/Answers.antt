@@ -1,0 +1,8 @@
+use Rattle.pcf_codec.proofs.Outcomes.{is_spelling, is_prefix_free}
+use Rattle.pcf_codec.proofs.law.spelling_law.Goals as goal
+
+pub returns-clause-agreement : goal.returns-clause-agreement
+returns-clause-agreement c = is_spelling
+
+pub returns-clause-prefixes : goal.returns-clause-prefixes
+returns-clause-prefixes c = is_prefix_free

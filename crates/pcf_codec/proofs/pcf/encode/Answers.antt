@@ -1,0 +1,26 @@
+use Rattle.std.proofs.Common.{◌≡◌, ℕ, List, sym, subst, slice_index, Ok, arith}
+use Rattle.pcf_codec.specs.Spelling.{Spells, IsPadding}
+use Rattle.pcf_codec.specs.Decoding.{decoded}
+use Rattle.pcf_codec.proofs.Encoding.{encoded, writes, Fits, spells, padding}
+use Rattle.pcf_codec.proofs.Outcomes.{spelt_read}
+use Rattle.pcf_codec.proofs.pcf.encode.Goals as goal
+
+pub returns : goal.returns
+returns c =
+    let p = c.args.frame.now in
+    let wrote = writes p c.number.result c.number-2.result c.kind_code.result
+    c.write_u48.new.buf c.write_u48-2.new.buf c.write_u16.new.buf c.write_u32.new.buf c.write_u32-2.new.buf c.write_u64.new.buf
+    c.number.ensures.value c.number-2.ensures.value c.kind_code.ensures
+    c.write_u48.ensures c.write_u48-2.ensures c.write_u16.ensures c.write_u32.ensures c.write_u32-2.ensures c.write_u64.ensures in
+    let fits : Fits p = record {
+      destination = omega (arith, c.number.ensures.value, c.number.ensures.bound);
+      source = omega (arith, c.number-2.ensures.value, c.number-2.ensures.bound);
+      cycle = omega arith;
+      members = omega arith;
+      clock = omega arith;
+    } in
+    record {
+      spelling = subst (λ (xs : List ℕ). Spells xs p) (sym wrote) (spells p fits);
+      padding = subst (λ (xs : List ℕ). (i : ℕ) → IsPadding i → slice_index xs i ≡ 0) (sym wrote) (padding p);
+      round_trip = subst (λ (xs : List ℕ). decoded xs ≡ Ok p) (sym wrote) (spelt_read (encoded p) p (spells p fits));
+    }

@@ -1,0 +1,10 @@
+pub mod Fields
+pub mod EtherType
+pub mod Spelling
+pub mod Faults
+pub mod Decoding
+pub mod Sequence
+pub mod Reading
+pub mod ReaderView
+pub mod TtSpelling
+pub mod SpellingLaw
