@@ -43,3 +43,10 @@ after_writing octets s = record s { written = s.written ++ octets; calls = next_
 -- the sink after a call that failed
 abbrev pub after_failed_put : SinkState → SinkState
 after_failed_put s = record s { calls = next_count s.calls; faults = next_count s.faults }
+
+-- a sink that does not tell what was written
+pub record PutCounts : Type 0 where
+  -- the count of the calls
+  pub puts : ℕ
+  -- the count of the calls that failed
+  pub faults : ℕ

@@ -90,36 +90,45 @@ impl<'a, R: Files> Source for LazyFile<'a, R> {
     }
 }
 
-/// Standard output. What it shows is not told: contracts see it as the count of its faults.
+/// Standard output. What it shows is not told: contracts see it as the counts of its puts and of
+/// its faults.
 #[derive(Drop)]
 pub struct StdSink<'a, R: Print> {
     rt: &'a R,
+    puts: u64,
     faults: u64,
 }
 
 impl<'a, R: Print> Model for StdSink<'a, R> {
-    ghost use Rattle.std.specs.Prelude.{ℕ};
+    ghost use Rattle.tte_io.specs.Ends.{PutCounts};
 
-    ghost Value = { ℕ };
+    ghost Value = { PutCounts };
 
-    ghost view = { λ s. s.faults };
+    ghost view = { λ s. record { puts = s.puts; faults = s.faults } };
 }
 
 impl<'a, R: Print> StdSink<'a, R> {
     /// Standard output.
     pub fn new(rt: &'a R) -> StdSink<'a, R>
-        ensures no_fault { result ≡ 0 }
+        ensures none { result ≡ record { puts = 0; faults = 0 } }
     {
-        StdSink { rt, faults: 0 }
+        StdSink {
+            rt,
+            puts: 0,
+            faults: 0,
+        }
     }
 }
 
 impl<'a, R: Print> Sink for StdSink<'a, R> {
     ghost written = { λ _. None };
 
-    ghost faults = { λ faults. faults };
+    ghost puts = { λ s. s.puts };
+
+    ghost faults = { λ s. s.faults };
 
     fn put(&mut self, bytes: &[u8]) -> Result<(), SinkFailed> {
+        self.puts = self.puts.saturating_add(1);
         let mut rest = bytes;
         'pieces: while !rest.is_empty() {
             match self.rt.write_some(rest) {

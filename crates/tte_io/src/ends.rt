@@ -2,7 +2,7 @@ ghost use Rattle.std.specs.Prelude.{◌≡◌, ◌≤◌, ℕ, List, IfOk, OnOk,
 ghost use Rattle.std.specs.Io.{ReadsAtMost};
 ghost use Rattle.std.specs.Io.KnownBytes.{Appends, Keeps, ReadConsumes};
 ghost use Rattle.std.specs.declared.option.Option.{Option};
-ghost use Rattle.tte_io.specs.Faults.{Rose};
+ghost use Rattle.tte_io.specs.Faults.{Rose, next_count};
 ghost use Rattle.tte_io.specs.Told.{AppendsFront, NoneGivenExactlyAtEnd};
 
 /// A read failed.
@@ -38,6 +38,9 @@ pub trait Sink {
     /// The octets that were written, where they are told.
     ghost written: { Self → Option (List ℕ) };
 
+    /// The count of the puts, which stands still at its last value, 2^64 - 1.
+    ghost puts: { Self → ℕ };
+
     /// The count of the puts that failed.
     ghost faults: { Self → ℕ };
 
@@ -45,6 +48,7 @@ pub trait Sink {
     fn put(&mut self, bytes: &[u8]) -> Result<(), SinkFailed>
         ensures all { OnOk result (Appends (written self.old) (written self.new) bytes.now) }
         ensures front { OnErr result (AppendsFront (written self.old) (written self.new) bytes.now) }
+        ensures counted { puts self.new ≡ next_count (puts self.old) }
 
         ensures never_falls { faults self.old ≤ faults self.new }
         ensures ok_unchanged { OnOk result (faults self.new ≡ faults self.old) }

@@ -3,6 +3,7 @@
 
 mod edge;
 mod ends;
+mod line_text;
 mod memory;
 mod sinks;
 mod sources;
@@ -10,6 +11,7 @@ mod whole;
 
 pub use edge::{LazyFile, PathText, StdSink};
 pub use ends::{Sink, SinkFailed, Source, SourceFailed};
+pub use line_text::LineText;
 pub use memory::OutOfMemory;
 pub use sinks::MemorySink;
 pub use sources::{MemorySource, SteadySource};

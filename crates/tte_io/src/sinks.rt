@@ -1,6 +1,6 @@
 ghost use Rattle.std.specs.Prelude.{◌≡◌, ◌<◌, ◌≤◌, ◌+◌, ◌↔◌, ◌⊎◌, [], length, IsErr, IfOk, OnOk, OnErr, Contains, Some};
 ghost use Rattle.std.specs.Io.KnownBytes.{Appends};
-ghost use Rattle.tte_io.specs.Faults.{Rose};
+ghost use Rattle.tte_io.specs.Faults.{Rose, next_count};
 ghost use Rattle.tte_io.specs.Told.{AppendsFront};
 ghost use Rattle.tte_io.specs.Ends.{after_writing, after_failed_put};
 
@@ -54,11 +54,14 @@ impl MemorySink {
 impl Sink for MemorySink {
     ghost written = { λ s. Some s.written };
 
+    ghost puts = { λ s. s.calls };
+
     ghost faults = { λ s. s.faults };
 
     fn put(&mut self, bytes: &[u8]) -> Result<(), SinkFailed>
         ensures all { OnOk result (Appends (Some self.old.written) (Some self.new.written) bytes.now) }
         ensures front { OnErr result (AppendsFront (Some self.old.written) (Some self.new.written) bytes.now) }
+        ensures counted { self.new.calls ≡ next_count self.old.calls }
 
         ensures never_falls { self.old.faults ≤ self.new.faults }
         ensures ok_unchanged { OnOk result (self.new.faults ≡ self.old.faults) }

@@ -1,0 +1,84 @@
+ghost use Rattle.std.specs.Prelude.{◌≡◌, ◌≤◌, ◌+◌, ◌*◌, [], ◌++◌, length, decimal};
+ghost use Rattle.hex.specs.Hex.{encode_lower};
+
+use itoa::Buffer;
+use std::marker::Model;
+
+const ROOM: usize = 4096;
+
+/// A text of at most 4,096 octets, made piece by piece in place. It takes no memory.
+#[derive(Drop)]
+pub struct LineText {
+    octets: [u8; ROOM],
+    len: usize,
+}
+
+impl Model for LineText {
+    ghost use Rattle.std.specs.Prelude.{ℕ, List, take, ◌≤◌};
+
+    ghost Value = { List ℕ };
+
+    ghost view = { λ t. take t.len t.octets };
+
+    ghost invariant = { λ t. t.len ≤ 4096 };
+}
+
+impl LineText {
+    /// An empty text.
+    pub fn new() -> LineText
+        ensures { result ≡ [] }
+    {
+        LineText {
+            octets: [0; ROOM],
+            len: 0,
+        }
+    }
+
+    /// Makes the text empty.
+    pub fn clear(&mut self)
+        ensures { self.new ≡ [] }
+    {
+        self.len = 0;
+    }
+
+    /// Adds a text, for which there is room.
+    pub fn push(&mut self, text: &str)
+        requires { length self.old + length text.now ≤ 4096 }
+        ensures text { self.new ≡ self.old ++ text.now }
+        ensures grows { length self.new ≡ length self.old + length text.now }
+    {
+        let end = self.len + text.len();
+        self.octets[self.len..end].copy_from_slice(text.as_bytes());
+        self.len = end;
+    }
+
+    /// Adds a number in decimal, which takes at most 20 octets.
+    pub fn push_decimal(&mut self, n: u64)
+        requires { length self.old + 20 ≤ 4096 }
+        ensures text { self.new ≡ self.old ++ decimal n }
+        ensures grows { length self.new ≤ length self.old + 20 }
+    {
+        let mut buffer = Buffer::new();
+        self.push(buffer.format(n));
+    }
+
+    /// Adds octets in lower-case hexadecimal, two digits each.
+    pub fn push_hex(&mut self, octets: &[u8])
+        requires { length self.old + 2 * length octets.now ≤ 4096 }
+        ensures text { self.new ≡ self.old ++ encode_lower octets.now }
+        ensures grows { length self.new ≡ length self.old + 2 * length octets.now }
+    {
+        let end = self.len + 2 * octets.len();
+        match hex::encode_to_slice(octets, &mut self.octets[self.len..end]) {
+            Ok(()) => self.len = end,
+            Err(_) => unreachable!(),
+        }
+    }
+
+    /// The text.
+    pub fn as_slice(&self) -> &[u8]
+        ensures { result.now ≡ self.now }
+    {
+        &self.octets[..self.len]
+    }
+}
