@@ -1,0 +1,5 @@
+pub mod Puts
+pub mod Frames
+pub mod FormLemmas
+pub mod ShowAnswers
+pub mod TopAnswers

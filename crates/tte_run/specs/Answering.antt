@@ -1,0 +1,30 @@
+-- What the program owes: an answer, whole or cut short.
+use Rattle.std.specs.Prelude.{◌≡◌, ◌⊎◌, ℕ, List, ◌∷◌, Option, Some, None}
+use Rattle.tte_run.specs.Putting.{Shown, PutsLines, PutsSome, PutFails}
+use Rattle.tte_run.specs.declared.status.Status.{Status}
+use Rattle.tte_run.specs.declared.status.Status.TheVariants.{Done, ReadFault, WriteFault, OutOfMemory}
+
+-- a status, and lines with their ends
+pub record Answer : Type 0 where
+  pub status : Status
+  pub lines : List (List ℕ)
+
+-- the same answer with one more line in front
+abbrev pub with_line : List ℕ → Answer → Answer
+with_line line a = record { status = a.status; lines = line ∷ a.lines }
+
+-- the whole answer was given, or the first lines of it until a put failed, or until a read failed or memory ran out
+abbrev pub Gives : Answer → Status → Shown → Shown → Type 0
+Gives a status old new =
+    ((status ≡ a.status) × PutsLines a.lines old new)
+    ⊎ ((status ≡ WriteFault) × PutFails a.lines old new)
+    ⊎ (((status ≡ ReadFault) ⊎ (status ≡ OutOfMemory)) × PutsSome a.lines old new)
+
+-- the answer for the octets of a source was given so, where the source tells them
+abbrev pub Answers : (List ℕ → Answer) → Option (List ℕ) → Status → Shown → Shown → Type 0
+Answers answer None status old new = Unit {0}
+Answers answer (Some octets) status old new = Gives (answer octets) status old new
+
+-- done, or out of memory
+abbrev pub IsDone : Status → Type 0
+IsDone status = (status ≡ Done) ⊎ (status ≡ OutOfMemory)

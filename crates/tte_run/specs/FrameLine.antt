@@ -1,0 +1,40 @@
+-- The lines that `show` writes.
+use Rattle.std.specs.Prelude.{ℕ, List, ◌++◌, codes}
+use Rattle.std.specs.Fmt.{decimal}
+use Rattle.hex.specs.Hex.{encode_lower}
+use Rattle.byteorder.specs.Endian.{big_bytes}
+use Rattle.pcf_values.specs.declared.pcf.Pcf.{Pcf}
+use Rattle.pcf_values.specs.declared.pcf.PcfKind.{PcfKind}
+use Rattle.pcf_values.specs.declared.pcf.PcfKind.TheVariants.{Integration, ColdStart, ColdStartAck}
+use Rattle.pcf_codec.specs.declared.refusal.PcfRefusal.{PcfRefusal}
+use Rattle.pcf_codec.specs.declared.refusal.PcfRefusal.TheVariants as refusals
+
+-- the name of a frame's type
+abbrev pub kind_text : PcfKind → List ℕ
+kind_text Integration = codes "IN"
+kind_text ColdStart = codes "CS"
+kind_text ColdStartAck = codes "CA"
+
+-- a number of n octets in lower-case hexadecimal
+abbrev pub hex_text : ℕ → ℕ → List ℕ
+hex_text n x = encode_lower (big_bytes n x)
+
+-- the line of a frame
+unfoldable pub frame_line : ℕ → Pcf → List ℕ
+frame_line number p =
+    codes "frame " ++ decimal number ++ codes " " ++ kind_text p.kind
+    ++ codes " cycle " ++ decimal p.cycle ++ codes " members " ++ hex_text 4 p.members.0
+    ++ codes " priority " ++ decimal p.priority ++ codes " domain " ++ decimal p.domain
+    ++ codes " clock " ++ decimal p.clock
+    ++ codes " to " ++ hex_text 6 p.destination ++ codes " from " ++ hex_text 6 p.source ++ codes "\n"
+
+-- why a frame is refused
+abbrev pub refusal_text : PcfRefusal → List ℕ
+refusal_text (refusals.Length n) = codes "length " ++ decimal n
+refusal_text refusals.EtherType = codes "ethertype"
+refusal_text (refusals.Reserved i) = codes "reserved " ++ decimal i
+refusal_text (refusals.Kind k) = codes "type " ++ hex_text 1 k
+
+-- the line of a frame that is refused
+unfoldable pub refusal_line : ℕ → PcfRefusal → List ℕ
+refusal_line number e = codes "refused frame " ++ decimal number ++ codes " " ++ refusal_text e ++ codes "\n"

@@ -1,0 +1,43 @@
+-- What a sink shows of the lines that were put.
+use Rattle.std.specs.Prelude.{◌≡◌, ℕ, zero, suc, List, ◌∷◌, ◌++◌, length, Option}
+use Rattle.std.specs.List.{concat}
+use Rattle.std.specs.Io.KnownBytes.{Appends}
+use Rattle.tte_io.specs.Faults.{next_count}
+use Rattle.tte_io.specs.Told.{AppendsFront}
+
+-- the octets written, where they are told, and the count of puts
+pub record Shown : Type 0 where
+  pub written : Option (List ℕ)
+  pub puts : ℕ
+
+-- what a sink shows
+abbrev pub shown_by : {K : Type 0} → (K → Option (List ℕ)) → (K → ℕ) → K → Shown
+shown_by written puts out = record { written = written out; puts = puts out }
+
+-- the count of puts after n more
+abbrev pub puts_after : ℕ → ℕ → ℕ
+puts_after zero puts = puts
+puts_after (suc n) puts = puts_after n (next_count puts)
+
+-- these lines were put, each in one put
+pub record PutsLines (lines : List (List ℕ)) (old new : Shown) : Type 0 where
+  pub written : Appends old.written new.written (concat lines)
+  pub counted : new.puts ≡ puts_after (length lines) old.puts
+
+-- some of these lines were put, the first ones
+pub record PutsSome (lines : List (List ℕ)) (old new : Shown) : Type 0 where
+  pub done : List (List ℕ)
+  pub left : List (List ℕ)
+  pub order : lines ≡ done ++ left
+  pub puts : PutsLines done old new
+
+-- some of these lines were put, and then the put of the next one failed after a front of it
+pub record PutFails (lines : List (List ℕ)) (old new : Shown) : Type 0 where
+  pub done : List (List ℕ)
+  pub line : List ℕ
+  pub left : List (List ℕ)
+  pub order : lines ≡ done ++ line ∷ left
+  pub before : Shown
+  pub puts : PutsLines done old before
+  pub front : AppendsFront before.written new.written line
+  pub counted : new.puts ≡ next_count before.puts

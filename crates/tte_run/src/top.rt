@@ -1,0 +1,48 @@
+ghost use Rattle.std.specs.Prelude.{◌≡◌, ◌⊎◌};
+ghost use Rattle.tte_io.specs.Faults.{Rose};
+ghost use Rattle.tte_run.specs.Putting.{shown_by};
+ghost use Rattle.tte_run.specs.Answering.{Answers, Gives};
+ghost use Rattle.tte_run.specs.Forms.{form_of};
+ghost use Rattle.tte_run.specs.Top.{answer, usage_answer, AnswersUsage, Completes};
+
+use crate::form::{Form, read_form};
+use crate::put_line::put_last;
+use crate::{Status, Words, show};
+use std::alloc::Global;
+use tte_io::{Sink, Source};
+
+const USAGE: &str =
+    "usage: tte show FILE | check NETWORK | run NETWORK TRACE | storm NETWORK SEED CYCLES\n";
+
+/// All that the program does: it answers the words, with `first` as the file that word 2 names and
+/// `second` as the one that word 3 names, and writes to `out`.
+pub fn tte<A: Source, B: Source, K: Sink>(
+    alloc: Global,
+    words: &Words,
+    first: &mut A,
+    second: &mut B,
+    out: &mut K,
+) -> Status
+    ensures general { Answers (answer words.now) (A.left first.old) result
+        (shown_by K.written K.puts out.old) (shown_by K.written K.puts out.new) }
+    ensures usage { AnswersUsage (form_of words.now) result
+        (shown_by K.written K.puts out.old) (shown_by K.written K.puts out.new) }
+    ensures read { result ≡ Status.ReadFault → Rose (A.faults first.old) (A.faults first.new) }
+    ensures write { result ≡ Status.WriteFault → Rose (K.faults out.old) (K.faults out.new) }
+    ensures complete { Completes (form_of words.now) (A.left first.old)
+        (Rose (A.faults first.old) (A.faults first.new)) (Rose (K.faults out.old) (K.faults out.new)) result }
+    ensures second_unread { second.new ≡ second.old }
+{
+    let _ = second;
+    match read_form(words) {
+        Some(Form::Show) => show(alloc, first, out),
+        None => put_usage(out),
+    }
+}
+
+fn put_usage<K: Sink>(out: &mut K) -> Status
+    ensures gives { Gives usage_answer result (shown_by K.written K.puts out.old) (shown_by K.written K.puts out.new) }
+    ensures status { (result ≡ Status.Usage) ⊎ ((result ≡ Status.WriteFault) × Rose (K.faults out.old) (K.faults out.new)) }
+{
+    put_last(USAGE.as_bytes(), Status::Usage, out)
+}
