@@ -1,6 +1,6 @@
 -- Rate steps in the order of time.
-use Rattle.std.proofs.Common.{◌≡◌, ◌⊎◌, ℕ, zero, suc, ◌+◌, ◌<◌, ◌≤◌, Bool, true, false, List, [], ◌∷◌, ◌++◌, length, refl, sym, ap, ◌∙◌, arith, inl, inr, unsigned_abs}
-use Rattle.std.specs.Prelude.{All, filter, nat_le}
+use Rattle.std.proofs.Common.{◌≡◌, ℕ, suc, ◌<◌, ◌≤◌, List, [], ◌∷◌, refl, ap, ◌∙◌, arith, unsigned_abs}
+use Rattle.std.specs.Prelude.{All}
 use Rattle.std.specs.List.Sorted.{IsNonDecreasingBy}
 use Rattle.std.proofs.lemmas.Bool.{le-leb, lt-leb}
 use Rattle.std.proofs.lemmas.List.Sorted.{IsNonDecreasingBy-drop}
@@ -39,3 +39,7 @@ up_to-late t s steps lt = rw (lt-leb s.at t lt) refl
 pub up_to-none : (rho t from : ℕ) (steps : List RateStep) → InOrder rho from steps → t < from → up_to t steps ≡ []
 up_to-none rho t from [] i lt = refl
 up_to-none rho t from (s ∷ steps) i lt = up_to-late t s steps (omega (arith, i.0)) ∙ up_to-none rho t s.at steps i.2 (omega (arith, i.0))
+
+pub up_to-all : (t : ℕ) (steps : List RateStep) → All (λ s. s.at ≤ t) steps → up_to t steps ≡ steps
+up_to-all t [] all = refl
+up_to-all t (s ∷ steps) all = up_to-cons t s steps (all 0 s (omega arith)) ∙ ap (λ xs. s ∷ xs) (up_to-all t steps (rest_within (λ x. x.at ≤ t) s steps all))

@@ -1,12 +1,12 @@
 -- The instant at which a count is enough.
-use Rattle.std.proofs.Common.{◌≡◌, ◌⊎◌, ℕ, ◌+◌, ◌-◌, ◌*◌, ◌/◌, ◌%◌, ◌^◌, ◌<◌, ◌≤◌, arith, inl, inr, sym, subst, ℤ, pos, unsigned_abs, ◌≤ℤ◌, ◌<ℤ◌}
+use Rattle.std.proofs.Common.{◌≡◌, ℕ, ◌+◌, ◌-◌, ◌*◌, ◌/◌, ◌%◌, ◌^◌, ◌<◌, ◌≤◌, arith, inl, inr, ℤ, pos}
 use Rattle.std.specs.Int.{div_ceil}
 use Rattle.std.proofs.lemmas.Bool.{cases_lt}
 use Rattle.std.proofs.lemmas.Grind.{div_ceil_times}
 use Rattle.std.proofs.lemmas.Int.{ints}
 use Rattle.std.proofs.lemmas.Nat.{le-div}
-use Rattle.std.proofs.Math.Nat.{mul-le-mul_left, mul-le-mul_right, mul-div-le, lt_of_mul-lt-mul_left}
-use Rattle.drift_clock.specs.Counts.{gain, rounded}
+use Rattle.std.proofs.Math.Nat.{mul-le-mul_left, mul-div-le, lt_of_mul-lt-mul_left}
+use Rattle.drift_clock.specs.Counts.{gain}
 use Rattle.drift_clock.specs.Reach.{IsReach}
 use Rattle.drift_clock.specs.Segment.{Segment, segment_count, segment_reading}
 use Rattle.drift_clock.proofs.Rounding.{le-rounded, rounded-lt}
@@ -40,10 +40,12 @@ counts_up : (at count g m d : ℕ) → 0 < g → count ≤ 10 ^ 9 * m → d ≡ 
     → (10 ^ 9 * m ≤ count + g * ((at + d) - at)) × ((x : ℕ) → at ≤ x → x < at + d → count + g * (x - at) < 10 ^ 9 * m)
 counts_up at count g m d fast ahead steps =
     let times = ceiling (10 ^ 9 * m - count) g d fast steps in
-    let same : (at + d) - at ≡ d = omega arith in
-    (rw same (omega (arith, times.0)), λ x after before.
-        let fewer : g * ((x - at) + 1) ≤ g * d = mul-le-mul_left g (omega arith) in
-        omega (arith, times.1))
+    let same : (at + d) - at ≡ d = omega arith in (
+      rw same (omega (arith, times.0)),
+      λ x after before.
+          let fewer : g * ((x - at) + 1) ≤ g * d = mul-le-mul_left g (omega arith) in
+          omega (arith, times.1),
+    )
 
 pub segment_counts_up : (c : Segment) (m d : ℕ) → 0 < gain c.rate → c.count ≤ 10 ^ 9 * m → d ≡ div_ceil (10 ^ 9 * m - c.count) (gain c.rate) → IsCounted c m (c.at + d)
 segment_counts_up c m d fast ahead steps = let up = counts_up c.at c.count (gain c.rate) m d fast ahead steps in record { counted = up.0; not_before = up.1 }

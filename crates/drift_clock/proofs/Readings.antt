@@ -1,12 +1,12 @@
 -- The readings of a clock under its steps, from the laws of one step.
-use Rattle.std.proofs.Common.{◌≡◌, ◌⊎◌, ℕ, ◌+◌, ◌-◌, ◌*◌, ◌^◌, ◌<◌, ◌≤◌, List, [], ◌∷◌, ℤ, refl, sym, ap, subst, ◌∙◌, arith, inl, inr, unsigned_abs}
+use Rattle.std.proofs.Common.{◌≡◌, ℕ, ◌+◌, ◌-◌, ◌*◌, ◌<◌, ◌≤◌, List, [], ◌∷◌, ℤ, refl, ap, subst, ◌∙◌, arith, inl, inr, unsigned_abs}
 use Rattle.std.proofs.lemmas.Bool.{cases_lt}
 use Rattle.std.proofs.Math.Nat.{mul-le-mul_right}
-use Rattle.drift_clock.specs.RateSteps.{RateStep, IsHistory, up_to}
+use Rattle.drift_clock.specs.RateSteps.{RateStep, up_to}
 use Rattle.drift_clock.specs.Readings.{value_after, reading_at}
 use Rattle.drift_clock.specs.Counts.{Advances, rounded}
-use Rattle.drift_clock.specs.ClockLaws.{KeepsClockLaws, AlwaysKeepsClockLaws, AlwaysBeginsAtZero}
-use Rattle.drift_clock.proofs.Histories.{InOrder, in_order, up_to-cons, up_to-late, up_to-none}
+use Rattle.drift_clock.specs.ClockLaws.{AlwaysKeepsClockLaws, AlwaysBeginsAtZero, ReadsItsSteps}
+use Rattle.drift_clock.proofs.Histories.{InOrder, in_order, up_to-cons, up_to-late, up_to-none, up_to-all}
 use Rattle.drift_clock.proofs.Rounding.{rounded-zero, rounded-mono, rounded-measures}
 
 -- a step keeps the count, which then drifts by its rate
@@ -122,3 +122,6 @@ count_at_zero after_step count keeps c (s ∷ steps) =
 pub begins_at_zero : {C : Type 0} (fresh : ℕ → C) (after_step : C → ℕ → ℤ → C) (reading : C → ℕ → ℕ) (grain : C → ℕ) (count : C → ℕ → ℕ) → IsLawful fresh after_step reading grain count → AlwaysBeginsAtZero fresh after_step reading
 begins_at_zero fresh after_step reading grain count law g steps =
     reads fresh after_step reading grain count law g steps 0 ∙ ap (rounded g) (count_at_zero after_step count law.keeps_count (fresh g) steps ∙ law.from_zero g) ∙ rounded-zero g
+
+pub reads_its_steps : {C : Type 0} (fresh : ℕ → C) (after_step : C → ℕ → ℤ → C) (reading : C → ℕ → ℕ) → ReadsItsSteps fresh after_step reading
+reads_its_steps fresh after_step reading g steps t all = ap (λ xs. reading (value_after after_step (fresh g) xs) t) (up_to-all t steps all)

@@ -1,9 +1,7 @@
 -- A count rounded down to whole grains.
-use Rattle.std.proofs.Common.{◌≡◌, ◌⊎◌, ℕ, ◌+◌, ◌-◌, ◌*◌, ◌/◌, ◌%◌, ◌^◌, ◌<◌, ◌≤◌, arith, inl, inr}
-use Rattle.std.proofs.lemmas.Bool.{cases_lt}
+use Rattle.std.proofs.Common.{◌≡◌, ℕ, ◌+◌, ◌-◌, ◌*◌, ◌/◌, ◌%◌, ◌^◌, ◌<◌, ◌≤◌, arith}
 use Rattle.std.proofs.lemmas.Nat.{le-div}
 use Rattle.std.proofs.Math.Nat.{mul-le-mul_left, lt_of_mul-lt-mul_left, lt-mul-div-succ, mul-div-le}
-use Rattle.std.specs.Int.{abs_diff}
 use Rattle.drift_clock.specs.Counts.{Advances, rounded}
 use Rattle.drift_clock.specs.ClockLaws.{Measures}
 

@@ -6,4 +6,5 @@ pub mod Reach
 pub mod Slips
 pub mod Segment
 pub mod SegmentLaws
+pub mod Steady
 pub mod SteadyLaws

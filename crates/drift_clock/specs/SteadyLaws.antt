@@ -1,8 +1,9 @@
 -- A clock that shows world time keeps the laws of a clock.
-use Rattle.std.specs.Prelude.{◌≡◌, ℕ, ◌+◌, ◌-◌, ◌*◌, ◌/◌, ◌^◌, ◌<◌, ◌≤◌, refl}
-use Rattle.std.proofs.Common.{arith, ap, sym, ◌∙◌, zero, suc}
+use Rattle.std.specs.Prelude.{◌≡◌, ℕ, ◌+◌, ◌-◌, ◌*◌, ◌/◌, ◌^◌, ◌<◌, ◌≤◌}
+use Rattle.std.proofs.Common.{arith, ap, sym, zero, suc}
 use Rattle.std.proofs.Math.Nat.{mul-div-le, lt-mul-div-succ, div-eq_of_lt-le}
 use Rattle.drift_clock.specs.Counts.{Advances, rounded}
+use Rattle.drift_clock.specs.Steady.{steady_reading}
 
 -- a count of 10^9 a unit advances rightly
 pub steady_advances : (rho s t : ℕ) → s ≤ t → Advances rho (t - s) (10 ^ 9 * s) (10 ^ 9 * t)
@@ -16,6 +17,6 @@ same_quotient g t some =
     div-eq_of_lt-le (g * 10 ^ 9) {m = 10 ^ 9 * t} (omega arith) (omega arith)
 
 -- the time in whole grains is that count rounded
-pub steady_reads : (grain t : ℕ) → grain * (t / grain) ≡ rounded grain (10 ^ 9 * t)
+pub steady_reads : (grain t : ℕ) → steady_reading grain t ≡ rounded grain (10 ^ 9 * t)
 steady_reads zero t = omega arith
 steady_reads (suc g) t = ap (λ q. suc g * q) (sym (same_quotient (suc g) t (omega arith)))

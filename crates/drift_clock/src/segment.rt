@@ -134,5 +134,5 @@ fn gain_of(rate: Ppb) -> u64
     requires { unsigned_abs rate.0 ≤ 1000000 }
     ensures { result ≡ gain rate.0 }
 {
-    (1_000_000_000 + i64::from(rate.0)) as u64
+    (PARTS as i64 + i64::from(rate.0)) as u64
 }

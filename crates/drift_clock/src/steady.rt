@@ -22,15 +22,16 @@ impl Model for SteadyClock {
 }
 
 impl Clock for SteadyClock {
-    ghost use Rattle.std.specs.Prelude.{◌*◌, ◌/◌, refl};
+    ghost use Rattle.std.specs.Prelude.{◌*◌, refl};
     ghost use Rattle.std.proofs.Common.{rules};
+    ghost use Rattle.drift_clock.specs.Steady.{steady_reading};
     ghost use Rattle.drift_clock.specs.SteadyLaws.{steady_reads, steady_advances};
 
     ghost fresh = { λ g. g };
 
     ghost after_step = { λ c t r. c };
 
-    ghost reading = { λ c t. c * (t / c) };
+    ghost reading = { steady_reading };
 
     ghost grain_of = { λ c. c };
 
@@ -59,7 +60,7 @@ impl Clock for SteadyClock {
         units(whole(v).next_multiple_of(self.grain))
     }
 
-    fn rate(&mut self, t: Units, r: Ppb) {}
+    fn rate(&mut self, _t: Units, _r: Ppb) {}
 
     ghost has_grain = { λ g. refl };
 

@@ -1,5 +1,4 @@
-use Rattle.drift_clock.proofs.Readings.{IsLawful, keeps_clock_laws, begins_at_zero}
-use Rattle.drift_clock.proofs.laws.clock_laws.Given.{Over}
+use Rattle.drift_clock.proofs.Readings.{keeps_clock_laws, begins_at_zero, reads_its_steps}
 use Rattle.drift_clock.proofs.laws.clock_laws.Goals as goal
 
 pub returns-clause-laws : goal.returns-clause-laws
@@ -23,3 +22,6 @@ returns-clause-begins g c = begins_at_zero g.C.Clock.fresh g.C.Clock.after_step 
   starts = g.met.C.Clock.starts;
   drifts = g.met.C.Clock.drifts;
 })
+
+pub returns-clause-steps : goal.returns-clause-steps
+returns-clause-steps g c = reads_its_steps g.C.Clock.fresh g.C.Clock.after_step g.C.Clock.reading

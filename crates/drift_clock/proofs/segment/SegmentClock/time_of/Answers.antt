@@ -1,4 +1,4 @@
-use Rattle.std.proofs.Common.{◌≡◌, ap, ◌≤◌, ◌<◌, ◌+◌, ◌-◌, ◌*◌, ◌^◌, ◌∙◌, ℕ, arith, subst}
+use Rattle.std.proofs.Common.{◌≡◌, ap, ◌≤◌, ◌+◌, ◌-◌, ◌*◌, ◌^◌, ◌∙◌, arith, subst}
 use Rattle.std.specs.Int.{div_ceil}
 use Rattle.drift_clock.specs.Counts.{gain}
 use Rattle.drift_clock.specs.Segment.{Segment}

@@ -1,4 +1,4 @@
-use Rattle.std.proofs.Common.{◌≡◌, ap, ◌≤◌, ◌+◌, ◌-◌, ◌*◌, ◌∙◌, ℕ, arith, subst, sym}
+use Rattle.std.proofs.Common.{◌≡◌, ap, ◌≤◌, ◌-◌, ◌*◌, ◌∙◌, ℕ, arith, sym}
 use Rattle.std.proofs.lemmas.Int.{ints}
 use Rattle.std.proofs.Math.Nat.{mul-le-mul_right}
 use Rattle.drift_clock.specs.Counts.{gain}

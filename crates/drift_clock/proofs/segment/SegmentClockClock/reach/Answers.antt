@@ -1,7 +1,6 @@
-use Rattle.std.proofs.Common.{◌≡◌, ap, ◌≤◌, ◌<◌, ◌+◌, ◌-◌, ◌*◌, ◌%◌, ◌^◌, ◌∙◌, ℕ, ℤ, pos, unsigned_abs, arith, subst, sym}
+use Rattle.std.proofs.Common.{◌≡◌, ap, ◌≤◌, ◌<◌, ◌+◌, ◌*◌, ◌%◌, ◌^◌, ℕ, unsigned_abs, arith}
 use Rattle.std.proofs.lemmas.Int.{ints}
 use Rattle.drift_clock.specs.Segment.{Segment, segment_count, segment_reading}
-use Rattle.drift_clock.specs.Reach.{IsReach}
 use Rattle.drift_clock.proofs.Reaches.{IsCounted, ahead, segment_reaches, reach_from}
 use Rattle.drift_clock.proofs.segment.SegmentClockClock.reach.Goals as goal
 
