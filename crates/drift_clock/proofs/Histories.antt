@@ -11,7 +11,7 @@ abbrev pub InOrder : ℕ → ℕ → List RateStep → Type 0
 InOrder rho from [] = Unit {0}
 InOrder rho from (s ∷ steps) = (from ≤ s.at) × (unsigned_abs s.rate ≤ rho) × InOrder rho s.at steps
 
--- of the first step and the rest
+-- what holds of all steps holds of those after the first
 rest_in_order : (s : RateStep) (steps : List RateStep) → IsNonDecreasingBy (λ s. s.at) (s ∷ steps) → IsNonDecreasingBy (λ s. s.at) steps
 rest_in_order s steps sorted = IsNonDecreasingBy-drop (λ s. s.at) 1 (s ∷ steps) sorted
 

@@ -7,12 +7,12 @@ use Rattle.drift_clock.specs.Readings.{reading_at}
 abbrev pub gain : ℤ → ℕ
 gain rate = unsigned_abs (pos (10 ^ 9) +ℤ rate)
 
--- so many units of time at one rate
+-- a stretch of time at one rate
 pub record Stretch : Type 0 where
   pub rate : ℤ
   pub units : ℕ
 
--- the stretches between `from`, the steps and t
+-- the stretches of time from `from` to t: at `rate` up to the first step, then at each step's rate up to the next
 abbrev pub stretches : ℕ → ℤ → List RateStep → ℕ → List Stretch
 stretches from rate [] t = record { rate = rate; units = t - from } ∷ []
 stretches from rate (s ∷ steps) t = record { rate = rate; units = s.at - from } ∷ stretches s.at s.rate steps t

@@ -9,7 +9,7 @@ pub record Segment : Type 0 where
   pub count : ℕ
   pub rate : ℤ
 
--- at rest at time 0
+-- nothing is counted at time 0, and the rate is 0
 abbrev pub fresh_segment : ℕ → Segment
 fresh_segment grain = record { grain = grain; at = 0; count = 0; rate = pos 0 }
 
