@@ -1,11 +1,12 @@
 -- The readings of a clock under its steps, from the laws of one step.
-use Rattle.std.proofs.Common.{◌≡◌, ℕ, ◌+◌, ◌-◌, ◌*◌, ◌<◌, ◌≤◌, List, [], ◌∷◌, ℤ, refl, ap, subst, ◌∙◌, arith, inl, inr, unsigned_abs}
+use Rattle.std.proofs.Common.{◌≡◌, ℕ, ◌^◌, ◌+◌, ◌-◌, ◌*◌, ◌<◌, ◌≤◌, List, [], ◌∷◌, ℤ, refl, ap, subst, ◌∙◌, arith, inl, inr, unsigned_abs}
 use Rattle.std.proofs.lemmas.Bool.{cases_lt}
 use Rattle.std.proofs.Math.Nat.{mul-le-mul_right}
 use Rattle.drift_clock.specs.RateSteps.{RateStep, up_to}
 use Rattle.drift_clock.specs.Readings.{value_after, reading_at}
 use Rattle.drift_clock.specs.Counts.{Advances, rounded}
 use Rattle.drift_clock.specs.ClockLaws.{AlwaysKeepsClockLaws, AlwaysBeginsAtZero, ReadsItsSteps}
+use Rattle.drift_clock.specs.SteadyLaws.{time_advances}
 use Rattle.drift_clock.proofs.Histories.{InOrder, in_order, up_to-cons, up_to-late, up_to-none, up_to-all}
 use Rattle.drift_clock.proofs.Rounding.{rounded-zero, rounded-mono, rounded-measures}
 
@@ -73,9 +74,8 @@ pub record IsLawful {C : Type 0} (fresh : ℕ → C) (after_step : C → ℕ →
   pub has_grain : (g : ℕ) → grain (fresh g) ≡ g
   pub keeps_grain : (c : C) (t : ℕ) (r : ℤ) → grain (after_step c t r) ≡ grain c
   pub reads_count : (c : C) (t : ℕ) → reading c t ≡ rounded (grain c) (count c t)
-  pub from_zero : (g : ℕ) → count (fresh g) 0 ≡ 0
+  pub counts_time : (g t : ℕ) → count (fresh g) t ≡ 10 ^ 9 * t
   pub keeps_count : (c : C) (t : ℕ) (r : ℤ) → count (after_step c t r) t ≡ count c t
-  pub starts : (g s t rho : ℕ) → s ≤ t → Advances rho (t - s) (count (fresh g) s) (count (fresh g) t)
   pub drifts : (c : C) (s t u : ℕ) (r : ℤ) (rho : ℕ) → unsigned_abs r ≤ rho → rho ≤ 1000000 → s ≤ t → t ≤ u → Advances rho (u - t) (count (after_step c s r) t) (count (after_step c s r) u)
 
 grain_after : {C : Type 0} (after_step : C → ℕ → ℤ → C) (grain : C → ℕ) (keeps : (c : C) (t : ℕ) (r : ℤ) → grain (after_step c t r) ≡ grain c) (c : C) (steps : List RateStep) → grain (value_after after_step c steps) ≡ grain c
@@ -96,7 +96,7 @@ forward rho d a b small near =
 pub keeps_clock_laws : {C : Type 0} (fresh : ℕ → C) (after_step : C → ℕ → ℤ → C) (reading : C → ℕ → ℕ) (grain : C → ℕ) (count : C → ℕ → ℕ) → IsLawful fresh after_step reading grain count → AlwaysKeepsClockLaws fresh after_step reading
 keeps_clock_laws fresh after_step reading grain count law rho g steps small some history =
     let at = reading_at after_step count (fresh g) steps in
-    let near = along after_step count (record { keeps = law.keeps_count; drifts = law.drifts }) rho 0 (fresh g) steps small (in_order rho steps history) (λ s t after le. law.starts g s t rho le) in
+    let near = along after_step count (record { keeps = law.keeps_count; drifts = law.drifts }) rho 0 (fresh g) steps small (in_order rho steps history) (λ s t after le. rw (law.counts_time g s, law.counts_time g t) (time_advances rho s t le)) in
     let shown = reads fresh after_step reading grain count law g steps in
     record {
       never_falls = λ s t le.
@@ -121,7 +121,7 @@ count_at_zero after_step count keeps c (s ∷ steps) =
 
 pub begins_at_zero : {C : Type 0} (fresh : ℕ → C) (after_step : C → ℕ → ℤ → C) (reading : C → ℕ → ℕ) (grain : C → ℕ) (count : C → ℕ → ℕ) → IsLawful fresh after_step reading grain count → AlwaysBeginsAtZero fresh after_step reading
 begins_at_zero fresh after_step reading grain count law g steps =
-    reads fresh after_step reading grain count law g steps 0 ∙ ap (rounded g) (count_at_zero after_step count law.keeps_count (fresh g) steps ∙ law.from_zero g) ∙ rounded-zero g
+    reads fresh after_step reading grain count law g steps 0 ∙ ap (rounded g) (count_at_zero after_step count law.keeps_count (fresh g) steps ∙ law.counts_time g 0) ∙ rounded-zero g
 
 pub reads_its_steps : {C : Type 0} (fresh : ℕ → C) (after_step : C → ℕ → ℤ → C) (reading : C → ℕ → ℕ) → ReadsItsSteps fresh after_step reading
 reads_its_steps fresh after_step reading g steps t all = ap (λ xs. reading (value_after after_step (fresh g) xs) t) (up_to-all t steps all)

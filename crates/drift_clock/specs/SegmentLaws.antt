@@ -33,9 +33,9 @@ advances c s t u r rho small max a b =
     let bounds = gain_near r rho small max in
     advances_by (segment_count c s) (gain r) rho (t - s) (u - t) (u - s) bounds.0 bounds.1 (omega arith)
 
-right : (s t rho a b : ℕ) → a ≡ s → b ≡ t → s ≤ t → Advances rho (t - s) (0 + 10 ^ 9 * a) (0 + 10 ^ 9 * b)
-right s t rho a b p q le = record { least = omega arith; most = omega arith }
+right : (t a : ℕ) → a ≡ t → 0 + 10 ^ 9 * a ≡ 10 ^ 9 * t
+right t a same = omega arith
 
--- before any step the count is right
-pub starts : (g s t rho : ℕ) → s ≤ t → Advances rho (t - s) (segment_count (fresh_segment g) s) (segment_count (fresh_segment g) t)
-starts g s t rho le = right s t rho (s - 0) (t - 0) (omega arith) (omega arith) le
+-- before any step the count is that of the time
+pub counts_time : (g t : ℕ) → segment_count (fresh_segment g) t ≡ 10 ^ 9 * t
+counts_time g t = right t (t - 0) (omega arith)

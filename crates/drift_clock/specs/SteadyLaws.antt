@@ -5,9 +5,9 @@ use Rattle.std.proofs.Math.Nat.{mul-div-le, lt-mul-div-succ, div-eq_of_lt-le}
 use Rattle.drift_clock.specs.Counts.{Advances, rounded}
 use Rattle.drift_clock.specs.Steady.{steady_reading}
 
--- a count of 10^9 a unit advances rightly
-pub steady_advances : (rho s t : ℕ) → s ≤ t → Advances rho (t - s) (10 ^ 9 * s) (10 ^ 9 * t)
-steady_advances rho s t le = record { least = omega arith; most = omega arith }
+-- the count of the time advances rightly
+pub time_advances : (rho s t : ℕ) → s ≤ t → Advances rho (t - s) (10 ^ 9 * s) (10 ^ 9 * t)
+time_advances rho s t le = record { least = omega arith; most = omega arith }
 
 -- where both are counted in parts, the quotient stays
 same_quotient : (g t : ℕ) → 0 < g → 10 ^ 9 * t / (g * 10 ^ 9) ≡ t / g

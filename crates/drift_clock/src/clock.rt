@@ -1,4 +1,4 @@
-ghost use Rattle.std.specs.Prelude.{◌≡◌, ℕ, ◌-◌, ◌^◌, ◌≤◌, ℤ, pos, ◌≤ℤ◌, unsigned_abs};
+ghost use Rattle.std.specs.Prelude.{◌≡◌, ℕ, ◌-◌, ◌*◌, ◌^◌, ◌≤◌, ℤ, pos, ◌≤ℤ◌, unsigned_abs};
 ghost use Rattle.drift_clock.specs.Counts.{Advances, rounded};
 ghost use Rattle.drift_clock.specs.Reach.{IsReach};
 
@@ -77,14 +77,11 @@ pub trait Clock: Drop {
     /// It reads its count in whole grains.
     ghost reads_count: { (c : Self) (t : ℕ) → reading c t ≡ rounded (grain_of c) (count c t) };
 
-    /// It counts from 0.
-    ghost counts_from_zero: { (g : ℕ) → count (fresh g) 0 ≡ 0 };
+    /// Before any step it counts the time.
+    ghost counts_time: { (g t : ℕ) → count (fresh g) t ≡ 10 ^ 9 * t };
 
     /// A step keeps the count.
     ghost keeps_count: { (c : Self) (t : ℕ) (r : ℤ) → count (after_step c t r) t ≡ count c t };
-
-    /// Before any step the count drifts by nothing.
-    ghost starts: { (g s t rho : ℕ) → s ≤ t → Advances rho (t - s) (count (fresh g) s) (count (fresh g) t) };
 
     /// After a step the count drifts by no more than its rate.
     ghost drifts: { (c : Self) (s t u : ℕ) (r : ℤ) (rho : ℕ) → unsigned_abs r ≤ rho → rho ≤ 1000000

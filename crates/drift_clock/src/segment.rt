@@ -34,7 +34,7 @@ impl Clock for SegmentClock {
     ghost use Rattle.std.specs.Prelude.{refl};
     ghost use Rattle.std.proofs.Common.{rules};
     ghost use Rattle.drift_clock.specs.Segment.{Segment, fresh_segment, segment_count, stepped_segment, segment_reading};
-    ghost use Rattle.drift_clock.specs.SegmentLaws.{keeps_count, starts, advances};
+    ghost use Rattle.drift_clock.specs.SegmentLaws.{counts_time, keeps_count, advances};
 
     ghost fresh = { fresh_segment };
 
@@ -91,11 +91,9 @@ impl Clock for SegmentClock {
 
     ghost reads_count = { λ c t. refl };
 
-    ghost counts_from_zero = { λ g. refl };
+    ghost counts_time = { λ g t. counts_time g t };
 
     ghost keeps_count = { λ c t r. keeps_count c t r };
-
-    ghost starts = { λ g s t rho le. starts g s t rho le };
 
     ghost drifts = { λ c s t u r rho small most from to. advances c s t u r rho small most from to };
 }

@@ -25,7 +25,7 @@ impl Clock for SteadyClock {
     ghost use Rattle.std.specs.Prelude.{◌*◌, refl};
     ghost use Rattle.std.proofs.Common.{rules};
     ghost use Rattle.drift_clock.specs.Steady.{steady_reading};
-    ghost use Rattle.drift_clock.specs.SteadyLaws.{steady_reads, steady_advances};
+    ghost use Rattle.drift_clock.specs.SteadyLaws.{steady_reads, time_advances};
 
     ghost fresh = { λ g. g };
 
@@ -72,11 +72,9 @@ impl Clock for SteadyClock {
 
     ghost reads_count = { λ c t. steady_reads c t };
 
-    ghost counts_from_zero = { λ g. refl };
+    ghost counts_time = { λ g t. refl };
 
     ghost keeps_count = { λ c t r. refl };
 
-    ghost starts = { λ g s t rho le. steady_advances rho s t le };
-
-    ghost drifts = { λ c s t u r rho small most from to. steady_advances rho t u to };
+    ghost drifts = { λ c s t u r rho small most from to. time_advances rho t u to };
 }

@@ -6,9 +6,8 @@ returns-clause-laws g c = keeps_clock_laws g.C.Clock.fresh g.C.Clock.after_step 
   has_grain = g.met.C.Clock.has_grain;
   keeps_grain = g.met.C.Clock.keeps_grain;
   reads_count = g.met.C.Clock.reads_count;
-  from_zero = g.met.C.Clock.counts_from_zero;
+  counts_time = g.met.C.Clock.counts_time;
   keeps_count = g.met.C.Clock.keeps_count;
-  starts = g.met.C.Clock.starts;
   drifts = g.met.C.Clock.drifts;
 })
 
@@ -17,9 +16,8 @@ returns-clause-begins g c = begins_at_zero g.C.Clock.fresh g.C.Clock.after_step 
   has_grain = g.met.C.Clock.has_grain;
   keeps_grain = g.met.C.Clock.keeps_grain;
   reads_count = g.met.C.Clock.reads_count;
-  from_zero = g.met.C.Clock.counts_from_zero;
+  counts_time = g.met.C.Clock.counts_time;
   keeps_count = g.met.C.Clock.keeps_count;
-  starts = g.met.C.Clock.starts;
   drifts = g.met.C.Clock.drifts;
 })
 
