@@ -1,0 +1,6 @@
+pub mod Rounding
+pub mod Reaches
+pub mod Histories
+pub mod Readings
+pub mod Sums
+pub mod SlipLaw

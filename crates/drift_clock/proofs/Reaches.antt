@@ -1,0 +1,97 @@
+-- The instant at which a count is enough.
+use Rattle.std.proofs.Common.{◌≡◌, ℕ, ◌+◌, ◌-◌, ◌*◌, ◌/◌, ◌%◌, ◌^◌, ◌<◌, ◌≤◌, arith, inl, inr, ℤ, pos}
+use Rattle.std.specs.Int.{div_ceil}
+use Rattle.std.proofs.lemmas.Bool.{cases_lt}
+use Rattle.std.proofs.lemmas.Grind.{div_ceil_times}
+use Rattle.std.proofs.lemmas.Int.{ints}
+use Rattle.std.proofs.lemmas.Nat.{le-div}
+use Rattle.std.proofs.Math.Nat.{mul-le-mul_left, mul-div-le, lt_of_mul-lt-mul_left}
+use Rattle.drift_clock.specs.Counts.{gain}
+use Rattle.drift_clock.specs.Reach.{IsReach}
+use Rattle.drift_clock.specs.Segment.{Segment, segment_count, segment_reading}
+use Rattle.drift_clock.proofs.Rounding.{le-rounded, rounded-lt}
+
+-- a reach over numbers that are not negative
+pub record IsReachFrom (reading : ℕ → ℕ) (from v t : ℕ) : Type 0 where
+  pub from_on : from ≤ t
+  pub reached : v ≤ reading t
+  pub not_before : (x : ℕ) → from ≤ x → x < t → reading x < v
+
+pub reach_from : (reading : ℕ → ℕ) (from v : ℤ) (s n t : ℕ) → from ≡ pos s → v ≡ pos n → IsReachFrom reading s n t → IsReach reading from v (pos t)
+reach_from reading from v s n t from_is v_is r = record {
+  from_on = omega (arith, ints, r.from_on);
+  reached = omega (arith, ints, r.reached);
+  not_before = λ x after before. let short = r.not_before x (omega (arith, ints, after)) (omega (arith, ints, before)) in omega (arith, ints, short);
+}
+
+ceil_from : (x g q d : ℕ) → d ≡ q → (x ≤ q * g) × (q * g < x + g) → (x ≤ g * d) × (g * d < x + g)
+ceil_from x g q d e h = rw e (omega (arith, h.0), omega (arith, h.1))
+
+-- a quotient rounded up is just enough
+ceiling : (x g d : ℕ) → 0 < g → d ≡ div_ceil x g → (x ≤ g * d) × (g * d < x + g)
+ceiling x g d some e = ceil_from x g (div_ceil x g) d e (div_ceil_times x g some)
+
+-- a count at this gain goes on to m after so many steps
+pub record IsCounted (c : Segment) (m t : ℕ) : Type 0 where
+  pub counted : 10 ^ 9 * m ≤ segment_count c t
+  pub not_before : (x : ℕ) → c.at ≤ x → x < t → segment_count c x < 10 ^ 9 * m
+
+counts_up : (at count g m d : ℕ) → 0 < g → count ≤ 10 ^ 9 * m → d ≡ div_ceil (10 ^ 9 * m - count) g
+    → (10 ^ 9 * m ≤ count + g * ((at + d) - at)) × ((x : ℕ) → at ≤ x → x < at + d → count + g * (x - at) < 10 ^ 9 * m)
+counts_up at count g m d fast ahead steps =
+    let times = ceiling (10 ^ 9 * m - count) g d fast steps in
+    let same : (at + d) - at ≡ d = omega arith in (
+      rw same (omega (arith, times.0)),
+      λ x after before.
+          let fewer : g * ((x - at) + 1) ≤ g * d = mul-le-mul_left g (omega arith) in
+          omega (arith, times.1),
+    )
+
+pub segment_counts_up : (c : Segment) (m d : ℕ) → 0 < gain c.rate → c.count ≤ 10 ^ 9 * m → d ≡ div_ceil (10 ^ 9 * m - c.count) (gain c.rate) → IsCounted c m (c.at + d)
+segment_counts_up c m d fast ahead steps = let up = counts_up c.at c.count (gain c.rate) m d fast ahead steps in record { counted = up.0; not_before = up.1 }
+
+-- a reading below n has a count below m, the next whole grain
+pub ahead : (c : Segment) (s n m : ℕ) → 1 ≤ c.grain → m % c.grain ≡ 0 → n ≤ m → segment_reading c s < n → segment_count c s < 10 ^ 9 * m
+ahead c s n m some whole enough short =
+    elim (cases_lt (segment_count c s) (10 ^ 9 * m)) [
+      | inl lt ↦ lt
+      | inr ge ↦ let up = le-rounded c.grain n m (segment_count c s) some whole enough ge in absurd (omega (arith, up))
+    ]
+
+grows : (n g a b : ℕ) → a ≤ b → n + g * a ≤ n + g * b
+grows n g a b le = omega (arith, mul-le-mul_left g le)
+
+-- the time at which m is counted is the one at which n is read
+pub segment_reaches : (c : Segment) (s n m t : ℕ) → 1 ≤ c.grain → m % c.grain ≡ 0 → n ≤ m → m < n + c.grain → c.at ≤ s → segment_reading c s < n → IsCounted c m t → IsReachFrom (segment_reading c) s n t
+segment_reaches c s n m t some whole enough least after short counted = record {
+  from_on =
+      elim (cases_lt t s) [
+        | inr ge ↦ ge
+        | inl lt ↦
+            let low = ahead c s n m some whole enough short in
+            let up = grows c.count (gain c.rate) (t - c.at) (s - c.at) (omega arith) in
+            absurd (omega (arith, low, up, counted.counted))
+      ];
+  reached = le-rounded c.grain n m (segment_count c t) some whole enough counted.counted;
+  not_before = λ x from_x before. rounded-lt c.grain n m (segment_count c x) some whole least (counted.not_before x (omega (arith, after, from_x)) before);
+}
+
+-- the time in whole grains is at least n from the next whole grain m on
+pub steady_reaches : (grain s n m : ℕ) → 1 ≤ grain → m % grain ≡ 0 → n ≤ m → m < n + grain → grain * (s / grain) < n → IsReachFrom (λ t. grain * (t / grain)) s n m
+steady_reaches grain s n m some whole enough least short =
+    let grains : grain * (m / grain) ≡ m = omega arith in
+    record {
+      from_on =
+          elim (cases_lt m s) [
+            | inr ge ↦ ge
+            | inl lt ↦
+                let more : m / grain ≤ s / grain = le-div (m / grain) s grain some (omega arith) in
+                absurd (omega (arith, mul-le-mul_left grain more))
+          ];
+      reached = omega arith;
+      not_before = λ x from_x x_before.
+          let low : grain * (x / grain) ≤ x = mul-div-le x grain in
+          let fewer : x / grain < m / grain = lt_of_mul-lt-mul_left grain (omega arith) in
+          let step : grain * (x / grain + 1) ≤ grain * (m / grain) = mul-le-mul_left grain (omega arith) in
+          omega arith;
+    }

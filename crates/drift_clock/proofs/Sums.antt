@@ -1,0 +1,29 @@
+-- What a segment counts over its steps.
+use Rattle.std.proofs.Common.{◌≡◌, ℕ, ◌+◌, ◌-◌, ◌*◌, List, [], ◌∷◌, refl, ap, ◌∙◌, zero-add, arith}
+use Rattle.std.specs.Prelude.{sum_by}
+use Rattle.std.proofs.lemmas.List.Sums.{sum_by-cons}
+use Rattle.drift_clock.specs.RateSteps.{RateStep, up_to}
+use Rattle.drift_clock.specs.Readings.{value_after}
+use Rattle.drift_clock.specs.Counts.{gain, Stretch, stretches, count_of, rounded, ReadsCount}
+use Rattle.drift_clock.specs.Segment.{Segment, fresh_segment, segment_count, stepped_segment, segment_reading}
+
+abbrev weight : Stretch → ℕ
+weight s = gain s.rate * s.units
+
+-- the count at t is that at the last step, and the gains over the stretches since
+counts : (c : Segment) (steps : List RateStep) (t : ℕ) → segment_count (value_after stepped_segment c steps) t ≡ c.count + sum_by weight (stretches c.at c.rate steps t)
+counts c [] t = omega (arith, sum_by-cons weight (record { rate = c.rate; units = t - c.at }) [])
+counts c (s ∷ steps) t =
+    let rest = counts (stepped_segment c s.at s.rate) steps t in
+    omega (arith, rest, sum_by-cons weight (record { rate = c.rate; units = s.at - c.at }) (stretches s.at s.rate steps t))
+
+-- steps keep the grain
+grain_stays : (c : Segment) (steps : List RateStep) → (value_after stepped_segment c steps).grain ≡ c.grain
+grain_stays c [] = refl
+grain_stays c (s ∷ steps) = grain_stays (stepped_segment c s.at s.rate) steps
+
+pub reads_count : ReadsCount fresh_segment stepped_segment segment_reading
+reads_count grain steps t =
+    let value = value_after stepped_segment (fresh_segment grain) (up_to t steps) in
+    let count : segment_count value t ≡ count_of steps t = counts (fresh_segment grain) (up_to t steps) t ∙ zero-add _ in
+    ap (λ g. rounded g (segment_count value t)) (grain_stays (fresh_segment grain) (up_to t steps)) ∙ ap (rounded grain) count

@@ -1,0 +1,8 @@
+use Rattle.std.proofs.Common.{ap, refl}
+use Rattle.std.proofs.lemmas.List.Folds.{fold_stays}
+use Rattle.drift_clock.specs.RateSteps.{up_to}
+use Rattle.drift_clock.specs.Steady.{steady_reading}
+use Rattle.drift_clock.proofs.laws.steady_law.Goals as goal
+
+pub returns : goal.returns
+returns c = λ grain steps t. ap (λ g. steady_reading g t) (fold_stays _ grain (λ s. refl) (up_to t steps))

@@ -1,0 +1,10 @@
+pub mod RateSteps
+pub mod Readings
+pub mod Counts
+pub mod ClockLaws
+pub mod Reach
+pub mod Slips
+pub mod Segment
+pub mod SegmentLaws
+pub mod Steady
+pub mod SteadyLaws

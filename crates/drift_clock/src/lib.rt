@@ -1,0 +1,16 @@
+//! Clocks that drift: what they read, and when they reach a value.
+#![tactic(auto)]
+
+mod clock;
+mod laws;
+mod numbers;
+mod segment;
+mod steady;
+
+pub use clock::Clock;
+pub use laws::{clock_laws, segment_law, slip_law, steady_law};
+pub use segment::SegmentClock;
+pub use steady::SteadyClock;
+
+#[cfg(test)]
+mod tests;

@@ -1,0 +1,80 @@
+ghost use Rattle.std.specs.Prelude.{ℕ, ◌≤◌, ◌^◌};
+
+use crate::Clock;
+use crate::numbers::{units, whole};
+use std::marker::Model;
+use tte_units::{Ppb, Units};
+
+/// A clock that keeps the rate 0: it reads the time, rounded down to a multiple of its grain.
+#[derive(Clone, Copy, Debug, PartialEq, Eq)]
+pub struct SteadyClock {
+    grain: u64,
+}
+
+impl Model for SteadyClock {
+    ghost Value = { ℕ };
+
+    ghost view = { λ c. c.grain };
+
+    ghost invariant = { λ c. (1 ≤ c.grain) × (c.grain ≤ 2 ^ 20) };
+
+    ghost inverse = { λ g. record { grain = g } };
+}
+
+impl Clock for SteadyClock {
+    ghost use Rattle.std.specs.Prelude.{◌*◌, refl};
+    ghost use Rattle.std.proofs.Common.{rules};
+    ghost use Rattle.drift_clock.specs.Steady.{steady_reading};
+    ghost use Rattle.drift_clock.specs.SteadyLaws.{steady_reads, time_advances};
+
+    ghost fresh = { λ g. g };
+
+    ghost after_step = { λ c t r. c };
+
+    ghost reading = { steady_reading };
+
+    ghost grain_of = { λ c. c };
+
+    ghost last_step = { λ c. 0 };
+
+    ghost count = { λ c t. 10 ^ 9 * t };
+
+    fn fresh(grain: Units) -> SteadyClock {
+        SteadyClock {
+            grain: whole(grain),
+        }
+    }
+
+    fn grain(&self) -> Units {
+        units(self.grain)
+    }
+
+    fn read(&self, t: Units) -> Units {
+        units(self.grain * (whole(t) / self.grain))
+    }
+
+    fn reach(&self, from: Units, v: Units) -> Units {
+        if v.0 <= self.read(from).0 {
+            return from;
+        }
+        units(whole(v).next_multiple_of(self.grain))
+    }
+
+    fn rate(&mut self, _t: Units, _r: Ppb) {}
+
+    ghost has_grain = { λ g. refl };
+
+    ghost keeps_grain = { λ c t r. refl };
+
+    ghost begins_unstepped = { λ g. refl };
+
+    ghost steps_by = { Prim.search rules };
+
+    ghost reads_count = { λ c t. steady_reads c t };
+
+    ghost counts_time = { λ g t. refl };
+
+    ghost keeps_count = { λ c t r. refl };
+
+    ghost drifts = { λ c s t u r rho small most from to. time_advances rho t u to };
+}

@@ -1,0 +1,2 @@
+pub mod HopLaw
+pub mod WaitLaw

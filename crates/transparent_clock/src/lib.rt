@@ -1,0 +1,13 @@
+//! The transparent clock of a frame: how it grows, and when the frame is permanent.
+#![tactic(auto)]
+
+mod growing;
+mod laws;
+mod points;
+
+pub use growing::{arrive, leave};
+pub use laws::{path_law, waiting_law};
+pub use points::permanence;
+
+#[cfg(test)]
+mod tests;
