@@ -16,6 +16,8 @@ fn reading<C: Clock>(grain: i64, rate: i32) -> i64
 
 #[test]
 fn a_segment_clock_drifts_by_its_rate(rt: HostRuntime) {
+    clock_laws::<SegmentClock>();
+    segment_law();
     assert!(rt; reading::<SegmentClock>(1, 50_000) == 1_500_075_000);
     assert!(rt; reading::<SegmentClock>(1, -50_000) == 1_499_925_000);
     assert!(rt; reading::<SegmentClock>(1, 1) == 1_500_000_001);
@@ -32,6 +34,8 @@ fn a_segment_clock_reads_whole_grains(rt: HostRuntime) {
 
 #[test]
 fn a_steady_clock_keeps_its_rate(rt: HostRuntime) {
+    clock_laws::<SteadyClock>();
+    steady_law();
     assert!(rt; reading::<SteadyClock>(1, 50_000) == 1_500_000_000);
     assert!(rt; reading::<SteadyClock>(4096, 50_000) == 1_499_996_160);
     let steady = SteadyClock::fresh(Units(4096));
@@ -41,6 +45,7 @@ fn a_steady_clock_keeps_its_rate(rt: HostRuntime) {
 
 #[test]
 fn a_fast_clock_reaches_a_value_early(rt: HostRuntime) {
+    slip_law();
     let mut clock = SegmentClock::fresh(Units(1));
     assert!(rt; clock.grain() == Units(1));
     clock.rate(Units(0), Ppb(50_000));
@@ -50,14 +55,4 @@ fn a_fast_clock_reaches_a_value_early(rt: HostRuntime) {
     assert!(rt;
         late.reach(Units(149_422_080_001), Units(159_252_480_000)) == Units(159_251_988_505)
     );
-}
-
-#[test]
-fn the_laws_may_be_called(rt: HostRuntime) {
-    clock_laws::<SegmentClock>();
-    clock_laws::<SteadyClock>();
-    segment_law();
-    steady_law();
-    slip_law();
-    assert!(rt; true);
 }

@@ -5,6 +5,7 @@ const DMAX: Units = Units(3_276_800_000);
 
 #[test]
 fn a_clock_grows_up_to_dmax(rt: HostRuntime) {
+    path_law();
     assert!(rt; leave(0, Units(1_000_050_000), DMAX) == Some(1_000_050_000));
     assert!(rt; arrive(1_000_050_000, Units(32_768_000), DMAX) == Some(1_032_818_000));
     assert!(rt; leave(3_276_800_000, Units(0), DMAX) == Some(3_276_800_000));
@@ -14,12 +15,6 @@ fn a_clock_grows_up_to_dmax(rt: HostRuntime) {
 
 #[test]
 fn the_oldest_frame_is_permanent_at_arrival(rt: HostRuntime) {
-    assert!(rt; permanence(Units(100), 3_276_800_000, DMAX) == Units(100));
-}
-
-#[test]
-fn the_laws_may_be_called(rt: HostRuntime) {
-    path_law();
     waiting_law();
-    assert!(rt; true);
+    assert!(rt; permanence(Units(100), 3_276_800_000, DMAX) == Units(100));
 }
