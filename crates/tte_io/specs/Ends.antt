@@ -1,0 +1,45 @@
+-- What callers see of the ends in memory.
+use Rattle.std.specs.Prelude.{ℕ, ◌+◌, List, ◌++◌, drop}
+use Rattle.tte_io.specs.Faults.{next_count}
+
+-- a source in memory
+pub record SourceState : Type 0 where
+  -- the octets that are left
+  pub left : List ℕ
+  -- how many octets a read gives at most
+  pub piece : ℕ
+  -- the numbers of the calls that fail, from 1
+  pub failing : List ℕ
+  -- the count of the calls
+  pub calls : ℕ
+  -- the count of the calls that failed
+  pub faults : ℕ
+
+-- the source after a call that gave n octets
+abbrev pub after_giving : ℕ → SourceState → SourceState
+after_giving n s = record s { left = drop n s.left; calls = next_count s.calls }
+
+-- the source after a call that failed
+abbrev pub after_failed_read : SourceState → SourceState
+after_failed_read s = record s { calls = next_count s.calls; faults = s.faults + 1 }
+
+-- a sink in memory
+pub record SinkState : Type 0 where
+  -- the octets that were written
+  pub written : List ℕ
+  -- how many octets it holds at most
+  pub room : ℕ
+  -- the numbers of the calls that fail, from 1
+  pub failing : List ℕ
+  -- the count of the calls
+  pub calls : ℕ
+  -- the count of the calls that failed
+  pub faults : ℕ
+
+-- the sink after a call that wrote these octets
+abbrev pub after_writing : List ℕ → SinkState → SinkState
+after_writing octets s = record s { written = s.written ++ octets; calls = next_count s.calls }
+
+-- the sink after a call that failed
+abbrev pub after_failed_put : SinkState → SinkState
+after_failed_put s = record s { calls = next_count s.calls; faults = next_count s.faults }

@@ -1,0 +1,12 @@
+-- Octets that a source or a sink tells.
+use Rattle.std.specs.Prelude.{◌≡◌, ◌↔◌, ℕ, ◌<◌, List, [], ◌++◌, length, IfSome}
+use Rattle.std.specs.Io.KnownBytes.{Appends}
+use Rattle.std.specs.declared.option.Option.{Option}
+
+-- what was written grows by a front of these octets
+abbrev pub AppendsFront : Option (List ℕ) → Option (List ℕ) → List ℕ → Type 0
+AppendsFront old new octets = (front rest : List ℕ) × (octets ≡ front ++ rest) × Appends old new front
+
+-- a read into a buffer that is not empty gives no octet exactly where none was left
+abbrev pub NoneGivenExactlyAtEnd : Option (List ℕ) → List ℕ → ℕ → Type 0
+NoneGivenExactlyAtEnd left buffer n = IfSome left (λ octets. 0 < length buffer → (n ≡ 0) ↔ (octets ≡ []))

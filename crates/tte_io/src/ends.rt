@@ -1,0 +1,52 @@
+ghost use Rattle.std.specs.Prelude.{◌≡◌, ◌≤◌, ℕ, List, IfOk, OnOk, OnErr, MatchResult};
+ghost use Rattle.std.specs.Io.{ReadsAtMost};
+ghost use Rattle.std.specs.Io.KnownBytes.{Appends, Keeps, ReadConsumes};
+ghost use Rattle.std.specs.declared.option.Option.{Option};
+ghost use Rattle.tte_io.specs.Faults.{Rose};
+ghost use Rattle.tte_io.specs.Told.{AppendsFront, NoneGivenExactlyAtEnd};
+
+/// A read failed.
+#[derive(Clone, Copy, Debug, PartialEq, Eq)]
+pub struct SourceFailed;
+
+/// A write failed.
+#[derive(Clone, Copy, Debug, PartialEq, Eq)]
+pub struct SinkFailed;
+
+/// Where octets come from.
+pub trait Source {
+    /// The octets that are left, where they are told.
+    ghost left: { Self → Option (List ℕ) };
+
+    /// The count of the reads that failed.
+    ghost faults: { Self → ℕ };
+
+    /// Takes the next octets into the front of the buffer, and answers how many. None into a
+    /// buffer that is not empty is the end. A failed read takes nothing.
+    fn read(&mut self, buf: &mut [u8]) -> Result<usize, SourceFailed>
+        ensures bound { ReadsAtMost result buf.new }
+        ensures octets { ReadConsumes (left self.old) (left self.new) result buf.new }
+        ensures end { IfOk result (NoneGivenExactlyAtEnd (left self.old) buf.new) }
+
+        ensures never_falls { faults self.old ≤ faults self.new }
+        ensures ok_unchanged { OnOk result (faults self.new ≡ faults self.old) }
+        ensures failed_rose { OnErr result (Rose (faults self.old) (faults self.new)) };
+}
+
+/// Where octets go.
+pub trait Sink {
+    /// The octets that were written, where they are told.
+    ghost written: { Self → Option (List ℕ) };
+
+    /// The count of the puts that failed.
+    ghost faults: { Self → ℕ };
+
+    /// Writes all the octets, or fails after a front of them.
+    fn put(&mut self, bytes: &[u8]) -> Result<(), SinkFailed>
+        ensures all { OnOk result (Appends (written self.old) (written self.new) bytes.now) }
+        ensures front { OnErr result (AppendsFront (written self.old) (written self.new) bytes.now) }
+
+        ensures never_falls { faults self.old ≤ faults self.new }
+        ensures ok_unchanged { OnOk result (faults self.new ≡ faults self.old) }
+        ensures failed_rose { OnErr result (Rose (faults self.old) (faults self.new)) };
+}

@@ -1,0 +1,84 @@
+ghost use Rattle.std.specs.Prelude.{◌≡◌, ◌<◌, ◌≤◌, ◌+◌, ◌↔◌, ◌⊎◌, [], length, IsErr, IfOk, OnOk, OnErr, Contains, Some};
+ghost use Rattle.std.specs.Io.KnownBytes.{Appends};
+ghost use Rattle.tte_io.specs.Faults.{Rose};
+ghost use Rattle.tte_io.specs.Told.{AppendsFront};
+ghost use Rattle.tte_io.specs.Ends.{after_writing, after_failed_put};
+
+use crate::memory::Calls;
+use crate::{OutOfMemory, Sink, SinkFailed};
+use std::alloc::Global;
+use std::marker::Model;
+
+/// A list of octets in memory, with room for so many, and with calls that fail.
+#[derive(Drop)]
+pub struct MemorySink {
+    written: Vec<u8>,
+    room: u64,
+    calls: Calls,
+    faults: u64,
+}
+
+impl Model for MemorySink {
+    ghost use Rattle.std.specs.Prelude.{◌≤◌, vec_len, vec_capacity};
+    ghost use Rattle.tte_io.specs.Ends.{SinkState};
+
+    ghost Value = { SinkState };
+
+    ghost view = { λ s. record { written = s.written.items; room = s.room; failing = s.calls.failing.items; calls = s.calls.count; faults = s.faults } };
+
+    ghost invariant = { λ s. (vec_len s.written ≤ s.room) × (s.room ≤ vec_capacity s.written) };
+}
+
+impl MemorySink {
+    /// An empty sink for at most `room` octets, for all of which it takes the memory. The calls
+    /// whose numbers, from 1, are in `failing` fail.
+    pub fn new(alloc: Global, room: u64, failing: &[u32]) -> Result<MemorySink, OutOfMemory>
+        ensures { IfOk result (λ s. s ≡ record { written = []; room = room; failing = failing.now; calls = 0; faults = 0 }) }
+    {
+        Ok(MemorySink {
+            written: Vec::with_capacity(alloc, room as usize)?,
+            room,
+            calls: Calls::new(alloc, failing)?,
+            faults: 0,
+        })
+    }
+
+    /// What was written.
+    pub fn written(&self) -> &[u8]
+        ensures { result.now ≡ self.now.written }
+    {
+        &self.written
+    }
+}
+
+impl Sink for MemorySink {
+    ghost written = { λ s. Some s.written };
+
+    ghost faults = { λ s. s.faults };
+
+    fn put(&mut self, bytes: &[u8]) -> Result<(), SinkFailed>
+        ensures all { OnOk result (Appends (Some self.old.written) (Some self.new.written) bytes.now) }
+        ensures front { OnErr result (AppendsFront (Some self.old.written) (Some self.new.written) bytes.now) }
+
+        ensures never_falls { self.old.faults ≤ self.new.faults }
+        ensures ok_unchanged { OnOk result (self.new.faults ≡ self.old.faults) }
+        ensures failed_rose { OnErr result (Rose self.old.faults self.new.faults) }
+
+        // Exactly the calls fail whose numbers are in `failing` or that pass the room.
+        ensures fails { IsErr result
+            ↔ (Contains self.old.failing (self.old.calls + 1) ⊎ (self.old.room < length self.old.written + length bytes.now)) }
+        ensures ok { OnOk result (self.new ≡ after_writing bytes.now self.old) }
+        ensures err { OnErr result (self.new ≡ after_failed_put self.old) }
+    {
+        let fails = self.calls.next_fails();
+        let spare = self.room - self.written.len() as u64;
+        if fails || spare < bytes.len() as u64 {
+            self.faults = self.faults.saturating_add(1);
+            return Err(SinkFailed);
+        }
+        match self.written.extend_from_slice(bytes) {
+            Ok(()) => Ok(()),
+            Err(_) => unreachable!(),
+        }
+    }
+}
