@@ -1,1 +1,4 @@
 pub mod Taken
+pub mod Ranges
+pub mod LongLines
+pub mod Making

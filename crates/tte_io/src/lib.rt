@@ -3,13 +3,17 @@
 
 mod edge;
 mod ends;
+mod lines;
 mod memory;
 mod sinks;
 mod sources;
+mod stores;
+mod taking;
 mod whole;
 
 pub use edge::{LazyFile, PathText, StdSink};
 pub use ends::{Sink, SinkFailed, Source, SourceFailed};
+pub use lines::{LineReader, LineTaken};
 pub use memory::OutOfMemory;
 pub use sinks::MemorySink;
 pub use sources::{MemorySource, SteadySource};
