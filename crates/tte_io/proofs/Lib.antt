@@ -2,3 +2,5 @@ pub mod Taken
 pub mod Ranges
 pub mod LongLines
 pub mod Making
+pub mod FirstLine
+pub mod Coming

@@ -4,7 +4,7 @@ use Rattle.std.specs.Io.KnownBytes.{Consumes, IsAtEnd}
 use Rattle.std.proofs.KnownBytes.{Consumes-nil, Consumes-trans}
 use Rattle.tte_io.specs.declared.lines.LineTaken.{LineTaken}
 use Rattle.tte_io.specs.declared.lines.LineTaken.TheVariants.{Whole, Long, End}
-use Rattle.tte_io.specs.declared.lines.Progress.TheVariants.{Unfinished}
+use Rattle.tte_io.specs.declared.lines.Progress.TheVariants.{Unfinished, TooLong}
 use Rattle.tte_io.specs.declared.taking.Step.TheVariants as step
 use Rattle.tte_io.specs.Line.{lf, line_limit, IsLine, IsTooLong}
 use Rattle.tte_io.specs.NextLine.{NextLine}
@@ -144,4 +144,17 @@ kept_after_failure before left_before line ahead left e m none = record {
   given = [];
   nothing_lost = m.same;
   answer = record { none = refl; line = m.is_line; reader = ap (reader_state Unfinished line) none };
+}
+
+-- a line that was too long stays too long, and nothing is read
+pub still_too_long : {E : Type 0} (line ahead : List ℕ) (left : Option (List ℕ)) → IsTooLong (line ++ ahead) → NextLine {E = E} (line ++ ahead) left (reader_state TooLong line ahead) left (Ok Long)
+still_too_long line ahead left long = record {
+  earlier = [];
+  last = [];
+  consumed = Consumes-nil left;
+  last_size = omega arith;
+  needed = λ some. absurd (some refl);
+  given = [];
+  nothing_lost = append-nil (line ++ ahead);
+  answer = record { none = refl; line = long; reader = refl };
 }

@@ -1,5 +1,5 @@
 -- Lines of octets.
-use Rattle.std.specs.Prelude.{◌≢◌, ℕ, ◌+◌, ◌<◌, ◌≤◌, List, length, take, All}
+use Rattle.std.specs.Prelude.{◌≢◌, ℕ, ◌+◌, ◌<◌, ◌≤◌, List, [], ◌∷◌, length, take, All, if◌then◌else◌, ◌==◌}
 
 -- the octet that ends a line
 abbrev pub lf : ℕ
@@ -22,3 +22,13 @@ pub record IsLine (octets : List ℕ) : Type 0 where
 pub record IsTooLong (octets : List ℕ) : Type 0 where
   pub more : line_limit < length octets
   pub unbroken : IsUnbroken (take (line_limit + 1) octets)
+
+-- the octets before the first LF, or all
+abbrev pub first_line : List ℕ → List ℕ
+first_line [] = []
+first_line (octet ∷ octets) = if octet == lf then [] else octet ∷ first_line octets
+
+-- the octets behind the first LF, or none
+abbrev pub behind_line : List ℕ → List ℕ
+behind_line [] = []
+behind_line (octet ∷ octets) = if octet == lf then octets else behind_line octets

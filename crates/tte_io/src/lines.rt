@@ -1,4 +1,4 @@
-ghost use Rattle.std.specs.Prelude.{◌≡◌, ◌≤◌, ◌<◌, ℕ, [], Some, Ok, true, false, length, IsSome, OnOk, OnErr};
+ghost use Rattle.std.specs.Prelude.{◌≡◌, ◌≤◌, ◌<◌, ℕ, [], Some, Ok, true, length, IsSome, OnOk, OnErr};
 ghost use Rattle.tte_io.specs.Faults.{Rose};
 
 use crate::stores::{Ahead, LineText};
@@ -36,18 +36,18 @@ pub struct LineReader {
 impl Model for LineReader {
     ghost use Rattle.std.specs.Prelude.{◌≤◌, length};
     ghost use Rattle.tte_io.specs.Line.{IsLine};
-    ghost use Rattle.tte_io.specs.NextLine.{LineReaderState};
+    ghost use Rattle.tte_io.specs.NextLine.{LineReaderState, KeepsLongLine};
     ghost use Rattle.tte_io.specs.Progress.{reader_state};
 
     ghost Value = { LineReaderState };
 
     ghost view = { λ r. reader_state r.progress r.line r.ahead };
 
-    ghost invariant = { λ r. IsLine r.line × (length r.ahead ≤ 4096) };
+    ghost invariant = { λ r. IsLine r.line × (length r.ahead ≤ 4096) × KeepsLongLine (reader_state r.progress r.line r.ahead) };
 }
 
 impl LineReader {
-    ghost use Rattle.tte_io.specs.NextLine.{NextLine, at_rest, pending};
+    ghost use Rattle.tte_io.specs.NextLine.{NextLine, TellsOutcome, at_rest, pending};
 
     /// A reader that has read nothing.
     pub fn new() -> LineReader
@@ -65,7 +65,8 @@ impl LineReader {
     /// After a failed read, what was read and not given stays, and the next call goes on from it.
     /// After `Long` each call answers `Long` and reads nothing.
     pub fn next_line<S: Source>(&mut self, source: &mut S) -> Result<LineTaken, SourceFailed>
-        ensures next { self.old.long ≡ false → NextLine (pending self.old) (S.left source.old) self.new (S.left source.new) result }
+        ensures next { NextLine (pending self.old) (S.left source.old) self.new (S.left source.new) result }
+        ensures told { TellsOutcome (pending self.old) (S.left source.old) self.new (S.left source.new) result }
         ensures stays_long { self.old.long ≡ true → (result ≡ Ok LineTaken.Long) × (self.new ≡ self.old) × (source.new ≡ source.old) }
         ensures room { (length self.new.kept ≤ 4096) × (length self.new.ahead ≤ 4096) }
 

@@ -1,6 +1,6 @@
 ghost use Rattle.std.specs.Prelude.{◌≡◌, ◌≢◌, ◌⊎◌, ◌≤◌, ◌+◌, ◌<◌, ℕ, List, [], ◌∷◌, ◌++◌, length, take, drop, IfSome, IfNone, OnOk, OnErr};
 ghost use Rattle.tte_io.specs.Faults.{Rose};
-ghost use Rattle.tte_io.specs.NextLine.{NextLine};
+ghost use Rattle.tte_io.specs.NextLine.{NextLine, TellsOutcome};
 ghost use Rattle.tte_io.specs.Progress.{reader_state, progress_after};
 ghost use Rattle.tte_io.specs.Line.{lf, IsUnbroken, IsLine};
 ghost use Rattle.tte_io.specs.Steps.{Advances};
@@ -71,6 +71,8 @@ pub(crate) fn take_line<S: Source>(
     requires line { IsLine line.old }
     requires bound { length ahead.old ≤ 4096 }
     ensures next { NextLine (line.old ++ ahead.old) (S.left source.old)
+        (reader_state (progress_after result) line.new ahead.new) (S.left source.new) result }
+    ensures told { TellsOutcome (line.old ++ ahead.old) (S.left source.old)
         (reader_state (progress_after result) line.new ahead.new) (S.left source.new) result }
     ensures line { IsLine line.new }
     ensures bound { length ahead.new ≤ 4096 }

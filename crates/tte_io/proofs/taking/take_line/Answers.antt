@@ -1,6 +1,7 @@
 use Rattle.std.proofs.Common.{◌∙◌, refl, arith}
 use Rattle.std.proofs.lemmas.Result.{err_from_is_err_and}
 use Rattle.tte_io.proofs.Making.{making_filled, making_advanced, taken_at_lf, found_too_long, taken_at_end, kept_after_failure}
+use Rattle.tte_io.proofs.Coming.{outcome_told}
 use Rattle.tte_io.proofs.taking.take_line.Goals as goal
 
 pub returns-in_err-fill-clause-next : goal.returns-in_err-fill-clause-next
@@ -33,3 +34,15 @@ reads-preserved g c = record {
   bound = omega (arith, c.in-Unfinished.ensures.shorter);
   unchanged = c.in_ok-fill.ensures.ok_unchanged ∙ c.reads.invariant.unchanged;
 }
+
+pub returns-in_err-fill-clause-told : goal.returns-in_err-fill-clause-told
+returns-in_err-fill-clause-told g c = outcome_told _ _ _ _ _ (returns-in_err-fill-clause-next g c)
+
+pub returns-then-is_empty-clause-told : goal.returns-then-is_empty-clause-told
+returns-then-is_empty-clause-told g c = outcome_told _ _ _ _ _ (returns-then-is_empty-clause-next g c)
+
+pub returns-in-Ended-clause-told : goal.returns-in-Ended-clause-told
+returns-in-Ended-clause-told g c = outcome_told _ _ _ _ _ (returns-in-Ended-clause-next g c)
+
+pub returns-in-TooLong-clause-told : goal.returns-in-TooLong-clause-told
+returns-in-TooLong-clause-told g c = outcome_told _ _ _ _ _ (returns-in-TooLong-clause-next g c)
