@@ -4,3 +4,4 @@ pub mod LongLines
 pub mod Making
 pub mod FirstLine
 pub mod Coming
+pub mod InOrder

@@ -6,7 +6,7 @@ use Rattle.tte_io.specs.declared.lines.LineTaken.{LineTaken}
 use Rattle.tte_io.specs.declared.lines.LineTaken.TheVariants.{Whole, Long, End}
 use Rattle.tte_io.specs.declared.lines.Progress.TheVariants.{Unfinished, TooLong}
 use Rattle.tte_io.specs.declared.taking.Step.TheVariants as step
-use Rattle.tte_io.specs.Line.{lf, line_limit, IsLine, IsTooLong}
+use Rattle.tte_io.specs.Line.{lf, ahead_limit, IsLine, IsTooLong}
 use Rattle.tte_io.specs.NextLine.{NextLine}
 use Rattle.tte_io.specs.Progress.{reader_state, progress_after}
 use Rattle.tte_io.specs.Steps.{Fills, Advances}
@@ -16,7 +16,7 @@ pub record Making (before : List ℕ) (left_before : Option (List ℕ)) (line ah
   pub earlier : List ℕ
   pub last : List ℕ
   pub consumed : Consumes left_before left (earlier ++ last)
-  pub last_size : length last ≤ line_limit
+  pub last_size : length last ≤ ahead_limit
   pub needed : earlier ++ last ≢ [] → IsLine (before ++ earlier)
   pub same : before ++ (earlier ++ last) ≡ line ++ ahead
   pub is_line : IsLine line
@@ -34,7 +34,7 @@ making_begun line ahead left is_line = record {
 
 -- nothing was read, or a read came behind the others
 making_more : (before : List ℕ) (left_before : Option (List ℕ)) (line ahead : List ℕ) (left : Option (List ℕ)) (read ahead_after : List ℕ) (left_after : Option (List ℕ)) → Making before left_before line ahead left
-    → Consumes left left_after read → length read ≤ line_limit → ahead_after ≡ ahead ++ read → (read ≢ [] → ahead ≡ []) → Making before left_before line ahead_after left_after
+    → Consumes left left_after read → length read ≤ ahead_limit → ahead_after ≡ ahead ++ read → (read ≢ [] → ahead ≡ []) → Making before left_before line ahead_after left_after
 making_more before left_before line ahead left [] ahead_after left_after m consumed size added needed = record {
   earlier = m.earlier;
   last = m.last;

@@ -1,8 +1,9 @@
 pub mod Faults
 pub mod Told
-pub mod Ends
+pub mod InMemory
 pub mod Whole
 pub mod Line
 pub mod NextLine
 pub mod Progress
 pub mod Steps
+pub mod LinesGiven

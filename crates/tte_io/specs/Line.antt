@@ -9,6 +9,10 @@ lf = 10
 abbrev pub line_limit : ℕ
 line_limit = 4096
 
+-- how many octets are read at a time at most
+abbrev pub ahead_limit : ℕ
+ahead_limit = 4096
+
 -- no octet is an LF
 abbrev pub IsUnbroken : List ℕ → Type 0
 IsUnbroken octets = All (λ octet. octet ≢ lf) octets

@@ -3,7 +3,7 @@ use Rattle.std.specs.Prelude.{◌≡◌, ◌≢◌, ◌⊎◌, ℕ, ◌<◌, ◌
 use Rattle.std.specs.Io.KnownBytes.{Consumes, IsAtEnd}
 use Rattle.tte_io.specs.declared.lines.LineTaken.{LineTaken}
 use Rattle.tte_io.specs.declared.lines.LineTaken.TheVariants as taken
-use Rattle.tte_io.specs.Line.{lf, line_limit, IsLine, IsTooLong, first_line, behind_line}
+use Rattle.tte_io.specs.Line.{lf, line_limit, ahead_limit, IsLine, IsTooLong, first_line, behind_line}
 
 -- a reader of lines
 pub record LineReaderState : Type 0 where
@@ -66,7 +66,7 @@ pub record NextLine {E : Type 0} (before : List ℕ) (left_before : Option (List
   pub earlier : List ℕ
   pub last : List ℕ
   pub consumed : Consumes left_before left_after (earlier ++ last)
-  pub last_size : length last ≤ line_limit
+  pub last_size : length last ≤ ahead_limit
   -- it reads only where all that is pending is of one unfinished line
   pub needed : earlier ++ last ≢ [] → IsLine (before ++ earlier)
   -- what the call gives

@@ -3,13 +3,13 @@ use Rattle.std.specs.Prelude.{◌≡◌, ◌≢◌, ◌≤◌, ℕ, List, [], �
 use Rattle.std.specs.Io.KnownBytes.{Consumes}
 use Rattle.tte_io.specs.declared.taking.Step.{Step}
 use Rattle.tte_io.specs.declared.taking.Step.TheVariants.{Ended, Unfinished, TooLong}
-use Rattle.tte_io.specs.Line.{lf, line_limit, IsLine, IsTooLong}
+use Rattle.tte_io.specs.Line.{lf, ahead_limit, IsLine, IsTooLong}
 
 -- a read adds to what is ahead, and only where nothing is
 pub record Fills (ahead : List ℕ) (left : Option (List ℕ)) (ahead_after : List ℕ) (left_after : Option (List ℕ)) : Type 0 where
   pub read : List ℕ
   pub consumed : Consumes left left_after read
-  pub size : length read ≤ line_limit
+  pub size : length read ≤ ahead_limit
   pub added : ahead_after ≡ ahead ++ read
   pub needed : read ≢ [] → ahead ≡ []
 

@@ -133,3 +133,39 @@ impl<'a, R: Print> Sink for StdSink<'a, R> {
         Ok(())
     }
 }
+
+#[cfg(test)]
+mod tests {
+    use super::*;
+    use std::test::Fail;
+
+    #[test]
+    fn a_missing_file_is_a_fault(rt: HostRuntime) -> Result<(), Fail> {
+        let mut file = LazyFile::new(&rt, PathText::new(rt.alloc(), "no/such/file")?);
+        assert!(rt; file.read(&mut [0; 8]) == Err(SourceFailed));
+        assert!(rt; file.faults == 1);
+        assert!(rt; file.read(&mut [0; 8]) == Err(SourceFailed));
+        assert!(rt; file.faults == 2);
+        Ok(())
+    }
+
+    #[test]
+    fn a_file_is_opened_at_its_first_read(rt: HostRuntime) -> Result<(), Fail> {
+        let mut file = LazyFile::new(&rt, PathText::new(rt.alloc(), "file")?);
+        fs::write(&rt, "file", "abc")?;
+        let mut buf = [0; 8];
+        assert!(rt; file.read(&mut buf) == Ok(3));
+        assert!(rt; &buf[..3] == b"abc".as_slice());
+        assert!(rt; file.read(&mut buf) == Ok(0));
+        assert!(rt; file.faults == 0);
+        Ok(())
+    }
+
+    #[test]
+    fn standard_output_takes_text(rt: HostRuntime) {
+        let mut out = StdSink::new(&rt);
+        assert!(rt; out.put(b"text\n") == Ok(()));
+        assert!(rt; out.put(b"") == Ok(()));
+        assert!(rt; out.faults == 0);
+    }
+}

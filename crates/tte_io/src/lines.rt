@@ -35,7 +35,7 @@ pub struct LineReader {
 
 impl Model for LineReader {
     ghost use Rattle.std.specs.Prelude.{◌≤◌, length};
-    ghost use Rattle.tte_io.specs.Line.{IsLine};
+    ghost use Rattle.tte_io.specs.Line.{IsLine, ahead_limit};
     ghost use Rattle.tte_io.specs.NextLine.{LineReaderState, KeepsLongLine};
     ghost use Rattle.tte_io.specs.Progress.{reader_state};
 
@@ -43,10 +43,13 @@ impl Model for LineReader {
 
     ghost view = { λ r. reader_state r.progress r.line r.ahead };
 
-    ghost invariant = { λ r. IsLine r.line × (length r.ahead ≤ 4096) × KeepsLongLine (reader_state r.progress r.line r.ahead) };
+    ghost invariant = { λ r. IsLine r.line × (length r.ahead ≤ ahead_limit)
+        × KeepsLongLine (reader_state r.progress r.line r.ahead) };
 }
 
 impl LineReader {
+    ghost use Rattle.tte_io.specs.Line.{line_limit, ahead_limit};
+    ghost use Rattle.tte_io.specs.LinesGiven.{GivesInOrder};
     ghost use Rattle.tte_io.specs.NextLine.{NextLine, TellsOutcome, at_rest, pending};
 
     /// A reader that has read nothing.
@@ -65,10 +68,16 @@ impl LineReader {
     /// After a failed read, what was read and not given stays, and the next call goes on from it.
     /// After `Long` each call answers `Long` and reads nothing.
     pub fn next_line<S: Source>(&mut self, source: &mut S) -> Result<LineTaken, SourceFailed>
+        // What was read, what it gives by its answer, and what stays.
         ensures next { NextLine (pending self.old) (S.left source.old) self.new (S.left source.new) result }
+
+        // The answer for octets that are told, which is one answer where no read fails.
         ensures told { TellsOutcome (pending self.old) (S.left source.old) self.new (S.left source.new) result }
-        ensures stays_long { self.old.long ≡ true → (result ≡ Ok LineTaken.Long) × (self.new ≡ self.old) × (source.new ≡ source.old) }
-        ensures room { (length self.new.kept ≤ 4096) × (length self.new.ahead ≤ 4096) }
+
+        ensures stays_long { self.old.long ≡ true
+            → (result ≡ Ok LineTaken.Long) × (self.new ≡ self.old) × (source.new ≡ source.old) }
+        ensures kept_bound { length self.new.kept ≤ line_limit }
+        ensures ahead_bound { length self.new.ahead ≤ ahead_limit }
 
         ensures never_falls { S.faults source.old ≤ S.faults source.new }
         ensures ok_unchanged { OnOk result (S.faults source.new ≡ S.faults source.old) }
@@ -88,6 +97,11 @@ impl LineReader {
         };
         Ok(taken)
     }
+
+    /// What was read is what was given and what is pending, over however many calls.
+    pub fn gives_in_order_law()
+        ensures { GivesInOrder }
+    {}
 
     /// The line taken, without its LF. The last `next_line` answered `Whole`.
     pub fn text(&self) -> &[u8]

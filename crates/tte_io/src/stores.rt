@@ -1,6 +1,7 @@
 ghost use Rattle.std.specs.Prelude.{◌≡◌, ◌≤◌, ◌+◌, ◌↔◌, ℕ, List, [], ◌++◌, length, drop, IsTrue, OnOk, OnErr};
 ghost use Rattle.std.specs.Io.KnownBytes.{IsAtEnd};
 ghost use Rattle.tte_io.specs.Faults.{Rose};
+ghost use Rattle.tte_io.specs.Line.{line_limit, ahead_limit};
 ghost use Rattle.tte_io.specs.Steps.{Fills};
 
 use crate::{Source, SourceFailed};
@@ -19,12 +20,13 @@ pub(crate) struct Ahead {
 
 impl Model for Ahead {
     ghost use Rattle.std.specs.Prelude.{ℕ, List, ◌≤◌, slice_range};
+    ghost use Rattle.tte_io.specs.Line.{ahead_limit};
 
     ghost Value = { List ℕ };
 
     ghost view = { λ a. slice_range a.octets a.from a.to };
 
-    ghost invariant = { λ a. (a.from ≤ a.to) × (a.to ≤ 4096) };
+    ghost invariant = { λ a. (a.from ≤ a.to) × (a.to ≤ ahead_limit) };
 }
 
 impl Ahead {
@@ -52,9 +54,9 @@ impl Ahead {
 
     /// Sees that octets are ahead, by a read where none are. None are ahead then only at the end.
     pub(crate) fn fill<S: Source>(&mut self, source: &mut S) -> Result<(), SourceFailed>
-        requires { length self.old ≤ 4096 }
+        requires { length self.old ≤ ahead_limit }
         ensures fills { Fills self.old (S.left source.old) self.new (S.left source.new) }
-        ensures bound { length self.new ≤ 4096 }
+        ensures bound { length self.new ≤ ahead_limit }
         ensures end { OnOk result (self.new ≡ [] → IsAtEnd (S.left source.new)) }
         ensures failed { OnErr result (self.new ≡ []) }
 
@@ -89,12 +91,13 @@ pub(crate) struct LineText {
 
 impl Model for LineText {
     ghost use Rattle.std.specs.Prelude.{ℕ, List, ◌≤◌, take};
+    ghost use Rattle.tte_io.specs.Line.{line_limit};
 
     ghost Value = { List ℕ };
 
     ghost view = { λ t. take t.len t.octets };
 
-    ghost invariant = { λ t. t.len ≤ 4096 };
+    ghost invariant = { λ t. t.len ≤ line_limit };
 }
 
 impl LineText {
@@ -121,7 +124,7 @@ impl LineText {
 
     /// How many more octets there is room for.
     pub(crate) fn room_left(&self) -> usize
-        ensures { result + length self.now ≡ 4096 }
+        ensures { result + length self.now ≡ line_limit }
     {
         ROOM - self.len
     }
@@ -133,7 +136,7 @@ impl LineText {
     }
 
     pub(crate) fn append(&mut self, more: &[u8])
-        requires { length self.old + length more.now ≤ 4096 }
+        requires { length self.old + length more.now ≤ line_limit }
         ensures { self.new ≡ self.old ++ more.now }
     {
         let len = self.len + more.len();

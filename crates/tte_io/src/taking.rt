@@ -2,7 +2,7 @@ ghost use Rattle.std.specs.Prelude.{◌≡◌, ◌≢◌, ◌⊎◌, ◌≤◌, 
 ghost use Rattle.tte_io.specs.Faults.{Rose};
 ghost use Rattle.tte_io.specs.NextLine.{NextLine, TellsOutcome};
 ghost use Rattle.tte_io.specs.Progress.{reader_state, progress_after};
-ghost use Rattle.tte_io.specs.Line.{lf, IsUnbroken, IsLine};
+ghost use Rattle.tte_io.specs.Line.{lf, ahead_limit, IsUnbroken, IsLine};
 ghost use Rattle.tte_io.specs.Steps.{Advances};
 
 use crate::stores::{Ahead, LineText};
@@ -69,13 +69,13 @@ pub(crate) fn take_line<S: Source>(
     source: &mut S,
 ) -> Result<LineTaken, SourceFailed>
     requires line { IsLine line.old }
-    requires bound { length ahead.old ≤ 4096 }
+    requires bound { length ahead.old ≤ ahead_limit }
     ensures next { NextLine (line.old ++ ahead.old) (S.left source.old)
         (reader_state (progress_after result) line.new ahead.new) (S.left source.new) result }
     ensures told { TellsOutcome (line.old ++ ahead.old) (S.left source.old)
         (reader_state (progress_after result) line.new ahead.new) (S.left source.new) result }
     ensures line { IsLine line.new }
-    ensures bound { length ahead.new ≤ 4096 }
+    ensures bound { length ahead.new ≤ ahead_limit }
 
     ensures never_falls { S.faults source.old ≤ S.faults source.new }
     ensures ok_unchanged { OnOk result (S.faults source.new ≡ S.faults source.old) }
