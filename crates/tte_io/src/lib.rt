@@ -3,6 +3,7 @@
 
 mod edge;
 mod ends;
+mod laws;
 mod lines;
 mod memory;
 mod sinks;
@@ -13,6 +14,7 @@ mod whole;
 
 pub use edge::{LazyFile, PathText, StdSink};
 pub use ends::{Sink, SinkFailed, Source, SourceFailed};
+pub use laws::lines_in_order_law;
 pub use lines::{LineReader, LineTaken};
 pub use memory::OutOfMemory;
 pub use sinks::MemorySink;

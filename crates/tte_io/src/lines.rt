@@ -49,7 +49,6 @@ impl Model for LineReader {
 
 impl LineReader {
     ghost use Rattle.tte_io.specs.Line.{line_limit, ahead_limit};
-    ghost use Rattle.tte_io.specs.LinesGiven.{GivesInOrder};
     ghost use Rattle.tte_io.specs.NextLine.{NextLine, TellsOutcome, at_rest, pending};
 
     /// A reader that has read nothing.
@@ -97,11 +96,6 @@ impl LineReader {
         };
         Ok(taken)
     }
-
-    /// What was read is what was given and what is pending, over however many calls.
-    pub fn gives_in_order_law()
-        ensures { GivesInOrder }
-    {}
 
     /// The line taken, without its LF. The last `next_line` answered `Whole`.
     pub fn text(&self) -> &[u8]
