@@ -3,7 +3,9 @@ use Rattle.std.proofs.Common.{◌≡◌, ◌≢◌, ℕ, ◌<◌, List, [], ◌�
 use Rattle.tte_io.specs.declared.lines.LineTaken.{LineTaken}
 use Rattle.tte_io.specs.declared.lines.LineTaken.TheVariants as taken
 use Rattle.tte_io.specs.Line.{lf, line_limit, IsLine, first_line, behind_line}
-use Rattle.tte_io.specs.NextLine.{LineReaderState, pending, TakesLine, NextLine, Outcome, TellsOutcome}
+use Rattle.tte_io.specs.ReaderState.{LineReaderState, pending}
+use Rattle.tte_io.specs.NextLine.{TakesLine, NextLine}
+use Rattle.tte_io.specs.Outcome.{Outcome, TellsOutcome}
 use Rattle.tte_io.proofs.FirstLine.{first_line-append, behind_line-append, first_line-too_long}
 
 -- what was to come is what was given, and what is still to come

@@ -4,7 +4,8 @@ use Rattle.std.proofs.KnownBytes.{Consumes-nil, Consumes-trans}
 use Rattle.tte_io.specs.declared.ends.SourceFailed.{SourceFailed}
 use Rattle.tte_io.specs.declared.lines.LineTaken.{LineTaken}
 use Rattle.tte_io.specs.Line.{ahead_limit}
-use Rattle.tte_io.specs.NextLine.{LineReaderState, NextLine, pending}
+use Rattle.tte_io.specs.ReaderState.{LineReaderState, pending}
+use Rattle.tte_io.specs.NextLine.{NextLine}
 use Rattle.tte_io.specs.LinesGiven.{HasGiven, GivesInOrder}
 
 goes_on : (first : Option (List ℕ)) (given : List ℕ) (before : LineReaderState) (left : Option (List ℕ)) (after : LineReaderState) (left_after : Option (List ℕ)) (result : Result LineTaken SourceFailed) → HasGiven first given before left

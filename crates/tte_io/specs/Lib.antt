@@ -3,7 +3,9 @@ pub mod Told
 pub mod InMemory
 pub mod Whole
 pub mod Line
+pub mod ReaderState
 pub mod NextLine
+pub mod Outcome
 pub mod Progress
 pub mod Steps
 pub mod LinesGiven

@@ -4,7 +4,8 @@ use Rattle.std.specs.Io.KnownBytes.{Consumes}
 use Rattle.tte_io.specs.declared.ends.SourceFailed.{SourceFailed}
 use Rattle.tte_io.specs.declared.lines.LineTaken.{LineTaken}
 use Rattle.tte_io.specs.Line.{ahead_limit}
-use Rattle.tte_io.specs.NextLine.{LineReaderState, NextLine, pending, at_rest}
+use Rattle.tte_io.specs.ReaderState.{LineReaderState, pending, at_rest}
+use Rattle.tte_io.specs.NextLine.{NextLine}
 
 -- since `first` was left in the source, the reader has read what it gave and what is pending
 pub record HasGiven (first : Option (List ℕ)) (given : List ℕ) (reader : LineReaderState) (left : Option (List ℕ)) : Type 0 where
@@ -12,6 +13,7 @@ pub record HasGiven (first : Option (List ℕ)) (given : List ℕ) (reader : Lin
   pub consumed : Consumes first left read
   pub same : read ≡ given ++ pending reader
 
+-- a reader gives what it reads, in order
 pub record GivesInOrder : Type 0 where
   -- at first it has given nothing
   pub begins : (left : Option (List ℕ)) → HasGiven left [] at_rest left

@@ -4,7 +4,7 @@ use Rattle.tte_io.specs.declared.lines.LineTaken.{LineTaken}
 use Rattle.tte_io.specs.declared.lines.LineTaken.TheVariants as answer
 use Rattle.tte_io.specs.declared.lines.Progress.{Progress}
 use Rattle.tte_io.specs.declared.lines.Progress.TheVariants.{Unfinished, Taken, TooLong}
-use Rattle.tte_io.specs.NextLine.{LineReaderState}
+use Rattle.tte_io.specs.ReaderState.{LineReaderState}
 
 -- the reader, by how far the stored line has come and by the octets ahead
 abbrev pub reader_state : Progress → List ℕ → List ℕ → LineReaderState

@@ -137,6 +137,9 @@ impl<'a, R: Print> Sink for StdSink<'a, R> {
 #[cfg(test)]
 mod tests {
     use super::*;
+    use std::cell::Cell;
+    use std::fmt::Display;
+    use std::io;
     use std::test::Fail;
 
     #[test]
@@ -161,11 +164,51 @@ mod tests {
         Ok(())
     }
 
+    /// Standard output that takes at most three octets at a time, and in all as many as its room.
+    #[derive(Drop)]
+    struct SlowPrint {
+        room: Cell<usize>,
+    }
+
+    impl Print for SlowPrint {
+        fn print<D: Display + Drop>(&self, _: D) -> io::Result<()> {
+            Ok(())
+        }
+
+        fn println<D: Display + Drop>(&self, _: D) -> io::Result<()> {
+            Ok(())
+        }
+
+        fn write_all(&self, _: &[u8]) -> io::Result<()> {
+            Ok(())
+        }
+
+        fn write_some(&self, bytes: &[u8]) -> io::Result<usize> {
+            let room = self.room.get();
+            let count = bytes.len().min(3).min(room);
+            self.room.set(room - count);
+            Ok(count)
+        }
+    }
+
+    #[test]
+    fn standard_output_is_written_in_pieces(rt: HostRuntime) {
+        let output = SlowPrint {
+            room: Cell::new(10),
+        };
+        let mut out = StdSink::new(&output);
+        assert!(rt; out.put(b"seven..") == Ok(()));
+        assert!(rt; output.room.get() == 3);
+        assert!(rt; out.put(b"") == Ok(()));
+        assert!(rt; out.faults == 0);
+        assert!(rt; out.put(b"four") == Err(SinkFailed));
+        assert!(rt; output.room.get() == 0);
+        assert!(rt; out.faults == 1);
+    }
+
     #[test]
     fn standard_output_takes_text(rt: HostRuntime) {
         let mut out = StdSink::new(&rt);
         assert!(rt; out.put(b"text\n") == Ok(()));
-        assert!(rt; out.put(b"") == Ok(()));
-        assert!(rt; out.faults == 0);
     }
 }

@@ -36,7 +36,7 @@ pub struct LineReader {
 impl Model for LineReader {
     ghost use Rattle.std.specs.Prelude.{◌≤◌, length};
     ghost use Rattle.tte_io.specs.Line.{IsLine, ahead_limit};
-    ghost use Rattle.tte_io.specs.NextLine.{LineReaderState, KeepsLongLine};
+    ghost use Rattle.tte_io.specs.ReaderState.{LineReaderState, KeepsLongLine};
     ghost use Rattle.tte_io.specs.Progress.{reader_state};
 
     ghost Value = { LineReaderState };
@@ -49,7 +49,9 @@ impl Model for LineReader {
 
 impl LineReader {
     ghost use Rattle.tte_io.specs.Line.{line_limit, ahead_limit};
-    ghost use Rattle.tte_io.specs.NextLine.{NextLine, TellsOutcome, at_rest, pending};
+    ghost use Rattle.tte_io.specs.NextLine.{NextLine};
+    ghost use Rattle.tte_io.specs.Outcome.{TellsOutcome};
+    ghost use Rattle.tte_io.specs.ReaderState.{at_rest, pending};
 
     /// A reader that has read nothing.
     pub fn new() -> LineReader

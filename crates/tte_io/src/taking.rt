@@ -1,6 +1,7 @@
 ghost use Rattle.std.specs.Prelude.{◌≡◌, ◌≢◌, ◌⊎◌, ◌≤◌, ◌+◌, ◌<◌, ℕ, List, [], ◌∷◌, ◌++◌, length, take, drop, IfSome, IfNone, OnOk, OnErr};
 ghost use Rattle.tte_io.specs.Faults.{Rose};
-ghost use Rattle.tte_io.specs.NextLine.{NextLine, TellsOutcome};
+ghost use Rattle.tte_io.specs.NextLine.{NextLine};
+ghost use Rattle.tte_io.specs.Outcome.{TellsOutcome};
 ghost use Rattle.tte_io.specs.Progress.{reader_state, progress_after};
 ghost use Rattle.tte_io.specs.Line.{lf, ahead_limit, IsUnbroken, IsLine};
 ghost use Rattle.tte_io.specs.Steps.{Advances};

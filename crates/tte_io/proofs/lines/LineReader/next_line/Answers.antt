@@ -3,7 +3,8 @@ use Rattle.tte_io.specs.declared.lines.LineTaken.TheVariants.{Long}
 use Rattle.tte_io.specs.declared.lines.Progress.{Progress}
 use Rattle.tte_io.specs.declared.lines.Progress.TheVariants.{TooLong}
 use Rattle.tte_io.specs.declared.ends.SourceFailed.{SourceFailed}
-use Rattle.tte_io.specs.NextLine.{LineReaderState, NextLine, KeepsLongLine, pending}
+use Rattle.tte_io.specs.ReaderState.{LineReaderState, KeepsLongLine, pending}
+use Rattle.tte_io.specs.NextLine.{NextLine}
 use Rattle.tte_io.specs.Progress.{reader_state}
 use Rattle.tte_io.proofs.Making.{still_too_long}
 use Rattle.tte_io.proofs.Coming.{outcome_told}
