@@ -1,1 +1,7 @@
 pub mod Taken
+pub mod Ranges
+pub mod LongLines
+pub mod Making
+pub mod FirstLine
+pub mod Coming
+pub mod InOrder

@@ -1,5 +1,5 @@
 -- What was taken from a source was left in it.
-use Rattle.std.proofs.Common.{◌≡◌, ℕ, ◌+◌, ◌<◌, List, ◌++◌, length, Some, None, IfSome, ap, arith, length-append}
+use Rattle.std.proofs.Common.{ℕ, ◌<◌, List, length, Some, None, IfSome, ap, arith, length-append}
 use Rattle.std.specs.declared.option.Option.{Option}
 use Rattle.tte_io.specs.Whole.{TakesTooMany}
 

@@ -1,4 +1,12 @@
 pub mod Faults
 pub mod Told
-pub mod Ends
+pub mod InMemory
+pub mod PutCounts
 pub mod Whole
+pub mod Line
+pub mod ReaderState
+pub mod NextLine
+pub mod Outcome
+pub mod Progress
+pub mod Steps
+pub mod LinesGiven

@@ -7,6 +7,6 @@ use Rattle.std.specs.declared.option.Option.{Option}
 abbrev pub AppendsFront : Option (List ℕ) → Option (List ℕ) → List ℕ → Type 0
 AppendsFront old new octets = (front rest : List ℕ) × (octets ≡ front ++ rest) × Appends old new front
 
--- a read into a buffer that is not empty gives no octet exactly where none was left
-abbrev pub NoneGivenExactlyAtEnd : Option (List ℕ) → List ℕ → ℕ → Type 0
-NoneGivenExactlyAtEnd left buffer n = IfSome left (λ octets. 0 < length buffer → (n ≡ 0) ↔ (octets ≡ []))
+-- n is 0, for a buffer that is not empty, exactly where no octet was left
+abbrev pub IsZeroExactlyAtEnd : Option (List ℕ) → List ℕ → ℕ → Type 0
+IsZeroExactlyAtEnd left buffer n = IfSome left (λ octets. 0 < length buffer → (n ≡ 0) ↔ (octets ≡ []))

@@ -100,7 +100,7 @@ pub struct StdSink<'a, R: Print> {
 }
 
 impl<'a, R: Print> Model for StdSink<'a, R> {
-    ghost use Rattle.tte_io.specs.Ends.{PutCounts};
+    ghost use Rattle.tte_io.specs.PutCounts.{PutCounts};
 
     ghost Value = { PutCounts };
 
@@ -140,5 +140,84 @@ impl<'a, R: Print> Sink for StdSink<'a, R> {
             }
         }
         Ok(())
+    }
+}
+
+#[cfg(test)]
+mod tests {
+    use super::*;
+    use std::cell::Cell;
+    use std::fmt::Display;
+    use std::io;
+    use std::test::Fail;
+
+    #[test]
+    fn a_missing_file_is_a_fault(rt: HostRuntime) -> Result<(), Fail> {
+        let mut file = LazyFile::new(&rt, PathText::new(rt.alloc(), "no/such/file")?);
+        assert!(rt; file.read(&mut [0; 8]) == Err(SourceFailed));
+        assert!(rt; file.faults == 1);
+        assert!(rt; file.read(&mut [0; 8]) == Err(SourceFailed));
+        assert!(rt; file.faults == 2);
+        Ok(())
+    }
+
+    #[test]
+    fn a_file_is_opened_at_its_first_read(rt: HostRuntime) -> Result<(), Fail> {
+        let mut file = LazyFile::new(&rt, PathText::new(rt.alloc(), "file")?);
+        fs::write(&rt, "file", "abc")?;
+        let mut buf = [0; 8];
+        assert!(rt; file.read(&mut buf) == Ok(3));
+        assert!(rt; &buf[..3] == b"abc".as_slice());
+        assert!(rt; file.read(&mut buf) == Ok(0));
+        assert!(rt; file.faults == 0);
+        Ok(())
+    }
+
+    /// Standard output that takes at most three octets at a time, and in all as many as its room.
+    #[derive(Drop)]
+    struct SlowPrint {
+        room: Cell<usize>,
+    }
+
+    impl Print for SlowPrint {
+        fn print<D: Display + Drop>(&self, _: D) -> io::Result<()> {
+            Ok(())
+        }
+
+        fn println<D: Display + Drop>(&self, _: D) -> io::Result<()> {
+            Ok(())
+        }
+
+        fn write_all(&self, _: &[u8]) -> io::Result<()> {
+            Ok(())
+        }
+
+        fn write_some(&self, bytes: &[u8]) -> io::Result<usize> {
+            let room = self.room.get();
+            let count = bytes.len().min(3).min(room);
+            self.room.set(room - count);
+            Ok(count)
+        }
+    }
+
+    #[test]
+    fn standard_output_is_written_in_pieces(rt: HostRuntime) {
+        let output = SlowPrint {
+            room: Cell::new(10),
+        };
+        let mut out = StdSink::new(&output);
+        assert!(rt; out.put(b"seven..") == Ok(()));
+        assert!(rt; output.room.get() == 3);
+        assert!(rt; out.put(b"") == Ok(()));
+        assert!(rt; out.faults == 0);
+        assert!(rt; out.put(b"four") == Err(SinkFailed));
+        assert!(rt; output.room.get() == 0);
+        assert!(rt; out.faults == 1);
+    }
+
+    #[test]
+    fn standard_output_takes_text(rt: HostRuntime) {
+        let mut out = StdSink::new(&rt);
+        assert!(rt; out.put(b"text\n") == Ok(()));
     }
 }

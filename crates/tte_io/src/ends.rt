@@ -3,7 +3,7 @@ ghost use Rattle.std.specs.Io.{ReadsAtMost};
 ghost use Rattle.std.specs.Io.KnownBytes.{Appends, Keeps, ReadConsumes};
 ghost use Rattle.std.specs.declared.option.Option.{Option};
 ghost use Rattle.tte_io.specs.Faults.{Rose, next_count};
-ghost use Rattle.tte_io.specs.Told.{AppendsFront, NoneGivenExactlyAtEnd};
+ghost use Rattle.tte_io.specs.Told.{AppendsFront, IsZeroExactlyAtEnd};
 
 /// A read failed.
 #[derive(Clone, Copy, Debug, PartialEq, Eq)]
@@ -26,7 +26,7 @@ pub trait Source {
     fn read(&mut self, buf: &mut [u8]) -> Result<usize, SourceFailed>
         ensures bound { ReadsAtMost result buf.new }
         ensures octets { ReadConsumes (left self.old) (left self.new) result buf.new }
-        ensures end { IfOk result (NoneGivenExactlyAtEnd (left self.old) buf.new) }
+        ensures end { IfOk result (IsZeroExactlyAtEnd (left self.old) buf.new) }
 
         ensures never_falls { faults self.old ≤ faults self.new }
         ensures ok_unchanged { OnOk result (faults self.new ≡ faults self.old) }

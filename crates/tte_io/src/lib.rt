@@ -3,16 +3,25 @@
 
 mod edge;
 mod ends;
+mod laws;
 mod line_text;
+mod lines;
 mod memory;
 mod sinks;
 mod sources;
+mod stores;
+mod taking;
 mod whole;
 
 pub use edge::{LazyFile, PathText, StdSink};
 pub use ends::{Sink, SinkFailed, Source, SourceFailed};
+pub use laws::lines_in_order_law;
 pub use line_text::LineText;
+pub use lines::{LineReader, LineTaken};
 pub use memory::OutOfMemory;
 pub use sinks::MemorySink;
 pub use sources::{MemorySource, SteadySource};
 pub use whole::{Bytes, ReadAll, read_all};
+
+#[cfg(test)]
+mod tests;

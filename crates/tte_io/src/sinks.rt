@@ -1,8 +1,8 @@
-ghost use Rattle.std.specs.Prelude.{◌≡◌, ◌<◌, ◌≤◌, ◌+◌, ◌↔◌, ◌⊎◌, [], length, IsErr, IfOk, OnOk, OnErr, Contains, Some};
+ghost use Rattle.std.specs.Prelude.{◌≡◌, ◌<◌, ◌≤◌, ◌+◌, ◌↔◌, ◌⊎◌, length, IsErr, IfOk, OnOk, OnErr, Contains, Some};
 ghost use Rattle.std.specs.Io.KnownBytes.{Appends};
 ghost use Rattle.tte_io.specs.Faults.{Rose, next_count};
 ghost use Rattle.tte_io.specs.Told.{AppendsFront};
-ghost use Rattle.tte_io.specs.Ends.{after_writing, after_failed_put};
+ghost use Rattle.tte_io.specs.InMemory.{fresh_sink, after_writing, after_failed_put};
 
 use crate::memory::Calls;
 use crate::{OutOfMemory, Sink, SinkFailed};
@@ -20,11 +20,17 @@ pub struct MemorySink {
 
 impl Model for MemorySink {
     ghost use Rattle.std.specs.Prelude.{◌≤◌, vec_len, vec_capacity};
-    ghost use Rattle.tte_io.specs.Ends.{SinkState};
+    ghost use Rattle.tte_io.specs.InMemory.{SinkState};
 
     ghost Value = { SinkState };
 
-    ghost view = { λ s. record { written = s.written.items; room = s.room; failing = s.calls.failing.items; calls = s.calls.count; faults = s.faults } };
+    ghost view = { λ s. record {
+      written = s.written.items;
+      room = s.room;
+      failing = s.calls.failing.items;
+      calls = s.calls.count;
+      faults = s.faults;
+    } };
 
     ghost invariant = { λ s. (vec_len s.written ≤ s.room) × (s.room ≤ vec_capacity s.written) };
 }
@@ -33,7 +39,7 @@ impl MemorySink {
     /// An empty sink for at most `room` octets, for all of which it takes the memory. The calls
     /// whose numbers, from 1, are in `failing` fail.
     pub fn new(alloc: Global, room: u64, failing: &[u32]) -> Result<MemorySink, OutOfMemory>
-        ensures { IfOk result (λ s. s ≡ record { written = []; room = room; failing = failing.now; calls = 0; faults = 0 }) }
+        ensures { IfOk result (λ s. s ≡ fresh_sink room failing.now) }
     {
         Ok(MemorySink {
             written: Vec::with_capacity(alloc, room as usize)?,
@@ -69,7 +75,8 @@ impl Sink for MemorySink {
 
         // Exactly the calls fail whose numbers are in `failing` or that pass the room.
         ensures fails { IsErr result
-            ↔ (Contains self.old.failing (self.old.calls + 1) ⊎ (self.old.room < length self.old.written + length bytes.now)) }
+            ↔ (Contains self.old.failing (self.old.calls + 1)
+            ⊎ (self.old.room < length self.old.written + length bytes.now)) }
         ensures ok { OnOk result (self.new ≡ after_writing bytes.now self.old) }
         ensures err { OnErr result (self.new ≡ after_failed_put self.old) }
     {
@@ -81,6 +88,7 @@ impl Sink for MemorySink {
         }
         match self.written.extend_from_slice(bytes) {
             Ok(()) => Ok(()),
+            // `new` took the memory for all that fits.
             Err(_) => unreachable!(),
         }
     }

@@ -2,8 +2,8 @@ ghost use Rattle.std.specs.Prelude.{◌≡◌, ◌≤◌, ◌+◌, ◌↔◌, �
 ghost use Rattle.std.specs.Io.{ReadsAtMost};
 ghost use Rattle.std.specs.Io.KnownBytes.{ReadConsumes};
 ghost use Rattle.tte_io.specs.Faults.{Rose};
-ghost use Rattle.tte_io.specs.Told.{NoneGivenExactlyAtEnd};
-ghost use Rattle.tte_io.specs.Ends.{SourceState, after_giving, after_failed_read};
+ghost use Rattle.tte_io.specs.Told.{IsZeroExactlyAtEnd};
+ghost use Rattle.tte_io.specs.InMemory.{fresh_source, after_giving, after_failed_read};
 
 use crate::memory::Calls;
 use crate::{OutOfMemory, Source, SourceFailed};
@@ -22,13 +22,21 @@ pub struct MemorySource {
 
 impl Model for MemorySource {
     ghost use Rattle.std.specs.Prelude.{◌≤◌, length, drop};
-    ghost use Rattle.tte_io.specs.Ends.{SourceState};
+    ghost use Rattle.tte_io.specs.InMemory.{SourceState};
 
     ghost Value = { SourceState };
 
-    ghost view = { λ s. record { left = drop s.taken s.octets.items; piece = s.piece; failing = s.calls.failing.items; calls = s.calls.count; faults = s.faults } };
+    ghost view = { λ s. record {
+      left = drop s.taken s.octets.items;
+      piece = s.piece;
+      failing = s.calls.failing.items;
+      calls = s.calls.count;
+      faults = s.faults;
+    } };
 
-    ghost invariant = { λ s. (s.taken ≤ length s.octets.items) × (1 ≤ s.piece) × (s.faults ≤ s.calls.count) };
+    ghost invariant = { λ s. (s.taken ≤ length s.octets.items)
+        × (1 ≤ s.piece)
+        × (s.faults ≤ s.calls.count) };
 }
 
 impl MemorySource {
@@ -41,7 +49,7 @@ impl MemorySource {
         failing: &[u32],
     ) -> Result<MemorySource, OutOfMemory>
         requires { 1 ≤ piece }
-        ensures { IfOk result (λ s. s ≡ record { left = octets.now; piece = piece; failing = failing.now; calls = 0; faults = 0 }) }
+        ensures { IfOk result (λ s. s ≡ fresh_source octets.now piece failing.now) }
     {
         Ok(MemorySource {
             octets: octets.to_vec(alloc)?,
@@ -61,7 +69,7 @@ impl Source for MemorySource {
     fn read(&mut self, buf: &mut [u8]) -> Result<usize, SourceFailed>
         ensures bound { ReadsAtMost result buf.new }
         ensures octets { ReadConsumes (Some self.old.left) (Some self.new.left) result buf.new }
-        ensures end { IfOk result (NoneGivenExactlyAtEnd (Some self.old.left) buf.new) }
+        ensures end { IfOk result (IsZeroExactlyAtEnd (Some self.old.left) buf.new) }
 
         ensures never_falls { self.old.faults ≤ self.new.faults }
         ensures ok_unchanged { OnOk result (self.new.faults ≡ self.old.faults) }
@@ -69,7 +77,8 @@ impl Source for MemorySource {
 
         // Exactly the calls whose numbers are in `failing` fail.
         ensures fails { IsErr result ↔ Contains self.old.failing (self.old.calls + 1) }
-        ensures count { IfOk result (λ n. n ≡ min (min self.old.piece (length buf.new)) (length self.old.left)) }
+        ensures count { IfOk result (λ n.
+            n ≡ min (min self.old.piece (length buf.new)) (length self.old.left)) }
         ensures ok { IfOk result (λ n. self.new ≡ after_giving n self.old) }
         ensures err { OnErr result (self.new ≡ after_failed_read self.old) }
     {
@@ -123,7 +132,7 @@ impl Source for SteadySource {
     fn read(&mut self, buf: &mut [u8]) -> Result<usize, SourceFailed>
         ensures bound { ReadsAtMost result buf.new }
         ensures octets { ReadConsumes (Some self.old) (Some self.new) result buf.new }
-        ensures end { IfOk result (NoneGivenExactlyAtEnd (Some self.old) buf.new) }
+        ensures end { IfOk result (IsZeroExactlyAtEnd (Some self.old) buf.new) }
 
         ensures never_fails { IsOk result }
         ensures count { IfOk result (λ n. n ≡ min (length buf.new) (length self.old)) }

@@ -53,8 +53,10 @@ pub fn read_all<S: Source>(alloc: Global, source: &mut S, limit: u64) -> Result<
     ensures emptied { OnOk result (IsAtEnd (S.left source.new)) }
 
     // More than `limit` octets came, and so more were left.
-    ensures too_long { result ≡ Err ReadAll.TooLong → TakesTooMany (S.left source.old) (S.left source.new) limit }
-    ensures too_long_left { result ≡ Err ReadAll.TooLong → IfSome (S.left source.old) (λ left. limit < length left) }
+    ensures too_long { result ≡ Err ReadAll.TooLong
+        → TakesTooMany (S.left source.old) (S.left source.new) limit }
+    ensures too_long_left { result ≡ Err ReadAll.TooLong
+        → IfSome (S.left source.old) (λ left. limit < length left) }
     ensures taken { TakesSome (S.left source.old) (S.left source.new) }
 
     ensures fault { result ≡ Err ReadAll.Fault → Rose (S.faults source.old) (S.faults source.new) }

@@ -1,5 +1,5 @@
--- What callers see of the ends in memory.
-use Rattle.std.specs.Prelude.{ℕ, ◌+◌, List, ◌++◌, drop}
+-- The ends in memory, as callers see them, and what a call changes.
+use Rattle.std.specs.Prelude.{ℕ, ◌+◌, List, [], ◌++◌, drop}
 use Rattle.tte_io.specs.Faults.{next_count}
 
 -- a source in memory
@@ -10,10 +10,14 @@ pub record SourceState : Type 0 where
   pub piece : ℕ
   -- the numbers of the calls that fail, from 1
   pub failing : List ℕ
-  -- the count of the calls
+  -- the count of the calls, which stands still at 2^64 - 1
   pub calls : ℕ
   -- the count of the calls that failed
   pub faults : ℕ
+
+-- a new source of these octets
+abbrev pub fresh_source : List ℕ → ℕ → List ℕ → SourceState
+fresh_source octets piece failing = record { left = octets; piece = piece; failing = failing; calls = 0; faults = 0 }
 
 -- the source after a call that gave n octets
 abbrev pub after_giving : ℕ → SourceState → SourceState
@@ -31,10 +35,14 @@ pub record SinkState : Type 0 where
   pub room : ℕ
   -- the numbers of the calls that fail, from 1
   pub failing : List ℕ
-  -- the count of the calls
+  -- the count of the calls, which stands still at 2^64 - 1
   pub calls : ℕ
-  -- the count of the calls that failed
+  -- the count of the calls that failed, which stands still at 2^64 - 1
   pub faults : ℕ
+
+-- a new sink with this room
+abbrev pub fresh_sink : ℕ → List ℕ → SinkState
+fresh_sink room failing = record { written = []; room = room; failing = failing; calls = 0; faults = 0 }
 
 -- the sink after a call that wrote these octets
 abbrev pub after_writing : List ℕ → SinkState → SinkState
@@ -43,10 +51,3 @@ after_writing octets s = record s { written = s.written ++ octets; calls = next_
 -- the sink after a call that failed
 abbrev pub after_failed_put : SinkState → SinkState
 after_failed_put s = record s { calls = next_count s.calls; faults = next_count s.faults }
-
--- a sink that does not tell what was written
-pub record PutCounts : Type 0 where
-  -- the count of the calls
-  pub puts : ℕ
-  -- the count of the calls that failed
-  pub faults : ℕ

@@ -1,0 +1,9 @@
+-- Parts of a store.
+use Rattle.std.proofs.Common.{◌≡◌, ℕ, ◌+◌, ◌-◌, ◌≤◌, List, take, drop, ap, ◌∙◌, arith}
+use Rattle.std.specs.List.{slice_range}
+use Rattle.std.proofs.lemmas.List.{drop-take, drop-drop}
+
+pub drop-slice_range : (xs : List ℕ) (i n j : ℕ) → i + n ≤ j → drop n (slice_range xs i j) ≡ slice_range xs (i + n) j
+drop-slice_range xs i n j within =
+    let size : j - i ≡ n + (j - (i + n)) = omega arith in
+    ap (λ (m : ℕ). drop n (take m (drop i xs))) size ∙ drop-take n (j - (i + n)) (drop i xs) ∙ ap (take (j - (i + n))) (drop-drop n i xs)

@@ -1,0 +1,109 @@
+ghost use Rattle.std.specs.Prelude.{◌≡◌, ◌≤◌, ◌<◌, ℕ, [], Some, Ok, true, length, IsSome, OnOk, OnErr};
+ghost use Rattle.tte_io.specs.Faults.{Rose};
+
+use crate::stores::{Ahead, LineText};
+use crate::taking::take_line;
+use crate::{Source, SourceFailed};
+use std::marker::Model;
+
+/// What a reader of lines found.
+#[derive(Clone, Copy, Debug, PartialEq, Eq)]
+pub enum LineTaken {
+    /// A line of at most 4,096 octets. The last line may lack its LF.
+    Whole,
+    /// More than 4,096 octets came without an LF.
+    Long,
+    /// The end of the source.
+    End,
+}
+
+/// How far the stored line has come.
+#[derive(Clone, Copy)]
+pub(crate) enum Progress {
+    Unfinished,
+    Taken,
+    TooLong,
+}
+
+/// Takes lines from a source, with room for 4,096 octets ahead and 4,096 of the line.
+#[derive(Drop)]
+pub struct LineReader {
+    ahead: Ahead,
+    line: LineText,
+    progress: Progress,
+}
+
+impl Model for LineReader {
+    ghost use Rattle.std.specs.Prelude.{◌≤◌, length};
+    ghost use Rattle.tte_io.specs.Line.{IsLine, ahead_limit};
+    ghost use Rattle.tte_io.specs.ReaderState.{LineReaderState, KeepsLongLine};
+    ghost use Rattle.tte_io.specs.Progress.{reader_state};
+
+    ghost Value = { LineReaderState };
+
+    ghost view = { λ r. reader_state r.progress r.line r.ahead };
+
+    ghost invariant = { λ r. IsLine r.line × (length r.ahead ≤ ahead_limit)
+        × KeepsLongLine (reader_state r.progress r.line r.ahead) };
+}
+
+impl LineReader {
+    ghost use Rattle.tte_io.specs.Line.{line_limit, ahead_limit};
+    ghost use Rattle.tte_io.specs.NextLine.{NextLine};
+    ghost use Rattle.tte_io.specs.Outcome.{TellsOutcome};
+    ghost use Rattle.tte_io.specs.ReaderState.{at_rest, pending};
+
+    /// A reader that has read nothing.
+    pub fn new() -> LineReader
+        ensures { result ≡ at_rest }
+    {
+        LineReader {
+            ahead: Ahead::new(),
+            line: LineText::new(),
+            progress: Progress::Unfinished,
+        }
+    }
+
+    /// Takes the next line. It reads only where no octet is ahead, and then into 4,096 octets.
+    ///
+    /// After a failed read, what was read and not given stays, and the next call goes on from it.
+    /// After `Long` each call answers `Long` and reads nothing.
+    pub fn next_line<S: Source>(&mut self, source: &mut S) -> Result<LineTaken, SourceFailed>
+        // What was read, what it gives by its answer, and what stays.
+        ensures next { NextLine (pending self.old) (S.left source.old) self.new (S.left source.new) result }
+
+        // The answer for octets that are told, which is one answer where no read fails.
+        ensures told { TellsOutcome (pending self.old) (S.left source.old) self.new (S.left source.new) result }
+
+        ensures stays_long { self.old.long ≡ true
+            → (result ≡ Ok LineTaken.Long) × (self.new ≡ self.old) × (source.new ≡ source.old) }
+        ensures kept_bound { length self.new.kept ≤ line_limit }
+        ensures ahead_bound { length self.new.ahead ≤ ahead_limit }
+
+        ensures never_falls { S.faults source.old ≤ S.faults source.new }
+        ensures ok_unchanged { OnOk result (S.faults source.new ≡ S.faults source.old) }
+        ensures failed_rose { OnErr result (Rose (S.faults source.old) (S.faults source.new)) }
+    {
+        match self.progress {
+            Progress::TooLong => return Ok(LineTaken::Long),
+            Progress::Taken => self.line.clear(),
+            Progress::Unfinished => {}
+        }
+        self.progress = Progress::Unfinished;
+        let taken = take_line(&mut self.ahead, &mut self.line, source)?;
+        self.progress = match taken {
+            LineTaken::Whole => Progress::Taken,
+            LineTaken::Long => Progress::TooLong,
+            LineTaken::End => Progress::Unfinished,
+        };
+        Ok(taken)
+    }
+
+    /// The line taken, without its LF. The last `next_line` answered `Whole`.
+    pub fn text(&self) -> &[u8]
+        requires { IsSome self.now.text }
+        ensures { self.now.text ≡ Some result.now }
+    {
+        self.line.as_slice()
+    }
+}
