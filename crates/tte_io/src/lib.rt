@@ -1,6 +1,7 @@
 //! Where octets come from and where they go.
 #![tactic(auto)]
 
+mod ahead;
 mod edge;
 mod ends;
 mod laws;
@@ -9,7 +10,6 @@ mod lines;
 mod memory;
 mod sinks;
 mod sources;
-mod stores;
 mod taking;
 mod whole;
 

@@ -1,9 +1,11 @@
-ghost use Rattle.std.specs.Prelude.{◌≡◌, ◌≤◌, ◌+◌, ◌*◌, [], ◌++◌, length, decimal};
+ghost use Rattle.std.specs.Prelude.{◌≡◌, ◌≤◌, ◌+◌, ◌*◌, ◌↔◌, [], ◌++◌, length, decimal, IsTrue};
+ghost use Rattle.tte_io.specs.Line.{line_limit};
 ghost use Rattle.hex.specs.Hex.{encode_lower};
 
 use itoa::Buffer;
 use std::marker::Model;
 
+/// How many octets a line has at most.
 const ROOM: usize = 4096;
 
 /// A text of at most 4,096 octets, made piece by piece in place. It takes no memory.
@@ -15,12 +17,13 @@ pub struct LineText {
 
 impl Model for LineText {
     ghost use Rattle.std.specs.Prelude.{ℕ, List, take, ◌≤◌};
+    ghost use Rattle.tte_io.specs.Line.{line_limit};
 
     ghost Value = { List ℕ };
 
     ghost view = { λ t. take t.len t.octets };
 
-    ghost invariant = { λ t. t.len ≤ 4096 };
+    ghost invariant = { λ t. t.len ≤ line_limit };
 }
 
 impl LineText {
@@ -41,20 +44,41 @@ impl LineText {
         self.len = 0;
     }
 
+    pub(crate) fn is_empty(&self) -> bool
+        ensures { IsTrue result ↔ (self.now ≡ []) }
+    {
+        self.len == 0
+    }
+
+    /// How many more octets there is room for.
+    pub(crate) fn room_left(&self) -> usize
+        ensures { result + length self.now ≡ line_limit }
+    {
+        ROOM - self.len
+    }
+
+    /// Adds octets, for which there is room.
+    pub fn append(&mut self, octets: &[u8])
+        requires { length self.old + length octets.now ≤ line_limit }
+        ensures { self.new ≡ self.old ++ octets.now }
+    {
+        let end = self.len + octets.len();
+        self.octets[self.len..end].copy_from_slice(octets);
+        self.len = end;
+    }
+
     /// Adds a text, for which there is room.
     pub fn push(&mut self, text: &str)
-        requires { length self.old + length text.now ≤ 4096 }
+        requires { length self.old + length text.now ≤ line_limit }
         ensures text { self.new ≡ self.old ++ text.now }
         ensures grows { length self.new ≡ length self.old + length text.now }
     {
-        let end = self.len + text.len();
-        self.octets[self.len..end].copy_from_slice(text.as_bytes());
-        self.len = end;
+        self.append(text.as_bytes());
     }
 
     /// Adds a number in decimal, which takes at most 20 octets.
     pub fn push_decimal(&mut self, n: u64)
-        requires { length self.old + 20 ≤ 4096 }
+        requires { length self.old + 20 ≤ line_limit }
         ensures text { self.new ≡ self.old ++ decimal n }
         ensures grows { length self.new ≤ length self.old + 20 }
     {
@@ -64,7 +88,7 @@ impl LineText {
 
     /// Adds octets in lower-case hexadecimal, two digits each.
     pub fn push_hex(&mut self, octets: &[u8])
-        requires { length self.old + 2 * length octets.now ≤ 4096 }
+        requires { length self.old + 2 * length octets.now ≤ line_limit }
         ensures text { self.new ≡ self.old ++ encode_lower octets.now }
         ensures grows { length self.new ≡ length self.old + 2 * length octets.now }
     {

@@ -1,9 +1,9 @@
 ghost use Rattle.std.specs.Prelude.{◌≡◌, ◌≤◌, ◌<◌, ℕ, [], Some, Ok, true, length, IsSome, OnOk, OnErr};
 ghost use Rattle.tte_io.specs.Faults.{Rose};
 
-use crate::stores::{Ahead, LineText};
+use crate::ahead::Ahead;
 use crate::taking::take_line;
-use crate::{Source, SourceFailed};
+use crate::{LineText, Source, SourceFailed};
 use std::marker::Model;
 
 /// What a reader of lines found.

@@ -6,8 +6,8 @@ ghost use Rattle.tte_io.specs.Progress.{reader_state, progress_after};
 ghost use Rattle.tte_io.specs.Line.{lf, ahead_limit, IsUnbroken, IsLine};
 ghost use Rattle.tte_io.specs.Steps.{Advances};
 
-use crate::stores::{Ahead, LineText};
-use crate::{LineTaken, Source, SourceFailed};
+use crate::ahead::Ahead;
+use crate::{LineTaken, LineText, Source, SourceFailed};
 
 /// What the octets ahead brought.
 pub(crate) enum Step {

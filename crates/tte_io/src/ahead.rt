@@ -1,14 +1,14 @@
-ghost use Rattle.std.specs.Prelude.{◌≡◌, ◌≤◌, ◌+◌, ◌↔◌, ℕ, List, [], ◌++◌, length, drop, IsTrue, OnOk, OnErr};
+ghost use Rattle.std.specs.Prelude.{◌≡◌, ◌≤◌, ◌↔◌, [], length, drop, IsTrue, OnOk, OnErr};
 ghost use Rattle.std.specs.Io.KnownBytes.{IsAtEnd};
 ghost use Rattle.tte_io.specs.Faults.{Rose};
-ghost use Rattle.tte_io.specs.Line.{line_limit, ahead_limit};
+ghost use Rattle.tte_io.specs.Line.{ahead_limit};
 ghost use Rattle.tte_io.specs.Steps.{Fills};
 
 use crate::{Source, SourceFailed};
 use std::marker::Model;
 
-/// How many octets each store has room for.
-pub(crate) const ROOM: usize = 4096;
+/// How many octets are read at a time at most.
+const ROOM: usize = 4096;
 
 /// Octets that were read and belong to no line yet.
 #[derive(Drop)]
@@ -79,68 +79,5 @@ impl Ahead {
         ensures { self.new ≡ drop count self.old }
     {
         self.from += count;
-    }
-}
-
-/// The text of a line, as far as it has come.
-#[derive(Drop)]
-pub(crate) struct LineText {
-    octets: [u8; ROOM],
-    len: usize,
-}
-
-impl Model for LineText {
-    ghost use Rattle.std.specs.Prelude.{ℕ, List, ◌≤◌, take};
-    ghost use Rattle.tte_io.specs.Line.{line_limit};
-
-    ghost Value = { List ℕ };
-
-    ghost view = { λ t. take t.len t.octets };
-
-    ghost invariant = { λ t. t.len ≤ line_limit };
-}
-
-impl LineText {
-    pub(crate) fn new() -> LineText
-        ensures { result ≡ [] }
-    {
-        LineText {
-            octets: [0; ROOM],
-            len: 0,
-        }
-    }
-
-    pub(crate) fn is_empty(&self) -> bool
-        ensures { IsTrue result ↔ (self.now ≡ []) }
-    {
-        self.len == 0
-    }
-
-    pub(crate) fn as_slice(&self) -> &[u8]
-        ensures { result.now ≡ self.now }
-    {
-        &self.octets[..self.len]
-    }
-
-    /// How many more octets there is room for.
-    pub(crate) fn room_left(&self) -> usize
-        ensures { result + length self.now ≡ line_limit }
-    {
-        ROOM - self.len
-    }
-
-    pub(crate) fn clear(&mut self)
-        ensures { self.new ≡ [] }
-    {
-        self.len = 0;
-    }
-
-    pub(crate) fn append(&mut self, more: &[u8])
-        requires { length self.old + length more.now ≤ line_limit }
-        ensures { self.new ≡ self.old ++ more.now }
-    {
-        let len = self.len + more.len();
-        self.octets[self.len..len].copy_from_slice(more);
-        self.len = len;
     }
 }

@@ -1,7 +1,7 @@
 use Rattle.std.proofs.Common.{◌+◌, ◌-◌, ◌≤◌, length, drop, sym, ap, ◌∙◌, arith}
 use Rattle.std.proofs.lemmas.List.{length-take}
 use Rattle.tte_io.proofs.Ranges.{drop-slice_range}
-use Rattle.tte_io.proofs.stores.Ahead.consume.Goals as goal
+use Rattle.tte_io.proofs.ahead.Ahead.consume.Goals as goal
 
 pub returns : goal.returns
 returns c =
