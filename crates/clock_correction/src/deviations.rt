@@ -24,8 +24,8 @@ pub fn deviation(expected: Units, point: Units, adjustment: Units) -> Units
 ///
 /// Each that is there lies strictly between -2^61 and 2^61.
 pub fn correction(a: Option<Units>, b: Option<Units>) -> Option<Units>
-    requires a_small { IfSome a IsSmall }
-    requires b_small { IfSome b IsSmall }
+    requires a_small { IfSome a (λ x. IsSmall x.0) }
+    requires b_small { IfSome b (λ y. IsSmall y.0) }
     ensures value { result ≡ correction_of a b }
     ensures none { IsNone result ↔ (IsNone a × IsNone b) }
     ensures floor { IfSome a (λ x. IfSome b (λ y. IfSome result (λ c. IsMean x.0 y.0 c.0))) }
