@@ -1,7 +1,7 @@
 ghost use Rattle.std.specs.Prelude.{◌≡◌, ◌↔◌, ◌∷◌, [], ◌++◌, List, IsTrue, IsNone};
 ghost use Rattle.membership.specs.Hearing.{Hearing};
 ghost use Rattle.membership.specs.BestFrame.{IsBestOf, IsBetterOf, NoneWithin, Qualifies};
-ghost use Rattle.membership.specs.Summary.{AreOutside, Summarizes, best_on, silence};
+ghost use Rattle.membership.specs.Summary.{AreOutside, Hears, Summarizes, best_on, silence};
 
 use crate::{HeardFrame, count, join};
 use pcf_values::{Channel, Members};
@@ -42,7 +42,9 @@ impl Heard {
 
     /// Takes a frame that came by the channel, within its time or outside it.
     pub fn hear(&mut self, channel: Channel, frame: HeardFrame, within: bool)
-        ensures { (heard : List Hearing) → Summarizes self.old heard
+        ensures value { Hears self.old
+            (record { channel = channel; frame = frame; within = within }) self.new }
+        ensures heard { (heard : List Hearing) → Summarizes self.old heard
             → Summarizes self.new (heard
             ++ record { channel = channel; frame = frame; within = within } ∷ []) }
     {
