@@ -1,0 +1,2 @@
+pub mod Deviation
+pub mod Correction

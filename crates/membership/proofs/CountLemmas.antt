@@ -1,0 +1,36 @@
+-- The ones of a number are its bits that are set.
+use Rattle.std.proofs.Common.{◌≡◌, ℕ, zero, suc, ◌+◌, ◌/◌, ◌%◌, ◌^◌, ◌<◌, Bool, cond, ◌==◌, List, [], ◌∷◌, count_by, count_ones, refl, ap, ◌∙◌, arith, add-one}
+use Rattle.std.specs.Int.{bit_at}
+use Rattle.std.specs.Int.Count.{ones_step}
+use Rattle.std.specs.List.{range_with_len}
+use Rattle.std.proofs.Math.Nat.{pow-suc}
+use Rattle.std.proofs.lemmas.List.Sums.{sum_by-cons}
+use Rattle.std.proofs.lemmas.Nat.{ones_le_self}
+use Rattle.std.proofs.lemmas.Nat.Bits.{bit_at-suc}
+use Rattle.std.proofs.lemmas.Bool.Decides.{nat_tests}
+
+count_agrees : (p q : ℕ → Bool) (xs : List ℕ) → ((i : ℕ) → p i ≡ q i) → count_by p xs ≡ count_by q xs
+count_agrees p q [] same = refl
+count_agrees p q (x ∷ xs) same =
+    let here : cond (p x) 1 0 ≡ cond (q x) 1 0 = ap (λ (b : Bool). let n : ℕ = cond b 1 0 in n) (same x) in
+    omega (arith, here, count_agrees p q xs same, sum_by-cons (λ i. cond (p i) 1 0) x xs, sum_by-cons (λ i. cond (q i) 1 0) x xs)
+
+count_shifted : (p : ℕ → Bool) (a k : ℕ) → count_by p (range_with_len (a + 1) k) ≡ count_by (λ i. p (i + 1)) (range_with_len a k)
+count_shifted p a zero = refl
+count_shifted p a (suc k) =
+    omega (arith, count_shifted p (a + 1) k, sum_by-cons (λ i. cond (p i) 1 0) (a + 1) (range_with_len (a + 1 + 1) k), sum_by-cons (λ i. cond (p (i + 1)) 1 0) a (range_with_len (a + 1) k))
+
+lowest : (n : ℕ) → cond (n / 2 ^ 0 % 2 == 1) 1 0 ≡ n % 2
+lowest n = grind (arith, nat_tests)
+
+next_bit : (n i : ℕ) → (bit_at n (i + 1) == 1) ≡ (bit_at (n / 2) i == 1)
+next_bit n i = ap (λ b. b == 1) (ap (bit_at n) (add-one i) ∙ bit_at-suc n i)
+
+pub ones_by_bits : (k n : ℕ) → n < 2 ^ k → count_ones n ≡ count_by (λ i. bit_at n i == 1) (range_with_len 0 k)
+ones_by_bits zero n small = omega (arith, ones_le_self n)
+ones_by_bits (suc k) n small =
+    let bit : ℕ → Bool = λ i. bit_at n i == 1 in
+    let rest : count_by bit (range_with_len 1 k) ≡ count_by (λ i. bit_at (n / 2) i == 1) (range_with_len 0 k) =
+    count_shifted bit 0 k ∙ count_agrees (λ i. bit (i + 1)) (λ i. bit_at (n / 2) i == 1) (range_with_len 0 k) (next_bit n) in
+    let half : n / 2 < 2 ^ k = omega (arith, small, pow-suc 2 k) in
+    omega (arith, ones_step n, lowest n, rest, ones_by_bits k (n / 2) half, sum_by-cons (λ i. cond (bit i) 1 0) 0 (range_with_len 1 k))

@@ -1,0 +1,16 @@
+//! Sets of masters, and the protocol control frames that a device has heard since its last
+//! correction.
+#![tactic(auto)]
+
+mod frame;
+mod heard;
+mod laws;
+mod members;
+
+pub use frame::HeardFrame;
+pub use heard::Heard;
+pub use laws::{count_is_of_members, summary_is_one};
+pub use members::{count, join, one};
+
+#[cfg(test)]
+mod tests;

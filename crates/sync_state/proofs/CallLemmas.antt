@@ -1,0 +1,65 @@
+-- One more call.
+use Rattle.std.proofs.Common.{◌≡◌, ◌⊎◌, ℕ, List, [], ◌∷◌, ◌++◌, fold, Option, None, inl, inr, refl, sym, ap, ◌∙◌, subst}
+use Rattle.std.proofs.lemmas.List.Sums.{fold_push}
+use Rattle.tte_units.specs.declared.units.Units.{Units}
+use Rattle.sync_state.specs.declared.plan.SyncPlan.{SyncPlan}
+use Rattle.sync_state.specs.declared.state.State.{State}
+use Rattle.sync_state.specs.Standing.{Standing, state_at_start, adjustment_at_start}
+use Rattle.sync_state.specs.Calls.{Call, next_state, next_adjustment, next_number, next_integrated, after, after_all, IsAnswered, Stands}
+
+-- a list that ends with y is split within the front, or at y
+push_split : {X : Type 0} (xs : List X) (y : X) (ps : List X) (x : X) (qs : List X) → xs ++ y ∷ [] ≡ ps ++ x ∷ qs
+    → ((rs : List X) × (xs ≡ ps ++ x ∷ rs)) ⊎ ((xs ≡ ps) × (y ≡ x))
+push_split [] y [] x qs same = inr (refl, cc)
+push_split [] y (p ∷ []) x qs same = absurd (cc)
+push_split [] y (p ∷ (q ∷ ps)) x qs same = absurd (cc)
+push_split (a ∷ xs) y [] x qs same = inl (xs, cc)
+push_split (a ∷ xs) y (p ∷ ps) x qs same =
+    let rest : xs ++ y ∷ [] ≡ ps ++ x ∷ qs = cc in
+    let first : a ≡ p = cc in
+    elim (push_split xs y ps x qs rest) [
+      | inl front ↦ inl (front.0, cc)
+      | inr last ↦ inr (cc, last.1)
+    ]
+
+abbrev made : SyncPlan → State → Units → ℕ → Option ℕ → Standing
+made plan state adjustment number integrated = record {
+  plan = plan;
+  state = state;
+  adjustment = adjustment;
+  number = number;
+  integrated = integrated;
+}
+
+-- where a device stands after one more call
+after_all-push : (plan : SyncPlan) (start : Option Units) (calls : List Call) (call : Call) → after (after_all plan start calls) call ≡ after_all plan start (calls ++ call ∷ [])
+after_all-push plan start calls call =
+    let now : Standing = after (after_all plan start calls) call in
+    let later : List Call = calls ++ call ∷ [] in
+    let s = sym (fold_push next_state (state_at_start start) calls call) in
+    let a = sym (fold_push next_adjustment (adjustment_at_start start) calls call) in
+    let n = sym (fold_push next_number 1 calls call) in
+    let i = sym (fold_push next_integrated None calls call) in
+    ap (λ (x : State). made plan x now.adjustment now.number now.integrated) s
+    ∙ ap (λ (x : Units). made plan (fold next_state (state_at_start start) later) x now.number now.integrated) a
+    ∙ ap (λ (x : ℕ). made plan (fold next_state (state_at_start start) later) (fold next_adjustment (adjustment_at_start start) later) x now.integrated) n
+    ∙ ap (λ (x : Option ℕ). made plan (fold next_state (state_at_start start) later) (fold next_adjustment (adjustment_at_start start) later) (fold next_number 1 later) x) i
+
+pub stands_at_start : (plan : SyncPlan) (start : Option Units) → Stands plan start [] (after_all plan start [])
+stands_at_start plan start = record {
+  stands = refl;
+  answered = λ earlier later call same. absurd (no_split earlier call later same);
+} where
+  no_split : {X : Type 0} (ps : List X) (x : X) (qs : List X) → [] ≡ ps ++ x ∷ qs → ⊥
+  no_split [] x qs same = cc
+  no_split (p ∷ ps) x qs same = cc
+
+pub one_more : (plan : SyncPlan) (start : Option Units) (calls : List Call) (s t : Standing) (call : Call) → IsAnswered s call → t ≡ after s call → Stands plan start calls s → Stands plan start (calls ++ call ∷ []) t
+one_more plan start calls s t call answered step is = record {
+  stands = step ∙ ap (λ (u : Standing). after u call) is.stands ∙ after_all-push plan start calls call;
+  answered = λ earlier later x same.
+      elim (push_split calls call earlier x later same) [
+        | inl front ↦ is.answered earlier front.0 x front.1
+        | inr last ↦ subst (λ (cs : List Call). IsAnswered (after_all plan start cs) x) last.0 (subst (λ (y : Call). IsAnswered (after_all plan start calls) y) last.1 (subst (λ (u : Standing). IsAnswered u call) is.stands answered))
+      ];
+}

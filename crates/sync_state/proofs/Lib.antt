@@ -1,0 +1,3 @@
+pub mod CallLemmas
+pub mod VerdictLemmas
+pub mod LawLemmas

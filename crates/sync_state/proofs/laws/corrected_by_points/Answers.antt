@@ -1,0 +1,5 @@
+use Rattle.sync_state.proofs.LawLemmas.{by_points}
+use Rattle.sync_state.proofs.laws.corrected_by_points.Goals as goal
+
+pub returns : goal.returns
+returns c = by_points

@@ -1,0 +1,20 @@
+use Rattle.std.proofs.Common.{ap}
+use Rattle.sync_state.specs.Standing.{Standing}
+use Rattle.sync_state.specs.Calls.{reached_point}
+use Rattle.sync_state.proofs.CallLemmas.{one_more}
+use Rattle.sync_state.proofs.VerdictLemmas.{small_after}
+use Rattle.sync_state.proofs.sync.Sync.at_correction.Goals as goal
+
+pub returns-clause-value : goal.returns-clause-value
+returns-clause-value c = c.follow.ensures c.args.heard.now
+
+pub returns-clause-small : goal.returns-clause-small
+returns-clause-small c =
+    let adjusted = ap (λ (s : Standing). s.adjustment) (c.follow.ensures c.args.heard.now) in
+    small_after c.args.self.now.adjustment _ c.verdict-verdict.result adjusted c.verdict-verdict.ensures.small
+
+pub returns-clause-calls : goal.returns-clause-calls
+returns-clause-calls c = λ plan start calls.
+    let heard = c.args.heard.now in
+    let point = reached_point heard c.verdict-verdict.result in
+    one_more plan start calls c.args.self.now _ point c.verdict-verdict.ensures.verdict (c.follow.ensures heard)

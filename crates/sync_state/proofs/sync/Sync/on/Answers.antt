@@ -1,0 +1,10 @@
+use Rattle.std.proofs.Common.{ap}
+use Rattle.sync_state.specs.Standing.{Standing}
+use Rattle.sync_state.specs.Calls.{turned_on, after}
+use Rattle.sync_state.proofs.CallLemmas.{one_more}
+use Rattle.sync_state.proofs.sync.Sync.on.Goals as goal
+
+pub returns-clause-calls : goal.returns-clause-calls
+returns-clause-calls c = λ plan start calls.
+    let value = ap (λ (s : Standing). after s turned_on) c.self.view_is in
+    one_more plan start calls c.args.self.now _ turned_on c.requires value

@@ -1,0 +1,14 @@
+use Rattle.std.proofs.Common.{◌≡◌, Some}
+use Rattle.pcf_values.specs.declared.channel.Channel.TheVariants.{A, B}
+use Rattle.clock_correction.specs.Correction.{correction_of}
+use Rattle.sync_state.specs.Verdicts.{deviation_on}
+use Rattle.sync_state.proofs.VerdictLemmas.{corrected_small}
+use Rattle.sync_state.proofs.sync.Sync.verdict.Goals as goal
+
+pub returns-in-Some-2-clause-small : goal.returns-in-Some-2-clause-small
+returns-in-Some-2-clause-small c =
+    let s = c.args.self.now in
+    let heard = c.args.heard.now in
+    let by = c.in-Some.field-0 in
+    let corrects : correction_of (deviation_on s heard A) (deviation_on s heard B) ≡ Some by = cc in
+    corrected_small s heard by c.requires.near_a c.requires.near_b corrects

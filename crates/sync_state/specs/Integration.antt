@@ -1,0 +1,22 @@
+use Rattle.std.specs.Prelude.{◌≡◌, ◌+◌, ◌^◌, ◌≤◌, ◌-ℤ◌}
+use Rattle.tte_units.specs.declared.units.Units.{Units}
+use Rattle.pcf_values.specs.declared.pcf.Pcf.{Pcf}
+use Rattle.membership.specs.Members.{count_of}
+use Rattle.sync_state.specs.declared.answers.Joined.{Joined}
+use Rattle.sync_state.specs.declared.plan.SyncPlan.{SyncPlan}
+use Rattle.sync_state.specs.declared.state.State.TheVariants.{Integrating}
+use Rattle.sync_state.specs.Plan.{expected_at}
+use Rattle.sync_state.specs.Standing.{Standing}
+
+-- the frame integrates the device
+pub record Integrates (s : Standing) (frame : Pcf) : Type 0 where
+  pub integrating : s.state ≡ Integrating
+  pub enough : s.plan.threshold ≤ count_of frame.members
+  pub in_time : frame.cycle ≤ 2 ^ 20 + 2 ^ 17
+
+-- the device takes the frame's cycle, and the adjustment by which its clock shows at the point what is expected there
+abbrev pub joined_by : SyncPlan → Pcf → Units → Joined
+joined_by plan frame point = record {
+  cycle = frame.cycle;
+  adjustment = record { 0 = expected_at plan frame.cycle -ℤ point.0 };
+}

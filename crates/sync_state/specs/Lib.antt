@@ -1,0 +1,6 @@
+pub mod Plan
+pub mod Standing
+pub mod Integration
+pub mod Verdicts
+pub mod Calls
+pub mod Laws
