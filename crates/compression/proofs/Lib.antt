@@ -1,0 +1,12 @@
+pub mod Ascents
+pub mod Middles
+pub mod Collections
+pub mod Roles
+pub mod Firsts
+pub mod Held
+pub mod Growth
+pub mod Rows
+pub mod Sound
+pub mod Standing
+pub mod Taking
+pub mod Emitting

@@ -1,0 +1,9 @@
+pub mod Reading
+pub mod Ascent
+pub mod Middle
+pub mod Clusters
+pub mod Emission
+pub mod Role
+pub mod Collection
+pub mod Collecting
+pub mod Stands

@@ -1,0 +1,13 @@
+-- How a collector stands to the points that it has taken and what it has emitted.
+use Rattle.std.specs.Prelude.{◌≡◌, ◌<ℤ◌, List, ◌++◌, map, All}
+use Rattle.compression.specs.Clusters.{Point, Cluster, AreClusters}
+use Rattle.compression.specs.Emission.{compressed}
+use Rattle.compression.specs.Collecting.{Collecting}
+use Rattle.compression.specs.declared.compressed.Compressed.{Compressed}
+
+-- the clusters of the points are those emitted, in their order, and those that wait; no later point can reach into one emitted
+pub record Stands (v : Collecting) (points : List Point) (emitted : List Compressed) : Type 0 where
+  pub done : List Cluster
+  pub clusters : AreClusters v.ow points (done ++ v.waiting)
+  pub emissions : emitted ≡ map (compressed v.ow v.calc) done
+  pub past : All (λ c. c.end <ℤ v.earliest) done

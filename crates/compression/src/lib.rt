@@ -1,0 +1,20 @@
+//! How a compression master collects the permanence points of masters into clusters, and what it
+//! emits for each.
+#![tactic(auto)]
+
+mod collection;
+mod collector;
+mod compressed;
+mod middling;
+mod points;
+mod taken;
+mod waiting;
+
+pub use collector::Collector;
+pub use compressed::Compressed;
+pub use middling::middle;
+pub use points::Points;
+pub use taken::Taken;
+
+#[cfg(test)]
+mod tests;
