@@ -10,3 +10,7 @@ pub mod Sound
 pub mod Standing
 pub mod Taking
 pub mod Emitting
+pub mod MiddleLaws
+pub mod Elements
+pub mod Times
+pub mod Together

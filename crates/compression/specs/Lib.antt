@@ -2,6 +2,7 @@ pub mod Reading
 pub mod Ascent
 pub mod Middle
 pub mod Clusters
+pub mod OneCluster
 pub mod Emission
 pub mod Role
 pub mod Collection

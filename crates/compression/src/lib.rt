@@ -5,6 +5,7 @@
 mod collection;
 mod collector;
 mod compressed;
+mod laws;
 mod middling;
 mod points;
 mod taken;
@@ -12,6 +13,7 @@ mod waiting;
 
 pub use collector::Collector;
 pub use compressed::Compressed;
+pub use laws::{clusters_law, middle_law, one_cluster_law};
 pub use middling::middle;
 pub use points::Points;
 pub use taken::Taken;

@@ -1,0 +1,8 @@
+use Rattle.compression.proofs.Times.{one_time_law, one_list_of_clusters}
+use Rattle.compression.proofs.laws.clusters_law.Goals as goal
+
+pub returns-clause-clusters : goal.returns-clause-clusters
+returns-clause-clusters c = one_list_of_clusters
+
+pub returns-clause-time : goal.returns-clause-time
+returns-clause-time c = one_time_law
