@@ -1,11 +1,10 @@
 -- Elements of lists, of filters and of lists in order.
-use Rattle.std.proofs.Common.{◌≡◌, ◌≢◌, ◌∙◌, ◌⊎◌, inl, inr, ℕ, zero, suc, ◌+◌, ◌<◌, ◌≤◌, ℤ, pos, ◌≤ℤ◌, ◌<ℤ◌, List, [], ◌∷◌, ◌++◌, length, map, ap, refl, sym, subst, arith, Bool, true, false, cond}
+use Rattle.std.proofs.Common.{◌≡◌, ◌∙◌, ◌⊎◌, inl, inr, zero, suc, ◌≤◌, ℤ, ◌≤ℤ◌, ◌<ℤ◌, List, [], ◌∷◌, length, ap, refl, sym, subst, arith, Bool, true}
 use Rattle.std.specs.Prelude.{Contains, filter, int_lt}
 use Rattle.std.specs.List.{AllByRecursion}
 use Rattle.std.proofs.lemmas.Int.{ints}
 use Rattle.std.proofs.lemmas.Bool.{cases_Bool}
 use Rattle.std.proofs.lemmas.List.Elements.{All-from_recursion, All-contains}
-use Rattle.compression.specs.Ascent.{IsAscending}
 use Rattle.compression.specs.Clusters.{Point, beyond}
 use Rattle.compression.specs.OneCluster.{AreInOrder}
 use Rattle.compression.proofs.Held.{int_lt-true}

@@ -1,7 +1,6 @@
 -- What is emitted next, and a collector after it.
-use Rattle.std.proofs.Common.{◌≡◌, ◌∙◌, ℕ, ◌<◌, ℤ, pos, ◌+ℤ◌, ◌-ℤ◌, ◌*ℤ◌, ◌≤ℤ◌, ◌<ℤ◌, List, [], ◌∷◌, ◌++◌, length, map, ap, refl, sym, subst, arith, neg_ℤ, ◌^◌, FitsSigned, w64}
-use Rattle.std.specs.Prelude.{All, Contains}
-use Rattle.std.specs.List.{AllByRecursion}
+use Rattle.std.proofs.Common.{◌≡◌, ◌∙◌, ℤ, pos, ◌+ℤ◌, ◌*ℤ◌, ◌≤ℤ◌, ◌<ℤ◌, List, [], ◌∷◌, ◌++◌, map, ap, refl, sym, subst, arith, neg_ℤ, ◌^◌, FitsSigned, w64}
+use Rattle.std.specs.Prelude.{All}
 use Rattle.std.proofs.lemmas.Int.{ints}
 use Rattle.std.proofs.lemmas.List.{append_assoc, map-append}
 use Rattle.std.proofs.lemmas.List.Elements.{All-from_recursion, All-weaker, All-push, All-cons, All-map}
@@ -23,6 +22,7 @@ middle-within ow c col =
   where
     from_low : (o k m : ℤ) → ((o +ℤ k) +ℤ pos 0) ≤ℤ (((o +ℤ k) +ℤ pos 0) +ℤ m) → pos 0 ≤ℤ m
     from_low o k m h = omega (arith, ints)
+
     from_high : (o k m e : ℤ) → (((o +ℤ k) +ℤ pos 0) +ℤ m) ≤ℤ ((e +ℤ k) +ℤ pos 0) → e ≤ℤ (o +ℤ k) → m ≤ℤ k
     from_high o k m e h g = omega (arith, ints)
 
@@ -37,20 +37,20 @@ IsLeast-first v c rest sound split =
     let first = emission v.ow v.calc c in
     let others : All (λ k. first ≤ℤ emission v.ow v.calc k) rest = All-from_recursion (λ (k : Cluster). first ≤ℤ emission v.ow v.calc k) rest (row-emissions v.ow v.calc v.earliest c rest row) in
     let whole : IsLeast first (map (emission v.ow v.calc) (c ∷ rest)) = record {
-          there = (0, omega arith, refl);
-          bound = All-cons (λ (x : ℤ). first ≤ℤ x) first (map (emission v.ow v.calc) rest) (omega (arith, ints)) (All-map (λ (x : ℤ). first ≤ℤ x) (emission v.ow v.calc) rest others);
-        } in
+      there = (0, omega arith, refl);
+      bound = All-cons (λ (x : ℤ). first ≤ℤ x) first (map (emission v.ow v.calc) rest) (omega (arith, ints)) (All-map (λ (x : ℤ). first ≤ℤ x) (emission v.ow v.calc) rest others);
+    } in
     subst (λ (ws : List Cluster). IsLeast first (map (emission v.ow v.calc) ws)) (sym split) whole
 
 -- a collector without the first that waits, at a later reading
 pub IsSound-emitted : (v : Collecting) (c : Cluster) (rest : List Cluster) (later : ℤ) → IsSound v → v.waiting ≡ c ∷ rest → v.earliest ≤ℤ later → IsSound (record v { earliest = later; waiting = rest })
 IsSound-emitted v c rest later sound split le = record {
-      some = sound.some;
-      short = sound.short;
-      small = sound.small;
-      low = omega (arith, ints, le, sound.low);
-      row = row-rest v.ow v.earliest later c rest le (subst (IsRow v.ow v.earliest) split sound.row);
-    }
+  some = sound.some;
+  short = sound.short;
+  small = sound.small;
+  low = omega (arith, ints, le, sound.low);
+  row = row-rest v.ow v.earliest later c rest le (subst (IsRow v.ow v.earliest) split sound.row);
+}
 
 -- where it stands
 pub Stands-emitted : (v : Collecting) (points : List Point) (emitted : List Compressed) (c : Cluster) (rest : List Cluster) (later : ℤ) → IsSound v → v.waiting ≡ c ∷ rest → v.earliest ≤ℤ later → emission v.ow v.calc c ≤ℤ later → Stands v points emitted → Stands (record v { earliest = later; waiting = rest }) points (emitted ++ compressed v.ow v.calc c ∷ [])
@@ -62,6 +62,6 @@ Stands-emitted v points emitted c rest later sound split le at s =
     record {
       done = s.done ++ c ∷ [];
       clusters = subst (AreClusters v.ow points) (ap (λ (ws : List Cluster). s.done ++ ws) split ∙ sym (append_assoc s.done (c ∷ []) rest)) s.clusters;
-      emissions = ap (λ (es : List Compressed). es ++ compressed v.ow v.calc c ∷ []) s.emissions ∙ sym (map-append (compressed v.ow v.calc) s.done (c ∷ []));
+      given = ap (λ (es : List Compressed). es ++ compressed v.ow v.calc c ∷ []) s.given ∙ sym (map-append (compressed v.ow v.calc) s.done (c ∷ []));
       past = All-push (λ (k : Cluster). k.end <ℤ later) s.done c before ended;
     }

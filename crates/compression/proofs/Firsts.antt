@@ -1,10 +1,10 @@
 -- The first point of each master, and the members that they make.
-use Rattle.std.proofs.Common.{◌≡◌, ◌≢◌, ◌∙◌, ◌⊎◌, inl, inr, ℕ, zero, suc, ◌+◌, ◌*◌, ◌<◌, ◌≤◌, ◌^◌, max, List, [], ◌∷◌, ◌++◌, length, map, ap, refl, sym, subst, arith, Bool, true, false, not, cond, eqb, ◌||◌}
-use Rattle.std.specs.Prelude.{Contains, fold, bit_and, bit_or, ◌==◌, nat_le}
+use Rattle.std.proofs.Common.{◌≡◌, ◌∙◌, inl, inr, ℕ, ◌≤◌, ◌^◌, max, List, [], ◌∷◌, ◌++◌, ap, refl, sym, subst, arith, Bool, true, false, not, cond}
+use Rattle.std.specs.Prelude.{Contains, fold, bit_and, bit_or, ◌==◌}
 use Rattle.std.specs.Int.{bit_at}
-use Rattle.std.specs.List.{list_any, AllByRecursion}
+use Rattle.std.specs.List.{AllByRecursion}
 use Rattle.std.proofs.lemmas.Bool.{cases_Bool, eq-eqb, ne_eqb, cases_eq, or_parts, or_left, or_right}
-use Rattle.std.proofs.lemmas.List.{append-nil, append_assoc, length-append}
+use Rattle.std.proofs.lemmas.List.{append-nil, append_assoc}
 use Rattle.std.proofs.lemmas.List.Folds.{list_any-append}
 use Rattle.std.proofs.lemmas.List.Sums.{fold-append}
 use Rattle.std.proofs.lemmas.Nat.{pow_pos}
@@ -81,7 +81,7 @@ has_fold acc (x ∷ xs) y at =
       | inl e ↦
           let rest = counts (with_first acc x) xs in
           subst (λ (q : Point). has_master (fold with_first acc (x ∷ xs)) q.master ≡ true) e
-            (ap (λ (a : List Point). has_master a x.master) rest.is ∙ has_more (with_first acc x) rest.more x.master (has_with_first acc x))
+          (ap (λ (a : List Point). has_master a x.master) rest.is ∙ has_more (with_first acc x) rest.more x.master (has_with_first acc x))
       | inr here ↦ has_fold (with_first acc x) xs y here
     ]
 

@@ -1,16 +1,16 @@
 -- What one more point does to the clusters of a list.
-use Rattle.std.proofs.Common.{◌≡◌, ◌≢◌, ◌∙◌, ◌⊎◌, inl, inr, ℕ, ◌+◌, ◌^◌, ◌<◌, ◌≤◌, ℤ, pos, ◌+ℤ◌, ◌*ℤ◌, ◌≤ℤ◌, ◌<ℤ◌, List, [], ◌∷◌, ◌++◌, length, map, ap, refl, sym, subst, arith, Bool, true, false, cond, eqb, ◌&&◌, Some}
-use Rattle.std.specs.Prelude.{filter, fold, int_le, int_lt, ◌==◌, nat_le, bit_or, if◌then◌else◌}
+use Rattle.std.proofs.Common.{◌≡◌, ◌≢◌, ◌∙◌, inl, inr, ℕ, ◌^◌, ◌<◌, ◌≤◌, ℤ, pos, ◌+ℤ◌, ◌*ℤ◌, ◌≤ℤ◌, ◌<ℤ◌, List, [], ◌∷◌, ◌++◌, length, map, ap, refl, sym, subst, arith, true, false}
+use Rattle.std.specs.Prelude.{int_le, int_lt, nat_le, bit_or, if◌then◌else◌}
 use Rattle.std.specs.List.{AllByRecursion}
 use Rattle.std.proofs.lemmas.Int.{ints}
 use Rattle.std.specs.Int.Bits.{or_zero_l}
-use Rattle.std.proofs.lemmas.Bool.{cases_Bool, cases_eq, cases_lt, not-true, not-false, eq-eqb, ne_eqb, le-leb, lt-leb, leb-true, leb-false}
-use Rattle.std.proofs.lemmas.List.{append-nil, append_assoc, length-append, map-append}
+use Rattle.std.proofs.lemmas.Bool.{cases_Bool, cases_eq, cases_lt, le-leb, lt-leb}
+use Rattle.std.proofs.lemmas.List.{length-append, map-append}
 use Rattle.compression.specs.Clusters.{Point, Cluster, of_cycle_within, beyond, has_master, with_first, firsts, members_of, end_of, cluster_of, AreClusters}
 use Rattle.compression.specs.Collection.{opening, joined_end, joined}
 use Rattle.compression.specs.Role.{has_point_of}
 use Rattle.compression.proofs.Firsts.{firsts-push, with_first-old, with_first-new, firsts-start, has_point_of-is, members_of-push}
-use Rattle.compression.proofs.Held.{int_le-true, int_le-false, held-push_in, held-push_beyond, held-push_other, int_lt-false, held-start, beyond-push_in, beyond-push_out, beyond-none, beyond-later, held-same}
+use Rattle.compression.proofs.Held.{held-push_in, held-push_beyond, held-push_other, int_lt-false, held-start, beyond-push_in, beyond-push_out, beyond-later, held-same}
 
 -- the points that count in the cluster that o opens, and those of its first window
 abbrev pub counted : ℤ → Point → List Point → List Point
@@ -49,20 +49,20 @@ pub cluster_of-beyond : (ow : ℤ) (o : Point) (ps : List Point) (p : Point) →
 cluster_of-beyond ow o ps p some past =
     let least = end_of-least ow o ps some in
     let first : of_cycle_within o.cycle o.reading (window_end ow o) (ps ++ p ∷ []) ≡ of_cycle_within o.cycle o.reading (window_end ow o) ps =
-            held-push_beyond o.cycle o.reading (window_end ow o) ps p (omega (arith, ints, least, past)) in
+    held-push_beyond o.cycle o.reading (window_end ow o) ps p (omega (arith, ints, least, past)) in
     let end : end_of ow o (ps ++ p ∷ []) ≡ end_of ow o ps = end_of-same ow o ps (ps ++ p ∷ []) (ap firsts first) in
     let held : of_cycle_within o.cycle o.reading (end_of ow o ps) (ps ++ p ∷ []) ≡ of_cycle_within o.cycle o.reading (end_of ow o ps) ps =
-            held-push_beyond o.cycle o.reading (end_of ow o ps) ps p past in
+    held-push_beyond o.cycle o.reading (end_of ow o ps) ps p past in
     ap (λ (e : ℤ). cluster_by o e (counted e o (ps ++ p ∷ []))) end ∙ ap (λ (h : List Point). cluster_by o (end_of ow o ps) (firsts h)) held
 
 -- nor does one of another cycle
 pub cluster_of-other : (ow : ℤ) (o : Point) (ps : List Point) (p : Point) → p.cycle ≢ o.cycle → cluster_of ow o (ps ++ p ∷ []) ≡ cluster_of ow o ps
 cluster_of-other ow o ps p other =
     let first : of_cycle_within o.cycle o.reading (window_end ow o) (ps ++ p ∷ []) ≡ of_cycle_within o.cycle o.reading (window_end ow o) ps =
-            held-push_other o.cycle o.reading (window_end ow o) ps p other in
+    held-push_other o.cycle o.reading (window_end ow o) ps p other in
     let end : end_of ow o (ps ++ p ∷ []) ≡ end_of ow o ps = end_of-same ow o ps (ps ++ p ∷ []) (ap firsts first) in
     let held : of_cycle_within o.cycle o.reading (end_of ow o ps) (ps ++ p ∷ []) ≡ of_cycle_within o.cycle o.reading (end_of ow o ps) ps =
-            held-push_other o.cycle o.reading (end_of ow o ps) ps p other in
+    held-push_other o.cycle o.reading (end_of ow o ps) ps p other in
     ap (λ (e : ℤ). cluster_by o e (counted e o (ps ++ p ∷ []))) end ∙ ap (λ (h : List Point). cluster_by o (end_of ow o ps) (firsts h)) held
 
 pub end_of-most : (ow : ℤ) (o : Point) (ps : List Point) → pos 0 ≤ℤ ow → end_of ow o ps ≤ℤ extended_end ow o
@@ -115,13 +115,13 @@ end_of-joined ow o ps p comes new =
           let first : p.reading ≤ℤ window_end ow o = grind (arith, ints, inside) in
           let push = window-push_in ow o ps p comes first in
           let two : 2 ≤ length (counted (window_end ow o) o (ps ++ p ∷ [])) =
-                  elim (cases_lt (length (counted (window_end ow o) o ps)) 2) [
-                    | inl few ↦
-                        let fresh : has_master (counted (window_end ow o) o ps) p.master ≡ false = rw (one_window ow o ps few) at new in
-                        let one : length (counted (window_end ow o) o ps) ≡ length (o ∷ comes.starts.0) = ap length comes.starts.1 in
-                        rw (push, with_first-new (counted (window_end ow o) o ps) p fresh, length-append) (omega (arith, one))
-                    | inr many ↦ rw push (omega (arith, many, length-with_first (counted (window_end ow o) o ps) p))
-                  ] in
+          elim (cases_lt (length (counted (window_end ow o) o ps)) 2) [
+            | inl few ↦
+                let fresh : has_master (counted (window_end ow o) o ps) p.master ≡ false = rw (one_window ow o ps few) at new in
+                let one : length (counted (window_end ow o) o ps) ≡ length (o ∷ comes.starts.0) = ap length comes.starts.1 in
+                rw (push, with_first-new (counted (window_end ow o) o ps) p fresh, length-append) (omega (arith, one))
+            | inr many ↦ rw push (omega (arith, many, length-with_first (counted (window_end ow o) o ps) p))
+          ] in
           end_of-two ow o (ps ++ p ∷ []) two ∙ sym (rw inside refl)
       | inr outside ↦
           let past : window_end ow o <ℤ p.reading = grind (arith, ints, outside) in
@@ -245,13 +245,13 @@ cluster_of-grows ow o ps c d p some is none low high grows =
     let none' : beyond (end_of ow o (o ∷ ps)) ps ≡ [] = subst (λ (x : Cluster). beyond x.end ps ≡ []) is none in
     let start : int_lt (end_of ow o (o ∷ ps)) o.reading ≡ false = int_lt-false (end_of ow o (o ∷ ps)) o.reading (omega (arith, ints, least, some)) in
     let comes : Comes' ow o (o ∷ ps) p = λ same. record {
-          some = some;
-          none = rw start none';
-          same = same;
-          low = subst (λ (x : Cluster). x.opened ≤ℤ p.reading) is low;
-          high = subst (λ (x : Cluster). p.reading ≤ℤ x.end) is high;
-          starts = window-starts ow o ps some;
-        } in
+      some = some;
+      none = rw start none';
+      same = same;
+      low = subst (λ (x : Cluster). x.opened ≤ℤ p.reading) is low;
+      high = subst (λ (x : Cluster). p.reading ≤ℤ x.end) is high;
+      starts = window-starts ow o ps some;
+    } in
     grows_whole ow o (o ∷ ps) d p comes (subst (λ (x : Cluster). Grows ow x d p) is grows)
 
 -- a point that is not beyond the last cluster

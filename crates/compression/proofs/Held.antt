@@ -1,5 +1,5 @@
 -- The points that lie in an interval, as points are added.
-use Rattle.std.proofs.Common.{◌≡◌, ◌≢◌, ◌∙◌, ◌⊎◌, inl, inr, ℕ, ℤ, ◌≤ℤ◌, ◌<ℤ◌, List, [], ◌∷◌, ◌++◌, ap, refl, sym, subst, arith, Bool, true, false, cond, eqb, ◌&&◌}
+use Rattle.std.proofs.Common.{◌≡◌, ◌≢◌, ◌∙◌, inl, inr, ℕ, ℤ, ◌≤ℤ◌, ◌<ℤ◌, List, [], ◌∷◌, ◌++◌, ap, refl, arith, Bool, true, false, cond, ◌&&◌}
 use Rattle.std.specs.Prelude.{filter, int_le, int_lt, ◌==◌}
 use Rattle.std.proofs.lemmas.Int.{ints}
 use Rattle.std.proofs.lemmas.Bool.{cases_Bool, eq-eqb, ne_eqb, and_from, and_left, and_right}
@@ -33,31 +33,31 @@ test_of cycle from to q = q.cycle == cycle && (int_le from q.reading && int_le q
 pub held-push_in : (cycle : ℕ) (from to : ℤ) (ps : List Point) (p : Point) → p.cycle ≡ cycle → from ≤ℤ p.reading → p.reading ≤ℤ to → of_cycle_within cycle from to (ps ++ p ∷ []) ≡ of_cycle_within cycle from to ps ++ p ∷ []
 held-push_in cycle from to ps p same low high =
     let e : (p.cycle == cycle && (int_le from p.reading && int_le p.reading to)) ≡ true =
-            and_from (p.cycle == cycle) (int_le from p.reading && int_le p.reading to) (eq-eqb p.cycle cycle same)
-            (and_from (int_le from p.reading) (int_le p.reading to) (int_le-true from p.reading low) (int_le-true p.reading to high)) in
+    and_from (p.cycle == cycle) (int_le from p.reading && int_le p.reading to) (eq-eqb p.cycle cycle same)
+    (and_from (int_le from p.reading) (int_le p.reading to) (int_le-true from p.reading low) (int_le-true p.reading to high)) in
     filter-push_in (λ q. q.cycle == cycle && (int_le from q.reading && int_le q.reading to)) ps p e
 
 -- one beyond it
 pub held-push_beyond : (cycle : ℕ) (from to : ℤ) (ps : List Point) (p : Point) → to <ℤ p.reading → of_cycle_within cycle from to (ps ++ p ∷ []) ≡ of_cycle_within cycle from to ps
 held-push_beyond cycle from to ps p past =
     let e : (p.cycle == cycle && (int_le from p.reading && int_le p.reading to)) ≡ false =
-            and_right (p.cycle == cycle) (int_le from p.reading && int_le p.reading to)
-            (and_right (int_le from p.reading) (int_le p.reading to) (int_le-false p.reading to past)) in
+    and_right (p.cycle == cycle) (int_le from p.reading && int_le p.reading to)
+    (and_right (int_le from p.reading) (int_le p.reading to) (int_le-false p.reading to past)) in
     filter-push_out (λ q. q.cycle == cycle && (int_le from q.reading && int_le q.reading to)) ps p e
 
 -- one of another cycle
 pub held-push_other : (cycle : ℕ) (from to : ℤ) (ps : List Point) (p : Point) → p.cycle ≢ cycle → of_cycle_within cycle from to (ps ++ p ∷ []) ≡ of_cycle_within cycle from to ps
 held-push_other cycle from to ps p other =
     let e : (p.cycle == cycle && (int_le from p.reading && int_le p.reading to)) ≡ false =
-            and_left (p.cycle == cycle) (int_le from p.reading && int_le p.reading to) (ne_eqb p.cycle cycle other) in
+    and_left (p.cycle == cycle) (int_le from p.reading && int_le p.reading to) (ne_eqb p.cycle cycle other) in
     filter-push_out (λ q. q.cycle == cycle && (int_le from q.reading && int_le q.reading to)) ps p e
 
 -- the first, of its own cycle
 pub held-start : (o : Point) (to : ℤ) (ps : List Point) → o.reading ≤ℤ to → of_cycle_within o.cycle o.reading to (o ∷ ps) ≡ o ∷ of_cycle_within o.cycle o.reading to ps
 held-start o to ps within =
     let e : (o.cycle == o.cycle && (int_le o.reading o.reading && int_le o.reading to)) ≡ true =
-            and_from (o.cycle == o.cycle) (int_le o.reading o.reading && int_le o.reading to) (eq-eqb o.cycle o.cycle refl)
-            (and_from (int_le o.reading o.reading) (int_le o.reading to) (int_le-true o.reading o.reading (omega (arith, ints))) (int_le-true o.reading to within)) in
+    and_from (o.cycle == o.cycle) (int_le o.reading o.reading && int_le o.reading to) (eq-eqb o.cycle o.cycle refl)
+    (and_from (int_le o.reading o.reading) (int_le o.reading to) (int_le-true o.reading o.reading (omega (arith, ints))) (int_le-true o.reading to within)) in
     ap (λ (b : Bool). cond b (o ∷ of_cycle_within o.cycle o.reading to ps) (of_cycle_within o.cycle o.reading to ps)) e
 
 pub beyond-push_in : (end : ℤ) (ps : List Point) (p : Point) → p.reading ≤ℤ end → beyond end (ps ++ p ∷ []) ≡ beyond end ps

@@ -1,13 +1,12 @@
 -- Where the middle of points lies.
-use Rattle.std.proofs.Common.{◌≡◌, ◌≢◌, ◌∙◌, ◌⊎◌, inl, inr, ℕ, suc, ◌+◌, ◌-◌, ◌<◌, ◌≤◌, ℤ, pos, ◌+ℤ◌, ◌-ℤ◌, ◌≤ℤ◌, List, [], ◌∷◌, length, get_or, refl, sym, ap, subst, arith}
+use Rattle.std.proofs.Common.{◌≡◌, ◌∙◌, inl, inr, ℕ, suc, ◌-◌, ℤ, pos, ◌+ℤ◌, ◌-ℤ◌, List, [], ◌∷◌, length, get_or, sym, ap, subst, arith}
 use Rattle.std.specs.Prelude.{All}
-use Rattle.std.specs.List.{AllByRecursion}
 use Rattle.std.proofs.lemmas.Int.{ints}
 use Rattle.std.proofs.lemmas.List.Elements.{All-head, All-tail}
 use Rattle.tte_units.specs.Mean.{mean_of, IsMean}
 use Rattle.tte_units.proofs.Means.{mean_of-floor}
-use Rattle.compression.specs.Ascent.{IsAscending, last_from, spread, offset_at}
-use Rattle.compression.specs.Middle.{relative, middle_of, middle_point, LiesWithin, AllButOne, MiddleAmongOthers, MiddleFromFirstToLast}
+use Rattle.compression.specs.Ascent.{IsAscending, offset_at}
+use Rattle.compression.specs.Middle.{relative, middle_of, LiesWithin, AllButOne, MiddleAmongOthers, MiddleFromFirstToLast}
 use Rattle.compression.proofs.Middles.{middle_of-inner, middle_of-within}
 
 -- the second of three or more
@@ -44,7 +43,7 @@ middle_among_others (a ∷ b ∷ c ∷ more) low high many up all =
     let d = get_or ps (suc (length more)) (pos 0) in
     let is : mean_of (b -ℤ a) (d -ℤ a) ≡ middle_of (relative ps) = sym (ap (λ (n : ℕ). mean_of (b -ℤ a) (offset_at ps n)) at) ∙ inner in
     subst (λ (m : ℤ). LiesWithin low high (a +ℤ m)) is
-      (mean_within low high a b d (mean_of (b -ℤ a) (d -ℤ a)) (mean_of-floor (b -ℤ a) (d -ℤ a)) (second low high a b c more up all) (last_but low high a b c more up all))
+    (mean_within low high a b d (mean_of (b -ℤ a) (d -ℤ a)) (mean_of-floor (b -ℤ a) (d -ℤ a)) (second low high a b c more up all) (last_but low high a b c more up all))
 
 pub middle_from_first_to_last : MiddleFromFirstToLast
 middle_from_first_to_last p ps up =

@@ -1,11 +1,10 @@
 -- The role of a point by the last cluster.
-use Rattle.std.proofs.Common.{◌≡◌, ◌∙◌, ℤ, ◌≤ℤ◌, ◌<ℤ◌, List, [], ◌∷◌, ap, refl, arith, Option, Some, None}
+use Rattle.std.proofs.Common.{◌≡◌, ℤ, ◌≤ℤ◌, ◌<ℤ◌, List, refl, arith, Some, None}
 use Rattle.std.proofs.lemmas.Int.{ints}
-use Rattle.std.specs.Prelude.{int_lt, Bool, true, false}
+use Rattle.std.specs.Prelude.{int_lt, true, false}
 use Rattle.std.specs.List.{last_or}
-use Rattle.compression.specs.Clusters.{Point, Cluster}
-use Rattle.compression.specs.Role.{open_at, role_in, role}
-use Rattle.compression.specs.declared.taken.Taken.TheVariants.{Opened}
+use Rattle.compression.specs.Clusters.{Cluster}
+use Rattle.compression.specs.Role.{open_at}
 
 -- up to its end the last is open
 pub open_at-in : (cs : List Cluster) (c : Cluster) (reading : ℤ) → last_or None cs ≡ Some c → reading ≤ℤ c.end → open_at cs reading ≡ Some c

@@ -1,9 +1,9 @@
 -- Rows of collections, as points are taken and clusters are emitted.
-use Rattle.std.proofs.Common.{◌≡◌, ◌≢◌, ◌∙◌, ◌⊎◌, inl, inr, ℕ, ◌+◌, ◌^◌, ◌<◌, ◌≤◌, ℤ, pos, ◌+ℤ◌, ◌-ℤ◌, ◌*ℤ◌, ◌≤ℤ◌, ◌<ℤ◌, List, [], ◌∷◌, ◌++◌, length, map, ap, refl, sym, subst, arith, Option, Some, None}
+use Rattle.std.proofs.Common.{◌≡◌, ◌<◌, ℤ, pos, ◌+ℤ◌, ◌-ℤ◌, ◌*ℤ◌, ◌≤ℤ◌, ◌<ℤ◌, List, [], ◌∷◌, ◌++◌, length, ap, refl, sym, subst, arith, Some, None}
 use Rattle.std.specs.Prelude.{IfSome}
 use Rattle.std.specs.List.{last_or, AllByRecursion}
 use Rattle.std.proofs.lemmas.Int.{ints}
-use Rattle.compression.specs.Ascent.{IsAscending, MayFollow, last_from, spread}
+use Rattle.compression.specs.Ascent.{IsAscending, MayFollow, last_from}
 use Rattle.compression.specs.Middle.{relative, middle_of}
 use Rattle.compression.specs.Clusters.{Cluster}
 use Rattle.compression.specs.Emission.{emission}

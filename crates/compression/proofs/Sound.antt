@@ -1,19 +1,19 @@
 -- What is true of every collector stays true.
-use Rattle.std.proofs.Common.{◌≡◌, ◌≢◌, ◌∙◌, ◌⊎◌, inl, inr, ℕ, ◌<◌, ◌^◌, ℤ, pos, ◌+ℤ◌, ◌-ℤ◌, ◌*ℤ◌, ◌≤ℤ◌, ◌<ℤ◌, List, [], ◌∷◌, ◌++◌, length, map, ap, refl, sym, subst, arith, Option, Some, None, Bool, true, false}
-use Rattle.std.specs.Prelude.{IfSome, int_lt, int_le, All}
+use Rattle.std.proofs.Common.{◌≡◌, ◌∙◌, inl, inr, ℕ, ◌<◌, ℤ, pos, ◌+ℤ◌, ◌-ℤ◌, ◌*ℤ◌, ◌≤ℤ◌, ◌<ℤ◌, List, [], ◌∷◌, ◌++◌, length, map, ap, refl, sym, subst, arith, Option, Some, None}
+use Rattle.std.specs.Prelude.{int_lt, int_le, All}
 use Rattle.std.specs.List.{last_or, AllByRecursion}
 use Rattle.std.proofs.lemmas.Int.{ints}
 use Rattle.std.proofs.lemmas.Bool.{cases_Bool}
-use Rattle.std.proofs.lemmas.List.Elements.{recursion_from_All, All-from_recursion}
-use Rattle.compression.specs.Reading.{least_reading, greatest_reading}
-use Rattle.compression.specs.Ascent.{IsAscending, MayFollow, last_from}
+use Rattle.std.proofs.lemmas.List.Elements.{recursion_from_All}
+use Rattle.compression.specs.Reading.{greatest_reading}
+use Rattle.compression.specs.Ascent.{MayFollow, last_from}
 use Rattle.compression.specs.Clusters.{Point, Cluster}
 use Rattle.compression.specs.Emission.{emission}
 use Rattle.compression.specs.Role.{open_at}
 use Rattle.compression.specs.Collection.{opening, joined_end, joined}
 use Rattle.compression.specs.Collecting.{Collecting, with_opened, with_joined, emissions, IsCollection, IsRow, IsSound}
 use Rattle.compression.proofs.Ascents.{IsAscending-push}
-use Rattle.compression.proofs.Rows.{last_split, last_or-none, last_or-last_from, opened-before, row_last, Last, row-push, row-replace, row-rest, row-room, MayFollow-later}
+use Rattle.compression.proofs.Rows.{last_split, last_or-none, opened-before, row_last, row-push, row-replace, row-room, MayFollow-later}
 
 none_is_some : (c : Cluster) → Some c ≡ None → ⊥
 none_is_some c e = cc
@@ -42,9 +42,11 @@ all_ended v reading sound order none =
     all_before : (o : ℤ) (ks : List Cluster) → o ≤ℤ reading → AllByRecursion (λ k. k.end <ℤ o) ks → AllByRecursion (λ k. k.end <ℤ reading) ks
     all_before o [] le all = tt
     all_before o (k ∷ ks) le all = (omega (arith, ints, le, all.0), all_before o ks le all.1)
+
     all_push : (ks : List Cluster) (c : Cluster) → AllByRecursion (λ k. k.end <ℤ reading) ks → c.end <ℤ reading → AllByRecursion (λ k. k.end <ℤ reading) (ks ++ c ∷ [])
     all_push [] c all past = (past, tt)
     all_push (k ∷ ks) c all past = (all.0, all_push ks c all.1 past)
+
     by_last : (o : Option Cluster) → last_or None v.waiting ≡ o → AllByRecursion (λ k. k.end <ℤ reading) v.waiting
     by_last None l = subst (AllByRecursion (λ k. k.end <ℤ reading)) (sym (last_or-none v.waiting l)) tt
     by_last (Some c) l =
@@ -62,15 +64,15 @@ all_ended v reading sound order none =
 pub IsSound-opened : (v : Collecting) (p : Point) → IsSound v → v.earliest ≤ℤ p.reading → p.reading ≤ℤ greatest_reading → open_at v.waiting p.reading ≡ None → IsSound (with_opened v p)
 IsSound-opened v p sound order high none =
     let col : IsCollection v.ow (opening v.ow p) = record {
-          low = omega (arith, ints, order, sound.low);
-          high = high;
-          later = [];
-          points = refl;
-          rising = tt;
-          held = omega (arith, ints, sound.some, sound.short);
-          one = omega (arith, ints);
-          two = omega (arith, ints, sound.some, sound.short);
-        } in
+      low = omega (arith, ints, order, sound.low);
+      high = high;
+      later = [];
+      points = refl;
+      rising = tt;
+      held = omega (arith, ints, sound.some, sound.short);
+      one = omega (arith, ints);
+      two = omega (arith, ints, sound.some, sound.short);
+    } in
     record {
       some = sound.some;
       short = sound.short;

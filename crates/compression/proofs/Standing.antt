@@ -1,24 +1,18 @@
 -- How the calls of a collector keep where it stands.
-use Rattle.std.proofs.Common.{◌≡◌, ◌≢◌, ◌∙◌, ◌⊎◌, inl, inr, ℕ, ◌<◌, ℤ, pos, ◌+ℤ◌, ◌-ℤ◌, ◌*ℤ◌, ◌≤ℤ◌, ◌<ℤ◌, List, [], ◌∷◌, ◌++◌, length, map, ap, refl, sym, subst, arith, Option, Some, None, Bool, true, false}
-use Rattle.std.specs.Prelude.{All, ◌==◌, int_lt}
-use Rattle.std.specs.List.{last_or, AllByRecursion}
-use Rattle.std.specs.Int.{int_max}
+use Rattle.std.proofs.Common.{◌≡◌, ◌≢◌, ◌∙◌, ◌⊎◌, inl, inr, ℤ, ◌≤ℤ◌, ◌<ℤ◌, List, [], ◌∷◌, ◌++◌, ap, refl, sym, subst, arith, None, true, false}
+use Rattle.std.specs.List.{AllByRecursion}
 use Rattle.std.proofs.lemmas.Int.{ints}
-use Rattle.std.proofs.lemmas.Bool.{cases_Bool, cases_eq, eq-eqb, ne_eqb}
-use Rattle.std.proofs.lemmas.List.{append_assoc, append-nil, map-append}
-use Rattle.std.proofs.lemmas.List.Elements.{recursion_from_All, All-from_recursion, All-weaker, All-push}
-use Rattle.compression.specs.Clusters.{Point, Cluster, AreClusters, beyond, cluster_of}
-use Rattle.compression.specs.Emission.{emission, compressed}
-use Rattle.compression.specs.Role.{has_point_of, open_at, role_in, role}
+use Rattle.std.proofs.lemmas.List.{append_assoc}
+use Rattle.std.proofs.lemmas.List.Elements.{recursion_from_All, All-from_recursion}
+use Rattle.compression.specs.Clusters.{Point, Cluster, AreClusters, beyond}
+use Rattle.compression.specs.Role.{has_point_of, open_at}
 use Rattle.compression.specs.Collection.{opening, joined}
-use Rattle.compression.specs.Collecting.{Collecting, fresh, with_opened, with_joined, IsCollection, IsRow, IsSound}
+use Rattle.compression.specs.Collecting.{Collecting, with_opened, with_joined, IsRow, IsSound}
 use Rattle.compression.specs.Stands.{Stands}
-use Rattle.compression.specs.declared.taken.Taken.{Taken}
-use Rattle.compression.specs.declared.taken.Taken.TheVariants.{Opened, Joined, Repeat, OtherCycle}
 use Rattle.compression.specs.declared.compressed.Compressed.{Compressed}
 use Rattle.compression.proofs.Growth.{AreClusters-opened, AreClusters-within, Grows}
-use Rattle.compression.proofs.Rows.{row_last, row-head, opened-before, last_split, emission-within}
-use Rattle.compression.proofs.Sound.{open_at-some, all_ended, joined_end-within}
+use Rattle.compression.proofs.Rows.{row_last, opened-before}
+use Rattle.compression.proofs.Sound.{all_ended, joined_end-within}
 
 -- ends that lie before a later reading
 pub ended_later : (t r : ℤ) (cs : List Cluster) → t ≤ℤ r → AllByRecursion (λ c. c.end <ℤ t) cs → AllByRecursion (λ c. c.end <ℤ r) cs
@@ -40,7 +34,7 @@ Stands-opened v points emitted p sound order none s =
     record {
       done = s.done;
       clusters = subst (AreClusters v.ow (points ++ p ∷ [])) (append_assoc s.done v.waiting (opening v.ow p ∷ [])) (AreClusters-opened v.ow points (s.done ++ v.waiting) p (omega (arith, ints, sound.some, sound.short)) s.clusters all);
-      emissions = s.emissions;
+      given = s.given;
       past = All-from_recursion (λ (c : Cluster). c.end <ℤ p.reading) s.done done;
     }
 
@@ -53,7 +47,7 @@ stands_within v points emitted p front c d sound order split here longer grows s
     let before = ended_later c.opened p.reading front (omega (arith, ints, opened, order)) last.before in
     let are : AreClusters v.ow points ((s.done ++ front) ++ c ∷ []) = subst (AreClusters v.ow points) (ap (λ (ws : List Cluster). s.done ++ ws) split ∙ sym (append_assoc s.done front (c ∷ []))) s.clusters in
     subst (AreClusters v.ow (points ++ p ∷ [])) (append_assoc s.done front (d ∷ []))
-      (AreClusters-within v.ow points (s.done ++ front) c d p (omega (arith, ints, sound.some, sound.short)) are (all-append p.reading s.done front done before) (omega (arith, ints, opened, order)) here longer grows)
+    (AreClusters-within v.ow points (s.done ++ front) c d p (omega (arith, ints, sound.some, sound.short)) are (all-append p.reading s.done front done before) (omega (arith, ints, opened, order)) here longer grows)
 
 -- one that joins it
 pub Stands-joined : (v : Collecting) (points : List Point) (emitted : List Compressed) (p : Point) (front : List Cluster) (c : Cluster) → IsSound v → v.earliest ≤ℤ p.reading → v.waiting ≡ front ++ c ∷ [] → p.reading ≤ℤ c.end → p.cycle ≡ c.cycle → has_point_of c p.master ≡ false → Stands v points emitted → Stands (with_joined v front c p) (points ++ p ∷ []) emitted
@@ -64,7 +58,7 @@ Stands-joined v points emitted p front c sound order split here same new s =
     record {
       done = s.done;
       clusters = stands_within v points emitted p front c (joined v.ow c p.reading p.master) sound order split here ends.0 grows s;
-      emissions = s.emissions;
+      given = s.given;
       past = All-from_recursion (λ (c : Cluster). c.end <ℤ p.reading) s.done (past_at v points emitted p.reading s order);
     }
   where
@@ -78,12 +72,13 @@ Stands-ignored v points emitted p front c sound order split here why s =
     record {
       done = s.done;
       clusters = subst (λ (ws : List Cluster). AreClusters v.ow (points ++ p ∷ []) (s.done ++ ws)) (sym split) (stands_within v points emitted p front c c sound order split here (omega (arith, ints)) grows s);
-      emissions = s.emissions;
+      given = s.given;
       past = s.past;
     }
   where
     true_is_false : true ≡ false → ⊥
     true_is_false e = cc
+
     neither : p.cycle ≡ c.cycle → has_point_of c p.master ≡ false → (p.cycle ≢ c.cycle) ⊎ (has_point_of c p.master ≡ true) → ⊥
     neither same new (inl other) = other same
     neither same new (inr old) = true_is_false (sym old ∙ new)

@@ -1,18 +1,15 @@
 -- What a collector does with a point, by the point's role.
-use Rattle.std.proofs.Common.{◌≡◌, ◌≢◌, ◌∙◌, ◌⊎◌, inl, inr, ℕ, ◌<◌, ℤ, pos, ◌≤ℤ◌, ◌<ℤ◌, List, [], ◌∷◌, ◌++◌, length, ap, refl, sym, subst, arith, Option, Some, None, Bool, true, false, IsTrue}
-use Rattle.std.specs.Prelude.{All, ◌==◌, int_lt, IfSome, if◌then◌else◌, option_and_then}
+use Rattle.std.proofs.Common.{◌≡◌, ◌≢◌, ◌∙◌, ◌⊎◌, inl, inr, ℕ, ◌<◌, ℤ, ◌≤ℤ◌, ◌<ℤ◌, List, [], ◌∷◌, ◌++◌, length, ap, refl, sym, subst, Option, Some, None, true, false, IsTrue}
+use Rattle.std.specs.Prelude.{◌==◌, int_lt, IfSome, if◌then◌else◌, option_and_then}
 use Rattle.std.specs.List.{last_or, AllByRecursion}
-use Rattle.std.proofs.lemmas.Int.{ints}
-use Rattle.std.proofs.lemmas.Bool.{cases_Bool, cases_eq, eq-eqb, ne_eqb, eqb-true, eqb-false}
+use Rattle.std.proofs.lemmas.Bool.{cases_Bool, eqb-true, eqb-false}
 use Rattle.std.proofs.lemmas.List.{append-nil}
 use Rattle.std.proofs.lemmas.List.Elements.{recursion_from_All}
-use Rattle.compression.specs.Ascent.{MayFollow}
 use Rattle.compression.specs.Clusters.{Point, Cluster, AreClusters}
 use Rattle.compression.specs.Role.{has_point_of, open_at, role_in, role}
 use Rattle.compression.specs.Collection.{joined, CanTake}
 use Rattle.compression.specs.Collecting.{Collecting, with_opened, with_joined, IsRow, IsSound}
 use Rattle.compression.specs.Stands.{Stands}
-use Rattle.compression.specs.declared.taken.Taken.{Taken}
 use Rattle.compression.specs.declared.taken.Taken.TheVariants.{Opened, Joined, Repeat, OtherCycle}
 use Rattle.compression.specs.declared.compressed.Compressed.{Compressed}
 use Rattle.compression.proofs.Roles.{open_at-in, open_at-beyond, open_at-none}
@@ -47,8 +44,10 @@ role_in-opened (Some c) p e =
   where
     repeat_not : Repeat ≡ Opened → ⊥
     repeat_not e = cc
+
     joined_not : Joined ≡ Opened → ⊥
     joined_not e = cc
+
     other_not : OtherCycle ≡ Opened → ⊥
     other_not e = cc
 
@@ -69,6 +68,7 @@ role_in-joined (Some c) p e =
   where
     repeat_not : Repeat ≡ Joined → ⊥
     repeat_not e = cc
+
     other_not : OtherCycle ≡ Joined → ⊥
     other_not e = cc
 
@@ -103,6 +103,7 @@ able v reading master sound order room =
         true_is_false : true ≡ false → ⊥
         true_is_false e = cc
     room_in c (inr few) new = few
+
     by_last : (o : Option Cluster) → last_or None v.waiting ≡ o → IfSome (last_or None v.waiting) (λ c. reading ≤ℤ c.end → CanTake c reading master)
     by_last None l = rw l tt
     by_last (Some c) l =
@@ -142,6 +143,7 @@ last_or-append (x ∷ xs) ys y e = after x xs
     over : (o : Option _) (zs : List _) → last_or None zs ≡ Some y → last_or o zs ≡ Some y
     over o [] e = absurd (cc)
     over o (z ∷ zs) e = e
+
     after : (x : _) (xs : List _) → last_or (Some x) (xs ++ ys) ≡ Some y
     after x [] = over (Some x) ys e
     after x (z ∷ zs) = after z zs

@@ -1,11 +1,11 @@
 -- The times of clusters: each point lies in one.
-use Rattle.std.proofs.Common.{◌≡◌, ◌≢◌, ◌∙◌, ◌⊎◌, inl, inr, ℕ, zero, suc, ◌+◌, ◌<◌, ◌≤◌, ℤ, pos, ◌≤ℤ◌, ◌<ℤ◌, List, [], ◌∷◌, length, ap, refl, sym, subst, arith, Bool, true, false}
+use Rattle.std.proofs.Common.{◌≡◌, ◌⊎◌, inl, inr, ℕ, zero, suc, ◌≤◌, ℤ, pos, ◌≤ℤ◌, ◌<ℤ◌, List, [], ◌∷◌, length, ap, refl, sym, subst, arith}
 use Rattle.std.specs.Prelude.{Contains, int_le}
 use Rattle.std.specs.List.{AllByRecursion}
 use Rattle.std.proofs.lemmas.Int.{ints}
 use Rattle.std.proofs.lemmas.Bool.{cases_Bool}
-use Rattle.compression.specs.Clusters.{Point, Cluster, beyond, end_of, cluster_of, AreClusters}
-use Rattle.compression.specs.OneCluster.{AreInOrder, LiesIn, OneTime, OneListOfClusters}
+use Rattle.compression.specs.Clusters.{Point, Cluster, beyond, cluster_of, AreClusters}
+use Rattle.compression.specs.OneCluster.{LiesIn, OneTime, OneListOfClusters}
 use Rattle.compression.proofs.Elements.{in_head, in_tail, in_none, in_cases, all_at, Ordered, Ordered-from, Ordered-beyond, all-beyond, beyond-all, in_beyond, length-beyond}
 use Rattle.compression.proofs.Growth.{end_of-least}
 use Rattle.compression.proofs.Standing.{AreClusters-unique}
@@ -68,6 +68,7 @@ one_time ow (o ∷ ps) (c ∷ cs) some up are p at =
     only : p.reading ≤ℤ c.end → (d : Cluster) → (c ≡ d) ⊎ Contains cs d → LiesIn d p → d ≡ c
     only within d (inl e) lies = sym e
     only within d (inr at) lies = absurd (only_first ow ps c cs p are.1 within d at lies)
+
     other : c.end <ℤ p.reading → (k : Cluster) → ((d : Cluster) → Contains cs d → LiesIn d p → d ≡ k) → (d : Cluster) → (c ≡ d) ⊎ Contains cs d → LiesIn d p → d ≡ k
     other past k unique d (inl e) lies = absurd (apart (subst (λ (x : Cluster). LiesIn x p) (sym e) lies) past)
       where

@@ -1,15 +1,15 @@
 -- One master's points do not split those of the others.
-use Rattle.std.proofs.Common.{◌≡◌, ◌≢◌, ◌∙◌, ◌⊎◌, inl, inr, ℕ, zero, suc, ◌+◌, ◌<◌, ◌≤◌, ℤ, pos, ◌+ℤ◌, ◌*ℤ◌, ◌≤ℤ◌, ◌<ℤ◌, List, [], ◌∷◌, ◌++◌, length, ap, refl, sym, subst, arith, Bool, true, false, ◌&&◌}
-use Rattle.std.specs.Prelude.{Contains, int_le, ◌==◌, fold}
+use Rattle.std.proofs.Common.{◌≡◌, ◌≢◌, ◌∙◌, inl, inr, ℕ, ◌<◌, ◌≤◌, ℤ, pos, ◌+ℤ◌, ◌≤ℤ◌, ◌<ℤ◌, List, [], ◌∷◌, length, ap, refl, sym, subst, arith, true, false, ◌&&◌}
+use Rattle.std.specs.Prelude.{Contains, int_le, ◌==◌}
 use Rattle.std.specs.List.{AllByRecursion}
 use Rattle.std.proofs.lemmas.Int.{ints}
 use Rattle.std.proofs.lemmas.Bool.{cases_Bool, cases_eq, cases_lt, eq-eqb, eqb-true, eqb-false, and_from, and_parts, or_parts, or_cases}
-use Rattle.compression.specs.Clusters.{Point, Cluster, of_cycle_within, beyond, has_master, with_first, firsts, end_of, cluster_of, AreClusters}
+use Rattle.compression.specs.Clusters.{Point, Cluster, of_cycle_within, beyond, has_master, firsts, end_of, cluster_of, AreClusters}
 use Rattle.compression.specs.OneCluster.{LiesIn, Holds, IsDropped, IsKept, OneCluster}
 use Rattle.compression.proofs.Firsts.{Counts, counts, firsts-has}
 use Rattle.compression.proofs.Held.{int_le-true, held-start}
 use Rattle.compression.proofs.Elements.{in_head, in_tail, in_none, in_cases, in_filter, in_filter_from, Ordered, Ordered-from, Ordered-beyond, from_beyond}
-use Rattle.compression.proofs.Growth.{counted, window_end, extended_end, end_of-one, end_of-two, end_of-least}
+use Rattle.compression.proofs.Growth.{counted, window_end, end_of-one, end_of-two, end_of-least}
 use Rattle.compression.proofs.Times.{only_first, first_end, not_before, in_rest}
 
 -- what counts in the first window: the opener, and then points of other masters
@@ -36,20 +36,22 @@ second_master ow o ps some many =
         let parts = in_filter (λ q. q.cycle == o.cycle && (int_le o.reading q.reading && int_le q.reading (window_end ow o))) ps w each.0.0 in
         let tests = and_parts (w.cycle == o.cycle) (int_le o.reading w.reading && int_le w.reading (window_end ow o)) parts.1 in
         let bounds = and_parts (int_le o.reading w.reading) (int_le w.reading (window_end ow o)) tests.1 in
-        let apart = (or_parts (o.master == w.master) false each.0.1).0 in
-        (w, record {
-          there = parts.0;
-          same = eqb-true w.cycle o.cycle tests.0;
-          first = grind (arith, ints, bounds.1);
-          other = λ e. eqb-false o.master w.master apart (sym e);
-        })
+        let apart = (or_parts (o.master == w.master) false each.0.1).0 in (
+          w,
+          record {
+            there = parts.0;
+            same = eqb-true w.cycle o.cycle tests.0;
+            first = grind (arith, ints, bounds.1);
+            other = λ e. eqb-false o.master w.master apart (sym e);
+          },
+        )
 
 -- and where there is one, the points in the first window are of the opener's
 only_master : (ow : ℤ) (o : Point) (ps : List Point) → pos 0 ≤ℤ ow → length (counted (window_end ow o) o (o ∷ ps)) < 2 → (q : Point) → Contains (o ∷ ps) q → q.cycle ≡ o.cycle → o.reading ≤ℤ q.reading → q.reading ≤ℤ window_end ow o → q.master ≡ o.master
 only_master ow o ps some few q at same low high =
     let passes : (q.cycle == o.cycle && (int_le o.reading q.reading && int_le q.reading (window_end ow o))) ≡ true =
-            and_from (q.cycle == o.cycle) (int_le o.reading q.reading && int_le q.reading (window_end ow o)) (eq-eqb q.cycle o.cycle same)
-            (and_from (int_le o.reading q.reading) (int_le q.reading (window_end ow o)) (int_le-true o.reading q.reading low) (int_le-true q.reading (window_end ow o) high)) in
+    and_from (q.cycle == o.cycle) (int_le o.reading q.reading && int_le q.reading (window_end ow o)) (eq-eqb q.cycle o.cycle same)
+    (and_from (int_le o.reading q.reading) (int_le q.reading (window_end ow o)) (int_le-true o.reading q.reading low) (int_le-true q.reading (window_end ow o) high)) in
     let here = in_filter_from (λ r. r.cycle == o.cycle && (int_le o.reading r.reading && int_le r.reading (window_end ow o))) (o ∷ ps) q at passes in
     let has = firsts-has (of_cycle_within o.cycle o.reading (window_end ow o) (o ∷ ps)) q here in
     let k = window_counts ow o ps some in
@@ -139,6 +141,7 @@ together ow (o ∷ ps) (c ∷ cs) b cycle some up are near p k =
   where
     start : (c.opened ≡ o.reading) × (c.opened ≤ℤ c.end)
     start = first_end ow o ps c some are.0
+
     not_first : (q : Point) → c.end <ℤ q.reading → IsDropped (c ∷ cs) q → IsDropped cs q
     not_first q past (d, at, other, lies) =
         elim (in_cases c d cs at) [
@@ -148,17 +151,20 @@ together ow (o ∷ ps) (c ∷ cs) b cycle some up are near p k =
       where
         apart : LiesIn c q → c.end <ℤ q.reading → ⊥
         apart l h = omega (arith, ints, l.high, h)
+
     whole : (q : Point) → IsKept (beyond c.end ps) cs b cycle q → IsKept (o ∷ ps) (c ∷ cs) b cycle q
     whole q kq =
         let parts = from_beyond c.end ps q kq.there in
         record { there = in_tail o q ps parts.0; other = kq.other; same = kq.same; kept = λ dropped. kq.kept (not_first q parts.1 dropped) }
+
     part : (q : Point) → IsKept (o ∷ ps) (c ∷ cs) b cycle q → c.end <ℤ q.reading → IsKept (beyond c.end ps) cs b cycle q
     part q kq past = record {
-          there = in_rest o ps q c.end (omega (arith, ints, start.0, start.1)) past kq.there;
-          other = kq.other;
-          same = kq.same;
-          kept = λ dropped. kq.kept (dropped.0, in_tail c dropped.0 cs dropped.1, dropped.2, dropped.3);
-        }
+      there = in_rest o ps q c.end (omega (arith, ints, start.0, start.1)) past kq.there;
+      other = kq.other;
+      same = kq.same;
+      kept = λ dropped. kq.kept (dropped.0, in_tail c dropped.0 cs dropped.1, dropped.2, dropped.3);
+    }
+
     also : First ow o ps c cs b cycle → c.end <ℤ p.reading → (q : Point) → IsKept (o ∷ ps) (c ∷ cs) b cycle q → c.end <ℤ q.reading
     also f past q kq =
         elim (cases_Bool (int_le q.reading c.end)) [

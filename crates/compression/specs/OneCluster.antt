@@ -1,5 +1,5 @@
 -- Where the points of one cycle stand in one cluster.
-use Rattle.std.specs.Prelude.{◌≡◌, ◌≢◌, ℕ, ℤ, pos, ◌+ℤ◌, ◌≤ℤ◌, List, [], ◌∷◌, map, Contains}
+use Rattle.std.specs.Prelude.{◌≡◌, ◌≢◌, ℕ, ℤ, pos, ◌+ℤ◌, ◌≤ℤ◌, List, map, Contains}
 use Rattle.compression.specs.Ascent.{IsAscending}
 use Rattle.compression.specs.Clusters.{Point, Cluster, AreClusters}
 

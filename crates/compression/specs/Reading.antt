@@ -1,5 +1,5 @@
 -- The bounds of readings, points and sums of both.
-use Rattle.std.specs.Prelude.{ℕ, ◌+◌, ◌^◌, ℤ, pos, neg_ℤ}
+use Rattle.std.specs.Prelude.{◌+◌, ◌^◌, ℤ, pos, neg_ℤ}
 
 abbrev pub least_reading : ℤ
 least_reading = neg_ℤ (pos (2 ^ 61 + 2 ^ 58))

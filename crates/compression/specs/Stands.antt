@@ -9,5 +9,5 @@ use Rattle.compression.specs.declared.compressed.Compressed.{Compressed}
 pub record Stands (v : Collecting) (points : List Point) (emitted : List Compressed) : Type 0 where
   pub done : List Cluster
   pub clusters : AreClusters v.ow points (done ++ v.waiting)
-  pub emissions : emitted ≡ map (compressed v.ow v.calc) done
+  pub given : emitted ≡ map (compressed v.ow v.calc) done
   pub past : All (λ c. c.end <ℤ v.earliest) done

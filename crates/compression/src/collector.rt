@@ -7,11 +7,20 @@ use crate::{Compressed, Taken};
 use std::marker::Model;
 use tte_units::Units;
 
-/// Collects the permanence points of one compression master.
-#[derive(Drop)]
+/// Collects the permanence points of one compression master into clusters.
+///
+/// A collection opens at its first point `p` and takes points up to and with `p + ow`, the
+/// observation window. Where those are of two masters or more, it takes points up to and with
+/// `p + 2 * ow`. The next point opens another. A point of another cycle than the opener's is
+/// dropped, and of each master the first point counts. The collection is emitted at the reading
+/// `p + 2 * ow + calc + middle`. Readings are in units of 2^-16 ns.
+///
+/// No call takes memory: at most five collections wait at once.
+#[derive(Debug, Drop)]
 pub struct Collector {
     ow: Units,
     calc: Units,
+    // The next point may not lie before this reading.
     earliest: Units,
     waiting: Waiting,
 }
@@ -37,8 +46,10 @@ impl Collector {
     ghost use Rattle.compression.specs.Stands.{Stands};
     ghost use Rattle.compression.specs.declared.compressed.Compressed.{Compressed as Frame};
 
-    /// A collector without points. The observation window is at most 2^40, and the time to
-    /// calculate is from 1 to the window.
+    /// A collector without points.
+    ///
+    /// `ow`, the observation window, is at most 2^40; `calc`, the time to calculate, is from 1 to
+    /// `ow`.
     pub fn new(ow: Units, calc: Units) -> Collector
         requires some { pos 1 ≤ℤ calc.0 }
         requires short { calc.0 ≤ℤ ow.0 }
@@ -54,7 +65,11 @@ impl Collector {
         }
     }
 
-    /// Takes a permanence point.
+    /// Takes the permanence point of a master's frame, with the frame's cycle.
+    ///
+    /// Readings do not fall, none is less than the `at` of an earlier `emit`, and `due` is None or
+    /// greater than `reading - ow`. The master is below 32. The open collection has a point of this
+    /// master or points of fewer than eight masters.
     pub fn point(&mut self, reading: Units, master: u32, cycle: u32) -> Taken
         requires order { self.old.earliest ≤ℤ reading.0 }
         requires high { reading.0 ≤ℤ greatest_reading }
@@ -108,20 +123,17 @@ impl Collector {
         self.earliest = reading;
     }
 
-    /// The reading at which the next collection is emitted, by the points so far: the least of those
-    /// that wait, the open one included.
+    /// The least emission reading of the collections that wait, the open one included, by the
+    /// points so far. It is None exactly where none waits.
     pub fn due(&self) -> Option<Units>
         ensures none { IsNone result ↔ (self.now.waiting ≡ []) }
         ensures least { IfSome result (λ at. IsLeast at.0 (emissions self.now)) }
     {
-        match self.waiting.first() {
-            Some(first) => Some(first.emission(self.ow, self.calc)),
-            None => None,
-        }
+        let first = self.waiting.first()?;
+        Some(first.emission(self.ow, self.calc))
     }
 
-    /// Takes the collection that is due next, for its frame to be sent. No later point may lie
-    /// before its emission reading.
+    /// Takes out the collection that is due, and gives what is sent for it. One must wait.
     pub fn emit(&mut self) -> Compressed
         requires { self.old.waiting ≢ [] }
         ensures due { IsLeast result.at.0 (emissions self.old) }

@@ -1,4 +1,4 @@
-use Rattle.std.proofs.Common.{◌≡◌, ◌∙◌, ℕ, ◌+◌, ◌-◌, length, arith}
+use Rattle.std.proofs.Common.{◌≡◌, ◌+◌, ◌-◌, length}
 use Rattle.compression.proofs.Middles.{middle_of-ends, middle_of-inner, length-some}
 use Rattle.compression.proofs.middling.middle.Goals as goal
 

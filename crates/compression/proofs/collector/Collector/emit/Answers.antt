@@ -1,8 +1,7 @@
-use Rattle.std.proofs.Common.{◌≡◌, ◌∙◌, ℤ, pos, ◌≤ℤ◌, List, [], ◌∷◌, ◌++◌, ap, sym, subst, arith, to_z, of_z, w64}
-use Rattle.std.proofs.lemmas.Int.{ints, to_z-of_z}
-use Rattle.compression.specs.Clusters.{Point, Cluster}
-use Rattle.compression.specs.Emission.{emission, compressed}
-use Rattle.compression.specs.Collecting.{Collecting, IsSound, IsLeast, emissions}
+use Rattle.std.proofs.Common.{◌≡◌, ◌≤ℤ◌, ap, sym, subst, arith, to_z, of_z, w64}
+use Rattle.std.proofs.lemmas.Int.{ints}
+use Rattle.compression.specs.Emission.{emission}
+use Rattle.compression.specs.Collecting.{Collecting}
 use Rattle.compression.specs.Stands.{Stands}
 use Rattle.compression.specs.declared.compressed.Compressed.{Compressed}
 use Rattle.compression.proofs.Emitting.{IsLeast-first, IsSound-emitted, Stands-emitted}
@@ -29,5 +28,5 @@ returns-clause-stands c =
     let le : c.self.inside.earliest.0 ≤ℤ later = omega (arith, ints, c.max.ensures.self_bound) in
     let past : emission v.ow v.calc c.remove_first-first.result ≤ℤ later = omega (arith, ints, c.max.ensures.other_bound, at) in
     λ points emitted s.
-      rw c.compressed-compressed.ensures
-      (Stands-emitted v points emitted c.remove_first-first.result c.remove_first-first.new.self later c.self.invariant c.remove_first-first.ensures le past (subst (λ (u : Collecting). Stands u points emitted) (sym c.self.view_is) s))
+    rw c.compressed-compressed.ensures
+    (Stands-emitted v points emitted c.remove_first-first.result c.remove_first-first.new.self later c.self.invariant c.remove_first-first.ensures le past (subst (λ (u : Collecting). Stands u points emitted) (sym c.self.view_is) s))

@@ -1,11 +1,10 @@
-use Rattle.std.proofs.Common.{◌≡◌, ◌≢◌, ◌⊎◌, ◌∙◌, ◌≤ℤ◌, List, ap, sym, refl, rules, subst, inl, inr}
+use Rattle.std.proofs.Common.{◌≡◌, ◌≢◌, ◌⊎◌, ◌∙◌, List, ap, sym, refl, rules, subst, inl, inr}
 use Rattle.compression.specs.Clusters.{Point, Cluster}
-use Rattle.compression.specs.Collecting.{Collecting, with_opened, with_joined, IsSound}
+use Rattle.compression.specs.Collecting.{Collecting, with_opened, IsSound}
 use Rattle.compression.specs.Role.{role}
 use Rattle.compression.specs.Stands.{Stands}
 use Rattle.compression.specs.declared.taken.Taken.{Taken}
 use Rattle.compression.specs.declared.taken.Taken.TheVariants.{Opened, Joined, Repeat, OtherCycle}
-use Rattle.compression.specs.declared.compressed.Compressed.{Compressed}
 use Rattle.compression.proofs.Taking.{able, role-whole, IsSound-takes, Stands-role_opened, Stands-role_joined, Stands-role_ignored}
 use Rattle.compression.proofs.collector.Collector.point.Goals as goal
 
@@ -25,19 +24,19 @@ pub returns-in-Opened-clause-role : goal.returns-in-Opened-clause-role
 returns-in-Opened-clause-role c =
     let p : Point = record { reading = c.args.reading.0; master = c.args.master; cycle = c.args.cycle } in
     λ points emitted clusters s are.
-      c.offer-taken.ensures.role ∙ ap (λ (v : Collecting). role v.waiting p) c.self.view_is ∙ role-whole c.args.self.now p c.requires.order points emitted clusters s are
+    c.offer-taken.ensures.role ∙ ap (λ (v : Collecting). role v.waiting p) c.self.view_is ∙ role-whole c.args.self.now p c.requires.order points emitted clusters s are
 
 pub returns-in-Joined-clause-role : goal.returns-in-Joined-clause-role
 returns-in-Joined-clause-role c =
     let p : Point = record { reading = c.args.reading.0; master = c.args.master; cycle = c.args.cycle } in
     λ points emitted clusters s are.
-      c.offer-taken.ensures.role ∙ ap (λ (v : Collecting). role v.waiting p) c.self.view_is ∙ role-whole c.args.self.now p c.requires.order points emitted clusters s are
+    c.offer-taken.ensures.role ∙ ap (λ (v : Collecting). role v.waiting p) c.self.view_is ∙ role-whole c.args.self.now p c.requires.order points emitted clusters s are
 
 pub returns-in-Repeat-clause-role : goal.returns-in-Repeat-clause-role
 returns-in-Repeat-clause-role c =
     let p : Point = record { reading = c.args.reading.0; master = c.args.master; cycle = c.args.cycle } in
     λ points emitted clusters s are.
-      c.offer-taken.ensures.role ∙ ap (λ (v : Collecting). role v.waiting p) c.self.view_is ∙ role-whole c.args.self.now p c.requires.order points emitted clusters s are
+    c.offer-taken.ensures.role ∙ ap (λ (v : Collecting). role v.waiting p) c.self.view_is ∙ role-whole c.args.self.now p c.requires.order points emitted clusters s are
 
 pub returns-in-Opened-clause-stands : goal.returns-in-Opened-clause-stands
 returns-in-Opened-clause-stands c =
@@ -54,9 +53,9 @@ returns-in-Joined-clause-stands c =
     let w : Collecting = record { ow = c.self.inside.ow.0; calc = c.self.inside.calc.0; earliest = c.args.reading.0; waiting = c.offer-taken.new.self } in
     let order = rw (← c.self.view_is) at c.requires.order in
     λ points emitted s.
-      Stands-role_joined v w p c.self.invariant order c.in-Joined.ensures.role
-      (λ front k split. ap (λ (ws : List Cluster). record w { waiting = ws }) (c.in-Joined.ensures.joined refl front k split))
-      points emitted (subst (λ (u : Collecting). Stands u points emitted) (sym c.self.view_is) s)
+    Stands-role_joined v w p c.self.invariant order c.in-Joined.ensures.role
+    (λ front k split. ap (λ (ws : List Cluster). record w { waiting = ws }) (c.in-Joined.ensures.joined refl front k split))
+    points emitted (subst (λ (u : Collecting). Stands u points emitted) (sym c.self.view_is) s)
 
 not_joined : (t : Taken) → (t ≡ Repeat) ⊎ (t ≡ OtherCycle) → t ≢ Joined
 not_joined t (inl e) j = cc
@@ -70,6 +69,6 @@ returns-in-Repeat-clause-stands c =
     let order = rw (← c.self.view_is) at c.requires.order in
     let same : w ≡ v = ap (λ (ws : List Cluster). record v { waiting = ws }) (c.offer-taken.ensures.ignored (not_joined c.offer-taken.result c.in-Repeat.is)) in
     let is : (role v.waiting p ≡ Repeat) ⊎ (role v.waiting p ≡ OtherCycle) =
-            elim c.in-Repeat.is [ inl e ↦ inl (sym c.offer-taken.ensures.role ∙ e) | inr e ↦ inr (sym c.offer-taken.ensures.role ∙ e) ] in
+    elim c.in-Repeat.is [ inl e ↦ inl (sym c.offer-taken.ensures.role ∙ e) | inr e ↦ inr (sym c.offer-taken.ensures.role ∙ e) ] in
     λ points emitted s.
-      Stands-role_ignored v w p c.self.invariant order is same points emitted (subst (λ (u : Collecting). Stands u points emitted) (sym c.self.view_is) s)
+    Stands-role_ignored v w p c.self.invariant order is same points emitted (subst (λ (u : Collecting). Stands u points emitted) (sym c.self.view_is) s)

@@ -1,7 +1,7 @@
-use Rattle.std.proofs.Common.{◌≤◌, ◌+◌, ℤ, ◌≡◌, ◌<◌, length, arith, rules, List, [], ◌∷◌, ◌++◌, subst, sym, FitsSigned, w64}
+use Rattle.std.proofs.Common.{◌<◌, length, arith, rules, FitsSigned, w64}
 use Rattle.std.proofs.lemmas.List.{length-append}
 use Rattle.std.proofs.lemmas.Int.{to_z-of_z}
-use Rattle.compression.specs.Ascent.{IsAscending, MayFollow}
+use Rattle.compression.specs.Ascent.{MayFollow}
 use Rattle.compression.proofs.Ascents.{IsAscending-push}
 use Rattle.compression.proofs.points.Points.append.Goals as goal
 

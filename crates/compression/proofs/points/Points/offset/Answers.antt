@@ -1,6 +1,6 @@
-use Rattle.std.proofs.Common.{rules, ◌≡◌, ◌∙◌, refl, sym, subst, ap, pos, List, ℤ, ◌-ℤ◌, ◌≤ℤ◌, FitsSigned, w64, to_z, of_z, slice_index_or}
+use Rattle.std.proofs.Common.{rules, ◌∙◌, refl, subst, pos, FitsSigned, w64, slice_index_or}
 use Rattle.std.proofs.lemmas.Int.{to_z-of_z}
-use Rattle.compression.specs.Ascent.{IsAscending, spread, offset_at}
+use Rattle.compression.specs.Ascent.{IsAscending}
 use Rattle.compression.proofs.Ascents.{offset_at-within, offset_fits}
 use Rattle.compression.proofs.points.Points.offset.Goals as goal
 
