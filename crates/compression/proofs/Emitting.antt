@@ -1,15 +1,18 @@
 -- What is emitted next, and a collector after it.
-use Rattle.std.proofs.Common.{◌≡◌, ◌∙◌, ℤ, pos, ◌+ℤ◌, ◌*ℤ◌, ◌≤ℤ◌, ◌<ℤ◌, List, [], ◌∷◌, ◌++◌, map, ap, refl, sym, subst, arith, neg_ℤ, ◌^◌, FitsSigned, w64}
+use Rattle.std.proofs.Common.{◌≡◌, ◌∙◌, ℤ, pos, ◌+ℤ◌, ◌*ℤ◌, ◌≤ℤ◌, ◌<ℤ◌, List, [], ◌∷◌, ◌++◌, length, take, drop, map, ap, refl, sym, subst, arith, neg_ℤ, ◌^◌, FitsSigned, w64}
 use Rattle.std.specs.Prelude.{All}
 use Rattle.std.proofs.lemmas.Int.{ints}
-use Rattle.std.proofs.lemmas.List.{append_assoc, map-append}
+use Rattle.std.proofs.lemmas.List.{append_assoc, map-append, length-map}
 use Rattle.std.proofs.lemmas.List.Elements.{All-from_recursion, All-weaker, All-push, All-cons, All-map}
 use Rattle.compression.specs.Middle.{relative, middle_of}
 use Rattle.compression.specs.Clusters.{Point, Cluster, AreClusters}
 use Rattle.compression.specs.Emission.{emission, compressed}
-use Rattle.compression.specs.Collecting.{Collecting, emissions, IsLeast, IsCollection, IsRow, IsSound}
-use Rattle.compression.specs.Stands.{Stands}
+use Rattle.compression.specs.Collecting.{Collecting, emissions}
+use Rattle.compression.specs.Row.{IsCollection, IsRow, IsSound}
+use Rattle.compression.specs.Least.{IsLeast}
+use Rattle.compression.specs.Stands.{Stands, EmittedInOrder}
 use Rattle.compression.specs.declared.compressed.Compressed.{Compressed}
+use Rattle.compression.proofs.Standing.{AreClusters-unique}
 use Rattle.compression.proofs.Rows.{row-head, row-rest, row-emissions, emission-within}
 
 -- the middle of a collection's points
@@ -65,3 +68,18 @@ Stands-emitted v points emitted c rest later sound split le at s =
       given = ap (λ (es : List Compressed). es ++ compressed v.ow v.calc c ∷ []) s.given ∙ sym (map-append (compressed v.ow v.calc) s.done (c ∷ []));
       past = All-push (λ (k : Cluster). k.end <ℤ later) s.done c before ended;
     }
+
+take-all : {X : Type 0} (xs ys : List X) → take (length xs) (xs ++ ys) ≡ xs
+take-all [] ys = refl
+take-all (x ∷ xs) ys = ap (λ t. x ∷ t) (take-all xs ys)
+
+drop-all : {X : Type 0} (xs ys : List X) → drop (length xs) (xs ++ ys) ≡ ys
+drop-all [] ys = refl
+drop-all (x ∷ xs) ys = drop-all xs ys
+
+-- what is emitted is the front of the clusters
+pub emitted_in_order : EmittedInOrder
+emitted_in_order v points emitted clusters s are =
+    let whole : s.done ++ v.waiting ≡ clusters = AreClusters-unique v.ow points (s.done ++ v.waiting) clusters s.clusters are in
+    let len : length emitted ≡ length s.done = ap length s.given ∙ length-map s.done (compressed v.ow v.calc) in
+    rw (len, ← whole) (rw take-all s.given, sym (drop-all s.done v.waiting))

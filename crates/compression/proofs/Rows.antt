@@ -7,7 +7,7 @@ use Rattle.compression.specs.Ascent.{IsAscending, MayFollow, last_from}
 use Rattle.compression.specs.Middle.{relative, middle_of}
 use Rattle.compression.specs.Clusters.{Cluster}
 use Rattle.compression.specs.Emission.{emission}
-use Rattle.compression.specs.Collecting.{IsCollection, IsRow}
+use Rattle.compression.specs.Row.{IsCollection, IsRow}
 use Rattle.compression.proofs.Middles.{middle_of-within}
 
 -- a list with a last element

@@ -11,7 +11,8 @@ use Rattle.compression.specs.Clusters.{Point, Cluster}
 use Rattle.compression.specs.Emission.{emission}
 use Rattle.compression.specs.Role.{open_at}
 use Rattle.compression.specs.Collection.{opening, joined_end, joined}
-use Rattle.compression.specs.Collecting.{Collecting, with_opened, with_joined, emissions, IsCollection, IsRow, IsSound}
+use Rattle.compression.specs.Collecting.{Collecting, with_opened, with_joined, emissions}
+use Rattle.compression.specs.Row.{IsCollection, IsRow, IsSound}
 use Rattle.compression.proofs.Ascents.{IsAscending-push}
 use Rattle.compression.proofs.Rows.{last_split, last_or-none, opened-before, row_last, row-push, row-replace, row-room, MayFollow-later}
 

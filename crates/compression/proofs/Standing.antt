@@ -7,7 +7,8 @@ use Rattle.std.proofs.lemmas.List.Elements.{recursion_from_All, All-from_recursi
 use Rattle.compression.specs.Clusters.{Point, Cluster, AreClusters, beyond}
 use Rattle.compression.specs.Role.{has_point_of, open_at}
 use Rattle.compression.specs.Collection.{opening, joined}
-use Rattle.compression.specs.Collecting.{Collecting, with_opened, with_joined, IsRow, IsSound}
+use Rattle.compression.specs.Collecting.{Collecting, with_opened, with_joined}
+use Rattle.compression.specs.Row.{IsRow, IsSound}
 use Rattle.compression.specs.Stands.{Stands}
 use Rattle.compression.specs.declared.compressed.Compressed.{Compressed}
 use Rattle.compression.proofs.Growth.{AreClusters-opened, AreClusters-within, Grows}

@@ -8,7 +8,8 @@ use Rattle.std.proofs.lemmas.List.Elements.{recursion_from_All}
 use Rattle.compression.specs.Clusters.{Point, Cluster, AreClusters}
 use Rattle.compression.specs.Role.{has_point_of, open_at, role_in, role}
 use Rattle.compression.specs.Collection.{joined, CanTake}
-use Rattle.compression.specs.Collecting.{Collecting, with_opened, with_joined, IsRow, IsSound}
+use Rattle.compression.specs.Collecting.{Collecting, with_opened, with_joined}
+use Rattle.compression.specs.Row.{IsRow, IsSound}
 use Rattle.compression.specs.Stands.{Stands}
 use Rattle.compression.specs.declared.taken.Taken.TheVariants.{Opened, Joined, Repeat, OtherCycle}
 use Rattle.compression.specs.declared.compressed.Compressed.{Compressed}
@@ -115,6 +116,19 @@ able v reading master sound order room =
           room = room_in c (rw (open_at-in v.waiting c reading l here) at room);
           order = MayFollow-later c.points v.earliest reading order last.may;
         })
+
+-- the last collection, which a point joins
+pub record Last_joined (v : Collecting) (p : Point) : Type 0 where
+  pub front : List Cluster
+  pub c : Cluster
+  pub split : v.waiting ≡ front ++ c ∷ []
+
+pub last_joined : (v : Collecting) (p : Point) → Joined ≡ role v.waiting p → Last_joined v p
+last_joined v p is =
+    let j = role_in-joined (open_at v.waiting p.reading) p (sym is) in
+    let at = open_at-some v.waiting p.reading j.c j.is in
+    let split = last_split v.waiting j.c at.0 in
+    record { front = split.0; c = j.c; split = split.1 }
 
 -- where a collector stands with a point that opens a collection, one that joins, and one that is ignored
 pub Stands-role_opened : (v w : Collecting) (p : Point) → IsSound v → v.earliest ≤ℤ p.reading → Opened ≡ role v.waiting p → w ≡ with_opened v p → (points : List Point) (emitted : List Compressed) → Stands v points emitted → Stands w (points ++ p ∷ []) emitted

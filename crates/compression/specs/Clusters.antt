@@ -8,6 +8,10 @@ pub record Point : Type 0 where
   pub master : ℕ
   pub cycle : ℕ
 
+-- the point of a master's frame
+abbrev pub point_at : ℤ → ℕ → ℕ → Point
+point_at reading master cycle = record { reading = reading; master = master; cycle = cycle }
+
 -- those of one cycle from one reading to another, both included
 abbrev pub of_cycle_within : ℕ → ℤ → ℤ → List Point → List Point
 of_cycle_within cycle from to ps = filter (λ q. q.cycle == cycle && (int_le from q.reading && int_le q.reading to)) ps
@@ -28,7 +32,7 @@ with_first ps q = if has_master ps q.master then ps else ps ++ q ∷ []
 abbrev pub firsts : List Point → List Point
 firsts ps = fold with_first [] ps
 
--- the masters, each as a bit
+-- their masters, each as a bit
 abbrev pub members_of : List Point → ℕ
 members_of ps = fold (λ members q. bit_or members (2 ^ q.master)) 0 ps
 

@@ -1,7 +1,6 @@
 -- What a collector keeps.
-use Rattle.std.specs.Prelude.{◌≡◌, ◌^◌, ℤ, pos, ◌+ℤ◌, ◌*ℤ◌, ◌≤ℤ◌, ◌<ℤ◌, List, [], ◌∷◌, ◌++◌, map, All, Contains, ⊤}
-use Rattle.compression.specs.Reading.{least_reading, greatest_reading}
-use Rattle.compression.specs.Ascent.{IsAscending, MayFollow, last_from}
+use Rattle.std.specs.Prelude.{ℤ, List, [], ◌∷◌, ◌++◌, map}
+use Rattle.compression.specs.Reading.{least_reading}
 use Rattle.compression.specs.Clusters.{Point, Cluster}
 use Rattle.compression.specs.Emission.{emission}
 use Rattle.compression.specs.Collection.{opening, joined}
@@ -28,33 +27,3 @@ with_joined v front c p = record v { earliest = p.reading; waiting = front ++ jo
 -- the emission readings of the clusters that wait
 abbrev pub emissions : Collecting → List ℤ
 emissions v = map (emission v.ow v.calc) v.waiting
-
--- a number that is in the list, and than which none there is less
-pub record IsLeast (least : ℤ) (xs : List ℤ) : Type 0 where
-  pub there : Contains xs least
-  pub bound : All (λ x. least ≤ℤ x) xs
-
--- a cluster ends one or two observation windows after it opens, and its points lie up to there
-pub record IsCollection (ow : ℤ) (c : Cluster) : Type 0 where
-  pub low : least_reading ≤ℤ c.opened
-  pub high : c.opened ≤ℤ greatest_reading
-  pub later : List ℤ
-  pub points : c.points ≡ c.opened ∷ later
-  pub rising : IsAscending (c.opened ∷ later)
-  pub held : last_from c.opened later ≤ℤ c.end
-  pub one : (c.opened +ℤ ow) ≤ℤ c.end
-  pub two : c.end ≤ℤ (c.opened +ℤ (pos 2 *ℤ ow))
-
--- each cluster opens beyond the end of the one before, and no point of the last is later than a reading
-abbrev pub IsRow : ℤ → ℤ → List Cluster → Type 0
-IsRow ow reading [] = ⊤
-IsRow ow reading (c ∷ []) = IsCollection ow c × MayFollow c.points reading
-IsRow ow reading (c ∷ d ∷ cs) = IsCollection ow c × (c.end <ℤ d.opened) × IsRow ow reading (d ∷ cs)
-
--- what is true of every collector
-pub record IsSound (v : Collecting) : Type 0 where
-  pub some : pos 1 ≤ℤ v.calc
-  pub short : v.calc ≤ℤ v.ow
-  pub small : v.ow ≤ℤ pos (2 ^ 40)
-  pub low : least_reading ≤ℤ v.earliest
-  pub row : IsRow v.ow v.earliest v.waiting

@@ -7,4 +7,6 @@ pub mod Emission
 pub mod Role
 pub mod Collection
 pub mod Collecting
+pub mod Row
+pub mod Least
 pub mod Stands

@@ -1,4 +1,4 @@
--- The bounds of readings, points and sums of both.
+-- The bounds of readings and points.
 use Rattle.std.specs.Prelude.{◌+◌, ◌^◌, ℤ, pos, neg_ℤ}
 
 abbrev pub least_reading : ℤ

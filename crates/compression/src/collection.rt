@@ -1,4 +1,4 @@
-ghost use Rattle.std.specs.Prelude.{◌≡◌, ◌≢◌, ℕ, ◌+◌, ◌<◌, ◌≤◌, ◌^◌, ◌↔◌, pos, ◌<ℤ◌, ◌≤ℤ◌, ◌+ℤ◌, [], ◌∷◌, ◌++◌, length};
+ghost use Rattle.std.specs.Prelude.{◌≡◌, ◌≢◌, ◌+◌, ◌<◌, ◌^◌, pos, ◌≤ℤ◌, Some, length};
 
 use crate::{Compressed, Points, Taken, middle};
 use pcf_values::Members;
@@ -38,8 +38,9 @@ impl Default for Collection {
 impl Collection {
     ghost use Rattle.compression.specs.Reading.{least_reading, greatest_reading};
     ghost use Rattle.compression.specs.Ascent.{MayFollow};
+    ghost use Rattle.compression.specs.Clusters.{point_at};
     ghost use Rattle.compression.specs.Collection.{opening, joined_end, joined, CanTake};
-    ghost use Rattle.compression.specs.Collecting.{IsCollection};
+    ghost use Rattle.compression.specs.Row.{IsCollection};
     ghost use Rattle.compression.specs.Emission.{emission, compressed};
     ghost use Rattle.compression.specs.Role.{has_point_of, role_in};
 
@@ -49,7 +50,7 @@ impl Collection {
         requires window { pos 0 ≤ℤ ow.0 × ow.0 ≤ℤ pos (2 ^ 40) }
         requires low { least_reading ≤ℤ reading.0 }
         requires high { reading.0 ≤ℤ greatest_reading }
-        ensures { result ≡ opening ow.0 (record { reading = reading.0; master = master; cycle = cycle }) }
+        ensures { result ≡ opening ow.0 (point_at reading.0 master cycle) }
     {
         let mut points = Points::new();
         points.append(reading);
@@ -67,7 +68,7 @@ impl Collection {
         requires master { master < 32 }
         requires window { pos 0 ≤ℤ ow.0 × ow.0 ≤ℤ pos (2 ^ 40) }
         requires able { CanTake self.old reading.0 master }
-        ensures role { result ≡ role_in (Some self.old) (record { reading = reading.0; master = master; cycle = cycle }) }
+        ensures role { result ≡ role_in (Some self.old) (point_at reading.0 master cycle) }
         ensures joined { result ≡ Taken.Joined
             → self.new ≡ joined ow.0 self.old reading.0 master }
         ensures ignored { result ≢ Taken.Joined → self.new ≡ self.old }

@@ -26,7 +26,8 @@ pub struct Collector {
 }
 
 impl Model for Collector {
-    ghost use Rattle.compression.specs.Collecting.{Collecting, IsSound};
+    ghost use Rattle.compression.specs.Collecting.{Collecting};
+    ghost use Rattle.compression.specs.Row.{IsSound};
 
     ghost Value = { Collecting };
 
@@ -38,13 +39,14 @@ impl Model for Collector {
 const LEAST_READING: Units = Units(-(1 << 61) - (1 << 58));
 
 impl Collector {
-    ghost use Rattle.compression.specs.Clusters.{Point, Cluster, AreClusters};
-    ghost use Rattle.compression.specs.Collecting.{fresh, with_opened, with_joined, emissions, IsLeast};
+    ghost use Rattle.compression.specs.Clusters.{Point, Cluster, AreClusters, point_at};
+    ghost use Rattle.compression.specs.Collecting.{fresh, with_opened, with_joined, emissions};
+    ghost use Rattle.compression.specs.Least.{IsLeast};
     ghost use Rattle.compression.specs.Emission.{compressed};
     ghost use Rattle.compression.specs.Reading.{greatest_reading};
     ghost use Rattle.compression.specs.Role.{has_point_of, open_at, role};
     ghost use Rattle.compression.specs.Stands.{Stands};
-    ghost use Rattle.compression.specs.declared.compressed.Compressed.{Compressed as Frame};
+    ghost use Rattle.compression.specs.declared.compressed.Compressed.{Compressed};
 
     /// A collector without points.
     ///
@@ -74,6 +76,8 @@ impl Collector {
         requires order { self.old.earliest ≤ℤ reading.0 }
         requires high { reading.0 ≤ℤ greatest_reading }
         requires master { master < 32 }
+
+        // Each emission reading that waits is later than the reading less the window.
         requires due { All (λ at. (reading.0 -ℤ self.old.ow) <ℤ at) (emissions self.old) }
         requires room { IfSome (open_at self.old.waiting reading.0)
             (λ c. IsTrue (has_point_of c master) ⊎ (length c.points < 8)) }
@@ -86,19 +90,18 @@ impl Collector {
         ensures other_cycle { (result ≡ Taken.OtherCycle) ↔ IsSomeAnd (open_at self.old.waiting reading.0)
             (λ c. c.cycle ≢ cycle) }
 
-        ensures opens { result ≡ Taken.Opened
-            → self.new ≡ with_opened self.old (record { reading = reading.0; master = master; cycle = cycle }) }
+        ensures opens { result ≡ Taken.Opened → self.new ≡ with_opened self.old (point_at reading.0 master cycle) }
         ensures joins { result ≡ Taken.Joined
-            → (front : List Cluster) (c : Cluster) → self.old.waiting ≡ front ++ c ∷ []
-            → self.new ≡ with_joined self.old front c (record { reading = reading.0; master = master; cycle = cycle }) }
+            → (front : List Cluster) × (c : Cluster) × (self.old.waiting ≡ front ++ c ∷ [])
+            × (self.new ≡ with_joined self.old front c (point_at reading.0 master cycle)) }
         ensures ignores { (result ≡ Taken.Repeat) ⊎ (result ≡ Taken.OtherCycle) → self.new ≡ self.old }
 
         // What it answers is the point's role by the clusters of all points before it.
-        ensures role { (points : List Point) (emitted : List Frame) (clusters : List Cluster)
+        ensures role { (points : List Point) (emitted : List Compressed) (clusters : List Cluster)
             → Stands self.old points emitted → AreClusters self.old.ow points clusters
-            → result ≡ role clusters (record { reading = reading.0; master = master; cycle = cycle }) }
-        ensures stands { (points : List Point) (emitted : List Frame) → Stands self.old points emitted
-            → Stands self.new (points ++ (record { reading = reading.0; master = master; cycle = cycle }) ∷ []) emitted }
+            → result ≡ role clusters (point_at reading.0 master cycle) }
+        ensures stands { (points : List Point) (emitted : List Compressed) → Stands self.old points emitted
+            → Stands self.new (points ++ point_at reading.0 master cycle ∷ []) emitted }
     {
         let taken = self.waiting.offer(self.ow, reading, master, cycle);
         match taken {
@@ -114,9 +117,11 @@ impl Collector {
         requires order { self.old.earliest ≤ℤ reading.0 }
         requires high { reading.0 ≤ℤ greatest_reading }
         requires master { master < 32 }
+
+        // Each emission reading that waits is later than the reading less the window.
         requires due { All (λ at. (reading.0 -ℤ self.old.ow) <ℤ at) (emissions self.old) }
         requires none { open_at self.old.waiting reading.0 ≡ None }
-        ensures { self.new ≡ with_opened self.old (record { reading = reading.0; master = master; cycle = cycle }) }
+        ensures { self.new ≡ with_opened self.old (point_at reading.0 master cycle) }
     {
         let collection = Collection::open(self.ow, reading, master, cycle);
         self.waiting.push(collection);
@@ -134,13 +139,14 @@ impl Collector {
     }
 
     /// Takes out the collection that is due, and gives what is sent for it. One must wait.
+    /// No later point may lie before its emission reading.
     pub fn emit(&mut self) -> Compressed
         requires { self.old.waiting ≢ [] }
         ensures due { IsLeast result.at.0 (emissions self.old) }
         ensures first { (c : Cluster) × (self.old.waiting ≡ c ∷ self.new.waiting)
             × (result ≡ compressed self.old.ow self.old.calc c) }
         ensures kept { self.new ≡ record self.old { earliest = int_max self.old.earliest result.at.0; waiting = self.new.waiting } }
-        ensures stands { (points : List Point) (emitted : List Frame) → Stands self.old points emitted
+        ensures stands { (points : List Point) (emitted : List Compressed) → Stands self.old points emitted
             → Stands self.new points (emitted ++ result ∷ []) }
     {
         let first = self.waiting.remove_first();

@@ -1,5 +1,6 @@
 ghost use Rattle.compression.specs.Middle.{MiddleAmongOthers, MiddleFromFirstToLast};
 ghost use Rattle.compression.specs.OneCluster.{OneCluster, OneTime, OneListOfClusters};
+ghost use Rattle.compression.specs.Stands.{EmittedInOrder};
 
 /// The middle of three or more sorted points, of which one may be anywhere, lies among the others.
 pub fn middle_law()
@@ -11,6 +12,12 @@ pub fn middle_law()
 pub fn clusters_law()
     ensures clusters { OneListOfClusters }
     ensures time { OneTime }
+{}
+
+/// A collector has emitted the first clusters of the points that it was given, and keeps the others.
+/// No later point changes one that is emitted.
+pub fn emission_law()
+    ensures { EmittedInOrder }
 {}
 
 /// One master's points, wherever they are, do not split those of the others: where the points of

@@ -13,7 +13,7 @@ mod waiting;
 
 pub use collector::Collector;
 pub use compressed::Compressed;
-pub use laws::{clusters_law, middle_law, one_cluster_law};
+pub use laws::{clusters_law, emission_law, middle_law, one_cluster_law};
 pub use middling::middle;
 pub use points::Points;
 pub use taken::Taken;

@@ -7,8 +7,8 @@ use tte_units::{Units, mean};
 
 /// The middle of one to eight points, relative to the first of them.
 ///
-/// Where one point may be anywhere, the middle of three or more still lies among the others: it
-/// is the mean of the second point and the last but one, rounded down.
+/// It is the mean, rounded down, of the second point and the last but one, and of one or two points
+/// that of the first and the last. There is a point, and the last is less than 2^60 above the first.
 pub fn middle(points: &Points) -> Units
     requires some { points.now ≢ [] }
     requires near { spread points.now <ℤ pos (2 ^ 60) }

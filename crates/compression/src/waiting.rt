@@ -1,4 +1,4 @@
-ghost use Rattle.std.specs.Prelude.{◌≡◌, ◌≢◌, ℕ, ◌<◌, ◌≤◌, ◌^◌, List, pos, ◌≤ℤ◌, None, [], ◌∷◌, ◌++◌, length, IfSome, MatchOption};
+ghost use Rattle.std.specs.Prelude.{◌≡◌, ◌≢◌, ◌<◌, ◌^◌, List, pos, ◌≤ℤ◌, None, [], ◌∷◌, ◌++◌, length, IfSome, MatchOption};
 ghost use Rattle.std.specs.List.{last_or};
 
 use crate::Taken;
@@ -24,7 +24,7 @@ impl Model for Waiting {
 }
 
 impl Waiting {
-    ghost use Rattle.compression.specs.Clusters.{Point, Cluster};
+    ghost use Rattle.compression.specs.Clusters.{Cluster, point_at};
     ghost use Rattle.compression.specs.Collection.{joined, CanTake};
     ghost use Rattle.compression.specs.Role.{role};
 
@@ -51,7 +51,7 @@ impl Waiting {
         requires master { master < 32 }
         requires window { pos 0 ≤ℤ ow.0 × ow.0 ≤ℤ pos (2 ^ 40) }
         requires last { IfSome (last_or None self.old) (λ c. reading.0 ≤ℤ c.end → CanTake c reading.0 master) }
-        ensures role { result ≡ role self.old (record { reading = reading.0; master = master; cycle = cycle }) }
+        ensures role { result ≡ role self.old (point_at reading.0 master cycle) }
         ensures joined { result ≡ Taken.Joined → (front : List Cluster) (c : Cluster) → self.old ≡ front ++ c ∷ []
             → self.new ≡ front ++ joined ow.0 c reading.0 master ∷ [] }
         ensures ignored { result ≢ Taken.Joined → self.new ≡ self.old }

@@ -1,6 +1,7 @@
 use Rattle.std.proofs.Common.{◌≡◌, ◌∙◌, List, [], ◌∷◌, ◌++◌, ap, sym, subst}
 use Rattle.compression.specs.Clusters.{Point, Cluster}
-use Rattle.compression.specs.Collecting.{Collecting, with_opened, IsSound}
+use Rattle.compression.specs.Collecting.{Collecting, with_opened}
+use Rattle.compression.specs.Row.{IsSound}
 use Rattle.compression.proofs.Sound.{IsSound-opened, room_to_open}
 use Rattle.compression.proofs.collector.Collector.open.Goals as goal
 
