@@ -68,7 +68,7 @@ pub Ordered-from : (ps : List Point) → AreInOrder ps → Ordered ps
 Ordered-from [] up = tt
 Ordered-from (p ∷ ps) up = (all_above p.reading p ps (omega (arith, ints)) up, Ordered-from ps (in_order_tail p ps up))
 
-all-filter : {X : Type 0} (P : X → Type 0) (test : X → Bool) (xs : List X) → AllByRecursion P xs → AllByRecursion P (filter test xs)
+pub all-filter : {X : Type 0} (P : X → Type 0) (test : X → Bool) (xs : List X) → AllByRecursion P xs → AllByRecursion P (filter test xs)
 all-filter P test [] all = tt
 all-filter P test (x ∷ xs) all =
     elim (cases_Bool (test x)) [

@@ -14,3 +14,4 @@ pub mod MiddleLaws
 pub mod Elements
 pub mod Times
 pub mod Together
+pub mod Rooms

@@ -5,6 +5,7 @@ pub mod Clusters
 pub mod OneCluster
 pub mod Emission
 pub mod Role
+pub mod Room
 pub mod Collection
 pub mod Collecting
 pub mod Row

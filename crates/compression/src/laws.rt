@@ -1,5 +1,6 @@
 ghost use Rattle.compression.specs.Middle.{MiddleAmongOthers, MiddleFromFirstToLast};
 ghost use Rattle.compression.specs.OneCluster.{OneCluster, OneTime, OneListOfClusters};
+ghost use Rattle.compression.specs.Room.{RoomForEachMaster};
 ghost use Rattle.compression.specs.Stands.{EmittedInOrder};
 
 /// The middle of three or more sorted points, of which one may be anywhere, lies among the others.
@@ -8,10 +9,12 @@ pub fn middle_law()
     ensures within { MiddleFromFirstToLast }
 {}
 
-/// Each list of points has one list of clusters.
+/// Each list of points has one list of clusters. Each point lies in the time of one cluster, and
+/// a cluster has one point of a master at most.
 pub fn clusters_law()
     ensures clusters { OneListOfClusters }
     ensures time { OneTime }
+    ensures room { RoomForEachMaster }
 {}
 
 /// A collector has emitted the first clusters of the points that it was given, and keeps the others.
