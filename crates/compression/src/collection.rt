@@ -69,8 +69,7 @@ impl Collection {
         requires window { pos 0 ≤ℤ ow.0 × ow.0 ≤ℤ pos (2 ^ 40) }
         requires able { CanTake self.old reading.0 master }
         ensures role { result ≡ role_in (Some self.old) (point_at reading.0 master cycle) }
-        ensures joined { result ≡ Taken.Joined
-            → self.new ≡ joined ow.0 self.old reading.0 master }
+        ensures joined { result ≡ Taken.Joined → self.new ≡ joined ow.0 self.old reading.0 master }
         ensures ignored { result ≢ Taken.Joined → self.new ≡ self.old }
     {
         if cycle != self.cycle {

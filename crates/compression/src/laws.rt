@@ -9,8 +9,8 @@ pub fn middle_law()
     ensures within { MiddleFromFirstToLast }
 {}
 
-/// Each list of points has one list of clusters. Each point lies in the time of one cluster, and
-/// a cluster has one point of a master at most.
+/// Each list of points has one list of clusters. Each point lies in the time of exactly one of them.
+/// Of n masters' points, a cluster that has none of one of them has fewer than n.
 pub fn clusters_law()
     ensures clusters { OneListOfClusters }
     ensures time { OneTime }
