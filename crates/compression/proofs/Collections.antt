@@ -1,0 +1,9 @@
+-- Collections as points come.
+use Rattle.std.proofs.Common.{◌≡◌, ℤ, pos, ◌+ℤ◌, ◌*ℤ◌, ◌≤ℤ◌, arith}
+use Rattle.std.proofs.lemmas.Int.{ints}
+use Rattle.compression.specs.Clusters.{Cluster}
+use Rattle.compression.specs.Collection.{joined_end}
+
+-- a point in the first window adds the second
+pub joined_end-first : (ow : ℤ) (c : Cluster) (reading : ℤ) → reading ≤ℤ (c.opened +ℤ ow) → joined_end ow c reading ≡ c.opened +ℤ (pos 2 *ℤ ow)
+joined_end-first ow c reading first = grind (arith, ints)

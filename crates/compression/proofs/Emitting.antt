@@ -1,0 +1,85 @@
+-- What is emitted next, and a collector after it.
+use Rattle.std.proofs.Common.{◌≡◌, ◌∙◌, ℤ, pos, ◌+ℤ◌, ◌*ℤ◌, ◌≤ℤ◌, ◌<ℤ◌, List, [], ◌∷◌, ◌++◌, length, take, drop, map, ap, refl, sym, subst, arith, neg_ℤ, ◌^◌, FitsSigned, w64}
+use Rattle.std.specs.Prelude.{All}
+use Rattle.std.proofs.lemmas.Int.{ints}
+use Rattle.std.proofs.lemmas.List.{append_assoc, map-append, length-map}
+use Rattle.std.proofs.lemmas.List.Elements.{All-from_recursion, All-weaker, All-push, All-cons, All-map}
+use Rattle.compression.specs.Middle.{relative, middle_of}
+use Rattle.compression.specs.Clusters.{Point, Cluster, AreClusters}
+use Rattle.compression.specs.Emission.{emission, compressed}
+use Rattle.compression.specs.Collecting.{Collecting, emissions}
+use Rattle.compression.specs.Row.{IsCollection, IsRow, IsSound}
+use Rattle.compression.specs.Least.{IsLeast}
+use Rattle.compression.specs.Stands.{Stands, EmittedInOrder}
+use Rattle.compression.specs.declared.compressed.Compressed.{Compressed}
+use Rattle.compression.proofs.Standing.{AreClusters-unique}
+use Rattle.compression.proofs.Rows.{row-head, row-rest, row-emissions, emission-within}
+
+-- the middle of a collection's points
+pub middle-within : (ow : ℤ) (c : Cluster) → IsCollection ow c → (pos 0 ≤ℤ middle_of (relative c.points)) × (middle_of (relative c.points) ≤ℤ (pos 2 *ℤ ow))
+middle-within ow c col =
+    let e = emission-within ow (pos 0) c col in
+    let low : pos 0 ≤ℤ middle_of (relative c.points) = from_low c.opened (pos 2 *ℤ ow) (middle_of (relative c.points)) e.0 in
+    let high : middle_of (relative c.points) ≤ℤ (pos 2 *ℤ ow) = from_high c.opened (pos 2 *ℤ ow) (middle_of (relative c.points)) c.end e.1 col.two in
+    (low, high)
+  where
+    from_low : (o k m : ℤ) → ((o +ℤ k) +ℤ pos 0) ≤ℤ (((o +ℤ k) +ℤ pos 0) +ℤ m) → pos 0 ≤ℤ m
+    from_low o k m h = omega (arith, ints)
+
+    from_high : (o k m e : ℤ) → (((o +ℤ k) +ℤ pos 0) +ℤ m) ≤ℤ ((e +ℤ k) +ℤ pos 0) → e ≤ℤ (o +ℤ k) → m ≤ℤ k
+    from_high o k m e h g = omega (arith, ints)
+
+-- a sum of readings and numbers of the network fits
+pub fits_within : (z : ℤ) → neg_ℤ (pos (2 ^ 62)) ≤ℤ z → z ≤ℤ pos (2 ^ 62) → FitsSigned w64 z
+fits_within z low high = grind (arith, ints, low, high)
+
+-- the first that waits is due first
+pub IsLeast-first : (v : Collecting) (c : Cluster) (rest : List Cluster) → IsSound v → v.waiting ≡ c ∷ rest → IsLeast (emission v.ow v.calc c) (emissions v)
+IsLeast-first v c rest sound split =
+    let row : IsRow v.ow v.earliest (c ∷ rest) = subst (IsRow v.ow v.earliest) split sound.row in
+    let first = emission v.ow v.calc c in
+    let others : All (λ k. first ≤ℤ emission v.ow v.calc k) rest = All-from_recursion (λ (k : Cluster). first ≤ℤ emission v.ow v.calc k) rest (row-emissions v.ow v.calc v.earliest c rest row) in
+    let whole : IsLeast first (map (emission v.ow v.calc) (c ∷ rest)) = record {
+      there = (0, omega arith, refl);
+      bound = All-cons (λ (x : ℤ). first ≤ℤ x) first (map (emission v.ow v.calc) rest) (omega (arith, ints)) (All-map (λ (x : ℤ). first ≤ℤ x) (emission v.ow v.calc) rest others);
+    } in
+    subst (λ (ws : List Cluster). IsLeast first (map (emission v.ow v.calc) ws)) (sym split) whole
+
+-- a collector without the first that waits, at a later reading
+pub IsSound-emitted : (v : Collecting) (c : Cluster) (rest : List Cluster) (later : ℤ) → IsSound v → v.waiting ≡ c ∷ rest → v.earliest ≤ℤ later → IsSound (record v { earliest = later; waiting = rest })
+IsSound-emitted v c rest later sound split le = record {
+  some = sound.some;
+  short = sound.short;
+  small = sound.small;
+  low = omega (arith, ints, le, sound.low);
+  row = row-rest v.ow v.earliest later c rest le (subst (IsRow v.ow v.earliest) split sound.row);
+}
+
+-- where it stands
+pub Stands-emitted : (v : Collecting) (points : List Point) (emitted : List Compressed) (c : Cluster) (rest : List Cluster) (later : ℤ) → IsSound v → v.waiting ≡ c ∷ rest → v.earliest ≤ℤ later → emission v.ow v.calc c ≤ℤ later → Stands v points emitted → Stands (record v { earliest = later; waiting = rest }) points (emitted ++ compressed v.ow v.calc c ∷ [])
+Stands-emitted v points emitted c rest later sound split le at s =
+    let col = row-head v.ow v.earliest c rest (subst (IsRow v.ow v.earliest) split sound.row) in
+    let low = (emission-within v.ow v.calc c col).0 in
+    let ended : c.end <ℤ later = omega (arith, ints, low, at, col.two, sound.some) in
+    let before : All (λ k. k.end <ℤ later) s.done = All-weaker (λ (k : Cluster). k.end <ℤ v.earliest) (λ (k : Cluster). k.end <ℤ later) (λ k h. omega (arith, ints, h, le)) s.done s.past in
+    record {
+      done = s.done ++ c ∷ [];
+      clusters = subst (AreClusters v.ow points) (ap (λ (ws : List Cluster). s.done ++ ws) split ∙ sym (append_assoc s.done (c ∷ []) rest)) s.clusters;
+      given = ap (λ (es : List Compressed). es ++ compressed v.ow v.calc c ∷ []) s.given ∙ sym (map-append (compressed v.ow v.calc) s.done (c ∷ []));
+      past = All-push (λ (k : Cluster). k.end <ℤ later) s.done c before ended;
+    }
+
+take-all : {X : Type 0} (xs ys : List X) → take (length xs) (xs ++ ys) ≡ xs
+take-all [] ys = refl
+take-all (x ∷ xs) ys = ap (λ t. x ∷ t) (take-all xs ys)
+
+drop-all : {X : Type 0} (xs ys : List X) → drop (length xs) (xs ++ ys) ≡ ys
+drop-all [] ys = refl
+drop-all (x ∷ xs) ys = drop-all xs ys
+
+-- what is emitted is the front of the clusters
+pub emitted_in_order : EmittedInOrder
+emitted_in_order v points emitted clusters s are =
+    let whole : s.done ++ v.waiting ≡ clusters = AreClusters-unique v.ow points (s.done ++ v.waiting) clusters s.clusters are in
+    let len : length emitted ≡ length s.done = ap length s.given ∙ length-map s.done (compressed v.ow v.calc) in
+    rw (len, ← whole) (rw take-all s.given, sym (drop-all s.done v.waiting))

@@ -1,0 +1,136 @@
+-- The first point of each master, and the members that they make.
+use Rattle.std.proofs.Common.{◌≡◌, ◌∙◌, inl, inr, ℕ, ◌≤◌, ◌^◌, max, List, [], ◌∷◌, ◌++◌, ap, refl, sym, subst, arith, Bool, true, false, not, cond}
+use Rattle.std.specs.Prelude.{Contains, fold, bit_and, bit_or, ◌==◌}
+use Rattle.std.specs.Int.{bit_at}
+use Rattle.std.specs.List.{AllByRecursion}
+use Rattle.std.proofs.lemmas.Bool.{cases_Bool, eq-eqb, ne_eqb, cases_eq, or_parts, or_left, or_right}
+use Rattle.std.proofs.lemmas.List.{append-nil, append_assoc}
+use Rattle.std.proofs.lemmas.List.Folds.{list_any-append}
+use Rattle.std.proofs.lemmas.List.Sums.{fold-append}
+use Rattle.std.proofs.lemmas.Nat.{pow_pos}
+use Rattle.std.proofs.lemmas.Nat.Bits.{bit_at-zero, bit_at_or, bit_at-pow_same, bit_at-pow_other, and_pow}
+use Rattle.compression.proofs.Elements.{in_head, in_tail, in_none, in_cases}
+use Rattle.compression.specs.Role.{has_point_of}
+use Rattle.compression.specs.Clusters.{Point, Cluster, has_master, with_first, firsts, members_of}
+
+-- one more point at the end
+pub firsts-push : (xs : List Point) (p : Point) → firsts (xs ++ p ∷ []) ≡ with_first (firsts xs) p
+firsts-push xs p = fold-append with_first [] xs (p ∷ [])
+
+pub with_first-old : (xs : List Point) (p : Point) → has_master xs p.master ≡ true → with_first xs p ≡ xs
+with_first-old xs p e = rw e refl
+
+pub with_first-new : (xs : List Point) (p : Point) → has_master xs p.master ≡ false → with_first xs p ≡ xs ++ p ∷ []
+with_first-new xs p e = rw e refl
+
+-- what counts so far stays in front; what follows are points of masters that have none there
+pub record Counts (acc xs : List Point) : Type 0 where
+  pub more : List Point
+  pub is : fold with_first acc xs ≡ acc ++ more
+  pub each : AllByRecursion (λ q. Contains xs q × (has_master acc q.master ≡ false)) more
+
+also_in : (x : Point) (acc acc' xs : List Point) → ((m : ℕ) → has_master acc' m ≡ false → has_master acc m ≡ false) → (qs : List Point) → AllByRecursion (λ q. Contains xs q × (has_master acc' q.master ≡ false)) qs → AllByRecursion (λ q. Contains (x ∷ xs) q × (has_master acc q.master ≡ false)) qs
+also_in x acc acc' xs fewer [] all = tt
+also_in x acc acc' xs fewer (q ∷ qs) all = ((in_tail x q xs all.0.0, fewer q.master all.0.1), also_in x acc acc' xs fewer qs all.1)
+
+fewer_masters : (acc : List Point) (x : Point) (m : ℕ) → has_master (acc ++ x ∷ []) m ≡ false → has_master acc m ≡ false
+fewer_masters acc x m none = (or_parts (has_master acc m) (has_master (x ∷ []) m) (sym (list_any-append (λ q. q.master == m) acc (x ∷ [])) ∙ none)).0
+
+pub counts : (acc xs : List Point) → Counts acc xs
+counts acc [] = record { more = []; is = sym (append-nil acc); each = tt }
+counts acc (x ∷ xs) =
+    elim (cases_Bool (has_master acc x.master)) [
+      | inl old ↦
+          let rest = counts acc xs in
+          record {
+            more = rest.more;
+            is = ap (λ (a : List Point). fold with_first a xs) (with_first-old acc x old) ∙ rest.is;
+            each = also_in x acc acc xs (λ m none. none) rest.more rest.each;
+          }
+      | inr new ↦
+          let rest = counts (acc ++ x ∷ []) xs in
+          record {
+            more = x ∷ rest.more;
+            is = ap (λ (a : List Point). fold with_first a xs) (with_first-new acc x new) ∙ rest.is ∙ append_assoc acc (x ∷ []) rest.more;
+            each = ((in_head x xs, new), also_in x acc (acc ++ x ∷ []) xs (λ m none. fewer_masters acc x m none) rest.more rest.each);
+          }
+    ]
+
+-- the first point counts
+pub firsts-start : (o : Point) (xs : List Point) → (more : List Point) × (firsts (o ∷ xs) ≡ o ∷ more)
+firsts-start o xs = let c = counts (o ∷ []) xs in (c.more, c.is)
+
+-- a master of which a point counts already, and one of which a point comes
+has_more : (acc more : List Point) (m : ℕ) → has_master acc m ≡ true → has_master (acc ++ more) m ≡ true
+has_more acc more m has = list_any-append (λ q. q.master == m) acc more ∙ or_left (has_master acc m) (has_master more m) has
+
+has_with_first : (acc : List Point) (x : Point) → has_master (with_first acc x) x.master ≡ true
+has_with_first acc x =
+    elim (cases_Bool (has_master acc x.master)) [
+      | inl old ↦ ap (λ (a : List Point). has_master a x.master) (with_first-old acc x old) ∙ old
+      | inr new ↦
+          ap (λ (a : List Point). has_master a x.master) (with_first-new acc x new)
+          ∙ list_any-append (λ q. q.master == x.master) acc (x ∷ [])
+          ∙ or_right (has_master acc x.master) (has_master (x ∷ []) x.master) (or_left (x.master == x.master) false (eq-eqb x.master x.master refl))
+    ]
+
+has_fold : (acc xs : List Point) (y : Point) → Contains xs y → has_master (fold with_first acc xs) y.master ≡ true
+has_fold acc [] y at = absurd (in_none y at)
+has_fold acc (x ∷ xs) y at =
+    elim (in_cases x y xs at) [
+      | inl e ↦
+          let rest = counts (with_first acc x) xs in
+          subst (λ (q : Point). has_master (fold with_first acc (x ∷ xs)) q.master ≡ true) e
+          (ap (λ (a : List Point). has_master a x.master) rest.is ∙ has_more (with_first acc x) rest.more x.master (has_with_first acc x))
+      | inr here ↦ has_fold (with_first acc x) xs y here
+    ]
+
+-- each point's master has one that counts
+pub firsts-has : (xs : List Point) (y : Point) → Contains xs y → has_master (firsts xs) y.master ≡ true
+firsts-has xs y at = has_fold [] xs y at
+
+bit_of-at_most : (b : Bool) → cond b 1 0 ≤ 1
+bit_of-at_most true = omega arith
+bit_of-at_most false = omega arith
+
+bit_at-fold : (a : ℕ) (xs : List Point) (m : ℕ) → bit_at (fold (λ members q. bit_or members (2 ^ q.master)) a xs) m ≡ max (bit_at a m) (cond (has_master xs m) 1 0)
+bit_at-fold a [] m = omega arith
+bit_at-fold a (x ∷ xs) m =
+    let rest : bit_at (fold (λ members q. bit_or members (2 ^ q.master)) (bit_or a (2 ^ x.master)) xs) m ≡ max (bit_at (bit_or a (2 ^ x.master)) m) (cond (has_master xs m) 1 0) = bit_at-fold (bit_or a (2 ^ x.master)) xs m in
+    let step : bit_at (bit_or a (2 ^ x.master)) m ≡ max (bit_at a m) (bit_at (2 ^ x.master) m) = bit_at_or a (2 ^ x.master) m in
+    let small = bit_of-at_most (has_master xs m) in
+    elim (cases_eq x.master m) [
+      | inl same ↦
+          let set : bit_at (2 ^ x.master) m ≡ 1 = subst (λ (k : ℕ). bit_at (2 ^ x.master) k ≡ 1) same (bit_at-pow_same x.master) in
+          rw (eq-eqb x.master m same) (omega (arith, rest, step, set, small))
+      | inr other ↦
+          let clear : bit_at (2 ^ x.master) m ≡ 0 = bit_at-pow_other x.master m (λ e. other (sym e)) in
+          rw (ne_eqb x.master m other) (omega (arith, rest, step, clear, small))
+    ]
+
+-- the bit of a master that has no point is clear
+pub members_of-clear : (xs : List Point) (m : ℕ) → has_master xs m ≡ false → bit_and (members_of xs) (2 ^ m) ≡ 0
+members_of-clear xs m e =
+    let bit : bit_at (members_of xs) m ≡ max (bit_at 0 m) (cond (has_master xs m) 1 0) = bit_at-fold 0 xs m in
+    let none : bit_at (members_of xs) m ≡ 0 = bit ∙ (rw e (omega (arith, bit_at-zero m))) in
+    let and = rw none at (and_pow (members_of xs) m) in
+    omega (arith, and)
+
+-- and that of one that has is set
+pub members_of-set : (xs : List Point) (m : ℕ) → has_master xs m ≡ true → bit_and (members_of xs) (2 ^ m) ≡ 0 → ⊥
+members_of-set xs m e zero_is =
+    let bit : bit_at (members_of xs) m ≡ max (bit_at 0 m) (cond (has_master xs m) 1 0) = bit_at-fold 0 xs m in
+    let one : bit_at (members_of xs) m ≡ 1 = bit ∙ (rw e (omega (arith, bit_at-zero m))) in
+    let and = rw one at (and_pow (members_of xs) m) in
+    absurd (omega (arith, and, zero_is, pow_pos m))
+
+-- so the set of members tells whether a master has a point
+pub has_point_of-is : (c : Cluster) (xs : List Point) (m : ℕ) → c.members ≡ members_of xs → has_point_of c m ≡ has_master xs m
+has_point_of-is c xs m e =
+    elim (cases_Bool (has_master xs m)) [
+      | inl has ↦ ap not (ne_eqb (bit_and c.members (2 ^ m)) 0 (λ z. members_of-set xs m has (ap (λ (s : ℕ). bit_and s (2 ^ m)) (sym e) ∙ z))) ∙ sym has
+      | inr none ↦ ap not (eq-eqb (bit_and c.members (2 ^ m)) 0 (ap (λ (s : ℕ). bit_and s (2 ^ m)) e ∙ members_of-clear xs m none)) ∙ sym none
+    ]
+
+pub members_of-push : (xs : List Point) (p : Point) → members_of (xs ++ p ∷ []) ≡ bit_or (members_of xs) (2 ^ p.master)
+members_of-push xs p = fold-append (λ members q. bit_or members (2 ^ q.master)) 0 xs (p ∷ [])

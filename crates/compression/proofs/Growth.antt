@@ -1,0 +1,268 @@
+-- What one more point does to the clusters of a list.
+use Rattle.std.proofs.Common.{◌≡◌, ◌≢◌, ◌∙◌, inl, inr, ℕ, ◌^◌, ◌<◌, ◌≤◌, ℤ, pos, ◌+ℤ◌, ◌*ℤ◌, ◌≤ℤ◌, ◌<ℤ◌, List, [], ◌∷◌, ◌++◌, length, map, ap, refl, sym, subst, arith, true, false}
+use Rattle.std.specs.Prelude.{int_le, int_lt, nat_le, bit_or, if◌then◌else◌}
+use Rattle.std.specs.List.{AllByRecursion}
+use Rattle.std.proofs.lemmas.Int.{ints}
+use Rattle.std.specs.Int.Bits.{or_zero_l}
+use Rattle.std.proofs.lemmas.Bool.{cases_Bool, cases_eq, cases_lt, le-leb, lt-leb}
+use Rattle.std.proofs.lemmas.List.{length-append, map-append}
+use Rattle.compression.specs.Clusters.{Point, Cluster, of_cycle_within, beyond, has_master, with_first, firsts, members_of, end_of, cluster_of, AreClusters}
+use Rattle.compression.specs.Collection.{opening, joined_end, joined}
+use Rattle.compression.specs.Role.{has_point_of}
+use Rattle.compression.proofs.Firsts.{firsts-push, with_first-old, with_first-new, firsts-start, has_point_of-is, members_of-push}
+use Rattle.compression.proofs.Held.{held-push_in, held-push_beyond, held-push_other, int_lt-false, held-start, beyond-push_in, beyond-push_out, beyond-later, held-same}
+
+-- the points that count in the cluster that o opens, and those of its first window
+abbrev pub counted : ℤ → Point → List Point → List Point
+counted to o ps = firsts (of_cycle_within o.cycle o.reading to ps)
+
+abbrev pub window_end : ℤ → Point → ℤ
+window_end ow o = o.reading +ℤ ow
+
+abbrev pub extended_end : ℤ → Point → ℤ
+extended_end ow o = o.reading +ℤ (pos 2 *ℤ ow)
+
+-- the end by the number of masters in the first window
+pub end_of-one : (ow : ℤ) (o : Point) (ps : List Point) → length (counted (window_end ow o) o ps) < 2 → end_of ow o ps ≡ window_end ow o
+end_of-one ow o ps few = rw (lt-leb 2 (length (counted (window_end ow o) o ps)) few) refl
+
+pub end_of-two : (ow : ℤ) (o : Point) (ps : List Point) → 2 ≤ length (counted (window_end ow o) o ps) → end_of ow o ps ≡ extended_end ow o
+end_of-two ow o ps many = rw (le-leb 2 (length (counted (window_end ow o) o ps)) many) refl
+
+-- a point with which the first window stays as it was leaves the end
+pub end_of-same : (ow : ℤ) (o : Point) (ps qs : List Point) → counted (window_end ow o) o qs ≡ counted (window_end ow o) o ps → end_of ow o qs ≡ end_of ow o ps
+end_of-same ow o ps qs e = ap (λ (n : ℕ). if nat_le 2 n then extended_end ow o else window_end ow o) (ap length e)
+
+-- the cluster of an opener by its end and what counts
+abbrev pub cluster_by : Point → ℤ → List Point → Cluster
+cluster_by o end counts = record { opened = o.reading; end = end; cycle = o.cycle; points = map (λ q. q.reading) counts; members = members_of counts }
+
+pub end_of-least : (ow : ℤ) (o : Point) (ps : List Point) → pos 0 ≤ℤ ow → window_end ow o ≤ℤ end_of ow o ps
+end_of-least ow o ps some =
+    elim (cases_Bool (nat_le 2 (length (counted (window_end ow o) o ps)))) [
+      | inl two ↦ rw two (omega (arith, ints))
+      | inr one ↦ rw one (omega (arith, ints))
+    ]
+
+-- a point beyond the end changes nothing
+pub cluster_of-beyond : (ow : ℤ) (o : Point) (ps : List Point) (p : Point) → pos 0 ≤ℤ ow → end_of ow o ps <ℤ p.reading → cluster_of ow o (ps ++ p ∷ []) ≡ cluster_of ow o ps
+cluster_of-beyond ow o ps p some past =
+    let least = end_of-least ow o ps some in
+    let first : of_cycle_within o.cycle o.reading (window_end ow o) (ps ++ p ∷ []) ≡ of_cycle_within o.cycle o.reading (window_end ow o) ps =
+    held-push_beyond o.cycle o.reading (window_end ow o) ps p (omega (arith, ints, least, past)) in
+    let end : end_of ow o (ps ++ p ∷ []) ≡ end_of ow o ps = end_of-same ow o ps (ps ++ p ∷ []) (ap firsts first) in
+    let held : of_cycle_within o.cycle o.reading (end_of ow o ps) (ps ++ p ∷ []) ≡ of_cycle_within o.cycle o.reading (end_of ow o ps) ps =
+    held-push_beyond o.cycle o.reading (end_of ow o ps) ps p past in
+    ap (λ (e : ℤ). cluster_by o e (counted e o (ps ++ p ∷ []))) end ∙ ap (λ (h : List Point). cluster_by o (end_of ow o ps) (firsts h)) held
+
+-- nor does one of another cycle
+pub cluster_of-other : (ow : ℤ) (o : Point) (ps : List Point) (p : Point) → p.cycle ≢ o.cycle → cluster_of ow o (ps ++ p ∷ []) ≡ cluster_of ow o ps
+cluster_of-other ow o ps p other =
+    let first : of_cycle_within o.cycle o.reading (window_end ow o) (ps ++ p ∷ []) ≡ of_cycle_within o.cycle o.reading (window_end ow o) ps =
+    held-push_other o.cycle o.reading (window_end ow o) ps p other in
+    let end : end_of ow o (ps ++ p ∷ []) ≡ end_of ow o ps = end_of-same ow o ps (ps ++ p ∷ []) (ap firsts first) in
+    let held : of_cycle_within o.cycle o.reading (end_of ow o ps) (ps ++ p ∷ []) ≡ of_cycle_within o.cycle o.reading (end_of ow o ps) ps =
+    held-push_other o.cycle o.reading (end_of ow o ps) ps p other in
+    ap (λ (e : ℤ). cluster_by o e (counted e o (ps ++ p ∷ []))) end ∙ ap (λ (h : List Point). cluster_by o (end_of ow o ps) (firsts h)) held
+
+pub end_of-most : (ow : ℤ) (o : Point) (ps : List Point) → pos 0 ≤ℤ ow → end_of ow o ps ≤ℤ extended_end ow o
+end_of-most ow o ps some =
+    elim (cases_Bool (nat_le 2 (length (counted (window_end ow o) o ps)))) [
+      | inl two ↦ rw two (omega (arith, ints))
+      | inr one ↦ rw one (omega (arith, ints))
+    ]
+
+-- a point of the opener's cycle that comes to a cluster beyond which there is none yet
+pub record Comes (ow : ℤ) (o : Point) (ps : List Point) (p : Point) : Type 0 where
+  pub some : pos 0 ≤ℤ ow
+  pub none : beyond (end_of ow o ps) ps ≡ []
+  pub same : p.cycle ≡ o.cycle
+  pub low : o.reading ≤ℤ p.reading
+  pub high : p.reading ≤ℤ end_of ow o ps
+  pub starts : (more : List Point) × (counted (window_end ow o) o ps ≡ o ∷ more)
+
+-- what counts up to an end that is not before the cluster's
+counted-push : (ow : ℤ) (o : Point) (ps : List Point) (p : Point) → Comes ow o ps p → (end : ℤ) → end_of ow o ps ≤ℤ end → counted end o (ps ++ p ∷ []) ≡ with_first (counted (end_of ow o ps) o ps) p
+counted-push ow o ps p comes end le =
+    let held = held-push_in o.cycle o.reading end ps p comes.same comes.low (omega (arith, ints, comes.high, le)) in
+    let same = held-same o.cycle o.reading (end_of ow o ps) end ps le comes.none in
+    ap firsts (held ∙ ap (λ (h : List Point). h ++ p ∷ []) same) ∙ firsts-push (of_cycle_within o.cycle o.reading (end_of ow o ps) ps) p
+
+-- what counts in the first window with a point that lies in it, and with one that does not
+window-push_in : (ow : ℤ) (o : Point) (ps : List Point) (p : Point) → Comes ow o ps p → p.reading ≤ℤ window_end ow o → counted (window_end ow o) o (ps ++ p ∷ []) ≡ with_first (counted (window_end ow o) o ps) p
+window-push_in ow o ps p comes first =
+    ap firsts (held-push_in o.cycle o.reading (window_end ow o) ps p comes.same comes.low first) ∙ firsts-push (of_cycle_within o.cycle o.reading (window_end ow o) ps) p
+
+window-push_out : (ow : ℤ) (o : Point) (ps : List Point) (p : Point) → window_end ow o <ℤ p.reading → counted (window_end ow o) o (ps ++ p ∷ []) ≡ counted (window_end ow o) o ps
+window-push_out ow o ps p past = ap firsts (held-push_beyond o.cycle o.reading (window_end ow o) ps p past)
+
+length-with_first : (xs : List Point) (p : Point) → length xs ≤ length (with_first xs p)
+length-with_first xs p =
+    elim (cases_Bool (has_master xs p.master)) [
+      | inl old ↦ rw (with_first-old xs p old) (omega arith)
+      | inr new ↦ rw (with_first-new xs p new, length-append) (omega arith)
+    ]
+
+-- where the first window has one master, the cluster has no more
+one_window : (ow : ℤ) (o : Point) (ps : List Point) → length (counted (window_end ow o) o ps) < 2 → counted (end_of ow o ps) o ps ≡ counted (window_end ow o) o ps
+one_window ow o ps few = ap (λ (e : ℤ). counted e o ps) (end_of-one ow o ps few)
+
+-- the end with the point of a master that has none there
+end_of-joined : (ow : ℤ) (o : Point) (ps : List Point) (p : Point) → Comes ow o ps p → has_master (counted (end_of ow o ps) o ps) p.master ≡ false → end_of ow o (ps ++ p ∷ []) ≡ joined_end ow (cluster_of ow o ps) p.reading
+end_of-joined ow o ps p comes new =
+    elim (cases_Bool (int_le p.reading (window_end ow o))) [
+      | inl inside ↦
+          let first : p.reading ≤ℤ window_end ow o = grind (arith, ints, inside) in
+          let push = window-push_in ow o ps p comes first in
+          let two : 2 ≤ length (counted (window_end ow o) o (ps ++ p ∷ [])) =
+          elim (cases_lt (length (counted (window_end ow o) o ps)) 2) [
+            | inl few ↦
+                let fresh : has_master (counted (window_end ow o) o ps) p.master ≡ false = rw (one_window ow o ps few) at new in
+                let one : length (counted (window_end ow o) o ps) ≡ length (o ∷ comes.starts.0) = ap length comes.starts.1 in
+                rw (push, with_first-new (counted (window_end ow o) o ps) p fresh, length-append) (omega (arith, one))
+            | inr many ↦ rw push (omega (arith, many, length-with_first (counted (window_end ow o) o ps) p))
+          ] in
+          end_of-two ow o (ps ++ p ∷ []) two ∙ sym (rw inside refl)
+      | inr outside ↦
+          let past : window_end ow o <ℤ p.reading = grind (arith, ints, outside) in
+          end_of-same ow o ps (ps ++ p ∷ []) (window-push_out ow o ps p past) ∙ sym (rw outside refl)
+    ]
+
+-- the end with the point of a master that has one there
+end_of-repeat : (ow : ℤ) (o : Point) (ps : List Point) (p : Point) → Comes ow o ps p → has_master (counted (end_of ow o ps) o ps) p.master ≡ true → end_of ow o (ps ++ p ∷ []) ≡ end_of ow o ps
+end_of-repeat ow o ps p comes old =
+    elim (cases_Bool (int_le p.reading (window_end ow o))) [
+      | inl inside ↦
+          let first : p.reading ≤ℤ window_end ow o = grind (arith, ints, inside) in
+          let push = window-push_in ow o ps p comes first in
+          elim (cases_lt (length (counted (window_end ow o) o ps)) 2) [
+            | inl few ↦
+                let there : has_master (counted (window_end ow o) o ps) p.master ≡ true = rw (one_window ow o ps few) at old in
+                end_of-same ow o ps (ps ++ p ∷ []) (push ∙ with_first-old (counted (window_end ow o) o ps) p there)
+            | inr many ↦
+                let two : 2 ≤ length (counted (window_end ow o) o (ps ++ p ∷ [])) = rw push (omega (arith, many, length-with_first (counted (window_end ow o) o ps) p)) in
+                end_of-two ow o (ps ++ p ∷ []) two ∙ sym (end_of-two ow o ps many)
+          ]
+      | inr outside ↦
+          let past : window_end ow o <ℤ p.reading = grind (arith, ints, outside) in
+          end_of-same ow o ps (ps ++ p ∷ []) (window-push_out ow o ps p past)
+    ]
+
+joined_end-later : (ow : ℤ) (o : Point) (ps : List Point) (reading : ℤ) → pos 0 ≤ℤ ow → end_of ow o ps ≤ℤ joined_end ow (cluster_of ow o ps) reading
+joined_end-later ow o ps reading some =
+    let most = end_of-most ow o ps some in
+    elim (cases_Bool (int_le reading (window_end ow o))) [
+      | inl inside ↦ rw inside most
+      | inr outside ↦ rw outside (omega (arith, ints))
+    ]
+
+abbrev pub cluster_with : Point → ℤ → List ℤ → ℕ → Cluster
+cluster_with o end points members = record { opened = o.reading; end = end; cycle = o.cycle; points = points; members = members }
+
+cluster_by-push : (o : Point) (end : ℤ) (counts : List Point) (p : Point) → cluster_by o end (counts ++ p ∷ []) ≡ cluster_with o end (map (λ q. q.reading) counts ++ p.reading ∷ []) (bit_or (members_of counts) (2 ^ p.master))
+cluster_by-push o end counts p =
+    ap (λ (points : List ℤ). cluster_with o end points (members_of (counts ++ p ∷ []))) (map-append (λ (q : Point). q.reading) counts (p ∷ []))
+    ∙ ap (λ (members : ℕ). cluster_with o end (map (λ q. q.reading) counts ++ p.reading ∷ []) members) (members_of-push counts p)
+
+-- the cluster with a point that joins
+pub cluster_of-joined : (ow : ℤ) (o : Point) (ps : List Point) (p : Point) → Comes ow o ps p → has_point_of (cluster_of ow o ps) p.master ≡ false → cluster_of ow o (ps ++ p ∷ []) ≡ joined ow (cluster_of ow o ps) p.reading p.master
+cluster_of-joined ow o ps p comes new =
+    let counts = counted (end_of ow o ps) o ps in
+    let end = joined_end ow (cluster_of ow o ps) p.reading in
+    let fresh : has_master counts p.master ≡ false = sym (has_point_of-is (cluster_of ow o ps) counts p.master refl) ∙ new in
+    ap (λ (e : ℤ). cluster_by o e (counted e o (ps ++ p ∷ []))) (end_of-joined ow o ps p comes fresh)
+    ∙ ap (cluster_by o end) (counted-push ow o ps p comes end (joined_end-later ow o ps p.reading comes.some) ∙ with_first-new counts p fresh)
+    ∙ cluster_by-push o end counts p
+
+-- the cluster with a point that repeats
+pub cluster_of-repeat : (ow : ℤ) (o : Point) (ps : List Point) (p : Point) → Comes ow o ps p → has_point_of (cluster_of ow o ps) p.master ≡ true → cluster_of ow o (ps ++ p ∷ []) ≡ cluster_of ow o ps
+cluster_of-repeat ow o ps p comes old =
+    let counts = counted (end_of ow o ps) o ps in
+    let end = end_of ow o ps in
+    let there : has_master counts p.master ≡ true = sym (has_point_of-is (cluster_of ow o ps) counts p.master refl) ∙ old in
+    ap (λ (e : ℤ). cluster_by o e (counted e o (ps ++ p ∷ []))) (end_of-repeat ow o ps p comes there)
+    ∙ ap (cluster_by o end) (counted-push ow o ps p comes end (omega (arith, ints)) ∙ with_first-old counts p there)
+
+alone : (p : Point) (to : ℤ) → p.reading ≤ℤ to → counted to p (p ∷ []) ≡ p ∷ []
+alone p to within = ap firsts (held-start p to [] within)
+
+-- the cluster that one point opens
+pub cluster_of-alone : (ow : ℤ) (p : Point) → pos 0 ≤ℤ ow → cluster_of ow p (p ∷ []) ≡ opening ow p
+cluster_of-alone ow p some =
+    let within : p.reading ≤ℤ window_end ow p = omega (arith, ints) in
+    let few : length (counted (window_end ow p) p (p ∷ [])) < 2 = rw (alone p (window_end ow p) within) (omega arith) in
+    ap (λ (e : ℤ). cluster_by p e (counted e p (p ∷ []))) (end_of-one ow p (p ∷ []) few)
+    ∙ ap (cluster_by p (window_end ow p)) (alone p (window_end ow p) within)
+    ∙ ap (cluster_with p (window_end ow p) (p.reading ∷ [])) (or_zero_l (2 ^ p.master))
+
+-- the first point counts in the first window
+pub window-starts : (ow : ℤ) (o : Point) (ps : List Point) → pos 0 ≤ℤ ow → (more : List Point) × (counted (window_end ow o) o (o ∷ ps) ≡ o ∷ more)
+window-starts ow o ps some =
+    let held = held-start o (window_end ow o) ps (omega (arith, ints)) in
+    let start = firsts-start o (of_cycle_within o.cycle o.reading (window_end ow o) ps) in
+    (start.0, ap firsts held ∙ start.1)
+
+-- the same, of a point that may be of another cycle
+abbrev pub Comes' : ℤ → Point → List Point → Point → Type 0
+Comes' ow o ps p = p.cycle ≡ o.cycle → Comes ow o ps p
+
+no_clusters : (ow : ℤ) (ps : List Point) → AreClusters ow ps [] → ps ≡ []
+no_clusters ow [] are = refl
+no_clusters ow (o ∷ ps) are = absurd are
+
+-- a point that comes after all clusters opens another
+pub AreClusters-opened : (ow : ℤ) (ps : List Point) (cs : List Cluster) (p : Point) → pos 0 ≤ℤ ow → AreClusters ow ps cs → AllByRecursion (λ c. c.end <ℤ p.reading) cs → AreClusters ow (ps ++ p ∷ []) (cs ++ opening ow p ∷ [])
+AreClusters-opened ow [] [] p some are past = (sym (cluster_of-alone ow p some), tt)
+AreClusters-opened ow [] (c ∷ cs) p some are past = absurd are
+AreClusters-opened ow (o ∷ ps) [] p some are past = absurd are
+AreClusters-opened ow (o ∷ ps) (c ∷ cs) p some are past =
+    let beyond_end : end_of ow o (o ∷ ps) <ℤ p.reading = subst (λ (k : Cluster). k.end <ℤ p.reading) are.0 past.0 in
+    let rest = AreClusters-opened ow (beyond c.end ps) cs p some are.1 past.1 in
+    (are.0 ∙ sym (cluster_of-beyond ow o (o ∷ ps) p some beyond_end), subst (λ (qs : List Point). AreClusters ow qs (cs ++ opening ow p ∷ [])) (sym (beyond-push_out c.end ps p past.0)) rest)
+
+-- the cluster that is open, with a point that is not beyond it
+pub record Grows (ow : ℤ) (c d : Cluster) (p : Point) : Type 0 where
+  pub other : p.cycle ≢ c.cycle → d ≡ c
+  pub repeat : p.cycle ≡ c.cycle → has_point_of c p.master ≡ true → d ≡ c
+  pub joins : p.cycle ≡ c.cycle → has_point_of c p.master ≡ false → d ≡ joined ow c p.reading p.master
+
+grows_whole : (ow : ℤ) (o : Point) (ps : List Point) (d : Cluster) (p : Point) → Comes' ow o ps p → Grows ow (cluster_of ow o ps) d p → d ≡ cluster_of ow o (ps ++ p ∷ [])
+grows_whole ow o ps d p comes grows =
+    elim (cases_eq p.cycle o.cycle) [
+      | inl same ↦
+          let here = comes same in
+          elim (cases_Bool (has_point_of (cluster_of ow o ps) p.master)) [
+            | inl old ↦ grows.repeat same old ∙ sym (cluster_of-repeat ow o ps p here old)
+            | inr new ↦ grows.joins same new ∙ sym (cluster_of-joined ow o ps p here new)
+          ]
+      | inr other ↦ grows.other other ∙ sym (cluster_of-other ow o ps p other)
+    ]
+
+cluster_of-grows : (ow : ℤ) (o : Point) (ps : List Point) (c d : Cluster) (p : Point) → pos 0 ≤ℤ ow → c ≡ cluster_of ow o (o ∷ ps) → beyond c.end ps ≡ [] → c.opened ≤ℤ p.reading → p.reading ≤ℤ c.end → Grows ow c d p → d ≡ cluster_of ow o ((o ∷ ps) ++ p ∷ [])
+cluster_of-grows ow o ps c d p some is none low high grows =
+    let k = cluster_of ow o (o ∷ ps) in
+    let least = end_of-least ow o (o ∷ ps) some in
+    let none' : beyond (end_of ow o (o ∷ ps)) ps ≡ [] = subst (λ (x : Cluster). beyond x.end ps ≡ []) is none in
+    let start : int_lt (end_of ow o (o ∷ ps)) o.reading ≡ false = int_lt-false (end_of ow o (o ∷ ps)) o.reading (omega (arith, ints, least, some)) in
+    let comes : Comes' ow o (o ∷ ps) p = λ same. record {
+      some = some;
+      none = rw start none';
+      same = same;
+      low = subst (λ (x : Cluster). x.opened ≤ℤ p.reading) is low;
+      high = subst (λ (x : Cluster). p.reading ≤ℤ x.end) is high;
+      starts = window-starts ow o ps some;
+    } in
+    grows_whole ow o (o ∷ ps) d p comes (subst (λ (x : Cluster). Grows ow x d p) is grows)
+
+-- a point that is not beyond the last cluster
+pub AreClusters-within : (ow : ℤ) (ps : List Point) (cs : List Cluster) (c d : Cluster) (p : Point) → pos 0 ≤ℤ ow → AreClusters ow ps (cs ++ c ∷ []) → AllByRecursion (λ k. k.end <ℤ p.reading) cs → c.opened ≤ℤ p.reading → p.reading ≤ℤ c.end → c.end ≤ℤ d.end → Grows ow c d p → AreClusters ow (ps ++ p ∷ []) (cs ++ d ∷ [])
+AreClusters-within ow [] [] c d p some are past low high longer grows = absurd are
+AreClusters-within ow [] (k ∷ cs) c d p some are past low high longer grows = absurd are
+AreClusters-within ow (o ∷ ps) [] c d p some are past low high longer grows =
+    let none : beyond c.end ps ≡ [] = no_clusters ow (beyond c.end ps) are.1 in
+    let still : beyond d.end (ps ++ p ∷ []) ≡ [] = beyond-push_in d.end ps p (omega (arith, ints, high, longer)) ∙ beyond-later c.end d.end ps longer none in
+    (cluster_of-grows ow o ps c d p some are.0 none low high grows, subst (λ (qs : List Point). AreClusters ow qs []) (sym still) tt)
+AreClusters-within ow (o ∷ ps) (k ∷ cs) c d p some are past low high longer grows =
+    let beyond_end : end_of ow o (o ∷ ps) <ℤ p.reading = subst (λ (x : Cluster). x.end <ℤ p.reading) are.0 past.0 in
+    let rest = AreClusters-within ow (beyond k.end ps) cs c d p some are.1 past.1 low high longer grows in
+    (are.0 ∙ sym (cluster_of-beyond ow o (o ∷ ps) p some beyond_end), subst (λ (qs : List Point). AreClusters ow qs (cs ++ d ∷ [])) (sym (beyond-push_out k.end ps p past.0)) rest)

@@ -1,0 +1,17 @@
+pub mod Ascents
+pub mod Middles
+pub mod Collections
+pub mod Roles
+pub mod Firsts
+pub mod Held
+pub mod Growth
+pub mod Rows
+pub mod Sound
+pub mod Standing
+pub mod Taking
+pub mod Emitting
+pub mod MiddleLaws
+pub mod Elements
+pub mod Times
+pub mod Together
+pub mod Rooms

@@ -1,0 +1,23 @@
+-- The role of a point by the last cluster.
+use Rattle.std.proofs.Common.{◌≡◌, ℤ, ◌≤ℤ◌, ◌<ℤ◌, List, refl, arith, Some, None}
+use Rattle.std.proofs.lemmas.Int.{ints}
+use Rattle.std.specs.Prelude.{int_lt, true, false}
+use Rattle.std.specs.List.{last_or}
+use Rattle.compression.specs.Clusters.{Cluster}
+use Rattle.compression.specs.Role.{open_at}
+
+-- up to its end the last is open
+pub open_at-in : (cs : List Cluster) (c : Cluster) (reading : ℤ) → last_or None cs ≡ Some c → reading ≤ℤ c.end → open_at cs reading ≡ Some c
+open_at-in cs c reading last within =
+    let e : int_lt c.end reading ≡ false = grind (arith, ints) in
+    rw (last, e) refl
+
+-- beyond it none is
+pub open_at-beyond : (cs : List Cluster) (c : Cluster) (reading : ℤ) → last_or None cs ≡ Some c → c.end <ℤ reading → open_at cs reading ≡ None
+open_at-beyond cs c reading last past =
+    let e : int_lt c.end reading ≡ true = grind (arith, ints) in
+    rw (last, e) refl
+
+-- nor where there is none
+pub open_at-none : (cs : List Cluster) (reading : ℤ) → last_or None cs ≡ None → open_at cs reading ≡ None
+open_at-none cs reading last = rw last refl

@@ -1,0 +1,144 @@
+-- What is true of every collector stays true.
+use Rattle.std.proofs.Common.{◌≡◌, ◌∙◌, inl, inr, ℕ, ◌<◌, ℤ, pos, ◌+ℤ◌, ◌-ℤ◌, ◌*ℤ◌, ◌≤ℤ◌, ◌<ℤ◌, List, [], ◌∷◌, ◌++◌, length, map, ap, refl, sym, subst, arith, Option, Some, None}
+use Rattle.std.specs.Prelude.{int_lt, int_le, All}
+use Rattle.std.specs.List.{last_or, AllByRecursion}
+use Rattle.std.proofs.lemmas.Int.{ints}
+use Rattle.std.proofs.lemmas.Bool.{cases_Bool}
+use Rattle.std.proofs.lemmas.List.Elements.{recursion_from_All}
+use Rattle.compression.specs.Reading.{greatest_reading}
+use Rattle.compression.specs.Ascent.{MayFollow, last_from}
+use Rattle.compression.specs.Clusters.{Point, Cluster}
+use Rattle.compression.specs.Emission.{emission}
+use Rattle.compression.specs.Role.{open_at}
+use Rattle.compression.specs.Collection.{opening, joined_end, joined}
+use Rattle.compression.specs.Collecting.{Collecting, with_opened, with_joined, emissions}
+use Rattle.compression.specs.Row.{IsCollection, IsRow, IsSound}
+use Rattle.compression.proofs.Ascents.{IsAscending-push}
+use Rattle.compression.proofs.Rows.{last_split, last_or-none, opened-before, row_last, row-push, row-replace, row-room, MayFollow-later}
+
+none_is_some : (c : Cluster) → Some c ≡ None → ⊥
+none_is_some c e = cc
+
+-- what is open at a reading is the last, and ends no earlier
+pub open_at-some : (cs : List Cluster) (reading : ℤ) (c : Cluster) → open_at cs reading ≡ Some c → (last_or None cs ≡ Some c) × (reading ≤ℤ c.end)
+open_at-some cs reading c e =
+    by_last (last_or None cs) refl
+  where
+    by_last : (o : Option Cluster) → last_or None cs ≡ o → (last_or None cs ≡ Some c) × (reading ≤ℤ c.end)
+    by_last None l = absurd (none_is_some c (sym (rw l at e)))
+    by_last (Some d) l =
+        elim (cases_Bool (int_lt d.end reading)) [
+          | inl past ↦ absurd (none_is_some c (sym (rw (l, past) at e)))
+          | inr here ↦
+              let same : Some d ≡ Some c = rw (l, here) at e in
+              let is : d ≡ c = cc in
+              (l ∙ same, subst (λ (k : Cluster). reading ≤ℤ k.end) is (grind (arith, ints, here)))
+        ]
+
+-- where none is open, all ended before
+pub all_ended : (v : Collecting) (reading : ℤ) → IsSound v → v.earliest ≤ℤ reading → open_at v.waiting reading ≡ None → AllByRecursion (λ k. k.end <ℤ reading) v.waiting
+all_ended v reading sound order none =
+    by_last (last_or None v.waiting) refl
+  where
+    all_before : (o : ℤ) (ks : List Cluster) → o ≤ℤ reading → AllByRecursion (λ k. k.end <ℤ o) ks → AllByRecursion (λ k. k.end <ℤ reading) ks
+    all_before o [] le all = tt
+    all_before o (k ∷ ks) le all = (omega (arith, ints, le, all.0), all_before o ks le all.1)
+
+    all_push : (ks : List Cluster) (c : Cluster) → AllByRecursion (λ k. k.end <ℤ reading) ks → c.end <ℤ reading → AllByRecursion (λ k. k.end <ℤ reading) (ks ++ c ∷ [])
+    all_push [] c all past = (past, tt)
+    all_push (k ∷ ks) c all past = (all.0, all_push ks c all.1 past)
+
+    by_last : (o : Option Cluster) → last_or None v.waiting ≡ o → AllByRecursion (λ k. k.end <ℤ reading) v.waiting
+    by_last None l = subst (AllByRecursion (λ k. k.end <ℤ reading)) (sym (last_or-none v.waiting l)) tt
+    by_last (Some c) l =
+        elim (cases_Bool (int_lt c.end reading)) [
+          | inl ended ↦
+              let split = last_split v.waiting c l in
+              let last = row_last v.ow v.earliest split.0 c (subst (IsRow v.ow v.earliest) split.1 sound.row) in
+              let opened = opened-before v.ow c v.earliest last.collection last.may in
+              let past : c.end <ℤ reading = grind (arith, ints, ended) in
+              subst (AllByRecursion (λ k. k.end <ℤ reading)) (sym split.1) (all_push split.0 c (all_before c.opened split.0 (omega (arith, ints, opened, order)) last.before) past)
+          | inr here ↦ absurd (none_is_some c (rw (l, here) at none))
+        ]
+
+-- a collector with another collection
+pub IsSound-opened : (v : Collecting) (p : Point) → IsSound v → v.earliest ≤ℤ p.reading → p.reading ≤ℤ greatest_reading → open_at v.waiting p.reading ≡ None → IsSound (with_opened v p)
+IsSound-opened v p sound order high none =
+    let col : IsCollection v.ow (opening v.ow p) = record {
+      low = omega (arith, ints, order, sound.low);
+      high = high;
+      later = [];
+      points = refl;
+      rising = tt;
+      held = omega (arith, ints, sound.some, sound.short);
+      one = omega (arith, ints);
+      two = omega (arith, ints, sound.some, sound.short);
+    } in
+    record {
+      some = sound.some;
+      short = sound.short;
+      small = sound.small;
+      low = omega (arith, ints, order, sound.low);
+      row = row-push v.ow v.earliest p.reading v.waiting (opening v.ow p) sound.row (all_ended v p.reading sound order none) col (omega (arith, ints));
+    }
+
+last_from-push : (p : ℤ) (ps : List ℤ) (q : ℤ) → last_from p (ps ++ q ∷ []) ≡ q
+last_from-push p [] q = refl
+last_from-push p (r ∷ rs) q = last_from-push r rs q
+
+pub joined_end-within : (ow : ℤ) (c : Cluster) (reading : ℤ) → IsCollection ow c → pos 0 ≤ℤ ow → (c.end ≤ℤ joined_end ow c reading) × (joined_end ow c reading ≤ℤ (c.opened +ℤ (pos 2 *ℤ ow)))
+joined_end-within ow c reading col some =
+    elim (cases_Bool (int_le reading (c.opened +ℤ ow))) [
+      | inl inside ↦ rw inside (col.two, omega (arith, ints))
+      | inr outside ↦ rw outside (omega (arith, ints), col.two)
+    ]
+
+-- a collection with a point that joins it
+pub IsCollection-joined : (ow : ℤ) (c : Cluster) (reading : ℤ) (master : ℕ) → IsCollection ow c → pos 0 ≤ℤ ow → MayFollow c.points reading → reading ≤ℤ c.end → IsCollection ow (joined ow c reading master)
+IsCollection-joined ow c reading master col some may here =
+    let ends = joined_end-within ow c reading col some in
+    let may' : MayFollow (c.opened ∷ col.later) reading = subst (λ (ps : List ℤ). MayFollow ps reading) col.points may in
+    record {
+      low = col.low;
+      high = col.high;
+      later = col.later ++ reading ∷ [];
+      points = ap (λ (ps : List ℤ). ps ++ reading ∷ []) col.points;
+      rising = IsAscending-push (c.opened ∷ col.later) reading col.rising may';
+      held = rw (last_from-push c.opened col.later reading) (omega (arith, ints, here, ends.0));
+      one = omega (arith, ints, col.one, ends.0);
+      two = ends.1;
+    }
+
+last_or-push : (ps : List ℤ) (q : ℤ) → last_or None (ps ++ q ∷ []) ≡ Some q
+last_or-push [] q = refl
+last_or-push (p ∷ ps) q = after p ps
+  where
+    after : (p : ℤ) (ps : List ℤ) → last_or (Some p) (ps ++ q ∷ []) ≡ Some q
+    after p [] = refl
+    after p (r ∷ rs) = after r rs
+
+-- a collector whose last collection is joined
+pub IsSound-joined : (v : Collecting) (front : List Cluster) (c : Cluster) (p : Point) → IsSound v → v.earliest ≤ℤ p.reading → v.waiting ≡ front ++ c ∷ [] → p.reading ≤ℤ c.end → IsSound (with_joined v front c p)
+IsSound-joined v front c p sound order split here =
+    let row : IsRow v.ow v.earliest (front ++ c ∷ []) = subst (IsRow v.ow v.earliest) split sound.row in
+    let last = row_last v.ow v.earliest front c row in
+    let may = MayFollow-later c.points v.earliest p.reading order last.may in
+    let col = IsCollection-joined v.ow c p.reading p.master last.collection (omega (arith, ints, sound.some, sound.short)) may here in
+    let follows : MayFollow (c.points ++ p.reading ∷ []) p.reading = rw (last_or-push c.points p.reading) (omega (arith, ints)) in
+    record {
+      some = sound.some;
+      short = sound.short;
+      small = sound.small;
+      low = omega (arith, ints, order, sound.low);
+      row = row-replace v.ow v.earliest p.reading front c (joined v.ow c p.reading p.master) row refl col follows;
+    }
+
+emissions_due : (ow calc reading : ℤ) (cs : List Cluster) → AllByRecursion (λ at. (reading -ℤ ow) <ℤ at) (map (emission ow calc) cs) → AllByRecursion (λ k. (reading -ℤ ow) <ℤ emission ow calc k) cs
+emissions_due ow calc reading [] all = tt
+emissions_due ow calc reading (c ∷ cs) all = (all.0, emissions_due ow calc reading cs all.1)
+
+-- there is room for one more
+pub room_to_open : (v : Collecting) (reading : ℤ) → IsSound v → v.earliest ≤ℤ reading → All (λ at. (reading -ℤ v.ow) <ℤ at) (emissions v) → open_at v.waiting reading ≡ None → length v.waiting < 5
+room_to_open v reading sound order due none =
+    row-room v.ow v.calc v.earliest reading v.waiting (omega (arith, ints, sound.some, sound.short)) sound.short sound.row (all_ended v reading sound order none)
+    (emissions_due v.ow v.calc reading v.waiting (recursion_from_All (λ (at : ℤ). (reading -ℤ v.ow) <ℤ at) (emissions v) due))

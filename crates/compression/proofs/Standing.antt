@@ -1,0 +1,97 @@
+-- How the calls of a collector keep where it stands.
+use Rattle.std.proofs.Common.{◌≡◌, ◌≢◌, ◌∙◌, ◌⊎◌, inl, inr, ℤ, ◌≤ℤ◌, ◌<ℤ◌, List, [], ◌∷◌, ◌++◌, ap, refl, sym, subst, arith, None, true, false}
+use Rattle.std.specs.List.{AllByRecursion}
+use Rattle.std.proofs.lemmas.Int.{ints}
+use Rattle.std.proofs.lemmas.List.{append_assoc}
+use Rattle.std.proofs.lemmas.List.Elements.{recursion_from_All, All-from_recursion}
+use Rattle.compression.specs.Clusters.{Point, Cluster, AreClusters, beyond}
+use Rattle.compression.specs.Role.{has_point_of, open_at}
+use Rattle.compression.specs.Collection.{opening, joined}
+use Rattle.compression.specs.Collecting.{Collecting, with_opened, with_joined}
+use Rattle.compression.specs.Row.{IsRow, IsSound}
+use Rattle.compression.specs.Stands.{Stands}
+use Rattle.compression.specs.declared.compressed.Compressed.{Compressed}
+use Rattle.compression.proofs.Growth.{AreClusters-opened, AreClusters-within, Grows}
+use Rattle.compression.proofs.Rows.{row_last, opened-before}
+use Rattle.compression.proofs.Sound.{all_ended, joined_end-within}
+
+-- ends that lie before a later reading
+pub ended_later : (t r : ℤ) (cs : List Cluster) → t ≤ℤ r → AllByRecursion (λ c. c.end <ℤ t) cs → AllByRecursion (λ c. c.end <ℤ r) cs
+ended_later t r [] le all = tt
+ended_later t r (c ∷ cs) le all = (omega (arith, ints, le, all.0), ended_later t r cs le all.1)
+
+all-append : (r : ℤ) (cs ds : List Cluster) → AllByRecursion (λ c. c.end <ℤ r) cs → AllByRecursion (λ c. c.end <ℤ r) ds → AllByRecursion (λ c. c.end <ℤ r) (cs ++ ds)
+all-append r [] ds all more = more
+all-append r (c ∷ cs) ds all more = (all.0, all-append r cs ds all.1 more)
+
+past_at : (v : Collecting) (points : List Point) (emitted : List Compressed) (r : ℤ) (s : Stands v points emitted) → v.earliest ≤ℤ r → AllByRecursion (λ c. c.end <ℤ r) s.done
+past_at v points emitted r s le = ended_later v.earliest r s.done le (recursion_from_All (λ (c : Cluster). c.end <ℤ v.earliest) s.done s.past)
+
+-- a point that opens a collection
+pub Stands-opened : (v : Collecting) (points : List Point) (emitted : List Compressed) (p : Point) → IsSound v → v.earliest ≤ℤ p.reading → open_at v.waiting p.reading ≡ None → Stands v points emitted → Stands (with_opened v p) (points ++ p ∷ []) emitted
+Stands-opened v points emitted p sound order none s =
+    let done = past_at v points emitted p.reading s order in
+    let all = all-append p.reading s.done v.waiting done (all_ended v p.reading sound order none) in
+    record {
+      done = s.done;
+      clusters = subst (AreClusters v.ow (points ++ p ∷ [])) (append_assoc s.done v.waiting (opening v.ow p ∷ [])) (AreClusters-opened v.ow points (s.done ++ v.waiting) p (omega (arith, ints, sound.some, sound.short)) s.clusters all);
+      given = s.given;
+      past = All-from_recursion (λ (c : Cluster). c.end <ℤ p.reading) s.done done;
+    }
+
+-- a point that the open collection is given
+stands_within : (v : Collecting) (points : List Point) (emitted : List Compressed) (p : Point) (front : List Cluster) (c d : Cluster) → IsSound v → v.earliest ≤ℤ p.reading → v.waiting ≡ front ++ c ∷ [] → p.reading ≤ℤ c.end → c.end ≤ℤ d.end → Grows v.ow c d p → (s : Stands v points emitted) → AreClusters v.ow (points ++ p ∷ []) (s.done ++ (front ++ d ∷ []))
+stands_within v points emitted p front c d sound order split here longer grows s =
+    let last = row_last v.ow v.earliest front c (subst (IsRow v.ow v.earliest) split sound.row) in
+    let opened = opened-before v.ow c v.earliest last.collection last.may in
+    let done = past_at v points emitted p.reading s order in
+    let before = ended_later c.opened p.reading front (omega (arith, ints, opened, order)) last.before in
+    let are : AreClusters v.ow points ((s.done ++ front) ++ c ∷ []) = subst (AreClusters v.ow points) (ap (λ (ws : List Cluster). s.done ++ ws) split ∙ sym (append_assoc s.done front (c ∷ []))) s.clusters in
+    subst (AreClusters v.ow (points ++ p ∷ [])) (append_assoc s.done front (d ∷ []))
+    (AreClusters-within v.ow points (s.done ++ front) c d p (omega (arith, ints, sound.some, sound.short)) are (all-append p.reading s.done front done before) (omega (arith, ints, opened, order)) here longer grows)
+
+-- one that joins it
+pub Stands-joined : (v : Collecting) (points : List Point) (emitted : List Compressed) (p : Point) (front : List Cluster) (c : Cluster) → IsSound v → v.earliest ≤ℤ p.reading → v.waiting ≡ front ++ c ∷ [] → p.reading ≤ℤ c.end → p.cycle ≡ c.cycle → has_point_of c p.master ≡ false → Stands v points emitted → Stands (with_joined v front c p) (points ++ p ∷ []) emitted
+Stands-joined v points emitted p front c sound order split here same new s =
+    let last = row_last v.ow v.earliest front c (subst (IsRow v.ow v.earliest) split sound.row) in
+    let ends = joined_end-within v.ow c p.reading last.collection (omega (arith, ints, sound.some, sound.short)) in
+    let grows : Grows v.ow c (joined v.ow c p.reading p.master) p = record { other = λ other. absurd (other same); repeat = λ _ old. absurd (true_is_false (sym old ∙ new)); joins = λ _ _. refl } in
+    record {
+      done = s.done;
+      clusters = stands_within v points emitted p front c (joined v.ow c p.reading p.master) sound order split here ends.0 grows s;
+      given = s.given;
+      past = All-from_recursion (λ (c : Cluster). c.end <ℤ p.reading) s.done (past_at v points emitted p.reading s order);
+    }
+  where
+    true_is_false : true ≡ false → ⊥
+    true_is_false e = cc
+
+-- one that it ignores
+pub Stands-ignored : (v : Collecting) (points : List Point) (emitted : List Compressed) (p : Point) (front : List Cluster) (c : Cluster) → IsSound v → v.earliest ≤ℤ p.reading → v.waiting ≡ front ++ c ∷ [] → p.reading ≤ℤ c.end → (p.cycle ≢ c.cycle) ⊎ (has_point_of c p.master ≡ true) → Stands v points emitted → Stands v (points ++ p ∷ []) emitted
+Stands-ignored v points emitted p front c sound order split here why s =
+    let grows : Grows v.ow c c p = record { other = λ _. refl; repeat = λ _ _. refl; joins = λ same new. absurd (neither same new why) } in
+    record {
+      done = s.done;
+      clusters = subst (λ (ws : List Cluster). AreClusters v.ow (points ++ p ∷ []) (s.done ++ ws)) (sym split) (stands_within v points emitted p front c c sound order split here (omega (arith, ints)) grows s);
+      given = s.given;
+      past = s.past;
+    }
+  where
+    true_is_false : true ≡ false → ⊥
+    true_is_false e = cc
+
+    neither : p.cycle ≡ c.cycle → has_point_of c p.master ≡ false → (p.cycle ≢ c.cycle) ⊎ (has_point_of c p.master ≡ true) → ⊥
+    neither same new (inl other) = other same
+    neither same new (inr old) = true_is_false (sym old ∙ new)
+
+-- the clusters of a list are determined
+pub AreClusters-unique : (ow : ℤ) (ps : List Point) (cs ds : List Cluster) → AreClusters ow ps cs → AreClusters ow ps ds → cs ≡ ds
+AreClusters-unique ow [] [] [] are also = refl
+AreClusters-unique ow [] [] (d ∷ ds) are also = absurd also
+AreClusters-unique ow [] (c ∷ cs) ds are also = absurd are
+AreClusters-unique ow (o ∷ ps) [] ds are also = absurd are
+AreClusters-unique ow (o ∷ ps) (c ∷ cs) [] are also = absurd also
+AreClusters-unique ow (o ∷ ps) (c ∷ cs) (d ∷ ds) are also =
+    let same : c ≡ d = are.0 ∙ sym also.0 in
+    let rest : AreClusters ow (beyond c.end ps) ds = subst (λ (k : Cluster). AreClusters ow (beyond k.end ps) ds) (sym same) also.1 in
+    ap (λ (k : Cluster). k ∷ cs) same ∙ ap (λ (ks : List Cluster). d ∷ ks) (AreClusters-unique ow (beyond c.end ps) cs ds are.1 rest)

@@ -1,0 +1,200 @@
+-- What a collector does with a point, by the point's role.
+use Rattle.std.proofs.Common.{◌≡◌, ◌≢◌, ◌∙◌, ◌⊎◌, inl, inr, ℕ, ◌<◌, ℤ, ◌≤ℤ◌, ◌<ℤ◌, List, [], ◌∷◌, ◌++◌, length, ap, refl, sym, subst, Option, Some, None, true, false, IsTrue}
+use Rattle.std.specs.Prelude.{◌==◌, int_lt, IfSome, if◌then◌else◌, option_and_then}
+use Rattle.std.specs.List.{last_or, AllByRecursion}
+use Rattle.std.proofs.lemmas.Bool.{cases_Bool, eqb-true, eqb-false}
+use Rattle.std.proofs.lemmas.List.{append-nil}
+use Rattle.std.proofs.lemmas.List.Elements.{recursion_from_All}
+use Rattle.compression.specs.Clusters.{Point, Cluster, AreClusters}
+use Rattle.compression.specs.Role.{has_point_of, open_at, role_in, role}
+use Rattle.compression.specs.Collection.{joined, CanTake}
+use Rattle.compression.specs.Collecting.{Collecting, with_opened, with_joined}
+use Rattle.compression.specs.Row.{IsRow, IsSound}
+use Rattle.compression.specs.Stands.{Stands}
+use Rattle.compression.specs.declared.taken.Taken.TheVariants.{Opened, Joined, Repeat, OtherCycle}
+use Rattle.compression.specs.declared.compressed.Compressed.{Compressed}
+use Rattle.compression.proofs.Roles.{open_at-in, open_at-beyond, open_at-none}
+use Rattle.compression.proofs.Rows.{last_split, last_or-none, row_last, MayFollow-later}
+use Rattle.compression.proofs.Sound.{open_at-some, IsSound-joined}
+use Rattle.compression.proofs.Standing.{ended_later, Stands-opened, Stands-joined, Stands-ignored, AreClusters-unique}
+
+-- the open collection and why a point joins it
+pub record Joins (o : Option Cluster) (p : Point) : Type 0 where
+  pub c : Cluster
+  pub is : o ≡ Some c
+  pub same : p.cycle ≡ c.cycle
+  pub new : has_point_of c p.master ≡ false
+
+-- the open collection and why it ignores a point
+pub record Ignores (o : Option Cluster) (p : Point) : Type 0 where
+  pub c : Cluster
+  pub is : o ≡ Some c
+  pub why : (p.cycle ≢ c.cycle) ⊎ (has_point_of c p.master ≡ true)
+
+pub role_in-opened : (o : Option Cluster) (p : Point) → role_in o p ≡ Opened → o ≡ None
+role_in-opened None p e = refl
+role_in-opened (Some c) p e =
+    elim (cases_Bool (p.cycle == c.cycle)) [
+      | inl same ↦
+          elim (cases_Bool (has_point_of c p.master)) [
+            | inl old ↦ absurd (repeat_not (rw (same, old) at e))
+            | inr new ↦ absurd (joined_not (rw (same, new) at e))
+          ]
+      | inr other ↦ absurd (other_not (rw other at e))
+    ]
+  where
+    repeat_not : Repeat ≡ Opened → ⊥
+    repeat_not e = cc
+
+    joined_not : Joined ≡ Opened → ⊥
+    joined_not e = cc
+
+    other_not : OtherCycle ≡ Opened → ⊥
+    other_not e = cc
+
+pub role_in-joined : (o : Option Cluster) (p : Point) → role_in o p ≡ Joined → Joins o p
+role_in-joined None p e = absurd (opened_not e)
+  where
+    opened_not : Opened ≡ Joined → ⊥
+    opened_not e = cc
+role_in-joined (Some c) p e =
+    elim (cases_Bool (p.cycle == c.cycle)) [
+      | inl same ↦
+          elim (cases_Bool (has_point_of c p.master)) [
+            | inl old ↦ absurd (repeat_not (rw (same, old) at e))
+            | inr new ↦ record { c = c; is = refl; same = eqb-true p.cycle c.cycle same; new = new }
+          ]
+      | inr other ↦ absurd (other_not (rw other at e))
+    ]
+  where
+    repeat_not : Repeat ≡ Joined → ⊥
+    repeat_not e = cc
+
+    other_not : OtherCycle ≡ Joined → ⊥
+    other_not e = cc
+
+pub role_in-ignored : (o : Option Cluster) (p : Point) → (role_in o p ≡ Repeat) ⊎ (role_in o p ≡ OtherCycle) → Ignores o p
+role_in-ignored None p e = absurd (opened_not e)
+  where
+    opened_not : (Opened ≡ Repeat) ⊎ (Opened ≡ OtherCycle) → ⊥
+    opened_not (inl e) = cc
+    opened_not (inr e) = cc
+role_in-ignored (Some c) p e =
+    elim (cases_Bool (p.cycle == c.cycle)) [
+      | inl same ↦
+          elim (cases_Bool (has_point_of c p.master)) [
+            | inl old ↦ record { c = c; is = refl; why = inr old }
+            | inr new ↦ absurd (joined_not (rw (same, new) at e))
+          ]
+      | inr other ↦ record { c = c; is = refl; why = inl (eqb-false p.cycle c.cycle other) }
+    ]
+  where
+    joined_not : (Joined ≡ Repeat) ⊎ (Joined ≡ OtherCycle) → ⊥
+    joined_not (inl e) = cc
+    joined_not (inr e) = cc
+
+-- the last collection can take a point that is not beyond it
+pub able : (v : Collecting) (reading : ℤ) (master : ℕ) → IsSound v → v.earliest ≤ℤ reading → IfSome (open_at v.waiting reading) (λ c. IsTrue (has_point_of c master) ⊎ (length c.points < 8)) → IfSome (last_or None v.waiting) (λ c. reading ≤ℤ c.end → CanTake c reading master)
+able v reading master sound order room =
+    by_last (last_or None v.waiting) refl
+  where
+    room_in : (c : Cluster) → IsTrue (has_point_of c master) ⊎ (length c.points < 8) → has_point_of c master ≡ false → length c.points < 8
+    room_in c (inl old) new = absurd (true_is_false (sym old ∙ new))
+      where
+        true_is_false : true ≡ false → ⊥
+        true_is_false e = cc
+    room_in c (inr few) new = few
+
+    by_last : (o : Option Cluster) → last_or None v.waiting ≡ o → IfSome (last_or None v.waiting) (λ c. reading ≤ℤ c.end → CanTake c reading master)
+    by_last None l = rw l tt
+    by_last (Some c) l =
+        let split = last_split v.waiting c l in
+        let last = row_last v.ow v.earliest split.0 c (subst (IsRow v.ow v.earliest) split.1 sound.row) in
+        rw l (λ here. record {
+          low = last.collection.low;
+          high = last.collection.high;
+          room = room_in c (rw (open_at-in v.waiting c reading l here) at room);
+          order = MayFollow-later c.points v.earliest reading order last.may;
+        })
+
+-- the last collection, which a point joins
+pub record Last_joined (v : Collecting) (p : Point) : Type 0 where
+  pub front : List Cluster
+  pub c : Cluster
+  pub split : v.waiting ≡ front ++ c ∷ []
+
+pub last_joined : (v : Collecting) (p : Point) → Joined ≡ role v.waiting p → Last_joined v p
+last_joined v p is =
+    let j = role_in-joined (open_at v.waiting p.reading) p (sym is) in
+    let at = open_at-some v.waiting p.reading j.c j.is in
+    let split = last_split v.waiting j.c at.0 in
+    record { front = split.0; c = j.c; split = split.1 }
+
+-- where a collector stands with a point that opens a collection, one that joins, and one that is ignored
+pub Stands-role_opened : (v w : Collecting) (p : Point) → IsSound v → v.earliest ≤ℤ p.reading → Opened ≡ role v.waiting p → w ≡ with_opened v p → (points : List Point) (emitted : List Compressed) → Stands v points emitted → Stands w (points ++ p ∷ []) emitted
+Stands-role_opened v w p sound order is opens points emitted s =
+    let none = role_in-opened (open_at v.waiting p.reading) p (sym is) in
+    subst (λ (u : Collecting). Stands u (points ++ p ∷ []) emitted) (sym opens) (Stands-opened v points emitted p sound order none s)
+
+pub Stands-role_joined : (v w : Collecting) (p : Point) → IsSound v → v.earliest ≤ℤ p.reading → Joined ≡ role v.waiting p → ((front : List Cluster) (c : Cluster) → v.waiting ≡ front ++ c ∷ [] → w ≡ with_joined v front c p) → (points : List Point) (emitted : List Compressed) → Stands v points emitted → Stands w (points ++ p ∷ []) emitted
+Stands-role_joined v w p sound order is joins points emitted s =
+    let j = role_in-joined (open_at v.waiting p.reading) p (sym is) in
+    let at = open_at-some v.waiting p.reading j.c j.is in
+    let split = last_split v.waiting j.c at.0 in
+    subst (λ (u : Collecting). Stands u (points ++ p ∷ []) emitted) (sym (joins split.0 j.c split.1)) (Stands-joined v points emitted p split.0 j.c sound order split.1 at.1 j.same j.new s)
+
+pub Stands-role_ignored : (v w : Collecting) (p : Point) → IsSound v → v.earliest ≤ℤ p.reading → (role v.waiting p ≡ Repeat) ⊎ (role v.waiting p ≡ OtherCycle) → w ≡ v → (points : List Point) (emitted : List Compressed) → Stands v points emitted → Stands w (points ++ p ∷ []) emitted
+Stands-role_ignored v w p sound order is same points emitted s =
+    let i = role_in-ignored (open_at v.waiting p.reading) p is in
+    let at = open_at-some v.waiting p.reading i.c i.is in
+    let split = last_split v.waiting i.c at.0 in
+    subst (λ (u : Collecting). Stands u (points ++ p ∷ []) emitted) (sym same) (Stands-ignored v points emitted p split.0 i.c sound order split.1 at.1 i.why s)
+
+last_or-append : {X : Type 0} (xs ys : List X) (y : X) → last_or None ys ≡ Some y → last_or None (xs ++ ys) ≡ Some y
+last_or-append [] ys y e = e
+last_or-append (x ∷ xs) ys y e = after x xs
+  where
+    over : (o : Option _) (zs : List _) → last_or None zs ≡ Some y → last_or o zs ≡ Some y
+    over o [] e = absurd (cc)
+    over o (z ∷ zs) e = e
+
+    after : (x : _) (xs : List _) → last_or (Some x) (xs ++ ys) ≡ Some y
+    after x [] = over (Some x) ys e
+    after x (z ∷ zs) = after z zs
+
+all-last : (reading : ℤ) (front : List Cluster) (c : Cluster) → AllByRecursion (λ k. k.end <ℤ reading) (front ++ c ∷ []) → c.end <ℤ reading
+all-last reading [] c all = all.0
+all-last reading (k ∷ ks) c all = all-last reading ks c all.1
+
+-- where all clusters have ended none is open
+ended_none : (cs : List Cluster) (reading : ℤ) → AllByRecursion (λ c. c.end <ℤ reading) cs → open_at cs reading ≡ None
+ended_none cs reading all =
+    by_last (last_or None cs) refl
+  where
+    by_last : (o : Option Cluster) → last_or None cs ≡ o → open_at cs reading ≡ None
+    by_last None l = open_at-none cs reading l
+    by_last (Some c) l =
+        let split = last_split cs c l in
+        open_at-beyond cs c reading l (all-last reading split.0 c (subst (AllByRecursion (λ k. k.end <ℤ reading)) split.1 all))
+
+-- the role by what waits is the role by all clusters
+pub role-whole : (v : Collecting) (p : Point) → v.earliest ≤ℤ p.reading → (points : List Point) (emitted : List Compressed) (cs : List Cluster) → Stands v points emitted → AreClusters v.ow points cs → role v.waiting p ≡ role cs p
+role-whole v p order points emitted cs s are =
+    by_last (last_or None v.waiting) refl ∙ ap (λ (ks : List Cluster). role ks p) (AreClusters-unique v.ow points (s.done ++ v.waiting) cs s.clusters are)
+  where
+    by_last : (o : Option Cluster) → last_or None v.waiting ≡ o → role v.waiting p ≡ role (s.done ++ v.waiting) p
+    by_last None l =
+        let none : v.waiting ≡ [] = last_or-none v.waiting l in
+        let whole : s.done ++ v.waiting ≡ s.done = ap (λ (ws : List Cluster). s.done ++ ws) none ∙ append-nil s.done in
+        let done = ended_later v.earliest p.reading s.done order (recursion_from_All (λ (c : Cluster). c.end <ℤ v.earliest) s.done s.past) in
+        ap (λ (o : Option Cluster). role_in o p) (open_at-none v.waiting p.reading l ∙ sym (ended_none s.done p.reading done)) ∙ ap (λ (ks : List Cluster). role ks p) (sym whole)
+    by_last (Some c) l =
+        ap (λ (o : Option Cluster). role_in (option_and_then (λ (k : Cluster). if int_lt k.end p.reading then None else Some k) o) p) (l ∙ sym (last_or-append s.done v.waiting c l))
+
+-- the invariant with a point that joins
+pub IsSound-takes : (v : Collecting) (p : Point) (waiting : List Cluster) → IsSound v → v.earliest ≤ℤ p.reading → role v.waiting p ≡ Joined → ((front : List Cluster) (c : Cluster) → v.waiting ≡ front ++ c ∷ [] → waiting ≡ front ++ joined v.ow c p.reading p.master ∷ []) → IsSound (record v { earliest = p.reading; waiting = waiting })
+IsSound-takes v p waiting sound order is joins =
+    let j = role_in-joined (open_at v.waiting p.reading) p is in
+    let at = open_at-some v.waiting p.reading j.c j.is in
+    let split = last_split v.waiting j.c at.0 in
+    subst (λ (ws : List Cluster). IsSound (record v { earliest = p.reading; waiting = ws })) (sym (joins split.0 j.c split.1)) (IsSound-joined v split.0 j.c p sound order split.1 at.1)

@@ -1,0 +1,179 @@
+-- One master's points do not split those of the others.
+use Rattle.std.proofs.Common.{◌≡◌, ◌≢◌, ◌∙◌, inl, inr, ℕ, ◌<◌, ◌≤◌, ℤ, pos, ◌+ℤ◌, ◌≤ℤ◌, ◌<ℤ◌, List, [], ◌∷◌, length, ap, refl, sym, subst, arith, true, false, ◌&&◌}
+use Rattle.std.specs.Prelude.{Contains, int_le, ◌==◌}
+use Rattle.std.specs.List.{AllByRecursion}
+use Rattle.std.proofs.lemmas.Int.{ints}
+use Rattle.std.proofs.lemmas.Bool.{cases_Bool, cases_eq, cases_lt, eq-eqb, eqb-true, eqb-false, and_from, and_parts, or_parts, or_cases}
+use Rattle.compression.specs.Clusters.{Point, Cluster, of_cycle_within, beyond, has_master, firsts, end_of, cluster_of, AreClusters}
+use Rattle.compression.specs.OneCluster.{LiesIn, Holds, IsDropped, IsKept, OneCluster}
+use Rattle.compression.proofs.Firsts.{Counts, counts, firsts-has}
+use Rattle.compression.proofs.Held.{int_le-true, held-start}
+use Rattle.compression.proofs.Elements.{in_head, in_tail, in_none, in_cases, in_filter, in_filter_from, Ordered, Ordered-from, Ordered-beyond, from_beyond}
+use Rattle.compression.proofs.Growth.{counted, window_end, end_of-one, end_of-two, end_of-least}
+use Rattle.compression.proofs.Times.{only_first, first_end, not_before, in_rest}
+
+-- what counts in the first window: the opener, and then points of other masters
+window_counts : (ow : ℤ) (o : Point) (ps : List Point) → pos 0 ≤ℤ ow → (k : Counts (o ∷ []) (of_cycle_within o.cycle o.reading (window_end ow o) ps)) × (counted (window_end ow o) o (o ∷ ps) ≡ o ∷ k.more)
+window_counts ow o ps some =
+    let k = counts (o ∷ []) (of_cycle_within o.cycle o.reading (window_end ow o) ps) in
+    (k, ap firsts (held-start o (window_end ow o) ps (omega (arith, ints, some))) ∙ k.is)
+
+-- where there are two masters, the first window has a point of another than the opener's
+pub record Other (ow : ℤ) (o : Point) (ps : List Point) (w : Point) : Type 0 where
+  pub there : Contains ps w
+  pub same : w.cycle ≡ o.cycle
+  pub first : w.reading ≤ℤ window_end ow o
+  pub other : w.master ≢ o.master
+
+second_master : (ow : ℤ) (o : Point) (ps : List Point) → pos 0 ≤ℤ ow → 2 ≤ length (counted (window_end ow o) o (o ∷ ps)) → (w : Point) × Other ow o ps w
+second_master ow o ps some many =
+    let k = window_counts ow o ps some in
+    found (k.0.more) (k.0.each) (subst (λ (n : ℕ). 2 ≤ n) (ap length k.1) many)
+  where
+    found : (more : List Point) → AllByRecursion (λ q. Contains (of_cycle_within o.cycle o.reading (window_end ow o) ps) q × (has_master (o ∷ []) q.master ≡ false)) more → 2 ≤ length (o ∷ more) → (w : Point) × Other ow o ps w
+    found [] each many = absurd (omega arith)
+    found (w ∷ ws) each many =
+        let parts = in_filter (λ q. q.cycle == o.cycle && (int_le o.reading q.reading && int_le q.reading (window_end ow o))) ps w each.0.0 in
+        let tests = and_parts (w.cycle == o.cycle) (int_le o.reading w.reading && int_le w.reading (window_end ow o)) parts.1 in
+        let bounds = and_parts (int_le o.reading w.reading) (int_le w.reading (window_end ow o)) tests.1 in
+        let apart = (or_parts (o.master == w.master) false each.0.1).0 in (
+          w,
+          record {
+            there = parts.0;
+            same = eqb-true w.cycle o.cycle tests.0;
+            first = grind (arith, ints, bounds.1);
+            other = λ e. eqb-false o.master w.master apart (sym e);
+          },
+        )
+
+-- and where there is one, the points in the first window are of the opener's
+only_master : (ow : ℤ) (o : Point) (ps : List Point) → pos 0 ≤ℤ ow → length (counted (window_end ow o) o (o ∷ ps)) < 2 → (q : Point) → Contains (o ∷ ps) q → q.cycle ≡ o.cycle → o.reading ≤ℤ q.reading → q.reading ≤ℤ window_end ow o → q.master ≡ o.master
+only_master ow o ps some few q at same low high =
+    let passes : (q.cycle == o.cycle && (int_le o.reading q.reading && int_le q.reading (window_end ow o))) ≡ true =
+    and_from (q.cycle == o.cycle) (int_le o.reading q.reading && int_le q.reading (window_end ow o)) (eq-eqb q.cycle o.cycle same)
+    (and_from (int_le o.reading q.reading) (int_le q.reading (window_end ow o)) (int_le-true o.reading q.reading low) (int_le-true q.reading (window_end ow o) high)) in
+    let here = in_filter_from (λ r. r.cycle == o.cycle && (int_le o.reading r.reading && int_le r.reading (window_end ow o))) (o ∷ ps) q at passes in
+    let has = firsts-has (of_cycle_within o.cycle o.reading (window_end ow o) (o ∷ ps)) q here in
+    let k = window_counts ow o ps some in
+    alone (k.0.more) (subst (λ (n : ℕ). n < 2) (ap length k.1) few) (subst (λ (xs : List Point). has_master xs q.master ≡ true) k.1 has)
+  where
+    alone : (more : List Point) → length (o ∷ more) < 2 → has_master (o ∷ more) q.master ≡ true → q.master ≡ o.master
+    alone [] few has =
+        elim (or_cases (o.master == q.master) false has) [
+          | inl e ↦ sym (eqb-true o.master q.master e)
+          | inr never ↦ absurd (false_is_true never)
+        ]
+      where
+        false_is_true : false ≡ true → ⊥
+        false_is_true e = cc
+    alone (w ∷ ws) few has = absurd (omega arith)
+
+-- the first cluster and those after it
+pub record First (ow : ℤ) (o : Point) (ps : List Point) (c : Cluster) (cs : List Cluster) (b cycle : ℕ) : Type 0 where
+  pub some : pos 0 ≤ℤ ow
+  pub order : Ordered (o ∷ ps)
+  pub is : c ≡ cluster_of ow o (o ∷ ps)
+  pub rest : AreClusters ow (beyond c.end ps) cs
+  pub near : (p q : Point) → IsKept (o ∷ ps) (c ∷ cs) b cycle p → IsKept (o ∷ ps) (c ∷ cs) b cycle q → p.reading ≤ℤ (q.reading +ℤ ow)
+
+-- a point of the opener's cycle up to the end is not dropped
+not_dropped : (ow : ℤ) (o : Point) (ps : List Point) (c : Cluster) (cs : List Cluster) (b cycle : ℕ) → First ow o ps c cs b cycle → (q : Point) → q.cycle ≡ o.cycle → q.reading ≤ℤ c.end → ¬ IsDropped (c ∷ cs) q
+not_dropped ow o ps c cs b cycle f q same within (d, at, other, lies) =
+    elim (in_cases c d cs at) [
+      | inl e ↦ other (same ∙ sym (ap (λ (k : Cluster). k.cycle) f.is) ∙ ap (λ (k : Cluster). k.cycle) e)
+      | inr here ↦ only_first ow ps c cs q f.rest within d here lies
+    ]
+
+-- one that is kept and lies up to the end is of the opener's cycle
+own_cycle : (ow : ℤ) (o : Point) (ps : List Point) (c : Cluster) (cs : List Cluster) (b cycle : ℕ) → First ow o ps c cs b cycle → (q : Point) → IsKept (o ∷ ps) (c ∷ cs) b cycle q → q.reading ≤ℤ c.end → Holds c q
+own_cycle ow o ps c cs b cycle f q k within =
+    let start = first_end ow o ps c f.some f.is in
+    let low : c.opened ≤ℤ q.reading = subst (λ (r : ℤ). r ≤ℤ q.reading) (sym start.0) (not_before o ps q f.order k.there) in
+    let lies : LiesIn c q = record { low = low; high = within } in
+    elim (cases_eq q.cycle c.cycle) [
+      | inl same ↦ (same, lies)
+      | inr other ↦ absurd (k.kept (c, in_head c cs, other, lies))
+    ]
+
+-- where one that is kept lies up to the end, so do all
+all_within : (ow : ℤ) (o : Point) (ps : List Point) (c : Cluster) (cs : List Cluster) (b cycle : ℕ) → First ow o ps c cs b cycle → (q r : Point) → IsKept (o ∷ ps) (c ∷ cs) b cycle q → IsKept (o ∷ ps) (c ∷ cs) b cycle r → q.reading ≤ℤ c.end → r.reading ≤ℤ c.end
+all_within ow o ps c cs b cycle f q r kq kr within =
+    let holds = own_cycle ow o ps c cs b cycle f q kq within in
+    let end_is : c.end ≡ end_of ow o (o ∷ ps) = ap (λ (k : Cluster). k.end) f.is in
+    let least = end_of-least ow o (o ∷ ps) f.some in
+    let cycle_is : q.cycle ≡ o.cycle = holds.0 ∙ ap (λ (k : Cluster). k.cycle) f.is in
+    elim (cases_eq o.master b) [
+      | inr other ↦
+          let ko : IsKept (o ∷ ps) (c ∷ cs) b cycle o = record { there = in_head o ps; other = other; same = sym cycle_is ∙ kq.same; kept = not_dropped ow o ps c cs b cycle f o refl (omega (arith, ints, end_is, least, f.some)) } in
+          let near = f.near r o kr ko in
+          omega (arith, ints, near, end_is, least)
+      | inl is_b ↦
+          elim (cases_lt (length (counted (window_end ow o) o (o ∷ ps))) 2) [
+            | inl few ↦
+                let one = end_of-one ow o (o ∷ ps) few in
+                let high : q.reading ≤ℤ window_end ow o = omega (arith, ints, within, end_is, one) in
+                absurd (kq.other (only_master ow o ps f.some few q kq.there cycle_is (not_before o ps q f.order kq.there) high ∙ is_b))
+            | inr many ↦
+                let two = end_of-two ow o (o ∷ ps) many in
+                let w = second_master ow o ps f.some many in
+                let kw : IsKept (o ∷ ps) (c ∷ cs) b cycle w.0 = record { there = in_tail o w.0 ps w.1.there; other = λ e. w.1.other (e ∙ sym is_b); same = w.1.same ∙ sym cycle_is ∙ kq.same; kept = not_dropped ow o ps c cs b cycle f w.0 w.1.same (omega (arith, ints, end_is, least, w.1.first)) } in
+                let near = f.near r w.0 kr kw in
+                omega (arith, ints, near, end_is, two, w.1.first)
+          ]
+    ]
+
+together : (ow : ℤ) (ps : List Point) (cs : List Cluster) (b cycle : ℕ) → pos 0 ≤ℤ ow → Ordered ps → AreClusters ow ps cs
+    → ((p q : Point) → IsKept ps cs b cycle p → IsKept ps cs b cycle q → p.reading ≤ℤ (q.reading +ℤ ow))
+    → (p : Point) → IsKept ps cs b cycle p → (c : Cluster) × Contains cs c × ((q : Point) → IsKept ps cs b cycle q → Holds c q)
+together ow [] cs b cycle some up are near p k = absurd (in_none p k.there)
+together ow (o ∷ ps) [] b cycle some up are near p k = absurd are
+together ow (o ∷ ps) (c ∷ cs) b cycle some up are near p k =
+    let f : First ow o ps c cs b cycle = record { some = some; order = up; is = are.0; rest = are.1; near = near } in
+    elim (cases_Bool (int_le p.reading c.end)) [
+      | inl inside ↦
+          let within : p.reading ≤ℤ c.end = grind (arith, ints, inside) in
+          (c, in_head c cs, λ q kq. own_cycle ow o ps c cs b cycle f q kq (all_within ow o ps c cs b cycle f p q k kq within))
+      | inr outside ↦
+          let past : c.end <ℤ p.reading = grind (arith, ints, outside) in
+          let rest = together ow (beyond c.end ps) cs b cycle some (Ordered-beyond c.end ps up.1) are.1 (λ q r kq kr. near q r (whole q kq) (whole r kr)) p (part p k past) in
+          (rest.0, in_tail c rest.0 cs rest.1, λ q kq. rest.2 q (part q kq (also f past q kq)))
+    ]
+  where
+    start : (c.opened ≡ o.reading) × (c.opened ≤ℤ c.end)
+    start = first_end ow o ps c some are.0
+
+    not_first : (q : Point) → c.end <ℤ q.reading → IsDropped (c ∷ cs) q → IsDropped cs q
+    not_first q past (d, at, other, lies) =
+        elim (in_cases c d cs at) [
+          | inl e ↦ absurd (apart (subst (λ (x : Cluster). LiesIn x q) (sym e) lies) past)
+          | inr here ↦ (d, here, other, lies)
+        ]
+      where
+        apart : LiesIn c q → c.end <ℤ q.reading → ⊥
+        apart l h = omega (arith, ints, l.high, h)
+
+    whole : (q : Point) → IsKept (beyond c.end ps) cs b cycle q → IsKept (o ∷ ps) (c ∷ cs) b cycle q
+    whole q kq =
+        let parts = from_beyond c.end ps q kq.there in
+        record { there = in_tail o q ps parts.0; other = kq.other; same = kq.same; kept = λ dropped. kq.kept (not_first q parts.1 dropped) }
+
+    part : (q : Point) → IsKept (o ∷ ps) (c ∷ cs) b cycle q → c.end <ℤ q.reading → IsKept (beyond c.end ps) cs b cycle q
+    part q kq past = record {
+      there = in_rest o ps q c.end (omega (arith, ints, start.0, start.1)) past kq.there;
+      other = kq.other;
+      same = kq.same;
+      kept = λ dropped. kq.kept (dropped.0, in_tail c dropped.0 cs dropped.1, dropped.2, dropped.3);
+    }
+
+    also : First ow o ps c cs b cycle → c.end <ℤ p.reading → (q : Point) → IsKept (o ∷ ps) (c ∷ cs) b cycle q → c.end <ℤ q.reading
+    also f past q kq =
+        elim (cases_Bool (int_le q.reading c.end)) [
+          | inl inside ↦
+              let within : q.reading ≤ℤ c.end = grind (arith, ints, inside) in
+              let back = all_within ow o ps c cs b cycle f q p kq k within in
+              absurd (omega (arith, ints, back, past))
+          | inr outside ↦ grind (arith, ints, outside)
+        ]
+
+pub one_cluster : OneCluster
+one_cluster ow ps cs b cycle some up are near p k = together ow ps cs b cycle some (Ordered-from ps up) are near p k

@@ -1,0 +1,14 @@
+use Rattle.std.proofs.Common.{arith}
+use Rattle.std.proofs.lemmas.Int.{ints}
+use Rattle.compression.specs.Collecting.{Collecting}
+use Rattle.compression.proofs.Emitting.{IsLeast-first}
+use Rattle.compression.proofs.collector.Collector.due.Goals as goal
+
+pub emission-requires-clause-time : goal.emission-requires-clause-time
+emission-requires-clause-time c =
+    (omega (arith, ints, c.self.invariant.some), omega (arith, ints, c.self.invariant.short, c.self.invariant.small))
+
+pub returns-clause-least : goal.returns-clause-least
+returns-clause-least c =
+    let v : Collecting = record { ow = c.self.inside.ow.0; calc = c.self.inside.calc.0; earliest = c.self.inside.earliest.0; waiting = c.self.inside.waiting } in
+    rw (← c.self.view_is, c.emission.ensures) (IsLeast-first v c.in_ok-first.first.now c.in_ok-first.ensures.0 c.self.invariant c.in_ok-first.ensures.1)

@@ -1,0 +1,32 @@
+use Rattle.std.proofs.Common.{◌≡◌, ◌≤ℤ◌, ap, sym, subst, arith, to_z, of_z, w64}
+use Rattle.std.proofs.lemmas.Int.{ints}
+use Rattle.compression.specs.Emission.{emission}
+use Rattle.compression.specs.Collecting.{Collecting}
+use Rattle.compression.specs.Stands.{Stands}
+use Rattle.compression.specs.declared.compressed.Compressed.{Compressed}
+use Rattle.compression.proofs.Emitting.{IsLeast-first, IsSound-emitted, Stands-emitted}
+use Rattle.compression.proofs.collector.Collector.emit.Goals as goal
+
+pub invariant_of-self : goal.invariant_of-self
+invariant_of-self c =
+    let v : Collecting = record { ow = c.self.inside.ow.0; calc = c.self.inside.calc.0; earliest = c.self.inside.earliest.0; waiting = c.self.inside.waiting } in
+    let later = to_z w64 (of_z w64 c.max.result) in
+    let le : c.self.inside.earliest.0 ≤ℤ later = omega (arith, ints, c.max.ensures.self_bound) in
+    IsSound-emitted v c.remove_first-first.result c.remove_first-first.new.self later c.self.invariant c.remove_first-first.ensures le
+
+pub returns-clause-due : goal.returns-clause-due
+returns-clause-due c =
+    let v : Collecting = record { ow = c.self.inside.ow.0; calc = c.self.inside.calc.0; earliest = c.self.inside.earliest.0; waiting = c.self.inside.waiting } in
+    let at : c.compressed-compressed.result.at.0 ≡ emission v.ow v.calc c.remove_first-first.result = ap (λ (k : Compressed). k.at.0) c.compressed-compressed.ensures in
+    rw (← c.self.view_is, at) (IsLeast-first v c.remove_first-first.result c.remove_first-first.new.self c.self.invariant c.remove_first-first.ensures)
+
+pub returns-clause-stands : goal.returns-clause-stands
+returns-clause-stands c =
+    let v : Collecting = record { ow = c.self.inside.ow.0; calc = c.self.inside.calc.0; earliest = c.self.inside.earliest.0; waiting = c.self.inside.waiting } in
+    let later = to_z w64 (of_z w64 c.max.result) in
+    let at : c.compressed-compressed.result.at.0 ≡ emission v.ow v.calc c.remove_first-first.result = ap (λ (k : Compressed). k.at.0) c.compressed-compressed.ensures in
+    let le : c.self.inside.earliest.0 ≤ℤ later = omega (arith, ints, c.max.ensures.self_bound) in
+    let past : emission v.ow v.calc c.remove_first-first.result ≤ℤ later = omega (arith, ints, c.max.ensures.other_bound, at) in
+    λ points emitted s.
+    rw c.compressed-compressed.ensures
+    (Stands-emitted v points emitted c.remove_first-first.result c.remove_first-first.new.self later c.self.invariant c.remove_first-first.ensures le past (subst (λ (u : Collecting). Stands u points emitted) (sym c.self.view_is) s))

@@ -1,0 +1,89 @@
+use Rattle.std.proofs.Common.{◌≡◌, ◌≢◌, ◌⊎◌, ◌∙◌, List, ap, sym, refl, rules, subst, inl, inr}
+use Rattle.compression.specs.Clusters.{Point, Cluster, point_at}
+use Rattle.compression.specs.Collecting.{Collecting, with_opened, with_joined}
+use Rattle.compression.specs.Row.{IsSound}
+use Rattle.compression.specs.Role.{role}
+use Rattle.compression.specs.Stands.{Stands}
+use Rattle.compression.specs.declared.taken.Taken.{Taken}
+use Rattle.compression.specs.declared.taken.Taken.TheVariants.{Opened, Joined, Repeat, OtherCycle}
+use Rattle.compression.proofs.Taking.{able, last_joined, role-whole, IsSound-takes, Stands-role_opened, Stands-role_joined, Stands-role_ignored}
+use Rattle.compression.proofs.collector.Collector.point.Goals as goal
+
+pub offer-taken-requires-clause-last : goal.offer-taken-requires-clause-last
+offer-taken-requires-clause-last c =
+    let sound : IsSound c.args.self.now = subst IsSound c.self.view_is c.self.invariant in
+    rw (ap (λ v. v.waiting) c.self.view_is) (able c.args.self.now c.args.reading.0 c.args.master sound c.requires.order c.requires.room)
+
+pub invariant_of-self-in-Joined : goal.invariant_of-self-in-Joined
+invariant_of-self-in-Joined c =
+    let p : Point = point_at c.args.reading.0 c.args.master c.args.cycle in
+    let v : Collecting = record { ow = c.self.inside.ow.0; calc = c.self.inside.calc.0; earliest = c.self.inside.earliest.0; waiting = c.self.inside.waiting } in
+    let order = rw (← c.self.view_is) at c.requires.order in
+    IsSound-takes v p c.offer-taken.new.self c.self.invariant order (sym c.in-Joined.ensures.role) (c.in-Joined.ensures.joined refl)
+
+pub returns-in-Opened-clause-role : goal.returns-in-Opened-clause-role
+returns-in-Opened-clause-role c =
+    let p : Point = point_at c.args.reading.0 c.args.master c.args.cycle in
+    λ points emitted clusters s are.
+    c.offer-taken.ensures.role ∙ ap (λ (v : Collecting). role v.waiting p) c.self.view_is ∙ role-whole c.args.self.now p c.requires.order points emitted clusters s are
+
+pub returns-in-Joined-clause-role : goal.returns-in-Joined-clause-role
+returns-in-Joined-clause-role c =
+    let p : Point = point_at c.args.reading.0 c.args.master c.args.cycle in
+    λ points emitted clusters s are.
+    c.offer-taken.ensures.role ∙ ap (λ (v : Collecting). role v.waiting p) c.self.view_is ∙ role-whole c.args.self.now p c.requires.order points emitted clusters s are
+
+pub returns-in-Repeat-clause-role : goal.returns-in-Repeat-clause-role
+returns-in-Repeat-clause-role c =
+    let p : Point = point_at c.args.reading.0 c.args.master c.args.cycle in
+    λ points emitted clusters s are.
+    c.offer-taken.ensures.role ∙ ap (λ (v : Collecting). role v.waiting p) c.self.view_is ∙ role-whole c.args.self.now p c.requires.order points emitted clusters s are
+
+pub returns-in-Opened-clause-stands : goal.returns-in-Opened-clause-stands
+returns-in-Opened-clause-stands c =
+    let p : Point = point_at c.args.reading.0 c.args.master c.args.cycle in
+    let sound : IsSound c.args.self.now = subst IsSound c.self.view_is c.self.invariant in
+    let is : Opened ≡ role c.args.self.now.waiting p = c.in-Opened.ensures.role ∙ ap (λ (v : Collecting). role v.waiting p) c.self.view_is in
+    let opens : c.open.new.self ≡ with_opened c.args.self.now p = search rules in
+    Stands-role_opened c.args.self.now c.open.new.self p sound c.requires.order is opens
+
+pub returns-in-Joined-clause-stands : goal.returns-in-Joined-clause-stands
+returns-in-Joined-clause-stands c =
+    let p : Point = point_at c.args.reading.0 c.args.master c.args.cycle in
+    let v : Collecting = record { ow = c.self.inside.ow.0; calc = c.self.inside.calc.0; earliest = c.self.inside.earliest.0; waiting = c.self.inside.waiting } in
+    let w : Collecting = record { ow = c.self.inside.ow.0; calc = c.self.inside.calc.0; earliest = c.args.reading.0; waiting = c.offer-taken.new.self } in
+    let order = rw (← c.self.view_is) at c.requires.order in
+    λ points emitted s.
+    Stands-role_joined v w p c.self.invariant order c.in-Joined.ensures.role
+    (λ front k split. ap (λ (ws : List Cluster). record w { waiting = ws }) (c.in-Joined.ensures.joined refl front k split))
+    points emitted (subst (λ (u : Collecting). Stands u points emitted) (sym c.self.view_is) s)
+
+not_joined : (t : Taken) → (t ≡ Repeat) ⊎ (t ≡ OtherCycle) → t ≢ Joined
+not_joined t (inl e) j = cc
+not_joined t (inr e) j = cc
+
+pub returns-in-Joined-clause-joins : goal.returns-in-Joined-clause-joins
+returns-in-Joined-clause-joins c =
+    let p : Point = point_at c.args.reading.0 c.args.master c.args.cycle in
+    let v : Collecting = record { ow = c.self.inside.ow.0; calc = c.self.inside.calc.0; earliest = c.self.inside.earliest.0; waiting = c.self.inside.waiting } in
+    let w : Collecting = record { ow = c.self.inside.ow.0; calc = c.self.inside.calc.0; earliest = c.args.reading.0; waiting = c.offer-taken.new.self } in
+    let last = last_joined v p c.in-Joined.ensures.role in
+    λ _. (
+      last.front,
+      last.c,
+      sym (ap (λ (u : Collecting). u.waiting) c.self.view_is) ∙ last.split,
+      ap (λ (ws : List Cluster). record w { waiting = ws }) (c.in-Joined.ensures.joined refl last.front last.c last.split)
+          ∙ ap (λ (u : Collecting). with_joined u last.front last.c p) c.self.view_is,
+    )
+
+pub returns-in-Repeat-clause-stands : goal.returns-in-Repeat-clause-stands
+returns-in-Repeat-clause-stands c =
+    let p : Point = point_at c.args.reading.0 c.args.master c.args.cycle in
+    let v : Collecting = record { ow = c.self.inside.ow.0; calc = c.self.inside.calc.0; earliest = c.self.inside.earliest.0; waiting = c.self.inside.waiting } in
+    let w : Collecting = record v { waiting = c.offer-taken.new.self } in
+    let order = rw (← c.self.view_is) at c.requires.order in
+    let same : w ≡ v = ap (λ (ws : List Cluster). record v { waiting = ws }) (c.offer-taken.ensures.ignored (not_joined c.offer-taken.result c.in-Repeat.is)) in
+    let is : (role v.waiting p ≡ Repeat) ⊎ (role v.waiting p ≡ OtherCycle) =
+    elim c.in-Repeat.is [ inl e ↦ inl (sym c.offer-taken.ensures.role ∙ e) | inr e ↦ inr (sym c.offer-taken.ensures.role ∙ e) ] in
+    λ points emitted s.
+    Stands-role_ignored v w p c.self.invariant order is same points emitted (subst (λ (u : Collecting). Stands u points emitted) (sym c.self.view_is) s)

@@ -1,0 +1,12 @@
+use Rattle.compression.proofs.Times.{one_time_law, one_list_of_clusters}
+use Rattle.compression.proofs.Rooms.{room_for_each_master}
+use Rattle.compression.proofs.laws.clusters_law.Goals as goal
+
+pub returns-clause-clusters : goal.returns-clause-clusters
+returns-clause-clusters c = one_list_of_clusters
+
+pub returns-clause-time : goal.returns-clause-time
+returns-clause-time c = one_time_law
+
+pub returns-clause-room : goal.returns-clause-room
+returns-clause-room c = room_for_each_master

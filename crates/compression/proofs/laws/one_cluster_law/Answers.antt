@@ -1,0 +1,5 @@
+use Rattle.compression.proofs.Together.{one_cluster}
+use Rattle.compression.proofs.laws.one_cluster_law.Goals as goal
+
+pub returns : goal.returns
+returns c = one_cluster

@@ -1,0 +1,13 @@
+pub mod Reading
+pub mod Ascent
+pub mod Middle
+pub mod Clusters
+pub mod OneCluster
+pub mod Emission
+pub mod Role
+pub mod Room
+pub mod Collection
+pub mod Collecting
+pub mod Row
+pub mod Least
+pub mod Stands

@@ -1,0 +1,15 @@
+use pcf_values::Members;
+use tte_units::Units;
+
+/// What is emitted for a collection.
+#[derive(Clone, Copy, Debug, PartialEq, Eq, Hash)]
+pub struct Compressed {
+    /// The point that opened the collection.
+    pub opened: Units,
+    /// The reading at which it is emitted.
+    pub at: Units,
+    /// The integration cycle of its frames.
+    pub cycle: u32,
+    /// The masters that it has points of.
+    pub members: Members,
+}
