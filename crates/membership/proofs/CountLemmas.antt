@@ -1,13 +1,15 @@
 -- The ones of a number are its bits that are set.
-use Rattle.std.proofs.Common.{◌≡◌, ℕ, zero, suc, ◌+◌, ◌/◌, ◌%◌, ◌^◌, ◌<◌, Bool, cond, ◌==◌, List, [], ◌∷◌, count_by, count_ones, refl, ap, ◌∙◌, arith, add-one}
+use Rattle.std.proofs.Common.{◌≡◌, ℕ, zero, suc, ◌+◌, ◌*◌, ◌/◌, ◌%◌, ◌^◌, ◌<◌, Bool, cond, ◌==◌, List, [], ◌∷◌, count_by, count_ones, bit_or, max, refl, sym, ap, ◌∙◌, arith, add-one}
 use Rattle.std.specs.Int.{bit_at}
 use Rattle.std.specs.Int.Count.{ones_step}
 use Rattle.std.specs.List.{range_with_len}
 use Rattle.std.proofs.Math.Nat.{pow-suc}
 use Rattle.std.proofs.lemmas.List.Sums.{sum_by-cons}
-use Rattle.std.proofs.lemmas.Nat.{ones_le_self}
-use Rattle.std.proofs.lemmas.Nat.Bits.{bit_at-suc}
+use Rattle.std.proofs.lemmas.Nat.{ones_le_self, or_shr, or_disjoint, and_le_l}
+use Rattle.std.proofs.lemmas.Nat.Bits.{bit_at-suc, bit_at-lt, bit_at_lowest, bit_at_or}
 use Rattle.std.proofs.lemmas.Bool.Decides.{nat_tests}
+use Rattle.pcf_values.specs.declared.members.Members.{Members}
+use Rattle.membership.specs.Members.{IsMember, single, union, count_of}
 
 count_agrees : (p q : ℕ → Bool) (xs : List ℕ) → ((i : ℕ) → p i ≡ q i) → count_by p xs ≡ count_by q xs
 count_agrees p q [] same = refl
@@ -34,3 +36,27 @@ ones_by_bits (suc k) n small =
     count_shifted bit 0 k ∙ count_agrees (λ i. bit (i + 1)) (λ i. bit_at (n / 2) i == 1) (range_with_len 0 k) (next_bit n) in
     let half : n / 2 < 2 ^ k = omega (arith, small, pow-suc 2 k) in
     omega (arith, ones_step n, lowest n, rest, ones_by_bits k (n / 2) half, sum_by-cons (λ i. cond (bit i) 1 0) 0 (range_with_len 1 k))
+
+or_half : (a b : ℕ) → bit_or a b / 2 ≡ bit_or (a / 2) (b / 2)
+or_half a b = or_shr a b 1
+
+or_zero : (n : ℕ) → bit_or 0 n ≡ n
+or_zero n = omega (arith, or_disjoint 0 n (omega (arith, and_le_l 0 n)))
+
+or_parity : (a b : ℕ) → bit_or a b % 2 ≡ max (a % 2) (b % 2)
+or_parity a b = omega (arith, bit_at_or a b 0, bit_at_lowest (bit_or a b), bit_at_lowest a, bit_at_lowest b)
+
+-- a bit that is set anew is one more
+ones-set : (k n : ℕ) → bit_at n k ≡ 0 → count_ones (bit_or (2 ^ k) n) ≡ count_ones n + 1
+ones-set zero n clear =
+    let half : bit_or 1 n / 2 ≡ n / 2 = or_half 1 n ∙ or_zero (n / 2) in
+    omega (arith, ones_step (bit_or 1 n), ones_step n, ap count_ones half, or_parity 1 n, clear, bit_at_lowest n)
+ones-set (suc k) n clear =
+    let next : bit_at (n / 2) k ≡ 0 = sym (bit_at-suc n k) ∙ clear in
+    let power : 2 ^ suc k ≡ 2 * 2 ^ k = omega (arith, pow-suc 2 k) in
+    let half : bit_or (2 ^ suc k) n / 2 ≡ bit_or (2 ^ k) (n / 2) = or_half (2 ^ suc k) n ∙ ap (λ (a : ℕ). bit_or a (n / 2)) (omega (arith, power)) in
+    omega (arith, ones_step (bit_or (2 ^ suc k) n), ones_step n, ap count_ones half, or_parity (2 ^ suc k) n, ones-set k (n / 2) next, power)
+
+-- a master that is not in the set makes it one larger
+pub count_of-union_single : (k : ℕ) (m : Members) → ¬ IsMember k m → count_of (union (single k) m) ≡ count_of m + 1
+count_of-union_single k m out = ones-set k m.0 (omega (arith, out, bit_at-lt m.0 k))

@@ -1,5 +1,5 @@
 -- What a correction point comes to.
-use Rattle.std.proofs.Common.{◌≡◌, ◌↔◌, ℕ, ◌≤◌, max, leb, nat_le, if◌then◌else◌, ℤ, ◌+ℤ◌, ◌-ℤ◌, IsTrue, Bool, true, false, Option, Some, None, IfSome, option_map, option_and_then, sym, subst, arith}
+use Rattle.std.proofs.Common.{refl, IsSome, IsSomeAnd, ◌≡◌, ◌↔◌, ℕ, ◌≤◌, max, leb, nat_le, if◌then◌else◌, ℤ, ◌+ℤ◌, ◌-ℤ◌, IsTrue, Bool, true, false, Option, Some, None, IfSome, option_map, option_and_then, sym, subst, arith}
 use Rattle.std.specs.Option.{unwrap_or}
 use Rattle.std.proofs.lemmas.Bool.{leb-true, le-leb}
 use Rattle.std.proofs.lemmas.Int.{ints}
@@ -73,3 +73,7 @@ correction_small adjustment None None by small_a small_b same = absurd (cc)
 pub corrected_small : (s : Standing) (heard : Summary) (by : Units) → IfSome heard.best_a (IsNear s) → IfSome heard.best_b (IsNear s) → correction_of (deviation_on s heard A) (deviation_on s heard B) ≡ Some by → IsSmall (s.adjustment.0 +ℤ by.0)
 corrected_small s heard by near_a near_b same =
     correction_small s.adjustment.0 (deviation_on s heard A) (deviation_on s heard B) by (deviation_small s heard.best_a near_a) (deviation_small s heard.best_b near_b) same
+
+pub some_there : {A : Type 0} (o : Option A) (P : A → Type 0) → IsSomeAnd o P → IsSome o
+some_there None P h = absurd h
+some_there (Some x) P h = refl

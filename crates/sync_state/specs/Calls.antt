@@ -1,4 +1,4 @@
-use Rattle.std.specs.Prelude.{◌≡◌, ℕ, ◌+◌, ◌+ℤ◌, List, [], ◌∷◌, ◌++◌, fold, Option, Some, None, SomeIff}
+use Rattle.std.specs.Prelude.{◌≡◌, ℕ, ◌+◌, ◌+ℤ◌, List, [], ◌∷◌, ◌++◌, fold, Option, Some, None, IsSome, SomeIff}
 use Rattle.tte_units.specs.declared.units.Units.{Units}
 use Rattle.pcf_values.specs.declared.pcf.Pcf.{Pcf}
 use Rattle.membership.specs.Summary.{Summary}
@@ -8,7 +8,7 @@ use Rattle.sync_state.specs.declared.answers.Verdict.TheVariants.{Corrected, Syn
 use Rattle.sync_state.specs.declared.plan.SyncPlan.{SyncPlan}
 use Rattle.sync_state.specs.declared.state.State.{State}
 use Rattle.sync_state.specs.declared.state.State.TheVariants.{Off, Integrating, Joining, Synchronised}
-use Rattle.sync_state.specs.Standing.{Standing, state_at_start, adjustment_at_start}
+use Rattle.sync_state.specs.Standing.{Standing, state_at_start, adjustment_at_start, next_point}
 use Rattle.sync_state.specs.Integration.{Integrates, joined_by}
 use Rattle.sync_state.specs.Verdicts.{HasVerdict}
 
@@ -88,7 +88,7 @@ after_all plan start calls = record {
 abbrev pub IsAnswered : Standing → Call → Type 0
 IsAnswered s turned_on = s.state ≡ Off
 IsAnswered s (heard_frame frame point answer) = SomeIff answer (Integrates s frame) (joined_by s.plan frame point)
-IsAnswered s (reached_point heard verdict) = HasVerdict s heard verdict
+IsAnswered s (reached_point heard verdict) = IsSome (next_point s) × HasVerdict s heard verdict
 
 -- the device stands where its calls have brought it, and each of them is answered by where the earlier ones had brought it
 pub record Stands (plan : SyncPlan) (start : Option Units) (calls : List Call) (s : Standing) : Type 0 where

@@ -1,8 +1,8 @@
-use Rattle.std.proofs.Common.{ap}
-use Rattle.sync_state.specs.Standing.{Standing}
+use Rattle.std.proofs.Common.{IsSome, ap}
+use Rattle.sync_state.specs.Standing.{Standing, next_point}
 use Rattle.sync_state.specs.Calls.{reached_point}
 use Rattle.sync_state.proofs.CallLemmas.{one_more}
-use Rattle.sync_state.proofs.VerdictLemmas.{small_after}
+use Rattle.sync_state.proofs.VerdictLemmas.{small_after, some_there}
 use Rattle.sync_state.proofs.sync.Sync.at_correction.Goals as goal
 
 pub returns-clause-value : goal.returns-clause-value
@@ -17,4 +17,5 @@ pub returns-clause-calls : goal.returns-clause-calls
 returns-clause-calls c = λ plan start calls.
     let heard = c.args.heard.now in
     let point = reached_point heard c.verdict-verdict.result in
-    one_more plan start calls c.args.self.now _ point c.verdict-verdict.ensures.verdict (c.follow.ensures heard)
+    let has_point : IsSome (next_point c.args.self.now) = some_there _ _ c.requires.number in
+    one_more plan start calls c.args.self.now _ point (has_point, c.verdict-verdict.ensures.verdict) (c.follow.ensures heard)
