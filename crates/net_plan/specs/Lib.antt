@@ -1,0 +1,4 @@
+pub mod NameText
+pub mod Padding
+pub mod Unpacking
+pub mod Bearers
