@@ -1,5 +1,5 @@
 -- What a search by name finds is the first bearer.
-use Rattle.std.proofs.Common.{◌≡◌, ◌≢◌, ℕ, zero, suc, ◌<◌, ◌≤◌, List, [], ◌∷◌, map, length, get_or, Option, Some, None, MatchOption, refl, sym, ap, ◌∙◌, arith, rules}
+use Rattle.std.proofs.Common.{◌≡◌, ◌≢◌, ℕ, zero, suc, ◌<◌, List, [], ◌∷◌, map, length, Option, Some, MatchOption, refl, ap, ◌∙◌, arith, rules}
 use Rattle.std.specs.List.{AllWithin, HoldsAt, slice_get}
 use Rattle.std.proofs.lemmas.Option.{slice_get-map, slice_get_within, slice_get-get_or, get_or_from_slice_get}
 use Rattle.net_plan.specs.Bearers.{IsFirstBearer, HasNoBearer}

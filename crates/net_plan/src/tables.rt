@@ -1,4 +1,5 @@
 ghost use Rattle.std.specs.Prelude.{◌≡◌};
+ghost use Rattle.net_plan.specs.Places.{is_end_system};
 
 use crate::{DeviceId, LinkId, Name, VlId};
 use pcf_values::{Channel, Mac};
@@ -39,6 +40,18 @@ pub struct Device {
     pub channel: Option<Channel>,
     /// The local clock at world time 0, from 0 to 2^40. It is None for a device that begins off.
     pub start: Option<Units>,
+}
+
+impl Role {
+    /// Is this the role of an end system? The others are roles of switches.
+    pub fn is_end_system(self) -> bool
+        ensures { result ≡ is_end_system self }
+    {
+        match self {
+            Role::Master | Role::Client => true,
+            Role::Cm | Role::Relay => false,
+        }
+    }
 }
 
 /// A link between two devices, the parent nearer to the compression master.

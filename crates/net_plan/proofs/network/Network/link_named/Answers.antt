@@ -1,5 +1,4 @@
-use Rattle.std.proofs.Common.{rules, tests, ◌≡◌, ◌≢◌, ℕ, ◌<◌, length, List, Option, None, Some, MatchOption, sym, subst}
-use Rattle.std.specs.List.{AllWithin, HoldsAt}
+use Rattle.std.proofs.Common.{rules, tests, ◌≡◌, ◌≢◌, subst}
 use Rattle.std.proofs.lemmas.Iterator.{IsFirst-from_position, YieldsList-from_slice}
 use Rattle.net_plan.specs.declared.tables.Link.{Link}
 use Rattle.net_plan.proofs.Bearing.{IsSearched, bearer_found, no_bearer}
