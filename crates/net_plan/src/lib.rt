@@ -21,3 +21,6 @@ pub use network::Network;
 pub use octets::Octets;
 pub use path::Path;
 pub use tables::{Device, Devices, Link, Links, Role, Row, Rows, VirtualLink, VirtualLinks, Way};
+
+#[cfg(test)]
+mod tests;
