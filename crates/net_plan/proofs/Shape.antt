@@ -1,0 +1,53 @@
+-- The rules of a network's shape make its links a tree on each channel.
+use Rattle.std.proofs.Common.{◌≡◌, true, Some, sym, ◌∙◌, subst, ⊎_elim, arith}
+use Rattle.std.proofs.lemmas.Bool.{false≢true}
+use Rattle.net_plan.specs.Paths.{IsUplink}
+use Rattle.net_plan.specs.Places.{device_at, link_at, is_end_system, IsEndSystem, IsSwitchOf, IsRoleOf, IsCmOf}
+use Rattle.net_plan.specs.Rules.{KeepsShapeRules, IsChildOf, RulesGiveTrees}
+use Rattle.net_plan.specs.declared.ids.DeviceId.{DeviceId}
+use Rattle.net_plan.specs.declared.ids.LinkId.{LinkId}
+use Rattle.net_plan.specs.declared.network.Network.{Network}
+use Rattle.net_plan.specs.declared.tables.Device.{Device}
+use Rattle.net_plan.specs.declared.tables.Link.{Link}
+use Rattle.net_plan.specs.declared.tables.Role.{Role}
+use Rattle.net_plan.specs.declared.tables.Role.TheVariants.{Cm, Relay}
+use Rattle.net_plan.proofs.Trees.{opened, closed, at_known}
+use Rattle.pcf_values.specs.declared.channel.Channel.{Channel}
+
+-- a compression master is no end system and no relay
+cm_is_no_end : (r : Role) → r ≡ Cm → is_end_system r ≡ true → ⊥
+cm_is_no_end r e h = false≢true (subst (λ (x : Role). is_end_system x ≡ true) e h)
+
+cm_is_no_relay : (r : Role) → r ≡ Cm → r ≡ Relay → ⊥
+cm_is_no_relay r e h = grind (arith, e, h)
+
+root : (n : Network) → KeepsShapeRules n → (c : Channel) (cm : DeviceId) (link : LinkId) → IsCmOf n c cm → IsUplink n c cm link → ⊥
+root n keeps c cm link h u =
+    let l = opened (λ (x : Link). (x.child ≡ cm) × IsSwitchOf n c x.parent) (link_at n link) u in
+    let j = keeps.joins link.0 l.0 l.1 in
+    let d = opened (λ (x : Device). (x.role ≡ Cm) × (x.channel ≡ Some c)) (device_at n cm) h in
+    ⊎_elim
+    (λ (e : IsEndSystem n l.0.child). cm_is_no_end d.0.role d.2.0 (at_known (λ (x : Device). is_end_system x.role ≡ true) (device_at n cm) d.0 d.1 (subst (λ (i : DeviceId). IsEndSystem n i) l.2.0 e)))
+    (λ (r : IsRoleOf n Relay j.0 l.0.child). cm_is_no_relay d.0.role d.2.0 (at_known (λ (x : Device). (x.role ≡ Relay) × (x.channel ≡ Some j.0)) (device_at n cm) d.0 d.1 (subst (λ (i : DeviceId). IsRoleOf n Relay j.0 i) l.2.0 r)).0)
+    j.2
+
+child_of : (n : Network) (c : Channel) (d : DeviceId) (link : LinkId) → IsUplink n c d link → IsChildOf n d link
+child_of n c d link u =
+    let l = opened (λ (x : Link). (x.child ≡ d) × IsSwitchOf n c x.parent) (link_at n link) u in
+    closed (λ (x : Link). x.child ≡ d) (link_at n link) l.0 l.1 l.2.0
+
+one_uplink : (n : Network) → KeepsShapeRules n → (c : Channel) (d : DeviceId) (link other : LinkId) → IsUplink n c d link → IsUplink n c d other → link ≡ other
+one_uplink n keeps c d link other u v =
+    let l = opened (λ (x : Link). (x.child ≡ d) × IsSwitchOf n c x.parent) (link_at n link) u in
+    let j = keeps.joins link.0 l.0 l.1 in
+    ⊎_elim
+    (λ (e : IsEndSystem n l.0.child). let one = (keeps.connected d.0).ends (subst (λ (i : DeviceId). IsEndSystem n i) l.2.0 e) c in let r : link ≡ other = one.2 link u ∙ sym (one.2 other v) in r)
+    (λ (r : IsRoleOf n Relay j.0 l.0.child). let one = (keeps.connected d.0).relays j.0 (subst (λ (i : DeviceId). IsRoleOf n Relay j.0 i) l.2.0 r) in let r : link ≡ other = one.2 link (child_of n c d link u) ∙ sym (one.2 other (child_of n c d other v)) in r)
+    j.2
+
+pub rules_give_trees : RulesGiveTrees
+rules_give_trees n keeps = record {
+  root = root n keeps;
+  one_uplink = one_uplink n keeps;
+  reach = λ c d h. (keeps.connected d.0).paths c h;
+}

@@ -1,0 +1,50 @@
+-- Paths in the trees of a network.
+use Rattle.std.proofs.Common.{◌≡◌, List, [], ◌∷◌, Option, Some, None, refl, sym, ap, ◌∙◌, subst}
+use Rattle.std.specs.Prelude.{IsSomeAnd}
+use Rattle.net_plan.specs.Paths.{IsUplink, IsPath, IsTree, PathsAreUnique}
+use Rattle.net_plan.specs.Places.{link_at, IsSwitchOf}
+use Rattle.net_plan.specs.declared.ids.DeviceId.{DeviceId}
+use Rattle.net_plan.specs.declared.ids.LinkId.{LinkId}
+use Rattle.net_plan.specs.declared.network.Network.{Network}
+use Rattle.net_plan.specs.declared.tables.Link.{Link}
+use Rattle.pcf_values.specs.declared.channel.Channel.{Channel}
+
+-- the value behind `IsSomeAnd`, and back
+pub opened : {X : Type 0} (P : X → Type 0) (o : Option X) → IsSomeAnd o P → (x : X) × (o ≡ Some x) × P x
+opened P None h = absurd h
+opened P (Some x) h = (x, refl, h)
+
+pub closed : {X : Type 0} (P : X → Type 0) (o : Option X) (x : X) → o ≡ Some x → P x → IsSomeAnd o P
+closed P o x e h = subst (λ (s : Option _). IsSomeAnd s P) (sym e) h
+
+pub at_known : {X : Type 0} (P : X → Type 0) (o : Option X) (x : X) → o ≡ Some x → IsSomeAnd o P → P x
+at_known P o x e h = subst (λ (s : Option _). IsSomeAnd s P) e h
+
+-- the first link of a path is an uplink
+pub uplink_of_path : (n : Network) (c : Channel) (d : DeviceId) (link : LinkId) (links : List LinkId) → IsPath n c d (link ∷ links) → IsUplink n c d link
+uplink_of_path n c d link links h =
+    let k = opened (λ l. (l.child ≡ d) × IsSwitchOf n c l.parent × IsPath n c l.parent links) (link_at n link) h in
+    closed (λ l. (l.child ≡ d) × IsSwitchOf n c l.parent) (link_at n link) k.0 k.1 (k.2.0, k.2.1)
+
+-- a path goes by each uplink that there is
+pub followed : (n : Network) (c : Channel) (d : DeviceId) (link : LinkId) (k : Link) (rest : List LinkId) → IsTree n → IsUplink n c d link → link_at n link ≡ Some k → IsPath n c d rest → (later : List LinkId) × (rest ≡ link ∷ later) × IsPath n c k.parent later
+followed n c d link k [] tree up at h = absurd (tree.root c d link h up)
+followed n c d link k (m ∷ ms) tree up at h =
+    let same : m ≡ link = tree.one_uplink c d m link (uplink_of_path n c d m ms h) up in
+    let here : IsPath n c d (link ∷ ms) = subst (λ (x : LinkId). IsPath n c d (x ∷ ms)) same h in
+    let parts = at_known (λ l. (l.child ≡ d) × IsSwitchOf n c l.parent × IsPath n c l.parent ms) (link_at n link) k at here in
+    (ms, ap (λ (x : LinkId). x ∷ ms) same, parts.2)
+
+-- a path of a device with no uplink is empty
+pub ended : (n : Network) (c : Channel) (d : DeviceId) (rest : List LinkId) → ((link : LinkId) → IsUplink n c d link → ⊥) → IsPath n c d rest → rest ≡ []
+ended n c d [] none h = refl
+ended n c d (m ∷ ms) none h = absurd (none m (uplink_of_path n c d m ms h))
+
+-- a device has no two paths on a channel
+pub paths_are_unique : PathsAreUnique
+paths_are_unique n c d [] [] tree h g = refl
+paths_are_unique n c d [] (m ∷ ms) tree h g = absurd (tree.root c d m h (uplink_of_path n c d m ms g))
+paths_are_unique n c d (l ∷ ls) others tree h g =
+    let k = opened (λ x. (x.child ≡ d) × IsSwitchOf n c x.parent × IsPath n c x.parent ls) (link_at n l) h in
+    let f = followed n c d l k.0 others tree (uplink_of_path n c d l ls h) k.1 g in
+    ap (λ (xs : List LinkId). l ∷ xs) (paths_are_unique n c k.0.parent ls f.0 tree k.2.2 f.2) ∙ sym f.1

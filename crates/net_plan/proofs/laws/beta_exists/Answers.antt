@@ -1,0 +1,5 @@
+use Rattle.net_plan.proofs.Beta.{beta_exists}
+use Rattle.net_plan.proofs.laws.beta_exists.Goals as goal
+
+pub returns : goal.returns
+returns c = beta_exists

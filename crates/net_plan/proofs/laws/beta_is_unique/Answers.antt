@@ -1,0 +1,5 @@
+use Rattle.net_plan.proofs.Beta.{beta_is_unique}
+use Rattle.net_plan.proofs.laws.beta_is_unique.Goals as goal
+
+pub returns : goal.returns
+returns c = beta_is_unique

@@ -1,0 +1,13 @@
+use Rattle.std.proofs.Common.{rules, length}
+use Rattle.net_plan.specs.Bounds.{jitter_on}
+use Rattle.net_plan.specs.declared.ids.LinkId.{LinkId}
+use Rattle.net_plan.proofs.Greatest.{greatest_from_path}
+use Rattle.net_plan.proofs.network.Network.extent_from.Goals as goal
+
+pub returns-then-is_device_of-clause-jitter : goal.returns-then-is_device_of-clause-jitter
+returns-then-is_device_of-clause-jitter c =
+    greatest_from_path c.args.self.now c.args.channel c.args.device (jitter_on c.args.self.now) c.path.result c.extent.result.jitter c.requires.tree (search rules) c.path.ensures.leads c.extent.ensures.jitter
+
+pub returns-then-is_device_of-clause-links : goal.returns-then-is_device_of-clause-links
+returns-then-is_device_of-clause-links c =
+    greatest_from_path c.args.self.now c.args.channel c.args.device (length {A = LinkId}) c.path.result c.extent.result.links c.requires.tree (search rules) c.path.ensures.leads c.extent.ensures.links

@@ -1,0 +1,9 @@
+pub mod NameText
+pub mod Padding
+pub mod Unpacking
+pub mod Bearers
+pub mod Places
+pub mod Paths
+pub mod Ranges
+pub mod Bounds
+pub mod Rules

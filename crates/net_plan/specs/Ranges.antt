@@ -1,0 +1,75 @@
+use Rattle.std.specs.Prelude.{◌≡◌, ◌≢◌, ◌⊎◌, ℕ, ◌≤◌, ◌<◌, ◌^◌, ◌≤ℤ◌, pos, unsigned_abs, not, is_some, IfSome, length}
+use Rattle.std.specs.List.{All}
+use Rattle.net_plan.specs.NameText.{IsNameText}
+use Rattle.net_plan.specs.Places.{is_end_system, is_master}
+use Rattle.net_plan.specs.declared.network.Network.{Network}
+use Rattle.net_plan.specs.declared.tables.Device.{Device}
+use Rattle.net_plan.specs.declared.tables.Link.{Link}
+use Rattle.net_plan.specs.declared.tables.VirtualLink.{VirtualLink}
+use Rattle.net_plan.specs.declared.tables.Row.{Row}
+use Rattle.tte_units.specs.declared.units.Units.{Units}
+
+-- how many units these are, where they are not negative
+abbrev pub amount : Units → ℕ
+amount units = unsigned_abs units.0
+
+-- from low to high units
+pub record IsWithin (low high : ℕ) (units : Units) : Type 0 where
+  pub least : pos low ≤ℤ units.0
+  pub most : units.0 ≤ℤ pos high
+
+pub record IsDeviceInRange (device : Device) : Type 0 where
+  pub name : IsNameText device.name
+  pub masters : is_some device.member ≡ is_master device.role
+  pub member : IfSome device.member (λ m. m ≤ 31)
+  pub switches : is_some device.channel ≡ not (is_end_system device.role)
+  pub start : IfSome device.start (IsWithin 0 (2 ^ 40))
+
+pub record IsLinkInRange (network : Network) (link : Link) : Type 0 where
+  pub name : IsNameText link.name
+  pub child : link.child.0 < length network.device
+  pub parent : link.parent.0 < length network.device
+  pub wire : IsWithin 1 (2 ^ 40) link.wire
+  pub jitter : IsWithin 0 (2 ^ 40) link.jitter
+  pub hold : IsWithin 0 (2 ^ 40) link.hold
+
+-- 35,101 is the EtherType of protocol control frames
+pub record IsVlInRange (network : Network) (vl : VirtualLink) : Type 0 where
+  pub name : IsNameText vl.name
+  pub length_least : 60 ≤ vl.length
+  pub length_most : vl.length ≤ 1514
+  pub ethertype_least : 1536 ≤ vl.ethertype
+  pub ethertype_other : vl.ethertype ≢ 35101
+  pub sender : vl.sender.0 < length network.device
+  pub period_least : 1 ≤ vl.period
+  pub period_most : vl.period ≤ 64
+  pub phase : vl.phase ≤ 63
+
+pub record IsRowInRange (network : Network) (row : Row) : Type 0 where
+  pub vl : row.vl.0 < length network.vl
+  pub link : row.link.0 < length network.link
+  pub offset : IsWithin 0 (2 ^ 40) row.offset
+
+-- each number of the network lies in its range, each id names a thing, and a member number and a
+-- channel stand where the role has one
+pub record IsInRange (network : Network) : Type 0 where
+  pub version : (network.version ≡ 1) ⊎ (network.version ≡ 2)
+  pub cycle : IsWithin (2 ^ 32) (2 ^ 40) network.cycle
+  pub rho : network.rho ≤ 1000000
+  pub grain : IsWithin 1 1048576 network.grain
+  pub dmax : IsWithin 1 (2 ^ 40) network.dmax
+  pub calc : IsWithin 1 (2 ^ 40) network.calc
+  pub settled : IsWithin 0 (2 ^ 40) network.settled
+  pub precision : IsWithin 1 (2 ^ 40) network.precision
+  pub correction : IsWithin 0 (2 ^ 40) network.correction
+  pub tt_start : IsWithin 0 (2 ^ 40) network.tt_start
+  pub threshold_least : 1 ≤ network.sync_threshold
+  pub threshold_most : network.sync_threshold ≤ 31
+  pub few_devices : length network.device < 2 ^ 32
+  pub few_links : length network.link < 2 ^ 32
+  pub few_vls : length network.vl < 2 ^ 32
+  pub few_rows : length network.row < 2 ^ 32
+  pub devices : All IsDeviceInRange network.device
+  pub links : All (IsLinkInRange network) network.link
+  pub vls : All (IsVlInRange network) network.vl
+  pub rows : All (IsRowInRange network) network.row
