@@ -5,3 +5,4 @@ pub mod Trees
 pub mod Greatest
 pub mod Shape
 pub mod Beta
+pub mod Chain

@@ -15,10 +15,11 @@ use Rattle.tte_units.specs.Slip.{slip_of}
 abbrev pub gamma_of : Network → ℕ
 gamma_of network = slip_of network.rho (2 * amount network.cycle) + 4 * (amount network.grain - 1)
 
--- how far the wire delay of the link varies, and the sum of this over some links
+-- how far the wire delay of the link varies
 abbrev pub jitter_of : Network → LinkId → ℕ
 jitter_of network link = option_map_or (λ l. amount l.jitter) (link_at network link) 0
 
+-- how far the wire delays of these links vary together
 abbrev pub jitter_on : Network → List LinkId → ℕ
 jitter_on network links = sum_by (jitter_of network) links
 
@@ -27,16 +28,17 @@ pub record IsGreatest (Has : ℕ → Type 0) (m : ℕ) : Type 0 where
   pub most : (n : ℕ) → Has n → n ≤ m
   pub reached : (m ≡ 0) ⊎ Has m
 
--- the measure of some path: of this device on this channel, of a device on this channel, and of a
--- device on either channel
+-- n is the measure of a path of this device on this channel
 abbrev pub IsOfPathFrom : Network → Channel → DeviceId → (List LinkId → ℕ) → ℕ → Type 0
 IsOfPathFrom network channel device measure n =
     (links : List LinkId)
     × IsDeviceOf network channel device × IsPath network channel device links × (measure links ≡ n)
 
+-- n is the measure of a path of some device on this channel
 abbrev pub IsOfPathOn : Network → Channel → (List LinkId → ℕ) → ℕ → Type 0
 IsOfPathOn network channel measure n = (device : DeviceId) × IsOfPathFrom network channel device measure n
 
+-- n is the measure of a path of some device on some channel
 abbrev pub IsOfPath : Network → (List LinkId → ℕ) → ℕ → Type 0
 IsOfPath network measure n = (channel : Channel) × IsOfPathOn network channel measure n
 

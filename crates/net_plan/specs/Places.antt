@@ -23,6 +23,7 @@ is_end_system Client = true
 is_end_system Cm = false
 is_end_system Relay = false
 
+-- the role of synchronisation masters
 abbrev pub is_master : Role → Bool
 is_master Master = true
 is_master Client = false

@@ -18,6 +18,8 @@ pub record IsWithin (low high : ℕ) (units : Units) : Type 0 where
   pub least : pos low ≤ℤ units.0
   pub most : units.0 ≤ℤ pos high
 
+-- the device's name is one, its numbers lie in their ranges, and it has a member number exactly where
+-- it is a master, and a channel exactly where it is a switch
 pub record IsDeviceInRange (device : Device) : Type 0 where
   pub name : IsNameText device.name
   pub masters : is_some device.member ≡ is_master device.role
@@ -25,6 +27,7 @@ pub record IsDeviceInRange (device : Device) : Type 0 where
   pub switches : is_some device.channel ≡ not (is_end_system device.role)
   pub start : IfSome device.start (IsWithin 0 (2 ^ 40))
 
+-- the link's ids are of devices, its name is one, and its numbers lie in their ranges
 pub record IsLinkInRange (network : Network) (link : Link) : Type 0 where
   pub name : IsNameText link.name
   pub child : link.child.0 < length network.device
@@ -33,7 +36,8 @@ pub record IsLinkInRange (network : Network) (link : Link) : Type 0 where
   pub jitter : IsWithin 0 (2 ^ 40) link.jitter
   pub hold : IsWithin 0 (2 ^ 40) link.hold
 
--- 35,101 is the EtherType of protocol control frames
+-- the virtual link's sender is a device, its name is one, and its numbers lie in their ranges; 35,101
+-- is the EtherType of protocol control frames
 pub record IsVlInRange (network : Network) (vl : VirtualLink) : Type 0 where
   pub name : IsNameText vl.name
   pub length_least : 60 ≤ vl.length
@@ -45,13 +49,14 @@ pub record IsVlInRange (network : Network) (vl : VirtualLink) : Type 0 where
   pub period_most : vl.period ≤ 64
   pub phase : vl.phase ≤ 63
 
+-- the row's ids are of a virtual link and of a link, and its offset lies in its range
 pub record IsRowInRange (network : Network) (row : Row) : Type 0 where
   pub vl : row.vl.0 < length network.vl
   pub link : row.link.0 < length network.link
   pub offset : IsWithin 0 (2 ^ 40) row.offset
 
--- each number of the network lies in its range, each id names a thing, and a member number and a
--- channel stand where the role has one
+-- each number of the network lies in its range, each list is short enough for ids, and each of its
+-- entries is in range
 pub record IsInRange (network : Network) : Type 0 where
   pub version : (network.version ≡ 1) ⊎ (network.version ≡ 2)
   pub cycle : IsWithin (2 ^ 32) (2 ^ 40) network.cycle

@@ -1,14 +1,16 @@
-ghost use Rattle.std.specs.Prelude.{◌≡◌, ◌^◌, [], ◌∷◌, pos, ◌≤ℤ◌};
+ghost use Rattle.std.specs.Prelude.{◌≡◌, ◌^◌, [], IfOk, Some, false};
 ghost use Rattle.net_plan.specs.NameText.{IsNameText};
-ghost use Rattle.net_plan.specs.Ranges.{IsInRange, IsWithin};
+ghost use Rattle.net_plan.specs.Paths.{IsTree};
+ghost use Rattle.net_plan.specs.Places.{is_end_system};
+ghost use Rattle.net_plan.specs.Ranges.{IsDeviceInRange, IsInRange, IsWithin};
 
 use crate::{
-    Device, DeviceId, Devices, Event, LinkId, Links, Name, Network, Octets, Role, Rows,
+    Device, DeviceId, Devices, Event, Link, LinkId, Links, Name, Network, Octets, Role, Rows,
     VirtualLinks, What,
 };
 use pcf_values::{Channel, Mac};
-use std::alloc::Global;
-use tte_units::Units;
+use std::alloc::{AllocError, Global};
+use tte_units::{Speed, Units};
 
 #[test]
 fn a_name_keeps_its_text(rt: HostRuntime) {
@@ -41,12 +43,16 @@ fn sent(octets: Octets) -> Event {
     }
 }
 
-fn switch(name: &str) -> Device
-    requires { IsNameText name.now }
+fn switch(name: &str, role: Role) -> Device
+    requires name { IsNameText name.now }
+    requires switch { is_end_system role ≡ false }
+    ensures range { IsDeviceInRange result }
+    ensures role { result.role ≡ role }
+    ensures channel { result.channel ≡ Some Channel.A }
 {
     Device {
         name: Name::new(name),
-        role: Role::Cm,
+        role,
         mac: Mac::from_number(0x0200_0000_0022),
         member: None,
         channel: Some(Channel::A),
@@ -57,7 +63,9 @@ fn switch(name: &str) -> Device
 // The numbers of the worked network, with no device yet.
 fn bare(alloc: Global, grain: Units) -> Network
     requires { IsWithin 1 1048576 grain }
-    ensures { IsInRange result }
+    ensures range { IsInRange result }
+    ensures vls { result.vl ≡ [] }
+    ensures rows { result.row ≡ [] }
 {
     Network {
         version: 1,
@@ -82,12 +90,54 @@ fn bare(alloc: Global, grain: Units) -> Network
     }
 }
 
+// A link with the worked network's numbers.
+fn link(name: &str, child: DeviceId, parent: DeviceId) -> Link
+    requires { IsNameText name.now }
+    ensures name { IsNameText result.name }
+    ensures child { result.child ≡ child }
+    ensures parent { result.parent ≡ parent }
+    ensures wire { IsWithin 1 (2 ^ 40) result.wire }
+    ensures jitter { IsWithin 0 (2 ^ 40) result.jitter }
+    ensures hold { IsWithin 0 (2 ^ 40) result.hold }
+{
+    Link {
+        name: Name::new(name),
+        child,
+        parent,
+        wire: Units(32_768_000),
+        jitter: Units(1_310_720),
+        hold: Units(1_310_720_000),
+        speed: Speed::Mbit100,
+    }
+}
+
+// Two relays below a compression master, the one below the other, as on a channel of the worked
+// network.
+fn chain(alloc: Global, grain: Units) -> Result<Network, AllocError>
+    requires { IsWithin 1 1048576 grain }
+    ensures range { IfOk result IsInRange }
+    ensures tree { IfOk result IsTree }
+{
+    let mut devices = Vec::new(alloc);
+    devices.push(switch("r1", Role::Relay))?;
+    devices.push(switch("r2", Role::Relay))?;
+    devices.push(switch("ca", Role::Cm))?;
+    let mut links = Vec::new(alloc);
+    links.push(link("r1_r2", DeviceId(0), DeviceId(1)))?;
+    links.push(link("r2_ca", DeviceId(1), DeviceId(2)))?;
+    Ok(Network {
+        device: Devices(devices),
+        link: Links(links),
+        ..bare(alloc, grain)
+    })
+}
+
 #[test]
 fn the_first_bearer_of_a_name_is_found(rt: HostRuntime) {
     let mut devices = Vec::new(rt.alloc());
-    devices.push(switch("ca")).expect(&rt, "memory");
-    devices.push(switch("cb")).expect(&rt, "memory");
-    devices.push(switch("cb")).expect(&rt, "memory");
+    devices.push(switch("ca", Role::Cm)).expect(&rt, "memory");
+    devices.push(switch("cb", Role::Cm)).expect(&rt, "memory");
+    devices.push(switch("cb", Role::Cm)).expect(&rt, "memory");
     let network = Network {
         device: Devices(devices),
         ..bare(rt.alloc(), Units(1))
@@ -103,4 +153,29 @@ fn the_first_bearer_of_a_name_is_found(rt: HostRuntime) {
 fn gamma_grows_with_the_grain(rt: HostRuntime) {
     assert!(rt; bare(rt.alloc(), Units(1)).gamma() == Units(26_214_404));
     assert!(rt; bare(rt.alloc(), Units(4096)).gamma() == Units(26_230_784));
+}
+
+#[test]
+fn a_path_goes_up_to_the_compression_master(rt: HostRuntime) {
+    let network = chain(rt.alloc(), Units(1)).expect(&rt, "memory");
+    if network.is_device_of(DeviceId(0), Channel::A) {
+        assert!(rt;
+            network.path(DeviceId(0), Channel::A).as_slice() == [LinkId(0), LinkId(1)].as_slice()
+        );
+    }
+    if network.is_device_of(DeviceId(2), Channel::A) {
+        assert!(rt; network.path(DeviceId(2), Channel::A).as_slice() == [].as_slice());
+    }
+    assert!(rt; network.is_device_of(DeviceId(0), Channel::A));
+    assert!(rt; !network.is_device_of(DeviceId(0), Channel::B));
+    assert!(rt; network.is_device_of(DeviceId(2), Channel::A));
+    assert!(rt; !network.is_device_of(DeviceId(3), Channel::A));
+}
+
+#[test]
+fn beta_is_of_the_longest_path(rt: HostRuntime) {
+    let network = chain(rt.alloc(), Units(1)).expect(&rt, "memory");
+    assert!(rt; network.beta() == Units(3_276_832));
+    let coarse = chain(rt.alloc(), Units(4096)).expect(&rt, "memory");
+    assert!(rt; coarse.beta() == Units(3_407_872));
 }
