@@ -11,7 +11,7 @@ use Rattle.compression.specs.Clusters.{Point, Cluster}
 use Rattle.compression.specs.Emission.{emission}
 use Rattle.compression.specs.Role.{open_at}
 use Rattle.compression.specs.Collection.{opening, joined_end, joined}
-use Rattle.compression.specs.Collecting.{Collecting, with_opened, with_joined, emissions}
+use Rattle.compression.specs.Collecting.{Collecting, with_opened, last_joined, emissions}
 use Rattle.compression.specs.Row.{IsCollection, IsRow, IsSound}
 use Rattle.compression.proofs.Ascents.{IsAscending-push}
 use Rattle.compression.proofs.Rows.{last_split, last_or-none, opened-before, row_last, row-push, row-replace, row-room, MayFollow-later}
@@ -117,8 +117,17 @@ last_or-push (p ∷ ps) q = after p ps
     after p [] = refl
     after p (r ∷ rs) = after r rs
 
+-- a collector whose last collection, after those in front, is joined by a point
+abbrev pub with_last : Collecting → List Cluster → Cluster → Point → Collecting
+with_last v front c p = record v { earliest = p.reading; waiting = front ++ joined v.ow c p.reading p.master ∷ [] }
+
+pub last_joined-split : (ow : ℤ) (p : Point) (front : List Cluster) (c : Cluster) → last_joined ow p (front ++ c ∷ []) ≡ front ++ joined ow c p.reading p.master ∷ []
+last_joined-split ow p [] c = refl
+last_joined-split ow p (k ∷ []) c = refl
+last_joined-split ow p (k ∷ m ∷ ms) c = ap (λ (ks : List Cluster). k ∷ ks) (last_joined-split ow p (m ∷ ms) c)
+
 -- a collector whose last collection is joined
-pub IsSound-joined : (v : Collecting) (front : List Cluster) (c : Cluster) (p : Point) → IsSound v → v.earliest ≤ℤ p.reading → v.waiting ≡ front ++ c ∷ [] → p.reading ≤ℤ c.end → IsSound (with_joined v front c p)
+pub IsSound-joined : (v : Collecting) (front : List Cluster) (c : Cluster) (p : Point) → IsSound v → v.earliest ≤ℤ p.reading → v.waiting ≡ front ++ c ∷ [] → p.reading ≤ℤ c.end → IsSound (with_last v front c p)
 IsSound-joined v front c p sound order split here =
     let row : IsRow v.ow v.earliest (front ++ c ∷ []) = subst (IsRow v.ow v.earliest) split sound.row in
     let last = row_last v.ow v.earliest front c row in

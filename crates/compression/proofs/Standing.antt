@@ -7,13 +7,13 @@ use Rattle.std.proofs.lemmas.List.Elements.{recursion_from_All, All-from_recursi
 use Rattle.compression.specs.Clusters.{Point, Cluster, AreClusters, beyond}
 use Rattle.compression.specs.Role.{has_point_of, open_at}
 use Rattle.compression.specs.Collection.{opening, joined}
-use Rattle.compression.specs.Collecting.{Collecting, with_opened, with_joined}
+use Rattle.compression.specs.Collecting.{Collecting, with_opened}
 use Rattle.compression.specs.Row.{IsRow, IsSound}
 use Rattle.compression.specs.Stands.{Stands}
 use Rattle.compression.specs.declared.compressed.Compressed.{Compressed}
 use Rattle.compression.proofs.Growth.{AreClusters-opened, AreClusters-within, Grows}
 use Rattle.compression.proofs.Rows.{row_last, opened-before}
-use Rattle.compression.proofs.Sound.{all_ended, joined_end-within}
+use Rattle.compression.proofs.Sound.{with_last, all_ended, joined_end-within}
 
 -- ends that lie before a later reading
 pub ended_later : (t r : ℤ) (cs : List Cluster) → t ≤ℤ r → AllByRecursion (λ c. c.end <ℤ t) cs → AllByRecursion (λ c. c.end <ℤ r) cs
@@ -51,7 +51,7 @@ stands_within v points emitted p front c d sound order split here longer grows s
     (AreClusters-within v.ow points (s.done ++ front) c d p (omega (arith, ints, sound.some, sound.short)) are (all-append p.reading s.done front done before) (omega (arith, ints, opened, order)) here longer grows)
 
 -- one that joins it
-pub Stands-joined : (v : Collecting) (points : List Point) (emitted : List Compressed) (p : Point) (front : List Cluster) (c : Cluster) → IsSound v → v.earliest ≤ℤ p.reading → v.waiting ≡ front ++ c ∷ [] → p.reading ≤ℤ c.end → p.cycle ≡ c.cycle → has_point_of c p.master ≡ false → Stands v points emitted → Stands (with_joined v front c p) (points ++ p ∷ []) emitted
+pub Stands-joined : (v : Collecting) (points : List Point) (emitted : List Compressed) (p : Point) (front : List Cluster) (c : Cluster) → IsSound v → v.earliest ≤ℤ p.reading → v.waiting ≡ front ++ c ∷ [] → p.reading ≤ℤ c.end → p.cycle ≡ c.cycle → has_point_of c p.master ≡ false → Stands v points emitted → Stands (with_last v front c p) (points ++ p ∷ []) emitted
 Stands-joined v points emitted p front c sound order split here same new s =
     let last = row_last v.ow v.earliest front c (subst (IsRow v.ow v.earliest) split sound.row) in
     let ends = joined_end-within v.ow c p.reading last.collection (omega (arith, ints, sound.some, sound.short)) in

@@ -8,14 +8,14 @@ use Rattle.std.proofs.lemmas.List.Elements.{recursion_from_All}
 use Rattle.compression.specs.Clusters.{Point, Cluster, AreClusters}
 use Rattle.compression.specs.Role.{has_point_of, open_at, role_in, role}
 use Rattle.compression.specs.Collection.{joined, CanTake}
-use Rattle.compression.specs.Collecting.{Collecting, with_opened, with_joined}
+use Rattle.compression.specs.Collecting.{Collecting, with_opened, last_joined}
 use Rattle.compression.specs.Row.{IsRow, IsSound}
 use Rattle.compression.specs.Stands.{Stands}
 use Rattle.compression.specs.declared.taken.Taken.TheVariants.{Opened, Joined, Repeat, OtherCycle}
 use Rattle.compression.specs.declared.compressed.Compressed.{Compressed}
 use Rattle.compression.proofs.Roles.{open_at-in, open_at-beyond, open_at-none}
 use Rattle.compression.proofs.Rows.{last_split, last_or-none, row_last, MayFollow-later}
-use Rattle.compression.proofs.Sound.{open_at-some, IsSound-joined}
+use Rattle.compression.proofs.Sound.{with_last, last_joined-split, open_at-some, IsSound-joined}
 use Rattle.compression.proofs.Standing.{ended_later, Stands-opened, Stands-joined, Stands-ignored, AreClusters-unique}
 
 -- the open collection and why a point joins it
@@ -117,18 +117,13 @@ able v reading master sound order room =
           order = MayFollow-later c.points v.earliest reading order last.may;
         })
 
--- the last collection, which a point joins
-pub record Last_joined (v : Collecting) (p : Point) : Type 0 where
-  pub front : List Cluster
-  pub c : Cluster
-  pub split : v.waiting ≡ front ++ c ∷ []
-
-pub last_joined : (v : Collecting) (p : Point) → Joined ≡ role v.waiting p → Last_joined v p
-last_joined v p is =
+-- what waits where a point joined the last
+pub last_is_joined : (v : Collecting) (p : Point) (waiting : List Cluster) → Joined ≡ role v.waiting p → ((front : List Cluster) (c : Cluster) → v.waiting ≡ front ++ c ∷ [] → waiting ≡ front ++ joined v.ow c p.reading p.master ∷ []) → waiting ≡ last_joined v.ow p v.waiting
+last_is_joined v p waiting is joins =
     let j = role_in-joined (open_at v.waiting p.reading) p (sym is) in
     let at = open_at-some v.waiting p.reading j.c j.is in
     let split = last_split v.waiting j.c at.0 in
-    record { front = split.0; c = j.c; split = split.1 }
+    joins split.0 j.c split.1 ∙ sym (last_joined-split v.ow p split.0 j.c) ∙ sym (ap (last_joined v.ow p) split.1)
 
 -- where a collector stands with a point that opens a collection, one that joins, and one that is ignored
 pub Stands-role_opened : (v w : Collecting) (p : Point) → IsSound v → v.earliest ≤ℤ p.reading → Opened ≡ role v.waiting p → w ≡ with_opened v p → (points : List Point) (emitted : List Compressed) → Stands v points emitted → Stands w (points ++ p ∷ []) emitted
@@ -136,7 +131,7 @@ Stands-role_opened v w p sound order is opens points emitted s =
     let none = role_in-opened (open_at v.waiting p.reading) p (sym is) in
     subst (λ (u : Collecting). Stands u (points ++ p ∷ []) emitted) (sym opens) (Stands-opened v points emitted p sound order none s)
 
-pub Stands-role_joined : (v w : Collecting) (p : Point) → IsSound v → v.earliest ≤ℤ p.reading → Joined ≡ role v.waiting p → ((front : List Cluster) (c : Cluster) → v.waiting ≡ front ++ c ∷ [] → w ≡ with_joined v front c p) → (points : List Point) (emitted : List Compressed) → Stands v points emitted → Stands w (points ++ p ∷ []) emitted
+pub Stands-role_joined : (v w : Collecting) (p : Point) → IsSound v → v.earliest ≤ℤ p.reading → Joined ≡ role v.waiting p → ((front : List Cluster) (c : Cluster) → v.waiting ≡ front ++ c ∷ [] → w ≡ with_last v front c p) → (points : List Point) (emitted : List Compressed) → Stands v points emitted → Stands w (points ++ p ∷ []) emitted
 Stands-role_joined v w p sound order is joins points emitted s =
     let j = role_in-joined (open_at v.waiting p.reading) p (sym is) in
     let at = open_at-some v.waiting p.reading j.c j.is in

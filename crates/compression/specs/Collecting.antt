@@ -20,9 +20,15 @@ fresh ow calc = record { ow = ow; calc = calc; earliest = least_reading; waiting
 abbrev pub with_opened : Collecting → Point → Collecting
 with_opened v p = record v { earliest = p.reading; waiting = v.waiting ++ opening v.ow p ∷ [] }
 
--- a collector whose last collection, after those in front, is joined by a point
-abbrev pub with_joined : Collecting → List Cluster → Cluster → Point → Collecting
-with_joined v front c p = record v { earliest = p.reading; waiting = front ++ joined v.ow c p.reading p.master ∷ [] }
+-- these collections, of which a point joins the last
+abbrev pub last_joined : ℤ → Point → List Cluster → List Cluster
+last_joined ow p [] = []
+last_joined ow p (c ∷ []) = joined ow c p.reading p.master ∷ []
+last_joined ow p (c ∷ d ∷ cs) = c ∷ last_joined ow p (d ∷ cs)
+
+-- a collector whose last collection a point joins
+abbrev pub with_joined : Collecting → Point → Collecting
+with_joined v p = record v { earliest = p.reading; waiting = last_joined v.ow p v.waiting }
 
 -- the emission readings of the clusters that wait
 abbrev pub emissions : Collecting → List ℤ

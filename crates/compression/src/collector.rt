@@ -91,9 +91,7 @@ impl Collector {
             (λ c. c.cycle ≢ cycle) }
 
         ensures opens { result ≡ Taken.Opened → self.new ≡ with_opened self.old (point_at reading.0 master cycle) }
-        ensures joins { result ≡ Taken.Joined
-            → (front : List Cluster) × (c : Cluster) × (self.old.waiting ≡ front ++ c ∷ [])
-            × (self.new ≡ with_joined self.old front c (point_at reading.0 master cycle)) }
+        ensures joins { result ≡ Taken.Joined → self.new ≡ with_joined self.old (point_at reading.0 master cycle) }
         ensures ignores { (result ≡ Taken.Repeat) ⊎ (result ≡ Taken.OtherCycle) → self.new ≡ self.old }
 
         // What it answers is the point's role by the clusters of all points before it.

@@ -111,3 +111,19 @@ fn an_early_broken_master_does_not_split_the_others(rt: HostRuntime) {
     };
     assert!(rt; collector.emit() == all);
 }
+
+#[test]
+fn five_collections_wait_at_once(rt: HostRuntime) {
+    let mut collector = Collector::new(Units(10), Units(10));
+    assert!(rt; collector.point(Units(0), 0, 1) == Taken::Opened);
+    assert!(rt; collector.point(Units(10), 1, 1) == Taken::Joined);
+    assert!(rt; collector.point(Units(20), 2, 1) == Taken::Joined);
+    assert!(rt; collector.point(Units(20), 3, 1) == Taken::Joined);
+    assert!(rt; collector.point(Units(21), 0, 1) == Taken::Opened);
+    assert!(rt; collector.point(Units(32), 0, 1) == Taken::Opened);
+    assert!(rt; collector.point(Units(43), 0, 1) == Taken::Opened);
+    assert!(rt; collector.point(Units(54), 0, 1) == Taken::Opened);
+    assert!(rt; collector.due() == Some(Units(45)));
+    assert!(rt; collector.emit().at == Units(45));
+    assert!(rt; collector.emit().at == Units(51));
+}

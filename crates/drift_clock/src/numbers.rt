@@ -1,9 +1,8 @@
-ghost use Rattle.std.specs.Prelude.{◌≡◌, ◌<◌, ◌≤◌, ◌^◌, ◌+◌, ◌*◌, pos, ◌≤ℤ◌};
-ghost use Rattle.std.specs.Int.{next_multiple_of};
+ghost use Rattle.std.specs.Prelude.{◌≡◌, ◌<◌, ◌^◌, pos, ◌≤ℤ◌};
 
 use tte_units::Units;
 
-// A number of units that is not negative.
+/// How many units these are, which are not negative.
 pub fn whole(v: Units) -> u64
     requires { pos 0 ≤ℤ v.0 }
     ensures { v.0 ≡ pos result }
@@ -11,6 +10,7 @@ pub fn whole(v: Units) -> u64
     v.0 as u64
 }
 
+/// So many units.
 pub fn units(n: u64) -> Units
     requires { n < 2 ^ 63 }
     ensures { result.0 ≡ pos n }

@@ -6,7 +6,7 @@ use Rattle.compression.specs.Role.{role}
 use Rattle.compression.specs.Stands.{Stands}
 use Rattle.compression.specs.declared.taken.Taken.{Taken}
 use Rattle.compression.specs.declared.taken.Taken.TheVariants.{Opened, Joined, Repeat, OtherCycle}
-use Rattle.compression.proofs.Taking.{able, last_joined, role-whole, IsSound-takes, Stands-role_opened, Stands-role_joined, Stands-role_ignored}
+use Rattle.compression.proofs.Taking.{able, last_is_joined, role-whole, IsSound-takes, Stands-role_opened, Stands-role_joined, Stands-role_ignored}
 use Rattle.compression.proofs.collector.Collector.point.Goals as goal
 
 pub offer-taken-requires-clause-last : goal.offer-taken-requires-clause-last
@@ -66,15 +66,8 @@ pub returns-in-Joined-clause-joins : goal.returns-in-Joined-clause-joins
 returns-in-Joined-clause-joins c =
     let p : Point = point_at c.args.reading.0 c.args.master c.args.cycle in
     let v : Collecting = record { ow = c.self.inside.ow.0; calc = c.self.inside.calc.0; earliest = c.self.inside.earliest.0; waiting = c.self.inside.waiting } in
-    let w : Collecting = record { ow = c.self.inside.ow.0; calc = c.self.inside.calc.0; earliest = c.args.reading.0; waiting = c.offer-taken.new.self } in
-    let last = last_joined v p c.in-Joined.ensures.role in
-    λ _. (
-      last.front,
-      last.c,
-      sym (ap (λ (u : Collecting). u.waiting) c.self.view_is) ∙ last.split,
-      ap (λ (ws : List Cluster). record w { waiting = ws }) (c.in-Joined.ensures.joined refl last.front last.c last.split)
-          ∙ ap (λ (u : Collecting). with_joined u last.front last.c p) c.self.view_is,
-    )
+    let last = last_is_joined v p c.offer-taken.new.self c.in-Joined.ensures.role (c.in-Joined.ensures.joined refl) in
+    λ _. ap (λ (ws : List Cluster). record v { earliest = p.reading; waiting = ws }) last ∙ ap (λ (u : Collecting). with_joined u p) c.self.view_is
 
 pub returns-in-Repeat-clause-stands : goal.returns-in-Repeat-clause-stands
 returns-in-Repeat-clause-stands c =
