@@ -1,0 +1,20 @@
+-- When a text is a document.
+use Rattle.std.proofs.Common.{◌≡◌, ℕ, Bool, true, false, List, Option, None, refl}
+use Rattle.std.specs.Prelude.{if◌then◌else◌, IsUtf8}
+use Rattle.std.specs.Str.{is_utf8}
+use Rattle.std.proofs.lemmas.Str.{IsUtf8-from_is_utf8, is_utf8-from_IsUtf8}
+use Rattle.toml.specs.Data.{Members}
+use Rattle.toml.specs.Parse.{parse_document}
+use Rattle.net_file.specs.Schema.{parsed}
+
+barred : (b : Bool) (o : Option Members) → (b ≡ true → ⊥) → (if b then o else None) ≡ None
+barred true o h = absurd (h refl)
+barred false o h = refl
+
+-- a text that is not UTF-8 is no document
+pub not_parsed : (text : List ℕ) → (IsUtf8 text → ⊥) → parsed text ≡ None
+not_parsed text h = barred (is_utf8 text) (parse_document text) (λ e. h (IsUtf8-from_is_utf8 text e))
+
+-- any other is what the parse makes of it
+pub is_parsed : (text : List ℕ) → IsUtf8 text → parsed text ≡ parse_document text
+is_parsed text h = rw (is_utf8-from_IsUtf8 text h) refl

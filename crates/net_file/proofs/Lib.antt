@@ -1,0 +1,4 @@
+pub mod Numbers
+pub mod Documents
+pub mod Tops
+pub mod FirstBearers

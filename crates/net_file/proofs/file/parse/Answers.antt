@@ -1,0 +1,14 @@
+use Rattle.std.proofs.Common.{◌≡◌, Some, subst, ◌∙◌, rules, List, ℕ}
+use Rattle.toml.specs.Parse.{parse_document}
+use Rattle.toml.specs.View.{table_view}
+use Rattle.toml.specs.declared.value.Value.{the_lemmas}
+use Rattle.net_file.proofs.Documents.{is_parsed}
+use Rattle.net_file.proofs.file.parse.Goals as goal
+
+pub returns-in-Ok-table_from_str : goal.returns-in-Ok-table_from_str
+returns-in-Ok-table_from_str c =
+    let entries = table_view c.in-Ok-table_from_str.table in
+    let text = c.args.text.now in
+    let told = c.in-Ok.ensures.cases in
+    let read : parse_document c.in-Ok.text.now ≡ Some entries = c.in-Ok-table_from_str.ensures.ok in
+    (entries, is_parsed text told.1 ∙ subst (λ (t : List ℕ). parse_document t ≡ Some entries) told.0 read, search (rules, the_lemmas))

@@ -1,0 +1,7 @@
+use Rattle.std.proofs.Common.{◌≡◌, take}
+use Rattle.net_file.specs.Numbering.{numbering, first_of}
+use Rattle.net_file.specs.Schema.{device_names}
+use Rattle.net_file.proofs.names.Names.of_devices.Given as goal
+
+abbrev pub invariant-devices : goal.invariant-devices
+invariant-devices l = numbering l.names.numbers ≡ first_of (device_names (take l.index l.devices))

@@ -1,0 +1,7 @@
+use Rattle.std.proofs.Common.{◌≡◌, take}
+use Rattle.net_file.specs.Numbering.{numbering, first_of}
+use Rattle.net_file.specs.Schema.{link_names}
+use Rattle.net_file.proofs.names.Names.of_links.Given as goal
+
+abbrev pub invariant-links : goal.invariant-links
+invariant-links l = numbering l.names.numbers ≡ first_of (link_names (take l.index l.links))

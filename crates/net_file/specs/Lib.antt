@@ -1,0 +1,6 @@
+pub mod KeyTexts
+pub mod Steps
+pub mod Values
+pub mod Reading
+pub mod Schema
+pub mod Numbering

@@ -1,0 +1,200 @@
+-- The tables of a network file: the keys of each in their order, and what each may hold.
+use Rattle.std.specs.Prelude.{ℕ, ◌^◌, Bool, true, false, List, [], ◌∷◌, ◌++◌, map, length, Option, Some, None, Ok, Err, if◌then◌else◌}
+use Rattle.std.specs.Str.{is_utf8}
+use Rattle.std.specs.Option.{unwrap_or}
+use Rattle.toml.specs.Data.{Data, Items, no_items, item, Members, table}
+use Rattle.toml.specs.Parse.{parse_document}
+use Rattle.net_plan.specs.declared.network.Network.{Network}
+use Rattle.net_plan.specs.declared.tables.Device.{Device}
+use Rattle.net_plan.specs.declared.tables.Link.{Link}
+use Rattle.net_plan.specs.declared.tables.VirtualLink.{VirtualLink}
+use Rattle.net_plan.specs.declared.tables.Row.{Row}
+use Rattle.net_plan.specs.declared.tables.Role.{Role}
+use Rattle.net_plan.specs.declared.tables.Role.TheVariants as roles
+use Rattle.net_file.specs.Reading.{number, whole, time, time_if_there, word, named, nothing_else, tables}
+use Rattle.net_file.specs.Numbering.{Numbering, first_of}
+use Rattle.net_file.specs.declared.refusal.FileRefusal.TheVariants.{NotToml}
+use Rattle.net_file.specs.Steps.{Read, ◌>>=◌, only_if}
+use Rattle.net_file.specs.Values.{units, hex_number, name_of, role_of, channel_of, way_of, speed_of, ethertype_of}
+use Rattle.net_file.specs.declared.keys.KeyName.{KeyName}
+use Rattle.net_file.specs.declared.spots.Place.{Place}
+use Rattle.net_file.specs.declared.keys.KeyName.TheVariants as keys
+use Rattle.net_file.specs.declared.spots.TableName.TheVariants as places
+
+-- the whole document
+abbrev pub document : Place
+document = record { table = places.Top; index = 0 }
+
+abbrev pub document_keys : List KeyName
+document_keys =
+    keys.Version ∷ keys.Cycle ∷ keys.Rho ∷ keys.Grain ∷ keys.Dmax ∷ keys.Calc ∷ keys.Settled ∷ keys.Precision ∷ keys.Correction
+    ∷ keys.TtStart ∷ keys.SyncThreshold ∷ keys.Priority ∷ keys.Domain ∷ keys.PcfDestination ∷ keys.Marker
+    ∷ keys.Device ∷ keys.Link ∷ keys.Vl ∷ keys.Row ∷ []
+
+-- the numbers of the network, which has no devices, links, virtual links and rows yet
+unfoldable pub document_of : Data → Read Network
+document_of entries = do
+  version ← whole 1 2 document keys.Version entries
+  cycle ← time (2 ^ 32) (2 ^ 40) document keys.Cycle entries
+  rho ← whole 0 1000000 document keys.Rho entries
+  grain ← time_if_there 1 1048576 document keys.Grain entries
+  dmax ← time 1 (2 ^ 40) document keys.Dmax entries
+  calc ← time 1 (2 ^ 40) document keys.Calc entries
+  settled ← time 0 (2 ^ 40) document keys.Settled entries
+  precision ← time 1 (2 ^ 40) document keys.Precision entries
+  correction ← time 0 (2 ^ 40) document keys.Correction entries
+  tt_start ← time 0 (2 ^ 40) document keys.TtStart entries
+  sync_threshold ← whole 1 31 document keys.SyncThreshold entries
+  priority ← whole 0 255 document keys.Priority entries
+  domain ← whole 0 255 document keys.Domain entries
+  pcf_destination ← word (hex_number 6) document keys.PcfDestination entries
+  marker ← word (hex_number 4) document keys.Marker entries
+  end ← nothing_else document_keys document entries
+  Ok (record {
+    version = version;
+    cycle = cycle;
+    rho = rho;
+    grain = unwrap_or grain (units 1);
+    dmax = dmax;
+    calc = calc;
+    settled = settled;
+    precision = precision;
+    correction = correction;
+    tt_start = tt_start;
+    sync_threshold = sync_threshold;
+    priority = priority;
+    domain = domain;
+    pcf_destination = pcf_destination;
+    marker = marker;
+    device = [];
+    link = [];
+    vl = [];
+    row = [];
+  })
+
+-- masters have a member number, switches a channel
+abbrev pub has_member : Role → Bool
+has_member roles.Master = true
+has_member roles.Client = false
+has_member roles.Cm = false
+has_member roles.Relay = false
+
+abbrev pub has_channel : Role → Bool
+has_channel roles.Master = false
+has_channel roles.Client = false
+has_channel roles.Cm = true
+has_channel roles.Relay = true
+
+abbrev pub device_keys : Role → List KeyName
+device_keys roles.Master = keys.Name ∷ keys.Role ∷ keys.Mac ∷ keys.Member ∷ keys.Start ∷ []
+device_keys roles.Client = keys.Name ∷ keys.Role ∷ keys.Mac ∷ keys.Start ∷ []
+device_keys roles.Cm = keys.Name ∷ keys.Role ∷ keys.Mac ∷ keys.Channel ∷ keys.Start ∷ []
+device_keys roles.Relay = keys.Name ∷ keys.Role ∷ keys.Mac ∷ keys.Channel ∷ keys.Start ∷ []
+
+abbrev pub device_at : ℕ → Place
+device_at index = record { table = places.Device; index = index }
+
+unfoldable pub device_of : ℕ → Data → Read Device
+device_of index entries = do
+  name ← word name_of (device_at index) keys.Name entries
+  role ← word role_of (device_at index) keys.Role entries
+  mac ← word (hex_number 6) (device_at index) keys.Mac entries
+  member ← only_if (has_member role) (whole 0 31 (device_at index) keys.Member entries)
+  channel ← only_if (has_channel role) (word channel_of (device_at index) keys.Channel entries)
+  start ← time_if_there 0 (2 ^ 40) (device_at index) keys.Start entries
+  end ← nothing_else (device_keys role) (device_at index) entries
+  Ok (record { name = name; role = role; mac = mac; member = member; channel = channel; start = start })
+
+abbrev pub link_keys : List KeyName
+link_keys = keys.Name ∷ keys.Child ∷ keys.Parent ∷ keys.Wire ∷ keys.Jitter ∷ keys.Hold ∷ keys.Speed ∷ []
+
+abbrev pub link_at : ℕ → Place
+link_at index = record { table = places.Link; index = index }
+
+unfoldable pub link_of : Numbering → ℕ → Data → Read Link
+link_of devices index entries = do
+  name ← word name_of (link_at index) keys.Name entries
+  child ← named devices (link_at index) keys.Child entries
+  parent ← named devices (link_at index) keys.Parent entries
+  wire ← time 1 (2 ^ 40) (link_at index) keys.Wire entries
+  jitter ← time 0 (2 ^ 40) (link_at index) keys.Jitter entries
+  hold ← time 0 (2 ^ 40) (link_at index) keys.Hold entries
+  speed ← number speed_of (link_at index) keys.Speed entries
+  end ← nothing_else link_keys (link_at index) entries
+  Ok (record { name = name; child = record { 0 = child }; parent = record { 0 = parent }; wire = wire; jitter = jitter; hold = hold; speed = speed })
+
+abbrev pub vl_keys : List KeyName
+vl_keys = keys.Name ∷ keys.Id ∷ keys.Length ∷ keys.Ethertype ∷ keys.Sender ∷ keys.Period ∷ keys.Phase ∷ []
+
+abbrev pub vl_at : ℕ → Place
+vl_at index = record { table = places.Vl; index = index }
+
+unfoldable pub vl_of : Numbering → ℕ → Data → Read VirtualLink
+vl_of devices index entries = do
+  name ← word name_of (vl_at index) keys.Name entries
+  id ← whole 0 65535 (vl_at index) keys.Id entries
+  octets ← whole 60 1514 (vl_at index) keys.Length entries
+  ethertype ← number ethertype_of (vl_at index) keys.Ethertype entries
+  sender ← named devices (vl_at index) keys.Sender entries
+  period ← whole 1 64 (vl_at index) keys.Period entries
+  phase ← whole 0 63 (vl_at index) keys.Phase entries
+  end ← nothing_else vl_keys (vl_at index) entries
+  Ok (record { name = name; id = id; length = octets; ethertype = ethertype; sender = record { 0 = sender }; period = period; phase = phase })
+
+abbrev pub row_keys : List KeyName
+row_keys = keys.Vl ∷ keys.Link ∷ keys.Way ∷ keys.Offset ∷ []
+
+abbrev pub row_at : ℕ → Place
+row_at index = record { table = places.Row; index = index }
+
+unfoldable pub row_of : Numbering → Numbering → ℕ → Data → Read Row
+row_of vls links index entries = do
+  vl ← named vls (row_at index) keys.Vl entries
+  link ← named links (row_at index) keys.Link entries
+  way ← word way_of (row_at index) keys.Way entries
+  offset ← time 0 (2 ^ 40) (row_at index) keys.Offset entries
+  end ← nothing_else row_keys (row_at index) entries
+  Ok (record { vl = record { 0 = vl }; link = record { 0 = link }; way = way; offset = offset })
+
+-- the names of devices, of links and of virtual links
+abbrev pub device_names : List Device → List (List ℕ)
+device_names devices = map (λ d. d.name) devices
+
+abbrev pub link_names : List Link → List (List ℕ)
+link_names links = map (λ l. l.name) links
+
+abbrev pub vl_names : List VirtualLink → List (List ℕ)
+vl_names vls = map (λ v. v.name) vls
+
+-- the things of an array's tables in their order, each read at its index, behind those read so far
+abbrev pub each : {A : Type 0} → (ℕ → Data → Read A) → List A → Items → Read (List A)
+each read so_far no_items = Ok so_far
+each read so_far (item entries rest) = do
+  thing ← read (length so_far) entries
+  each read (so_far ++ thing ∷ []) rest
+
+unfoldable pub network_of : Data → Read Network
+network_of entries = do
+  network ← document_of entries
+  devices ← tables document keys.Device entries
+  links ← tables document keys.Link entries
+  vls ← tables document keys.Vl entries
+  rows ← tables document keys.Row entries
+  device ← each device_of [] devices
+  link ← each (link_of (first_of (device_names device))) [] links
+  vl ← each (vl_of (first_of (device_names device))) [] vls
+  row ← each (row_of (first_of (vl_names vl)) (first_of (link_names link))) [] rows
+  Ok (record network { device = device; link = link; vl = vl; row = row })
+
+-- the network of what TOML reads, if it reads a document
+abbrev pub network_in : Option Members → Read Network
+network_in None = Err NotToml
+network_in (Some entries) = network_of (table entries)
+
+-- the document that a text is, where it is one
+abbrev pub parsed : List ℕ → Option Members
+parsed text = if is_utf8 text then parse_document text else None
+
+-- the network that a text means, or the first fault of the text
+abbrev pub network_read : List ℕ → Read Network
+network_read text = network_in (parsed text)

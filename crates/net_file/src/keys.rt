@@ -1,0 +1,96 @@
+ghost use Rattle.std.specs.Prelude.{◌≡◌};
+ghost use Rattle.net_file.specs.KeyTexts.{key_text};
+
+/// A key of a network file.
+#[derive(Clone, Copy, Debug, PartialEq, Eq, Hash)]
+pub enum KeyName {
+    Version,
+    Cycle,
+    Rho,
+    Grain,
+    Dmax,
+    Calc,
+    Settled,
+    Precision,
+    Correction,
+    TtStart,
+    SyncThreshold,
+    Priority,
+    Domain,
+    PcfDestination,
+    Marker,
+    Name,
+    Role,
+    Mac,
+    Member,
+    Channel,
+    Start,
+    Child,
+    Parent,
+    Wire,
+    Jitter,
+    Hold,
+    Speed,
+    Id,
+    Length,
+    Ethertype,
+    Sender,
+    Period,
+    Phase,
+    Way,
+    Offset,
+    Device,
+    Link,
+    Vl,
+    Row,
+}
+
+impl KeyName {
+    /// The key as it is written.
+    #[tactic(auto, unfolding(crate::specs::KeyTexts::key_text))]
+    pub fn text(self) -> &'static str
+        ensures { result.now ≡ key_text self }
+    {
+        match self {
+            KeyName::Version => "version",
+            KeyName::Cycle => "cycle",
+            KeyName::Rho => "rho",
+            KeyName::Grain => "grain",
+            KeyName::Dmax => "dmax",
+            KeyName::Calc => "calc",
+            KeyName::Settled => "settled",
+            KeyName::Precision => "precision",
+            KeyName::Correction => "correction",
+            KeyName::TtStart => "tt_start",
+            KeyName::SyncThreshold => "sync_threshold",
+            KeyName::Priority => "priority",
+            KeyName::Domain => "domain",
+            KeyName::PcfDestination => "pcf_destination",
+            KeyName::Marker => "marker",
+            KeyName::Name => "name",
+            KeyName::Role => "role",
+            KeyName::Mac => "mac",
+            KeyName::Member => "member",
+            KeyName::Channel => "channel",
+            KeyName::Start => "start",
+            KeyName::Child => "child",
+            KeyName::Parent => "parent",
+            KeyName::Wire => "wire",
+            KeyName::Jitter => "jitter",
+            KeyName::Hold => "hold",
+            KeyName::Speed => "speed",
+            KeyName::Id => "id",
+            KeyName::Length => "length",
+            KeyName::Ethertype => "ethertype",
+            KeyName::Sender => "sender",
+            KeyName::Period => "period",
+            KeyName::Phase => "phase",
+            KeyName::Way => "way",
+            KeyName::Offset => "offset",
+            KeyName::Device => "device",
+            KeyName::Link => "link",
+            KeyName::Vl => "vl",
+            KeyName::Row => "row",
+        }
+    }
+}

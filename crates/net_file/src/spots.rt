@@ -1,0 +1,31 @@
+use crate::KeyName;
+
+/// A kind of table in a network file.
+#[derive(Clone, Copy, Debug, PartialEq, Eq, Hash)]
+pub enum TableName {
+    /// The whole document.
+    Top,
+    Device,
+    Link,
+    /// A virtual link.
+    Vl,
+    /// A row of the schedule.
+    Row,
+}
+
+/// A table of a network file.
+#[derive(Clone, Copy, Debug, PartialEq, Eq, Hash)]
+pub(crate) struct Place {
+    pub(crate) table: TableName,
+    /// Its place in its array, from 0. It is 0 for the whole document.
+    pub(crate) index: u32,
+}
+
+/// A key of a table of a network file.
+#[derive(Clone, Copy, Debug, PartialEq, Eq, Hash)]
+pub struct Spot {
+    pub table: TableName,
+    /// The table's place in its array, from 0. It is 0 for the whole document.
+    pub index: u32,
+    pub key: KeyName,
+}
