@@ -3,7 +3,6 @@
 
 mod clock;
 mod laws;
-mod numbers;
 mod segment;
 mod steady;
 

@@ -2,7 +2,6 @@ ghost use Rattle.std.specs.Prelude.{◌≡◌, ◌^◌, ◌≤◌, unsigned_abs}
 ghost use Rattle.drift_clock.specs.Counts.{gain};
 
 use crate::Clock;
-use crate::numbers::{units, whole};
 use std::marker::Model;
 use tte_units::{Ppb, Units};
 
@@ -50,7 +49,7 @@ impl Clock for SegmentClock {
 
     fn fresh(grain: Units) -> SegmentClock {
         SegmentClock {
-            grain: whole(grain),
+            grain: grain.amount(),
             at: 0,
             count: 0,
             rate: Ppb(0),
@@ -58,24 +57,24 @@ impl Clock for SegmentClock {
     }
 
     fn grain(&self) -> Units {
-        units(self.grain)
+        Units::from_amount(self.grain)
     }
 
     fn read(&self, t: Units) -> Units {
-        let grains = self.count_at(whole(t)) / (u128::from(self.grain) * PARTS);
-        units(self.grain * grains as u64)
+        let grains = self.count_at(t.amount()) / (u128::from(self.grain) * PARTS);
+        Units::from_amount(self.grain * grains as u64)
     }
 
     fn reach(&self, from: Units, v: Units) -> Units {
         if v.0 <= self.read(from).0 {
             return from;
         }
-        let goal = whole(v).next_multiple_of(self.grain);
-        units(self.time_of(goal))
+        let goal = v.amount().next_multiple_of(self.grain);
+        Units::from_amount(self.time_of(goal))
     }
 
     fn rate(&mut self, t: Units, r: Ppb) {
-        let t = whole(t);
+        let t = t.amount();
         self.count = self.count_at(t);
         self.at = t;
         self.rate = r;

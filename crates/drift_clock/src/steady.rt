@@ -1,7 +1,6 @@
 ghost use Rattle.std.specs.Prelude.{ℕ, ◌≤◌, ◌^◌};
 
 use crate::Clock;
-use crate::numbers::{units, whole};
 use std::marker::Model;
 use tte_units::{Ppb, Units};
 
@@ -41,23 +40,23 @@ impl Clock for SteadyClock {
 
     fn fresh(grain: Units) -> SteadyClock {
         SteadyClock {
-            grain: whole(grain),
+            grain: grain.amount(),
         }
     }
 
     fn grain(&self) -> Units {
-        units(self.grain)
+        Units::from_amount(self.grain)
     }
 
     fn read(&self, t: Units) -> Units {
-        units(self.grain * (whole(t) / self.grain))
+        Units::from_amount(self.grain * (t.amount() / self.grain))
     }
 
     fn reach(&self, from: Units, v: Units) -> Units {
         if v.0 <= self.read(from).0 {
             return from;
         }
-        units(whole(v).next_multiple_of(self.grain))
+        Units::from_amount(v.amount().next_multiple_of(self.grain))
     }
 
     fn rate(&mut self, _t: Units, _r: Ppb) {}

@@ -3,7 +3,7 @@ use Rattle.std.proofs.Common.{◌≡◌, ◌⊎◌, inl, inr, refl, ℕ, zero, s
 use Rattle.std.specs.Prelude.{IfSome}
 use Rattle.std.specs.Option.{unwrap_or}
 use Rattle.net_plan.specs.Ranges.{IsWithin}
-use Rattle.net_file.specs.Values.{units}
+use Rattle.tte_units.specs.Amount.{units_of}
 use Rattle.tte_units.specs.declared.units.Units.{Units}
 
 pub one_or_two : (n : ℕ) → 1 ≤ n → n ≤ 2 → (n ≡ 1) ⊎ (n ≡ 2)
@@ -13,6 +13,6 @@ one_or_two (suc (suc zero)) a b = inr refl
 one_or_two (suc (suc (suc n))) a b = absurd (omega (arith, b))
 
 -- an absent grain is 1
-pub grain_within : (grain : Option Units) → IfSome grain (IsWithin 1 1048576) → IsWithin 1 1048576 (unwrap_or grain (units 1))
+pub grain_within : (grain : Option Units) → IfSome grain (IsWithin 1 1048576) → IsWithin 1 1048576 (unwrap_or grain (units_of 1))
 grain_within None h = record { least = omega arith; most = omega arith }
 grain_within (Some u) h = h

@@ -6,11 +6,12 @@ use Rattle.toml.specs.Data.{Data, Items, no_items, item, Members, no_members, me
 use Rattle.net_file.specs.KeyTexts.{key_text}
 use Rattle.net_file.specs.Numbering.{Numbering}
 use Rattle.net_file.specs.Steps.{Read, ◌>>=◌, where_there}
-use Rattle.net_file.specs.Values.{number_within, units}
+use Rattle.net_file.specs.Values.{number_within}
 use Rattle.net_file.specs.declared.keys.KeyName.{KeyName}
 use Rattle.net_file.specs.declared.refusal.FileRefusal.TheVariants.{Missing, Kind, Unknown, Range, Name}
 use Rattle.net_file.specs.declared.spots.Place.{Place}
 use Rattle.net_file.specs.declared.spots.Spot.{Spot}
+use Rattle.tte_units.specs.Amount.{units_of}
 use Rattle.tte_units.specs.declared.units.Units.{Units}
 
 -- a key of a table
@@ -53,7 +54,7 @@ word meaning at key entries = do
 unfoldable pub time : ℕ → ℕ → Place → KeyName → Data → Read Units
 time low high at key entries = do
   number ← whole low high at key entries
-  Ok (units number)
+  Ok (units_of number)
 
 -- a number of units of time from low to high, or none where the key is absent
 unfoldable pub time_if_there : ℕ → ℕ → Place → KeyName → Data → Read (Option Units)

@@ -1,9 +1,10 @@
 -- The tables of a network file: the keys of each in their order, and what each may hold.
-use Rattle.std.specs.Prelude.{ℕ, ◌^◌, Bool, true, false, List, [], ◌∷◌, ◌++◌, map, length, Option, Some, None, Ok, Err, if◌then◌else◌}
+use Rattle.std.specs.Prelude.{ℕ, ◌^◌, not, List, [], ◌∷◌, ◌++◌, map, length, Option, Some, None, Ok, Err, if◌then◌else◌}
 use Rattle.std.specs.Str.{is_utf8}
 use Rattle.std.specs.Option.{unwrap_or}
 use Rattle.toml.specs.Data.{Data, Items, no_items, item, Members, table}
 use Rattle.toml.specs.Parse.{parse_document}
+use Rattle.net_plan.specs.Places.{is_end_system, is_master}
 use Rattle.net_plan.specs.declared.network.Network.{Network}
 use Rattle.net_plan.specs.declared.tables.Device.{Device}
 use Rattle.net_plan.specs.declared.tables.Link.{Link}
@@ -15,16 +16,18 @@ use Rattle.net_file.specs.Reading.{number, whole, time, time_if_there, word, nam
 use Rattle.net_file.specs.Numbering.{Numbering, first_of}
 use Rattle.net_file.specs.declared.refusal.FileRefusal.TheVariants.{NotToml}
 use Rattle.net_file.specs.Steps.{Read, ◌>>=◌, only_if}
-use Rattle.net_file.specs.Values.{units, hex_number, name_of, role_of, channel_of, way_of, speed_of, ethertype_of}
+use Rattle.net_file.specs.Values.{hex_number, name_of, role_of, channel_of, way_of, speed_of, ethertype_of}
 use Rattle.net_file.specs.declared.keys.KeyName.{KeyName}
 use Rattle.net_file.specs.declared.spots.Place.{Place}
 use Rattle.net_file.specs.declared.keys.KeyName.TheVariants as keys
 use Rattle.net_file.specs.declared.spots.TableName.TheVariants as places
+use Rattle.tte_units.specs.Amount.{units_of}
 
 -- the whole document
 abbrev pub document : Place
 document = record { table = places.Top; index = 0 }
 
+-- the keys of the top table
 abbrev pub document_keys : List KeyName
 document_keys =
     keys.Version ∷ keys.Cycle ∷ keys.Rho ∷ keys.Grain ∷ keys.Dmax ∷ keys.Calc ∷ keys.Settled ∷ keys.Precision ∷ keys.Correction
@@ -54,7 +57,7 @@ document_of entries = do
     version = version;
     cycle = cycle;
     rho = rho;
-    grain = unwrap_or grain (units 1);
+    grain = unwrap_or grain (units_of 1);
     dmax = dmax;
     calc = calc;
     settled = settled;
@@ -72,45 +75,38 @@ document_of entries = do
     row = [];
   })
 
--- masters have a member number, switches a channel
-abbrev pub has_member : Role → Bool
-has_member roles.Master = true
-has_member roles.Client = false
-has_member roles.Cm = false
-has_member roles.Relay = false
-
-abbrev pub has_channel : Role → Bool
-has_channel roles.Master = false
-has_channel roles.Client = false
-has_channel roles.Cm = true
-has_channel roles.Relay = true
-
+-- the keys of a device: a master has a member number, a switch has a channel
 abbrev pub device_keys : Role → List KeyName
 device_keys roles.Master = keys.Name ∷ keys.Role ∷ keys.Mac ∷ keys.Member ∷ keys.Start ∷ []
 device_keys roles.Client = keys.Name ∷ keys.Role ∷ keys.Mac ∷ keys.Start ∷ []
 device_keys roles.Cm = keys.Name ∷ keys.Role ∷ keys.Mac ∷ keys.Channel ∷ keys.Start ∷ []
 device_keys roles.Relay = keys.Name ∷ keys.Role ∷ keys.Mac ∷ keys.Channel ∷ keys.Start ∷ []
 
+-- the table of a device
 abbrev pub device_at : ℕ → Place
 device_at index = record { table = places.Device; index = index }
 
+-- the device of a table
 unfoldable pub device_of : ℕ → Data → Read Device
 device_of index entries = do
   name ← word name_of (device_at index) keys.Name entries
   role ← word role_of (device_at index) keys.Role entries
   mac ← word (hex_number 6) (device_at index) keys.Mac entries
-  member ← only_if (has_member role) (whole 0 31 (device_at index) keys.Member entries)
-  channel ← only_if (has_channel role) (word channel_of (device_at index) keys.Channel entries)
+  member ← only_if (is_master role) (whole 0 31 (device_at index) keys.Member entries)
+  channel ← only_if (not (is_end_system role)) (word channel_of (device_at index) keys.Channel entries)
   start ← time_if_there 0 (2 ^ 40) (device_at index) keys.Start entries
   end ← nothing_else (device_keys role) (device_at index) entries
   Ok (record { name = name; role = role; mac = mac; member = member; channel = channel; start = start })
 
+-- the keys of a link
 abbrev pub link_keys : List KeyName
 link_keys = keys.Name ∷ keys.Child ∷ keys.Parent ∷ keys.Wire ∷ keys.Jitter ∷ keys.Hold ∷ keys.Speed ∷ []
 
+-- the table of a link
 abbrev pub link_at : ℕ → Place
 link_at index = record { table = places.Link; index = index }
 
+-- the link of a table, whose ends are named among the devices
 unfoldable pub link_of : Numbering → ℕ → Data → Read Link
 link_of devices index entries = do
   name ← word name_of (link_at index) keys.Name entries
@@ -123,12 +119,15 @@ link_of devices index entries = do
   end ← nothing_else link_keys (link_at index) entries
   Ok (record { name = name; child = record { 0 = child }; parent = record { 0 = parent }; wire = wire; jitter = jitter; hold = hold; speed = speed })
 
+-- the keys of a virtual link
 abbrev pub vl_keys : List KeyName
 vl_keys = keys.Name ∷ keys.Id ∷ keys.Length ∷ keys.Ethertype ∷ keys.Sender ∷ keys.Period ∷ keys.Phase ∷ []
 
+-- the table of a virtual link
 abbrev pub vl_at : ℕ → Place
 vl_at index = record { table = places.Vl; index = index }
 
+-- the virtual link of a table, whose sender is named among the devices
 unfoldable pub vl_of : Numbering → ℕ → Data → Read VirtualLink
 vl_of devices index entries = do
   name ← word name_of (vl_at index) keys.Name entries
@@ -141,12 +140,15 @@ vl_of devices index entries = do
   end ← nothing_else vl_keys (vl_at index) entries
   Ok (record { name = name; id = id; length = octets; ethertype = ethertype; sender = record { 0 = sender }; period = period; phase = phase })
 
+-- the keys of a row
 abbrev pub row_keys : List KeyName
 row_keys = keys.Vl ∷ keys.Link ∷ keys.Way ∷ keys.Offset ∷ []
 
+-- the table of a row
 abbrev pub row_at : ℕ → Place
 row_at index = record { table = places.Row; index = index }
 
+-- the row of a table, whose virtual link and link are named among those
 unfoldable pub row_of : Numbering → Numbering → ℕ → Data → Read Row
 row_of vls links index entries = do
   vl ← named vls (row_at index) keys.Vl entries
@@ -156,13 +158,15 @@ row_of vls links index entries = do
   end ← nothing_else row_keys (row_at index) entries
   Ok (record { vl = record { 0 = vl }; link = record { 0 = link }; way = way; offset = offset })
 
--- the names of devices, of links and of virtual links
+-- the names of the devices, in their order
 abbrev pub device_names : List Device → List (List ℕ)
 device_names devices = map (λ d. d.name) devices
 
+-- the names of the links, in their order
 abbrev pub link_names : List Link → List (List ℕ)
 link_names links = map (λ l. l.name) links
 
+-- the names of the virtual links, in their order
 abbrev pub vl_names : List VirtualLink → List (List ℕ)
 vl_names vls = map (λ v. v.name) vls
 
@@ -173,6 +177,8 @@ each read so_far (item entries rest) = do
   thing ← read (length so_far) entries
   each read (so_far ++ thing ∷ []) rest
 
+-- the network of the document's entries: the top table, then the kinds of the four arrays, then the
+-- tables of each array
 unfoldable pub network_of : Data → Read Network
 network_of entries = do
   network ← document_of entries

@@ -13,16 +13,11 @@ use Rattle.pcf_values.specs.declared.channel.Channel.{Channel}
 use Rattle.pcf_values.specs.declared.channel.Channel.TheVariants.{A, B}
 use Rattle.tte_units.specs.declared.speed.Speed.{Speed}
 use Rattle.tte_units.specs.declared.speed.Speed.TheVariants.{Mbit100, Gbit1}
-use Rattle.tte_units.specs.declared.units.Units.{Units}
 
 -- a whole number from low to high
 abbrev pub number_within : ℕ → ℕ → ℤ → Option ℕ
 number_within low high (pos n) = if nat_le low n && nat_le n high then Some n else None
 number_within low high (negsuc n) = None
-
--- so many units of time
-abbrev pub units : ℕ → Units
-units n = record { 0 = pos n }
 
 -- the number that octets spell, the greatest first
 abbrev pub number_spelled : ℕ → Result (List ℕ) FromHexError → Option ℕ
@@ -41,6 +36,7 @@ is_name_text text = nat_le 1 (length text) && nat_le (length text) 16 && list_al
 abbrev pub name_of : List ℕ → Option (List ℕ)
 name_of text = if is_name_text text then Some text else None
 
+-- a device's role
 abbrev pub role_of : List ℕ → Option Role
 role_of text =
     if bytes_eq text (codes "master") then Some Master
@@ -49,12 +45,14 @@ role_of text =
     else if bytes_eq text (codes "relay") then Some Relay
     else None
 
+-- a switch's channel
 abbrev pub channel_of : List ℕ → Option Channel
 channel_of text =
     if bytes_eq text (codes "a") then Some A
     else if bytes_eq text (codes "b") then Some B
     else None
 
+-- one of the ways of a link
 abbrev pub way_of : List ℕ → Option Way
 way_of text =
     if bytes_eq text (codes "up") then Some Up

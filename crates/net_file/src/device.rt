@@ -4,7 +4,7 @@ ghost use Rattle.net_plan.specs.Ranges.{IsDeviceInRange};
 ghost use Rattle.net_plan.specs.Places.{is_master, is_end_system};
 ghost use Rattle.toml.specs.View.{view, items_view};
 ghost use Rattle.net_file.specs.Reading.{whole, word};
-ghost use Rattle.net_file.specs.Schema.{device_of, device_keys, has_member, has_channel, each};
+ghost use Rattle.net_file.specs.Schema.{device_of, device_keys, each};
 ghost use Rattle.net_file.specs.declared.keys.KeyName.TheVariants as keys;
 ghost use Rattle.net_file.specs.Steps.{Gives, only_if};
 ghost use Rattle.net_file.specs.Values.{channel_of};
@@ -45,7 +45,7 @@ fn device_keys(role: Role) -> &'static [KeyName]
 fn read_member(table: &Reader<'_>, role: Role) -> Result<Option<u32>, FileRefusal>
     ensures there { IfOk result (λ m. is_some m ≡ is_master role) }
     ensures least { IfOk result (λ m. IfSome m (λ n. n ≤ 31)) }
-    ensures value { result ≡ only_if (has_member role) (whole 0 31 table.now.place keys.Member (view table.now.table.now)) }
+    ensures value { result ≡ only_if (is_master role) (whole 0 31 table.now.place keys.Member (view table.now.table.now)) }
 {
     match role {
         Role::Master => {
@@ -59,7 +59,7 @@ fn read_member(table: &Reader<'_>, role: Role) -> Result<Option<u32>, FileRefusa
 // The channel, which a switch has.
 fn read_channel(table: &Reader<'_>, role: Role) -> Result<Option<Channel>, FileRefusal>
     ensures there { IfOk result (λ c. is_some c ≡ not (is_end_system role)) }
-    ensures value { result ≡ only_if (has_channel role) (word channel_of table.now.place keys.Channel (view table.now.table.now)) }
+    ensures value { result ≡ only_if (not (is_end_system role)) (word channel_of table.now.place keys.Channel (view table.now.table.now)) }
 {
     match role {
         Role::Cm | Role::Relay => {

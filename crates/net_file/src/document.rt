@@ -5,11 +5,12 @@ ghost use Rattle.net_file.specs.Schema.{document_of};
 
 use crate::reader::Reader;
 use crate::spots::Place;
-use crate::values::{LONGEST, units};
+use crate::values::LONGEST;
 use crate::{FileRefusal, KeyName, TableName};
 use net_plan::{Devices, Links, Network, Rows, VirtualLinks};
 use std::alloc::Global;
 use toml::Value;
+use tte_units::Units;
 
 const KEYS: [KeyName; 19] = [
     KeyName::Version,
@@ -69,7 +70,7 @@ pub(crate) fn read_document(alloc: Global, document: &Value) -> Result<Network, 
         version: version as u32,
         cycle,
         rho: rho as u32,
-        grain: grain.unwrap_or(units(1)),
+        grain: grain.unwrap_or(Units::from_amount(1)),
         dmax,
         calc,
         settled,

@@ -12,8 +12,7 @@ ghost use Rattle.net_file.specs.Values.{hex_number, name_of, role_of, channel_of
 use crate::names::Names;
 use crate::spots::Place;
 use crate::values::{
-    channel_of, ethertype_of, mac_of, marker_of, name_of, number_within, role_of, speed_of, units,
-    way_of,
+    channel_of, ethertype_of, mac_of, marker_of, name_of, number_within, role_of, speed_of, way_of,
 };
 use crate::{FileRefusal, KeyName, Spot};
 use net_plan::{Name, Role, Way};
@@ -91,7 +90,7 @@ impl<'a> Reader<'a> {
         ensures value { result ≡ time low high self.now.place key (view self.now.table.now) }
     {
         let number = self.whole(low, high, key)?;
-        Ok(units(number))
+        Ok(Units::from_amount(number))
     }
 
     /// A number of units of time from `low` to `high`, which is less than 2^63. It is None where

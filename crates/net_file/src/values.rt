@@ -2,7 +2,7 @@ ghost use Rattle.std.specs.Prelude.{◌≡◌, ◌≤◌, ◌<◌, ◌^◌, ◌�
 ghost use Rattle.std.specs.List.{list_all, AllPass};
 ghost use Rattle.byteorder.specs.Endian.{big_number};
 ghost use Rattle.net_plan.specs.NameText.{is_name_character, IsNameText};
-ghost use Rattle.net_file.specs.Values.{number_within, units, hex_number, name_of, is_name_text, role_of, channel_of, way_of, speed_of, ethertype_of};
+ghost use Rattle.net_file.specs.Values.{number_within, hex_number, name_of, is_name_text, role_of, channel_of, way_of, speed_of, ethertype_of};
 
 use byteorder::{BigEndian, ByteOrder};
 use net_plan::{Name, Role, Way};
@@ -30,14 +30,6 @@ pub(crate) fn number_within(low: u64, high: u64, number: i64) -> Option<u64>
     } else {
         None
     }
-}
-
-/// So many units of 2^-16 ns: fewer than 2^63.
-pub(crate) fn units(n: u64) -> Units
-    requires { n < 2 ^ 63 }
-    ensures { result ≡ units n }
-{
-    Units(n as i64)
 }
 
 fn mac_spelled(octets: &[u8]) -> Mac

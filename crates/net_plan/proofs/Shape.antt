@@ -1,7 +1,7 @@
 -- The rules of a network's shape make its links a tree on each channel.
-use Rattle.std.proofs.Common.{◌≡◌, true, Some, sym, ◌∙◌, subst, ⊎_elim, arith}
+use Rattle.std.proofs.Common.{◌≡◌, true, List, [], ◌∷◌, Some, sym, ◌∙◌, subst, ⊎_elim, arith}
 use Rattle.std.proofs.lemmas.Bool.{false≢true}
-use Rattle.net_plan.specs.Paths.{IsUplink}
+use Rattle.net_plan.specs.Paths.{IsUplink, IsPath, IsFirstPath, HasPath, LeadsToCm}
 use Rattle.net_plan.specs.Places.{device_at, link_at, is_end_system, IsEndSystem, IsSwitchOf, IsRoleOf, IsCmOf}
 use Rattle.net_plan.specs.Rules.{KeepsShapeRules, IsChildOf, RulesGiveTrees}
 use Rattle.net_plan.specs.declared.ids.DeviceId.{DeviceId}
@@ -45,9 +45,20 @@ one_uplink n keeps c d link other u v =
     (λ (r : IsRoleOf n Relay j.0 l.0.child). let one = (keeps.connected d.0).relays j.0 (subst (λ (i : DeviceId). IsRoleOf n Relay j.0 i) l.2.0 r) in let r : link ≡ other = one.2 link (child_of n c d link u) ∙ sym (one.2 other (child_of n c d other v)) in r)
     j.2
 
+-- a path by the first uplinks is a path
+first_path : (n : Network) (c : Channel) (d : DeviceId) (links : List LinkId) → IsFirstPath n c d links → IsPath n c d links
+first_path n c d [] h = h
+first_path n c d (l ∷ ls) h =
+    let k = opened (λ x. (x.child ≡ d) × IsSwitchOf n c x.parent) (link_at n l) h.0.leads in
+    let rest = at_known (λ x. IsFirstPath n c x.parent ls) (link_at n l) k.0 k.1 h.1 in
+    closed (λ x. (x.child ≡ d) × IsSwitchOf n c x.parent × IsPath n c x.parent ls) (link_at n l) k.0 k.1 (k.2.0, k.2.1, first_path n c k.0.parent ls rest)
+
+has_path : (n : Network) (c : Channel) (d : DeviceId) → LeadsToCm n c d → HasPath n c d
+has_path n c d h = (h.0, h.1, first_path n c d h.0 h.2)
+
 pub rules_give_trees : RulesGiveTrees
 rules_give_trees n keeps = record {
   root = root n keeps;
   one_uplink = one_uplink n keeps;
-  reach = λ c d h. (keeps.connected d.0).paths c h;
+  reach = λ c d h. has_path n c d ((keeps.connected d.0).paths c h);
 }

@@ -23,10 +23,22 @@ IsPath network channel device (link ∷ links) =
     IsSomeAnd (link_at network link)
     (λ l. (l.child ≡ device) × IsSwitchOf network channel l.parent × IsPath network channel l.parent links)
 
+-- the same, where each link is the first of its child's uplinks
+abbrev pub IsFirstPath : Network → Channel → DeviceId → List LinkId → Type 0
+IsFirstPath network channel device [] = IsCmOf network channel device
+IsFirstPath network channel device (link ∷ links) =
+    IsFirstUplink network channel device link
+    × IsSomeAnd (link_at network link) (λ l. IsFirstPath network channel l.parent links)
+
 -- some path of the device on the channel has at most eight links
 abbrev pub HasPath : Network → Channel → DeviceId → Type 0
 HasPath network channel device =
     (links : List LinkId) × (length links ≤ 8) × IsPath network channel device links
+
+-- from the device the first uplinks lead to the channel's compression master over at most eight links
+abbrev pub LeadsToCm : Network → Channel → DeviceId → Type 0
+LeadsToCm network channel device =
+    (links : List LinkId) × (length links ≤ 8) × IsFirstPath network channel device links
 
 -- each channel is a tree: its compression master is its root, no device has two uplinks, and each
 -- device of the channel has a path

@@ -1,4 +1,4 @@
-use Rattle.std.specs.Prelude.{◌≡◌, ◌≢◌, ◌⊎◌, ℕ, ◌≤◌, ◌<◌, ◌^◌, ◌≤ℤ◌, pos, unsigned_abs, not, is_some, IfSome, length}
+use Rattle.std.specs.Prelude.{◌≡◌, ◌≢◌, ◌⊎◌, ℕ, ◌≤◌, ◌<◌, ◌^◌, ◌≤ℤ◌, pos, not, is_some, IfSome, length}
 use Rattle.std.specs.List.{All}
 use Rattle.net_plan.specs.NameText.{IsNameText}
 use Rattle.net_plan.specs.Places.{is_end_system, is_master}
@@ -8,10 +8,6 @@ use Rattle.net_plan.specs.declared.tables.Link.{Link}
 use Rattle.net_plan.specs.declared.tables.VirtualLink.{VirtualLink}
 use Rattle.net_plan.specs.declared.tables.Row.{Row}
 use Rattle.tte_units.specs.declared.units.Units.{Units}
-
--- how many units these are, where they are not negative
-abbrev pub amount : Units → ℕ
-amount units = unsigned_abs units.0
 
 -- from low to high units
 pub record IsWithin (low high : ℕ) (units : Units) : Type 0 where

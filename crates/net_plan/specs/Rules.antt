@@ -2,7 +2,7 @@
 -- link, or the number of a part.
 use Rattle.std.specs.Prelude.{◌≡◌, ◌≢◌, ◌⊎◌, ℕ, ◌+◌, ◌<◌, ◌≤◌, ◌≤ℤ◌, if◌then◌else◌, ◌==◌, List, length, Some, IsNone, IfSome, IsSomeAnd, is_some, slice_get}
 use Rattle.std.specs.List.{All, count_by, filter}
-use Rattle.net_plan.specs.Paths.{IsUplink, HasPath, IsTree}
+use Rattle.net_plan.specs.Paths.{IsUplink, LeadsToCm, IsTree}
 use Rattle.net_plan.specs.Places.{device_at, link_at, is_master, IsEndSystem, IsSwitchOf, IsRoleOf, IsCmOf, IsDeviceOf}
 use Rattle.net_plan.specs.declared.ids.DeviceId.{DeviceId}
 use Rattle.net_plan.specs.declared.ids.LinkId.{LinkId}
@@ -55,11 +55,12 @@ abbrev pub IsChildOf : Network → DeviceId → LinkId → Type 0
 IsChildOf network device link = IsSomeAnd (link_at network link) (λ l. l.child ≡ device)
 
 -- an end system is the child of exactly one link of each channel, a relay of exactly one link, and
--- each device has a path of at most eight links on each of its channels
+-- from each device the first uplinks lead to the compression master of each of its channels over at
+-- most eight links
 pub record IsConnected (network : Network) (i : ℕ) : Type 0 where
   pub ends : IsEndSystem network (record { 0 = i }) → (channel : Channel) → ExactlyOne (IsUplink network channel (record { 0 = i }))
   pub relays : (channel : Channel) → IsRoleOf network Relay channel (record { 0 = i }) → ExactlyOne (IsChildOf network (record { 0 = i }))
-  pub paths : (channel : Channel) → IsDeviceOf network channel (record { 0 = i }) → HasPath network channel (record { 0 = i })
+  pub paths : (channel : Channel) → IsDeviceOf network channel (record { 0 = i }) → LeadsToCm network channel (record { 0 = i })
 
 -- the masters of the network
 abbrev pub masters : Network → List Device

@@ -1,7 +1,8 @@
 ghost use Rattle.std.specs.Prelude.{◌≡◌, ◌+◌, ◌<◌, ◌≤◌, ◌*◌, ◌^◌, ◌≤ℤ◌, pos, length, max};
 ghost use Rattle.net_plan.specs.Bounds.{IsBeta, IsGreatest, IsOfPathFrom, IsOfPathOn, gamma_of, jitter_of, jitter_on};
 ghost use Rattle.net_plan.specs.Paths.{IsTree};
-ghost use Rattle.net_plan.specs.Ranges.{IsInRange, amount};
+ghost use Rattle.net_plan.specs.Ranges.{IsInRange};
+ghost use Rattle.tte_units.specs.Amount.{amount};
 
 use crate::{DeviceId, LinkId, Network, Path};
 use pcf_values::Channel;
@@ -29,22 +30,6 @@ impl Extent {
     }
 }
 
-/// The number of units, which is not negative.
-fn amount(units: Units) -> u64
-    requires { pos 0 ≤ℤ units.0 }
-    ensures { result ≡ amount units }
-{
-    units.0 as u64
-}
-
-/// So many units.
-fn units(n: u64) -> Units
-    requires { n < 2 ^ 63 }
-    ensures { result.0 ≡ pos n }
-{
-    Units(n as i64)
-}
-
 #[tactic(auto, using(crate::proofs::Amounts::amount_within))]
 impl Network {
     /// How far the clocks of two devices drift apart over two cycles, with the roundings of four
@@ -55,8 +40,8 @@ impl Network {
         requires { IsInRange self.now }
         ensures { result.0 ≡ pos (gamma_of self.now) }
     {
-        let drift = slip(self.rho, units(2 * amount(self.cycle)));
-        units(amount(drift) + 4 * (amount(self.grain) - 1))
+        let drift = slip(self.rho, Units::from_amount(2 * self.cycle.amount()));
+        Units::from_amount(drift.amount() + 4 * (self.grain.amount() - 1))
     }
 
     /// How far the time from the dispatch of a protocol control frame to its permanence may be
@@ -71,9 +56,9 @@ impl Network {
         ensures { IsBeta self.now result.0 }
     {
         let extent = self.extent_on(Channel::A).max(self.extent_on(Channel::B));
-        let drift = 4 * u64::from(self.rho) * amount(self.dmax) / 1_000_000_000;
-        let roundings = ROUNDINGS * amount(self.grain) * (extent.links + 2);
-        units(extent.jitter + drift + roundings)
+        let drift = 4 * u64::from(self.rho) * self.dmax.amount() / 1_000_000_000;
+        let roundings = ROUNDINGS * self.grain.amount() * (extent.links + 2);
+        Units::from_amount(extent.jitter + drift + roundings)
     }
 
     /// The greatest extent of the paths on a channel.

@@ -1,3 +1,4 @@
+pub mod Amount
 pub mod Mean
 pub mod Slip
 pub mod OctetTime

@@ -1,9 +1,30 @@
-ghost use Rattle.std.specs.Prelude.{◌≡◌, ◌^◌, pos, neg_ℤ, ◌<ℤ◌};
+ghost use Rattle.std.specs.Prelude.{◌≡◌, ◌<◌, ◌^◌, pos, neg_ℤ, ◌<ℤ◌, ◌≤ℤ◌};
+ghost use Rattle.tte_units.specs.Amount.{amount, units_of};
 ghost use Rattle.tte_units.specs.Mean.{mean_of, IsMean};
 
 /// A time, a clock's reading or a delay, in units of 2^-16 ns: 1 ns is 65,536 units.
 #[derive(Clone, Copy, Debug, PartialEq, Eq, Hash, PartialOrd, Ord)]
 pub struct Units(pub i64);
+
+impl Units {
+    /// So many units: fewer than 2^63.
+    pub fn from_amount(n: u64) -> Units
+        requires { n < 2 ^ 63 }
+        ensures value { result ≡ units_of n }
+        ensures whole { result.0 ≡ pos n }
+    {
+        Units(n as i64)
+    }
+
+    /// How many units these are. They are not negative.
+    pub fn amount(self) -> u64
+        requires { pos 0 ≤ℤ self.0 }
+        ensures value { result ≡ amount self }
+        ensures whole { self.0 ≡ pos result }
+    {
+        self.0 as u64
+    }
+}
 
 /// The mean of two numbers of units, rounded towards minus infinity.
 ///

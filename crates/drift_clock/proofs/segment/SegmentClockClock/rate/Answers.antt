@@ -16,14 +16,14 @@ invariant_of-self c =
     let i = c.self.inside in
     let s : Segment = record { grain = i.grain; at = i.at; count = i.count; rate = i.rate.0 } in
     let is : s ≡ c.args.self.now = c.self.view_is in
-    let t = c.whole-t.result in
-    let after : i.at ≤ t = omega (arith, ints, ap (λ (x : Segment). x.at) is, c.requires.stepped, c.whole-t.ensures) in
+    let t = c.amount-t.result in
+    let after : i.at ≤ t = omega (arith, ints, ap (λ (x : Segment). x.at) is, c.requires.stepped, c.amount-t.ensures.whole) in
     let fast = gain_near i.rate.0 1000000 c.self.invariant.slow (omega arith) in
     let count : c.count_at-self-inside.result ≡ segment_count s t = c.count_at-self-inside.ensures ∙ ap (λ (x : Segment). segment_count x t) (sym is) in
     record {
       some_grain = c.self.invariant.some_grain;
       fine = c.self.invariant.fine;
-      time = omega (arith, ints, c.requires.limit, c.whole-t.ensures);
+      time = omega (arith, ints, c.requires.limit, c.amount-t.ensures.whole);
       slow = c.requires.magnitude;
       bound = rw count (grows s t c.self.invariant.bound after (omega (arith, fast.1)));
     }

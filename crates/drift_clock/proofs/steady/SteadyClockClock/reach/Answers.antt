@@ -7,12 +7,12 @@ pub returns : goal.returns
 returns c =
     let grain : ℕ = c.args.self.now in
     let t : ℕ = unsigned_abs c.args.from.0 in
-    let n : ℕ = c.whole.result in
+    let n : ℕ = c.amount.result in
     let m : ℕ = c.next_multiple_of.result in
     let is : c.self.inside.grain ≡ grain = c.self.view_is in
     let some : 1 ≤ grain = omega (arith, is, c.self.invariant.0) in
-    let short : grain * (t / grain) < n = omega (arith, ints, c.read.ensures, c.if-v-read.false, c.whole.ensures) in
+    let short : grain * (t / grain) < n = omega (arith, ints, c.read.ensures, c.if-v-read.false, c.amount.ensures.whole) in
     let whole : m % grain ≡ 0 = rw is at c.next_multiple_of.ensures.multiple in
     let least : m < n + grain = rw is at c.next_multiple_of.ensures.upper_bound in
     let r = steady_reaches grain t n m some whole c.next_multiple_of.ensures.lower_bound least short in
-    rw c.units.ensures (reach_from (λ x. grain * (x / grain)) c.args.from.0 c.args.v.0 t n m (omega (arith, ints)) c.whole.ensures r)
+    rw c.from_amount.ensures.whole (reach_from (λ x. grain * (x / grain)) c.args.from.0 c.args.v.0 t n m (omega (arith, ints)) c.amount.ensures.whole r)

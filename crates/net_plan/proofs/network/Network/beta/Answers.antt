@@ -1,6 +1,6 @@
 use Rattle.std.proofs.Common.{ℕ, pos, ◌+◌, ◌*◌, ◌/◌, ◌^◌, length, sym, ap, ◌∙◌, subst}
 use Rattle.net_plan.specs.Bounds.{IsGreatest, IsOfPath, jitter_on}
-use Rattle.net_plan.specs.Ranges.{amount}
+use Rattle.tte_units.specs.Amount.{amount}
 use Rattle.net_plan.specs.declared.ids.LinkId.{LinkId}
 use Rattle.net_plan.proofs.Greatest.{greatest_of_channels}
 use Rattle.net_plan.proofs.network.Network.beta.Goals as goal
@@ -16,8 +16,8 @@ returns c =
       links = extent.links;
       jitter_greatest = subst (IsGreatest (IsOfPath n (jitter_on n))) (sym c.max-extent.ensures.jitter) (greatest_of_channels n (jitter_on n) _ _ a.jitter b.jitter);
       links_greatest = subst (IsGreatest (IsOfPath n (length {A = LinkId}))) (sym c.max-extent.ensures.links) (greatest_of_channels n (length {A = LinkId}) _ _ a.links b.links);
-      value = c.units.ensures
+      value = c.from_amount.ensures.whole
           ∙ ap (λ (rho : ℕ). pos (extent.jitter + 4 * rho * c.amount.result / 10 ^ 9 + 8 * c.amount-2.result * (extent.links + 2))) c.from.ensures
-          ∙ ap (λ (dmax : ℕ). pos (extent.jitter + 4 * n.rho * dmax / 10 ^ 9 + 8 * c.amount-2.result * (extent.links + 2))) c.amount.ensures
-          ∙ ap (λ (grain : ℕ). pos (extent.jitter + 4 * n.rho * amount n.dmax / 10 ^ 9 + 8 * grain * (extent.links + 2))) c.amount-2.ensures;
+          ∙ ap (λ (dmax : ℕ). pos (extent.jitter + 4 * n.rho * dmax / 10 ^ 9 + 8 * c.amount-2.result * (extent.links + 2))) c.amount.ensures.value
+          ∙ ap (λ (grain : ℕ). pos (extent.jitter + 4 * n.rho * amount n.dmax / 10 ^ 9 + 8 * grain * (extent.links + 2))) c.amount-2.ensures.value;
     }

@@ -1,0 +1,10 @@
+use Rattle.std.specs.Prelude.{ℕ, pos, unsigned_abs}
+use Rattle.tte_units.specs.declared.units.Units.{Units}
+
+-- so many units
+abbrev pub units_of : ℕ → Units
+units_of n = record { 0 = pos n }
+
+-- how many units these are, where they are not negative
+abbrev pub amount : Units → ℕ
+amount units = unsigned_abs units.0
