@@ -1,0 +1,6 @@
+//! Judges a network by all its rules.
+#![tactic(auto)]
+
+mod refusal;
+
+pub use refusal::{RuleBroken, Unfit};

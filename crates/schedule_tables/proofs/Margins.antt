@@ -1,0 +1,192 @@
+-- The rules of a network's times leave the margins.
+use Rattle.std.proofs.Common.{◌≡◌, ℕ, pos, get_or, ◌+◌, ◌*◌, ◌/◌, ◌^◌, ◌≤◌, suc, List, [], ◌∷◌, Option, Some, None, refl, sym, ap, ◌∙◌, subst, ◌⊎◌, inl, inr, ⊎_elim, arith}
+use Rattle.std.proofs.lemmas.Bool.{false≢true}
+use Rattle.std.proofs.lemmas.Int.{ints}
+use Rattle.std.proofs.lemmas.List.Sums.{sum_by-cons}
+use Rattle.std.specs.Option.{option_map_or}
+use Rattle.std.proofs.lemmas.List.Elements.{All-weaker}
+use Rattle.std.proofs.lemmas.Option.{slice_get-get_or}
+use Rattle.std.specs.Prelude.{if◌then◌else◌, Bool, true, false, length, slice_get, IsSomeAnd}
+use Rattle.std.specs.List.{All, filter}
+use Rattle.net_plan.specs.Bounds.{IsBeta}
+use Rattle.net_plan.specs.Paths.{IsPath, IsTree, IsUplink}
+use Rattle.net_plan.specs.Places.{device_at, link_at, is_end_system, is_master, IsDeviceOf, IsEndSystem, IsRoleOf, IsSwitchOf}
+use Rattle.net_plan.specs.Ranges.{IsInRange, IsWithin}
+use Rattle.net_plan.specs.Rules.{RulesGiveTrees, KeepsShapeRules}
+use Rattle.net_plan.specs.declared.ids.DeviceId.{DeviceId}
+use Rattle.net_plan.specs.declared.ids.LinkId.{LinkId}
+use Rattle.net_plan.specs.declared.network.Network.{Network}
+use Rattle.net_plan.specs.declared.tables.Link.{Link}
+use Rattle.net_plan.specs.declared.tables.Device.{Device}
+use Rattle.net_plan.specs.declared.tables.Role.{Role}
+use Rattle.net_plan.specs.declared.tables.Role.TheVariants.{Master, Client, Cm, Relay}
+use Rattle.pcf_values.specs.declared.channel.Channel.{Channel}
+use Rattle.pcf_values.specs.declared.channel.Channel.TheVariants.{A}
+use Rattle.schedule_tables.proofs.EntryLemmas.{all_at}
+use Rattle.schedule_tables.specs.Delays.{delay_by, delay_of, pcf_port_time, ErrorsSettle, PrecisionFits, CorrectionFits, ScheduleFits}
+use Rattle.schedule_tables.specs.Margins.{DriftHasRoom, PrecisionHasRoom, CycleHasRoom, SettledHasRoom, ErrorsAreSmall, RulesGiveMargins}
+use Rattle.schedule_tables.specs.Rules.{KeepsRules}
+use Rattle.schedule_tables.specs.declared.rule.Rule.TheVariants.{Limits, DevicesDiffer, LinksDiffer, CompressionMasters, Joints, Connections, Masters, Delays, Settling, Precision, Correction, ScheduleStart}
+use Rattle.tte_units.specs.Amount.{amount}
+use Rattle.tte_units.specs.declared.units.Units.{Units}
+
+amount_within : (low high : ℕ) (units : Units) → IsWithin low high units → (low ≤ amount units) × (amount units ≤ high)
+amount_within low high units h = (omega (arith, ints, h.least, h.most), omega (arith, ints, h.least, h.most))
+
+-- half of a quotient
+halved : (a b : ℕ) → b ≡ 2 * a → 2 * (a / 10 ^ 9) ≤ b / 10 ^ 9
+halved a b e = omega (arith, e)
+
+drift_room : (n : Network) → IsInRange n → DriftHasRoom n
+drift_room n range =
+    let g = (amount_within 1 1048576 n.grain range.grain).0 in
+    let e : 2 * n.rho * (2 * amount n.cycle) ≡ 2 * (2 * n.rho * amount n.cycle) = omega arith in
+    let h = halved (2 * n.rho * amount n.cycle) (2 * n.rho * (2 * amount n.cycle)) e in
+    record {
+      grain = g;
+      two_drifts = omega (arith, g, h);
+      two_readings = omega (arith, g, h);
+      four_readings = omega (arith, g, h);
+    }
+
+precision_room : (n : Network) (beta : ℕ) → IsInRange n → DriftHasRoom n → PrecisionFits n → IsBeta n (pos beta) → PrecisionHasRoom n beta
+precision_room n beta range drift fits is =
+    let e = fits.errors beta is in
+    let calc = (amount_within 1 (2 ^ 40) n.calc range.calc).0 in
+    record {
+      eight_errors = omega (arith, e, drift.two_drifts, drift.two_readings, drift.four_readings, drift.grain);
+      compression_most = omega (arith, fits.calc);
+      compression_least = omega (arith, calc);
+    }
+
+settled_room : (n : Network) (beta : ℕ) → DriftHasRoom n → ErrorsSettle n → IsBeta n (pos beta) → SettledHasRoom n beta
+settled_room n beta drift settle is =
+    let e = settle beta is in
+    record {
+      errors = omega (arith, e, drift.two_drifts, drift.two_readings, drift.four_readings, drift.grain);
+      spread = omega (arith, drift.two_drifts, drift.two_readings);
+      more = omega arith;
+    }
+
+errors_small : (n : Network) (beta : ℕ) → ErrorsAreSmall n beta
+errors_small n beta = record {
+  paths = omega arith;
+  drifts = omega arith;
+  readings = omega arith;
+  bases = omega arith;
+  clocks = omega arith;
+  two_clocks = omega arith;
+}
+
+All-from_places : {X : Type 0} (P : X → Type 0) (xs : List X) → ((i : ℕ) (x : X) → slice_get xs i ≡ Some x → P x) → All P xs
+All-from_places P xs h = λ k d below. h k (get_or xs k d) (slice_get-get_or xs k d below)
+
+-- the rules of a network's shape are among the rules
+shape_rules : (n : Network) → KeepsRules n → KeepsShapeRules n
+shape_rules n keeps = record {
+  limits = keeps Limits;
+  devices = keeps DevicesDiffer;
+  links = keeps LinksDiffer;
+  cms = keeps CompressionMasters;
+  joins = keeps Joints;
+  connected = keeps Connections;
+  masters_suffice = keeps Masters;
+}
+
+-- the last control frame on a link, with the schedule's begin
+last_frame : (n : Network) → CorrectionFits n → ScheduleFits n → All (λ link. amount n.correction + amount n.dmax + 8 * amount n.precision + pcf_port_time link ≤ amount n.cycle) n.link
+last_frame n correction schedule =
+    All-weaker
+    (λ link. amount n.correction + amount n.dmax + 4 * amount n.precision + pcf_port_time link ≤ amount n.tt_start)
+    (λ link. amount n.correction + amount n.dmax + 8 * amount n.precision + pcf_port_time link ≤ amount n.cycle)
+    (λ link h. omega (arith, h, schedule.ends)) n.link schedule.begins
+
+cycle_room : (n : Network) (beta : ℕ) (link : Link) → DriftHasRoom n → PrecisionFits n → PrecisionHasRoom n beta → CorrectionFits n → ScheduleFits n
+    → amount n.correction + amount n.dmax + 4 * amount n.precision + pcf_port_time link ≤ amount n.tt_start → CycleHasRoom n beta
+cycle_room n beta link drift fits precision correction schedule first = record {
+  correction = omega (arith, correction);
+  last_frame = last_frame n correction schedule;
+  eighteen_precisions = omega (arith, correction, schedule.ends, first);
+  many_errors = omega (arith, correction, schedule.ends, first, precision.eight_errors);
+  eighteen_starts = omega (arith, correction, schedule.ends, first, precision.eight_errors);
+  next_correction = omega (arith, schedule.ends, first, precision.eight_errors);
+}
+
+-- an element that a filter keeps
+kept : {X : Type 0} (p : X → Bool) (xs : List X) → 1 ≤ length (filter p xs) → (i : ℕ) × (x : X) × (slice_get xs i ≡ Some x) × (p x ≡ true)
+kept p [] h = absurd (omega arith)
+kept p (x ∷ xs) h =
+    elim (p x) as (λ b. p x ≡ b → 1 ≤ length (if b then x ∷ filter p xs else filter p xs) → (i : ℕ) × (y : _) × (slice_get (x ∷ xs) i ≡ Some y) × (p y ≡ true)) [
+      | true ↦ λ e g. (0, x, refl, e)
+      | false ↦ λ e g. let r = kept p xs g in (suc r.0, r.1, r.2, r.3)
+    ] refl h
+
+master_ends : (r : Role) → is_master r ≡ true → is_end_system r ≡ true
+master_ends Master e = refl
+master_ends Client e = refl
+master_ends Cm e = absurd (false≢true e)
+master_ends Relay e = absurd (false≢true e)
+
+-- the value behind `IsSomeAnd`, and back
+opened : {X : Type 0} (P : X → Type 0) (o : Option X) → IsSomeAnd o P → (x : X) × (o ≡ Some x) × P x
+opened P None h = absurd h
+opened P (Some x) h = (x, refl, h)
+
+closed : {X : Type 0} (P : X → Type 0) (o : Option X) (x : X) → o ≡ Some x → P x → IsSomeAnd o P
+closed P o x e h = subst (λ (s : Option _). IsSomeAnd s P) (sym e) h
+
+-- some device is a master, so there is a link
+some_link : (n : Network) → KeepsRules n → (place : ℕ) × (link : Link) × (slice_get n.link place ≡ Some link)
+some_link n keeps =
+    let four = (keeps Masters 0).least refl in
+    let m = kept (λ (d : Device). is_master d.role) n.device (omega (arith, four)) in
+    let end : IsEndSystem n (record { 0 = m.0 }) = closed (λ (d : Device). is_end_system d.role ≡ true) (slice_get n.device m.0) m.1 m.2 (master_ends m.1.role m.3) in
+    let up = (keeps Connections m.0).ends end A in
+    let l = opened (λ (l : Link). (l.child ≡ record { 0 = m.0 }) × IsSwitchOf n A l.parent) (link_at n up.0) up.1 in
+    (up.0.0, l.0, l.1)
+
+-- dmax has room for the delays of a device's uplink, with which its path begins
+first_link : (n : Network) (beta : ℕ) → IsTree n → KeepsRules n → IsBeta n (pos beta) → (c : Channel) (d : DeviceId) (place : ℕ) (link : Link) → slice_get n.link place ≡ Some link → IsUplink n c d (record { 0 = place }) → IsDeviceOf n c d → (links : List LinkId) → IsPath n c d links → beta + delay_by link ≤ amount n.dmax
+first_link n beta tree keeps is c d place link at up member [] path = absurd (tree.root c d (record { 0 = place }) path up)
+first_link n beta tree keeps is c d place link at up member (l ∷ ls) path =
+    let k = opened (λ (x : Link). (x.child ≡ d) × IsSwitchOf n c x.parent × IsPath n c x.parent ls) (link_at n l) path in
+    let also : IsUplink n c d l = closed (λ (x : Link). (x.child ≡ d) × IsSwitchOf n c x.parent) (link_at n l) k.0 k.1 (k.2.0, k.2.1) in
+    let same = tree.one_uplink c d l (record { 0 = place }) also up in
+    let here : delay_of n l ≡ delay_by link = ap (delay_of n) same ∙ ap (λ (o : Option Link). option_map_or delay_by o 0) at in
+    let all = keeps Delays d.0 beta c (l ∷ ls) is member path in
+    omega (arith, all, here, sum_by-cons (delay_of n) l ls)
+
+-- dmax has room for the delays of each link, which begins the path of its child
+link_room : (n : Network) (beta : ℕ) → IsTree n → KeepsRules n → IsBeta n (pos beta) → (place : ℕ) (link : Link) → slice_get n.link place ≡ Some link → beta + delay_by link ≤ amount n.dmax
+link_room n beta tree keeps is place link at =
+    let joint = keeps Joints place link at in
+    let up : IsUplink n joint.0 link.child (record { 0 = place }) = closed (λ (l : Link). (l.child ≡ link.child) × IsSwitchOf n joint.0 l.parent) (slice_get n.link place) link at (refl, joint.1) in
+    let member : IsDeviceOf n joint.0 link.child =
+    ⊎_elim
+    (λ (e : IsEndSystem n link.child). let d = opened (λ (d : Device). is_end_system d.role ≡ true) (device_at n link.child) e in
+    let r : IsDeviceOf n joint.0 link.child = closed (λ (x : Device). (is_end_system x.role ≡ true) ⊎ (x.channel ≡ Some joint.0)) (device_at n link.child) d.0 d.1 (inl d.2) in r)
+    (λ (e : IsRoleOf n Relay joint.0 link.child). let d = opened (λ (d : Device). (d.role ≡ Relay) × (d.channel ≡ Some joint.0)) (device_at n link.child) e in
+    let r : IsDeviceOf n joint.0 link.child = closed (λ (x : Device). (is_end_system x.role ≡ true) ⊎ (x.channel ≡ Some joint.0)) (device_at n link.child) d.0 d.1 (inr d.2.1) in r)
+    joint.2 in
+    let path = tree.reach joint.0 link.child member in
+    first_link n beta tree keeps is joint.0 link.child place link at up member path.0 path.2
+
+pub margins : RulesGiveTrees → RulesGiveMargins
+margins trees n beta range keeps is =
+    let tree = trees n (shape_rules n keeps) in
+    let drift = drift_room n range in
+    let precision = precision_room n beta range drift (keeps Precision 0) is in
+    let one = some_link n keeps in
+    let begins = all_at (λ link. amount n.correction + amount n.dmax + 4 * amount n.precision + pcf_port_time link ≤ amount n.tt_start) n.link one.0 one.1 (keeps ScheduleStart 0).begins one.2 in
+    record {
+      drift = drift;
+      precision = precision;
+      cycle = cycle_room n beta one.1 drift (keeps Precision 0) precision (keeps Correction 0) (keeps ScheduleStart 0) begins;
+      dmax = record {
+        path = omega (arith, link_room n beta tree keeps is one.0 one.1 one.2);
+        links = All-from_places (λ link. beta + delay_by link ≤ amount n.dmax) n.link (link_room n beta tree keeps is);
+        paths = λ c d links member path. keeps Delays d.0 beta c links is member path;
+      };
+      settled = settled_room n beta drift (keeps Settling 0) is;
+      errors = errors_small n beta;
+    }

@@ -1,0 +1,10 @@
+use Rattle.std.proofs.Common.{length-append, ap, arith, length, ◌∷◌, []}
+use Rattle.schedule_tables.specs.declared.entry.Entry.{Entry}
+use Rattle.schedule_tables.proofs.EntryLemmas.{entry_pushed}
+use Rattle.schedule_tables.proofs.entry.entries_of.Goals as goal
+
+pub loop-place-preserved : goal.loop-place-preserved
+loop-place-preserved c = record {
+  count = omega (arith, ap (length {A = Entry}) c.in-Ok.ensures.items, length-append c.loop-place.entries.items (c.entry_of.result ∷ []), c.loop-place.invariant.count);
+  each = rw c.in-Ok.ensures.items (entry_pushed c.args.network.now c.loop-place.entries.items c.entry_of.result c.loop-place.place c.loop-place.invariant.count c.entry_of.ensures.is c.loop-place.invariant.each);
+}

@@ -1,0 +1,44 @@
+-- The dispatches of a device in a cycle, in their order.
+use Rattle.std.specs.Prelude.{◌≡◌, ◌⊎◌, ℕ, ◌<◌, List, [], ◌∷◌, Option, Some, None, slice_get}
+use Rattle.std.specs.Option.{option_map_or}
+use Rattle.net_plan.specs.declared.ids.DeviceId.{DeviceId}
+use Rattle.net_plan.specs.declared.ids.RowId.{RowId}
+use Rattle.net_plan.specs.declared.network.Network.{Network}
+use Rattle.schedule_tables.specs.Entries.{IsEntry, source_of}
+use Rattle.schedule_tables.specs.Windows.{OccursIn}
+use Rattle.schedule_tables.specs.declared.entry.Entry.{Entry}
+use Rattle.tte_units.specs.Amount.{amount}
+
+-- the first list is the lesser one, its numbers compared from the left
+abbrev pub IsBelow : List ℕ → List ℕ → Type 0
+IsBelow [] ys = ⊥
+IsBelow (x ∷ xs) [] = ⊥
+IsBelow (x ∷ xs) (y ∷ ys) = (x < y) ⊎ ((x ≡ y) × IsBelow xs ys)
+
+-- a row's place in the order of dispatch: by its offset, then by its link, then by the row
+abbrev pub place_of : Network → RowId → List ℕ
+place_of network row = option_map_or (λ r. amount r.offset ∷ r.link.0 ∷ row.0 ∷ []) (slice_get network.row row.0) []
+
+-- the row comes behind the other in the order of dispatch, if there is another
+abbrev pub ComesBehind : Network → Option RowId → RowId → Type 0
+ComesBehind network None row = Unit {0}
+ComesBehind network (Some other) row = IsBelow (place_of network other) (place_of network row)
+
+-- the row leaves the device, and its virtual link occurs in the cycle
+pub record IsDispatched (network : Network) (device : DeviceId) (cycle : ℕ) (row : RowId) : Type 0 where
+  pub entry : Entry
+  pub is : IsEntry network row.0 entry
+  pub source : source_of entry ≡ device
+  pub occurs : OccursIn entry.vl cycle
+
+-- the row is the device's first in the cycle behind the other
+pub record IsNextRow (network : Network) (device : DeviceId) (cycle : ℕ) (other : Option RowId) (row : RowId) : Type 0 where
+  pub dispatched : IsDispatched network device cycle row
+  pub behind : ComesBehind network other row
+  pub first : (later : RowId) → IsDispatched network device cycle later → ComesBehind network other later
+      → (later ≡ row) ⊎ IsBelow (place_of network row) (place_of network later)
+
+-- the device has no row in the cycle behind the other
+abbrev pub HasNoNextRow : Network → DeviceId → ℕ → Option RowId → Type 0
+HasNoNextRow network device cycle other =
+    (row : RowId) → IsDispatched network device cycle row → ComesBehind network other row → ⊥

@@ -1,0 +1,17 @@
+//! The schedule of an accepted network: its rules, its rows with their windows, and the order in
+//! which a device dispatches them.
+#![tactic(auto)]
+
+mod accepted;
+mod entry;
+mod laws;
+mod memory;
+mod rule;
+mod window;
+
+pub use accepted::Accepted;
+pub use entry::{Entry, entries_of, entry_of};
+pub use laws::{entries_law, margins_law};
+pub use memory::OutOfMemory;
+pub use rule::Rule;
+pub use window::{Window, window_of};
