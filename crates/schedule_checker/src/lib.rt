@@ -1,6 +1,12 @@
 //! Judges a network by all its rules.
 #![tactic(auto)]
 
+mod checker;
+mod judge;
+mod laws;
+mod places;
 mod refusal;
 
+pub use checker::check;
+pub use laws::refusal_is_one;
 pub use refusal::{RuleBroken, Unfit};

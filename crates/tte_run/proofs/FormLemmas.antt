@@ -1,9 +1,7 @@
 -- The form of words by their count and their first.
-use Rattle.std.proofs.Common.{◌≡◌, ℕ, List, [], ◌∷◌, length, if◌then◌else◌, Some, None, refl, arith}
-use Rattle.std.specs.Prelude.{codes, slice_get}
-use Rattle.std.specs.Str.{bytes_eq}
-use Rattle.tte_run.specs.Forms.{form_of}
-use Rattle.tte_run.specs.declared.form.Form.TheVariants.{Show}
+use Rattle.std.proofs.Common.{◌≡◌, ℕ, List, [], ◌∷◌, length, Some, None, refl, arith}
+use Rattle.std.specs.Prelude.{slice_get}
+use Rattle.tte_run.specs.Forms.{form_of, command_form}
 
 pub other_count : (words : List (List ℕ)) → (length words ≡ 2 → ⊥) → None ≡ form_of words
 unfolding form_of
@@ -13,7 +11,7 @@ other_count (a ∷ b ∷ []) h = absurd (h refl)
 other_count (a ∷ b ∷ c ∷ rest) h = refl
 
 pub command_is : (words : List (List ℕ)) (command : List ℕ) → length words ≡ 2 → slice_get words 0 ≡ Some command
-    → form_of words ≡ (if bytes_eq command (codes "show") then Some Show else None)
+    → form_of words ≡ command_form command
 unfolding form_of
 command_is [] command n e = absurd (omega arith)
 command_is (a ∷ []) command n e = absurd (omega arith)

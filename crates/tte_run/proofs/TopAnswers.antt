@@ -1,21 +1,57 @@
 -- The answer for the words.
-use Rattle.std.proofs.Common.{◌≡◌, ℕ, List, Some, None}
+use Rattle.std.proofs.Common.{◌≡◌, ◌⊎◌, ℕ, List, [], ◌∷◌, Some, None, refl, sym, ap, ◌∙◌, subst, inl, inr, arith}
 use Rattle.std.specs.Prelude.{Option}
+use Rattle.net_plan.specs.Bounds.{BetaIsUnique}
+use Rattle.net_plan.specs.declared.network.Network.{Network}
+use Rattle.schedule_checker.specs.Refusals.{RefusalIsOne}
+use Rattle.tte_run.specs.Accepting.{MeansAccepted}
 use Rattle.tte_run.specs.Putting.{Shown}
-use Rattle.tte_run.specs.Answering.{Gives, Answers}
+use Rattle.tte_run.specs.Answering.{Answer, Gives, GivesOne, Answers, AnswersOne, IsDone}
+use Rattle.tte_run.specs.Checking.{IsAcceptance, IsCheckAnswer}
+use Rattle.tte_run.specs.Forms.{form_of}
 use Rattle.tte_run.specs.Showing.{show_answer}
-use Rattle.tte_run.specs.Top.{form_answer, usage_answer, Completes}
-use Rattle.tte_run.specs.declared.form.Form.TheVariants.{Show}
+use Rattle.tte_run.specs.Top.{AnswerIsOne, IsAnswer, IsFormAnswer, usage_answer, Completes}
+use Rattle.tte_run.specs.declared.form.Form.{Form}
+use Rattle.tte_run.specs.declared.form.Form.TheVariants.{Show, Check}
 use Rattle.tte_run.specs.declared.status.Status.{Status}
 use Rattle.tte_run.specs.declared.status.Status.TheVariants.{ReadFault, WriteFault}
+use Rattle.tte_run.proofs.NetworkAnswers.{accepted_alone, network_answer_one, acceptance_one}
+use Rattle.tte_run.proofs.OneAnswers.{one_given}
 use Rattle.tte_run.proofs.ShowAnswers.{shown_whole}
 
 -- usage is the answer whatever the source holds
-pub usage-any : (left : Option (List ℕ)) (status : Status) (old new : Shown) → Gives usage_answer status old new → Answers (form_answer None) left status old new
+pub usage-any : (left : Option (List ℕ)) (status : Status) (old new : Shown) → Gives usage_answer status old new → AnswersOne (IsFormAnswer None) left status old new
 usage-any None status old new g = tt
-usage-any (Some octets) status old new g = g
+usage-any (Some octets) status old new g = one_given (λ a. a ≡ usage_answer) usage_answer status old new refl (λ b e. e) g
 
-pub completes : (left : Option (List ℕ)) (status : Status) (old new : Shown) (SourceRose SinkRose : Type 0) → Answers show_answer left status old new
+-- the answer of `show` is one for its form
+pub shown-form : (left : Option (List ℕ)) (status : Status) (old new : Shown) → Answers show_answer left status old new → AnswersOne (IsFormAnswer (Some Show)) left status old new
+shown-form None status old new g = tt
+shown-form (Some octets) status old new g = one_given (λ a. a ≡ show_answer octets) (show_answer octets) status old new refl (λ b e. e) g
+
+pub completes-show : (left : Option (List ℕ)) (status : Status) (old new : Shown) (SourceRose SinkRose : Type 0) → Answers show_answer left status old new
     → (status ≡ ReadFault → SourceRose) → (status ≡ WriteFault → SinkRose) → Completes (Some Show) left SourceRose SinkRose status
-completes None status old new SourceRose SinkRose a read write = tt
-completes (Some octets) status old new SourceRose SinkRose a read write = λ quiet calm ps short s. shown_whole octets ps status old new SourceRose SinkRose short s a read write quiet calm
+completes-show None status old new SourceRose SinkRose a read write = tt
+completes-show (Some octets) status old new SourceRose SinkRose a read write = λ quiet calm ps short s. shown_whole octets ps status old new SourceRose SinkRose short s a read write quiet calm
+
+-- an accepted network is told to its end
+told_whole : (octets : List ℕ) (n : Network) (status : Status) (old new : Shown) (SourceRose SinkRose : Type 0) → MeansAccepted octets n → GivesOne (IsCheckAnswer octets) status old new
+    → (status ≡ ReadFault → SourceRose) → (status ≡ WriteFault → SinkRose) → (SourceRose → ⊥) → (SinkRose → ⊥) → IsDone status
+told_whole octets n status old new SourceRose SinkRose m (inl g) read write quiet calm =
+    let a = accepted_alone IsAcceptance octets n m g.0 g.1 in inl (g.2 ∙ ap (λ (x : Answer). x.status) a.answer)
+told_whole octets n status old new SourceRose SinkRose m (inr (inl g)) read write quiet calm = absurd (calm (write g.0))
+told_whole octets n status old new SourceRose SinkRose m (inr (inr (inl r, p))) read write quiet calm = absurd (quiet (read r))
+told_whole octets n status old new SourceRose SinkRose m (inr (inr (inr o, p))) read write quiet calm = inr o
+
+pub completes-check : (left : Option (List ℕ)) (status : Status) (old new : Shown) (SourceRose SinkRose : Type 0) → AnswersOne IsCheckAnswer left status old new
+    → (status ≡ ReadFault → SourceRose) → (status ≡ WriteFault → SinkRose) → Completes (Some Check) left SourceRose SinkRose status
+completes-check None status old new SourceRose SinkRose a read write = tt
+completes-check (Some octets) status old new SourceRose SinkRose a read write = λ quiet calm n m. told_whole octets n status old new SourceRose SinkRose m a read write quiet calm
+
+form_one : BetaIsUnique → RefusalIsOne → (form : Option Form) (octets : List ℕ) (a b : Answer) → IsFormAnswer form octets a → IsFormAnswer form octets b → a ≡ b
+form_one unique one None octets a b p q = p ∙ sym q
+form_one unique one (Some Show) octets a b p q = p ∙ sym q
+form_one unique one (Some Check) octets a b p q = network_answer_one one IsAcceptance (acceptance_one unique) octets a b p q
+
+pub one_answer : BetaIsUnique → RefusalIsOne → AnswerIsOne
+one_answer unique one words octets a b p q = form_one unique one (form_of words) octets a b p q

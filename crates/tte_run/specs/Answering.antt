@@ -25,6 +25,19 @@ abbrev pub Answers : (List ℕ → Answer) → Option (List ℕ) → Status → 
 Answers answer None status old new = Unit {0}
 Answers answer (Some octets) status old new = Gives (answer octets) status old new
 
+-- one answer with the property was given whole; or of each one with it, the first lines were, until a put
+-- failed, or until a read failed or memory ran out
+abbrev pub GivesOne : (Answer → Type 0) → Status → Shown → Shown → Type 0
+GivesOne IsAnswer status old new =
+    ((a : Answer) × IsAnswer a × (status ≡ a.status) × PutsLines a.lines old new)
+    ⊎ ((status ≡ WriteFault) × ((a : Answer) → IsAnswer a → PutFails a.lines old new))
+    ⊎ (((status ≡ ReadFault) ⊎ (status ≡ OutOfMemory)) × ((a : Answer) → IsAnswer a → PutsSome a.lines old new))
+
+-- one of the answers for the octets of a source was given so, where the source tells them
+abbrev pub AnswersOne : (List ℕ → Answer → Type 0) → Option (List ℕ) → Status → Shown → Shown → Type 0
+AnswersOne IsAnswer None status old new = Unit {0}
+AnswersOne IsAnswer (Some octets) status old new = GivesOne (IsAnswer octets) status old new
+
 -- done, or out of memory
 abbrev pub IsDone : Status → Type 0
 IsDone status = (status ≡ Done) ⊎ (status ≡ OutOfMemory)

@@ -1,8 +1,12 @@
 pub mod StatusNumber
 pub mod FrameLine
+pub mod NetworkLine
 pub mod Putting
 pub mod Answering
 pub mod Showing
 pub mod ShowLaw
+pub mod Accepting
+pub mod NoNetworks
+pub mod Checking
 pub mod Forms
 pub mod Top

@@ -1,5 +1,5 @@
 ghost use Rattle.std.specs.Prelude.{◌≡◌};
-ghost use Rattle.tte_run.specs.Forms.{form_of};
+ghost use Rattle.tte_run.specs.Forms.{command_form, form_of};
 
 use crate::Words;
 
@@ -8,6 +8,18 @@ use crate::Words;
 pub enum Form {
     /// `show FILE`.
     Show,
+    /// `check NETWORK`.
+    Check,
+}
+
+fn command_form(command: &str) -> Option<Form>
+    ensures { result ≡ command_form command.now }
+{
+    match command {
+        "show" => Some(Form::Show),
+        "check" => Some(Form::Check),
+        _ => None,
+    }
 }
 
 /// The form of the words, if they have one.
@@ -18,9 +30,5 @@ pub fn read_form(words: &Words) -> Option<Form>
         return None;
     }
     let command = words.get(0)?;
-    if command == "show" {
-        Some(Form::Show)
-    } else {
-        None
-    }
+    command_form(command)
 }

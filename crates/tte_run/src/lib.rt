@@ -1,17 +1,21 @@
 //! The commands of the program, over any source and any sink.
 #![tactic(auto)]
 
+mod accepting;
+mod checking;
 mod form;
 mod frame_line;
+mod network_line;
 mod put_line;
 mod showing;
 mod status;
 mod top;
 mod words;
 
+pub use checking::check_network;
 pub use showing::{show, show_law};
 pub use status::Status;
-pub use top::tte;
+pub use top::{answer_law, tte};
 pub use words::Words;
 
 #[cfg(test)]

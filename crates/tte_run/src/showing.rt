@@ -7,14 +7,12 @@ ghost use Rattle.tte_run.specs.Showing.{frame_at, frame_count, frames_answer, sh
 ghost use Rattle.tte_run.specs.ShowLaw.{ShowsFrames};
 
 use crate::Status;
+use crate::accepting::LIMIT;
 use crate::frame_line::{make_frame_line, make_refusal_line};
 use crate::put_line::put_last;
 use pcf_codec::{PCF_LENGTH, decode};
 use std::alloc::Global;
 use tte_io::{LineText, ReadAll, Sink, Source, read_all};
-
-/// How many octets a file has at most.
-const LIMIT: u64 = 262_144;
 
 /// Shows the protocol control frames of a file, a line for each. The first that spells nothing is
 /// refused, and the file is read no further.

@@ -1,13 +1,15 @@
 ghost use Rattle.std.specs.Prelude.{◌≡◌, ◌⊎◌};
 ghost use Rattle.tte_io.specs.Faults.{Rose};
 ghost use Rattle.tte_run.specs.Putting.{shown_by};
-ghost use Rattle.tte_run.specs.Answering.{Answers, Gives};
+ghost use Rattle.tte_run.specs.Answering.{AnswersOne, Gives};
 ghost use Rattle.tte_run.specs.Forms.{form_of};
-ghost use Rattle.tte_run.specs.Top.{answer, usage_answer, AnswersUsage, Completes};
+ghost use Rattle.tte_run.specs.Top.{AnswerIsOne, AnswersUsage, Completes, IsAnswer, usage_answer};
 
 use crate::form::{Form, read_form};
 use crate::put_line::put_last;
-use crate::{Status, Words, show};
+use crate::{Status, Words, check_network, show};
+use net_plan::beta_is_unique;
+use schedule_checker::refusal_is_one;
 use std::alloc::Global;
 use tte_io::{Sink, Source};
 
@@ -23,7 +25,7 @@ pub fn tte<A: Source, B: Source, K: Sink>(
     second: &mut B,
     out: &mut K,
 ) -> Status
-    ensures general { Answers (answer words.now) (A.left first.old) result
+    ensures general { AnswersOne (IsAnswer words.now) (A.left first.old) result
         (shown_by K.written K.puts out.old) (shown_by K.written K.puts out.new) }
     ensures usage { AnswersUsage (form_of words.now) result
         (shown_by K.written K.puts out.old) (shown_by K.written K.puts out.new) }
@@ -36,6 +38,7 @@ pub fn tte<A: Source, B: Source, K: Sink>(
     let _ = second;
     match read_form(words) {
         Some(Form::Show) => show(alloc, first, out),
+        Some(Form::Check) => check_network(alloc, first, out),
         None => put_usage(out),
     }
 }
@@ -45,4 +48,12 @@ fn put_usage<K: Sink>(out: &mut K) -> Status
     ensures status { (result ≡ Status.Usage) ⊎ ((result ≡ Status.WriteFault) × Rose (K.faults out.old) (K.faults out.new)) }
 {
     put_last(USAGE.as_bytes(), Status::Usage, out)
+}
+
+/// The words and the octets of the file have one answer.
+pub fn answer_law()
+    ensures { AnswerIsOne }
+{
+    beta_is_unique();
+    refusal_is_one();
 }

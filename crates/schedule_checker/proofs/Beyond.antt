@@ -1,0 +1,149 @@
+-- A rule that is kept at the places where it is judged is kept at each.
+use Rattle.std.proofs.Common.{◌≡◌, ⊎_elim, ℕ, ◌<◌, ◌≤◌, List, [], ◌∷◌, Bool, true, false, cond, Option, Some, None, length, get_or, refl, ap, subst, arith}
+use Rattle.std.proofs.lemmas.Bool.{cases_lt, ne_eqb}
+use Rattle.std.proofs.lemmas.List.Elements.{All-tail}
+use Rattle.std.proofs.lemmas.List.Sums.{sum_by-cons}
+use Rattle.std.proofs.lemmas.Option.{slice_get_within, slice_get_cases}
+use Rattle.std.specs.Prelude.{IsSomeAnd, slice_get}
+use Rattle.std.specs.List.{All, count_by}
+use Rattle.net_plan.specs.Places.{is_end_system}
+use Rattle.net_plan.specs.Ranges.{IsInRange, IsLinkInRange, IsRowInRange}
+use Rattle.net_plan.specs.declared.network.Network.{Network}
+use Rattle.net_plan.specs.declared.tables.Device.{Device}
+use Rattle.net_plan.specs.declared.tables.Link.{Link}
+use Rattle.net_plan.specs.declared.tables.Row.{Row}
+use Rattle.net_plan.specs.declared.tables.Way.{Way}
+use Rattle.net_plan.specs.declared.tables.Way.TheVariants.{Up, Down}
+use Rattle.schedule_checker.specs.Judging.{places_of}
+use Rattle.schedule_tables.specs.Entries.{source_by}
+use Rattle.schedule_tables.specs.Rules.{IsKeptAt, IsKept}
+use Rattle.schedule_tables.specs.Schedule.{leaves, HasFewRows}
+use Rattle.schedule_tables.specs.declared.rule.Rule.{Rule}
+use Rattle.schedule_tables.specs.declared.rule.Rule.TheVariants.{Limits, DevicesDiffer, LinksDiffer, CompressionMasters, Joints, Connections, Masters, Delays, Settling, Precision, Correction, ScheduleStart, WindowEnds, VlNamesDiffer, VlIdsDiffer, Periods, Senders, LinksOnce, Sources, Targets, Spacing, BothChannels, Forwarding, RowsOfDevice}
+
+-- the rule is kept where it is judged
+abbrev pub IsKeptWhereJudged : Rule → Network → Type 0
+IsKeptWhereJudged rule n = (k : ℕ) → k < places_of rule n → IsKeptAt rule n k
+
+-- a place that holds something is within the list
+within : {X : Type 0} (P : X → Type 0) (xs : List X) (k : ℕ) → IsSomeAnd (slice_get xs k) P → k < length xs
+within P xs k h = some_within xs k (slice_get xs k) P refl h
+  where
+    some_within : {X : Type 0} (xs : List X) (k : ℕ) (o : Option X) (P : X → Type 0) → slice_get xs k ≡ o → IsSomeAnd o P → k < length xs
+    some_within xs k None P e h = absurd h
+    some_within xs k (Some x) P e h = slice_get_within xs k x e
+
+limits : (n : Network) → IsKeptWhereJudged Limits n → IsKept Limits n
+limits n h k =
+    ⊎_elim (λ (l : k < 4). h k l)
+    (λ (g : 4 ≤ k). let r : IsKeptAt Limits n k = record { devices = λ e. absurd (omega (arith, e, g)); links = λ e. absurd (omega (arith, e, g)); vls = λ e. absurd (omega (arith, e, g)); rows = λ e. absurd (omega (arith, e, g)) } in r)
+    (cases_lt k 4)
+
+cms : (n : Network) → IsKeptWhereJudged CompressionMasters n → IsKept CompressionMasters n
+cms n h k =
+    ⊎_elim (λ (l : k < 2). h k l)
+    (λ (g : 2 ≤ k). let r : IsKeptAt CompressionMasters n k = record { on_a = λ e. absurd (omega (arith, e, g)); on_b = λ e. absurd (omega (arith, e, g)) } in r)
+    (cases_lt k 2)
+
+masters : (n : Network) → IsKeptWhereJudged Masters n → IsKept Masters n
+masters n h k =
+    ⊎_elim (λ (l : k < 6). h k l)
+    (λ (g : 6 ≤ k). let r : IsKeptAt Masters n k = record {
+      least = λ e. absurd (omega (arith, e, g));
+      most = λ e. absurd (omega (arith, e, g));
+      members = λ e. absurd (omega (arith, e, g));
+      threshold_least = λ e. absurd (omega (arith, e, g));
+      threshold_most = λ e. absurd (omega (arith, e, g));
+      begin_on = λ e. absurd (omega (arith, e, g));
+      starts = λ e. absurd (omega (arith, e, g));
+      one_faulty = λ e. absurd (omega (arith, e, g));
+    } in r)
+    (cases_lt k 6)
+
+connections : (n : Network) → IsKeptWhereJudged Connections n → IsKept Connections n
+connections n h k = record {
+  ends = λ e. (h k (within (λ (d : Device). is_end_system d.role ≡ true) n.device k e)).ends e;
+  relays = λ c e. (h k (within _ n.device k e)).relays c e;
+  paths = λ c e. (h k (within _ n.device k e)).paths c e;
+}
+
+targets : (n : Network) → IsKeptWhereJudged Targets n → IsKept Targets n
+targets n h k = record {
+  no_sender = λ entry is. (h k (slice_get_within n.row k entry.row is.row)).no_sender entry is;
+  switches = λ j earlier entry below was is. (h k (slice_get_within n.row k entry.row is.row)).switches j earlier entry below was is;
+  end_systems = λ j earlier entry c below was is. (h k (slice_get_within n.row k entry.row is.row)).end_systems j earlier entry c below was is;
+}
+
+forwarding : (n : Network) → IsKeptWhereJudged Forwarding n → IsKept Forwarding n
+forwarding n h k = record {
+  from_sender = λ entry is. (h k (slice_get_within n.row k entry.row is.row)).from_sender entry is;
+  from_switch = λ j entering entry was is. (h k (slice_get_within n.row k entry.row is.row)).from_switch j entering entry was is;
+}
+
+both_channels : (n : Network) → IsKeptWhereJudged BothChannels n → IsKept BothChannels n
+both_channels n h k = record {
+  leaves = λ vl c at. (h k (slice_get_within n.vl k vl at)).leaves vl c at;
+  enters = λ vl at. (h k (slice_get_within n.vl k vl at)).enters vl at;
+  same = λ d c e end on.
+      let at : slice_get n.vl k ≡ Some on.entry.vl = subst (λ v. slice_get n.vl v.0 ≡ Some on.entry.vl) on.same_vl on.is.vl in
+      (h k (slice_get_within n.vl k on.entry.vl at)).same d c e end on;
+}
+
+-- the ends of a link in range are there
+source_there : (n : Network) (k : ℕ) (way : Way) (link : Link) → length n.device ≤ k → IsLinkInRange n link → (source_by way link).0 ≡ k → ⊥
+source_there n k Up link past ends e = omega (arith, past, ends.child, e)
+source_there n k Down link past ends e = omega (arith, past, ends.parent, e)
+
+-- no row leaves a device that is not there
+unleft : (n : Network) → IsInRange n → (k : ℕ) → length n.device ≤ k → (row : Row) → IsRowInRange n row → leaves n (record { 0 = k }) row ≡ false
+unleft n range k past row is =
+    let at = slice_get_cases n.link row.link.0 in
+    ⊎_elim
+    (λ (c : (l : Link) × (row.link.0 < length n.link) × (slice_get n.link row.link.0 ≡ Some l) × (get_or n.link row.link.0 l ≡ l)).
+    let ends : IsLinkInRange n c.0 = subst (IsLinkInRange n) c.3 (range.links row.link.0 c.0 c.1) in
+    let r : leaves n (record { 0 = k }) row ≡ false = rw c.2 (ne_eqb (source_by row.way c.0).0 k (λ e. source_there n k row.way c.0 past ends e)) in r)
+    (λ (c : (length n.link ≤ row.link.0) × (slice_get n.link row.link.0 ≡ None)). absurd (omega (arith, c.0, is.link)))
+    at.1
+
+-- a test that fails at each element counts none
+none_counted : {X : Type 0} (p : X → Bool) (xs : List X) → All (λ x. p x ≡ false) xs → count_by p xs ≡ 0
+none_counted p [] h = refl
+none_counted p (x ∷ xs) h =
+    let first : p x ≡ false = h 0 x (omega arith) in
+    let one : Bool → ℕ = λ b. cond b 1 0 in
+    let here : one (p x) ≡ 0 = ap one first in
+    omega (arith, sum_by-cons (λ y. one (p y)) x xs, here, none_counted p xs (All-tail (λ y. p y ≡ false) x xs h))
+
+rows_of_device : (n : Network) → IsInRange n → IsKeptWhereJudged RowsOfDevice n → IsKept RowsOfDevice n
+rows_of_device n range h k =
+    ⊎_elim (λ (l : k < length n.device). h k l)
+    (λ (g : length n.device ≤ k).
+    let none : count_by (leaves n (record { 0 = k })) n.row ≡ 0 = none_counted (leaves n (record { 0 = k })) n.row (λ i d below. unleft n range k g (get_or n.row i d) (range.rows i d below)) in
+    let r : HasFewRows n k = omega (arith, none) in r)
+    (cases_lt k (length n.device))
+
+pub kept_beyond : (rule : Rule) (n : Network) → IsInRange n → IsKeptWhereJudged rule n → IsKept rule n
+kept_beyond Limits n range h = limits n h
+kept_beyond DevicesDiffer n range h = λ k j earlier device below was at. h k (slice_get_within n.device k device at) j earlier device below was at
+kept_beyond LinksDiffer n range h = λ k j earlier link below was at. h k (slice_get_within n.link k link at) j earlier link below was at
+kept_beyond CompressionMasters n range h = cms n h
+kept_beyond Joints n range h = λ k link at. h k (slice_get_within n.link k link at) link at
+kept_beyond Connections n range h = connections n h
+kept_beyond Masters n range h = masters n h
+kept_beyond Delays n range h = λ k beta c links is member. h k (within _ n.device k member) beta c links is member
+kept_beyond Settling n range h = λ k. h 0 (omega arith)
+kept_beyond Precision n range h = λ k. h 0 (omega arith)
+kept_beyond Correction n range h = λ k. h 0 (omega arith)
+kept_beyond ScheduleStart n range h = λ k. h 0 (omega arith)
+kept_beyond WindowEnds n range h = λ k entry is. h k (slice_get_within n.row k entry.row is.row) entry is
+kept_beyond VlNamesDiffer n range h = λ k j earlier vl below was at. h k (slice_get_within n.vl k vl at) j earlier vl below was at
+kept_beyond VlIdsDiffer n range h = λ k j earlier vl below was at. h k (slice_get_within n.vl k vl at) j earlier vl below was at
+kept_beyond Periods n range h = λ k vl at. h k (slice_get_within n.vl k vl at) vl at
+kept_beyond Senders n range h = λ k vl at. h k (slice_get_within n.vl k vl at) vl at
+kept_beyond LinksOnce n range h = λ k j earlier row below was at. h k (slice_get_within n.row k row at) j earlier row below was at
+kept_beyond Sources n range h = λ k entry is. h k (slice_get_within n.row k entry.row is.row) entry is
+kept_beyond Targets n range h = targets n h
+kept_beyond Spacing n range h = λ k j earlier entry below was is. h k (slice_get_within n.row k entry.row is.row) j earlier entry below was is
+kept_beyond BothChannels n range h = both_channels n h
+kept_beyond Forwarding n range h = forwarding n h
+kept_beyond RowsOfDevice n range h = rows_of_device n range h

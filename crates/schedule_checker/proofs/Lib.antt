@@ -1,0 +1,4 @@
+pub mod Beyond
+pub mod Told
+pub mod Trees
+pub mod OneRefusal

@@ -1,0 +1,83 @@
+-- A network has one first broken rule.
+use Rattle.std.proofs.Common.{◌≡◌, ◌⊎◌, ⊎_elim, ℕ, ◌-◌, ◌<◌, ◌≤◌, List, [], ◌∷◌, get_or, refl, ap, sym, ◌∙◌, subst, arith}
+use Rattle.std.proofs.lemmas.Bool.{cases_lt}
+use Rattle.net_plan.specs.declared.network.Network.{Network}
+use Rattle.schedule_checker.specs.Refusals.{TellsFirstBroken, RefusalIsOne}
+use Rattle.schedule_checker.specs.declared.refusal.RuleBroken.{RuleBroken}
+use Rattle.schedule_tables.specs.Numbers.{number_of}
+use Rattle.schedule_tables.specs.Rules.{IsKeptAt, IsFirstBroken}
+use Rattle.schedule_tables.specs.declared.rule.Rule.{Rule}
+use Rattle.schedule_tables.specs.declared.rule.Rule.TheVariants.{Limits, DevicesDiffer, LinksDiffer, CompressionMasters, Joints, Connections, Masters, Delays, Settling, Precision, Correction, ScheduleStart, WindowEnds, VlNamesDiffer, VlIdsDiffer, Periods, Senders, LinksOnce, Sources, Targets, Spacing, BothChannels, Forwarding, RowsOfDevice}
+
+abbrev all_rules : List Rule
+all_rules =
+    Limits ∷ DevicesDiffer ∷ LinksDiffer ∷ CompressionMasters ∷ Joints ∷ Connections ∷ Masters ∷ Delays ∷ Settling ∷ Precision ∷ Correction ∷ ScheduleStart
+    ∷ WindowEnds ∷ VlNamesDiffer ∷ VlIdsDiffer ∷ Periods ∷ Senders ∷ LinksOnce ∷ Sources ∷ Targets ∷ Spacing ∷ BothChannels ∷ Forwarding ∷ RowsOfDevice ∷ []
+
+abbrev rule_of : ℕ → Rule
+rule_of n = get_or all_rules (n - 1) Limits
+
+numbered : (r : Rule) → rule_of (number_of r) ≡ r
+numbered Limits = refl
+numbered DevicesDiffer = refl
+numbered LinksDiffer = refl
+numbered CompressionMasters = refl
+numbered Joints = refl
+numbered Connections = refl
+numbered Masters = refl
+numbered Delays = refl
+numbered Settling = refl
+numbered Precision = refl
+numbered Correction = refl
+numbered ScheduleStart = refl
+numbered WindowEnds = refl
+numbered VlNamesDiffer = refl
+numbered VlIdsDiffer = refl
+numbered Periods = refl
+numbered Senders = refl
+numbered LinksOnce = refl
+numbered Sources = refl
+numbered Targets = refl
+numbered Spacing = refl
+numbered BothChannels = refl
+numbered Forwarding = refl
+numbered RowsOfDevice = refl
+
+same_rule : (r s : Rule) → number_of r ≡ number_of s → r ≡ s
+same_rule r s e = sym (numbered r) ∙ ap rule_of e ∙ numbered s
+
+abbrev told_of : ℕ → ℕ → RuleBroken
+told_of number index = record { number = number; index = index }
+
+-- no rule is broken before the first
+no_earlier : (n : Network) (r s : Rule) (i j : ℕ) → IsFirstBroken n r i → IsFirstBroken n s j → number_of r < number_of s → ⊥
+no_earlier n r s i j a b below = a.broken (b.rules r below i)
+
+no_sooner : (n : Network) (r s : Rule) (i j : ℕ) → r ≡ s → IsFirstBroken n r i → IsFirstBroken n s j → i < j → ⊥
+no_sooner n r s i j e a b below = a.broken (subst (λ (x : Rule). IsKeptAt x n i) (sym e) (b.places i below))
+
+same_number : (n : Network) (r s : Rule) (i j : ℕ) → IsFirstBroken n r i → IsFirstBroken n s j → number_of r ≡ number_of s
+same_number n r s i j a b =
+    ⊎_elim
+    (λ (l : number_of r < number_of s). let z : number_of r ≡ number_of s = absurd (no_earlier n r s i j a b l) in z)
+    (λ (g : number_of s ≤ number_of r). ⊎_elim
+      (λ (l : number_of s < number_of r). let z : number_of r ≡ number_of s = absurd (no_earlier n s r j i b a l) in z)
+      (λ (h : number_of r ≤ number_of s). let z : number_of r ≡ number_of s = omega (arith, g, h) in z)
+      (cases_lt (number_of s) (number_of r)))
+    (cases_lt (number_of r) (number_of s))
+
+same_place : (n : Network) (r s : Rule) (i j : ℕ) → r ≡ s → IsFirstBroken n r i → IsFirstBroken n s j → i ≡ j
+same_place n r s i j e a b =
+    ⊎_elim
+    (λ (l : i < j). let z : i ≡ j = absurd (no_sooner n r s i j e a b l) in z)
+    (λ (g : j ≤ i). ⊎_elim
+      (λ (l : j < i). let z : i ≡ j = absurd (no_sooner n s r j i (sym e) b a l) in z)
+      (λ (h : i ≤ j). let z : i ≡ j = omega (arith, g, h) in z)
+      (cases_lt j i))
+    (cases_lt i j)
+
+pub refusal_is_one : RefusalIsOne
+refusal_is_one n t u a b =
+    let numbers = same_number n a.rule b.rule t.index u.index a.first b.first in
+    let places = same_place n a.rule b.rule t.index u.index (same_rule a.rule b.rule numbers) a.first b.first in
+    ap (λ m. told_of m t.index) (a.number ∙ numbers ∙ sym b.number) ∙ ap (λ i. told_of u.number i) places

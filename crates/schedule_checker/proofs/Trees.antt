@@ -1,0 +1,21 @@
+-- The rules of a network's shape make its links trees.
+use Rattle.std.proofs.Common.{arith}
+use Rattle.net_plan.specs.Paths.{IsTree}
+use Rattle.net_plan.specs.Rules.{KeepsShapeRules, RulesGiveTrees}
+use Rattle.net_plan.specs.declared.network.Network.{Network}
+use Rattle.schedule_tables.specs.Rules.{KeepsBelow}
+use Rattle.schedule_tables.specs.declared.rule.Rule.TheVariants.{Limits, DevicesDiffer, LinksDiffer, CompressionMasters, Joints, Connections, Masters}
+
+shape : (n : Network) → KeepsBelow 8 n → KeepsShapeRules n
+shape n kept = record {
+  limits = kept Limits (omega arith);
+  devices = kept DevicesDiffer (omega arith);
+  links = kept LinksDiffer (omega arith);
+  cms = kept CompressionMasters (omega arith);
+  joins = kept Joints (omega arith);
+  connected = kept Connections (omega arith);
+  masters_suffice = kept Masters (omega arith);
+}
+
+pub tree_of : RulesGiveTrees → (n : Network) → KeepsBelow 8 n → IsTree n
+tree_of trees n kept = trees n (shape n kept)

@@ -1,0 +1,9 @@
+use Rattle.std.proofs.Common.{below_more, refl, arith}
+use Rattle.schedule_checker.proofs.Beyond.{kept_beyond}
+use Rattle.schedule_checker.proofs.judge.broken_plan.Goals as goal
+
+pub places-preserved : goal.places-preserved
+places-preserved c = below_more _ _ c.places.invariant (c.if-not-keeps_plan_rule.ensures.0 refl)
+
+pub returns-clause-none : goal.returns-clause-none
+returns-clause-none c = kept_beyond c.args.rule c.args.plan.now.network.now c.requires.plan.range (λ k below. c.places.invariant k (omega (arith, below, c.places_of-place-end.ensures, c.places-test.false)))

@@ -1,0 +1,6 @@
+use Rattle.std.proofs.Common.{ℕ, ◌<◌}
+use Rattle.schedule_tables.specs.Rules.{IsKeptAt}
+use Rattle.schedule_checker.proofs.judge.broken_shape.Given as goal
+
+abbrev pub invariant-places : goal.invariant-places
+invariant-places l = (k : ℕ) → k < l.place → IsKeptAt l.rule l.network k

@@ -1,0 +1,5 @@
+use Rattle.schedule_checker.proofs.OneRefusal.{refusal_is_one}
+use Rattle.schedule_checker.proofs.laws.refusal_is_one.Goals as goal
+
+pub returns : goal.returns
+returns c = refusal_is_one

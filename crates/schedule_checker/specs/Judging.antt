@@ -1,0 +1,57 @@
+-- Where the rules are judged.
+use Rattle.std.specs.Prelude.{ℕ, ◌<◌, ◌≤◌, length}
+use Rattle.net_plan.specs.Bounds.{IsBeta}
+use Rattle.net_plan.specs.Paths.{IsTree}
+use Rattle.net_plan.specs.Ranges.{IsInRange}
+use Rattle.net_plan.specs.declared.network.Network.{Network}
+use Rattle.schedule_checker.specs.declared.judge.Plan.{Plan}
+use Rattle.schedule_tables.specs.Entries.{AreEntries}
+use Rattle.schedule_tables.specs.Numbers.{number_of}
+use Rattle.schedule_tables.specs.Rules.{IsKeptAt}
+use Rattle.schedule_tables.specs.declared.rule.Rule.{Rule}
+use Rattle.schedule_tables.specs.declared.rule.Rule.TheVariants.{Limits, DevicesDiffer, LinksDiffer, CompressionMasters, Joints, Connections, Masters, Delays, Settling, Precision, Correction, ScheduleStart, WindowEnds, VlNamesDiffer, VlIdsDiffer, Periods, Senders, LinksOnce, Sources, Targets, Spacing, BothChannels, Forwarding, RowsOfDevice}
+
+-- at how many places the rule is judged: those of devices, links, virtual links or rows, the parts of
+-- a rule with parts, and one for any other
+abbrev pub places_of : Rule → Network → ℕ
+places_of Limits network = 4
+places_of DevicesDiffer network = length network.device
+places_of LinksDiffer network = length network.link
+places_of CompressionMasters network = 2
+places_of Joints network = length network.link
+places_of Connections network = length network.device
+places_of Masters network = 6
+places_of Delays network = length network.device
+places_of Settling network = 1
+places_of Precision network = 1
+places_of Correction network = 1
+places_of ScheduleStart network = 1
+places_of WindowEnds network = length network.row
+places_of VlNamesDiffer network = length network.vl
+places_of VlIdsDiffer network = length network.vl
+places_of Periods network = length network.vl
+places_of Senders network = length network.vl
+places_of LinksOnce network = length network.row
+places_of Sources network = length network.row
+places_of Targets network = length network.row
+places_of Spacing network = length network.row
+places_of BothChannels network = length network.vl
+places_of Forwarding network = length network.row
+places_of RowsOfDevice network = length network.device
+
+-- a rule of the network's shape: one of those on devices and links, which beta and the paths suppose
+abbrev pub IsShapeRule : Rule → Type 0
+IsShapeRule rule = number_of rule ≤ 7
+
+-- the rule is kept at each place below this one, and not at it
+pub record BreaksAt (network : Network) (rule : Rule) (place : ℕ) : Type 0 where
+  pub places : (k : ℕ) → k < place → IsKeptAt rule network k
+  pub broken : ¬ IsKeptAt rule network place
+
+-- what the rules behind those of the shape speak of: the trees that these leave, the entries of the rows,
+-- and beta
+pub record IsPlan (plan : Plan) : Type 0 where
+  pub range : IsInRange plan.network.now
+  pub tree : IsTree plan.network.now
+  pub entries : AreEntries plan.network.now plan.entries.now
+  pub beta : IsBeta plan.network.now plan.beta.0

@@ -1,0 +1,51 @@
+ghost use Rattle.std.specs.Prelude.{◌≡◌, IfErr, IfOk, OnOk};
+ghost use Rattle.net_plan.specs.Ranges.{IsInRange};
+ghost use Rattle.schedule_checker.specs.Refusals.{IsUnfitBy};
+ghost use Rattle.schedule_tables.specs.Rules.{KeepsRules};
+
+use crate::Unfit;
+use crate::judge::{Plan, judge_plan, judge_shape};
+use net_plan::{Network, rules_give_trees};
+use schedule_tables::{Accepted, entries_of};
+use std::alloc::Global;
+
+/// Accepts the network where it keeps all rules. A network that is refused is dropped.
+///
+/// Its numbers lie in their ranges, as those of a network that was read do. `alloc` is for the
+/// entries of its rows.
+pub fn check(alloc: Global, network: Network) -> Result<Accepted, Unfit>
+    requires { IsInRange network }
+    ensures accepted { IfOk result (λ accepted. accepted ≡ network) }
+    ensures rules { OnOk result (KeepsRules network) }
+    ensures refused { IfErr result (IsUnfitBy network) }
+{
+    match judge(alloc, &network) {
+        Ok(()) => Ok(Accepted::new(network)),
+        Err(unfit) => Err(unfit),
+    }
+}
+
+fn judge(alloc: Global, network: &Network) -> Result<(), Unfit>
+    requires { IsInRange network.now }
+    ensures rules { OnOk result (KeepsRules network.now) }
+    ensures refused { IfErr result (IsUnfitBy network.now) }
+{
+    match judge_shape(network) {
+        Ok(()) => (),
+        Err(told) => return Err(Unfit::Rule(told)),
+    }
+    rules_give_trees();
+    let entries = match entries_of(alloc, network) {
+        Ok(entries) => entries,
+        Err(_) => return Err(Unfit::OutOfMemory),
+    };
+    let plan = Plan {
+        network,
+        entries: &entries,
+        beta: network.beta(),
+    };
+    match judge_plan(&plan) {
+        Ok(()) => Ok(()),
+        Err(told) => Err(Unfit::Rule(told)),
+    }
+}

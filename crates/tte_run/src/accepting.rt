@@ -1,0 +1,89 @@
+ghost use Rattle.std.specs.Prelude.{◌≡◌, ◌≢◌, ◌≤◌, length, Err, IfErr, IfOk, IfSome};
+ghost use Rattle.tte_io.specs.Faults.{Rose};
+ghost use Rattle.tte_run.specs.Accepting.{MeansAccepted};
+ghost use Rattle.tte_run.specs.Answering.{Gives};
+ghost use Rattle.tte_run.specs.NoNetworks.{IsNoNetwork, no_network_answer};
+ghost use Rattle.tte_run.specs.Putting.{shown_by};
+ghost use Rattle.tte_run.specs.Showing.{file_limit};
+
+use crate::Status;
+use crate::network_line::{make_file_line, make_rule_line};
+use crate::put_line::put_last;
+use net_file::{FileRefusal, read_network};
+use schedule_checker::{RuleBroken, Unfit, check};
+use schedule_tables::Accepted;
+use std::alloc::Global;
+use tte_io::{LineText, ReadAll, Sink, Source, read_all};
+
+/// How many octets a file has at most.
+pub(crate) const LIMIT: u64 = 262_144;
+
+/// Why a source gives no accepted network.
+#[derive(Clone, Copy, Debug, PartialEq, Eq)]
+pub(crate) enum NoNetwork {
+    /// A read failed.
+    ReadFault,
+    /// The file is too long.
+    TooLong,
+    /// Memory ran out.
+    OutOfMemory,
+    /// The text is no network.
+    File(FileRefusal),
+    /// The network breaks a rule.
+    Rule(RuleBroken),
+}
+
+/// Reads a network from a file, and accepts it if it keeps all rules.
+pub(crate) fn accept<A: Source>(alloc: Global, source: &mut A) -> Result<Accepted, NoNetwork>
+    ensures accepted { IfOk result (λ network. IfSome (A.left source.old) (λ octets. MeansAccepted octets network)) }
+    ensures none { IfErr result (λ cause. IfSome (A.left source.old) (λ octets. IsNoNetwork octets cause)) }
+    ensures read { result ≡ Err NoNetwork.ReadFault → Rose (A.faults source.old) (A.faults source.new) }
+{
+    match read_all(alloc, source, LIMIT) {
+        Ok(octets) => accept_text(alloc, octets.as_slice()),
+        Err(ReadAll::Fault) => Err(NoNetwork::ReadFault),
+        Err(ReadAll::TooLong) => Err(NoNetwork::TooLong),
+        Err(ReadAll::OutOfMemory) => Err(NoNetwork::OutOfMemory),
+    }
+}
+
+fn accept_text(alloc: Global, text: &[u8]) -> Result<Accepted, NoNetwork>
+    requires { length text.now ≤ file_limit }
+    ensures accepted { IfOk result (MeansAccepted text.now) }
+    ensures none { IfErr result (IsNoNetwork text.now) }
+    ensures read { result ≢ Err NoNetwork.ReadFault }
+{
+    let network = match read_network(alloc, text) {
+        Ok(network) => network,
+        Err(FileRefusal::OutOfMemory) => return Err(NoNetwork::OutOfMemory),
+        Err(refusal) => return Err(NoNetwork::File(refusal)),
+    };
+    match check(alloc, network) {
+        Ok(accepted) => Ok(accepted),
+        Err(Unfit::Rule(told)) => Err(NoNetwork::Rule(told)),
+        Err(Unfit::OutOfMemory) => Err(NoNetwork::OutOfMemory),
+    }
+}
+
+/// Answers that there is no accepted network.
+pub(crate) fn put_no_network<K: Sink>(cause: NoNetwork, out: &mut K) -> Status
+    ensures gives { Gives (no_network_answer cause) result
+        (shown_by K.written K.puts out.old) (shown_by K.written K.puts out.new) }
+    ensures read { result ≡ Status.ReadFault → cause ≡ NoNetwork.ReadFault }
+    ensures write { result ≡ Status.WriteFault → Rose (K.faults out.old) (K.faults out.new) }
+{
+    let mut line = LineText::new();
+    match cause {
+        NoNetwork::ReadFault => Status::ReadFault,
+        NoNetwork::TooLong => Status::TooLong,
+        NoNetwork::OutOfMemory => Status::OutOfMemory,
+        NoNetwork::File(refusal) => {
+            make_file_line(&mut line, refusal);
+            put_last(line.as_slice(), Status::NetworkRefused, out)
+        }
+        NoNetwork::Rule(told) => {
+            make_rule_line(&mut line, told);
+            put_last(line.as_slice(), Status::NetworkRefused, out)
+        }
+    }
+}
