@@ -7,6 +7,8 @@ mod entry;
 mod laws;
 mod memory;
 mod rule;
+mod slot;
+mod tables;
 mod window;
 
 pub use accepted::Accepted;
@@ -14,4 +16,5 @@ pub use entry::{Entry, entries_of, entry_of};
 pub use laws::{entries_law, margins_law};
 pub use memory::OutOfMemory;
 pub use rule::Rule;
+pub use tables::Tables;
 pub use window::{Window, window_of};

@@ -1,0 +1,29 @@
+-- The rows of a network with their places and windows.
+use Rattle.std.proofs.Common.{◌≡◌, ⊎_elim, ℕ, ◌+◌, ◌<◌, List, [], ◌∷◌, ◌++◌, length, get_or, Some, refl, ap, sym, ◌∙◌, subst, arith, length-append}
+use Rattle.std.specs.Prelude.{slice_get}
+use Rattle.std.proofs.lemmas.Option.{slice_get_read}
+use Rattle.net_plan.specs.declared.network.Network.{Network}
+use Rattle.schedule_tables.proofs.EntryLemmas.{one_entry, pushed}
+use Rattle.schedule_tables.specs.Entries.{IsEntry}
+use Rattle.schedule_tables.specs.TablesOf.{AreTimedRows, IsTimedRow}
+use Rattle.schedule_tables.specs.Windows.{window_of}
+use Rattle.schedule_tables.specs.declared.entry.Entry.{Entry}
+use Rattle.schedule_tables.specs.declared.tables.TimedRow.{TimedRow}
+
+-- one more row
+pub rows_more : (n : Network) (count : ℕ) (rows : List TimedRow) (row : TimedRow) → AreTimedRows n count rows → IsTimedRow n count row → AreTimedRows n (count + 1) (rows ++ row ∷ [])
+rows_more n count rows row are is = record {
+  count_is = omega (arith, length-append rows (row ∷ []), are.count_is);
+  each = λ place other h. ⊎_elim
+      (λ (g : slice_get rows place ≡ Some other). are.each place other g)
+      (λ (g : (place ≡ length rows) × (row ≡ other)).
+      subst (λ (p : ℕ). IsTimedRow n p other) (sym (g.0 ∙ are.count_is)) (subst (λ (x : TimedRow). IsTimedRow n count x) g.1 is))
+      (pushed rows row other place h);
+}
+
+-- the window of a row by its entry
+pub window_at : (n : Network) (count : ℕ) (rows : List TimedRow) (place : ℕ) (row : TimedRow) (entry : Entry) → AreTimedRows n count rows → place < length rows → row ≡ get_or rows place row → IsEntry n place entry
+    → row.window ≡ window_of n entry
+window_at n count rows place row entry are within found at =
+    let is = are.each place row (slice_get_read rows (length rows) place row refl within found) in
+    is.window ∙ ap (window_of n) (one_entry n place is.entry entry is.is at)
