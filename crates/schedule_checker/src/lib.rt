@@ -2,5 +2,6 @@
 #![tactic(auto)]
 
 mod refusal;
+mod shape;
 
 pub use refusal::{RuleBroken, Unfit};

@@ -1,0 +1,4 @@
+pub mod ShapeLists
+pub mod ShapeNames
+pub mod ShapeTests
+pub mod ShapePaths
