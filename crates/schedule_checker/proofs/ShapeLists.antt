@@ -1,5 +1,5 @@
 -- Lists whose elements are judged by place.
-use Rattle.std.proofs.Common.{◌≡◌, ◌⊎◌, ℕ, zero, suc, ◌+◌, ◌<◌, Bool, true, false, cond, eqb, List, [], ◌∷◌, length, Option, Some, None, take, get_or, refl, ap, sym, subst, ◌∙◌, arith}
+use Rattle.std.proofs.Common.{◌≡◌, ℕ, zero, suc, ◌<◌, Bool, true, false, cond, eqb, List, [], ◌∷◌, length, Option, Some, take, get_or, refl, ap, sym, subst, ◌∙◌, arith}
 use Rattle.std.specs.Bool.{Decides, MatchBool}
 use Rattle.std.specs.List.{All, AllWithin, HoldsAt, slice_get, filter}
 use Rattle.std.specs.Prelude.{IsSomeAnd}
@@ -9,12 +9,27 @@ use Rattle.std.proofs.lemmas.List.{get_or-take, length-take}
 use Rattle.std.proofs.lemmas.Option.{slice_get_within, slice_get-get_or, get_or_from_slice_get, same_Some}
 use Rattle.net_plan.specs.Rules.{ExactlyOne}
 
+some_at : {X : Type 0} (P : X → Type 0) (xs : List X) (k : ℕ) → k < length xs → HoldsAt P xs k → IsSomeAnd (slice_get xs k) P
+some_at P [] k below h = absurd (omega (arith, below))
+some_at P (x ∷ xs) k below h = subst (λ (o : Option _). IsSomeAnd o P) (sym (slice_get-get_or (x ∷ xs) k x below)) (h x)
+
+none_at : {X : Type 0} (P : X → Type 0) (xs : List X) (k : ℕ) → AllWithin (λ x. P x → ⊥) xs 0 (length xs) → IsSomeAnd (slice_get xs k) P → ⊥
+none_at P [] k none h = absurd h
+none_at P (x ∷ xs) zero none h = none 0 x (omega arith) (omega arith) h
+none_at P (x ∷ xs) (suc k) none h = none_at P xs k (λ j d low high. none (suc j) d (omega arith) (omega (arith, high))) h
+
 -- what `all` answers, at a test of P
 pub decides_all : {X : Type 0} (P Q : X → Type 0) (xs : List X) (r : Bool) → ((x : X) → P x → Q x → ⊥) → MatchBool r (AllWithin P xs 0 (length xs)) ((k : ℕ) × (k < length xs) × HoldsAt Q xs k) → Decides r (All P xs)
 decides_all P Q [] true apart h = (λ _ k d below. absurd (omega (arith, below)), λ _. refl)
 decides_all P Q [] false apart h = (λ e. absurd (false≢true e), λ _. absurd (omega (arith, h.1)))
 decides_all P Q (y ∷ ys) true apart h = (λ _ k d below. h k d (omega arith) below, λ _. refl)
 decides_all P Q (y ∷ ys) false apart h = (λ e. absurd (false≢true e), λ all. absurd (apart (get_or (y ∷ ys) h.0 y) (all h.0 y h.1) (h.2 y)))
+
+-- what `any` answers, at a test of P
+pub decides_any : {X I : Type 0} (number : I → ℕ) (id : ℕ → I) → ((k : ℕ) → number (id k) ≡ k) → (P : X → Type 0) (xs : List X) (r : Bool)
+    → MatchBool r ((k : ℕ) × (k < length xs) × HoldsAt P xs k) (AllWithin (λ x. P x → ⊥) xs 0 (length xs)) → Decides r ((i : I) × IsSomeAnd (slice_get xs (number i)) P)
+decides_any number id forth P xs true h = (λ _. (id h.0, subst (λ (k : ℕ). IsSomeAnd (slice_get xs k) P) (sym (forth h.0)) (some_at P xs h.0 h.1 h.2)), λ _. refl)
+decides_any number id forth P xs false h = (λ e. absurd (false≢true e), λ s. absurd (none_at P xs (number s.0) h s.1))
 
 -- the element at the place differs from each before it
 abbrev pub IsNew : {X : Type 0} → (X → X → Type 0) → List X → ℕ → Type 0

@@ -1,9 +1,9 @@
 -- Tests of roles, channels and links.
-use Rattle.std.proofs.Common.{◌≡◌, Bool, true, false, eqb, ◌&&◌, Option, Some, None, refl, ap}
+use Rattle.std.proofs.Common.{arith, ℕ, ◌≤◌, leb, ◌≡◌, Bool, true, false, not, eqb, ◌&&◌, Option, Some, None, refl, ap}
 use Rattle.std.specs.Bool.{Decides}
 use Rattle.std.specs.Prelude.{IsSomeAnd}
 use Rattle.std.proofs.lemmas.Bool.{false≢true}
-use Rattle.std.proofs.lemmas.Bool.Decides.{Decides-and, Decides-eqb, Decides-like}
+use Rattle.std.proofs.lemmas.Bool.Decides.{nat_tests, Decides-and, Decides-eqb, Decides-like}
 use Rattle.net_plan.specs.Places.{device_at, IsSwitchOf}
 use Rattle.net_plan.specs.declared.ids.DeviceId.{DeviceId}
 use Rattle.net_plan.specs.declared.network.Network.{Network}
@@ -81,3 +81,20 @@ uplink_test n c d l = child_test d l && switch_test c (device_at n l.parent)
 pub decides_uplink : (n : Network) (c : Channel) (d : DeviceId) (l : Link) → Decides (uplink_test n c d l) ((l.child ≡ d) × IsSwitchOf n c l.parent)
 unfolding uplink_test
 decides_uplink n c d l = Decides-and (child_test d l) (switch_test c (device_at n l.parent)) (decides_child d l) (decides_switch c (device_at n l.parent))
+
+pub decides_at_most : (a b d : ℕ) → b ≡ d → Decides (leb a b) (a ≤ d)
+decides_at_most a b d e = grind (arith, nat_tests, e)
+
+apart : A ≡ B → ⊥
+apart h = cc
+
+only : (P : Channel → Type 0) → (P B → ⊥) → (c e : Channel) → P c → P e → c ≡ e
+only P none A A p q = refl
+only P none A B p q = absurd (none q)
+only P none B A p q = absurd (none p)
+only P none B B p q = refl
+
+-- where channel a has the property, at most one has it if channel b has it not
+pub one_channel : (P : Channel → Type 0) (b : Bool) → P A → Decides b (P B) → Decides (not b) ((c e : Channel) → P c → P e → c ≡ e)
+one_channel P true a h = (λ e. absurd (false≢true e), λ one. absurd (apart (one A B a (h.0 refl))))
+one_channel P false a h = (λ _. only P (λ p. false≢true (h.1 p)), λ _. refl)

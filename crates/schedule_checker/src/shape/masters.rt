@@ -1,7 +1,8 @@
-ghost use Rattle.std.specs.Prelude.{◌≡◌, ◌≢◌, ◌≤◌, ◌↔◌, ◌≤ℤ◌, ◌+◌, true, IsTrue, IfSome, is_some, length};
+ghost use Rattle.std.specs.Prelude.{◌≡◌, ◌≢◌, ◌≤◌, ◌↔◌, ◌≤ℤ◌, ◌+◌, true, IsTrue, IsNone, IfSome, Some, is_some, length};
 ghost use Rattle.std.specs.List.{All, count_by};
 ghost use Rattle.net_plan.specs.Places.{is_master};
 ghost use Rattle.net_plan.specs.Rules.{HasOffSwitch, MastersSuffice, MembersDiffer, masters, most_masters};
+ghost use Rattle.pcf_values.specs.declared.channel.Channel.{Channel as ChannelValue};
 
 use net_plan::{Device, Network, Role};
 use pcf_values::Channel;
@@ -25,7 +26,7 @@ pub(crate) fn masters_suffice(network: &Network, part: u32) -> bool
         2 => threshold_is_met(network),
         3 => enough_begin_on(network),
         4 => starts_are_settled(network),
-        5 => !(has_off_switch(network, Channel::A) && has_off_switch(network, Channel::B)),
+        5 => one_channel_begins_off(network),
         _ => true,
     }
 }
@@ -79,11 +80,9 @@ fn members_differ(network: &Network) -> bool
 
 /// Has no earlier master the member number of the device?
 fn member_is_new(earlier: &[Device], device: &Device) -> bool
-    ensures { IsTrue result ↔ All (λ e. is_master e.role ≡ true → device.now.member ≢ e.member) earlier.now }
+    ensures { IsTrue result ↔ All (λ e. is_master e.role ≡ true → e.member ≢ device.now.member) earlier.now }
 {
-    earlier
-        .iter()
-        .all(|other| !is_master_device(other) || device.member != other.member)
+    earlier.iter().all(|other| !is_master_device(other) || other.member != device.member)
 }
 
 /// Is the threshold of members at least three, and less than the count of masters?
@@ -122,6 +121,13 @@ fn starts_are_settled(network: &Network) -> bool
         })
 }
 
+/// Do the switches of at most one channel begin off?
+fn one_channel_begins_off(network: &Network) -> bool
+    ensures { IsTrue result ↔ ((c e : ChannelValue) → HasOffSwitch network.now c → HasOffSwitch network.now e → c ≡ e) }
+{
+    !has_off_switch(network, Channel::A) || !has_off_switch(network, Channel::B)
+}
+
 /// Does some switch of the channel begin off?
 fn has_off_switch(network: &Network, channel: Channel) -> bool
     ensures { IsTrue result ↔ HasOffSwitch network.now channel }
@@ -130,5 +136,12 @@ fn has_off_switch(network: &Network, channel: Channel) -> bool
         .device
         .as_slice()
         .iter()
-        .any(|device| device.channel == Some(channel) && device.start.is_none())
+        .any(|device| is_off_switch(device, channel))
+}
+
+/// Is the device a switch of the channel that begins off?
+fn is_off_switch(device: &Device, channel: Channel) -> bool
+    ensures { IsTrue result ↔ ((device.now.channel ≡ Some channel) × IsNone device.now.start) }
+{
+    device.channel == Some(channel) && device.start.is_none()
 }

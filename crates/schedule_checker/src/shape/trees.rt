@@ -3,14 +3,13 @@ ghost use Rattle.net_plan.specs.Paths.{IsUplink};
 ghost use Rattle.net_plan.specs.Places.{IsCmOf, IsEndSystem, IsRoleOf, IsSwitchOf};
 ghost use Rattle.net_plan.specs.Ranges.{IsInRange};
 ghost use Rattle.net_plan.specs.Rules.{ExactlyOne, HasOneCm, IsChildOf, IsConnected, JoinsChildToSwitch};
-ghost use Rattle.net_plan.specs.declared.tables.Role.TheVariants.{Relay};
 ghost use Rattle.schedule_checker.specs.Shape.{IsConnectedOn, JoinsOn, LeadsToCmWithin};
 
 use net_plan::{Device, DeviceId, Link, Network, Role};
 use pcf_values::Channel;
 
 /// The most links from a device to its compression master.
-const MOST_LINKS: u32 = 8;
+const LONGEST_PATH: u32 = 8;
 
 /// Has channel a (part 0), and channel b (part 1), exactly one compression master?
 pub(crate) fn has_one_cm(network: &Network, part: u32) -> bool
@@ -51,7 +50,8 @@ fn joins_on(network: &Network, channel: Channel, link: &Link) -> bool
     ensures { IsTrue result ↔ JoinsOn network.now channel link.now }
 {
     network.is_switch_of(link.parent, channel)
-        && (is_end_system(network, link.child) || is_relay_of(network, channel, link.child))
+        && (is_end_system(network, link.child)
+            || is_role_of(network, Role::Relay, channel, link.child))
 }
 
 /// Is the device at the place connected to the compression master of each of its channels?
@@ -72,12 +72,13 @@ fn is_connected_on(network: &Network, channel: Channel, device: DeviceId) -> boo
     ensures { IsTrue result ↔ IsConnectedOn network.now channel device }
 {
     (!is_end_system(network, device) || has_one_uplink(network, channel, device))
-        && (!is_relay_of(network, channel, device) || is_child_of_one_link(network, device))
+        && (!is_role_of(network, Role::Relay, channel, device)
+            || is_child_of_one_link(network, device))
         && (!network.is_device_of(device, channel)
-            || leads_to_cm(network, channel, device, MOST_LINKS))
+            || leads_to_cm(network, channel, device, LONGEST_PATH))
 }
 
-/// Has the device this role on the channel?
+/// Is this the device's role, and the channel its own?
 fn has_role_on(device: &Device, role: Role, channel: Channel) -> bool
     ensures { IsTrue result ↔ ((device.now.role ≡ role) × (device.now.channel ≡ Some channel)) }
 {
@@ -94,22 +95,12 @@ fn is_end_system(network: &Network, device: DeviceId) -> bool
     }
 }
 
-/// Is the device a relay of the channel?
-fn is_relay_of(network: &Network, channel: Channel, device: DeviceId) -> bool
-    ensures { IsTrue result ↔ IsRoleOf network.now Relay channel device }
+/// Has the device this role on the channel?
+fn is_role_of(network: &Network, role: Role, channel: Channel, device: DeviceId) -> bool
+    ensures { IsTrue result ↔ IsRoleOf network.now role channel device }
 {
     match network.device.as_slice().get(device.0 as usize) {
-        Some(found) => has_role_on(found, Role::Relay, channel),
-        None => false,
-    }
-}
-
-/// Is the device a compression master of the channel?
-fn is_cm_of(network: &Network, channel: Channel, device: DeviceId) -> bool
-    ensures { IsTrue result ↔ IsCmOf network.now channel device }
-{
-    match network.device.as_slice().get(device.0 as usize) {
-        Some(found) => has_role_on(found, Role::Cm, channel),
+        Some(found) => has_role_on(found, role, channel),
         None => false,
     }
 }
@@ -153,7 +144,7 @@ fn leads_to_cm(network: &Network, channel: Channel, device: DeviceId, most: u32)
     requires { IsInRange network.now }
     ensures { IsTrue result ↔ LeadsToCmWithin network.now channel device most }
 {
-    if is_cm_of(network, channel, device) {
+    if is_role_of(network, Role::Cm, channel, device) {
         return true;
     }
     if most == 0 {

@@ -1,4 +1,4 @@
-use Rattle.std.proofs.Common.{rules, tests, ◌≡◌, ◌≢◌, take, get_or, List, Some, arith, ap, sym, subst, ◌∙◌}
+use Rattle.std.proofs.Common.{rules, tests, ◌≡◌, ◌≢◌, take, get_or, List, Some, ap, sym, ◌∙◌}
 use Rattle.std.specs.List.{slice_get}
 use Rattle.std.proofs.lemmas.Iterator.{cases_from_all, YieldsList-from_slice, YieldsList-from_take}
 use Rattle.std.proofs.lemmas.Option.{slice_get-get_or}

@@ -1,8 +1,6 @@
-use Rattle.std.proofs.Common.{rules, ◌≡◌, ◌≢◌, Some, List, get_or, ap, sym, ◌∙◌, arith}
-use Rattle.std.specs.Prelude.{IsSomeAnd}
+use Rattle.std.proofs.Common.{◌≡◌, ◌≢◌, Some, List, get_or, ap, sym, ◌∙◌}
 use Rattle.std.proofs.lemmas.Bool.{false≢true}
 use Rattle.std.proofs.lemmas.Option.{slice_get-get_or}
-use Rattle.net_plan.specs.Paths.{IsFirstUplink}
 use Rattle.net_plan.specs.Places.{link_at, IsCmOf}
 use Rattle.net_plan.specs.declared.tables.Link.{Link}
 use Rattle.schedule_checker.proofs.ShapePaths.{leads_by, leads_on, leads_nowhere, uplink_within}
@@ -18,7 +16,7 @@ returns-in-Some t c =
     let read = c.index-as_slice-link.result in
     let found = get_or c.as_slice.result.now link.0 read in
     let at : link_at n link ≡ Some found = slice_get-get_or n.link link.0 read (uplink_within n channel device link first) ∙ ap (λ (xs : List Link). Some (get_or xs link.0 read)) (sym c.as_slice.ensures) in
-    let bare = λ (h : IsCmOf n channel device). false≢true (sym c.if-is_cm_of.false ∙ c.is_cm_of.ensures.1 h) in
+    let bare = λ (h : IsCmOf n channel device). false≢true (sym c.if-is_role_of.false ∙ c.is_role_of.ensures.1 h) in
     let some : c.args.most ≢ 0 = c.if-most-eq0.false in
     let rest = c.leads_to_cm.ensures in
     (λ h. leads_by n channel device link found c.args.most some first at (rest.0 h), λ h. rest.1 (leads_on n channel device link found c.args.most bare first at h))
@@ -26,5 +24,5 @@ returns-in-Some t c =
 pub returns-in-None : goal.returns-in-None
 returns-in-None t c =
     let n = c.args.network.now in
-    let bare = λ (h : IsCmOf n c.args.channel c.args.device). false≢true (sym c.if-is_cm_of.false ∙ c.is_cm_of.ensures.1 h) in
+    let bare = λ (h : IsCmOf n c.args.channel c.args.device). false≢true (sym c.if-is_role_of.false ∙ c.is_role_of.ensures.1 h) in
     (λ h. absurd (false≢true h), λ h. absurd (leads_nowhere n c.args.channel c.args.device c.args.most bare c.in-None.ensures.none h))

@@ -1,5 +1,4 @@
-use Rattle.std.proofs.Common.{refl}
-use Rattle.pcf_values.specs.declared.channel.Channel.TheVariants.{A, B}
+use Rattle.pcf_values.specs.declared.channel.Channel.TheVariants.{B}
 use Rattle.schedule_checker.proofs.ShapePaths.{connected, connected_on}
 use Rattle.schedule_checker.proofs.shape.trees.is_connected.Goals as goal
 
