@@ -2,3 +2,8 @@ pub mod Beyond
 pub mod Told
 pub mod Trees
 pub mod OneRefusal
+pub mod ShapeLists
+pub mod ShapeNames
+pub mod ShapeTests
+pub mod ShapePaths
+pub mod ShapePairs

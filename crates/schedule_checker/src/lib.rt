@@ -6,6 +6,7 @@ mod judge;
 mod laws;
 mod places;
 mod refusal;
+mod shape;
 
 pub use checker::check;
 pub use laws::refusal_is_one;

@@ -1,0 +1,28 @@
+use Rattle.std.proofs.Common.{◌≡◌, ◌≢◌, Some, List, get_or, ap, sym, ◌∙◌}
+use Rattle.std.proofs.lemmas.Bool.{false≢true}
+use Rattle.std.proofs.lemmas.Option.{slice_get-get_or}
+use Rattle.net_plan.specs.Places.{link_at, IsCmOf}
+use Rattle.net_plan.specs.declared.tables.Link.{Link}
+use Rattle.schedule_checker.proofs.ShapePaths.{leads_by, leads_on, leads_nowhere, uplink_within}
+use Rattle.schedule_checker.proofs.shape.trees.+leads_to_cm.Goals as goal
+
+pub returns-in-Some : goal.returns-in-Some
+returns-in-Some t c =
+    let n = c.args.network.now in
+    let channel = c.args.channel in
+    let device = c.args.device in
+    let link = c.in-Some.link in
+    let first = c.in-Some.ensures.first in
+    let read = c.index-as_slice-link.result in
+    let found = get_or c.as_slice.result.now link.0 read in
+    let at : link_at n link ≡ Some found = slice_get-get_or n.link link.0 read (uplink_within n channel device link first) ∙ ap (λ (xs : List Link). Some (get_or xs link.0 read)) (sym c.as_slice.ensures) in
+    let bare = λ (h : IsCmOf n channel device). false≢true (sym c.if-is_role_of.false ∙ c.is_role_of.ensures.1 h) in
+    let some : c.args.most ≢ 0 = c.if-most-eq0.false in
+    let rest = c.leads_to_cm.ensures in
+    (λ h. leads_by n channel device link found c.args.most some first at (rest.0 h), λ h. rest.1 (leads_on n channel device link found c.args.most bare first at h))
+
+pub returns-in-None : goal.returns-in-None
+returns-in-None t c =
+    let n = c.args.network.now in
+    let bare = λ (h : IsCmOf n c.args.channel c.args.device). false≢true (sym c.if-is_role_of.false ∙ c.is_role_of.ensures.1 h) in
+    (λ h. absurd (false≢true h), λ h. absurd (leads_nowhere n c.args.channel c.args.device c.args.most bare c.in-None.ensures.none h))

@@ -1,0 +1,17 @@
+use Rattle.std.proofs.Common.{rules, tests, ◌≡◌, ℕ, Some, refl}
+use Rattle.std.proofs.lemmas.Bool.Decides.{same_from_decides}
+use Rattle.std.proofs.lemmas.Iterator.{YieldsList-from_slice}
+use Rattle.std.proofs.lemmas.Iterator.Consumers.{count_from_yields_List, YieldsList-from_filter}
+use Rattle.net_plan.specs.declared.ids.DeviceId.{DeviceId}
+use Rattle.net_plan.specs.declared.tables.Device.{Device}
+use Rattle.net_plan.specs.declared.tables.Role.TheVariants.{Cm}
+use Rattle.schedule_checker.proofs.ShapeLists.{decides_one}
+use Rattle.schedule_checker.proofs.ShapeTests.{cm_test, decides_cm}
+use Rattle.schedule_checker.proofs.shape.trees.has_one_cm_of.Goals as goal
+
+pub returns : goal.returns
+returns c =
+    let devices = c.args.network.now.device in
+    let channel = c.args.channel in
+    let count = count_from_yields_List c.filter.result c.count.result c.count.ensures.ran (YieldsList-from_filter _ (cm_test channel) (YieldsList-from_slice devices cc) c.filter.ensures.closure (λ x b q k. (search rules, same_from_decides b (cm_test channel x.now) (search (rules, tests)) (decides_cm channel x.now)))) in
+    decides_one (λ (d : DeviceId). d.0) (λ (k : ℕ). let d : DeviceId = record { 0 = k } in d) (λ d. refl) (λ k. refl) (cm_test channel) (λ (d : Device). (d.role ≡ Cm) × (d.channel ≡ Some channel)) (decides_cm channel) devices c.count.result count

@@ -1,0 +1,11 @@
+use Rattle.pcf_values.specs.declared.channel.Channel.TheVariants.{B}
+use Rattle.schedule_checker.proofs.ShapePaths.{connected, connected_on}
+use Rattle.schedule_checker.proofs.shape.trees.is_connected.Goals as goal
+
+pub returns-then-is_connected_on : goal.returns-then-is_connected_on
+returns-then-is_connected_on c =
+    let n = c.args.network.now in
+    let i = c.args.place in
+    let a = c.is_connected_on.ensures.0 c.if-is_connected_on.true in
+    let b = c.is_connected_on-then-is_connected_on.ensures in
+    (λ h. connected n i a (b.0 h), λ h. b.1 (connected_on n i B h))

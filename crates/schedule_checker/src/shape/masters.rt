@@ -1,0 +1,147 @@
+ghost use Rattle.std.specs.Prelude.{◌≡◌, ◌≢◌, ◌≤◌, ◌↔◌, ◌≤ℤ◌, ◌+◌, true, IsTrue, IsNone, IfSome, Some, is_some, length};
+ghost use Rattle.std.specs.List.{All, count_by};
+ghost use Rattle.net_plan.specs.Places.{is_master};
+ghost use Rattle.net_plan.specs.Rules.{HasOffSwitch, MastersSuffice, MembersDiffer, masters, most_masters};
+ghost use Rattle.pcf_values.specs.declared.channel.Channel.{Channel as ChannelValue};
+
+use net_plan::{Device, Network, Role};
+use pcf_values::Channel;
+
+/// The least count of masters.
+const LEAST_MASTERS: usize = 4;
+
+/// The least threshold of members.
+const LEAST_THRESHOLD: u32 = 3;
+
+/// Do the masters suffice?
+///
+/// Part 0 is their count, 1 that their numbers differ, 2 the threshold of members, 3 that so many
+/// begin on, 4 the starts of the devices, and 5 that the switches of at most one channel begin off.
+pub(crate) fn masters_suffice(network: &Network, part: u32) -> bool
+    ensures { IsTrue result ↔ MastersSuffice network.now part }
+{
+    match part {
+        0 => masters_are_in_number(network),
+        1 => members_differ(network),
+        2 => threshold_is_met(network),
+        3 => enough_begin_on(network),
+        4 => starts_are_settled(network),
+        5 => one_channel_begins_off(network),
+        _ => true,
+    }
+}
+
+/// Is the device a synchronisation master?
+fn is_master_device(device: &Device) -> bool
+    ensures { result ≡ is_master device.now.role }
+{
+    device.role == Role::Master
+}
+
+/// How many masters there are.
+fn count_of_masters(network: &Network) -> usize
+    ensures { result ≡ length (masters network.now) }
+{
+    network
+        .device
+        .as_slice()
+        .iter()
+        .filter(|device| is_master_device(device))
+        .count()
+}
+
+/// How many masters a network of this version may have.
+fn most_masters_of(version: u32) -> usize
+    ensures { result ≡ most_masters version }
+{
+    if version == 1 { 5 } else { 8 }
+}
+
+/// Are there enough masters, and not too many?
+fn masters_are_in_number(network: &Network) -> bool
+    ensures { IsTrue result ↔ ((4 ≤ length (masters network.now)) × (length (masters network.now) ≤ most_masters network.now.version)) }
+{
+    let count = count_of_masters(network);
+    LEAST_MASTERS <= count && count <= most_masters_of(network.version)
+}
+
+/// Have no two masters the same member number?
+fn members_differ(network: &Network) -> bool
+    ensures { IsTrue result ↔ MembersDiffer network.now }
+{
+    let devices = network.device.as_slice();
+    for (place, device) in devices.iter().enumerate() {
+        if is_master_device(device) && !member_is_new(&devices[..place], device) {
+            return false;
+        }
+    }
+    true
+}
+
+/// Has no earlier master the member number of the device?
+fn member_is_new(earlier: &[Device], device: &Device) -> bool
+    ensures { IsTrue result ↔ All (λ e. is_master e.role ≡ true → e.member ≢ device.now.member) earlier.now }
+{
+    earlier.iter().all(|other| !is_master_device(other) || other.member != device.member)
+}
+
+/// Is the threshold of members at least three, and less than the count of masters?
+fn threshold_is_met(network: &Network) -> bool
+    ensures { IsTrue result ↔ ((3 ≤ network.now.sync_threshold) × (network.now.sync_threshold + 1 ≤ length (masters network.now))) }
+{
+    LEAST_THRESHOLD <= network.sync_threshold
+        && (network.sync_threshold as usize) < count_of_masters(network)
+}
+
+/// Do as many masters begin on as the threshold of members asks for?
+fn enough_begin_on(network: &Network) -> bool
+    ensures { IsTrue result ↔ (network.now.sync_threshold ≤ count_by (λ d. is_some d.start) (masters network.now)) }
+{
+    let begin_on = network
+        .device
+        .as_slice()
+        .iter()
+        .filter(|device| is_master_device(device))
+        .filter(|device| device.start.is_some())
+        .count();
+    network.sync_threshold as usize <= begin_on
+}
+
+/// Do the devices' clocks begin within the spread of the starts?
+fn starts_are_settled(network: &Network) -> bool
+    ensures { IsTrue result ↔ All (λ d. IfSome d.start (λ start. start.0 ≤ℤ network.now.settled.0)) network.now.device }
+{
+    network
+        .device
+        .as_slice()
+        .iter()
+        .all(|device| match device.start {
+            Some(start) => start.0 <= network.settled.0,
+            None => true,
+        })
+}
+
+/// Do the switches of at most one channel begin off?
+fn one_channel_begins_off(network: &Network) -> bool
+    ensures { IsTrue result ↔ ((c e : ChannelValue) → HasOffSwitch network.now c → HasOffSwitch network.now e → c ≡ e) }
+{
+    !has_off_switch(network, Channel::A) || !has_off_switch(network, Channel::B)
+}
+
+/// Does some switch of the channel begin off?
+fn has_off_switch(network: &Network, channel: Channel) -> bool
+    ensures { IsTrue result ↔ HasOffSwitch network.now channel }
+{
+    network
+        .device
+        .as_slice()
+        .iter()
+        .any(|device| is_off_switch(device, channel))
+}
+
+/// Is the device a switch of the channel that begins off?
+fn is_off_switch(device: &Device, channel: Channel) -> bool
+    ensures { IsTrue result ↔ ((device.now.channel ≡ Some channel) × IsNone device.now.start) }
+{
+    device.channel == Some(channel) && device.start.is_none()
+}
