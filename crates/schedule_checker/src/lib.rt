@@ -2,5 +2,7 @@
 #![tactic(auto)]
 
 mod refusal;
+mod timing;
+mod virtual_links;
 
 pub use refusal::{RuleBroken, Unfit};

@@ -1,0 +1,4 @@
+pub mod BetaLemmas
+pub mod EarlierLemmas
+pub mod NameLemmas
+pub mod WindowLemmas
