@@ -7,3 +7,7 @@ pub mod ShapeNames
 pub mod ShapeTests
 pub mod ShapePaths
 pub mod ShapePairs
+pub mod BetaLemmas
+pub mod EarlierLemmas
+pub mod NameLemmas
+pub mod WindowLemmas

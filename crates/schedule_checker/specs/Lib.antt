@@ -1,3 +1,4 @@
 pub mod Refusals
 pub mod Judging
 pub mod Shape
+pub mod Timing

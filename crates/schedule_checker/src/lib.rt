@@ -7,6 +7,8 @@ mod laws;
 mod places;
 mod refusal;
 mod shape;
+mod timing;
+mod virtual_links;
 
 pub use checker::check;
 pub use laws::refusal_is_one;

@@ -1,0 +1,21 @@
+-- Names are equal where their octets in place are.
+use Rattle.std.proofs.Common.{◌≡◌, ℕ, Bool, eqb, ◌&&◌, List, length, take, ap, sym, ◌∙◌}
+use Rattle.std.specs.Bool.{Decides}
+use Rattle.std.specs.Cmp.Lexicographic.{pointwise}
+use Rattle.std.proofs.Math.Seq.{take-append_seam}
+use Rattle.std.proofs.lemmas.Bool.Decides.{Decides-and, Decides-eqb, Decides-like, Decides-at}
+use Rattle.std.proofs.lemmas.Slice.Eq.{bytes_eq-Decides}
+use Rattle.net_plan.specs.Padding.{padded}
+
+-- what `==` computes at two names
+abbrev pub same_padded : ℕ → List ℕ → List ℕ → Bool
+same_padded size xs ys = pointwise eqb (padded size xs) (padded size ys) && eqb (length xs) (length ys)
+
+one_text : (size : ℕ) (xs ys : List ℕ) → padded size xs ≡ padded size ys → length xs ≡ length ys → xs ≡ ys
+one_text size xs ys same long =
+    sym (take-append_seam xs _) ∙ ap (take (length xs)) same ∙ ap (λ n. take n (padded size ys)) long ∙ take-append_seam ys _
+
+pub decides_name : (size : ℕ) (xs ys : List ℕ) (r : Bool) → r ≡ same_padded size xs ys → Decides r (xs ≡ ys)
+decides_name size xs ys r e =
+    let parts = Decides-and (pointwise eqb (padded size xs) (padded size ys)) (eqb (length xs) (length ys)) (bytes_eq-Decides (padded size xs) (padded size ys)) (Decides-eqb (length xs) (length ys)) in
+    Decides-at r (same_padded size xs ys) e (Decides-like (same_padded size xs ys) (λ h. one_text size xs ys h.0 h.1) (λ h. (ap (padded size) h, ap length h)) parts)

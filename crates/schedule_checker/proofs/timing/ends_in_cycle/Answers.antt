@@ -1,0 +1,23 @@
+use Rattle.std.proofs.Common.{◌≡◌, ap, ◌∙◌, arith}
+use Rattle.std.specs.Prelude.{unsigned_abs}
+use Rattle.std.proofs.lemmas.Bool.{leb-true, le-leb}
+use Rattle.schedule_tables.specs.Windows.{window_end}
+use Rattle.schedule_tables.specs.declared.window.Window.{Window}
+use Rattle.schedule_checker.proofs.WindowLemmas.{entry_read, ends_from_entry}
+use Rattle.schedule_checker.proofs.timing.ends_in_cycle.Goals as goal
+
+pub window_of-window-requires-clause-entry : goal.window_of-window-requires-clause-entry
+window_of-window-requires-clause-entry c =
+    let n = c.args.network.now in
+    let entry = c.index-entries-place.result in
+    c.entries_law.ensures.range n c.args.place entry c.requires.range (entry_read n c.args.entries.now c.args.place entry c.requires.entries c.requires.place c.index-entries-place.is)
+
+pub returns : goal.returns
+returns c =
+    let n = c.args.network.now in
+    let entry = c.index-entries-place.result in
+    let is = entry_read n c.args.entries.now c.args.place entry c.requires.entries c.requires.place c.index-entries-place.is in
+    let end : c.amount.result ≡ window_end n entry = c.amount.ensures.value ∙ ap (λ (w : Window). unsigned_abs w.to.0) c.window_of-window.ensures in (
+      λ t. ends_from_entry n c.args.place entry c.entries_law.ensures.one is (omega (arith, end, leb-true _ _ t)),
+      λ ends. le-leb _ _ (omega (arith, end, ends entry is)),
+    )

@@ -1,0 +1,21 @@
+-- Parts of the rules of times.
+use Rattle.std.specs.Prelude.{ℕ, ◌+◌, ◌*◌, ◌≤◌, List}
+use Rattle.net_plan.specs.Bounds.{gamma_of}
+use Rattle.net_plan.specs.Paths.{IsPath}
+use Rattle.net_plan.specs.Places.{IsDeviceOf}
+use Rattle.net_plan.specs.declared.ids.DeviceId.{DeviceId}
+use Rattle.net_plan.specs.declared.ids.LinkId.{LinkId}
+use Rattle.net_plan.specs.declared.network.Network.{Network}
+use Rattle.pcf_values.specs.declared.channel.Channel.{Channel}
+use Rattle.schedule_tables.specs.Delays.{delay_on}
+use Rattle.tte_units.specs.Amount.{amount}
+
+-- on the channel, if the device is of it, dmax has room for beta and for the delays of the device's path
+abbrev pub DelaysFitOn : Network → ℕ → Channel → DeviceId → Type 0
+DelaysFitOn network beta channel device =
+    (links : List LinkId) → IsDeviceOf network channel device → IsPath network channel device links
+    → beta + delay_on network links ≤ amount network.dmax
+
+-- how far the errors of a resynchronisation may spread the clocks
+abbrev pub errors_of : Network → ℕ → ℕ
+errors_of network beta = 8 * beta + 12 * gamma_of network + 40 * amount network.grain
