@@ -1,0 +1,4 @@
+pub mod EntryPlaces
+pub mod PortLemmas
+pub mod RouteLemmas
+pub mod Selection
