@@ -1,5 +1,5 @@
 -- What holds of a network's entries, said of the rows of its ports.
-use Rattle.std.proofs.Common.{◌≡◌, ◌≢◌, ℕ, ◌+◌, ◌<◌, ◌≤◌, ◌==◌, Bool, false, cond, Option, List, [], ◌∷◌, length, take, Some, refl, sym, ap, ◌∙◌, subst, zero, suc, arith}
+use Rattle.std.proofs.Common.{◌≡◌, ◌≢◌, ℕ, ◌+◌, ◌≤◌, ◌==◌, Bool, false, cond, Option, List, [], ◌∷◌, length, take, Some, refl, sym, ap, ◌∙◌, subst, suc, arith}
 use Rattle.std.specs.Bool.{Decides}
 use Rattle.std.specs.List.{All, count_by, slice_get}
 use Rattle.std.specs.Option.{option_map_or}
@@ -10,10 +10,10 @@ use Rattle.net_plan.specs.declared.network.Network.{Network}
 use Rattle.net_plan.specs.declared.tables.Link.{Link}
 use Rattle.net_plan.specs.declared.tables.Row.{Row}
 use Rattle.schedule_tables.specs.Entries.{IsEntry, AreEntries, EntryIsOne, source_by, source_of}
-use Rattle.schedule_tables.specs.Schedule.{StandsApart, ComesInTime, HasFewRows, leaves}
+use Rattle.schedule_tables.specs.Schedule.{StandsApart, ComesInTime, leaves}
 use Rattle.schedule_tables.specs.declared.entry.Entry.{Entry}
 use Rattle.schedule_checker.specs.Ports.{AreApart, ComesBehind}
-use Rattle.schedule_checker.proofs.EntryPlaces.{EachEntry, entries_of_all, all_of_entries, earlier_of_all, all_of_earlier}
+use Rattle.schedule_checker.proofs.EntryPlaces.{entries_of_all, all_of_entries, earlier_of_all, all_of_earlier}
 use Rattle.tte_units.specs.Amount.{amount}
 
 -- ---- rows of one port

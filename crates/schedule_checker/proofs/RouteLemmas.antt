@@ -1,5 +1,5 @@
 -- What holds of a network's entries, said of its virtual links.
-use Rattle.std.proofs.Common.{◌≡◌, ◌≢◌, ◌⊎◌, inl, inr, ⊎_elim, ℕ, ◌<◌, Bool, true, false, List, length, take, Some, refl, sym, ◌∙◌, subst, arith}
+use Rattle.std.proofs.Common.{◌≡◌, ◌≢◌, ◌⊎◌, inl, inr, ⊎_elim, ℕ, ◌<◌, Bool, true, false, List, take, Some, refl, sym, ◌∙◌, subst, arith}
 use Rattle.std.specs.Bool.{Decides}
 use Rattle.std.specs.List.{All, enumerate_from, slice_get}
 use Rattle.std.proofs.lemmas.Bool.Decides.{Decides-like}
@@ -16,8 +16,8 @@ use Rattle.schedule_tables.specs.Schedule
 use Rattle.schedule_tables.specs.Schedule.{GoesOnceByLink, HasSource, EntersAnew, IsSwitch, LeavesOn, EntersOn, GoesByBothChannels}
 use Rattle.schedule_tables.specs.declared.entry.Entry.{Entry}
 use Rattle.schedule_checker.specs.Routes.{IsEnteredElsewhere, ShareChannel, EntersAgain, LeavesOnBoth, EntersEndSystem, EntersAlike, EntersAllAlike}
-use Rattle.schedule_checker.proofs.Selection.{Each, EachBelow, Holds, from_enumerate, into_enumerate, all_of_below, below_of_all}
-use Rattle.schedule_checker.proofs.EntryPlaces.{EachEntry, EachEarlier, stands_at, earlier_of_all, all_of_earlier}
+use Rattle.schedule_checker.proofs.Selection.{Each, Holds, from_enumerate, into_enumerate, all_of_below, below_of_all}
+use Rattle.schedule_checker.proofs.EntryPlaces.{stands_at, earlier_of_all, all_of_earlier}
 
 -- ---- a virtual link goes once by a link
 
@@ -114,7 +114,7 @@ pub entered_elsewhere : (es : List Entry) (place : ℕ) (e : Entry) (r : Bool) �
 entered_elsewhere es place e r =
     Decides-like r
     (λ some. let found = from_enumerate es 0 some.0 some.1 some.2 in
-      record { at = some.1.0; other = some.1.1; there = subst (λ (i : ℕ). slice_get es i ≡ Some some.1.1) (omega (arith, found.0)) found.1; elsewhere = some.3.0; same_vl = some.3.1; target = some.3.2 })
+    record { at = some.1.0; other = some.1.1; there = subst (λ (i : ℕ). slice_get es i ≡ Some some.1.1) (omega (arith, found.0)) found.1; elsewhere = some.3.0; same_vl = some.3.1; target = some.3.2 })
     (λ h. (h.at, (h.at, h.other), subst (λ (i : ℕ). slice_get (enumerate_from 0 es) h.at ≡ Some (i, h.other)) (omega arith) (into_enumerate es 0 h.at h.other h.there), (h.elsewhere, h.same_vl, h.target)))
 
 -- the entry's source, if it is no sender, is a switch that another entry of the virtual link enters

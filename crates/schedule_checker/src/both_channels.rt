@@ -76,8 +76,7 @@ fn enters_end_system(network: &Network, entries: &[Entry], vl: VlId) -> bool
     entries_law();
     entries.iter().any(|entry| entry.row.vl == vl
         && is_end_system(network, entry.target())
-        && (is_on_channel(network, Channel::A, entry)
-            || is_on_channel(network, Channel::B, entry)))
+        && (is_on_channel(network, Channel::A, entry) || is_on_channel(network, Channel::B, entry)))
 }
 
 /// Does the virtual link enter the same end systems on both channels?
@@ -86,9 +85,8 @@ fn enters_all_alike(network: &Network, entries: &[Entry], vl: VlId) -> bool
     ensures { IsTrue result ↔ EntersAllAlike network.now vl }
 {
     entries_law();
-    entries
-        .iter()
-        .all(|entry| entry.row.vl != vl || enters_alike(network, entries, vl, entry.target()))
+    entries.iter().all(|entry| entry.row.vl != vl
+        || enters_alike(network, entries, vl, entry.target()))
 }
 
 /// Does the virtual link enter the device on both channels or on neither, if it is an end system?

@@ -1,10 +1,11 @@
 //! The rules of when a device sends its rows.
-ghost use Rattle.std.specs.Prelude.{◌≡◌, ◌<◌, ◌≤◌, ◌↔◌, ℕ, pos, All, IsTrue, length};
-ghost use Rattle.net_plan.specs.Bounds.{gamma_of};
-ghost use Rattle.net_plan.specs.Ranges.{IsInRange};
+ghost use Rattle.std.specs.Prelude.{◌+◌, ◌^◌, ◌<◌, ◌≤◌, ◌↔◌, ℕ, All, IsTrue, length};
+ghost use Rattle.net_plan.specs.Ranges.{IsInRange, IsWithin};
 ghost use Rattle.schedule_tables.specs.Entries.{AreEntries, IsEntryInRange};
-ghost use Rattle.schedule_tables.specs.Schedule.{Coincide, ComesInTime, HasFewRows, IsClearBefore, StandsApart};
+ghost use Rattle.schedule_tables.specs.Schedule.{Coincide, ComesInTime, HasFewRows, StandsApart};
+ghost use Rattle.schedule_tables.specs.Windows.{port_time};
 ghost use Rattle.schedule_checker.specs.Ports.{AreApart, ComesBehind};
+ghost use Rattle.tte_units.specs.Amount.{amount};
 
 use net_plan::{DeviceId, Network, VirtualLink};
 use schedule_tables::{Entry, entries_law, window_of};
@@ -36,8 +37,8 @@ fn stands_apart_from(network: &Network, earlier: &[Entry], entry: &Entry) -> boo
     earlier.iter().all(|other| other.row.link != entry.row.link
         || other.row.way != entry.row.way
         || !coincide(&entry.vl, &other.vl)
-        || is_clear_before(network, gamma, other, entry)
-        || is_clear_before(network, gamma, entry, other))
+        || is_clear_before(gamma, other, entry)
+        || is_clear_before(gamma, entry, other))
 }
 
 /// Do the virtual links occur in one cycle?
@@ -50,14 +51,14 @@ fn coincide(vl: &VirtualLink, other: &VirtualLink) -> bool
     vl.phase % period == other.phase % period
 }
 
-/// Has the entry's frame left the port, gamma of the network included, when the other is
+/// Has the entry's frame left the port, and the clocks drifted by gamma, when the other is
 /// dispatched?
-fn is_clear_before(network: &Network, gamma: u64, entry: &Entry, other: &Entry) -> bool
-    requires range { IsInRange network.now }
-    requires gamma { gamma ≡ gamma_of network.now }
-    requires entry { IsEntryInRange network.now entry.now }
-    requires other { IsEntryInRange network.now other.now }
-    ensures { IsTrue result ↔ IsClearBefore network.now entry.now other.now }
+fn is_clear_before(gamma: u64, entry: &Entry, other: &Entry) -> bool
+    requires gamma { gamma ≤ 2 ^ 41 }
+    requires offset { IsWithin 0 (2 ^ 40) entry.now.row.offset }
+    requires octets { entry.now.vl.length ≤ 1514 }
+    requires other { IsWithin 0 (2 ^ 40) other.now.row.offset }
+    ensures { IsTrue result ↔ (amount entry.now.row.offset + port_time entry.now + gamma ≤ amount other.now.row.offset) }
 {
     entry.row.offset.amount() + entry.port_time().amount() + gamma <= other.row.offset.amount()
 }

@@ -20,7 +20,7 @@ pub(crate) fn goes_once_by_link(network: &Network, place: u32) -> bool
     is_new_by_link(earlier, &rest[0])
 }
 
-/// Is none of the earlier rows of the row's virtual link and link?
+/// Does no earlier row of the row's virtual link go by its link?
 fn is_new_by_link(earlier: &[Row], row: &Row) -> bool
     ensures { IsTrue result ↔ All (λ other. row.now.vl ≡ other.vl → row.now.link ≢ other.link) earlier.now }
 {

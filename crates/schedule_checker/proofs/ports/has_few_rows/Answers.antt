@@ -1,4 +1,4 @@
-use Rattle.std.proofs.Common.{rules, tests, ◌≡◌, ◌==◌, ◌∙◌, arith}
+use Rattle.std.proofs.Common.{rules, tests, ◌≡◌, ◌==◌, ◌∙◌}
 use Rattle.std.specs.List.{count_by}
 use Rattle.std.proofs.iter.runs.Made.{chains}
 use Rattle.schedule_tables.specs.Entries.{source_of}

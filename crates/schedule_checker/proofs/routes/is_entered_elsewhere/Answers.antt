@@ -1,4 +1,4 @@
-use Rattle.std.proofs.Common.{rules, tests, ◌≡◌, ◌≢◌, ℕ}
+use Rattle.std.proofs.Common.{rules, tests, ℕ}
 use Rattle.std.specs.List.{enumerate_from}
 use Rattle.std.proofs.lemmas.Iterator.{cases_from_any, YieldsList-from_slice}
 use Rattle.std.proofs.lemmas.Iterator.Consumers.{YieldsList-from_enumerate}
