@@ -11,3 +11,7 @@ pub mod BetaLemmas
 pub mod EarlierLemmas
 pub mod NameLemmas
 pub mod WindowLemmas
+pub mod EntryPlaces
+pub mod PortLemmas
+pub mod RouteLemmas
+pub mod Selection

@@ -1,4 +1,6 @@
+pub mod Ports
 pub mod Refusals
 pub mod Judging
 pub mod Shape
 pub mod Timing
+pub mod Routes

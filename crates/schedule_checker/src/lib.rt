@@ -9,6 +9,9 @@ mod refusal;
 mod shape;
 mod timing;
 mod virtual_links;
+mod both_channels;
+mod ports;
+mod routes;
 
 pub use checker::check;
 pub use laws::refusal_is_one;

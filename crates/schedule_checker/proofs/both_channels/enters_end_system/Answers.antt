@@ -1,0 +1,14 @@
+use Rattle.std.proofs.Common.{rules, tests}
+use Rattle.std.proofs.lemmas.Iterator.{cases_from_any, YieldsList-from_slice}
+use Rattle.schedule_tables.specs.declared.entry.Entry.{Entry}
+use Rattle.schedule_checker.proofs.RouteLemmas.{EntersEnd, enters_end_system}
+use Rattle.schedule_checker.proofs.Selection.{any_decides}
+use Rattle.schedule_checker.proofs.both_channels.enters_end_system.Goals as goal
+
+pub returns : goal.returns
+returns c =
+    let n = c.args.network.now in
+    let es = c.args.entries.now in
+    let P = EntersEnd n c.args.vl in
+    let run = cases_from_any _ _ c.any.result P (λ (e : Entry). ¬ P e) c.any.ensures.ran (YieldsList-from_slice es cc) (λ x q k. search (rules, tests)) (λ x q k. search (rules, tests)) in
+    enters_end_system n es c.args.vl c.any.result c.requires c.entries_law.ensures.one (any_decides P c.any.result es run)

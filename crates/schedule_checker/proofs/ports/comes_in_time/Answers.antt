@@ -1,0 +1,35 @@
+use Rattle.std.proofs.Common.{rules, ◌≡◌, ◌≢◌, arith}
+use Rattle.std.proofs.lemmas.Grind.{common_steps}
+use Rattle.std.proofs.lemmas.Int.{ints}
+use Rattle.schedule_tables.specs.Entries.{source_of}
+use Rattle.schedule_checker.proofs.EntryPlaces.{entry_read, entry_ranges}
+use Rattle.schedule_checker.proofs.PortLemmas.{in_time_of_sender, in_time_of_switch}
+use Rattle.schedule_checker.proofs.ports.comes_in_time.Goals as goal
+
+pub comes_behind_all-requires-clause-entries : goal.comes_behind_all-requires-clause-entries
+comes_behind_all-requires-clause-entries c = entry_ranges c.args.network.now c.args.entries.now c.requires.entries c.entries_law.ensures.range c.requires.range
+
+pub comes_behind_all-requires-clause-entry : goal.comes_behind_all-requires-clause-entry
+comes_behind_all-requires-clause-entry c =
+    let n = c.args.network.now in
+    let e = c.index-entries-place.result in
+    c.entries_law.ensures.range n c.args.place e c.requires.range (entry_read n c.args.entries.now c.args.place e c.requires.entries c.requires.place c.index-entries-place.is)
+
+pub returns-then-eq : goal.returns-then-eq
+returns-then-eq c =
+    let n = c.args.network.now in
+    let e = c.index-entries-place.result in
+    let at = entry_read n c.args.entries.now c.args.place e c.requires.entries c.requires.place c.index-entries-place.is in
+    let sender : source_of e ≡ e.vl.sender = search rules in
+    let ranges = c.requires.range in
+    let offset = (c.entries_law.ensures.range n c.args.place e ranges at).row.offset in
+    in_time_of_sender n c.args.place e _ c.entries_law.ensures.one at sender (grind (arith, common_steps, ints, ranges.tt_start, offset))
+
+pub returns-else-eq : goal.returns-else-eq
+returns-else-eq c =
+    let n = c.args.network.now in
+    let es = c.args.entries.now in
+    let e = c.index-entries-place.result in
+    let at = entry_read n es c.args.place e c.requires.entries c.requires.place c.index-entries-place.is in
+    let other : source_of e ≢ e.vl.sender = search rules in
+    in_time_of_switch n es c.args.place e c.comes_behind_all.result c.requires.entries c.entries_law.ensures.one at other c.comes_behind_all.ensures

@@ -1,0 +1,16 @@
+use Rattle.std.proofs.Common.{rules, tests, ◌≡◌, ◌==◌, ◌∙◌}
+use Rattle.std.specs.List.{count_by}
+use Rattle.std.proofs.iter.runs.Made.{chains}
+use Rattle.schedule_tables.specs.Entries.{source_of}
+use Rattle.schedule_tables.specs.Schedule.{leaves}
+use Rattle.schedule_tables.specs.declared.entry.Entry.{Entry}
+use Rattle.schedule_checker.proofs.PortLemmas.{rows_leave}
+use Rattle.schedule_checker.proofs.ports.has_few_rows.Goals as goal
+
+pub returns : goal.returns
+returns c =
+    let n = c.args.network.now in
+    let es = c.args.entries.now in
+    let counted : c.count.result ≡ count_by (λ (e : Entry). (source_of e).0 == c.args.place) es = search (rules, chains) in
+    let same : c.count.result ≡ count_by (leaves n (record { 0 = c.args.place })) n.row = counted ∙ rows_leave n es (record { 0 = c.args.place }) c.requires.entries in
+    rw same (search (rules, tests))

@@ -1,0 +1,40 @@
+use Rattle.std.proofs.Common.{rules, arith, ◌≡◌, ◌≢◌, inl, inr, ⊎_elim}
+use Rattle.schedule_tables.specs.Entries.{source_of}
+use Rattle.schedule_tables.specs.Schedule.{IsSwitch}
+use Rattle.schedule_checker.specs.Routes.{IsEnteredElsewhere}
+use Rattle.schedule_checker.proofs.EntryPlaces.{entry_read}
+use Rattle.schedule_checker.proofs.RouteLemmas.{has_source, has_source_back}
+use Rattle.schedule_checker.proofs.routes.has_source.Goals as goal
+
+pub returns-then-eq : goal.returns-then-eq
+returns-then-eq c =
+    let n = c.args.network.now in
+    let es = c.args.entries.now in
+    let e = c.index-entries-place.result in
+    let at = entry_read n es c.args.place e c.requires.entries c.requires.place c.index-entries-place.is in
+    let sender : source_of e ≡ e.vl.sender = search rules in
+    (λ yes. has_source n es c.args.place e c.requires.entries c.entries_law.ensures.one at (inl sender), λ kept. c.if-eq.true)
+
+pub returns-then-is_switch : goal.returns-then-is_switch
+returns-then-is_switch c =
+    let n = c.args.network.now in
+    let es = c.args.entries.now in
+    let e = c.index-entries-place.result in
+    let at = entry_read n es c.args.place e c.requires.entries c.requires.place c.index-entries-place.is in
+    let other : source_of e ≢ e.vl.sender = search rules in
+    let switch : IsSwitch n (source_of e) = search rules in (
+      λ yes. has_source n es c.args.place e c.requires.entries c.entries_law.ensures.one at (inr (switch, c.is_entered_elsewhere.ensures.0 yes)),
+      λ kept. c.is_entered_elsewhere.ensures.1 (⊎_elim (λ (s : source_of e ≡ e.vl.sender). absurd (other s)) (λ (s : IsSwitch n (source_of e) × IsEnteredElsewhere es c.args.place e). s.1) (has_source_back n es c.args.place e c.requires.entries c.entries_law.ensures.one at kept)),
+    )
+
+pub returns-else-is_switch : goal.returns-else-is_switch
+returns-else-is_switch c =
+    let n = c.args.network.now in
+    let es = c.args.entries.now in
+    let e = c.index-entries-place.result in
+    let at = entry_read n es c.args.place e c.requires.entries c.requires.place c.index-entries-place.is in
+    let other : source_of e ≢ e.vl.sender = search rules in
+    let no_switch : ¬ IsSwitch n (source_of e) = search rules in (
+      λ yes. absurd (grind (arith, yes, c.if-is_switch.false)),
+      λ kept. absurd (⊎_elim (λ (s : source_of e ≡ e.vl.sender). other s) (λ (s : IsSwitch n (source_of e) × IsEnteredElsewhere es c.args.place e). no_switch s.0) (has_source_back n es c.args.place e c.requires.entries c.entries_law.ensures.one at kept)),
+    )

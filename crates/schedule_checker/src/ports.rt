@@ -1,0 +1,121 @@
+//! The rules of when a device sends its rows.
+ghost use Rattle.std.specs.Prelude.{◌+◌, ◌^◌, ◌<◌, ◌≤◌, ◌↔◌, ℕ, All, IsTrue, length};
+ghost use Rattle.net_plan.specs.Ranges.{IsInRange, IsWithin};
+ghost use Rattle.schedule_tables.specs.Entries.{AreEntries, IsEntryInRange};
+ghost use Rattle.schedule_tables.specs.Schedule.{Coincide, ComesInTime, HasFewRows, StandsApart};
+ghost use Rattle.schedule_tables.specs.Windows.{port_time};
+ghost use Rattle.schedule_checker.specs.Ports.{AreApart, ComesBehind};
+ghost use Rattle.tte_units.specs.Amount.{amount};
+
+use net_plan::{DeviceId, Network, VirtualLink};
+use schedule_tables::{Entry, entries_law, window_of};
+
+/// How many rows may leave a device.
+const MOST_ROWS: usize = 256;
+
+/// Do the row and each earlier one of its link and way that occurs in one cycle with it stand
+/// apart by a port time and gamma?
+pub(crate) fn stands_apart(network: &Network, entries: &[Entry], place: u32) -> bool
+    requires range { IsInRange network.now }
+    requires place { place < length network.now.row }
+    requires entries { AreEntries network.now entries.now }
+    ensures { IsTrue result ↔ StandsApart network.now place }
+{
+    entries_law();
+    let (earlier, rest) = entries.split_at(place as usize);
+    stands_apart_from(network, earlier, &rest[0])
+}
+
+/// Are the entry and each earlier one apart?
+fn stands_apart_from(network: &Network, earlier: &[Entry], entry: &Entry) -> bool
+    requires range { IsInRange network.now }
+    requires earlier { All (IsEntryInRange network.now) earlier.now }
+    requires entry { IsEntryInRange network.now entry.now }
+    ensures { IsTrue result ↔ All (λ other. AreApart network.now other entry.now) earlier.now }
+{
+    let gamma = network.gamma().amount();
+    earlier.iter().all(|other| other.row.link != entry.row.link
+        || other.row.way != entry.row.way
+        || !coincide(&entry.vl, &other.vl)
+        || is_clear_before(gamma, other, entry)
+        || is_clear_before(gamma, entry, other))
+}
+
+/// Do the virtual links occur in one cycle?
+fn coincide(vl: &VirtualLink, other: &VirtualLink) -> bool
+    requires period { 1 ≤ vl.now.period }
+    requires other { 1 ≤ other.now.period }
+    ensures { IsTrue result ↔ Coincide vl.now other.now }
+{
+    let period = vl.period.min(other.period);
+    vl.phase % period == other.phase % period
+}
+
+/// Has the entry's frame left the port, and the clocks drifted by gamma, when the other is
+/// dispatched?
+fn is_clear_before(gamma: u64, entry: &Entry, other: &Entry) -> bool
+    requires gamma { gamma ≤ 2 ^ 41 }
+    requires offset { IsWithin 0 (2 ^ 40) entry.now.row.offset }
+    requires octets { entry.now.vl.length ≤ 1514 }
+    requires other { IsWithin 0 (2 ^ 40) other.now.row.offset }
+    ensures { IsTrue result ↔ (amount entry.now.row.offset + port_time entry.now + gamma ≤ amount other.now.row.offset) }
+{
+    entry.row.offset.amount() + entry.port_time().amount() + gamma <= other.row.offset.amount()
+}
+
+/// Does the row come when the schedule has begun, if it leaves its sender, and otherwise behind
+/// the window of its virtual link's row that enters its source?
+pub(crate) fn comes_in_time(network: &Network, entries: &[Entry], place: u32) -> bool
+    requires range { IsInRange network.now }
+    requires place { place < length network.now.row }
+    requires entries { AreEntries network.now entries.now }
+    ensures { IsTrue result ↔ ComesInTime network.now place }
+{
+    entries_law();
+    let entry = &entries[place as usize];
+    if entry.source() == entry.vl.sender {
+        network.tt_start <= entry.row.offset
+    } else {
+        comes_behind_all(network, entries, entry)
+    }
+}
+
+/// Does the entry come behind the window of each of its virtual link that enters its source?
+fn comes_behind_all(network: &Network, entries: &[Entry], entry: &Entry) -> bool
+    requires range { IsInRange network.now }
+    requires entries { All (IsEntryInRange network.now) entries.now }
+    requires entry { IsEntryInRange network.now entry.now }
+    ensures { IsTrue result ↔ All (λ entering. ComesBehind network.now entering entry.now) entries.now }
+{
+    entries
+        .iter()
+        .all(|entering| comes_behind(network, entering, entry))
+}
+
+/// Does the entry come behind the window of the other, if that is of its virtual link and enters
+/// its source?
+fn comes_behind(network: &Network, entering: &Entry, entry: &Entry) -> bool
+    requires range { IsInRange network.now }
+    requires entering { IsEntryInRange network.now entering.now }
+    requires entry { IsEntryInRange network.now entry.now }
+    ensures { IsTrue result ↔ ComesBehind network.now entering.now entry.now }
+{
+    entering.row.vl != entry.row.vl
+        || entering.target() != entry.source()
+        || window_of(network, entering).to < entry.row.offset
+}
+
+/// Do at most 256 rows leave the device?
+pub(crate) fn has_few_rows(network: &Network, entries: &[Entry], place: u32) -> bool
+    requires range { IsInRange network.now }
+    requires place { place < length network.now.device }
+    requires entries { AreEntries network.now entries.now }
+    ensures { IsTrue result ↔ HasFewRows network.now place }
+{
+    let device = DeviceId(place);
+    entries
+        .iter()
+        .filter(|entry| entry.source() == device)
+        .count()
+        <= MOST_ROWS
+}
