@@ -1,0 +1,4 @@
+pub mod Splitting
+pub mod Bearing
+pub mod Decimals
+pub mod Digits
