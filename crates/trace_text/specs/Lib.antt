@@ -6,3 +6,4 @@ pub mod Names
 pub mod Ranges
 pub mod WordReading
 pub mod EventReading
+pub mod EventLine

@@ -8,9 +8,12 @@ use Rattle.trace_text.specs.declared.refusal.LineRefusal.TheVariants.{Form}
 abbrev pub Words : Type 0
 Words = List (List ℕ)
 
--- the space of ASCII
+-- ASCII's space
+abbrev pub space : ℕ
+space = 32
+
 abbrev pub is_space : ℕ → Bool
-is_space octet = octet == 32
+is_space octet = octet == space
 
 -- the texts between the spaces
 abbrev pub words : List ℕ → Words

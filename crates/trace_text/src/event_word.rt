@@ -1,4 +1,4 @@
-ghost use Rattle.std.specs.Prelude.{◌≡◌};
+ghost use Rattle.std.specs.Prelude.{◌≡◌, ◌≤◌, length};
 ghost use Rattle.trace_text.specs.EventWords.{event_word_text, event_word_spelled, way_text, way_spelled};
 
 use net_plan::Way;
@@ -32,7 +32,8 @@ const EVENT_WORDS: [EventWord; 9] = [
 impl EventWord {
     /// The word as it is written.
     pub(crate) fn text(self) -> &'static str
-        ensures { result.now ≡ event_word_text self }
+        ensures text { result.now ≡ event_word_text self }
+        ensures short { length result.now ≤ 5 }
     {
         match self {
             EventWord::Rate => "rate",
@@ -61,7 +62,8 @@ impl EventWord {
 
 /// The way's word as it is written.
 pub(crate) fn way_text(way: Way) -> &'static str
-    ensures { result.now ≡ way_text way }
+    ensures text { result.now ≡ way_text way }
+    ensures short { length result.now ≤ 4 }
 {
     match way {
         Way::Up => "up",

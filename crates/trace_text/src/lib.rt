@@ -5,9 +5,11 @@ mod event_word;
 mod frames;
 mod names;
 mod numbers;
+mod printing;
 mod reading;
 mod refusal;
 mod words;
 
+pub use printing::{EventText, event_text, print};
 pub use reading::line;
 pub use refusal::LineRefusal;
