@@ -1,5 +1,5 @@
 -- The line of an event.
-use Rattle.std.specs.Prelude.{ℕ, List, [], ◌∷◌, ◌++◌, codes}
+use Rattle.std.specs.Prelude.{ℕ, ◌+◌, ◌*◌, List, [], ◌∷◌, ◌++◌, codes}
 use Rattle.std.specs.Fmt.{signed_decimal}
 use Rattle.std.specs.List.{join_with_byte}
 use Rattle.std.specs.Option.{option_map_or}
@@ -38,6 +38,10 @@ what_words network events.End = event_word_text End ∷ []
 -- the text of an event behind its time
 unfoldable pub what_text : Network → What → List ℕ
 what_text network what = join_with_byte space (what_words network what)
+
+-- how many octets that text has at most: where it gives 1,514 octets in hexadecimal, behind a name of 16
+abbrev pub longest_text : ℕ
+longest_text = 4 + 1 + 16 + 1 + 2 * 1514
 
 -- the text of an event
 abbrev pub event_text : Network → Event → List ℕ

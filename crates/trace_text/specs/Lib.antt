@@ -7,3 +7,4 @@ pub mod Ranges
 pub mod WordReading
 pub mod EventReading
 pub mod EventLine
+pub mod Laws

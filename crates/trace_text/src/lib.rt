@@ -3,6 +3,7 @@
 
 mod event_word;
 mod frames;
+mod laws;
 mod names;
 mod numbers;
 mod printing;
@@ -10,6 +11,7 @@ mod reading;
 mod refusal;
 mod words;
 
+pub use laws::reads_back_law;
 pub use printing::{EventText, event_text, print};
 pub use reading::line;
 pub use refusal::LineRefusal;

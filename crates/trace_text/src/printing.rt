@@ -5,7 +5,7 @@ ghost use Rattle.net_plan.specs.Ranges.{IsInRange};
 ghost use Rattle.tte_io.specs.Faults.{Rose, next_count};
 ghost use Rattle.tte_io.specs.Line.{line_limit};
 ghost use Rattle.tte_io.specs.Told.{AppendsFront};
-ghost use Rattle.trace_text.specs.EventLine.{device_name, link_name, what_text, event_line};
+ghost use Rattle.trace_text.specs.EventLine.{device_name, link_name, what_text, longest_text, event_line};
 ghost use Rattle.trace_text.specs.EventWords.{event_word_text, way_text};
 ghost use Rattle.trace_text.specs.Ranges.{HasDevice, HasLink, IsOfNetwork};
 ghost use Rattle.trace_text.specs.Steps.{space};
@@ -22,17 +22,21 @@ pub struct EventText {
 }
 
 impl Model for EventText {
-    ghost use Rattle.std.specs.Prelude.{ℕ, List};
+    ghost use Rattle.std.specs.Prelude.{ℕ, ◌≤◌, List, length};
+    ghost use Rattle.trace_text.specs.EventLine.{longest_text};
 
     ghost Value = { List ℕ };
 
     ghost view = { λ t. t.text };
+
+    ghost invariant = { λ t. length t.text ≤ longest_text };
 }
 
 impl EventText {
-    /// The text: at most 4,096 octets.
+    /// The text: at most 3,050 octets.
     pub fn as_slice(&self) -> &[u8]
-        ensures { result.now ≡ self.now }
+        ensures value { result.now ≡ self.now }
+        ensures short { length result.now ≤ longest_text }
     {
         self.text.as_slice()
     }
@@ -105,9 +109,9 @@ fn push_way(line: &mut LineText, way: Way)
 fn push_what(line: &mut LineText, network: &Network, what: &What)
     requires in_range { IsInRange network.now }
     requires of_network { IsOfNetwork network.now what.now }
-    requires room { length line.old + 3050 ≤ line_limit }
+    requires room { length line.old + longest_text ≤ line_limit }
     ensures text { line.new ≡ line.old ++ what_text network.now what.now }
-    ensures grows { length line.new ≤ length line.old + 3050 }
+    ensures grows { length line.new ≤ length line.old + longest_text }
 {
     match what {
         What::Rate(device, rate) => {
