@@ -1,6 +1,6 @@
 -- When a text is the decimal of a number.
 use Rattle.std.proofs.lemmas.Bool.Decides.{nat_tests}
-use Rattle.std.proofs.Common.{◌≡◌, ◌≢◌, ℕ, zero, suc, ◌+◌, ◌-◌, ◌<◌, ◌≤◌, ◌^◌, Bool, true, false, cond, List, [], ◌∷◌, length, get_or, Option, Some, None, refl, sym, ap, ◌∙◌, arith, subst}
+use Rattle.std.proofs.Common.{◌≡◌, ℕ, zero, suc, ◌-◌, ◌<◌, ◌≤◌, ◌^◌, Bool, true, false, cond, List, [], ◌∷◌, length, get_or, Option, Some, None, refl, sym, ap, ◌∙◌, arith, subst}
 use Rattle.std.specs.Prelude.{bytes_eq, decimal, ◌&&◌, nat_le}
 use Rattle.std.specs.Char.{digit_value, is_ascii_digit}
 use Rattle.std.specs.Option.{SomeIff}
@@ -52,10 +52,10 @@ zero_or_more (suc n) bound e = absurd (omega (arith, first_decimal (suc n) (omeg
 pub number_leading_zero : (most : ℕ) (text : List ℕ) → most ≤ 2 ^ 60 → get_or text 0 0 ≡ 48 → 1 < length text → number_up_to most text ≡ None
 number_leading_zero most text bound leading longer =
     number_no most text (λ h.
-        let n = digits_value 10 text in
-        let here : get_or (decimal n) 0 0 ≡ 48 = ap (λ (t : List ℕ). get_or t 0 0) (sym h.same) ∙ leading in
-        let one : length (decimal n) ≡ 1 = zero_or_more n (omega (arith, h.within)) here in
-        omega (arith, ap length h.same, one))
+    let n = digits_value 10 text in
+    let here : get_or (decimal n) 0 0 ≡ 48 = ap (λ (t : List ℕ). get_or t 0 0) (sym h.same) ∙ leading in
+    let one : length (decimal n) ≡ 1 = zero_or_more n (omega (arith, h.within)) here in
+    omega (arith, ap length h.same, one))
 
 -- the value of digits without a leading zero
 pub number_of_digits : (most : ℕ) (text : List ℕ) (found : Option ℕ) → most ≤ 2 ^ 60 → 0 < length text → (get_or text 0 0 ≡ 48 → length text ≡ 1)

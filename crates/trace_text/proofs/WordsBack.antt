@@ -1,11 +1,11 @@
 -- Words that are printed read back.
 use Rattle.std.proofs.lemmas.Bool.Decides.{nat_tests}
 use Rattle.std.proofs.lemmas.Int.{ints}
-use Rattle.std.proofs.Common.{◌≡◌, ◌≢◌, ℕ, zero, suc, ◌<◌, ◌≤◌, ◌^◌, Bool, true, false, List, [], ◌∷◌, map, length, Option, Some, None, Ok, refl, sym, ap, subst, ◌∙◌, arith}
+use Rattle.std.proofs.Common.{◌≡◌, ◌≢◌, ℕ, zero, suc, ◌<◌, ◌^◌, false, List, [], ◌∷◌, map, length, Option, Some, Ok, refl, sym, ap, subst, ◌∙◌, arith}
 use Rattle.std.specs.Prelude.{ℤ, pos, negsuc, ◌≤ℤ◌, neg_ℤ, ◌==◌, decimal, slice_get}
 use Rattle.std.specs.Fmt.{signed_decimal}
 use Rattle.std.specs.List.{All}
-use Rattle.std.specs.Option.{option_map, option_map_or, option_and_then, ok_or}
+use Rattle.std.specs.Option.{option_map, option_and_then, ok_or}
 use Rattle.std.specs.Str.Parse.{AllDigits}
 use Rattle.std.proofs.lemmas.Fmt.{decimal_is_IsNumeral}
 use Rattle.std.proofs.lemmas.Option.{slice_get-map, slice_get_within, get_or_from_slice_get}
@@ -13,7 +13,6 @@ use Rattle.hex.specs.Hex.{encode_lower}
 use Rattle.hex.proofs.HexLemmas.{decode_of-encode_lower}
 use Rattle.net_plan.proofs.Bearing.{behind}
 use Rattle.net_plan.specs.Bearers.{IsFirstBearer}
-use Rattle.net_plan.specs.NameText.{IsNameText}
 use Rattle.net_plan.specs.Ranges.{IsInRange, IsDeviceInRange, IsLinkInRange}
 use Rattle.net_plan.specs.Rules.{DeviceIsNew, LinkIsNew}
 use Rattle.net_plan.specs.declared.ids.DeviceId.{DeviceId}
@@ -38,7 +37,7 @@ use Rattle.tte_units.specs.declared.rates.Ppb.{Ppb}
 use Rattle.tte_units.specs.declared.units.Units.{Units}
 use Rattle.trace_text.proofs.Bearing.{place_found}
 use Rattle.trace_text.proofs.Decimals.{number_of_decimal}
-use Rattle.trace_text.proofs.Joining.{IsWord, decimal_is_word, name_is_word, word_from_test}
+use Rattle.trace_text.proofs.Joining.{IsWord, decimal_is_word, name_is_word}
 use Rattle.std.proofs.lemmas.List.Elements.{All-cons}
 use Rattle.trace_text.specs.Steps.{is_space}
 

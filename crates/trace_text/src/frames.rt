@@ -9,6 +9,7 @@ use net_plan::Octets;
 
 /// The shortest and the longest frame, in octets without the check sequence.
 const SHORTEST: usize = 60;
+
 const LONGEST: usize = 1514;
 
 fn is_hexadecimal(text: &[u8]) -> bool

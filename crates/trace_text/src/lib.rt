@@ -15,3 +15,6 @@ pub use laws::reads_back_law;
 pub use printing::{EventText, event_text, print};
 pub use reading::line;
 pub use refusal::LineRefusal;
+
+#[cfg(test)]
+mod tests;

@@ -10,11 +10,7 @@ use crate::words::Words;
 use net_plan::{Event, Network, What};
 
 #[tactic(auto, unfolding(crate::specs::EventReading::what_behind))]
-fn what_behind(
-    network: &Network,
-    word: EventWord,
-    words: &mut Words,
-) -> Result<What, LineRefusal>
+fn what_behind(network: &Network, word: EventWord, words: &mut Words) -> Result<What, LineRefusal>
     requires { IsInRange network.now }
     ensures value { Reads (what_behind network.now word words.old) result words.new }
     ensures of_network { IfOk result (IsOfNetwork network.now) }

@@ -7,9 +7,9 @@ ghost use Rattle.trace_text.specs.declared.refusal.LineRefusal.TheVariants.{Form
 
 use crate::LineRefusal;
 use crate::event_word::{EventWord, way_spelled};
+use crate::frames::octets_spelled;
 use crate::names::{device_spelled, link_spelled};
 use crate::numbers::{rate_spelled, units_spelled};
-use crate::frames::octets_spelled;
 use net_plan::{DeviceId, LinkId, Network, Octets, Way};
 use std::marker::Model;
 use tte_units::{Ppb, Units};

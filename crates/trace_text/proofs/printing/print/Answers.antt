@@ -1,6 +1,5 @@
-use Rattle.std.proofs.Common.{◌≡◌, ℕ, List, subst, rules, arith}
+use Rattle.std.proofs.Common.{◌≡◌, ℕ, List, subst, rules}
 use Rattle.std.specs.Prelude.{OnErr}
-use Rattle.std.proofs.lemmas.Grind.{common_steps}
 use Rattle.tte_io.specs.Told.{AppendsFront}
 use Rattle.trace_text.specs.EventLine.{event_line}
 use Rattle.trace_text.proofs.printing.print.Goals as goal

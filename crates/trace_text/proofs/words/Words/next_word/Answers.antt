@@ -1,4 +1,4 @@
-use Rattle.std.proofs.Common.{◌≡◌, ◌∷◌, ◌+◌, ◌-◌, ◌∙◌, length, take, drop, ap, subst, sym, List, ℕ, rules}
+use Rattle.std.proofs.Common.{◌≡◌, ◌∷◌, ◌+◌, ◌∙◌, take, drop, ap, sym, List, ℕ, rules}
 use Rattle.std.proofs.lemmas.List.{take_rest}
 use Rattle.trace_text.specs.Steps.{words}
 use Rattle.trace_text.proofs.Splitting.{words_parted, words_whole}
