@@ -1,5 +1,5 @@
 -- An event that is printed reads back.
-use Rattle.std.proofs.Common.{◌≡◌, ℕ, List, [], ◌∷◌, ◌++◌, Ok, refl, ap, ◌∙◌, append_assoc}
+use Rattle.std.proofs.Common.{◌≡◌, ℕ, List, [], ◌∷◌, ◌++◌, Ok, refl, sym, ap, subst, ◌∙◌, append_assoc}
 use Rattle.std.specs.Prelude.{codes}
 use Rattle.std.specs.Fmt.{signed_decimal}
 use Rattle.std.specs.List.{join_with_byte}
@@ -100,14 +100,20 @@ event_back network event apart of_network h =
 joined : (time w : List ℕ) (ws : Words) → time ++ codes " " ++ join_with_byte space (w ∷ ws) ≡ join_with_byte space (time ∷ w ∷ ws)
 joined time w ws = append_assoc time (codes " ") (join_with_byte space (w ∷ ws))
 
-event_words_are : (network : Network) (event : Event) → IsInRange network → IsOfNetwork network event.what → IsEventInRange event → words (event_text network event) ≡ signed_decimal event.time.0 ∷ event_word_text (kind event.what) ∷ behind_kind network event.what
+pub text_joined : (network : Network) (event : Event) → event_text network event ≡ join_with_byte space (signed_decimal event.time.0 ∷ what_words network event.what)
 unfolding what_text
+text_joined network event =
+    let time = signed_decimal event.time.0 in
+    subst (λ (ws : Words). time ++ codes " " ++ join_with_byte space ws ≡ join_with_byte space (time ∷ ws)) (sym (what_words_are network event.what))
+    (joined time (event_word_text (kind event.what)) (behind_kind network event.what))
+
+event_words_are : (network : Network) (event : Event) → IsInRange network → IsOfNetwork network event.what → IsEventInRange event → words (event_text network event) ≡ signed_decimal event.time.0 ∷ event_word_text (kind event.what) ∷ behind_kind network event.what
 event_words_are network event n of_network h =
     let time = signed_decimal event.time.0 in
     let word = event_word_text (kind event.what) in
     let behind = behind_kind network event.what in
-    ap (λ (ws : Words). words (time ++ codes " " ++ join_with_byte space ws)) (what_words_are network event.what)
-    ∙ ap words (joined time word behind)
+    ap words (text_joined network event)
+    ∙ ap (λ (ws : Words). words (join_with_byte space (time ∷ ws))) (what_words_are network event.what)
     ∙ words_joined time (word ∷ behind) (time_is_word event.time h.time) (event_word_is_word (kind event.what), are_words network event.what n of_network h.what)
 
 pub reads_back : ReadsBack

@@ -5,3 +5,5 @@ pub mod Digits
 pub mod Joining
 pub mod WordsBack
 pub mod EventsBack
+pub mod Lowering
+pub mod TextsBack

@@ -11,7 +11,7 @@ mod reading;
 mod refusal;
 mod words;
 
-pub use laws::reads_back_law;
+pub use laws::{prints_back_law, reads_back_law};
 pub use printing::{EventText, event_text, print};
 pub use reading::line;
 pub use refusal::LineRefusal;
