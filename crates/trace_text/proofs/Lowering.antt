@@ -1,0 +1,339 @@
+-- What words that are read spell, in lower case.
+use Rattle.std.proofs.lemmas.Bool.Decides.{nat_tests}
+use Rattle.std.proofs.Common.{◌≡◌, ◌≢◌, ◌⊎◌, inl, inr, ℕ, zero, suc, ◌+◌, ◌-◌, ◌*◌, ◌/◌, ◌%◌, ◌<◌, ◌≤◌, ◌^◌, Bool, true, false, cond, List, [], ◌∷◌, ◌++◌, map, length, slice_index, Option, Some, None, Ok, Err, refl, sym, ap, subst, ◌∙◌, arith}
+use Rattle.std.specs.Prelude.{Result, ℤ, pos, negsuc, neg_ℤ, ◌==◌, ◌&&◌, nat_le, nat_lt, bytes_eq, decimal, find, slice_get, All}
+use Rattle.std.specs.Char.{to_ascii_lowercase, digit_value, digit_char}
+use Rattle.std.specs.Cmp.Lexicographic.{bytes_decides}
+use Rattle.std.specs.Fmt.{signed_decimal}
+use Rattle.std.specs.List.{position_from}
+use Rattle.std.specs.Option.{option_map, option_map_or, option_and_then, ok_or, unwrap_or}
+use Rattle.std.specs.Result.{result_unwrap_or}
+use Rattle.std.specs.Str.{str_to_ascii_lowercase}
+use Rattle.std.specs.Str.Parse.{AllDigits, digits_value}
+use Rattle.std.proofs.lemmas.Bool.{and_parts, eqb-true, cases_lt}
+use Rattle.std.proofs.lemmas.Fmt.{decimal_is_IsNumeral}
+use Rattle.std.proofs.lemmas.List.Elements.{All-head, All-tail}
+use Rattle.std.proofs.lemmas.List.Sums.{AllPass-from_list_all}
+use Rattle.std.proofs.lemmas.Option.{get_or_from_slice_get, slice_get_within}
+use Rattle.hex.specs.Hex.{decode_of, decode_pairs, digit_or_error, encode_lower, encode_with, hex_digit_value, lower_digits, pair_value, value_at, ◌>>=◌}
+use Rattle.hex.specs.declared.error.FromHexError.{FromHexError}
+use Rattle.hex.specs.declared.error.FromHexError.TheVariants.{OddLength}
+use Rattle.hex.proofs.HexLemmas.{decode_of-ok, decode_of-even}
+use Rattle.net_plan.proofs.Bearing.{behind}
+use Rattle.net_plan.specs.Bearers.{device_names, link_names}
+use Rattle.net_plan.specs.NameText.{is_name_character, IsNameText}
+use Rattle.net_plan.specs.Ranges.{IsInRange, IsDeviceInRange, IsLinkInRange}
+use Rattle.net_plan.specs.declared.ids.DeviceId.{DeviceId}
+use Rattle.net_plan.specs.declared.ids.LinkId.{LinkId}
+use Rattle.net_plan.specs.declared.network.Network.{Network}
+use Rattle.net_plan.specs.declared.tables.Device.{Device}
+use Rattle.net_plan.specs.declared.tables.Link.{Link}
+use Rattle.net_plan.specs.declared.tables.Way.{Way}
+use Rattle.net_plan.specs.declared.tables.Way.TheVariants.{Up, Down}
+use Rattle.trace_text.specs.EventLine.{device_name, link_name}
+use Rattle.trace_text.specs.EventWords.{event_word_text, event_word_spelled, event_words, way_text, way_spelled}
+use Rattle.trace_text.specs.Names.{first_place, device_id, link_id, device_spelled, link_spelled}
+use Rattle.trace_text.specs.Numbers.{number_up_to, units_spelled, latest, rate_spelled, fastest, minus, ppb_of}
+use Rattle.trace_text.specs.Steps.{Read, Words, next_word, with_rest}
+use Rattle.trace_text.specs.WordReading.{event_word, units, rate, device, link, way, octets, octets_spelled, frame_of}
+use Rattle.trace_text.specs.declared.event_word.EventWord.{EventWord}
+use Rattle.trace_text.specs.declared.event_word.EventWord.TheVariants.{Rate, Wire, Hold, Cut, Heal, On, Break, Send, End}
+use Rattle.trace_text.specs.declared.refusal.LineRefusal.{LineRefusal}
+use Rattle.trace_text.specs.declared.refusal.LineRefusal.TheVariants.{Form, Name, Number}
+use Rattle.tte_units.specs.Amount.{units_of}
+use Rattle.tte_units.specs.declared.rates.Ppb.{Ppb}
+use Rattle.tte_units.specs.declared.units.Units.{Units}
+
+-- a text in lower case
+abbrev pub lower : List ℕ → List ℕ
+lower text = str_to_ascii_lowercase text
+
+abbrev pub lower_words : Words → Words
+lower_words ws = map lower ws
+
+-- the text has no capital letter
+abbrev IsLower : List ℕ → Type 0
+IsLower text = lower text ≡ text
+
+lower_cons : (c : ℕ) (cs : List ℕ) → to_ascii_lowercase c ≡ c → IsLower cs → IsLower (c ∷ cs)
+lower_cons c cs h t = ap (λ (d : ℕ). d ∷ map to_ascii_lowercase cs) h ∙ ap (λ (t : List ℕ). c ∷ t) t
+
+lower_digit : (c : ℕ) → digit_value c < 10 → to_ascii_lowercase c ≡ c
+lower_digit c h = grind (arith, nat_tests)
+
+digits_are_lower : (text : List ℕ) → AllDigits 10 text → IsLower text
+digits_are_lower [] h = refl
+digits_are_lower (c ∷ cs) h = lower_cons c cs (lower_digit c h.0) (digits_are_lower cs h.1)
+
+decimal_is_lower : (n : ℕ) → n < 2 ^ 64 → IsLower (decimal n)
+decimal_is_lower n h = digits_are_lower (decimal n) ((decimal_is_IsNumeral n h).0).1
+
+lower_character : (c : ℕ) → is_name_character c ≡ true → to_ascii_lowercase c ≡ c
+lower_character c h = grind (arith, nat_tests)
+
+characters_are_lower : (text : List ℕ) → All (λ c. is_name_character c ≡ true) text → IsLower text
+characters_are_lower [] h = refl
+characters_are_lower (c ∷ cs) h =
+    let P = λ (x : ℕ). is_name_character x ≡ true in
+    lower_cons c cs (lower_character c (All-head P c cs h)) (characters_are_lower cs (All-tail P c cs h))
+
+name_is_lower : (text : List ℕ) → IsNameText text → IsLower text
+name_is_lower text h = characters_are_lower text (AllPass-from_list_all is_name_character text h.plain)
+
+-- what is read of one word
+
+record Bound {A : Type 0} (r : Read A) (rest left : Words) (x : A) : Type 0 where
+  read : r ≡ Ok x
+  same : rest ≡ left
+
+bound : {A : Type 0} (r : Read A) (rest left : Words) (x : A) → with_rest rest r ≡ Ok (x, left) → Bound r rest left x
+bound {A} (Ok y) rest left x e =
+    let same : (y, rest) ≡ (x, left) = ap (λ (p : Read (A × Words)). result_unwrap_or p (y, rest)) e in
+    record { read = ap (λ (p : A × Words). Ok p.0) same; same = ap (λ (p : A × Words). p.1) same }
+bound (Err fault) rest left x e = absurd (cc e)
+
+word_forth : {A : Type 0} (meaning : List ℕ → Read A) (printed : A → List ℕ) → ((text : List ℕ) (x : A) → meaning text ≡ Ok x → printed x ≡ lower text)
+    → (ws : Words) (x : A) (left : Words) → next_word meaning ws ≡ Ok (x, left) → lower_words ws ≡ printed x ∷ lower_words left
+word_forth meaning printed spells [] x left e = absurd (cc e)
+word_forth meaning printed spells (w ∷ rest) x left e =
+    let b = bound (meaning w) rest left x e in
+    ap (λ (t : List ℕ). t ∷ lower_words rest) (sym (spells w x b.read)) ∙ ap (λ (ws : Words). printed x ∷ lower_words ws) b.same
+
+meant : {A : Type 0} (o : Option A) (fault : LineRefusal) (x : A) → ok_or o fault ≡ Ok x → o ≡ Some x
+meant (Some y) fault x e = cc e
+meant None fault x e = absurd (cc e)
+
+mapped : {A B : Type 0} (f : A → B) (o : Option A) (y : B) → option_map f o ≡ Some y → (x : A) × (o ≡ Some x) × (f x ≡ y)
+mapped f (Some x) y e = (x, refl, cc e)
+mapped f None y e = absurd (cc e)
+
+-- numbers
+
+number_case : (n : ℕ) (text : List ℕ) (most k : ℕ) (b : Bool) → (bytes_eq text (decimal n) && nat_le n most) ≡ b → cond b (Some n) None ≡ Some k → (k ≡ n) × (text ≡ decimal n) × (n ≤ most)
+number_case n text most k true test e =
+    let parts = and_parts (bytes_eq text (decimal n)) (nat_le n most) test in
+    (cc e, (bytes_decides text (decimal n)).0 parts.0, grind (arith, nat_tests, parts.1))
+number_case n text most k false test e = absurd (cc e)
+
+number_forth : (most : ℕ) (text : List ℕ) (n : ℕ) → most ≤ 2 ^ 60 → number_up_to most text ≡ Some n → decimal n ≡ lower text
+number_forth most text n bound e =
+    let m = digits_value 10 text in
+    let h = number_case m text most n (bytes_eq text (decimal m) && nat_le m most) refl e in
+    let same : decimal n ≡ text = ap decimal h.0 ∙ sym h.1 in
+    sym (decimal_is_lower n (omega (arith, h.0, h.2))) ∙ ap lower same
+
+units_text : (text : List ℕ) (u : Units) → ok_or (units_spelled text) Number ≡ Ok u → signed_decimal u.0 ≡ lower text
+units_text text u e =
+    let m = mapped units_of (number_up_to latest text) u (meant (units_spelled text) Number u e) in
+    ap (λ (v : Units). signed_decimal v.0) (sym m.2) ∙ number_forth latest text m.0 (omega arith) m.1
+
+pub units_forth : (ws : Words) (u : Units) (left : Words) → units ws ≡ Ok (u, left) → lower_words ws ≡ signed_decimal u.0 ∷ lower_words left
+unfolding units
+units_forth ws u left e = word_forth (λ text. ok_or (units_spelled text) Number) (λ v. signed_decimal v.0) units_text ws u left e
+
+minus_some : (n : ℕ) → minus (suc n) ≡ Some (ppb_of (negsuc n))
+minus_some n =
+    let some : (suc n == 0) ≡ false = grind (arith, nat_tests) in
+    rw some refl
+
+minus_case : (n : ℕ) (r : Ppb) → minus n ≡ Some r → signed_decimal r.0 ≡ 45 ∷ decimal n
+minus_case zero r e = absurd (cc e)
+minus_case (suc n) r e = ap (λ (o : Option Ppb). signed_decimal (option_map_or (λ p. p.0) o (pos 0))) (sym e ∙ minus_some n)
+
+chained : (o : Option ℕ) (r : Ppb) → option_and_then minus o ≡ Some r → (n : ℕ) × (o ≡ Some n) × (minus n ≡ Some r)
+chained (Some n) r e = (n, refl, e)
+chained None r e = absurd (cc e)
+
+rate_case : (first : ℕ) (rest : List ℕ) (r : Ppb) (b : Bool) → (first == 45) ≡ b
+    → cond b (option_and_then minus (number_up_to fastest rest)) (option_map (λ n. ppb_of (pos n)) (number_up_to fastest (first ∷ rest))) ≡ Some r
+    → signed_decimal r.0 ≡ lower (first ∷ rest)
+rate_case first rest r true test e =
+    let m = chained (number_up_to fastest rest) r e in
+    let sign : 45 ≡ to_ascii_lowercase first = grind (arith, nat_tests) in
+    minus_case m.0 r m.2 ∙ ap (λ (t : List ℕ). 45 ∷ t) (number_forth fastest rest m.0 (omega arith) m.1) ∙ ap (λ (c : ℕ). c ∷ lower rest) sign
+rate_case first rest r false test e =
+    let m = mapped (λ n. ppb_of (pos n)) (number_up_to fastest (first ∷ rest)) r e in
+    ap (λ (p : Ppb). signed_decimal p.0) (sym m.2) ∙ number_forth fastest (first ∷ rest) m.0 (omega arith) m.1
+
+rate_spells : (text : List ℕ) (r : Ppb) → rate_spelled text ≡ Some r → signed_decimal r.0 ≡ lower text
+rate_spells [] r e = absurd (cc e)
+rate_spells (first ∷ rest) r e = rate_case first rest r (first == 45) refl e
+
+pub rate_forth : (ws : Words) (r : Ppb) (left : Words) → rate ws ≡ Ok (r, left) → lower_words ws ≡ signed_decimal r.0 ∷ lower_words left
+unfolding rate
+rate_forth ws r left e = word_forth (λ text. ok_or (rate_spelled text) Number) (λ p. signed_decimal p.0) (λ text p q. rate_spells text p (meant (rate_spelled text) Number p q)) ws r left e
+
+-- names
+
+place_case : (text name : List ℕ) (names : List (List ℕ)) (s i : ℕ) (b : Bool) → bytes_eq text name ≡ b → cond b (Some s) (position_from (bytes_eq text) (s + 1) names) ≡ Some i
+    → ((i ≡ s) × (text ≡ name)) ⊎ (position_from (bytes_eq text) (s + 1) names ≡ Some i)
+place_case text name names s i true test e = inl (cc e, (bytes_decides text name).0 test)
+place_case text name names s i false test e = inr e
+
+found_at : (s : ℕ) (names : List (List ℕ)) (text : List ℕ) (i : ℕ) → position_from (bytes_eq text) s names ≡ Some i → (k : ℕ) × (i ≡ s + k) × (slice_get names k ≡ Some text)
+found_at s [] text i e = absurd (cc e)
+found_at s (name ∷ names) text i e =
+    elim (place_case text name names s i (bytes_eq text name) refl e) [
+      | inl here ↦ (0, omega (arith, here.0), ap (λ (t : List ℕ). Some t) (sym here.1))
+      | inr there ↦ let f = found_at (s + 1) names text i there in (suc f.0, omega (arith, f.1), f.2)
+    ]
+
+place_bears : (names : List (List ℕ)) (text : List ℕ) (i : ℕ) → first_place names text ≡ Some i → slice_get names i ≡ Some text
+place_bears names text i e =
+    let f = found_at 0 names text i e in
+    let same : f.0 ≡ i = omega (arith, f.1) in
+    subst (λ (k : ℕ). slice_get names k ≡ Some text) same f.2
+
+in_list : {X : Type 0} (P : X → Type 0) (xs : List X) (i : ℕ) (x : X) → slice_get xs i ≡ Some x → All P xs → P x
+in_list P xs i x here all = subst P (get_or_from_slice_get xs i x x here) (all i x (slice_get_within xs i x here))
+
+device_spells : (network : Network) → IsInRange network → (text : List ℕ) (d : DeviceId) → device_spelled network text ≡ Some d → device_name network d ≡ lower text
+unfolding device_spelled
+device_spells network n text d e =
+    let m = mapped device_id (first_place (device_names network) text) d e in
+    let b = behind (λ (x : Device). x.name) network.device m.0 text (place_bears (device_names network) text m.0 m.1) in
+    let name : IsNameText b.0.name = (in_list IsDeviceInRange network.device m.0 b.0 b.1 n.devices).name in
+    ap (device_name network) (sym m.2) ∙ ap (λ (o : Option Device). option_map_or (λ (x : Device). x.name) o []) b.1 ∙ sym (name_is_lower b.0.name name) ∙ ap lower b.2
+
+pub device_forth : (network : Network) → IsInRange network → (ws : Words) (d : DeviceId) (left : Words) → device network ws ≡ Ok (d, left) → lower_words ws ≡ device_name network d ∷ lower_words left
+unfolding device
+device_forth network n ws d left e = word_forth (λ text. ok_or (device_spelled network text) Name) (device_name network) (λ text x q. device_spells network n text x (meant (device_spelled network text) Name x q)) ws d left e
+
+link_spells : (network : Network) → IsInRange network → (text : List ℕ) (l : LinkId) → link_spelled network text ≡ Some l → link_name network l ≡ lower text
+unfolding link_spelled
+link_spells network n text l e =
+    let m = mapped link_id (first_place (link_names network) text) l e in
+    let b = behind (λ (x : Link). x.name) network.link m.0 text (place_bears (link_names network) text m.0 m.1) in
+    let name : IsNameText b.0.name = (in_list (IsLinkInRange network) network.link m.0 b.0 b.1 n.links).name in
+    ap (link_name network) (sym m.2) ∙ ap (λ (o : Option Link). option_map_or (λ (x : Link). x.name) o []) b.1 ∙ sym (name_is_lower b.0.name name) ∙ ap lower b.2
+
+pub link_forth : (network : Network) → IsInRange network → (ws : Words) (l : LinkId) (left : Words) → link network ws ≡ Ok (l, left) → lower_words ws ≡ link_name network l ∷ lower_words left
+unfolding link
+link_forth network n ws l left e = word_forth (λ text. ok_or (link_spelled network text) Name) (link_name network) (λ text x q. link_spells network n text x (meant (link_spelled network text) Name x q)) ws l left e
+
+-- the words of ways and events
+
+found_case : {X : Type 0} (p : X → Bool) (x y : X) (rest : Option X) (b : Bool) → p x ≡ b → cond b (Some x) rest ≡ Some y → (p y ≡ true) ⊎ (rest ≡ Some y)
+found_case p x y rest true test e = let same : x ≡ y = cc e in inl (ap p (sym same) ∙ test)
+found_case p x y rest false test e = inr e
+
+found_passes : {X : Type 0} (p : X → Bool) (xs : List X) (y : X) → find p xs ≡ Some y → p y ≡ true
+found_passes p [] y e = absurd (cc e)
+found_passes p (x ∷ xs) y e =
+    elim (found_case p x y (find p xs) (p x) refl e) [
+      | inl here ↦ here
+      | inr there ↦ found_passes p xs y there
+    ]
+
+way_is_lower : (w : Way) → IsLower (way_text w)
+way_is_lower Up = refl
+way_is_lower Down = refl
+
+way_spells : (text : List ℕ) (w : Way) → way_spelled text ≡ Some w → way_text w ≡ lower text
+unfolding way_spelled
+way_spells text w e =
+    let same : way_text w ≡ text = (bytes_decides (way_text w) text).0 (found_passes (λ (v : Way). bytes_eq (way_text v) text) (Up ∷ Down ∷ []) w e) in
+    sym (way_is_lower w) ∙ ap lower same
+
+pub way_forth : (ws : Words) (w : Way) (left : Words) → way ws ≡ Ok (w, left) → lower_words ws ≡ way_text w ∷ lower_words left
+unfolding way
+way_forth ws w left e = word_forth (λ text. ok_or (way_spelled text) Form) way_text (λ text x q. way_spells text x (meant (way_spelled text) Form x q)) ws w left e
+
+event_word_is_lower : (w : EventWord) → IsLower (event_word_text w)
+event_word_is_lower Rate = refl
+event_word_is_lower Wire = refl
+event_word_is_lower Hold = refl
+event_word_is_lower Cut = refl
+event_word_is_lower Heal = refl
+event_word_is_lower On = refl
+event_word_is_lower Break = refl
+event_word_is_lower Send = refl
+event_word_is_lower End = refl
+
+event_word_spells : (text : List ℕ) (w : EventWord) → event_word_spelled text ≡ Some w → event_word_text w ≡ lower text
+unfolding event_word_spelled
+event_word_spells text w e =
+    let same : event_word_text w ≡ text = (bytes_decides (event_word_text w) text).0 (found_passes (λ (v : EventWord). bytes_eq (event_word_text v) text) event_words w e) in
+    sym (event_word_is_lower w) ∙ ap lower same
+
+pub event_word_forth : (ws : Words) (w : EventWord) (left : Words) → event_word ws ≡ Ok (w, left) → lower_words ws ≡ event_word_text w ∷ lower_words left
+unfolding event_word
+event_word_forth ws w left e = word_forth (λ text. ok_or (event_word_spelled text) Form) event_word_text (λ text x q. event_word_spells text x (meant (event_word_spelled text) Form x q)) ws w left e
+
+-- the octets of a frame
+
+abbrev spells_digit : ℕ → Bool
+spells_digit v = slice_index lower_digits v == digit_char v
+
+abbrev all_spell : ℕ → Bool
+all_spell zero = true
+all_spell (suc v) = spells_digit v && all_spell v
+
+spelled_below : (n v : ℕ) → all_spell n ≡ true → v < n → spells_digit v ≡ true
+spelled_below zero v h lt = absurd (omega arith)
+spelled_below (suc n) v h lt =
+    let parts = and_parts (spells_digit n) (all_spell n) h in
+    elim (cases_lt v n) [
+      | inl below ↦ spelled_below n v parts.1 below
+      | inr top ↦ let same : v ≡ n = omega arith in rw same parts.0
+    ]
+
+digit_spelled : (v : ℕ) → v < 16 → slice_index lower_digits v ≡ digit_char v
+digit_spelled v h = eqb-true (slice_index lower_digits v) (digit_char v) (spelled_below 16 v refl h)
+
+-- a digit's value and its spelling
+record IsDigit (c v : ℕ) : Type 0 where
+  small : v < 16
+  lowered : digit_char v ≡ to_ascii_lowercase c
+
+digit_value_is : (c v : ℕ) → hex_digit_value c ≡ Some v → IsDigit c v
+digit_value_is c v h = record { small = grind (arith, nat_tests); lowered = grind (arith, nat_tests) }
+
+digit_read : (c i : ℕ) (o : Option ℕ) (v : ℕ) → digit_or_error c i o ≡ Ok v → o ≡ Some v
+digit_read c i (Some w) v h = cc h
+digit_read c i None v h = absurd (cc h)
+
+hex_bound : {A B : Type 0} (r : Result A FromHexError) (f : A → Result B FromHexError) (y : B) → (r >>= f) ≡ Ok y → (x : A) × (r ≡ Ok x) × (f x ≡ Ok y)
+hex_bound (Ok x) f y h = (x, refl, h)
+hex_bound (Err e) f y h = absurd (cc h)
+
+pair_spells : (high low i byte : ℕ) → pair_value high low i ≡ Ok byte → (slice_index lower_digits (byte / 16) ≡ to_ascii_lowercase high) × (slice_index lower_digits (byte % 16) ≡ to_ascii_lowercase low)
+pair_spells high low i byte e =
+    let h = hex_bound (value_at high i) _ byte e in
+    let l = hex_bound (value_at low (i + 1)) _ byte h.2 in
+    let dh = digit_value_is high h.0 (digit_read high i (hex_digit_value high) h.0 h.1) in
+    let dl = digit_value_is low l.0 (digit_read low (i + 1) (hex_digit_value low) l.0 l.1) in
+    let sum : h.0 * 16 + l.0 ≡ byte = cc (l.2) in
+    let small_high = dh.small in
+    let small_low = dl.small in
+    let top : byte / 16 ≡ h.0 = omega arith in
+    let bottom : byte % 16 ≡ l.0 = omega arith in
+    (rw top (digit_spelled h.0 dh.small ∙ dh.lowered), rw bottom (digit_spelled l.0 dl.small ∙ dl.lowered))
+
+pairs_spell : (i : ℕ) (text bytes : List ℕ) → decode_pairs i text ≡ Ok bytes → encode_with lower_digits bytes ≡ lower text
+unfolding decode_pairs encode_with
+pairs_spell i [] bytes e = let none : [] ≡ bytes = cc e in rw (← none) refl
+pairs_spell i (digit ∷ []) bytes e = absurd (cc e)
+pairs_spell i (high ∷ low ∷ rest) bytes e =
+    let b = hex_bound (pair_value high low i) _ bytes e in
+    let r = hex_bound (decode_pairs (i + 2) rest) _ bytes b.2 in
+    let whole : b.0 ∷ r.0 ≡ bytes = cc (r.2) in
+    let pair = pair_spells high low i b.0 b.1 in
+    rw (← whole) (ap (λ (c : ℕ). c ∷ slice_index lower_digits (b.0 % 16) ∷ encode_with lower_digits r.0) pair.0
+    ∙ ap (λ (c : ℕ). to_ascii_lowercase high ∷ c ∷ encode_with lower_digits r.0) pair.1
+    ∙ ap (λ (t : List ℕ). to_ascii_lowercase high ∷ to_ascii_lowercase low ∷ t) (pairs_spell (i + 2) rest r.0 r.1))
+
+frame_case : (r : Result (List ℕ) FromHexError) (o : List ℕ) → frame_of r ≡ Ok o → r ≡ Ok o
+frame_case (Ok octets) o e = grind (arith, nat_tests, e)
+frame_case (Err fault) o e = absurd (cc e)
+
+octets_spell : (text o : List ℕ) → octets_spelled text ≡ Ok o → encode_lower o ≡ lower text
+unfolding octets_spelled
+octets_spell text o e =
+    let decoded = frame_case (decode_of text) o e in
+    let even = (decode_of-ok text o decoded).0 in
+    pairs_spell 0 text o (sym (decode_of-even text even) ∙ decoded)
+
+pub octets_forth : (ws : Words) (o : List ℕ) (left : Words) → octets ws ≡ Ok (o, left) → lower_words ws ≡ encode_lower o ∷ lower_words left
+unfolding octets
+octets_forth ws o left e = word_forth octets_spelled encode_lower octets_spell ws o left e

@@ -1,0 +1,28 @@
+-- The words of a text.
+use Rattle.std.proofs.lemmas.Bool.Decides.{nat_tests}
+use Rattle.std.proofs.Common.{◌≡◌, ℕ, ◌+◌, ◌≤◌, Bool, true, false, cond, List, [], ◌∷◌, length, take, drop, Option, Some, None, MatchOption, refl, arith, nat_lt}
+use Rattle.std.specs.Prelude.{position}
+use Rattle.std.specs.List.{position_or_len, slice_split}
+use Rattle.std.proofs.lemmas.List.Elements.{All-from_get_or}
+use Rattle.std.proofs.lemmas.List.Splits.{slice_split_first, slice_split_none}
+use Rattle.std.proofs.lemmas.List.Sums.{fails_before_first}
+use Rattle.trace_text.specs.Steps.{is_space, words}
+
+-- what stands at the first place that passes, if there is one, parts a list
+abbrev PartedAt : (ℕ → Bool) → List ℕ → Option ℕ → Type 0
+PartedAt p xs found = MatchOption found (slice_split p xs ≡ xs ∷ []) (λ i. slice_split p xs ≡ take i xs ∷ slice_split p (drop (i + 1) xs))
+
+parted_case : (p : ℕ → Bool) (xs : List ℕ) (b : Bool) → nat_lt (position_or_len p xs) (length xs) ≡ b → PartedAt p xs (cond b (Some (position_or_len p xs)) None)
+parted_case p xs true e = slice_split_first p xs 0 (grind (arith, nat_tests))
+parted_case p xs false e =
+    let none : length xs ≤ position_or_len p xs = grind (arith, nat_tests) in
+    slice_split_none p xs (All-from_get_or (λ x. p x ≡ false) xs 0 (λ i h. fails_before_first p xs i 0 (omega arith)))
+
+parted : (p : ℕ → Bool) (xs : List ℕ) → PartedAt p xs (position p xs)
+parted p xs = parted_case p xs (nat_lt (position_or_len p xs) (length xs)) refl
+
+pub words_parted : (text : List ℕ) (i : ℕ) → position is_space text ≡ Some i → words text ≡ take i text ∷ words (drop (i + 1) text)
+words_parted text i e = let h : PartedAt is_space text (position is_space text) = parted is_space text in rw e at h
+
+pub words_whole : (text : List ℕ) → position is_space text ≡ None → words text ≡ text ∷ []
+words_whole text e = let h : PartedAt is_space text (position is_space text) = parted is_space text in rw e at h

@@ -1,0 +1,5 @@
+use Rattle.trace_text.proofs.TextsBack.{prints_back}
+use Rattle.trace_text.proofs.laws.prints_back_law.Goals as goal
+
+pub returns : goal.returns
+returns c = prints_back

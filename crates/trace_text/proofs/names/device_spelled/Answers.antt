@@ -1,0 +1,32 @@
+use Rattle.std.proofs.Common.{◌≡◌, ◌∙◌, ℕ, List, ap, sym, refl}
+use Rattle.std.specs.Option.{option_map}
+use Rattle.std.proofs.lemmas.List.Elements.{All-weaker}
+use Rattle.net_plan.specs.NameText.{IsNameText}
+use Rattle.net_plan.specs.Bearers.{device_names}
+use Rattle.net_plan.specs.Ranges.{IsDeviceInRange}
+use Rattle.net_plan.specs.declared.ids.DeviceId.{DeviceId}
+use Rattle.net_plan.specs.declared.tables.Device.{Device}
+use Rattle.trace_text.specs.Names.{device_spelled, device_id, first_place}
+use Rattle.trace_text.proofs.Bearing.{IsNamed, named_place, named_within, place_absent, bears_utf8}
+use Rattle.trace_text.proofs.names.device_spelled.Goals as goal
+
+abbrev number : DeviceId → ℕ
+number i = i.0
+
+pub returns-in-Ok-clause-value : goal.returns-in-Ok-clause-value
+unfolding device_spelled
+returns-in-Ok-clause-value c =
+    let names = device_names c.args.network.now in
+    let same : c.in-Ok.name.now ≡ c.args.text.now = c.in-Ok.ensures.cases.0 in
+    let found : IsNamed number names c.in-Ok.name.now c.device_named.result = record { first = c.device_named.ensures.first; none = c.device_named.ensures.none } in
+    named_place device_id number (λ i. refl) names c.in-Ok.name.now c.device_named.result found ∙ ap (λ (t : List ℕ). option_map device_id (first_place names t)) same
+
+pub returns-in-Ok-clause-of_network : goal.returns-in-Ok-clause-of_network
+returns-in-Ok-clause-of_network c =
+    named_within number (λ (x : Device). x.name) c.args.network.now.device c.in-Ok.name.now c.device_named.result (record { first = c.device_named.ensures.first; none = c.device_named.ensures.none })
+
+pub returns-in-Err-clause-value : goal.returns-in-Err-clause-value
+unfolding device_spelled
+returns-in-Err-clause-value c =
+    let names = All-weaker IsDeviceInRange (λ (x : Device). IsNameText x.name) (λ x h. h.name) c.args.network.now.device c.requires.devices in
+    sym (ap (option_map device_id) (place_absent (device_names c.args.network.now) c.args.text.now (bears_utf8 (λ (x : Device). x.name) c.args.network.now.device c.args.text.now names c.in-Err.ensures.cases.0)))

@@ -1,0 +1,35 @@
+-- The event of a trace's line.
+use Rattle.std.specs.Prelude.{ℕ, List}
+use Rattle.net_plan.specs.declared.event.Event.{Event}
+use Rattle.net_plan.specs.declared.event.What.{What}
+use Rattle.net_plan.specs.declared.event.What.TheVariants as events
+use Rattle.net_plan.specs.declared.network.Network.{Network}
+use Rattle.trace_text.specs.Steps.{Read, Reader, ◌>>=◌, give, words, line_end, outcome}
+use Rattle.trace_text.specs.WordReading.{event_word, units, rate, device, link, way, octets}
+use Rattle.trace_text.specs.declared.event_word.EventWord.{EventWord}
+use Rattle.trace_text.specs.declared.event_word.EventWord.TheVariants.{Rate, Wire, Hold, Cut, Heal, On, Break, Send, End}
+
+-- the words behind the event's
+unfoldable pub what_behind : Network → EventWord → Reader What
+what_behind network Rate = do d ← device network; r ← rate; give (events.Rate d r)
+what_behind network Wire = do l ← link network; w ← way; u ← units; give (events.Wire l w u)
+what_behind network Hold = do l ← link network; w ← way; u ← units; give (events.Hold l w u)
+what_behind network Cut = do l ← link network; w ← way; give (events.Cut l w)
+what_behind network Heal = do l ← link network; w ← way; give (events.Heal l w)
+what_behind network On = do d ← device network; give (events.On d)
+what_behind network Break = do d ← device network; give (events.Break d)
+what_behind network Send = do l ← link network; o ← octets; give (events.Send l o)
+what_behind network End = give events.End
+
+-- the words of an event
+unfoldable pub event_reader : Network → Reader Event
+event_reader network = do
+  time ← units
+  word ← event_word
+  what ← what_behind network word
+  end ← line_end
+  give (record { time = time; what = what })
+
+-- the event of a line, or the leftmost fault
+unfoldable pub event_read : Network → List ℕ → Read Event
+event_read network text = outcome (event_reader network (words text))

@@ -1,0 +1,26 @@
+-- The things of a network by their names.
+use Rattle.std.specs.Prelude.{ℕ, List, bytes_eq, Option}
+use Rattle.std.specs.List.{position_from}
+use Rattle.std.specs.Option.{option_map}
+use Rattle.net_plan.specs.Bearers.{device_names, link_names}
+use Rattle.net_plan.specs.declared.ids.DeviceId.{DeviceId}
+use Rattle.net_plan.specs.declared.ids.LinkId.{LinkId}
+use Rattle.net_plan.specs.declared.network.Network.{Network}
+
+-- the place of the first of these names that is the text
+abbrev pub first_place : List (List ℕ) → List ℕ → Option ℕ
+first_place names text = position_from (bytes_eq text) 0 names
+
+abbrev pub device_id : ℕ → DeviceId
+device_id i = record { 0 = i }
+
+abbrev pub link_id : ℕ → LinkId
+link_id i = record { 0 = i }
+
+-- the first device of this name
+unfoldable pub device_spelled : Network → List ℕ → Option DeviceId
+device_spelled network text = option_map device_id (first_place (device_names network) text)
+
+-- the first link of this name
+unfoldable pub link_spelled : Network → List ℕ → Option LinkId
+link_spelled network text = option_map link_id (first_place (link_names network) text)

@@ -1,0 +1,65 @@
+-- Which events have a line.
+use Rattle.std.specs.Prelude.{◌≤◌, ◌<◌, ⊤, pos, neg_ℤ, ◌≤ℤ◌, ℕ, List, length}
+use Rattle.hex.specs.Hex.{IsBytes}
+use Rattle.net_plan.specs.Ranges.{IsWithin}
+use Rattle.net_plan.specs.declared.event.Event.{Event}
+use Rattle.net_plan.specs.declared.event.What.{What}
+use Rattle.net_plan.specs.declared.event.What.TheVariants.{Rate, Wire, Hold, Cut, Heal, On, Break, Send, End}
+use Rattle.net_plan.specs.declared.ids.DeviceId.{DeviceId}
+use Rattle.net_plan.specs.declared.ids.LinkId.{LinkId}
+use Rattle.net_plan.specs.declared.network.Network.{Network}
+use Rattle.trace_text.specs.Numbers.{latest, fastest}
+use Rattle.tte_units.specs.declared.rates.Ppb.{Ppb}
+use Rattle.tte_units.specs.declared.units.Units.{Units}
+
+-- the device is one of the network's
+abbrev pub HasDevice : Network → DeviceId → Type 0
+HasDevice network device = device.0 < length network.device
+
+-- the link is one of the network's
+abbrev pub HasLink : Network → LinkId → Type 0
+HasLink network link = link.0 < length network.link
+
+-- the device and the link of the event are the network's
+abbrev pub IsOfNetwork : Network → What → Type 0
+IsOfNetwork network (Rate device rate) = HasDevice network device
+IsOfNetwork network (Wire link way delay) = HasLink network link
+IsOfNetwork network (Hold link way delay) = HasLink network link
+IsOfNetwork network (Cut link way) = HasLink network link
+IsOfNetwork network (Heal link way) = HasLink network link
+IsOfNetwork network (On device) = HasDevice network device
+IsOfNetwork network (Break device) = HasDevice network device
+IsOfNetwork network (Send link octets) = HasLink network link
+IsOfNetwork network End = ⊤
+
+-- a time of a trace, in units
+abbrev pub IsTime : Units → Type 0
+IsTime units = IsWithin 0 latest units
+
+-- a rate of a trace, in parts per 10^9
+pub record IsRate (rate : Ppb) : Type 0 where
+  pub least : neg_ℤ (pos fastest) ≤ℤ rate.0
+  pub most : rate.0 ≤ℤ pos fastest
+
+-- the octets of a frame, without its check sequence
+pub record IsFrame (octets : List ℕ) : Type 0 where
+  pub bytes : IsBytes octets
+  pub least : 60 ≤ length octets
+  pub most : length octets ≤ 1514
+
+-- the numbers of what befalls the network lie in their ranges
+abbrev pub IsWhatInRange : What → Type 0
+IsWhatInRange (Rate device rate) = IsRate rate
+IsWhatInRange (Wire link way delay) = IsTime delay
+IsWhatInRange (Hold link way delay) = IsTime delay
+IsWhatInRange (Cut link way) = ⊤
+IsWhatInRange (Heal link way) = ⊤
+IsWhatInRange (On device) = ⊤
+IsWhatInRange (Break device) = ⊤
+IsWhatInRange (Send link octets) = IsFrame octets
+IsWhatInRange End = ⊤
+
+-- the numbers of the event lie in their ranges
+pub record IsEventInRange (event : Event) : Type 0 where
+  pub time : IsTime event.time
+  pub what : IsWhatInRange event.what

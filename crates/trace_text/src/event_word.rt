@@ -1,0 +1,83 @@
+ghost use Rattle.std.specs.Prelude.{◌≡◌, ◌≤◌, length};
+ghost use Rattle.trace_text.specs.EventWords.{event_word_text, event_word_spelled, way_text, way_spelled};
+
+use net_plan::Way;
+
+/// The word that says what befalls the network.
+#[derive(Clone, Copy, Debug, PartialEq, Eq)]
+pub(crate) enum EventWord {
+    Rate,
+    Wire,
+    Hold,
+    Cut,
+    Heal,
+    On,
+    Break,
+    Send,
+    End,
+}
+
+const EVENT_WORDS: [EventWord; 9] = [
+    EventWord::Rate,
+    EventWord::Wire,
+    EventWord::Hold,
+    EventWord::Cut,
+    EventWord::Heal,
+    EventWord::On,
+    EventWord::Break,
+    EventWord::Send,
+    EventWord::End,
+];
+
+impl EventWord {
+    /// The word as it is written.
+    pub(crate) fn text(self) -> &'static str
+        ensures text { result.now ≡ event_word_text self }
+        ensures short { length result.now ≤ 5 }
+    {
+        match self {
+            EventWord::Rate => "rate",
+            EventWord::Wire => "wire",
+            EventWord::Hold => "hold",
+            EventWord::Cut => "cut",
+            EventWord::Heal => "heal",
+            EventWord::On => "on",
+            EventWord::Break => "break",
+            EventWord::Send => "send",
+            EventWord::End => "end",
+        }
+    }
+
+    /// The word that is written so.
+    #[tactic(auto, unfolding(crate::specs::EventWords::event_word_spelled))]
+    pub(crate) fn spelled(text: &[u8]) -> Option<EventWord>
+        ensures { result ≡ event_word_spelled text.now }
+    {
+        EVENT_WORDS
+            .iter()
+            .copied()
+            .find(|word| word.text().as_bytes() == text)
+    }
+}
+
+/// The way's word as it is written.
+pub(crate) fn way_text(way: Way) -> &'static str
+    ensures text { result.now ≡ way_text way }
+    ensures short { length result.now ≤ 4 }
+{
+    match way {
+        Way::Up => "up",
+        Way::Down => "down",
+    }
+}
+
+/// The way whose word is written so.
+#[tactic(auto, unfolding(crate::specs::EventWords::way_spelled))]
+pub(crate) fn way_spelled(text: &[u8]) -> Option<Way>
+    ensures { result ≡ way_spelled text.now }
+{
+    [Way::Up, Way::Down]
+        .iter()
+        .copied()
+        .find(|way| way_text(*way).as_bytes() == text)
+}

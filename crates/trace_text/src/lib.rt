@@ -1,0 +1,20 @@
+//! A trace's lines: a line becomes an event or its leftmost fault, and an event its line.
+#![tactic(auto)]
+
+mod event_word;
+mod frames;
+mod laws;
+mod names;
+mod numbers;
+mod printing;
+mod reading;
+mod refusal;
+mod words;
+
+pub use laws::{prints_back_law, reads_back_law};
+pub use printing::{EventText, event_text, print};
+pub use reading::line;
+pub use refusal::LineRefusal;
+
+#[cfg(test)]
+mod tests;

@@ -1,0 +1,187 @@
+ghost use Rattle.std.specs.Prelude.{◌≡◌, ◌≤◌, ◌+◌, ◌∷◌, ◌++◌, length, OnOk, OnErr};
+ghost use Rattle.std.specs.Fmt.{signed_decimal};
+ghost use Rattle.std.specs.Io.KnownBytes.{Appends};
+ghost use Rattle.net_plan.specs.Ranges.{IsInRange};
+ghost use Rattle.tte_io.specs.Faults.{Rose, next_count};
+ghost use Rattle.tte_io.specs.Line.{line_limit};
+ghost use Rattle.tte_io.specs.Told.{AppendsFront};
+ghost use Rattle.trace_text.specs.EventLine.{device_name, link_name, what_text, longest_text, event_line};
+ghost use Rattle.trace_text.specs.EventWords.{event_word_text, way_text};
+ghost use Rattle.trace_text.specs.Ranges.{HasDevice, HasLink, IsOfNetwork};
+ghost use Rattle.trace_text.specs.Steps.{space};
+
+use crate::event_word::{EventWord, way_text};
+use net_plan::{DeviceId, Event, LinkId, Network, Way, What};
+use std::marker::Model;
+use tte_io::{LineText, Sink, SinkFailed};
+
+/// The text of an event behind its time, kept in place.
+#[derive(Drop)]
+pub struct EventText {
+    text: LineText,
+}
+
+impl Model for EventText {
+    ghost use Rattle.std.specs.Prelude.{ℕ, ◌≤◌, List, length};
+    ghost use Rattle.trace_text.specs.EventLine.{longest_text};
+
+    ghost Value = { List ℕ };
+
+    ghost view = { λ t. t.text };
+
+    ghost invariant = { λ t. length t.text ≤ longest_text };
+}
+
+impl EventText {
+    /// The text: at most 3,050 octets.
+    pub fn as_slice(&self) -> &[u8]
+        ensures value { result.now ≡ self.now }
+        ensures short { length result.now ≤ longest_text }
+    {
+        self.text.as_slice()
+    }
+}
+
+fn device_name(network: &Network, device: DeviceId) -> &[u8]
+    requires in_range { IsInRange network.now }
+    requires of_network { HasDevice network.now device }
+    ensures text { result.now ≡ device_name network.now device }
+    ensures short { length result.now ≤ 16 }
+{
+    network.device.as_slice()[device.0 as usize].name.as_slice()
+}
+
+fn link_name(network: &Network, link: LinkId) -> &[u8]
+    requires in_range { IsInRange network.now }
+    requires of_network { HasLink network.now link }
+    ensures text { result.now ≡ link_name network.now link }
+    ensures short { length result.now ≤ 16 }
+{
+    network.link.as_slice()[link.0 as usize].name.as_slice()
+}
+
+fn push_number(line: &mut LineText, number: i64)
+    requires { length line.old + 21 ≤ line_limit }
+    ensures text { line.new ≡ line.old ++ signed_decimal number }
+    ensures grows { length line.new ≤ length line.old + 21 }
+{
+    if number < 0 {
+        line.push("-");
+    }
+    line.push_decimal(number.unsigned_abs());
+}
+
+fn push_of_device(line: &mut LineText, word: EventWord, network: &Network, device: DeviceId)
+    requires in_range { IsInRange network.now }
+    requires of_network { HasDevice network.now device }
+    requires room { length line.old + 22 ≤ line_limit }
+    ensures text { line.new ≡ line.old ++ (event_word_text word ++ space ∷ device_name network.now device) }
+    ensures grows { length line.new ≤ length line.old + 22 }
+{
+    line.push(word.text());
+    line.push(" ");
+    line.append(device_name(network, device));
+}
+
+fn push_of_link(line: &mut LineText, word: EventWord, network: &Network, link: LinkId)
+    requires in_range { IsInRange network.now }
+    requires of_network { HasLink network.now link }
+    requires room { length line.old + 22 ≤ line_limit }
+    ensures text { line.new ≡ line.old ++ (event_word_text word ++ space ∷ link_name network.now link) }
+    ensures grows { length line.new ≤ length line.old + 22 }
+{
+    line.push(word.text());
+    line.push(" ");
+    line.append(link_name(network, link));
+}
+
+fn push_way(line: &mut LineText, way: Way)
+    requires { length line.old + 5 ≤ line_limit }
+    ensures text { line.new ≡ line.old ++ space ∷ way_text way }
+    ensures grows { length line.new ≤ length line.old + 5 }
+{
+    line.push(" ");
+    line.push(way_text(way));
+}
+
+// Adds an event's text, which takes at most 3,050 octets.
+#[tactic(auto, unfolding(crate::specs::EventLine::what_text))]
+fn push_what(line: &mut LineText, network: &Network, what: &What)
+    requires in_range { IsInRange network.now }
+    requires of_network { IsOfNetwork network.now what.now }
+    requires room { length line.old + longest_text ≤ line_limit }
+    ensures text { line.new ≡ line.old ++ what_text network.now what.now }
+    ensures grows { length line.new ≤ length line.old + longest_text }
+{
+    match what {
+        What::Rate(device, rate) => {
+            push_of_device(line, EventWord::Rate, network, *device);
+            line.push(" ");
+            push_number(line, rate.0.into());
+        }
+        What::Wire(link, way, delay) => {
+            push_of_link(line, EventWord::Wire, network, *link);
+            push_way(line, *way);
+            line.push(" ");
+            push_number(line, delay.0);
+        }
+        What::Hold(link, way, delay) => {
+            push_of_link(line, EventWord::Hold, network, *link);
+            push_way(line, *way);
+            line.push(" ");
+            push_number(line, delay.0);
+        }
+        What::Cut(link, way) => {
+            push_of_link(line, EventWord::Cut, network, *link);
+            push_way(line, *way);
+        }
+        What::Heal(link, way) => {
+            push_of_link(line, EventWord::Heal, network, *link);
+            push_way(line, *way);
+        }
+        What::On(device) => push_of_device(line, EventWord::On, network, *device),
+        What::Break(device) => push_of_device(line, EventWord::Break, network, *device),
+        What::Send(link, octets) => {
+            push_of_link(line, EventWord::Send, network, *link);
+            line.push(" ");
+            line.push_hex(octets.as_slice());
+        }
+        What::End => line.push(EventWord::End.text()),
+    }
+}
+
+/// The text of what befalls the network: an event's line without its time and the space behind it.
+///
+/// The network is in its ranges, and the device and the link are its own.
+pub fn event_text(network: &Network, what: &What) -> EventText
+    requires in_range { IsInRange network.now }
+    requires of_network { IsOfNetwork network.now what.now }
+    ensures { result ≡ what_text network.now what.now }
+{
+    let mut text = LineText::new();
+    push_what(&mut text, network, what);
+    EventText { text }
+}
+
+/// Puts an event's line, ended by LF, in one put.
+///
+/// The network is in its ranges, and the event's device and link are its own.
+pub fn print<K: Sink>(network: &Network, event: &Event, out: &mut K) -> Result<(), SinkFailed>
+    requires in_range { IsInRange network.now }
+    requires of_network { IsOfNetwork network.now event.now.what }
+
+    ensures all { OnOk result (Appends (K.written out.old) (K.written out.new) (event_line network.now event.now)) }
+    ensures front { OnErr result (AppendsFront (K.written out.old) (K.written out.new) (event_line network.now event.now)) }
+    ensures counted { K.puts out.new ≡ next_count (K.puts out.old) }
+
+    ensures never_falls { K.faults out.old ≤ K.faults out.new }
+    ensures ok_unchanged { OnOk result (K.faults out.new ≡ K.faults out.old) }
+    ensures failed_rose { OnErr result (Rose (K.faults out.old) (K.faults out.new)) }
+{
+    let mut line = LineText::new();
+    push_number(&mut line, event.time.0);
+    line.push(" ");
+    push_what(&mut line, network, &event.what);
+    line.push("\n");
+    out.put(line.as_slice())
+}

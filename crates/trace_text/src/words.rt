@@ -1,0 +1,154 @@
+ghost use Rattle.std.specs.Prelude.{◌≡◌, [], ◌∷◌, ◌<◌, MatchOption, MatchResult, IfOk, IfSome, length, position};
+ghost use Rattle.net_plan.specs.Ranges.{IsInRange};
+ghost use Rattle.trace_text.specs.Ranges.{HasDevice, HasLink, IsTime, IsRate, IsFrame};
+ghost use Rattle.trace_text.specs.Steps.{is_space, words, Reads, line_end};
+ghost use Rattle.trace_text.specs.WordReading.{event_word, units, rate, device, link, way, octets};
+ghost use Rattle.trace_text.specs.declared.refusal.LineRefusal.TheVariants.{Form};
+
+use crate::LineRefusal;
+use crate::event_word::{EventWord, way_spelled};
+use crate::frames::octets_spelled;
+use crate::names::{device_spelled, link_spelled};
+use crate::numbers::{rate_spelled, units_spelled};
+use net_plan::{DeviceId, LinkId, Network, Octets, Way};
+use std::marker::Model;
+use tte_units::{Ppb, Units};
+
+fn first_space(text: &[u8]) -> Option<usize>
+    ensures place { result ≡ position is_space text.now }
+    ensures within { IfSome result (λ place. place < length text.now) }
+{
+    text.iter().position(|octet| *octet == b' ')
+}
+
+/// The words of a line, the texts between its spaces, to be read from the left. Each reader of a
+/// word tells that the line's form is wrong where the line has ended.
+#[derive(Drop)]
+pub(crate) struct Words<'a> {
+    // It is None where the line has ended.
+    left: Option<&'a [u8]>,
+}
+
+impl<'a> Model for Words<'a> {
+    ghost use Rattle.std.specs.Prelude.{ℕ, List};
+    ghost use Rattle.trace_text.specs.WordsLeft.{words_left};
+
+    ghost Value = { List (List ℕ) };
+
+    ghost view = { λ w. words_left w.left };
+}
+
+impl<'a> Words<'a> {
+    /// The words of a line.
+    pub(crate) fn of(line: &'a [u8]) -> Words<'a>
+        ensures { result ≡ words line.now }
+    {
+        Words { left: Some(line) }
+    }
+
+    fn next_word(&mut self) -> Option<&'a [u8]>
+        ensures { MatchOption result ((self.old ≡ []) × (self.new ≡ [])) (λ word. self.old ≡ word.now ∷ self.new) }
+    {
+        let left = self.left?;
+        match first_space(left) {
+            Some(place) => {
+                self.left = Some(&left[place + 1..]);
+                Some(&left[..place])
+            }
+            None => {
+                self.left = None;
+                Some(left)
+            }
+        }
+    }
+
+    fn word(&mut self) -> Result<&'a [u8], LineRefusal>
+        ensures { MatchResult result (λ word. self.old ≡ word.now ∷ self.new) (λ e. (self.old ≡ []) × (self.new ≡ []) × (e ≡ Form)) }
+    {
+        match self.next_word() {
+            Some(word) => Ok(word),
+            None => Err(LineRefusal::Form),
+        }
+    }
+
+    /// The word of an event.
+    #[tactic(auto, unfolding(crate::specs::WordReading::event_word))]
+    pub(crate) fn event_word(&mut self) -> Result<EventWord, LineRefusal>
+        ensures { Reads (event_word self.old) result self.new }
+    {
+        let text = self.word()?;
+        EventWord::spelled(text).ok_or(LineRefusal::Form)
+    }
+
+    /// A time or a delay.
+    #[tactic(auto, unfolding(crate::specs::WordReading::units))]
+    pub(crate) fn units(&mut self) -> Result<Units, LineRefusal>
+        ensures value { Reads (units self.old) result self.new }
+        ensures range { IfOk result IsTime }
+    {
+        let text = self.word()?;
+        units_spelled(text).ok_or(LineRefusal::Number)
+    }
+
+    /// A rate.
+    #[tactic(auto, unfolding(crate::specs::WordReading::rate))]
+    pub(crate) fn rate(&mut self) -> Result<Ppb, LineRefusal>
+        ensures value { Reads (rate self.old) result self.new }
+        ensures range { IfOk result IsRate }
+    {
+        let text = self.word()?;
+        rate_spelled(text).ok_or(LineRefusal::Number)
+    }
+
+    /// The first device of a name.
+    #[tactic(auto, unfolding(crate::specs::WordReading::device))]
+    pub(crate) fn device(&mut self, network: &Network) -> Result<DeviceId, LineRefusal>
+        requires { IsInRange network.now }
+        ensures value { Reads (device network.now self.old) result self.new }
+        ensures of_network { IfOk result (HasDevice network.now) }
+    {
+        let text = self.word()?;
+        device_spelled(network, text).ok_or(LineRefusal::Name)
+    }
+
+    /// The first link of a name.
+    #[tactic(auto, unfolding(crate::specs::WordReading::link))]
+    pub(crate) fn link(&mut self, network: &Network) -> Result<LinkId, LineRefusal>
+        requires { IsInRange network.now }
+        ensures value { Reads (link network.now self.old) result self.new }
+        ensures of_network { IfOk result (HasLink network.now) }
+    {
+        let text = self.word()?;
+        link_spelled(network, text).ok_or(LineRefusal::Name)
+    }
+
+    /// A way of a link.
+    #[tactic(auto, unfolding(crate::specs::WordReading::way))]
+    pub(crate) fn way(&mut self) -> Result<Way, LineRefusal>
+        ensures { Reads (way self.old) result self.new }
+    {
+        let text = self.word()?;
+        way_spelled(text).ok_or(LineRefusal::Form)
+    }
+
+    /// The octets of a frame.
+    #[tactic(auto, unfolding(crate::specs::WordReading::octets))]
+    pub(crate) fn octets(&mut self) -> Result<Octets, LineRefusal>
+        ensures value { Reads (octets self.old) result self.new }
+        ensures range { IfOk result IsFrame }
+    {
+        let text = self.word()?;
+        octets_spelled(text)
+    }
+
+    /// That no word is left.
+    #[tactic(auto, unfolding(crate::specs::Steps::line_end))]
+    pub(crate) fn end(&mut self) -> Result<(), LineRefusal>
+        ensures { Reads (line_end self.old) result self.new }
+    {
+        match self.next_word() {
+            None => Ok(()),
+            Some(_) => Err(LineRefusal::Form),
+        }
+    }
+}
