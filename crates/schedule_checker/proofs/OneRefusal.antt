@@ -61,9 +61,9 @@ same_number n r s i j a b =
     ⊎_elim
     (λ (l : number_of r < number_of s). let z : number_of r ≡ number_of s = absurd (no_earlier n r s i j a b l) in z)
     (λ (g : number_of s ≤ number_of r). ⊎_elim
-      (λ (l : number_of s < number_of r). let z : number_of r ≡ number_of s = absurd (no_earlier n s r j i b a l) in z)
-      (λ (h : number_of r ≤ number_of s). let z : number_of r ≡ number_of s = omega (arith, g, h) in z)
-      (cases_lt (number_of s) (number_of r)))
+    (λ (l : number_of s < number_of r). let z : number_of r ≡ number_of s = absurd (no_earlier n s r j i b a l) in z)
+    (λ (h : number_of r ≤ number_of s). let z : number_of r ≡ number_of s = omega (arith, g, h) in z)
+    (cases_lt (number_of s) (number_of r)))
     (cases_lt (number_of r) (number_of s))
 
 same_place : (n : Network) (r s : Rule) (i j : ℕ) → r ≡ s → IsFirstBroken n r i → IsFirstBroken n s j → i ≡ j
@@ -71,9 +71,9 @@ same_place n r s i j e a b =
     ⊎_elim
     (λ (l : i < j). let z : i ≡ j = absurd (no_sooner n r s i j e a b l) in z)
     (λ (g : j ≤ i). ⊎_elim
-      (λ (l : j < i). let z : i ≡ j = absurd (no_sooner n s r j i (sym e) b a l) in z)
-      (λ (h : i ≤ j). let z : i ≡ j = omega (arith, g, h) in z)
-      (cases_lt j i))
+    (λ (l : j < i). let z : i ≡ j = absurd (no_sooner n s r j i (sym e) b a l) in z)
+    (λ (h : i ≤ j). let z : i ≡ j = omega (arith, g, h) in z)
+    (cases_lt j i))
     (cases_lt i j)
 
 pub refusal_is_one : RefusalIsOne

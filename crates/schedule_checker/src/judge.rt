@@ -6,6 +6,7 @@ ghost use Rattle.schedule_tables.specs.Numbers.{number_of};
 ghost use Rattle.schedule_tables.specs.Rules.{IsKept, IsKeptAt, KeepsBelow, KeepsRules};
 
 use crate::RuleBroken;
+use crate::kept::{keeps_plan_rule, keeps_shape_rule};
 use crate::places::places_of;
 use net_plan::Network;
 use schedule_tables::{Entry, Rule};
@@ -87,22 +88,4 @@ fn broken_plan(rule: Rule, plan: &Plan<'_>) -> Option<u32>
         }
     }
     None
-}
-
-fn keeps_shape_rule(rule: Rule, network: &Network, place: u32) -> bool
-    requires range { IsInRange network.now }
-    requires shape { IsShapeRule rule }
-    requires place { place < places_of rule network.now }
-    ensures { IsTrue result ↔ IsKeptAt rule network.now place }
-{
-    true
-}
-
-fn keeps_plan_rule(rule: Rule, plan: &Plan<'_>, place: u32) -> bool
-    requires plan { IsPlan plan.now }
-    requires behind { 8 ≤ number_of rule }
-    requires place { place < places_of rule plan.now.network.now }
-    ensures { IsTrue result ↔ IsKeptAt rule plan.now.network.now place }
-{
-    true
 }

@@ -1,17 +1,18 @@
 //! Judges a network by all its rules.
 #![tactic(auto)]
 
+mod both_channels;
 mod checker;
 mod judge;
+mod kept;
 mod laws;
 mod places;
+mod ports;
 mod refusal;
+mod routes;
 mod shape;
 mod timing;
 mod virtual_links;
-mod both_channels;
-mod ports;
-mod routes;
 
 pub use checker::check;
 pub use laws::refusal_is_one;

@@ -1,0 +1,24 @@
+use Rattle.std.proofs.Common.{◌≡◌, ℕ, Bool, sym, subst, IsTrue, ◌↔◌}
+use Rattle.net_plan.specs.declared.network.Network.{Network}
+use Rattle.schedule_tables.specs.Rules.{IsKeptAt}
+use Rattle.schedule_tables.specs.declared.rule.Rule.{Rule}
+use Rattle.schedule_checker.proofs.kept.keeps_plan_rule.Goals as goal
+
+-- the test of a rule is the test of an equal one
+same_test : (r s : Rule) (n : Network) (place : ℕ) (b : Bool) → r ≡ s → (IsTrue b ↔ IsKeptAt s n place) → (IsTrue b ↔ IsKeptAt r n place)
+same_test r s n place b e h = subst (λ (x : Rule). IsTrue b ↔ IsKeptAt x n place) (sym e) h
+
+pub returns-in-Delays : goal.returns-in-Delays
+returns-in-Delays c = same_test _ _ _ _ _ c.in-Delays.is c.delays_fit.ensures
+
+pub returns-in-Settling : goal.returns-in-Settling
+returns-in-Settling c = same_test _ _ _ _ _ c.in-Settling.is c.errors_settle.ensures
+
+pub returns-in-VlNamesDiffer : goal.returns-in-VlNamesDiffer
+returns-in-VlNamesDiffer c = same_test _ _ _ _ _ c.in-VlNamesDiffer.is c.vl_name_is_new.ensures
+
+pub returns-in-VlIdsDiffer : goal.returns-in-VlIdsDiffer
+returns-in-VlIdsDiffer c = same_test _ _ _ _ _ c.in-VlIdsDiffer.is c.vl_id_is_new.ensures
+
+pub returns-in-LinksOnce : goal.returns-in-LinksOnce
+returns-in-LinksOnce c = same_test _ _ _ _ _ c.in-LinksOnce.is c.goes_once_by_link.ensures
