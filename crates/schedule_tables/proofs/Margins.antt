@@ -82,7 +82,7 @@ All-from_places : {X : Type 0} (P : X → Type 0) (xs : List X) → ((i : ℕ) (
 All-from_places P xs h = λ k d below. h k (get_or xs k d) (slice_get-get_or xs k d below)
 
 -- the rules of a network's shape are among the rules
-shape_rules : (n : Network) → KeepsRules n → KeepsShapeRules n
+pub shape_rules : (n : Network) → KeepsRules n → KeepsShapeRules n
 shape_rules n keeps = record {
   limits = keeps Limits;
   devices = keeps DevicesDiffer;

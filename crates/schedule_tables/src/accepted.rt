@@ -1,8 +1,9 @@
 ghost use Rattle.std.specs.Prelude.{◌≡◌};
+ghost use Rattle.net_plan.specs.Paths.{IsTree};
 ghost use Rattle.net_plan.specs.Ranges.{IsInRange};
 ghost use Rattle.schedule_tables.specs.Rules.{KeepsRules};
 
-use net_plan::Network;
+use net_plan::{Network, rules_give_trees};
 use std::marker::Model;
 
 /// A network that keeps all rules, so that the guarantees hold for it.
@@ -38,7 +39,9 @@ impl Accepted {
         ensures value { result.now ≡ self.now }
         ensures range { IsInRange self.now }
         ensures rules { KeepsRules self.now }
+        ensures tree { IsTree self.now }
     {
+        rules_give_trees();
         &self.network
     }
 }
