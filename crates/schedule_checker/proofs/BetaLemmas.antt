@@ -15,7 +15,7 @@ use Rattle.tte_units.specs.declared.units.Units.{Units}
 pub beta_is_whole : (n : Network) (beta : Units) → IsBeta n beta.0 → beta.0 ≡ pos (amount beta)
 beta_is_whole n beta h = h.value ∙ ap pos (sym (ap unsigned_abs h.value))
 
--- a property of the one beta
+-- what holds of the one beta holds of each, and back
 pub at_beta : (P : ℕ → Type 0) (n : Network) (beta : Units) → BetaIsUnique → IsBeta n beta.0 → P (amount beta) → (other : ℕ) → IsBeta n (pos other) → P other
 at_beta P n beta one h p other g = subst P (ap unsigned_abs (one n beta.0 (pos other) h g)) p
 
@@ -27,6 +27,7 @@ both : (n : Network) (b : ℕ) (d : DeviceId) → DelaysFitOn n b A d → Delays
 both n b d on_a on_b A = on_a
 both n b d on_a on_b B = on_b
 
+-- the rule of delays, from both channels and back
 pub delays_from_channels : (n : Network) (beta : Units) (b place : ℕ) → b ≡ amount beta → BetaIsUnique → IsBeta n beta.0 → DelaysFitOn n b A (record { 0 = place }) → DelaysFitOn n b B (record { 0 = place }) → DelaysFit n place
 delays_from_channels n beta b place e one h on_a on_b other channel links is member path =
     let fits : ℕ → Type 0 = λ x. (c : Channel) → DelaysFitOn n x c (record { 0 = place }) in
@@ -37,7 +38,7 @@ delays_on_channel n beta b place e h all =
     let fits : ℕ → Type 0 = λ x. (c : Channel) → DelaysFitOn n x c (record { 0 = place }) in
     subst fits (sym e) (of_beta fits n beta h (λ other is c links member path. all other c links is member path))
 
--- the precision fits where it does at this beta
+-- the rule of the precision, from its errors at this beta and back
 pub precision_from_errors : (n : Network) (beta : Units) → BetaIsUnique → IsBeta n beta.0 → amount n.settled + 2 * errors_of n (amount beta) ≤ amount n.precision → amount n.calc ≤ amount n.precision → PrecisionFits n
 precision_from_errors n beta one h errors calc = record {
   errors = λ other is. omega (arith, at_beta (λ b. amount n.settled + 2 * errors_of n b ≤ amount n.precision) n beta one h errors other is);

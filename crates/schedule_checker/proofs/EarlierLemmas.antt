@@ -20,9 +20,10 @@ IsCompared mark xs place x b =
     ((k : ℕ) × (k < length (take place xs)) × HoldsAt (λ e. mark e ≡ mark x) (take place xs) k)
 
 -- an option holds one value
-pub one_value : {X : Type 0} (o : Option X) (x y : X) → o ≡ Some x → o ≡ Some y → x ≡ y
+one_value : {X : Type 0} (o : Option X) (x y : X) → o ≡ Some x → o ≡ Some y → x ≡ y
 one_value o x y p q = cc
 
+-- the answer decides whether the mark is new
 pub new_from_all : {X Y : Type 0} (mark : X → Y) (xs : List X) (place : ℕ) (x : X) (b : Bool) → slice_get xs place ≡ Some x → IsCompared mark xs place x b → (IsTrue b → IsNewAt mark xs place) × (IsNewAt mark xs place → IsTrue b)
 new_from_all mark xs place x true at all = (
   λ t k e y below here there same.

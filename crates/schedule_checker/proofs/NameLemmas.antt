@@ -11,10 +11,12 @@ use Rattle.net_plan.specs.Padding.{padded}
 abbrev pub same_padded : ℕ → List ℕ → List ℕ → Bool
 same_padded size xs ys = pointwise eqb (padded size xs) (padded size ys) && eqb (length xs) (length ys)
 
+-- names of one length that are equal with zeros behind them are equal
 one_text : (size : ℕ) (xs ys : List ℕ) → padded size xs ≡ padded size ys → length xs ≡ length ys → xs ≡ ys
 one_text size xs ys same long =
     sym (take-append_seam xs _) ∙ ap (take (length xs)) same ∙ ap (λ n. take n (padded size ys)) long ∙ take-append_seam ys _
 
+-- `==` decides whether names are equal
 pub decides_name : (size : ℕ) (xs ys : List ℕ) (r : Bool) → r ≡ same_padded size xs ys → Decides r (xs ≡ ys)
 decides_name size xs ys r e =
     let parts = Decides-and (pointwise eqb (padded size xs) (padded size ys)) (eqb (length xs) (length ys)) (bytes_eq-Decides (padded size xs) (padded size ys)) (Decides-eqb (length xs) (length ys)) in
