@@ -11,9 +11,9 @@ use Rattle.net_plan.specs.declared.tables.Row.{Row}
 use Rattle.schedule_tables.proofs.OrderLemmas.{same_or_below}
 use Rattle.schedule_tables.specs.Dispatches.{IsBelow, place_of, ComesBehind, IsDispatched, IsNextRow, HasNoNextRow}
 use Rattle.schedule_tables.specs.Entries.{IsEntry}
-use Rattle.schedule_tables.specs.Places.{Follows, HasNoNextSlot, IsBehind, IsNextSlot, numbers_of, place_by}
+use Rattle.schedule_tables.specs.Slots.{AreSlotsOf, Follows, HasNoNextSlot, IsBehind, IsNextSlot, IsSlotOf, numbers_of, place_by}
 use Rattle.schedule_tables.specs.Schedule.{HasPeriod}
-use Rattle.schedule_tables.specs.TablesOf.{IsSlotOf, AreSlotsOf, AreTimedRows}
+use Rattle.schedule_tables.specs.TablesOf.{AreTimedRows}
 use Rattle.schedule_tables.specs.declared.entry.Entry.{Entry}
 use Rattle.schedule_tables.specs.declared.slot.Place.{Place}
 use Rattle.schedule_tables.specs.declared.slot.Slot.{Slot}
@@ -96,9 +96,9 @@ follows n device cycle after place row is of behind = record {
 }
 
 -- the next slot is that of the next row
-pub next_row : (n : Network) (device : DeviceId) (cycle : ℕ) (after : Option RowId) (place : Option Place) (slots : List Slot) (s : Slot) → 1 ≤ cycle → AreSlotsOf n slots → ((k : ℕ) → HasPeriod n k)
+pub is_next_row : (n : Network) (device : DeviceId) (cycle : ℕ) (after : Option RowId) (place : Option Place) (slots : List Slot) (s : Slot) → 1 ≤ cycle → AreSlotsOf n slots → ((k : ℕ) → HasPeriod n k)
     → IsPlaceOfRow n after place → IsNextSlot slots device (cycle % 64) place s → IsNextRow n device cycle after s.place.row
-next_row n device cycle after place slots s begun are periods of next =
+is_next_row n device cycle after place slots s begun are periods of next =
     let is = All-contains (IsSlotOf n) slots s are.sound next.there in
     let place_of_s : place_of n s.place.row ≡ numbers_of s.place = place_is n s.place.row is.entry is.is ∙ ap numbers_of (sym is.place) in
     record {
@@ -124,8 +124,8 @@ next_row n device cycle after place slots s begun are periods of next =
     }
 
 -- where there is no next slot, there is no next row
-pub no_next_row : (n : Network) (device : DeviceId) (cycle : ℕ) (after : Option RowId) (place : Option Place) (slots : List Slot) → AreSlotsOf n slots → ((k : ℕ) → HasPeriod n k)
+pub has_no_next_row : (n : Network) (device : DeviceId) (cycle : ℕ) (after : Option RowId) (place : Option Place) (slots : List Slot) → AreSlotsOf n slots → ((k : ℕ) → HasPeriod n k)
     → IsPlaceOfRow n after place → HasNoNextSlot slots device (cycle % 64) place → HasNoNextRow n device cycle after
-no_next_row n device cycle after place slots are periods of none row is behind =
+has_no_next_row n device cycle after place slots are periods of none row is behind =
     let t = slot_of n device cycle row is in
     none t (are.complete t (is_slot n device cycle row is periods)) (follows n device cycle after place row is of behind)

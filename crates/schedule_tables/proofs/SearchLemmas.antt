@@ -7,7 +7,7 @@ use Rattle.std.proofs.lemmas.Option.{slice_get_read, get_or_from_slice_get}
 use Rattle.net_plan.specs.declared.ids.DeviceId.{DeviceId}
 use Rattle.schedule_tables.proofs.OrderLemmas.{below_itself, StandsBehind, passed, passed_first, passed_true, passed_false}
 use Rattle.schedule_tables.specs.Dispatches.{IsBelow}
-use Rattle.schedule_tables.specs.Places.{AreInOrder, Follows, HasNoNextSlot, IsBehind, IsNextSlot, key_of, numbers_of}
+use Rattle.schedule_tables.specs.Slots.{AreInOrder, Follows, HasNoNextSlot, IsBehind, IsNextSlot, key_of, numbers_of}
 use Rattle.schedule_tables.specs.declared.slot.Place.{Place}
 use Rattle.schedule_tables.specs.declared.slot.Slot.{Slot}
 
@@ -96,9 +96,9 @@ least slots device residue place start ends s at t has f below =
     (before_or_same start has.0 (not_before slots device residue place start ends t has f))
 
 -- the slot at the end, where it is one of the device's in the residue, is the next
-pub next_slot : (slots : List Slot) (device : DeviceId) (residue : ℕ) (place : Option Place) (start : ℕ) → Ends slots device residue place start
+pub is_next_slot : (slots : List Slot) (device : DeviceId) (residue : ℕ) (place : Option Place) (start : ℕ) → Ends slots device residue place start
     → (s : Slot) → start < length slots → s ≡ get_or slots start s → s.device.0 ≡ device.0 → s.residue ≡ residue → IsNextSlot slots device residue place s
-next_slot slots device residue place start ends s within found same_device r =
+is_next_slot slots device residue place start ends s within found same_device r =
     let at = slice_get_read slots (length slots) start s refl within found in
     let d : s.device ≡ device = ap device_id same_device in
     let first = get_or_from_slice_get slots start s s at in

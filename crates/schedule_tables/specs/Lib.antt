@@ -6,5 +6,5 @@ pub mod Numbers
 pub mod Rules
 pub mod Dispatches
 pub mod Margins
-pub mod Places
+pub mod Slots
 pub mod TablesOf

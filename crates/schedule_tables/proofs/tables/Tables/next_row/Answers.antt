@@ -1,6 +1,7 @@
 use Rattle.std.proofs.Common.{length, arith}
-use Rattle.schedule_tables.proofs.NextLemmas.{IsPlaceOfRow, some_place, no_place, next_row, no_next_row}
-use Rattle.schedule_tables.specs.TablesOf.{AreTimedRows, AreSlotsOf}
+use Rattle.schedule_tables.proofs.NextLemmas.{IsPlaceOfRow, some_place, no_place, is_next_row, has_no_next_row}
+use Rattle.schedule_tables.specs.Slots.{AreSlotsOf}
+use Rattle.schedule_tables.specs.TablesOf.{AreTimedRows}
 use Rattle.schedule_tables.proofs.tables.Tables.next_row.Goals as goal
 use Rattle.schedule_tables.proofs.tables.Tables.next_row.Goals.{in-Some+in_ok-get-in-Some, in-None}
 
@@ -17,7 +18,7 @@ returns-clause-next c n tables =
       | in-None w ↦ no_place n after place w.in-None.is w.place-is
     ] in
     let slots : AreSlotsOf n c.deref-2.result.now = rw c.deref-2.ensures.value tables.slots in
-    next_row n c.args.device c.args.cycle after place c.deref-2.result.now c.in_ok-next.next (omega arith) slots tables.periods of (c.in_ok-next.ensures.next slots.order)
+    is_next_row n c.args.device c.args.cycle after place c.deref-2.result.now c.in_ok-next.next (omega arith) slots tables.periods of (c.in_ok-next.ensures.next slots.order)
 
 pub returns-in_err-next-clause-none : goal.returns-in_err-next-clause-none
 returns-in_err-next-clause-none c n tables =
@@ -32,4 +33,4 @@ returns-in_err-next-clause-none c n tables =
       | in-None w ↦ no_place n after place w.in-None.is w.place-is
     ] in
     let slots : AreSlotsOf n c.deref-2.result.now = rw c.deref-2.ensures.value tables.slots in
-    rw c.from_residual-in_err-next.ensures (no_next_row n c.args.device c.args.cycle after place c.deref-2.result.now slots tables.periods of (c.in_err-next.ensures.none slots.order))
+    rw c.from_residual-in_err-next.ensures (has_no_next_row n c.args.device c.args.cycle after place c.deref-2.result.now slots tables.periods of (c.in_err-next.ensures.none slots.order))
