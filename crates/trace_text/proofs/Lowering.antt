@@ -43,6 +43,7 @@ use Rattle.trace_text.specs.declared.refusal.LineRefusal.TheVariants.{Form, Name
 use Rattle.tte_units.specs.Amount.{units_of}
 use Rattle.tte_units.specs.declared.rates.Ppb.{Ppb}
 use Rattle.tte_units.specs.declared.units.Units.{Units}
+use Rattle.trace_text.proofs.WordsBack.{minus_some, in_list}
 
 -- a text in lower case
 abbrev pub lower : List ℕ → List ℕ
@@ -131,11 +132,6 @@ pub units_forth : (ws : Words) (u : Units) (left : Words) → units ws ≡ Ok (u
 unfolding units
 units_forth ws u left e = word_forth (λ text. ok_or (units_spelled text) Number) (λ v. signed_decimal v.0) units_text ws u left e
 
-minus_some : (n : ℕ) → minus (suc n) ≡ Some (ppb_of (negsuc n))
-minus_some n =
-    let some : (suc n == 0) ≡ false = grind (arith, nat_tests) in
-    rw some refl
-
 minus_case : (n : ℕ) (r : Ppb) → minus n ≡ Some r → signed_decimal r.0 ≡ 45 ∷ decimal n
 minus_case zero r e = absurd (cc e)
 minus_case (suc n) r e = ap (λ (o : Option Ppb). signed_decimal (option_map_or (λ p. p.0) o (pos 0))) (sym e ∙ minus_some n)
@@ -183,9 +179,6 @@ place_bears names text i e =
     let f = found_at 0 names text i e in
     let same : f.0 ≡ i = omega (arith, f.1) in
     subst (λ (k : ℕ). slice_get names k ≡ Some text) same f.2
-
-in_list : {X : Type 0} (P : X → Type 0) (xs : List X) (i : ℕ) (x : X) → slice_get xs i ≡ Some x → All P xs → P x
-in_list P xs i x here all = subst P (get_or_from_slice_get xs i x x here) (all i x (slice_get_within xs i x here))
 
 device_spells : (network : Network) → IsInRange network → (text : List ℕ) (d : DeviceId) → device_spelled network text ≡ Some d → device_name network d ≡ lower text
 unfolding device_spelled

@@ -69,8 +69,9 @@ rate_of_digits (first ∷ rest) digits some =
     let plain : first ≢ 45 = λ e. absurd (grind (arith, nat_tests, digits.0)) in
     grind (arith, nat_tests, plain)
 
-minus_more : (n : ℕ) → minus (suc n) ≡ Some (ppb_of (negsuc n))
-minus_more n =
+-- a rate below 0 has a sign
+pub minus_some : (n : ℕ) → minus (suc n) ≡ Some (ppb_of (negsuc n))
+minus_some n =
     let some : (suc n == 0) ≡ false = grind (arith, nat_tests) in
     rw some refl
 
@@ -78,7 +79,7 @@ rate_read : (z : ℤ) → neg_ℤ (pos fastest) ≤ℤ z → z ≤ℤ pos fastes
 rate_read (pos n) least most =
     let numeral = (decimal_is_IsNumeral n (omega (arith, ints, most))).0 in
     rate_of_digits (decimal n) numeral.1 numeral.0 ∙ ap (option_map (λ m. ppb_of (pos m))) (number_of_decimal fastest n (omega arith) (omega (arith, ints, most)))
-rate_read (negsuc n) least most = ap (option_and_then minus) (number_of_decimal fastest (suc n) (omega arith) (omega (arith, ints, least))) ∙ minus_more n
+rate_read (negsuc n) least most = ap (option_and_then minus) (number_of_decimal fastest (suc n) (omega arith) (omega (arith, ints, least))) ∙ minus_some n
 
 pub rate_back : (r : Ppb) (left : Words) → IsRate r → rate (signed_decimal r.0 ∷ left) ≡ Ok (r, left)
 unfolding rate
@@ -127,7 +128,7 @@ pub link_back : (network : Network) (l : LinkId) (left : Words) → ((i : ℕ) �
 unfolding link
 link_back network l left new of_network = ap (λ (o : Option LinkId). with_rest left (ok_or o Name)) (link_read network l new of_network)
 
-in_list : {X : Type 0} (P : X → Type 0) (xs : List X) (i : ℕ) (x : X) → slice_get xs i ≡ Some x → All P xs → P x
+pub in_list : {X : Type 0} (P : X → Type 0) (xs : List X) (i : ℕ) (x : X) → slice_get xs i ≡ Some x → All P xs → P x
 in_list P xs i x here all = subst P (get_or_from_slice_get xs i x x here) (all i x (slice_get_within xs i x here))
 
 pub device_is_word : (network : Network) (d : DeviceId) → IsInRange network → HasDevice network d → IsWord (device_name network d)

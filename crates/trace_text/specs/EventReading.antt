@@ -1,4 +1,16 @@
--- The event of a trace's line.
+-- The event of a trace's line. A line is a list of words with single spaces between them:
+--
+--     TIME rate DEVICE PPB          from TIME on the device's clock has this rate
+--     TIME wire LINK WAY UNITS      the way of the link has this wire delay
+--     TIME hold LINK WAY UNITS      its sender holds a frame so long
+--     TIME cut LINK WAY             it carries nothing
+--     TIME heal LINK WAY            it carries frames again
+--     TIME on DEVICE                the device is turned on
+--     TIME break DEVICE             the device breaks
+--     TIME send LINK HEX            the broken master puts these octets on the link
+--     TIME end                      nothing befalls the network any more
+--
+-- The line is judged word by word from the left.
 use Rattle.std.specs.Prelude.{ℕ, List}
 use Rattle.net_plan.specs.declared.event.Event.{Event}
 use Rattle.net_plan.specs.declared.event.What.{What}
@@ -9,7 +21,7 @@ use Rattle.trace_text.specs.WordReading.{event_word, units, rate, device, link, 
 use Rattle.trace_text.specs.declared.event_word.EventWord.{EventWord}
 use Rattle.trace_text.specs.declared.event_word.EventWord.TheVariants.{Rate, Wire, Hold, Cut, Heal, On, Break, Send, End}
 
--- the words behind the event's
+-- what befalls the network, by the words behind the event's word
 unfoldable pub what_behind : Network → EventWord → Reader What
 what_behind network Rate = do d ← device network; r ← rate; give (events.Rate d r)
 what_behind network Wire = do l ← link network; w ← way; u ← units; give (events.Wire l w u)
@@ -21,7 +33,7 @@ what_behind network Break = do d ← device network; give (events.Break d)
 what_behind network Send = do l ← link network; o ← octets; give (events.Send l o)
 what_behind network End = give events.End
 
--- the words of an event
+-- the whole line
 unfoldable pub event_reader : Network → Reader Event
 event_reader network = do
   time ← units

@@ -11,9 +11,11 @@ use Rattle.net_plan.specs.declared.network.Network.{Network}
 abbrev pub first_place : List (List ℕ) → List ℕ → Option ℕ
 first_place names text = position_from (bytes_eq text) 0 names
 
+-- the id of the device at this place
 abbrev pub device_id : ℕ → DeviceId
 device_id i = record { 0 = i }
 
+-- the id of the link at this place
 abbrev pub link_id : ℕ → LinkId
 link_id i = record { 0 = i }
 

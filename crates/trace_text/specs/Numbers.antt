@@ -6,7 +6,7 @@ use Rattle.tte_units.specs.Amount.{units_of}
 use Rattle.tte_units.specs.declared.rates.Ppb.{Ppb}
 use Rattle.tte_units.specs.declared.units.Units.{Units}
 
--- the number whose decimal the text is, where it has one and that is at most this
+-- the number whose decimal the text is, if there is one and it is at most this
 abbrev pub number_up_to : ℕ → List ℕ → Option ℕ
 number_up_to most text =
     let n = digits_value 10 text in

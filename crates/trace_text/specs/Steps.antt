@@ -12,6 +12,7 @@ Words = List (List ℕ)
 abbrev pub space : ℕ
 space = 32
 
+-- the octet is a space
 abbrev pub is_space : ℕ → Bool
 is_space octet = octet == space
 
@@ -27,11 +28,12 @@ Read A = Result A LineRefusal
 abbrev pub Reader : Type 0 → Type 0
 Reader A = Words → Read (A × Words)
 
--- the second reading goes on where the first one stopped, unless that found a fault
+-- go on with what was read and the words that it left, or stop at the fault
 abbrev pub and_then : {A B : Type 0} → Read (A × Words) → (A → Reader B) → Read (B × Words)
 and_then (Ok step) next = next step.0 step.1
 and_then (Err fault) next = Err fault
 
+-- one reading and then another, by what the first one read
 infixl 10 ◌>>=◌
 abbrev pub ◌>>=◌ : {A B : Type 0} → Reader A → (A → Reader B) → Reader B
 (first >>= next) left = and_then (first left) next

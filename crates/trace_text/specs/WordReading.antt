@@ -20,11 +20,11 @@ use Rattle.tte_units.specs.declared.units.Units.{Units}
 unfoldable pub event_word : Reader EventWord
 event_word = next_word (λ text. ok_or (event_word_spelled text) Form)
 
--- TIME and UNITS: from 0 to 2^60 units
+-- TIME and UNITS: from 0 to 2^60 units of 2^-16 ns, in decimal
 unfoldable pub units : Reader Units
 units = next_word (λ text. ok_or (units_spelled text) Number)
 
--- PPB: from -10^9 to 10^9 parts per 10^9
+-- PPB: from -10^9 to 10^9 parts per 10^9, in decimal
 unfoldable pub rate : Reader Ppb
 rate = next_word (λ text. ok_or (rate_spelled text) Number)
 
@@ -49,6 +49,6 @@ frame_of (Err e) = Err Hex
 unfoldable pub octets_spelled : List ℕ → Read (List ℕ)
 octets_spelled text = frame_of (decode_of text)
 
--- HEX: the octets of a frame
+-- HEX: the octets of a frame in hexadecimal
 unfoldable pub octets : Reader (List ℕ)
 octets = next_word octets_spelled

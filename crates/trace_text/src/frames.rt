@@ -7,9 +7,10 @@ ghost use Rattle.trace_text.specs.WordReading.{octets_spelled};
 use crate::LineRefusal;
 use net_plan::Octets;
 
-/// The shortest and the longest frame, in octets without the check sequence.
+/// The shortest frame, in octets without its check sequence.
 const SHORTEST: usize = 60;
 
+/// The longest frame, in octets without its check sequence.
 const LONGEST: usize = 1514;
 
 fn is_hexadecimal(text: &[u8]) -> bool

@@ -95,11 +95,14 @@ fn push_of_link(line: &mut LineText, word: EventWord, network: &Network, link: L
     line.append(link_name(network, link));
 }
 
-fn push_way(line: &mut LineText, way: Way)
-    requires { length line.old + 5 ≤ line_limit }
-    ensures text { line.new ≡ line.old ++ space ∷ way_text way }
-    ensures grows { length line.new ≤ length line.old + 5 }
+fn push_of_way(line: &mut LineText, word: EventWord, network: &Network, link: LinkId, way: Way)
+    requires in_range { IsInRange network.now }
+    requires of_network { HasLink network.now link }
+    requires room { length line.old + 27 ≤ line_limit }
+    ensures text { line.new ≡ line.old ++ (event_word_text word ++ space ∷ (link_name network.now link ++ space ∷ way_text way)) }
+    ensures grows { length line.new ≤ length line.old + 27 }
 {
+    push_of_link(line, word, network, link);
     line.push(" ");
     line.push(way_text(way));
 }
@@ -120,25 +123,17 @@ fn push_what(line: &mut LineText, network: &Network, what: &What)
             push_number(line, rate.0.into());
         }
         What::Wire(link, way, delay) => {
-            push_of_link(line, EventWord::Wire, network, *link);
-            push_way(line, *way);
+            push_of_way(line, EventWord::Wire, network, *link, *way);
             line.push(" ");
             push_number(line, delay.0);
         }
         What::Hold(link, way, delay) => {
-            push_of_link(line, EventWord::Hold, network, *link);
-            push_way(line, *way);
+            push_of_way(line, EventWord::Hold, network, *link, *way);
             line.push(" ");
             push_number(line, delay.0);
         }
-        What::Cut(link, way) => {
-            push_of_link(line, EventWord::Cut, network, *link);
-            push_way(line, *way);
-        }
-        What::Heal(link, way) => {
-            push_of_link(line, EventWord::Heal, network, *link);
-            push_way(line, *way);
-        }
+        What::Cut(link, way) => push_of_way(line, EventWord::Cut, network, *link, *way),
+        What::Heal(link, way) => push_of_way(line, EventWord::Heal, network, *link, *way),
         What::On(device) => push_of_device(line, EventWord::On, network, *device),
         What::Break(device) => push_of_device(line, EventWord::Break, network, *device),
         What::Send(link, octets) => {
