@@ -3,7 +3,6 @@ pub mod Told
 pub mod Trees
 pub mod OneRefusal
 pub mod ShapeLists
-pub mod ShapeNames
 pub mod ShapeTests
 pub mod ShapePaths
 pub mod ShapePairs

@@ -1,8 +1,8 @@
 -- A network has one first broken rule.
-use Rattle.std.proofs.Common.{◌≡◌, ◌⊎◌, ⊎_elim, ℕ, ◌-◌, ◌<◌, ◌≤◌, List, [], ◌∷◌, get_or, refl, ap, sym, ◌∙◌, subst, arith}
+use Rattle.std.proofs.Common.{◌≡◌, ⊎_elim, ℕ, ◌-◌, ◌<◌, ◌≤◌, List, [], ◌∷◌, get_or, refl, ap, sym, ◌∙◌, subst, arith}
 use Rattle.std.proofs.lemmas.Bool.{cases_lt}
 use Rattle.net_plan.specs.declared.network.Network.{Network}
-use Rattle.schedule_checker.specs.Refusals.{TellsFirstBroken, RefusalIsOne}
+use Rattle.schedule_checker.specs.Refusals.{RefusalIsOne}
 use Rattle.schedule_checker.specs.declared.refusal.RuleBroken.{RuleBroken}
 use Rattle.schedule_tables.specs.Numbers.{number_of}
 use Rattle.schedule_tables.specs.Rules.{IsKeptAt, IsFirstBroken}

@@ -1,5 +1,5 @@
 -- The first rule that is broken is told.
-use Rattle.std.proofs.Common.{◌≡◌, ℕ, zero, suc, ◌+◌, ◌<◌, ◌≤◌, List, [], ◌∷◌, length, get_or, refl, arith}
+use Rattle.std.proofs.Common.{◌≡◌, ℕ, zero, suc, ◌+◌, ◌<◌, List, [], ◌∷◌, length, get_or, refl, arith}
 use Rattle.net_plan.specs.declared.network.Network.{Network}
 use Rattle.schedule_checker.specs.Judging.{BreaksAt}
 use Rattle.schedule_checker.specs.Refusals.{TellsFirstBroken}

@@ -5,7 +5,8 @@ ghost use Rattle.schedule_tables.specs.Entries.{AreEntries};
 ghost use Rattle.schedule_tables.specs.Schedule.{EntersOn, GoesByBothChannels, LeavesOn};
 ghost use Rattle.schedule_checker.specs.Routes.{EntersAlike, EntersAllAlike, EntersEndSystem, LeavesOnBoth};
 
-use crate::routes::{is_end_system, is_on_channel};
+use crate::roles::is_end_system;
+use crate::routes::is_on_channel;
 use net_plan::{DeviceId, Network, VlId};
 use pcf_values::Channel;
 use schedule_tables::{Entry, entries_law};

@@ -9,6 +9,7 @@ mod laws;
 mod places;
 mod ports;
 mod refusal;
+mod roles;
 mod routes;
 mod shape;
 mod timing;

@@ -1,12 +1,12 @@
 //! The rules of the ways by which a virtual link's frames go.
 ghost use Rattle.std.specs.Prelude.{◌≡◌, ◌≢◌, ◌<◌, ◌↔◌, ℕ, All, IsTrue, length};
-ghost use Rattle.net_plan.specs.Places.{IsEndSystem};
 ghost use Rattle.net_plan.specs.Ranges.{IsInRange};
 ghost use Rattle.schedule_tables.specs.Entries.{AreEntries, IsOnChannel};
-ghost use Rattle.schedule_tables.specs.Schedule.{EntersAnew, GoesOnceByLink, HasSource, IsSwitch};
+ghost use Rattle.schedule_tables.specs.Schedule.{EntersAnew, GoesOnceByLink, HasSource};
 ghost use Rattle.schedule_checker.specs.Routes.{EntersAgain, IsEnteredElsewhere, ShareChannel};
 
-use net_plan::{DeviceId, Network, Row};
+use crate::roles::{is_end_system, is_switch};
+use net_plan::{Network, Row};
 use pcf_values::Channel;
 use schedule_tables::{Entry, entries_law};
 
@@ -102,24 +102,4 @@ pub(crate) fn is_on_channel(network: &Network, channel: Channel, entry: &Entry) 
     ensures { IsTrue result ↔ IsOnChannel network.now channel entry.now }
 {
     network.is_switch_of(entry.link.parent, channel)
-}
-
-/// Is the device an end system?
-pub(crate) fn is_end_system(network: &Network, device: DeviceId) -> bool
-    ensures { IsTrue result ↔ IsEndSystem network.now device }
-{
-    match network.device.as_slice().get(device.0 as usize) {
-        Some(found) => found.role.is_end_system(),
-        None => false,
-    }
-}
-
-/// Is the device a switch?
-fn is_switch(network: &Network, device: DeviceId) -> bool
-    ensures { IsTrue result ↔ IsSwitch network.now device }
-{
-    match network.device.as_slice().get(device.0 as usize) {
-        Some(found) => !found.role.is_end_system(),
-        None => false,
-    }
 }

@@ -1,9 +1,9 @@
 ghost use Rattle.std.specs.Prelude.{◌≡◌, ◌<◌, ◌↔◌, IsTrue, [], ◌∷◌, Some, length, slice_get};
 ghost use Rattle.std.specs.List.{Contains};
-ghost use Rattle.net_plan.specs.Places.{IsEndSystem};
 ghost use Rattle.schedule_tables.specs.Schedule.{HasEndSystemAsSender, HasPeriod, VlIdIsNew, VlNameIsNew};
 
-use net_plan::{DeviceId, Network, VirtualLink};
+use crate::roles::is_end_system;
+use net_plan::{Network, VirtualLink};
 
 /// The periods that a virtual link may have, in cycles.
 const PERIODS: [u32; 7] = [1, 2, 4, 8, 16, 32, 64];
@@ -65,16 +65,6 @@ pub(crate) fn has_end_system_as_sender(network: &Network, place: u32) -> bool
     ensures { IsTrue result ↔ HasEndSystemAsSender network.now place }
 {
     is_end_system(network, vl_at(network, place).sender)
-}
-
-/// Is the device an end system?
-fn is_end_system(network: &Network, device: DeviceId) -> bool
-    ensures { IsTrue result ↔ IsEndSystem network.now device }
-{
-    match network.device.as_slice().get(device.0 as usize) {
-        Some(found) => found.role.is_end_system(),
-        None => false,
-    }
 }
 
 /// The virtual link at the place.

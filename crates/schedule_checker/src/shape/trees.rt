@@ -1,10 +1,11 @@
 ghost use Rattle.std.specs.Prelude.{◌≡◌, ◌<◌, ◌↔◌, IsTrue, Some, length};
 ghost use Rattle.net_plan.specs.Paths.{IsUplink};
-ghost use Rattle.net_plan.specs.Places.{IsCmOf, IsEndSystem, IsRoleOf, IsSwitchOf};
+ghost use Rattle.net_plan.specs.Places.{IsCmOf, IsRoleOf, IsSwitchOf};
 ghost use Rattle.net_plan.specs.Ranges.{IsInRange};
 ghost use Rattle.net_plan.specs.Rules.{ExactlyOne, HasOneCm, IsChildOf, IsConnected, JoinsChildToSwitch};
 ghost use Rattle.schedule_checker.specs.Shape.{IsConnectedOn, JoinsOn, LeadsToCmWithin};
 
+use crate::roles::is_end_system;
 use net_plan::{Device, DeviceId, Link, Network, Role};
 use pcf_values::Channel;
 
@@ -83,16 +84,6 @@ fn has_role_on(device: &Device, role: Role, channel: Channel) -> bool
     ensures { IsTrue result ↔ ((device.now.role ≡ role) × (device.now.channel ≡ Some channel)) }
 {
     device.role == role && device.channel == Some(channel)
-}
-
-/// Is the device an end system?
-fn is_end_system(network: &Network, device: DeviceId) -> bool
-    ensures { IsTrue result ↔ IsEndSystem network.now device }
-{
-    match network.device.as_slice().get(device.0 as usize) {
-        Some(found) => found.role.is_end_system(),
-        None => false,
-    }
 }
 
 /// Has the device this role on the channel?

@@ -1,4 +1,4 @@
-use Rattle.std.proofs.Common.{◌+◌, get_or, arith}
+use Rattle.std.proofs.Common.{◌+◌, get_or}
 use Rattle.schedule_tables.specs.declared.rule.Rule.TheVariants.{Limits}
 use Rattle.schedule_checker.proofs.Told.{plan_number, plan_rules, tells}
 use Rattle.schedule_checker.proofs.judge.judge_plan.Goals as goal

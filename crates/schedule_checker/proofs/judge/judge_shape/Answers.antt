@@ -1,4 +1,3 @@
-use Rattle.std.proofs.Common.{arith}
 use Rattle.schedule_checker.proofs.Told.{shape_number, tells}
 use Rattle.schedule_checker.proofs.judge.judge_shape.Goals as goal
 

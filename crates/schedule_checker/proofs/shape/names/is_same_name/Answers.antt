@@ -1,4 +1,4 @@
-use Rattle.schedule_checker.proofs.ShapeNames.{decides_name}
+use Rattle.schedule_checker.proofs.NameLemmas.{decides_name}
 use Rattle.schedule_checker.proofs.shape.names.is_same_name.Goals as goal
 
 pub returns : goal.returns
