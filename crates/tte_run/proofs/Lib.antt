@@ -4,5 +4,6 @@ pub mod FormLemmas
 pub mod ShowAnswers
 pub mod TopAnswers
 pub mod KeyLengths
+pub mod Octets
 pub mod OneAnswers
 pub mod NetworkAnswers

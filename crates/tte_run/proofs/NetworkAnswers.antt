@@ -1,7 +1,6 @@
 -- The answer for the octets of a network file.
-use Rattle.std.proofs.Common.{◌≡◌, ◌⊎◌, ℕ, pos, ◌<◌, ◌≤◌, List, [], ◌∷◌, length, Option, Some, None, Result, Ok, Err, refl, sym, ap, ◌∙◌, subst, inl, inr, ⊎_elim, arith}
+use Rattle.std.proofs.Common.{◌≡◌, ℕ, pos, List, [], ◌∷◌, Option, Ok, Err, refl, sym, ap, ◌∙◌, subst, inl, inr, arith}
 use Rattle.std.proofs.lemmas.Int.{ints}
-use Rattle.std.specs.Prelude.{IfSome}
 use Rattle.net_file.specs.Schema.{network_read}
 use Rattle.net_file.specs.declared.refusal.FileRefusal.{FileRefusal}
 use Rattle.net_plan.specs.Bounds.{IsBeta, BetaIsUnique, gamma_of}
@@ -10,16 +9,16 @@ use Rattle.schedule_checker.specs.Refusals.{TellsFirstBroken, RefusalIsOne}
 use Rattle.schedule_checker.specs.declared.refusal.RuleBroken.{RuleBroken}
 use Rattle.schedule_tables.specs.Rules.{KeepsRules}
 use Rattle.tte_run.specs.Accepting.{IsTooLong, MeansNoNetwork, MeansUnfit, MeansAccepted, IsNetworkAnswer, too_long_answer, refused_answer}
-use Rattle.tte_run.specs.Answering.{Answer, Gives, GivesOne, AnswersOne}
+use Rattle.tte_run.specs.Answering.{Answer, ForOctets, Gives, GivesOne, AnswersOne}
 use Rattle.tte_run.specs.Checking.{IsAcceptance, IsCheckAnswer}
 use Rattle.tte_run.specs.NetworkLine.{file_reason, rule_reason, acceptance_line}
 use Rattle.tte_run.specs.NoNetworks.{IsNoNetwork, no_network_answer}
-use Rattle.tte_run.specs.Putting.{Shown, PutsLines}
-use Rattle.tte_run.specs.Showing.{file_limit}
+use Rattle.tte_run.specs.Putting.{Shown}
 use Rattle.tte_run.specs.declared.accepting.NoNetwork.{NoNetwork}
 use Rattle.tte_run.specs.declared.accepting.NoNetwork.TheVariants as causes
 use Rattle.tte_run.specs.declared.status.Status.{Status}
 use Rattle.tte_run.specs.declared.status.Status.TheVariants.{Done}
+use Rattle.tte_run.proofs.Octets.{for_more}
 use Rattle.tte_run.proofs.OneAnswers.{one_given, widened, cut_given}
 
 -- a rule that is broken is not kept
@@ -107,11 +106,11 @@ network_answer_one one Then then_one octets a b (inr (inr (inr p))) q = then_one
 
 -- the answer of `check` for a source
 pub checked_none : RefusalIsOne → (left : Option (List ℕ)) (cause : NoNetwork) (status : Status) (old new : Shown)
-    → IfSome left (λ octets. IsNoNetwork octets cause) → Gives (no_network_answer cause) status old new → AnswersOne IsCheckAnswer left status old new
-checked_none one None cause status old new h g = tt
-checked_none one (Some octets) cause status old new h g = no_network one IsAcceptance octets cause status old new h g
+    → ForOctets left (λ octets. IsNoNetwork octets cause) → Gives (no_network_answer cause) status old new → AnswersOne IsCheckAnswer left status old new
+checked_none one left cause status old new h g =
+    for_more left (λ octets. IsNoNetwork octets cause) (λ octets. GivesOne (IsCheckAnswer octets) status old new) (λ octets none. no_network one IsAcceptance octets cause status old new none g) h
 
 pub checked_accepted : (left : Option (List ℕ)) (n : Network) (status : Status) (old new : Shown)
-    → IfSome left (λ octets. MeansAccepted octets n) → GivesOne (IsAcceptance n) status old new → AnswersOne IsCheckAnswer left status old new
-checked_accepted None n status old new h g = tt
-checked_accepted (Some octets) n status old new h g = accepted_network IsAcceptance octets n status old new h g
+    → ForOctets left (λ octets. MeansAccepted octets n) → GivesOne (IsAcceptance n) status old new → AnswersOne IsCheckAnswer left status old new
+checked_accepted left n status old new h g =
+    for_more left (λ octets. MeansAccepted octets n) (λ octets. GivesOne (IsCheckAnswer octets) status old new) (λ octets m. accepted_network IsAcceptance octets n status old new m g) h

@@ -1,5 +1,5 @@
 -- The answer of `show` for a source, and for a file that spells a sequence of frames.
-use Rattle.std.proofs.Common.{◌≡◌, ◌≢◌, ℕ, suc, ◌+◌, ◌-◌, ◌*◌, ◌<◌, ◌≤◌, List, [], ◌∷◌, ◌++◌, length, take, drop, Some, None, Err, Result, refl, sym, ap, subst, ◌∙◌, inl, inr, arith, append_assoc, length-append}
+use Rattle.std.proofs.Common.{◌≡◌, ◌≢◌, ℕ, suc, ◌+◌, ◌-◌, ◌*◌, ◌<◌, ◌≤◌, List, [], ◌∷◌, ◌++◌, length, take, drop, Err, Result, refl, sym, ap, subst, ◌∙◌, inl, inr, arith, append_assoc, length-append}
 use Rattle.std.specs.Prelude.{Option, IfSome}
 use Rattle.std.proofs.lemmas.Bool.{lt-ltb, le-ltb}
 use Rattle.std.proofs.lemmas.List.{append-nil, nil_from_length, drop-drop}
@@ -18,6 +18,7 @@ use Rattle.tte_run.specs.Showing.{show_answer, file_limit, frames_answer, frame_
 use Rattle.tte_run.specs.ShowLaw.{ShowsFrames, frame_lines}
 use Rattle.tte_run.specs.declared.status.Status.{Status}
 use Rattle.tte_run.specs.declared.status.Status.TheVariants.{Done, FrameRefused, ReadFault, WriteFault, TooLong}
+use Rattle.tte_run.proofs.Octets.{for_read, for_too_many}
 use Rattle.tte_run.proofs.Puts.{PutsLines-none}
 use Rattle.tte_run.proofs.Frames.{behind, no_frame}
 
@@ -31,13 +32,12 @@ show_answer-long octets long = rw (lt-ltb file_limit (length octets) long) refl
 
 pub answers-read : (left : Option (List ℕ)) (octets : List ℕ) (status : Status) (old new : Shown) → IfSome left (λ all. octets ≡ all) → length octets ≤ file_limit
     → Gives (frames_answer 0 (frame_count octets) octets) status old new → Answers show_answer left status old new
-answers-read None octets status old new all short g = tt
-answers-read (Some left) octets status old new all short g =
-    subst (λ (xs : List ℕ). Gives (show_answer xs) status old new) all (subst (λ (a : Answer). Gives a status old new) (sym (show_answer-fits octets short)) g)
+answers-read left octets status old new all short g =
+    for_read left octets (λ xs. Gives (show_answer xs) status old new) all (subst (λ (a : Answer). Gives a status old new) (sym (show_answer-fits octets short)) g)
 
 pub answers-long : (left : Option (List ℕ)) (s : Shown) → IfSome left (λ all. file_limit < length all) → Answers show_answer left TooLong s s
-answers-long None s long = tt
-answers-long (Some left) s long = subst (λ (a : Answer). Gives a TooLong s s) (sym (show_answer-long left long)) (inl (refl, PutsLines-none s))
+answers-long left s long =
+    for_too_many left (λ xs. Gives (show_answer xs) TooLong s s) long (λ xs many. subst (λ (a : Answer). Gives a TooLong s s) (sym (show_answer-long xs many)) (inl (refl, PutsLines-none s)))
 
 frames_answer-next : (k n : ℕ) (octets : List ℕ) → frames_answer k (suc n) octets ≡ judgement_of (k + 1) (decoded (frame_at k octets)) (frames_answer (k + 1) n octets)
 unfolding frames_answer

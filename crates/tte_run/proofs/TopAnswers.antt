@@ -1,5 +1,5 @@
 -- The answer for the words.
-use Rattle.std.proofs.Common.{◌≡◌, ◌⊎◌, ℕ, List, [], ◌∷◌, Some, None, refl, sym, ap, ◌∙◌, subst, inl, inr, arith}
+use Rattle.std.proofs.Common.{◌≡◌, ℕ, List, Some, None, refl, sym, ap, ◌∙◌, inl, inr}
 use Rattle.std.specs.Prelude.{Option}
 use Rattle.net_plan.specs.Bounds.{BetaIsUnique}
 use Rattle.net_plan.specs.declared.network.Network.{Network}
@@ -10,24 +10,26 @@ use Rattle.tte_run.specs.Answering.{Answer, Gives, GivesOne, Answers, AnswersOne
 use Rattle.tte_run.specs.Checking.{IsAcceptance, IsCheckAnswer}
 use Rattle.tte_run.specs.Forms.{form_of}
 use Rattle.tte_run.specs.Showing.{show_answer}
-use Rattle.tte_run.specs.Top.{AnswerIsOne, IsAnswer, IsFormAnswer, usage_answer, Completes}
+use Rattle.tte_run.specs.Top.{AnswerIsOne, IsFormAnswer, usage_answer, Completes}
 use Rattle.tte_run.specs.declared.form.Form.{Form}
 use Rattle.tte_run.specs.declared.form.Form.TheVariants.{Show, Check}
 use Rattle.tte_run.specs.declared.status.Status.{Status}
 use Rattle.tte_run.specs.declared.status.Status.TheVariants.{ReadFault, WriteFault}
 use Rattle.tte_run.proofs.NetworkAnswers.{accepted_alone, network_answer_one, acceptance_one}
+use Rattle.tte_run.proofs.Octets.{for_all, for_more}
 use Rattle.tte_run.proofs.OneAnswers.{one_given}
 use Rattle.tte_run.proofs.ShowAnswers.{shown_whole}
 
 -- usage is the answer whatever the source holds
 pub usage-any : (left : Option (List ℕ)) (status : Status) (old new : Shown) → Gives usage_answer status old new → AnswersOne (IsFormAnswer None) left status old new
-usage-any None status old new g = tt
-usage-any (Some octets) status old new g = one_given (λ a. a ≡ usage_answer) usage_answer status old new refl (λ b e. e) g
+usage-any left status old new g =
+    for_all left (λ octets. GivesOne (IsFormAnswer None octets) status old new) (λ octets. one_given (λ a. a ≡ usage_answer) usage_answer status old new refl (λ b e. e) g)
 
 -- the answer of `show` is one for its form
 pub shown-form : (left : Option (List ℕ)) (status : Status) (old new : Shown) → Answers show_answer left status old new → AnswersOne (IsFormAnswer (Some Show)) left status old new
-shown-form None status old new g = tt
-shown-form (Some octets) status old new g = one_given (λ a. a ≡ show_answer octets) (show_answer octets) status old new refl (λ b e. e) g
+shown-form left status old new g =
+    for_more left (λ octets. Gives (show_answer octets) status old new) (λ octets. GivesOne (IsFormAnswer (Some Show) octets) status old new)
+    (λ octets h. one_given (λ a. a ≡ show_answer octets) (show_answer octets) status old new refl (λ b e. e) h) g
 
 pub completes-show : (left : Option (List ℕ)) (status : Status) (old new : Shown) (SourceRose SinkRose : Type 0) → Answers show_answer left status old new
     → (status ≡ ReadFault → SourceRose) → (status ≡ WriteFault → SinkRose) → Completes (Some Show) left SourceRose SinkRose status

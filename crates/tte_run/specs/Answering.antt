@@ -20,10 +20,14 @@ Gives a status old new =
     ⊎ ((status ≡ WriteFault) × PutFails a.lines old new)
     ⊎ (((status ≡ ReadFault) ⊎ (status ≡ OutOfMemory)) × PutsSome a.lines old new)
 
--- the answer for the octets of a source was given so, where the source tells them
+-- the fact holds for the octets that a source has left, or for some where the source does not tell them
+abbrev pub ForOctets : Option (List ℕ) → (List ℕ → Type 0) → Type 0
+ForOctets None P = (octets : List ℕ) × P octets
+ForOctets (Some octets) P = P octets
+
+-- the answer for the octets of a source was given so
 abbrev pub Answers : (List ℕ → Answer) → Option (List ℕ) → Status → Shown → Shown → Type 0
-Answers answer None status old new = Unit {0}
-Answers answer (Some octets) status old new = Gives (answer octets) status old new
+Answers answer left status old new = ForOctets left (λ octets. Gives (answer octets) status old new)
 
 -- one answer with the property was given whole; or of each one with it, the first lines were, until a put
 -- failed, or until a read failed or memory ran out
@@ -33,10 +37,9 @@ GivesOne IsAnswer status old new =
     ⊎ ((status ≡ WriteFault) × ((a : Answer) → IsAnswer a → PutFails a.lines old new))
     ⊎ (((status ≡ ReadFault) ⊎ (status ≡ OutOfMemory)) × ((a : Answer) → IsAnswer a → PutsSome a.lines old new))
 
--- one of the answers for the octets of a source was given so, where the source tells them
+-- one of the answers for the octets of a source was given so
 abbrev pub AnswersOne : (List ℕ → Answer → Type 0) → Option (List ℕ) → Status → Shown → Shown → Type 0
-AnswersOne IsAnswer None status old new = Unit {0}
-AnswersOne IsAnswer (Some octets) status old new = GivesOne (IsAnswer octets) status old new
+AnswersOne IsAnswer left status old new = ForOctets left (λ octets. GivesOne (IsAnswer octets) status old new)
 
 -- done, or out of memory
 abbrev pub IsDone : Status → Type 0

@@ -1,7 +1,7 @@
-ghost use Rattle.std.specs.Prelude.{◌≡◌, ◌≢◌, ◌≤◌, length, Err, IfErr, IfOk, IfSome};
+ghost use Rattle.std.specs.Prelude.{◌≡◌, ◌≢◌, ◌≤◌, length, Err, IfErr, IfOk};
 ghost use Rattle.tte_io.specs.Faults.{Rose};
 ghost use Rattle.tte_run.specs.Accepting.{MeansAccepted};
-ghost use Rattle.tte_run.specs.Answering.{Gives};
+ghost use Rattle.tte_run.specs.Answering.{ForOctets, Gives};
 ghost use Rattle.tte_run.specs.NoNetworks.{IsNoNetwork, no_network_answer};
 ghost use Rattle.tte_run.specs.Putting.{shown_by};
 ghost use Rattle.tte_run.specs.Showing.{file_limit};
@@ -35,8 +35,8 @@ pub(crate) enum NoNetwork {
 
 /// Reads a network from a file, and accepts it if it keeps all rules.
 pub(crate) fn accept<A: Source>(alloc: Global, source: &mut A) -> Result<Accepted, NoNetwork>
-    ensures accepted { IfOk result (λ network. IfSome (A.left source.old) (λ octets. MeansAccepted octets network)) }
-    ensures none { IfErr result (λ cause. IfSome (A.left source.old) (λ octets. IsNoNetwork octets cause)) }
+    ensures accepted { IfOk result (λ network. ForOctets (A.left source.old) (λ octets. MeansAccepted octets network)) }
+    ensures none { IfErr result (λ cause. ForOctets (A.left source.old) (λ octets. IsNoNetwork octets cause)) }
     ensures read { result ≡ Err NoNetwork.ReadFault → Rose (A.faults source.old) (A.faults source.new) }
 {
     match read_all(alloc, source, LIMIT) {
@@ -70,6 +70,7 @@ pub(crate) fn put_no_network<K: Sink>(cause: NoNetwork, out: &mut K) -> Status
     ensures gives { Gives (no_network_answer cause) result
         (shown_by K.written K.puts out.old) (shown_by K.written K.puts out.new) }
     ensures read { result ≡ Status.ReadFault → cause ≡ NoNetwork.ReadFault }
+    ensures unread { result ≡ Status.ReadFault → out.new ≡ out.old }
     ensures write { result ≡ Status.WriteFault → Rose (K.faults out.old) (K.faults out.new) }
 {
     let mut line = LineText::new();

@@ -21,6 +21,7 @@ pub fn check_network<A: Source, K: Sink>(alloc: Global, source: &mut A, out: &mu
         (shown_by K.written K.puts out.old) (shown_by K.written K.puts out.new) }
     ensures statuses { IsCheckStatus result }
     ensures read { result ≡ Status.ReadFault → Rose (A.faults source.old) (A.faults source.new) }
+    ensures unread { result ≡ Status.ReadFault → out.new ≡ out.old }
     ensures write { result ≡ Status.WriteFault → Rose (K.faults out.old) (K.faults out.new) }
 {
     refusal_is_one();

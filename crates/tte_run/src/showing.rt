@@ -23,6 +23,7 @@ pub fn show<A: Source, K: Sink>(alloc: Global, source: &mut A, out: &mut K) -> S
         (shown_by K.written K.puts out.old) (shown_by K.written K.puts out.new) }
     ensures statuses { IsShowStatus result }
     ensures read { result ≡ Status.ReadFault → Rose (A.faults source.old) (A.faults source.new) }
+    ensures unread { result ≡ Status.ReadFault → out.new ≡ out.old }
     ensures write { result ≡ Status.WriteFault → Rose (K.faults out.old) (K.faults out.new) }
 {
     match read_all(alloc, source, LIMIT) {

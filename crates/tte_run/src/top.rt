@@ -30,6 +30,7 @@ pub fn tte<A: Source, B: Source, K: Sink>(
     ensures usage { AnswersUsage (form_of words.now) result
         (shown_by K.written K.puts out.old) (shown_by K.written K.puts out.new) }
     ensures read { result ≡ Status.ReadFault → Rose (A.faults first.old) (A.faults first.new) }
+    ensures unread { result ≡ Status.ReadFault → out.new ≡ out.old }
     ensures write { result ≡ Status.WriteFault → Rose (K.faults out.old) (K.faults out.new) }
     ensures complete { Completes (form_of words.now) (A.left first.old)
         (Rose (A.faults first.old) (A.faults first.new)) (Rose (K.faults out.old) (K.faults out.new)) result }

@@ -1,4 +1,4 @@
-use Rattle.std.proofs.Common.{◌≡◌, subst, ℤ, ℕ, pos, List, ◌∷◌, [], sym, ap, ◌∙◌, arith}
+use Rattle.std.proofs.Common.{◌≡◌, subst, ℤ, ℕ, pos, List, ◌∷◌, [], ap, ◌∙◌, arith}
 use Rattle.std.proofs.lemmas.Int.{ints}
 use Rattle.net_plan.specs.Bounds.{IsBeta, gamma_of}
 use Rattle.net_plan.specs.declared.network.Network.{Network}
@@ -15,7 +15,7 @@ returns-clause-gives g c =
     let n = c.args.accepted.now in
     let beta = c.amount.result in
     let is : IsBeta n (pos beta) =
-        subst (λ (z : ℤ). IsBeta n z) c.amount.ensures.whole (subst (λ (m : Network). IsBeta m c.beta.result.0) c.network-network.ensures.value c.beta.ensures) in
+    subst (λ (z : ℤ). IsBeta n z) c.amount.ensures.whole (subst (λ (m : Network). IsBeta m c.beta.result.0) c.network-network.ensures.value c.beta.ensures) in
     let gamma : c.amount-2.result ≡ gamma_of n = omega (arith, ints, c.amount-2.ensures.whole, c.gamma.ensures) ∙ ap gamma_of c.network-network.ensures.value in
     let line : c.as_slice.result.now ≡ acceptance_line beta (gamma_of n) = c.as_slice.ensures ∙ c.make_acceptance_line.ensures ∙ ap (acceptance_line beta) gamma in
     acceptance c.beta_is_unique.ensures n beta c.put_last.result (shown c.args.out.now) (shown c.put_last.new.out) is
