@@ -1,6 +1,5 @@
 -- A text that reads as an event is its text, but for capital digits.
-use Rattle.std.proofs.Common.{◌≡◌, ℕ, List, [], ◌∷◌, ◌++◌, map, Ok, Err, refl, sym, ap, ◌∙◌, append-nil}
-use Rattle.std.specs.Prelude.{codes}
+use Rattle.std.proofs.Common.{◌≡◌, ℕ, List, [], ◌∷◌, ◌++◌, Ok, Err, refl, sym, ap, ◌∙◌, append-nil}
 use Rattle.std.specs.Fmt.{signed_decimal}
 use Rattle.std.specs.List.{join_with_byte}
 use Rattle.std.specs.Result.{result_unwrap_or}
@@ -16,7 +15,7 @@ use Rattle.net_plan.specs.declared.ids.DeviceId.{DeviceId}
 use Rattle.net_plan.specs.declared.ids.LinkId.{LinkId}
 use Rattle.net_plan.specs.declared.network.Network.{Network}
 use Rattle.net_plan.specs.declared.tables.Way.{Way}
-use Rattle.trace_text.specs.EventLine.{device_name, link_name, what_words, what_text, event_text}
+use Rattle.trace_text.specs.EventLine.{device_name, link_name, what_words}
 use Rattle.trace_text.specs.EventReading.{what_behind, event_reader, event_read}
 use Rattle.trace_text.specs.EventWords.{event_word_text, way_text}
 use Rattle.trace_text.specs.Laws.{PrintsBack}

@@ -158,6 +158,19 @@ pub fn event_text(network: &Network, what: &What) -> EventText
     EventText { text }
 }
 
+fn event_line(network: &Network, event: &Event) -> LineText
+    requires in_range { IsInRange network.now }
+    requires of_network { IsOfNetwork network.now event.now.what }
+    ensures { result ≡ event_line network.now event.now }
+{
+    let mut line = LineText::new();
+    push_number(&mut line, event.time.0);
+    line.push(" ");
+    push_what(&mut line, network, &event.what);
+    line.push("\n");
+    line
+}
+
 /// Puts an event's line, ended by LF, in one put.
 ///
 /// The network is in its ranges, and the event's device and link are its own.
@@ -173,10 +186,6 @@ pub fn print<K: Sink>(network: &Network, event: &Event, out: &mut K) -> Result<(
     ensures ok_unchanged { OnOk result (K.faults out.new ≡ K.faults out.old) }
     ensures failed_rose { OnErr result (Rose (K.faults out.old) (K.faults out.new)) }
 {
-    let mut line = LineText::new();
-    push_number(&mut line, event.time.0);
-    line.push(" ");
-    push_what(&mut line, network, &event.what);
-    line.push("\n");
+    let line = event_line(network, event);
     out.put(line.as_slice())
 }
