@@ -1,0 +1,22 @@
+-- What holds of all runs.
+use Rattle.std.specs.Prelude.{◌≡◌, ℕ, List, ◌++◌}
+use Rattle.net_plan.specs.declared.event.Event.{Event}
+use Rattle.net_plan.specs.declared.ids.DeviceId.{DeviceId}
+use Rattle.net_plan.specs.declared.network.Network.{Network}
+use Rattle.run_law.specs.Order.{IsBefore}
+use Rattle.run_law.specs.Records.{IsRunOf}
+use Rattle.run_law.specs.declared.note.Note.{Note}
+
+-- there is one run of a network under the events up to a mark
+abbrev pub RunIsOne : Type 0
+RunIsOne =
+    (network : Network) (reading : DeviceId → ℕ → ℕ) (events : List Event) (mark : List ℕ) (notes others : List Note)
+    → IsRunOf network reading events mark notes → IsRunOf network reading events mark others → notes ≡ others
+
+-- the run up to an earlier mark is the front of that up to a later one
+abbrev pub EarlierRunIsFront : Type 0
+EarlierRunIsFront =
+    (network : Network) (reading : DeviceId → ℕ → ℕ) (events : List Event) (mark later : List ℕ) (notes more : List Note)
+    → ((p : List ℕ) → IsBefore p mark → IsBefore p later)
+    → IsRunOf network reading events mark notes → IsRunOf network reading events later more
+    → (rest : List Note) × (more ≡ notes ++ rest)
