@@ -1,0 +1,70 @@
+use super::cases::{Case, try_case};
+use super::worked::{WORKED, with_edits};
+use crate::Status;
+use std::alloc::Global;
+use std::process::Abort;
+use std::test::Fail;
+
+/// What `check` writes for the worked network.
+pub(super) const ACCEPTED: &str = "accepted beta 3276832 gamma 26214404\n";
+
+/// `check` answers the network by this text and this status.
+pub(super) fn checked(
+    rt: &impl Abort,
+    alloc: Global,
+    network: &str,
+    text: &str,
+    status: Status,
+) -> Result<(), Fail> {
+    let case = Case {
+        words: &["check", "net.toml"],
+        octets: network.as_bytes(),
+        failing_reads: &[],
+        failing_puts: &[],
+        text,
+        status,
+    };
+    try_case(rt, alloc, &case)
+}
+
+/// The network is accepted with the bounds of the worked one.
+pub(super) fn accepted(rt: &impl Abort, alloc: Global, network: &str) -> Result<(), Fail> {
+    checked(rt, alloc, network, ACCEPTED, Status::Done)
+}
+
+/// The network is refused for this reason.
+pub(super) fn refused(
+    rt: &impl Abort,
+    alloc: Global,
+    network: &str,
+    reason: &str,
+) -> Result<(), Fail> {
+    let text = format!(in alloc; "refused network {reason}\n")?;
+    checked(rt, alloc, network, text.as_str(), Status::NetworkRefused)
+}
+
+/// The worked network is accepted with each of these edits, an old text and a new one.
+pub(super) fn accepted_with(
+    rt: &impl Abort,
+    alloc: Global,
+    edits: &[(&str, &str)],
+) -> Result<(), Fail> {
+    for edit in edits {
+        let network = with_edits(rt, alloc, WORKED, &[*edit])?;
+        accepted(rt, alloc, network.as_str())?;
+    }
+    Ok(())
+}
+
+/// The worked network is refused with each of these edits: an old text, a new one, and the reason.
+pub(super) fn refused_with(
+    rt: &impl Abort,
+    alloc: Global,
+    cases: &[(&str, &str, &str)],
+) -> Result<(), Fail> {
+    for &(old, new, reason) in cases {
+        let network = with_edits(rt, alloc, WORKED, &[(old, new)])?;
+        refused(rt, alloc, network.as_str(), reason)?;
+    }
+    Ok(())
+}
