@@ -5,7 +5,6 @@ ghost use Rattle.net_plan.specs.Places.{is_end_system, is_master};
 ghost use Rattle.net_plan.specs.Ranges.{IsDeviceInRange, IsInRange, IsLinkInRange, IsRowInRange, IsVlInRange, IsWithin};
 ghost use Rattle.net_plan.specs.declared.network.Network.{Network};
 
-use crate::slot::{next_slot, slots_of};
 use crate::{Window, entries_of, entry_of, window_of};
 use net_plan::{
     Device, DeviceId, Devices, Link, LinkId, Links, Name, Network, Role, Row, RowId, Rows,
@@ -144,7 +143,7 @@ fn rows(alloc: Global) -> Result<Rows, AllocError>
 }
 
 // Half of the worked network: a master and a client, each below the relays of both channels.
-fn half(alloc: Global) -> Result<Network, AllocError>
+pub fn half(alloc: Global) -> Result<Network, AllocError>
     ensures range { IfOk result IsInRange }
     ensures rows { IfOk result (λ network. length network.row ≡ 6) }
 {
@@ -206,22 +205,5 @@ fn frames_leave_and_enter_by_the_way(rt: HostRuntime) -> Result<(), Fail> {
             .map_or(0, |entries| entries.len()),
         6
     );
-    Ok(())
-}
-
-#[test]
-fn slots_come_in_order(rt: HostRuntime) -> Result<(), Fail> {
-    let network = half(rt.alloc())?;
-    let slots = slots_of(rt.alloc(), &network)?;
-    assert_eq!(rt; slots.len(), 4 * 64 + 2 * 16);
-    for (residue, rows) in [(3, [0, 1, 5, 4].as_slice()), (4, [0, 1].as_slice())] {
-        let mut place = None;
-        for row in rows {
-            let next = next_slot(&slots, DeviceId(0), residue, place).expect(&rt, "a slot");
-            assert_eq!(rt; next.place.row, RowId(*row), "in residue {residue}");
-            place = Some(next.place);
-        }
-        assert_eq!(rt; next_slot(&slots, DeviceId(0), residue, place), None);
-    }
     Ok(())
 }
