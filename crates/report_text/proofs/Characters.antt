@@ -1,0 +1,54 @@
+-- The characters of words: none is a space or an LF.
+use Rattle.std.proofs.lemmas.Bool.Decides.{nat_tests}
+use Rattle.std.proofs.Common.{◌≡◌, ℕ, suc, ◌<◌, ◌^◌, Bool, true, List, [], ◌∷◌, refl, arith}
+use Rattle.std.specs.Prelude.{All, decimal, ℤ, pos, negsuc, nat_lt}
+use Rattle.std.specs.Fmt.{signed_decimal}
+use Rattle.std.specs.Char.{digit_value}
+use Rattle.std.specs.Int.Signed.{mag}
+use Rattle.std.specs.List.{list_all}
+use Rattle.std.specs.Str.Parse.{AllDigits}
+use Rattle.std.proofs.lemmas.Fmt.{decimal_is_IsNumeral}
+use Rattle.std.proofs.lemmas.List.Elements.{All-cons, All-nil, All-weaker}
+use Rattle.std.proofs.lemmas.List.Sums.{AllPass-from_list_all}
+use Rattle.hex.specs.Hex.{IsBytes, is_hex_digit, encode_lower}
+use Rattle.hex.proofs.HexLemmas.{decode_of-ok, decode_of-encode_lower}
+use Rattle.net_plan.specs.NameText.{is_name_character, IsNameText}
+
+-- the character is above ASCII's space
+abbrev pub is_visible : ℕ → Bool
+is_visible c = nat_lt 32 c
+
+-- each character is
+abbrev pub IsVisible : List ℕ → Type 0
+IsVisible text = All (λ c. is_visible c ≡ true) text
+
+pub visible_from_test : (text : List ℕ) → list_all is_visible text ≡ true → IsVisible text
+visible_from_test text h = AllPass-from_list_all is_visible text h
+
+name_character : (c : ℕ) → is_name_character c ≡ true → is_visible c ≡ true
+name_character c h = grind (arith, nat_tests)
+
+pub name_visible : (text : List ℕ) → IsNameText text → IsVisible text
+name_visible text h = All-weaker (λ c. is_name_character c ≡ true) (λ c. is_visible c ≡ true) name_character text (AllPass-from_list_all is_name_character text h.plain)
+
+digit_character : (c : ℕ) → digit_value c < 10 → is_visible c ≡ true
+digit_character c h = grind (arith, nat_tests)
+
+digits_visible : (text : List ℕ) → AllDigits 10 text → IsVisible text
+digits_visible [] h = All-nil (λ c. is_visible c ≡ true)
+digits_visible (c ∷ cs) h = All-cons (λ c. is_visible c ≡ true) c cs (digit_character c h.0) (digits_visible cs h.1)
+
+pub decimal_visible : (n : ℕ) → n < 2 ^ 64 → IsVisible (decimal n)
+decimal_visible n h = digits_visible (decimal n) ((decimal_is_IsNumeral n h).0).1
+
+pub signed_visible : (z : ℤ) → mag z < 2 ^ 63 → IsVisible (signed_decimal z)
+signed_visible (pos n) h = decimal_visible n (omega arith)
+signed_visible (negsuc n) h = All-cons (λ c. is_visible c ≡ true) 45 (decimal (suc n)) refl (decimal_visible (suc n) (omega arith))
+
+hex_character : (c : ℕ) → is_hex_digit c ≡ true → is_visible c ≡ true
+hex_character c h = grind (arith, nat_tests)
+
+pub hex_visible : (octets : List ℕ) → IsBytes octets → IsVisible (encode_lower octets)
+hex_visible octets bytes =
+    let text = encode_lower octets in
+    All-weaker (λ c. is_hex_digit c ≡ true) (λ c. is_visible c ≡ true) hex_character text (decode_of-ok text octets (decode_of-encode_lower octets bytes)).1

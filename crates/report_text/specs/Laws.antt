@@ -1,0 +1,23 @@
+-- What holds of reports.
+use Rattle.std.specs.Prelude.{◌≡◌, ℕ, List, All}
+use Rattle.std.specs.List.{concat}
+use Rattle.net_plan.specs.Ranges.{IsInRange}
+use Rattle.net_plan.specs.Rules.{DeviceIsNew, LinkIsNew}
+use Rattle.net_plan.specs.declared.network.Network.{Network}
+use Rattle.report_text.specs.NoteLine.{report_of}
+use Rattle.report_text.specs.Ranges.{IsNoteOf, IsNoteInRange}
+use Rattle.run_law.specs.declared.note.Note.{Note}
+
+-- records of the network with their numbers in range
+pub record AreOfNetwork (network : Network) (notes : List Note) : Type 0 where
+  pub of_network : All (IsNoteOf network) notes
+  pub in_range : All IsNoteInRange notes
+
+-- where no two devices and no two links have one name, two lists of records whose reports have the same
+-- octets are one
+abbrev pub OneReport : Type 0
+OneReport =
+    (network : Network) (notes others : List Note)
+    → IsInRange network → ((i : ℕ) → DeviceIsNew network i) → ((i : ℕ) → LinkIsNew network i)
+    → AreOfNetwork network notes → AreOfNetwork network others
+    → concat (report_of network notes) ≡ concat (report_of network others) → notes ≡ others

@@ -1,0 +1,3 @@
+pub mod NoteLine
+pub mod Ranges
+pub mod Laws

@@ -1,0 +1,12 @@
+//! The report of a run: a record becomes its line, and two lists of records have one report only where
+//! they are one.
+#![tactic(auto)]
+
+mod laws;
+mod writing;
+
+pub use laws::one_report;
+pub use writing::write;
+
+#[cfg(test)]
+mod tests;
