@@ -55,7 +55,7 @@ row = [
 ";
 
 /// The text with `new` in the place of `old`, which stands in it once.
-fn edited(
+pub(super) fn edited(
     rt: &impl Abort,
     alloc: Global,
     text: &str,
@@ -79,34 +79,4 @@ pub(super) fn with_edits(
         text = edited(rt, alloc, text.as_str(), old, new)?;
     }
     Ok(text)
-}
-
-/// Tables, each a line, to stand behind the others of their arrays.
-#[derive(Clone, Copy)]
-pub(super) struct Added<'a> {
-    pub(super) devices: &'a str,
-    pub(super) links: &'a str,
-    pub(super) vls: &'a str,
-    pub(super) rows: &'a str,
-}
-
-/// The worked network with these tables added.
-pub(super) fn with_tables(rt: &impl Abort, alloc: Global, added: &Added) -> Result<String, Fail> {
-    let devices = format!(in alloc; "{}]\nlink = [\n", added.devices)?;
-    let links = format!(in alloc; "{}]\nvl = [\n", added.links)?;
-    let vls = format!(in alloc; "{}]\nrow = [\n", added.vls)?;
-    let rows = format!(in alloc;
-        "link=\"c1_b\", way=\"down\", offset=28180480000}},\n{}",
-        added.rows
-    )?;
-    let edits = [
-        ("]\nlink = [\n", devices.as_str()),
-        ("]\nvl = [\n", links.as_str()),
-        ("]\nrow = [\n", vls.as_str()),
-        (
-            "link=\"c1_b\", way=\"down\", offset=28180480000},\n",
-            rows.as_str(),
-        ),
-    ];
-    with_edits(rt, alloc, WORKED, &edits)
 }
