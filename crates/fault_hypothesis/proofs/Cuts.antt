@@ -1,13 +1,12 @@
 -- Which channel is the faulty one, behind one more event.
-use Rattle.std.proofs.Common.{◌≡◌, ◌⊎◌, ◌↔◌, ℕ, ◌<◌, List, [], ◌∷◌, ◌++◌, length, true, false, Option, Some, None, inl, inr, refl, sym, ap, subst, ◌∙◌, arith, append_assoc, zero, suc}
-use Rattle.std.specs.Prelude.{IsSomeAnd, MatchOption, is_some, slice_get}
+use Rattle.std.proofs.Common.{◌≡◌, ◌⊎◌, ◌↔◌, List, [], ◌∷◌, ◌++◌, true, false, Option, Some, None, inl, inr, refl, sym, ap, subst, ◌∙◌, arith, append_assoc, suc}
+use Rattle.std.specs.Prelude.{MatchOption, is_some}
 use Rattle.std.specs.List.{Any}
 use Rattle.net_plan.specs.Places.{device_at, link_at, IsSwitchOf}
 use Rattle.net_plan.specs.Rules.{HasOffSwitch}
 use Rattle.net_plan.specs.declared.event.Event.{Event}
 use Rattle.net_plan.specs.declared.event.What.{What}
 use Rattle.net_plan.specs.declared.event.What.TheVariants as events
-use Rattle.net_plan.specs.declared.ids.DeviceId.{DeviceId}
 use Rattle.net_plan.specs.declared.ids.LinkId.{LinkId}
 use Rattle.net_plan.specs.declared.network.Network.{Network}
 use Rattle.net_plan.specs.declared.tables.Device.{Device}
@@ -19,7 +18,7 @@ use Rattle.schedule_tables.specs.Rules.{KeepsRules}
 use Rattle.schedule_tables.specs.declared.rule.Rule.TheVariants.{Joints, Masters}
 use Rattle.trace_text.specs.Ranges.{HasLink, IsOfNetwork}
 use Rattle.fault_hypothesis.specs.Watching.{AreOfNetwork}
-use Rattle.fault_hypothesis.proofs.Befalling.{StandsInFront, StandsLast, any_behind, any_first, any_last, any_left, any_none, any_of, any_parts, none_stands, stands_where}
+use Rattle.fault_hypothesis.proofs.Befalling.{any_behind, any_first, any_none, any_of, none_stands, stands_where}
 use Rattle.fault_hypothesis.proofs.Standing.{some_both, stands_at}
 
 -- what befalls cuts a link, or it cuts none
@@ -59,13 +58,17 @@ first_cut network (x ∷ xs) link rules of_network any =
           (on.0, record { before = []; cut = x; behind = xs; order = refl; none_before = λ l a. any_none (Cuts l) a; cuts = (cut.0, (cut.1, cut.2), on.1) })
       | inr none ↦
           let behind : Any (Cuts link) xs = elim (any_of (Cuts link) x xs any) [ inl c ↦ absurd (none link c.0 c.1) | inr a ↦ a ] in
-          let rest = first_cut network xs link rules (λ k d within. of_network (suc k) d (omega (arith, within))) behind in
-          (rest.0, record {
-            before = x ∷ rest.1.before; cut = rest.1.cut; behind = rest.1.behind;
-            order = ap (λ (t : List Event). x ∷ t) rest.1.order;
-            none_before = λ l a. elim (any_of (Cuts l) x rest.1.before a) [ inl c ↦ none l c.0 c.1 | inr b ↦ rest.1.none_before l b ];
-            cuts = rest.1.cuts
-          })
+          let rest = first_cut network xs link rules (λ k d within. of_network (suc k) d (omega (arith, within))) behind in (
+            rest.0,
+            record {
+              before = x ∷ rest.1.before;
+              cut = rest.1.cut;
+              behind = rest.1.behind;
+              order = ap (λ (t : List Event). x ∷ t) rest.1.order;
+              none_before = λ l a. elim (any_of (Cuts l) x rest.1.before a) [ inl c ↦ none l c.0 c.1 | inr b ↦ rest.1.none_before l b ];
+              cuts = rest.1.cuts;
+            },
+          )
     ]
 
 -- the first cut is one event
@@ -103,11 +106,17 @@ pub stays_faulty : (network : Network) (admitted : List Event) (event : Event) (
 stays_faulty network admitted event c (inl off) = inl off
 stays_faulty network admitted event c (inr first) =
     let f = first.1 in
-    inr (first.0, record {
-      before = f.before; cut = f.cut; behind = f.behind ++ event ∷ [];
-      order = ap (λ (t : List Event). t ++ event ∷ []) f.order ∙ append_assoc f.before (f.cut ∷ f.behind) (event ∷ []);
-      none_before = f.none_before; cuts = f.cuts
-    })
+    inr (
+      first.0,
+      record {
+        before = f.before;
+        cut = f.cut;
+        behind = f.behind ++ event ∷ [];
+        order = ap (λ (t : List Event). t ++ event ∷ []) f.order ∙ append_assoc f.before (f.cut ∷ f.behind) (event ∷ []);
+        none_before = f.none_before;
+        cuts = f.cuts;
+      },
+    )
 
 -- a channel that is faulty behind one more event was so, or that event is the first cut
 pub was_faulty : (network : Network) (admitted : List Event) (event : Event) (c : Channel) → IsFaulty network (admitted ++ event ∷ []) c → IsFaulty network admitted c ⊎ CutsOn network c event
@@ -127,18 +136,20 @@ KnowsFaulty network events faulty = (c : Channel) → (faulty ≡ Some c) ↔ Is
 pub faulty_stays : (network : Network) (admitted : List Event) (event : Event) (faulty : Option Channel) → KeepsRules network → is_some faulty ≡ true → KnowsFaulty network admitted faulty → KnowsFaulty network (admitted ++ event ∷ []) faulty
 faulty_stays network admitted event None rules some known = absurd cc
 faulty_stays network admitted event (Some f) rules some known = λ c.
-    let now = stays_faulty network admitted event f ((known f).0 refl) in
-    (λ e. let same : f ≡ c = cc in subst (IsFaulty network (admitted ++ event ∷ [])) same now,
-     λ h. ap (λ (t : Channel). Some t) (one_faulty network (admitted ++ event ∷ []) f c rules now h))
+    let now = stays_faulty network admitted event f ((known f).0 refl) in (
+      λ e. let same : f ≡ c = cc in subst (IsFaulty network (admitted ++ event ∷ [])) same now,
+      λ h. ap (λ (t : Channel). Some t) (one_faulty network (admitted ++ event ∷ []) f c rules now h),
+    )
 
 -- where the event cuts nothing, the faulty channel is as it was
 pub faulty_uncut : (network : Network) (admitted : List Event) (event : Event) (faulty : Option Channel) → ((link : LinkId) → Cuts link event → ⊥) → KnowsFaulty network admitted faulty → KnowsFaulty network (admitted ++ event ∷ []) faulty
-faulty_uncut network admitted event faulty uncut known = λ c.
-    (λ e. stays_faulty network admitted event c ((known c).0 e),
-     λ h. elim (was_faulty network admitted event c h) [
-       | inl was ↦ (known c).1 was
-       | inr cut ↦ absurd (uncut cut.0 cut.1)
-     ])
+faulty_uncut network admitted event faulty uncut known = λ c. (
+  λ e. stays_faulty network admitted event c ((known c).0 e),
+  λ h. elim (was_faulty network admitted event c h) [
+    | inl was ↦ (known c).1 was
+    | inr cut ↦ absurd (uncut cut.0 cut.1)
+  ],
+)
 
 -- the first cut makes its channel the faulty one
 pub faulty_cut : (network : Network) (admitted : List Event) (event : Event) (link : LinkId) (way : Way) (faulty found : Option Channel) → KeepsRules network → AreOfNetwork network admitted → event.what ≡ events.Cut link way → ((c : Channel) → (found ≡ Some c) ↔ IsLinkOf network c link) → is_some faulty ≡ false → KnowsFaulty network admitted faulty → KnowsFaulty network (admitted ++ event ∷ []) found
@@ -146,25 +157,34 @@ faulty_cut network admitted event link way (Some f) found rules of_network what 
 faulty_cut network admitted event link way None found rules of_network what on unknown known =
     let none : (c : Channel) → IsFaulty network admitted c → ⊥ = λ c h. let e = (known c).1 h in absurd cc in
     let unoff : (c : Channel) → HasOffSwitch network c → ⊥ = λ c h. none c (inl h) in
-    λ c.
-    (λ e. inr (unoff, record {
-       before = admitted; cut = event; behind = []; order = refl;
-       none_before = λ l a. let f = first_cut network admitted l rules of_network a in none f.0 (inr (unoff, f.1));
-       cuts = (link, (way, what), (on c).0 e)
-     }),
-     λ h. elim (was_faulty network admitted event c h) [
-       | inl was ↦ absurd (none c was)
-       | inr cut ↦
-           let cuts_it = cut.1.1 in
-           let same : cut.0 ≡ link = cc in
-           (on c).1 (subst (IsLinkOf network c) same cut.2)
-     ])
+    λ c. (
+      λ e. inr (
+        unoff,
+        record {
+          before = admitted;
+          cut = event;
+          behind = [];
+          order = refl;
+          none_before = λ l a. let f = first_cut network admitted l rules of_network a in none f.0 (inr (unoff, f.1));
+          cuts = (link, (way, what), (on c).0 e);
+        },
+      ),
+      λ h. elim (was_faulty network admitted event c h) [
+        | inl was ↦ absurd (none c was)
+        | inr cut ↦
+            let cuts_it = cut.1.1 in
+            let same : cut.0 ≡ link = cc in
+            (on c).1 (subst (IsLinkOf network c) same cut.2)
+      ],
+    )
 
 -- before any event the faulty channel is the one with a switch that begins off
 pub faulty_begins : (network : Network) (found : Option Channel) → KeepsRules network → MatchOption found ((c : Channel) → HasOffSwitch network c → ⊥) (HasOffSwitch network) → KnowsFaulty network [] found
-faulty_begins network None rules none = λ c.
-    (λ e. absurd cc,
-     λ h. elim h [ inl off ↦ absurd (none c off) | inr first ↦ absurd (none_stands first.1.before first.1.cut first.1.behind first.1.order) ])
-faulty_begins network (Some f) rules off = λ c.
-    (λ e. let same : f ≡ c = cc in inl (subst (HasOffSwitch network) same off),
-     λ h. ap (λ (t : Channel). Some t) (one_faulty network [] f c rules (inl off) h))
+faulty_begins network None rules none = λ c. (
+  λ e. absurd cc,
+  λ h. elim h [ inl off ↦ absurd (none c off) | inr first ↦ absurd (none_stands first.1.before first.1.cut first.1.behind first.1.order) ],
+)
+faulty_begins network (Some f) rules off = λ c. (
+  λ e. let same : f ≡ c = cc in inl (subst (HasOffSwitch network) same off),
+  λ h. ap (λ (t : Channel). Some t) (one_faulty network [] f c rules (inl off) h),
+)

@@ -1,8 +1,8 @@
 -- What a watch keeps stands so behind one more event.
-use Rattle.std.proofs.Common.{◌≡◌, ◌≢◌, ◌⊎◌, ◌↔◌, ℕ, ◌<◌, ◌≤◌, zero, suc, List, [], ◌∷◌, ◌++◌, length, Bool, true, false, Option, Some, None, inl, inr, refl, sym, ap, subst, ◌∙◌, arith}
+use Rattle.std.proofs.Common.{◌≡◌, ◌↔◌, ℕ, ◌<◌, ◌≤◌, zero, suc, List, [], ◌∷◌, ◌++◌, length, Bool, true, false, Option, Some, inl, inr, refl, sym, ap, ◌∙◌, arith}
 use Rattle.std.specs.Prelude.{slice_get, slice_set}
 use Rattle.std.proofs.lemmas.Bool.{cases_order}
-use Rattle.std.proofs.lemmas.List.{get_or-replicate, length-replicate, length-set}
+use Rattle.std.proofs.lemmas.List.{get_or-replicate, length-replicate}
 use Rattle.std.proofs.lemmas.Option.{get_or_from_slice_get, slice_get_within}
 use Rattle.std.proofs.Math.ListN.{replicate}
 use Rattle.net_plan.specs.declared.event.Event.{Event}
@@ -14,7 +14,7 @@ use Rattle.run_law.specs.Hypothesis.{AreWithinHypothesis, IsWithinHypothesis}
 use Rattle.run_law.specs.declared.outside.Outside.TheVariants.{SecondBreak}
 use Rattle.trace_text.specs.Ranges.{HasDevice, IsOfNetwork}
 use Rattle.fault_hypothesis.specs.Watching.{AreOfNetwork}
-use Rattle.fault_hypothesis.proofs.Befalling.{StandsInFront, StandsLast, any_last, any_left, any_none, any_parts, stands_where}
+use Rattle.fault_hypothesis.proofs.Befalling.{any_last, any_left, any_none, any_parts, stands_where}
 
 -- one more event of the network
 pub all_of_network : (network : Network) (admitted : List Event) (event : Event) → AreOfNetwork network admitted → IsOfNetwork network event.what → AreOfNetwork network (admitted ++ event ∷ [])
@@ -38,18 +38,20 @@ KnowsBroken events broken = (d : DeviceId) → (broken ≡ Some d) ↔ IsBroken 
 
 -- where the event breaks nothing, the broken device is as it was
 pub broken_stays : (admitted : List Event) (event : Event) (broken : Option DeviceId) → ((d : DeviceId) → Breaks d event → ⊥) → KnowsBroken admitted broken → KnowsBroken (admitted ++ event ∷ []) broken
-broken_stays admitted event broken none known = λ d.
-    (λ e. any_left (Breaks d) admitted event ((known d).0 e),
-     λ h. elim (any_parts (Breaks d) admitted event h) [ inl a ↦ (known d).1 a | inr b ↦ absurd (none d b) ])
+broken_stays admitted event broken none known = λ d. (
+  λ e. any_left (Breaks d) admitted event ((known d).0 e),
+  λ h. elim (any_parts (Breaks d) admitted event h) [ inl a ↦ (known d).1 a | inr b ↦ absurd (none d b) ],
+)
 
 -- a break within the hypothesis is the first
 pub broken_breaks : (network : Network) (admitted : List Event) (event : Event) (device : DeviceId) (broken : Option DeviceId) → IsWithinHypothesis network admitted event → event.what ≡ events.Break device → KnowsBroken admitted broken → KnowsBroken (admitted ++ event ∷ []) (Some device)
-broken_breaks network admitted event device broken within what known = λ d.
-    (λ e. any_last (Breaks d) admitted event (what ∙ ap (λ (o : DeviceId). events.Break o) cc),
-     λ h. elim (any_parts (Breaks d) admitted event h) [
-       | inl a ↦ absurd (within SecondBreak (record { device = device; broken = d; breaks = what; is_broken = a }))
-       | inr b ↦ cc
-     ])
+broken_breaks network admitted event device broken within what known = λ d. (
+  λ e. any_last (Breaks d) admitted event (what ∙ ap (λ (o : DeviceId). events.Break o) cc),
+  λ h. elim (any_parts (Breaks d) admitted event h) [
+    | inl a ↦ absurd (within SecondBreak (record { device = device; broken = d; breaks = what; is_broken = a }))
+    | inr b ↦ cc
+  ],
+)
 
 -- what a watch knows of the devices that were turned on
 abbrev pub KnowsTurnedOn : Network → List Event → List Bool → Type 0
@@ -58,9 +60,10 @@ KnowsTurnedOn network events on =
 
 -- where the event turns nothing on, these devices are as they were
 pub on_stays : (network : Network) (admitted : List Event) (event : Event) (on : List Bool) → ((d : DeviceId) → TurnsOn d event → ⊥) → KnowsTurnedOn network admitted on → KnowsTurnedOn network (admitted ++ event ∷ []) on
-on_stays network admitted event on none known = λ d has.
-    (λ e. any_left (TurnsOn d) admitted event ((known d has).0 e),
-     λ h. elim (any_parts (TurnsOn d) admitted event h) [ inl a ↦ (known d has).1 a | inr b ↦ absurd (none d b) ])
+on_stays network admitted event on none known = λ d has. (
+  λ e. any_left (TurnsOn d) admitted event ((known d has).0 e),
+  λ h. elim (any_parts (TurnsOn d) admitted event h) [ inl a ↦ (known d has).1 a | inr b ↦ absurd (none d b) ],
+)
 
 get_set_same : (xs : List Bool) (i : ℕ) (x : Bool) → i < length xs → slice_get (slice_set xs i x) i ≡ Some x
 get_set_same [] i x within = absurd (omega (arith, within))
@@ -81,27 +84,30 @@ same_id a b e = ap (λ n. let d : DeviceId = record { 0 = n } in d) e
 pub on_turns : (network : Network) (admitted : List Event) (event : Event) (device : DeviceId) (on : List Bool) → length network.device ≤ length on → HasDevice network device → event.what ≡ events.On device → KnowsTurnedOn network admitted on → KnowsTurnedOn network (admitted ++ event ∷ []) (slice_set on device.0 true)
 on_turns network admitted event device on room there what known = λ d has.
     let here : device.0 ≡ d.0 → IsTurnedOn (admitted ++ event ∷ []) d =
-        λ same. any_last (TurnsOn d) admitted event (what ∙ ap (λ (o : DeviceId). events.On o) (same_id device d same)) in
+    λ same. any_last (TurnsOn d) admitted event (what ∙ ap (λ (o : DeviceId). events.On o) (same_id device d same)) in
     elim (cases_order device.0 d.0) [
-      | inl same ↦
-          (λ e. here same,
-           λ h. rw (← same) (get_set_same on device.0 true (omega (arith, there, room))))
+      | inl same ↦ (
+        λ e. here same,
+        λ h. rw (← same) (get_set_same on device.0 true (omega (arith, there, room))),
+      )
       | inr other ↦
           let differ : device.0 ≡ d.0 → ⊥ = λ e. elim other [ inl lt ↦ absurd (omega (arith, lt, e)) | inr gt ↦ absurd (omega (arith, gt, e)) ] in
-          let kept = get_set_other on device.0 d.0 true differ in
-          (λ e. any_left (TurnsOn d) admitted event ((known d has).0 (sym kept ∙ e)),
-           λ h. elim (any_parts (TurnsOn d) admitted event h) [
-             | inl a ↦ kept ∙ (known d has).1 a
-             | inr b ↦ let one : device ≡ d = cc in absurd (differ (ap (λ (x : DeviceId). x.0) one))
-           ])
+          let kept = get_set_other on device.0 d.0 true differ in (
+            λ e. any_left (TurnsOn d) admitted event ((known d has).0 (sym kept ∙ e)),
+            λ h. elim (any_parts (TurnsOn d) admitted event h) [
+              | inl a ↦ kept ∙ (known d has).1 a
+              | inr b ↦ let one : device ≡ d = cc in absurd (differ (ap (λ (x : DeviceId). x.0) one))
+            ],
+          )
     ]
 
 -- none was turned on before any event
 pub none_on : (network : Network) (size : ℕ) → KnowsTurnedOn network [] (replicate size false)
-none_on network size = λ d has.
-    (λ e.
-        let within = slice_get_within (replicate size false) d.0 true e in
-        let here = get_or_from_slice_get (replicate size false) d.0 true true e in
-        let there = get_or-replicate size d.0 false true (omega (arith, within, length-replicate size false)) in
-        absurd cc,
-     λ h. absurd (any_none (TurnsOn d) h))
+none_on network size = λ d has. (
+  λ e.
+      let within = slice_get_within (replicate size false) d.0 true e in
+      let here = get_or_from_slice_get (replicate size false) d.0 true true e in
+      let there = get_or-replicate size d.0 false true (omega (arith, within, length-replicate size false)) in
+      absurd cc,
+  λ h. absurd (any_none (TurnsOn d) h),
+)

@@ -1,5 +1,5 @@
 -- How many masters are left behind a break.
-use Rattle.std.proofs.Common.{◌≡◌, ◌↔◌, ℕ, ◌+◌, List, [], ◌∷◌, ◌++◌, Bool, true, false, Option, Some, None, refl, sym, ap, subst, ◌∙◌, cond}
+use Rattle.std.proofs.Common.{◌≡◌, ◌↔◌, ℕ, ◌+◌, List, [], ◌∷◌, ◌++◌, Bool, true, false, Option, Some, None, refl, sym, ap, ◌∙◌, cond}
 use Rattle.std.specs.Prelude.{◌&&◌, ◌||◌, not, ◌==◌, is_some}
 use Rattle.std.specs.List.{count_by, enumerate_from, list_any}
 use Rattle.std.specs.Option.{option_map_or}
@@ -11,7 +11,6 @@ use Rattle.net_plan.specs.declared.event.What.{What}
 use Rattle.net_plan.specs.declared.event.What.TheVariants as events
 use Rattle.net_plan.specs.declared.ids.DeviceId.{DeviceId}
 use Rattle.net_plan.specs.declared.network.Network.{Network}
-use Rattle.net_plan.specs.declared.tables.Device.{Device}
 use Rattle.run_law.specs.Faults.{IsBroken}
 use Rattle.run_law.specs.Hypothesis.{breaks_at, is_sound_master, sound_masters}
 use Rattle.fault_hypothesis.specs.SoundMasters.{is_sound_beside}
@@ -38,10 +37,10 @@ broken_at : (admitted : List Event) (broken : Option DeviceId) → ((d : DeviceI
 broken_at admitted broken known place =
     same_bool (list_any (λ e. breaks_at place e.what) admitted) (option_map_or (λ b. b.0 == place) broken false)
     (λ t.
-        let a = Any-from_list_any (λ (e : Event). breaks_at place e.what) admitted t in
-        let h = breaks_it place a.1.what a.4 in
-        let e = (known h.0).1 (a.0, a.1, a.2, a.3, h.1) in
-        rw e h.2)
+    let a = Any-from_list_any (λ (e : Event). breaks_at place e.what) admitted t in
+    let h = breaks_it place a.1.what a.4 in
+    let e = (known h.0).1 (a.0, a.1, a.2, a.3, h.1) in
+    rw e h.2)
     (elim broken as (λ o. ((d : DeviceId) → (o ≡ Some d) ↔ IsBroken admitted d) → option_map_or (λ b. b.0 == place) o false ≡ true → list_any (λ e. breaks_at place e.what) admitted ≡ true) [
       | None ↦ λ knows t. absurd cc
       | Some b ↦ λ knows t.
@@ -69,9 +68,9 @@ pub left_by_break : (network : Network) (admitted : List Event) (event : Event) 
 left_by_break network admitted event device broken known what =
     same_count (is_sound_beside broken device) (is_sound_master (admitted ++ event ∷ []))
     (λ placed.
-        let any = list_any-append (λ (e : Event). breaks_at placed.0 e.what) admitted (event ∷ []) in
-        let here = broken_at admitted broken known placed.0 in
-        let last = ap (breaks_at placed.0) what in
-        let join = neither (is_master placed.1.role && is_some placed.1.start) (option_map_or (λ b. b.0 == placed.0) broken false) (device.0 == placed.0) in
-        cc)
+    let any = list_any-append (λ (e : Event). breaks_at placed.0 e.what) admitted (event ∷ []) in
+    let here = broken_at admitted broken known placed.0 in
+    let last = ap (breaks_at placed.0) what in
+    let join = neither (is_master placed.1.role && is_some placed.1.start) (option_map_or (λ b. b.0 == placed.0) broken false) (device.0 == placed.0) in
+    cc)
     (enumerate_from 0 network.device)

@@ -1,5 +1,5 @@
 -- What stands at a place of a list.
-use Rattle.std.proofs.Common.{◌≡◌, ◌↔◌, Bool, true, false, ℕ, ◌+◌, ◌<◌, ◌≤◌, List, [], ◌∷◌, length, refl, sym, ap, subst, ◌∙◌, arith, zero, suc, Option, Some, None}
+use Rattle.std.proofs.Common.{◌≡◌, ◌↔◌, Bool, true, false, ℕ, ◌<◌, List, [], ◌∷◌, length, refl, subst, arith, zero, suc, Option, Some, None}
 use Rattle.std.specs.Prelude.{IsSomeAnd, IsTrue, slice_get}
 use Rattle.std.specs.Bool.{MatchBool}
 use Rattle.std.specs.List.{All, AllWithin, HoldsAt}

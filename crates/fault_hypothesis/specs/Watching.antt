@@ -21,8 +21,8 @@ IsLastTime events (Some time) =
 abbrev pub AreOfNetwork : Network → List Event → Type 0
 AreOfNetwork network events = All (λ e. IsOfNetwork network e.what) events
 
--- the watch is over this network and admitted these events, which are within the hypothesis: it has the
--- time of the last, the broken device, the faulty channel, and which devices they turned on
+-- the watch is over this network and admitted these events, which are the network's and within the
+-- hypothesis: it has the time of the last, the broken device, the faulty channel and the devices turned on
 pub record Watches (network : Network) (watch : Watch) (admitted : List Event) : Type 0 where
   pub over : watch.accepted.now ≡ network
   pub of_network : AreOfNetwork network admitted
@@ -30,4 +30,5 @@ pub record Watches (network : Network) (watch : Watch) (admitted : List Event) :
   pub last : IsLastTime admitted watch.last
   pub broken : (device : DeviceId) → (watch.broken ≡ Some device) ↔ IsBroken admitted device
   pub faulty : (channel : Channel) → (watch.faulty ≡ Some channel) ↔ IsFaulty network admitted channel
-  pub turned_on : (device : DeviceId) → HasDevice network device → (slice_get watch.turned_on device.0 ≡ Some true) ↔ IsTurnedOn admitted device
+  pub turned_on : (device : DeviceId) → HasDevice network device
+      → (slice_get watch.turned_on device.0 ≡ Some true) ↔ IsTurnedOn admitted device

@@ -51,7 +51,8 @@ fn sets_other_wire(network: &Network, event: &Event) -> bool
 // Is the wire delay one that the link of the network cannot have?
 fn is_other_wire(network: &Network, link: &Link, delay: Units) -> bool
     requires { IsLinkInRange network.now link.now }
-    ensures { IsTrue result ↔ ((delay.0 <ℤ link.now.wire.0) ⊎ ((link.now.wire.0 +ℤ link.now.jitter.0) <ℤ delay.0)) }
+    ensures { IsTrue result
+        ↔ ((delay.0 <ℤ link.now.wire.0) ⊎ ((link.now.wire.0 +ℤ link.now.jitter.0) <ℤ delay.0)) }
 {
     delay.0 < link.wire.0 || delay.0 > link.wire.0 + link.jitter.0
 }
@@ -100,7 +101,8 @@ impl Watch<'_> {
     /// Does the event break the condition, given the events admitted? Its device and link are the
     /// network's.
     pub(crate) fn violates(&self, event: &Event, condition: Outside) -> bool
-        ensures { (network : NetworkValue) (admitted : List EventValue) → Watches network self.now admitted → IsOfNetwork network event.now.what
+        ensures { (network : NetworkValue) (admitted : List EventValue)
+            → Watches network self.now admitted → IsOfNetwork network event.now.what
             → (IsTrue result ↔ Violates network admitted event.now condition) }
     {
         let network = self.accepted.network();
@@ -120,7 +122,8 @@ impl Watch<'_> {
     }
 
     fn comes_too_early(&self, event: &Event) -> bool
-        ensures { (network : NetworkValue) (admitted : List EventValue) → Watches network self.now admitted
+        ensures { (network : NetworkValue) (admitted : List EventValue)
+            → Watches network self.now admitted
             → (IsTrue result ↔ ComesTooEarly admitted event.now) }
     {
         match self.last {
@@ -130,7 +133,8 @@ impl Watch<'_> {
     }
 
     fn cuts_other_channel(&self, event: &Event) -> bool
-        ensures { (network : NetworkValue) (admitted : List EventValue) → Watches network self.now admitted
+        ensures { (network : NetworkValue) (admitted : List EventValue)
+            → Watches network self.now admitted
             → (IsTrue result ↔ CutsOtherChannel network admitted event.now) }
     {
         match &event.what {
@@ -140,7 +144,8 @@ impl Watch<'_> {
     }
 
     fn breaks_second(&self, event: &Event) -> bool
-        ensures { (network : NetworkValue) (admitted : List EventValue) → Watches network self.now admitted
+        ensures { (network : NetworkValue) (admitted : List EventValue)
+            → Watches network self.now admitted
             → (IsTrue result ↔ BreaksSecond admitted event.now) }
     {
         match &event.what {
@@ -150,7 +155,8 @@ impl Watch<'_> {
     }
 
     fn leaves_too_few(&self, event: &Event) -> bool
-        ensures { (network : NetworkValue) (admitted : List EventValue) → Watches network self.now admitted
+        ensures { (network : NetworkValue) (admitted : List EventValue)
+            → Watches network self.now admitted
             → (IsTrue result ↔ LeavesTooFew network admitted event.now) }
     {
         match &event.what {
@@ -163,7 +169,8 @@ impl Watch<'_> {
 
     // How many masters began on, and are neither broken nor this device.
     fn sound_masters_beside(&self, device: DeviceId) -> usize
-        ensures { result ≡ count_by (is_sound_beside self.now.broken device) (enumerate_from 0 self.now.accepted.now.device) }
+        ensures { result ≡ count_by (is_sound_beside self.now.broken device)
+            (enumerate_from 0 self.now.accepted.now.device) }
     {
         self.accepted
             .network()
@@ -176,7 +183,8 @@ impl Watch<'_> {
     }
 
     fn sends_unbroken(&self, event: &Event) -> bool
-        ensures { (network : NetworkValue) (admitted : List EventValue) → Watches network self.now admitted
+        ensures { (network : NetworkValue) (admitted : List EventValue)
+            → Watches network self.now admitted
             → (IsTrue result ↔ SendsUnbroken network admitted event.now) }
     {
         match &event.what {
@@ -189,7 +197,8 @@ impl Watch<'_> {
     }
 
     fn turns_on_again(&self, event: &Event) -> bool
-        ensures { (network : NetworkValue) (admitted : List EventValue) → Watches network self.now admitted → IsOfNetwork network event.now.what
+        ensures { (network : NetworkValue) (admitted : List EventValue)
+            → Watches network self.now admitted → IsOfNetwork network event.now.what
             → (IsTrue result ↔ TurnsOnAgain network admitted event.now) }
     {
         match &event.what {
@@ -203,14 +212,16 @@ impl Watch<'_> {
     }
 
     fn is_broken(&self, device: DeviceId) -> bool
-        ensures { (network : NetworkValue) (admitted : List EventValue) → Watches network self.now admitted
+        ensures { (network : NetworkValue) (admitted : List EventValue)
+            → Watches network self.now admitted
             → (IsTrue result ↔ IsBroken admitted device) }
     {
         self.broken == Some(device)
     }
 
     fn is_turned_on(&self, device: DeviceId) -> bool
-        ensures { (network : NetworkValue) (admitted : List EventValue) → Watches network self.now admitted → HasDevice network device
+        ensures { (network : NetworkValue) (admitted : List EventValue)
+            → Watches network self.now admitted → HasDevice network device
             → (IsTrue result ↔ IsTurnedOn admitted device) }
     {
         match self.turned_on.get(device.0 as usize) {

@@ -43,7 +43,9 @@ pub(crate) fn begins_on(network: &Network, device: DeviceId) -> bool
 
 /// The first channel that has a switch that begins off, if one has.
 pub(crate) fn off_channel(network: &Network) -> Option<Channel>
-    ensures { MatchOption result ((channel : ChannelValue) → HasOffSwitch network.now channel → ⊥) (HasOffSwitch network.now) }
+    ensures { MatchOption result
+        ((channel : ChannelValue) → HasOffSwitch network.now channel → ⊥)
+        (HasOffSwitch network.now) }
 {
     if has_off_switch(network, Channel::A) {
         Some(Channel::A)

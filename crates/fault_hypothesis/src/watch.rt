@@ -16,7 +16,7 @@ use schedule_tables::Accepted;
 use tte_units::Units;
 
 /// The most devices of a network that keeps the rules.
-pub(crate) const MOST_DEVICES: usize = 64;
+const MOST_DEVICES: usize = 64;
 
 /// The conditions of the fault hypothesis, in the order in which they are judged.
 const CONDITIONS: [Outside; 11] = [
@@ -33,9 +33,9 @@ const CONDITIONS: [Outside; 11] = [
     Outside::NotOff,
 ];
 
-/// A watch over a network: it tells which events are within the fault hypothesis, given those that
-/// it admitted, and keeps of these what the conditions ask for.
-#[derive(Drop)]
+/// A watch over a network. It judges events by the fault hypothesis, given those that it admitted,
+/// of which it keeps only what the conditions ask for.
+#[derive(Debug, Drop)]
 pub struct Watch<'a> {
     pub(crate) accepted: &'a Accepted,
     // The time of the last event.
@@ -60,10 +60,11 @@ impl<'a> Watch<'a> {
         }
     }
 
-    /// Whether the event is within the hypothesis, given those admitted, and if not, by which
-    /// condition, the first that it breaks. The event's device and link are the network's.
+    /// Judges the event, given those admitted: it is within the hypothesis, or outside by the first
+    /// condition that it breaks. The event's device and link are the network's.
     pub fn judge(&self, event: &Event) -> Result<(), Outside>
-        ensures { (network : Network) (admitted : List EventValue) → Watches network self.now admitted → IsOfNetwork network event.now.what
+        ensures { (network : Network) (admitted : List EventValue)
+            → Watches network self.now admitted → IsOfNetwork network event.now.what
             → MatchResult result
             (λ _. IsWithinHypothesis network admitted event.now)
             (λ condition. IsOutsideBy network admitted event.now condition) }
@@ -76,10 +77,12 @@ impl<'a> Watch<'a> {
         Ok(())
     }
 
-    /// Admits the event if it is within the hypothesis, given those admitted before. Otherwise
-    /// nothing changes. The event's device and link are the network's.
+    /// Admits the event where it is within the hypothesis, given those admitted before. Where it is
+    /// outside, it is refused by the first condition that it breaks, and nothing changes. The
+    /// event's device and link are the network's.
     pub fn admit(&mut self, event: &Event) -> Result<(), Outside>
-        ensures judged { (network : Network) (admitted : List EventValue) → Watches network self.old admitted → IsOfNetwork network event.now.what
+        ensures judged { (network : Network) (admitted : List EventValue)
+            → Watches network self.old admitted → IsOfNetwork network event.now.what
             → MatchResult result
             (λ _. IsWithinHypothesis network admitted event.now × Watches network self.new (admitted ++ event.now ∷ []))
             (λ condition. IsOutsideBy network admitted event.now condition) }
@@ -90,9 +93,10 @@ impl<'a> Watch<'a> {
         Ok(())
     }
 
-    // Keeps what the event changes.
+    // Keeps of the event what the conditions ask for.
     fn keep(&mut self, event: &Event)
-        ensures { (network : Network) (admitted : List EventValue) → Watches network self.old admitted → IsOfNetwork network event.now.what
+        ensures { (network : Network) (admitted : List EventValue)
+            → Watches network self.old admitted → IsOfNetwork network event.now.what
             → IsWithinHypothesis network admitted event.now
             → Watches network self.new (admitted ++ event.now ∷ []) }
     {
@@ -112,7 +116,8 @@ impl<'a> Watch<'a> {
 
     /// The broken device, a master. It is None exactly where none is broken.
     pub fn broken(&self) -> Option<DeviceId>
-        ensures { (network : Network) (admitted : List EventValue) → Watches network self.now admitted
+        ensures { (network : Network) (admitted : List EventValue)
+            → Watches network self.now admitted
             → (device : DeviceIdValue) → (result ≡ Some device) ↔ IsBroken admitted device }
     {
         self.broken
@@ -120,7 +125,8 @@ impl<'a> Watch<'a> {
 
     /// The faulty channel. It is None exactly where no channel is faulty yet.
     pub fn faulty(&self) -> Option<Channel>
-        ensures { (network : Network) (admitted : List EventValue) → Watches network self.now admitted
+        ensures { (network : Network) (admitted : List EventValue)
+            → Watches network self.now admitted
             → (channel : ChannelValue) → (result ≡ Some channel) ↔ IsFaulty network admitted channel }
     {
         self.faulty

@@ -1,8 +1,6 @@
-use Rattle.std.proofs.Common.{◌≡◌, ◌∙◌, ap, subst}
-use Rattle.std.specs.Prelude.{◌↔◌, IsTrue, nat_lt}
+use Rattle.std.proofs.Common.{◌∙◌, ap}
 use Rattle.std.specs.List.{count_by, enumerate_from}
 use Rattle.net_plan.specs.declared.network.Network.{Network}
-use Rattle.run_law.specs.Hypothesis.{LeavesTooFew}
 use Rattle.fault_hypothesis.specs.SoundMasters.{is_sound_beside}
 use Rattle.fault_hypothesis.proofs.Judging.{few_by}
 use Rattle.fault_hypothesis.proofs.SoundMasters.{left_by_break}
