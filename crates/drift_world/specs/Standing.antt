@@ -1,0 +1,16 @@
+-- A world as its callers see it.
+use Rattle.std.specs.Prelude.{ℕ, ◌-◌, ◌==◌, Bool, List, [], ◌∷◌, length, if◌then◌else◌}
+use Rattle.net_plan.specs.declared.network.Network.{Network}
+use Rattle.tte_units.specs.Amount.{amount}
+use Rattle.tte_units.specs.declared.units.Units.{Units}
+
+-- a network, its devices' clocks in their order, how many events were applied and records given, the
+-- time of the last event or 0, whether the end has come, and how many clocks have a record
+pub record Standing (C : Type 0) : Type 0 where
+  pub network : Network
+  pub clocks : List C
+  pub lines : ℕ
+  pub given : ℕ
+  pub now : Units
+  pub ended : Bool
+  pub shown : ℕ

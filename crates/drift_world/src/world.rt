@@ -1,0 +1,182 @@
+ghost use Rattle.std.specs.Prelude.{◌≡◌, ◌+◌, ◌<◌, ◌≤◌, ◌^◌, pos, unsigned_abs, ◌≤ℤ◌, ◌<ℤ◌, false, All, List, [], ◌∷◌, ◌++◌, length, replicate, IfOk, IfSome, IfNone, OnErr, MatchOption, slice_get, Some};
+ghost use Rattle.drift_world.specs.Kept.{IfRate};
+ghost use Rattle.drift_world.specs.Stands.{AllBeginOn, Stands, clock_after, clock_body, event_note, left_of, reading_of};
+ghost use Rattle.net_plan.specs.Places.{device_at};
+ghost use Rattle.net_plan.specs.Ranges.{IsWithin};
+ghost use Rattle.net_plan.specs.declared.event.Event.{Event};
+ghost use Rattle.net_plan.specs.declared.ids.DeviceId.{DeviceId};
+ghost use Rattle.net_plan.specs.declared.network.Network.{Network};
+ghost use Rattle.run_law.specs.Hypothesis.{SetsFastRate};
+ghost use Rattle.run_law.specs.Records.{IsRunOf};
+ghost use Rattle.run_law.specs.declared.note.Note.{Note};
+ghost use Rattle.trace_text.specs.Ranges.{IsOfNetwork};
+ghost use Rattle.tte_units.specs.Amount.{amount};
+
+use crate::OutOfMemory;
+use drift_clock::Clock;
+use net_plan::{DeviceId, Event, Network, What};
+use run_law::{Note, NoteBody};
+use schedule_tables::Accepted;
+use std::alloc::Global;
+use std::marker::Model;
+use sync_state::State;
+use tte_units::Units;
+
+/// A network as it runs: its clocks, and how far its events and its records have come.
+#[derive(Drop)]
+pub struct World<'a, C: Clock> {
+    accepted: &'a Accepted,
+    /// The devices' clocks, in the network's order.
+    clocks: Vec<C>,
+    /// How many events were applied.
+    lines: u64,
+    /// How many records were given.
+    given: u64,
+    /// The time of the last event, or 0.
+    now: Units,
+    /// Has the end come?
+    ended: bool,
+    /// How many clocks have a record.
+    shown: u32,
+}
+
+impl<'a, C: Clock> Model for World<'a, C> {
+    ghost use Rattle.std.specs.Prelude.{◌≡◌};
+    ghost use Rattle.drift_world.specs.Standing.{Standing};
+    ghost use Rattle.drift_world.specs.Kept.{Keeps};
+
+    ghost Value = { Standing C };
+
+    ghost view = { λ w. record { network = w.accepted.now; clocks = w.clocks.items; lines = w.lines; given = w.given; now = w.now; ended = w.ended; shown = w.shown } };
+
+    ghost invariant = { λ w. Keeps C.last_step w.accepted.now w.clocks.items w.now w.shown };
+}
+
+impl<'a, C: Clock> World<'a, C> {
+    /// The world of a network whose devices all begin on: nothing has befallen it.
+    pub fn begin(alloc: Global, accepted: &'a Accepted) -> Result<World<'a, C>, OutOfMemory>
+        requires { AllBeginOn accepted.now }
+        ensures { IfOk result (λ world. Stands C.fresh C.after_step C.reading accepted.now world [] []) }
+    {
+        let clocks = fresh_clocks(alloc, accepted.network())?;
+        Ok(World {
+            accepted,
+            clocks,
+            lines: 0,
+            given: 0,
+            now: Units(0),
+            ended: false,
+            shown: 0,
+        })
+    }
+
+    /// The event of this line befalls the network. Its record is answered.
+    ///
+    /// The lines count the events from 1. The event is of the network, is no earlier than the last,
+    /// and comes before the end, at 2^60 at the latest; a rate is within rho. On an error nothing has
+    /// changed.
+    pub fn apply(&mut self, line: u64, event: &Event) -> Result<Note, OutOfMemory>
+        requires line { line ≡ self.old.lines + 1 }
+        requires order { self.old.now.0 ≤ℤ event.now.time.0 }
+        requires limit { event.now.time.0 ≤ℤ pos (2 ^ 60) }
+        requires of_network { IsOfNetwork self.old.network event.now.what }
+        requires rate { SetsFastRate self.old.network event.now → ⊥ }
+        requires open { self.old.ended ≡ false }
+        ensures stands { (network : Network) (events : List Event) (notes : List Note) → Stands C.fresh C.after_step C.reading network self.old events notes
+            → IfOk result (λ note. Stands C.fresh C.after_step C.reading network self.new (events ++ event.now ∷ []) (notes ++ note ∷ [])) }
+        ensures note { IfOk result (λ note. note ≡ event_note (self.old.given + 1) line event.now) }
+        ensures err { OnErr result (self.new ≡ self.old) }
+    {
+        if self.given == u64::MAX {
+            return Err(OutOfMemory);
+        }
+        let Ok(what) = event.what.clone() else {
+            return Err(OutOfMemory);
+        };
+        set_rates(&mut self.clocks, event.time, &what);
+        self.lines = line;
+        self.given += 1;
+        self.now = event.time;
+        self.ended = matches!(what, What::End);
+        Ok(Note {
+            number: self.given,
+            time: event.time,
+            body: NoteBody::Event { line, what },
+        })
+    }
+
+    /// The next record before a time. It is None exactly where none is due before it.
+    ///
+    /// On an error nothing has changed.
+    pub fn next(&mut self, until: Units) -> Result<Option<Note>, OutOfMemory>
+        ensures stands { (network : Network) (events : List Event) (notes : List Note) → Stands C.fresh C.after_step C.reading network self.old events notes
+            → IfOk result (λ next. MatchOption next
+            (self.old.now.0 <ℤ until.0 → IsRunOf network (reading_of C.fresh C.after_step C.reading network events) events (amount until ∷ []) notes)
+            (λ note. Stands C.fresh C.after_step C.reading network self.new events (notes ++ note ∷ []))) }
+        ensures before { IfOk result (λ next. IfSome next (λ note. note.time.0 <ℤ until.0)) }
+        ensures fewer { IfOk result (λ next. IfSome next (λ _. left_of self.new < left_of self.old)) }
+        ensures none { IfOk result (λ next. IfNone next (self.new ≡ self.old)) }
+        ensures err { OnErr result (self.new ≡ self.old) }
+    {
+        if !self.ended || until <= self.now || self.shown as usize == self.clocks.len() {
+            return Ok(None);
+        }
+        if self.given == u64::MAX {
+            return Err(OutOfMemory);
+        }
+        let device = DeviceId(self.shown);
+        let clock = &self.clocks[self.shown as usize];
+        let body = clock_body(self.accepted.network(), device, clock, self.now);
+        self.given += 1;
+        self.shown += 1;
+        Ok(Some(Note {
+            number: self.given,
+            time: self.now,
+            body,
+        }))
+    }
+}
+
+/// A fresh clock for each device.
+fn fresh_clocks<C: Clock>(alloc: Global, network: &Network) -> Result<Vec<C>, OutOfMemory>
+    requires { IsWithin 1 1048576 network.now.grain }
+    ensures { IfOk result (λ clocks. clocks.items ≡ replicate (length network.now.device) (C.fresh (amount network.now.grain))) }
+{
+    let mut clocks = Vec::new(alloc);
+    for _ in network.device.as_slice() {
+        if clocks.push(C::fresh(network.grain)).is_err() {
+            return Err(OutOfMemory);
+        }
+    }
+    Ok(clocks)
+}
+
+/// Sets the rate of a device's clock, where that is what befalls the network.
+fn set_rates<C: Clock>(clocks: &mut Vec<C>, time: Units, what: &What)
+    requires there { IfRate what.now (λ device rate. (device.0 < length clocks.old.items) × (unsigned_abs rate.0 ≤ 1000000)) }
+    requires stepped { All (λ c. pos (C.last_step c) ≤ℤ time.0) clocks.old.items }
+    requires limit { time.0 ≤ℤ pos (2 ^ 60) }
+    ensures each { (device : DeviceId) (clock : C) → slice_get clocks.old.items device.0 ≡ Some clock → slice_get clocks.new.items device.0 ≡ Some (clock_after C.after_step device time what.now clock) }
+    ensures length { length clocks.new.items ≡ length clocks.old.items }
+    ensures stepped { All (λ c. pos (C.last_step c) ≤ℤ time.0) clocks.new.items }
+{
+    if let What::Rate(device, rate) = what {
+        clocks[device.0 as usize].rate(time, *rate);
+    }
+}
+
+/// What a device's clock reads at a time, as a record.
+fn clock_body<C: Clock>(network: &Network, device: DeviceId, clock: &C, time: Units) -> NoteBody
+    requires there { device.0 < length network.now.device }
+    requires stepped { pos (C.last_step clock.now) ≤ℤ time.0 }
+    requires limit { time.0 ≤ℤ pos (2 ^ 60) }
+    ensures { IfSome (device_at network.now device) (λ is. result ≡ clock_body C.reading device is clock.now time) }
+{
+    let start = network.device.as_slice()[device.0 as usize].start;
+    NoteBody::Clock {
+        device,
+        reading: clock.read(time),
+        adjustment: start.unwrap_or(Units(0)),
+        state: State::Synchronised,
+    }
+}
