@@ -3,9 +3,11 @@ use Rattle.std.specs.Prelude.{◌≡◌, ℕ, List, ◌++◌}
 use Rattle.net_plan.specs.declared.event.Event.{Event}
 use Rattle.net_plan.specs.declared.ids.DeviceId.{DeviceId}
 use Rattle.net_plan.specs.declared.network.Network.{Network}
+use Rattle.run_law.specs.Hypothesis.{IsOutsideBy, IsWithinHypothesis}
 use Rattle.run_law.specs.Order.{IsBefore}
 use Rattle.run_law.specs.Records.{IsRunOf}
 use Rattle.run_law.specs.declared.note.Note.{Note}
+use Rattle.run_law.specs.declared.outside.Outside.{Outside}
 
 -- there is one run of a network under the events up to a mark
 abbrev pub RunIsOne : Type 0
@@ -20,3 +22,12 @@ EarlierRunIsFront =
     → ((p : List ℕ) → IsBefore p mark → IsBefore p later)
     → IsRunOf network reading events mark notes → IsRunOf network reading events later more
     → (rest : List Note) × (more ≡ notes ++ rest)
+
+-- the event is not both within the hypothesis and outside, and not outside by two conditions
+pub record HasOneJudgement (network : Network) (before : List Event) (event : Event) : Type 0 where
+  pub not_both : (condition : Outside) → IsWithinHypothesis network before event → IsOutsideBy network before event condition → ⊥
+  pub one : (condition other : Outside) → IsOutsideBy network before event condition → IsOutsideBy network before event other → condition ≡ other
+
+-- the hypothesis judges each event of each network in one way
+abbrev pub HypothesisIsDecided : Type 0
+HypothesisIsDecided = (network : Network) (before : List Event) (event : Event) → HasOneJudgement network before event

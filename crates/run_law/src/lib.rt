@@ -2,8 +2,10 @@
 //! and what holds of all runs.
 #![tactic(auto)]
 
+mod laws;
 mod note;
 mod outside;
 
+pub use laws::{earlier_run_is_front, hypothesis_is_decided, run_is_one};
 pub use note::{Note, NoteBody};
 pub use outside::Outside;

@@ -1,0 +1,5 @@
+use Rattle.run_law.proofs.Decided.{hypothesis_is_decided}
+use Rattle.run_law.proofs.laws.hypothesis_is_decided.Goals as goal
+
+pub returns : goal.returns
+returns c = hypothesis_is_decided
