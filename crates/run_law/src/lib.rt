@@ -9,3 +9,6 @@ mod outside;
 pub use laws::{earlier_run_is_front, hypothesis_is_decided, run_is_one};
 pub use note::{Note, NoteBody};
 pub use outside::Outside;
+
+#[cfg(test)]
+mod tests;

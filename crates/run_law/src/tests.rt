@@ -1,0 +1,23 @@
+use crate::{Outside, earlier_run_is_front, hypothesis_is_decided, run_is_one};
+
+#[test]
+fn the_conditions_are_numbered_as_they_are_judged(rt: HostRuntime) {
+    assert!(rt; Outside::Order.number() == 1);
+    assert!(rt; Outside::Late.number() == 2);
+    assert!(rt; Outside::Rate.number() == 3);
+    assert!(rt; Outside::Wire.number() == 4);
+    assert!(rt; Outside::Hold.number() == 5);
+    assert!(rt; Outside::Channel.number() == 6);
+    assert!(rt; Outside::NotMaster.number() == 7);
+    assert!(rt; Outside::SecondBreak.number() == 8);
+    assert!(rt; Outside::TooFewMasters.number() == 9);
+    assert!(rt; Outside::NotBroken.number() == 10);
+    assert!(rt; Outside::NotOff.number() == 11);
+}
+
+#[test]
+fn the_laws_hold(_rt: HostRuntime) {
+    run_is_one();
+    earlier_run_is_front();
+    hypothesis_is_decided();
+}
