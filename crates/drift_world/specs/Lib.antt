@@ -1,3 +1,3 @@
-pub mod Standing
+pub mod Progress
 pub mod Kept
-pub mod Stands
+pub mod Standing

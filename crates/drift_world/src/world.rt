@@ -1,6 +1,5 @@
 ghost use Rattle.std.specs.Prelude.{◌≡◌, ◌+◌, ◌<◌, ◌≤◌, ◌^◌, pos, unsigned_abs, ◌≤ℤ◌, ◌<ℤ◌, false, All, List, [], ◌∷◌, ◌++◌, length, replicate, IfOk, IfSome, IfNone, OnErr, MatchOption, slice_get, Some};
-ghost use Rattle.drift_world.specs.Kept.{IfRate};
-ghost use Rattle.drift_world.specs.Stands.{AllBeginOn, Stands, clock_after, clock_body, event_note, left_of, reading_of};
+ghost use Rattle.drift_world.specs.Standing.{AllBeginOn, Stands, behind_events, clock_after, clock_body, event_note, left_of, reading_of};
 ghost use Rattle.net_plan.specs.Places.{device_at};
 ghost use Rattle.net_plan.specs.Ranges.{IsWithin};
 ghost use Rattle.net_plan.specs.declared.event.Event.{Event};
@@ -11,6 +10,7 @@ ghost use Rattle.run_law.specs.Records.{IsRunOf};
 ghost use Rattle.run_law.specs.declared.note.Note.{Note};
 ghost use Rattle.trace_text.specs.Ranges.{IsOfNetwork};
 ghost use Rattle.tte_units.specs.Amount.{amount};
+ghost use Rattle.tte_units.specs.declared.rates.Ppb.{Ppb};
 
 use crate::OutOfMemory;
 use drift_clock::Clock;
@@ -42,10 +42,10 @@ pub struct World<'a, C: Clock> {
 
 impl<'a, C: Clock> Model for World<'a, C> {
     ghost use Rattle.std.specs.Prelude.{◌≡◌};
-    ghost use Rattle.drift_world.specs.Standing.{Standing};
+    ghost use Rattle.drift_world.specs.Progress.{Progress};
     ghost use Rattle.drift_world.specs.Kept.{Keeps};
 
-    ghost Value = { Standing C };
+    ghost Value = { Progress C };
 
     ghost view = { λ w. record { network = w.accepted.now; clocks = w.clocks.items; lines = w.lines; given = w.given; now = w.now; ended = w.ended; shown = w.shown } };
 
@@ -84,20 +84,22 @@ impl<'a, C: Clock> World<'a, C> {
         requires open { self.old.ended ≡ false }
         ensures stands { (network : Network) (events : List Event) (notes : List Note) → Stands C.fresh C.after_step C.reading network self.old events notes
             → IfOk result (λ note. Stands C.fresh C.after_step C.reading network self.new (events ++ event.now ∷ []) (notes ++ note ∷ [])) }
+        ensures run { (network : Network) (events : List Event) (notes : List Note) → Stands C.fresh C.after_step C.reading network self.old events notes
+            → IfOk result (λ note. IsRunOf network (reading_of C.fresh C.after_step C.reading network (events ++ event.now ∷ [])) (events ++ event.now ∷ []) (behind_events event.now.time) (notes ++ note ∷ [])) }
         ensures note { IfOk result (λ note. note ≡ event_note (self.old.given + 1) line event.now) }
         ensures err { OnErr result (self.new ≡ self.old) }
     {
         if self.given == u64::MAX {
             return Err(OutOfMemory);
         }
-        let Ok(what) = event.what.clone() else {
+        let Ok(what) = copy_of(&event.what) else {
             return Err(OutOfMemory);
         };
-        set_rates(&mut self.clocks, event.time, &what);
+        set_rates(&mut self.clocks, event.time, &event.what);
         self.lines = line;
         self.given += 1;
         self.now = event.time;
-        self.ended = matches!(what, What::End);
+        self.ended = matches!(event.what, What::End);
         Ok(Note {
             number: self.given,
             time: event.time,
@@ -118,7 +120,7 @@ impl<'a, C: Clock> World<'a, C> {
         ensures none { IfOk result (λ next. IfNone next (self.new ≡ self.old)) }
         ensures err { OnErr result (self.new ≡ self.old) }
     {
-        if !self.ended || until <= self.now || self.shown as usize == self.clocks.len() {
+        if !self.ended || until.0 <= self.now.0 || self.shown as usize == self.clocks.len() {
             return Ok(None);
         }
         if self.given == u64::MAX {
@@ -151,9 +153,17 @@ fn fresh_clocks<C: Clock>(alloc: Global, network: &Network) -> Result<Vec<C>, Ou
     Ok(clocks)
 }
 
+/// The same happening.
+fn copy_of(what: &What) -> Result<What, OutOfMemory>
+    ensures { IfOk result (λ copy. copy ≡ what.now) }
+{
+    Ok(what.clone()?)
+}
+
 /// Sets the rate of a device's clock, where that is what befalls the network.
 fn set_rates<C: Clock>(clocks: &mut Vec<C>, time: Units, what: &What)
-    requires there { IfRate what.now (λ device rate. (device.0 < length clocks.old.items) × (unsigned_abs rate.0 ≤ 1000000)) }
+    requires there { (device : DeviceId) (rate : Ppb) → what.now ≡ What.Rate device rate → device.0 < length clocks.old.items }
+    requires slow { (device : DeviceId) (rate : Ppb) → what.now ≡ What.Rate device rate → unsigned_abs rate.0 ≤ 1000000 }
     requires stepped { All (λ c. pos (C.last_step c) ≤ℤ time.0) clocks.old.items }
     requires limit { time.0 ≤ℤ pos (2 ^ 60) }
     ensures each { (device : DeviceId) (clock : C) → slice_get clocks.old.items device.0 ≡ Some clock → slice_get clocks.new.items device.0 ≡ Some (clock_after C.after_step device time what.now clock) }

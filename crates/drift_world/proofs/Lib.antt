@@ -1,0 +1,5 @@
+pub mod Times
+pub mod Due
+pub mod Clocks
+pub mod Steps
+pub mod Standings
