@@ -12,7 +12,7 @@ use Rattle.drift_clock.specs.Readings.{reading_at, value_after}
 use Rattle.drift_clock.proofs.Histories.{up_to-all}
 use Rattle.drift_world.proofs.Due.{ArePast}
 use Rattle.drift_world.proofs.Times.{amount_within}
-use Rattle.drift_world.specs.Standing.{clock_after}
+use Rattle.drift_world.specs.Clocks.{clock_after}
 use Rattle.net_plan.specs.Ranges.{IsWithin}
 use Rattle.net_plan.specs.declared.event.Event.{Event}
 use Rattle.net_plan.specs.declared.event.What.{What}

@@ -3,3 +3,4 @@ pub mod Due
 pub mod Clocks
 pub mod Steps
 pub mod Standings
+pub mod Callers

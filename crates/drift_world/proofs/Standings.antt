@@ -14,7 +14,9 @@ use Rattle.drift_world.proofs.Due.{ArePast, IsOpen, only_one}
 use Rattle.drift_world.proofs.Steps.{clock_run, event_run, marks, none_at_end, none_while_open}
 use Rattle.drift_world.proofs.Times.{amounts, amount_is, later_amount}
 use Rattle.drift_world.specs.Progress.{Progress}
-use Rattle.drift_world.specs.Standing.{Stands, behind_events, clock_after, clock_body, event_note, last_time, mark_of, reading_of}
+use Rattle.drift_world.specs.Clocks.{clock_after, reading_of}
+use Rattle.drift_world.specs.Notes.{clock_body, event_note}
+use Rattle.drift_world.specs.Standing.{Stands, behind_events, last_time, mark_of}
 use Rattle.net_plan.specs.Places.{device_at}
 use Rattle.net_plan.specs.Ranges.{IsWithin}
 use Rattle.net_plan.specs.declared.event.Event.{Event}
@@ -48,8 +50,7 @@ pub record IsEndTest (what : What) (ended : Bool) : Type 0 where
 
 ends_now : (events : List Event) (e : Event) (ended : Bool) → IsOpen events → IsEndTest e.what ended → (time : Units) → EndsAt (events ++ e ∷ []) time ↔ ((ended ≡ true) × (time ≡ e.time))
 ends_now events e ended open_yet test time =
-    let end : Event = record { time = time; what = End } in
-    (
+    let end : Event = record { time = time; what = End } in (
       λ there.
           elim (Contains-append_cases events (e ∷ []) end there) [
             | inl old ↦ absurd (open_yet time old)
@@ -60,7 +61,7 @@ ends_now events e ended open_yet test time =
       λ h.
           let timed : e ≡ record { time = time; what = e.what } = ap (λ (t : Units). let f : Event = record { time = t; what = e.what } in f) (sym h.1) in
           let same : e ≡ end = timed ∙ ap (λ (w : What). let f : Event = record { time = time; what = w } in f) (test.ends h.0) in
-          Contains-append_right events (e ∷ []) end (0, omega arith, same)
+          Contains-append_right events (e ∷ []) end (0, omega arith, same),
     )
 
 past_more : (events : List Event) (now : Units) (e : Event) → pos 0 ≤ℤ now.0 → now.0 ≤ℤ e.time.0 → ArePast events now → ArePast (events ++ e ∷ []) e.time

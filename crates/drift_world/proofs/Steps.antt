@@ -4,7 +4,8 @@ use Rattle.std.proofs.Math.Dec.{eqb-suc-zero}
 use Rattle.std.proofs.lemmas.Bool.{cases_lt}
 use Rattle.drift_world.proofs.Due.{ArePast, IsOpen, IsClockPlace, next_event, open_before, ended_cases, more_due, less_caused, get_last}
 use Rattle.drift_world.proofs.Times.{amounts, by_time}
-use Rattle.drift_world.specs.Standing.{behind_events, event_note}
+use Rattle.drift_world.specs.Notes.{event_note}
+use Rattle.drift_world.specs.Standing.{behind_events}
 use Rattle.net_plan.specs.declared.event.Event.{Event}
 use Rattle.net_plan.specs.declared.ids.DeviceId.{DeviceId}
 use Rattle.net_plan.specs.declared.network.Network.{Network}
@@ -63,11 +64,11 @@ event_run network reading later events now e notes open_yet past begun order own
     let under_more : IsRun place_of NowDue spot notes =
     run_of_same place_of WasDue NowDue spot notes (λ ps y d. more_due network reading later events e ps y open_yet d)
     (λ ps qs y split d b.
-        elim (less_caused network reading later events e y.time y.body open_yet d.cause) [
-          | inl was ↦ record { number = d.number; begun = d.begun; cause = was }
-          | inr (inl same) ↦ absurd (never_self here (up here (subst (λ (p : List ℕ). IsBefore p spot) same b)))
-          | inr (inr clock) ↦ absurd (no_clock (amount y.time) (amount e.time) (amount now) y.body (length events + 1) clock.0 le clock.1 b)
-        ])
+    elim (less_caused network reading later events e y.time y.body open_yet d.cause) [
+      | inl was ↦ record { number = d.number; begun = d.begun; cause = was }
+      | inr (inl same) ↦ absurd (never_self here (up here (subst (λ (p : List ℕ). IsBefore p spot) same b)))
+      | inr (inr clock) ↦ absurd (no_clock (amount y.time) (amount e.time) (amount now) y.body (length events + 1) clock.0 le clock.1 b)
+    ])
     at_spot in
     let due : NowDue notes x = record {
       number = refl;
@@ -167,11 +168,11 @@ clock_run network reading events now shown notes x one past spot due run =
     let up : (p : List ℕ) → IsBefore p here → IsBefore p (behind (place_of x)) = λ p b. chain p (place_of x) (behind (place_of x)) (subst (λ (q : List ℕ). IsBefore p q) (sym spot) b) (before_behind (place_of x)) in
     move_mark place_of Due (behind (place_of x)) (mark_at now (shown + 1)) (notes ++ x ∷ []) grown
     (λ n i.
-        elim (in_parts n notes (x ∷ []) i) [
-          | inl l ↦ chain (place_of n) here (mark_at now (shown + 1)) (facts.high (place_of n) (run.within n l)) (later.clocks shown (omega arith))
-          | inr (inl e) ↦ subst (λ (m : Note). IsBefore (place_of m) (mark_at now (shown + 1))) (sym e) (subst (λ (p : List ℕ). IsBefore p (mark_at now (shown + 1))) (sym spot) (later.clocks shown (omega arith)))
-          | inr (inr none) ↦ absurd none
-        ])
+    elim (in_parts n notes (x ∷ []) i) [
+      | inl l ↦ chain (place_of n) here (mark_at now (shown + 1)) (facts.high (place_of n) (run.within n l)) (later.clocks shown (omega arith))
+      | inr (inl e) ↦ subst (λ (m : Note). IsBefore (place_of m) (mark_at now (shown + 1))) (sym e) (subst (λ (p : List ℕ). IsBefore p (mark_at now (shown + 1))) (sym spot) (later.clocks shown (omega arith)))
+      | inr (inr none) ↦ absurd none
+    ])
     (record {
       gap = λ ps qs y split b n d lt.
           elim (ended_cases network reading events now y.time y.body one past d.cause) [
@@ -213,8 +214,8 @@ none_at_end network reading events now shown until notes one past all lt run =
     let facts : IsMark now shown (mark_at now shown) = marks now shown in
     up_to_time network reading events (mark_at now shown) (until ∷ []) notes (before_until now shown until lt)
     (λ ps y d.
-        elim (ended_cases network reading events now y.time y.body one past d.cause) [
-          | inl event ↦ facts.low (place_of y) (before_behind_events events now (place_of y) event)
-          | inr c ↦ subst (λ (p : List ℕ). IsBefore p (mark_at now shown)) (sym (at_clock network now y.time y.body c)) (facts.clocks (key y.body) (omega (arith, c.there)))
-        ])
+    elim (ended_cases network reading events now y.time y.body one past d.cause) [
+      | inl event ↦ facts.low (place_of y) (before_behind_events events now (place_of y) event)
+      | inr c ↦ subst (λ (p : List ℕ). IsBefore p (mark_at now shown)) (sym (at_clock network now y.time y.body c)) (facts.clocks (key y.body) (omega (arith, c.there)))
+    ])
     run

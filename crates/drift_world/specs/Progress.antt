@@ -1,5 +1,5 @@
 -- How far a world has come.
-use Rattle.std.specs.Prelude.{ℕ, Bool, List}
+use Rattle.std.specs.Prelude.{ℕ, ◌-◌, Bool, List, length, if◌then◌else◌}
 use Rattle.net_plan.specs.declared.network.Network.{Network}
 use Rattle.tte_units.specs.declared.units.Units.{Units}
 
@@ -13,3 +13,7 @@ pub record Progress (C : Type 0) : Type 0 where
   pub now : Units
   pub ended : Bool
   pub shown : ℕ
+
+-- how many records are left to be given: at the end those of the other clocks
+abbrev pub left_of : {C : Type 0} → Progress C → ℕ
+left_of world = if world.ended then length world.network.device - world.shown else 0

@@ -1,25 +1,24 @@
-ghost use Rattle.std.specs.Prelude.{◌≡◌, ◌+◌, ◌<◌, ◌≤◌, ◌^◌, pos, unsigned_abs, ◌≤ℤ◌, ◌<ℤ◌, false, All, List, [], ◌∷◌, ◌++◌, length, replicate, IfOk, IfSome, IfNone, OnErr, MatchOption, slice_get, Some};
-ghost use Rattle.drift_world.specs.Standing.{AllBeginOn, Stands, behind_events, clock_after, clock_body, event_note, left_of, reading_of};
-ghost use Rattle.net_plan.specs.Places.{device_at};
-ghost use Rattle.net_plan.specs.Ranges.{IsWithin};
+ghost use Rattle.std.specs.Prelude.{◌≡◌, ◌+◌, ◌<◌, ◌^◌, pos, ◌≤ℤ◌, ◌<ℤ◌, false, List, [], ◌∷◌, ◌++◌, IfOk, IfSome, IfNone, OnErr};
+ghost use Rattle.drift_world.specs.Clocks.{reading_of};
+ghost use Rattle.drift_world.specs.Notes.{event_note};
+ghost use Rattle.drift_world.specs.Progress.{left_of};
+ghost use Rattle.drift_world.specs.Standing.{AllBeginOn, Stands, behind_events};
 ghost use Rattle.net_plan.specs.declared.event.Event.{Event};
-ghost use Rattle.net_plan.specs.declared.ids.DeviceId.{DeviceId};
 ghost use Rattle.net_plan.specs.declared.network.Network.{Network};
 ghost use Rattle.run_law.specs.Hypothesis.{SetsFastRate};
 ghost use Rattle.run_law.specs.Records.{IsRunOf};
 ghost use Rattle.run_law.specs.declared.note.Note.{Note};
 ghost use Rattle.trace_text.specs.Ranges.{IsOfNetwork};
 ghost use Rattle.tte_units.specs.Amount.{amount};
-ghost use Rattle.tte_units.specs.declared.rates.Ppb.{Ppb};
 
 use crate::OutOfMemory;
+use crate::device_clocks::{clock_body, fresh_clocks, set_rate};
 use drift_clock::Clock;
-use net_plan::{DeviceId, Event, Network, What};
+use net_plan::{DeviceId, Event, What};
 use run_law::{Note, NoteBody};
 use schedule_tables::Accepted;
 use std::alloc::Global;
 use std::marker::Model;
-use sync_state::State;
 use tte_units::Units;
 
 /// A network as it runs: its clocks, and how far its events and its records have come.
@@ -95,7 +94,7 @@ impl<'a, C: Clock> World<'a, C> {
         let Ok(what) = copy_of(&event.what) else {
             return Err(OutOfMemory);
         };
-        set_rates(&mut self.clocks, event.time, &event.what);
+        set_rate(&mut self.clocks, event.time, &event.what);
         self.lines = line;
         self.given += 1;
         self.now = event.time;
@@ -112,9 +111,10 @@ impl<'a, C: Clock> World<'a, C> {
     /// On an error nothing has changed.
     pub fn next(&mut self, until: Units) -> Result<Option<Note>, OutOfMemory>
         ensures stands { (network : Network) (events : List Event) (notes : List Note) → Stands C.fresh C.after_step C.reading network self.old events notes
-            → IfOk result (λ next. MatchOption next
-            (self.old.now.0 <ℤ until.0 → IsRunOf network (reading_of C.fresh C.after_step C.reading network events) events (amount until ∷ []) notes)
-            (λ note. Stands C.fresh C.after_step C.reading network self.new events (notes ++ note ∷ []))) }
+            → IfOk result (λ next. IfSome next (λ note. Stands C.fresh C.after_step C.reading network self.new events (notes ++ note ∷ []))) }
+        ensures complete { (network : Network) (events : List Event) (notes : List Note) → Stands C.fresh C.after_step C.reading network self.old events notes
+            → self.old.now.0 <ℤ until.0
+            → IfOk result (λ next. IfNone next (IsRunOf network (reading_of C.fresh C.after_step C.reading network events) events (amount until ∷ []) notes)) }
         ensures before { IfOk result (λ next. IfSome next (λ note. note.time.0 <ℤ until.0)) }
         ensures fewer { IfOk result (λ next. IfSome next (λ _. left_of self.new < left_of self.old)) }
         ensures none { IfOk result (λ next. IfNone next (self.new ≡ self.old)) }
@@ -139,54 +139,9 @@ impl<'a, C: Clock> World<'a, C> {
     }
 }
 
-/// A fresh clock for each device.
-fn fresh_clocks<C: Clock>(alloc: Global, network: &Network) -> Result<Vec<C>, OutOfMemory>
-    requires { IsWithin 1 1048576 network.now.grain }
-    ensures { IfOk result (λ clocks. clocks.items ≡ replicate (length network.now.device) (C.fresh (amount network.now.grain))) }
-{
-    let mut clocks = Vec::new(alloc);
-    for _ in network.device.as_slice() {
-        if clocks.push(C::fresh(network.grain)).is_err() {
-            return Err(OutOfMemory);
-        }
-    }
-    Ok(clocks)
-}
-
 /// The same happening.
 fn copy_of(what: &What) -> Result<What, OutOfMemory>
     ensures { IfOk result (λ copy. copy ≡ what.now) }
 {
     Ok(what.clone()?)
-}
-
-/// Sets the rate of a device's clock, where that is what befalls the network.
-fn set_rates<C: Clock>(clocks: &mut Vec<C>, time: Units, what: &What)
-    requires there { (device : DeviceId) (rate : Ppb) → what.now ≡ What.Rate device rate → device.0 < length clocks.old.items }
-    requires slow { (device : DeviceId) (rate : Ppb) → what.now ≡ What.Rate device rate → unsigned_abs rate.0 ≤ 1000000 }
-    requires stepped { All (λ c. pos (C.last_step c) ≤ℤ time.0) clocks.old.items }
-    requires limit { time.0 ≤ℤ pos (2 ^ 60) }
-    ensures each { (device : DeviceId) (clock : C) → slice_get clocks.old.items device.0 ≡ Some clock → slice_get clocks.new.items device.0 ≡ Some (clock_after C.after_step device time what.now clock) }
-    ensures length { length clocks.new.items ≡ length clocks.old.items }
-    ensures stepped { All (λ c. pos (C.last_step c) ≤ℤ time.0) clocks.new.items }
-{
-    if let What::Rate(device, rate) = what {
-        clocks[device.0 as usize].rate(time, *rate);
-    }
-}
-
-/// What a device's clock reads at a time, as a record.
-fn clock_body<C: Clock>(network: &Network, device: DeviceId, clock: &C, time: Units) -> NoteBody
-    requires there { device.0 < length network.now.device }
-    requires stepped { pos (C.last_step clock.now) ≤ℤ time.0 }
-    requires limit { time.0 ≤ℤ pos (2 ^ 60) }
-    ensures { IfSome (device_at network.now device) (λ is. result ≡ clock_body C.reading device is clock.now time) }
-{
-    let start = network.device.as_slice()[device.0 as usize].start;
-    NoteBody::Clock {
-        device,
-        reading: clock.read(time),
-        adjustment: start.unwrap_or(Units(0)),
-        state: State::Synchronised,
-    }
 }

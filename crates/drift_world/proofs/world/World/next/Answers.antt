@@ -4,7 +4,8 @@ use Rattle.std.proofs.lemmas.Int.{ints}
 use Rattle.std.proofs.lemmas.Option.{slice_get_read}
 use Rattle.drift_world.proofs.Standings.{at_place, clock_shown, none_open, none_over}
 use Rattle.drift_world.specs.Progress.{Progress}
-use Rattle.drift_world.specs.Standing.{Stands, clock_body}
+use Rattle.drift_world.specs.Notes.{clock_body}
+use Rattle.drift_world.specs.Standing.{Stands}
 use Rattle.net_plan.specs.Places.{device_at}
 use Rattle.net_plan.specs.declared.ids.DeviceId.{DeviceId}
 use Rattle.net_plan.specs.declared.network.Network.{Network}
@@ -14,8 +15,8 @@ use Rattle.run_law.specs.declared.note.NoteBody.{NoteBody}
 use Rattle.drift_world.proofs.world.World.next.Goals as goal
 use Rattle.drift_world.proofs.world.World.next.Goals.{then-not-self-via-then-not-self, then-not-self-via-else-not-self+then-until-self, then-not-self-via-else-not-self+else-until-self+then-self-len}
 
-pub returns-then-not-self-clause-stands : goal.returns-then-not-self-clause-stands
-returns-then-not-self-clause-stands g c = λ network events notes s lt.
+pub returns-then-not-self-clause-complete : goal.returns-then-not-self-clause-complete
+returns-then-not-self-clause-complete g c = λ network events notes s lt.
     let w = c.self.inside in
     let K = g.C.Clock in
     let v : Progress _ = record { network = w.accepted.now; clocks = w.clocks.items; lines = w.lines; given = w.given; now = w.now; ended = w.ended; shown = w.shown } in
