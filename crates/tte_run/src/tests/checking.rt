@@ -3,7 +3,7 @@ use super::grown::{EIGHT_RELAYS, MORE_LINKS, MORE_MASTERS, WITHOUT_THE_LAST};
 use super::verdicts::{
     ACCEPTED, accepted, accepted_with_each, checked, refused, refused_with_each,
 };
-use super::worked::{WORKED, with_edits};
+use super::worked::{Edit, WORKED, with_edits};
 use crate::Status;
 use std::alloc::Global;
 use std::test::Fail;
@@ -11,15 +11,15 @@ use std::test::Fail;
 // How many octets a file has at most.
 const LIMIT: usize = 262_144;
 
-const VERSION_2: (&str, &str) = ("version = 1", "version = 2");
+const VERSION_2: Edit<'_> = ("version = 1", "version = 2");
 
 // A grain of 4096, and what `check` writes for the worked network with it.
-const IN_GRAINS: (&str, &str) = ("rho = 50000", "rho = 50000\ngrain = 4096");
+const IN_GRAINS: Edit<'_> = ("rho = 50000", "rho = 50000\ngrain = 4096");
 
 const ACCEPTED_IN_GRAINS: &str = "accepted beta 3407872 gamma 26230784\n";
 
 // Edits of the worked network with which it is accepted.
-const LIKE_THE_WORKED_ONE: &[&[(&str, &str)]] = &[
+const LIKE_THE_WORKED_ONE: &[&[Edit<'_>]] = &[
     &[VERSION_2, MORE_MASTERS, MORE_LINKS],
     &[
         VERSION_2,
@@ -30,7 +30,7 @@ const LIKE_THE_WORKED_ONE: &[&[(&str, &str)]] = &[
 ];
 
 // Edits with which it is refused.
-const NEAR_THE_WORKED_ONE: &[(&[(&str, &str)], &str)] = &[
+const NEAR_THE_WORKED_ONE: &[(&[Edit<'_>], &str)] = &[
     (&[("dmax = 3276800000\n", "")], "missing top 0 dmax"),
     (
         &[("\"ra\", role=\"relay\"", "\"ra\", role=\"cm\"")],

@@ -1,6 +1,6 @@
 use super::cases::{Case, try_case};
 use super::verdicts::{refused, refused_with_each};
-use super::worked::{WORKED, edited};
+use super::worked::{Edit, WORKED, edited};
 use crate::Status;
 use std::alloc::Global;
 use std::process::Abort;
@@ -112,7 +112,7 @@ fn missing_keys(rt: HostRuntime) -> Result<(), Fail> {
 }
 
 // Values of another kind.
-const OF_ANOTHER_KIND: &[(&[(&str, &str)], &str)] = &[
+const OF_ANOTHER_KIND: &[(&[Edit<'_>], &str)] = &[
     (
         &[("cycle = 131072000000", "cycle = \"x\"")],
         "kind top 0 cycle",
@@ -142,7 +142,7 @@ const OF_ANOTHER_KIND: &[(&[(&str, &str)], &str)] = &[
 ];
 
 // Values out of their ranges.
-const OUT_OF_RANGE: &[(&[(&str, &str)], &str)] = &[
+const OUT_OF_RANGE: &[(&[Edit<'_>], &str)] = &[
     (
         &[("cycle = 131072000000", "cycle = 4294967295")],
         "range top 0 cycle",
@@ -193,7 +193,7 @@ const OUT_OF_RANGE: &[(&[(&str, &str)], &str)] = &[
 ];
 
 // A key that stands twice, names of nothing, and keys that a table does not have.
-const NAMES_AND_UNKNOWN_KEYS: &[(&[(&str, &str)], &str)] = &[
+const NAMES_AND_UNKNOWN_KEYS: &[(&[Edit<'_>], &str)] = &[
     (&[("rho = 50000\n", "rho = 50000\nrho = 50000\n")], "toml"),
     (
         &[("child=\"m4\", parent=\"ra\"", "child=\"zz\", parent=\"ra\"")],

@@ -1,11 +1,11 @@
 use super::verdicts::refused;
-use super::worked::{WORKED, edited};
+use super::worked::{Edit, WORKED, edited};
 use std::alloc::Global;
 use std::process::Abort;
 use std::test::Fail;
 
 /// Two masters more.
-pub(super) const MORE_MASTERS: (&str, &str) = (
+pub(super) const MORE_MASTERS: Edit<'_> = (
     "]\nlink = [\n",
     " {name=\"m5\", role=\"master\", mac=\"020000000031\", member=4, start=0},
  {name=\"m6\", role=\"master\", mac=\"020000000032\", member=5, start=0},
@@ -14,7 +14,7 @@ link = [\n",
 );
 
 /// Their links.
-pub(super) const MORE_LINKS: (&str, &str) = (
+pub(super) const MORE_LINKS: Edit<'_> = (
     "]\nvl = [\n",
     " {name=\"m5_a\", child=\"m5\", parent=\"ra\", wire=32768000, jitter=1310720, hold=1310720000, speed=100},
  {name=\"m6_a\", child=\"m6\", parent=\"ra\", wire=32768000, jitter=1310720, hold=1310720000, speed=100},
@@ -26,7 +26,7 @@ vl = [\n",
 
 /// The worked network gets eight relays one under another on channel a, the first under ca, and m1's
 /// link of this channel under the last.
-pub(super) const EIGHT_RELAYS: [(&str, &str); 3] = [
+pub(super) const EIGHT_RELAYS: [Edit<'_>; 3] = [
     (
         "]\nlink = [\n",
         " {name=\"r1\", role=\"relay\", mac=\"0200000000e1\", channel=\"a\", start=0},
@@ -57,7 +57,7 @@ vl = [\n",
 ];
 
 /// Seven of these relays are left.
-pub(super) const WITHOUT_THE_LAST: [(&str, &str); 3] = [
+pub(super) const WITHOUT_THE_LAST: [Edit<'_>; 3] = [
     (
         " {name=\"r8\", role=\"relay\", mac=\"0200000000e8\", channel=\"a\", start=0},\n",
         "",

@@ -2,16 +2,17 @@ use super::grown::{
     MORE_LINKS, MORE_MASTERS, behind, full_schedule, refused_with_many, with_clients,
 };
 use super::verdicts::{accepted, accepted_with_each, refused, refused_with_each};
+use super::worked::Edit;
 use std::test::Fail;
 
 // A virtual link of m2 beside that of the worked network.
-const SECOND_VL: (&str, &str) = (
+const SECOND_VL: Edit<'_> = (
     "]\nrow = [\n",
     " {name=\"v2\", id=2, length=60, ethertype=2048, sender=\"m2\", period=1, phase=0},\n]\nrow = [\n",
 );
 
 // Its rows.
-const SECOND_ROWS: (&str, &str) = (
+const SECOND_ROWS: Edit<'_> = (
     "offset=28180480000},\n]",
     "offset=28180480000},
  {vl=\"v2\", link=\"m2_a\", way=\"up\", offset=26542080000},
@@ -22,13 +23,13 @@ const SECOND_ROWS: (&str, &str) = (
 );
 
 // The virtual link of the worked network in the odd cycles, and a second one of m1 in one of four.
-const SPARSE_VLS: (&str, &str) = (
+const SPARSE_VLS: Edit<'_> = (
     "period=1, phase=0},\n",
     "period=2, phase=1},\n {name=\"v2\", id=2, length=60, ethertype=2048, sender=\"m1\", period=4, phase=3},\n",
 );
 
 // The rows of the second, at the offsets of the first.
-const ROWS_AT_THE_SAME_OFFSETS: (&str, &str) = (
+const ROWS_AT_THE_SAME_OFFSETS: Edit<'_> = (
     "offset=28180480000},\n]",
     "offset=28180480000},
  {vl=\"v2\", link=\"m1_a\", way=\"up\", offset=26542080000},
@@ -39,41 +40,41 @@ const ROWS_AT_THE_SAME_OFFSETS: (&str, &str) = (
 );
 
 // A relay on channel a that has no children, and a row by its link, whose source no row enters.
-const FURTHER_RELAY: (&str, &str) = (
+const FURTHER_RELAY: Edit<'_> = (
     "]\nlink = [\n",
     " {name=\"rx\", role=\"relay\", mac=\"020000000041\", channel=\"a\", start=0},\n]\nlink = [\n",
 );
 
-const ITS_LINK: (&str, &str) = (
+const ITS_LINK: Edit<'_> = (
     "]\nvl = [\n",
     " {name=\"rx_ca\", child=\"rx\", parent=\"ca\", wire=32768000, jitter=1310720, hold=1310720000, speed=100},\n]\nvl = [\n",
 );
 
-const ROW_OF_NO_SOURCE: (&str, &str) = (
+const ROW_OF_NO_SOURCE: Edit<'_> = (
     "offset=28180480000},\n]",
     "offset=28180480000},\n {vl=\"v1\", link=\"rx_ca\", way=\"down\", offset=40000000000},\n]",
 );
 
 // The first row once more, at another offset.
-const FIRST_ROW_AGAIN: (&str, &str) = (
+const FIRST_ROW_AGAIN: Edit<'_> = (
     "offset=28180480000},\n]",
     "offset=28180480000},\n {vl=\"v1\", link=\"m1_a\", way=\"up\", offset=40000000000},\n]",
 );
 
 // The virtual link enters no end system.
-const WITHOUT_RECEIVERS: (&str, &str) = (
+const WITHOUT_RECEIVERS: Edit<'_> = (
     " {vl=\"v1\", link=\"c1_a\", way=\"down\", offset=28180480000},\n {vl=\"v1\", link=\"c1_b\", way=\"down\", offset=28180480000},\n",
     "",
 );
 
 // Devices that begin off.
-const M3_OFF: (&str, &str) = ("member=2, start=0", "member=2");
+const M3_OFF: Edit<'_> = ("member=2, start=0", "member=2");
 
-const M4_OFF: (&str, &str) = ("member=3, start=0", "member=3");
+const M4_OFF: Edit<'_> = ("member=3, start=0", "member=3");
 
-const RA_OFF: (&str, &str) = ("21\", channel=\"a\", start=0", "21\", channel=\"a\"");
+const RA_OFF: Edit<'_> = ("21\", channel=\"a\", start=0", "21\", channel=\"a\"");
 
-const CB_OFF: (&str, &str) = ("24\", channel=\"b\", start=0", "24\", channel=\"b\"");
+const CB_OFF: Edit<'_> = ("24\", channel=\"b\", start=0", "24\", channel=\"b\"");
 
 // What stands too often in a network: the mark of its array, its line, how often it is added, and the
 // reason of the refusal. With as many as the limit a later rule is broken.
@@ -113,7 +114,7 @@ fn limits(rt: HostRuntime) -> Result<(), Fail> {
 }
 
 // Edits that break no rule, many of them at the bound of one.
-const KEPT: &[&[(&str, &str)]] = &[
+const KEPT: &[&[Edit<'_>]] = &[
     &[M3_OFF],
     &[M4_OFF],
     &[RA_OFF],
@@ -160,7 +161,7 @@ fn rules_are_kept(rt: HostRuntime) -> Result<(), Fail> {
 }
 
 // Edits that break rules 2 to 7, on names, trees and masters.
-const SHAPES: &[(&[(&str, &str)], &str)] = &[
+const SHAPES: &[(&[Edit<'_>], &str)] = &[
     (
         &[("\"020000000012\"", "\"020000000011\"")],
         "rule 2 index 1",
@@ -214,7 +215,7 @@ const SHAPES: &[(&[(&str, &str)], &str)] = &[
 ];
 
 // Edits that break rules 8 to 13, on times, by one unit.
-const TIMES: &[(&[(&str, &str)], &str)] = &[
+const TIMES: &[(&[Edit<'_>], &str)] = &[
     (
         &[(
             "child=\"c1\", parent=\"ra\", wire=32768000, jitter=1310720, hold=1310720000",
@@ -255,7 +256,7 @@ const TIMES: &[(&[(&str, &str)], &str)] = &[
 // no rows and breaks rule 22 too, as one does that a switch sends. A row that goes again by its link
 // breaks rule 20 too. No network breaks that rule first: in trees, a virtual link that starts at its
 // sender and goes once by each link enters nothing twice.
-const SCHEDULES: &[(&[(&str, &str)], &str)] = &[
+const SCHEDULES: &[(&[Edit<'_>], &str)] = &[
     (
         &[SECOND_VL, ("name=\"v2\"", "name=\"v1\"")],
         "rule 14 index 1",

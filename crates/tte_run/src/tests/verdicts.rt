@@ -1,5 +1,5 @@
 use super::cases::{Case, try_case};
-use super::worked::{WORKED, with_edits};
+use super::worked::{Edit, WORKED, with_edits};
 use crate::Status;
 use std::alloc::Global;
 use std::process::Abort;
@@ -47,7 +47,7 @@ pub(super) fn refused(
 pub(super) fn accepted_with_each(
     rt: &impl Abort,
     alloc: Global,
-    cases: &[&[(&str, &str)]],
+    cases: &[&[Edit<'_>]],
 ) -> Result<(), Fail> {
     for edits in cases {
         let network = with_edits(rt, alloc, WORKED, edits)?;
@@ -60,7 +60,7 @@ pub(super) fn accepted_with_each(
 pub(super) fn refused_with_each(
     rt: &impl Abort,
     alloc: Global,
-    cases: &[(&[(&str, &str)], &str)],
+    cases: &[(&[Edit<'_>], &str)],
 ) -> Result<(), Fail> {
     for (edits, reason) in cases {
         let network = with_edits(rt, alloc, WORKED, edits)?;

@@ -54,6 +54,9 @@ row = [
 ]
 ";
 
+/// An old text, which stands in a network once, and a new one in its place.
+pub(super) type Edit<'a> = (&'a str, &'a str);
+
 /// The text with `new` in the place of `old`, which stands in it once.
 pub(super) fn edited(
     rt: &impl Abort,
@@ -67,12 +70,12 @@ pub(super) fn edited(
     Ok(format!(in alloc; "{front}{new}{back}")?)
 }
 
-/// The text with these edits, each an old text and a new one, one after another.
+/// The text with these edits, one after another.
 pub(super) fn with_edits(
     rt: &impl Abort,
     alloc: Global,
     text: &str,
-    edits: &[(&str, &str)],
+    edits: &[Edit<'_>],
 ) -> Result<String, Fail> {
     let mut text = String::from_str(alloc, text)?;
     for (old, new) in edits {
