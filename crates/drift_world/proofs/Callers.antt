@@ -1,9 +1,9 @@
 -- What the callers of a world know of it by the events that they applied.
-use Rattle.std.proofs.Common.{◌≡◌, ◌⊎◌, Bool, true, false, ℕ, ◌+◌, List, [], ◌∷◌, ◌++◌, ℤ, pos, ◌≤ℤ◌, ◌<ℤ◌, inl, inr, refl, sym, ap, subst, ◌∙◌, arith}
+use Rattle.std.proofs.Common.{◌≡◌, ◌⊎◌, false, ℕ, List, [], ◌∷◌, ◌++◌, ℤ, pos, ◌≤ℤ◌, ◌<ℤ◌, inl, inr, refl, sym, ap, subst, ◌∙◌, arith}
 use Rattle.std.proofs.lemmas.Bool.{cases_Bool}
 use Rattle.std.proofs.lemmas.Int.{ints}
 use Rattle.std.proofs.lemmas.List.Sums.{fold-append}
-use Rattle.drift_world.proofs.Due.{IsOpen, only_one}
+use Rattle.drift_world.proofs.Due.{IsOpen}
 use Rattle.drift_world.specs.Progress.{Progress}
 use Rattle.drift_world.specs.Standing.{Stands, last_time}
 use Rattle.net_plan.specs.declared.event.Event.{Event}

@@ -1,22 +1,21 @@
 -- How the calls of a world keep where it stands.
-use Rattle.std.proofs.Common.{◌≡◌, ◌⊎◌, Bool, true, false, ℕ, zero, suc, ◌+◌, ◌<◌, ◌≤◌, List, [], ◌∷◌, ◌++◌, length, replicate, Option, Some, None, ℤ, pos, ◌≤ℤ◌, ◌<ℤ◌, unsigned_abs, slice_get, inl, inr, refl, sym, ap, subst, ◌∙◌, arith}
-use Rattle.std.specs.Prelude.{◌↔◌, fold}
-use Rattle.std.specs.List.{All, Contains}
+use Rattle.std.proofs.Common.{◌≡◌, Bool, true, false, ℕ, zero, suc, ◌+◌, ◌<◌, ◌≤◌, List, [], ◌∷◌, ◌++◌, length, replicate, Some, ℤ, pos, ◌≤ℤ◌, ◌<ℤ◌, unsigned_abs, slice_get, inl, inr, refl, sym, ap, subst, ◌∙◌, arith}
+use Rattle.std.specs.Prelude.{◌↔◌}
 use Rattle.std.proofs.lemmas.Bool.{cases_lt}
 use Rattle.std.proofs.lemmas.Int.{ints}
 use Rattle.std.proofs.lemmas.List.{length-append, length-replicate, get_or-replicate}
 use Rattle.std.proofs.lemmas.List.Elements.{All-nil, All-push, All-weaker, Contains-append_cases, Contains-append_right}
 use Rattle.std.proofs.lemmas.List.Sums.{fold-append}
-use Rattle.std.proofs.lemmas.Option.{slice_get-get_or, slice_get_cases}
+use Rattle.std.proofs.lemmas.Option.{slice_get-get_or}
 use Rattle.drift_clock.specs.Readings.{value_after}
 use Rattle.drift_world.proofs.Clocks.{clock_more, reads_all}
 use Rattle.drift_world.proofs.Due.{ArePast, IsOpen, only_one}
-use Rattle.drift_world.proofs.Steps.{clock_run, event_run, marks, none_at_end, none_while_open}
+use Rattle.drift_world.proofs.Steps.{clock_run, event_run, none_at_end, none_while_open}
 use Rattle.drift_world.proofs.Times.{amounts, amount_is, later_amount}
 use Rattle.drift_world.specs.Progress.{Progress}
 use Rattle.drift_world.specs.Clocks.{clock_after, reading_of}
 use Rattle.drift_world.specs.Notes.{clock_body, event_note}
-use Rattle.drift_world.specs.Standing.{Stands, behind_events, last_time, mark_of}
+use Rattle.drift_world.specs.Standing.{Stands, behind_events, mark_of}
 use Rattle.net_plan.specs.Places.{device_at}
 use Rattle.net_plan.specs.Ranges.{IsWithin}
 use Rattle.net_plan.specs.declared.event.Event.{Event}
@@ -26,7 +25,6 @@ use Rattle.net_plan.specs.declared.ids.DeviceId.{DeviceId}
 use Rattle.net_plan.specs.declared.network.Network.{Network}
 use Rattle.net_plan.specs.declared.tables.Device.{Device}
 use Rattle.run_law.specs.Hypothesis.{SetsFastRate}
-use Rattle.run_law.specs.Order.{IsBefore}
 use Rattle.run_law.specs.Rates.{rate_steps}
 use Rattle.run_law.specs.Records.{EndsAt, IsCaused, IsDue, IsRunOf, place_of}
 use Rattle.run_law.specs.declared.note.Note.{Note}

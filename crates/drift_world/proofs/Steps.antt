@@ -1,21 +1,21 @@
 -- How a run goes on by an event, and by a clock at the end.
-use Rattle.std.proofs.Common.{◌≡◌, ◌⊎◌, Bool, false, ℕ, zero, suc, ◌+◌, ◌<◌, ◌≤◌, ◌==◌, List, [], ◌∷◌, ◌++◌, length, if◌then◌else◌, pos, ◌≤ℤ◌, slice_get, inl, inr, refl, sym, ap, subst, ◌∙◌, arith}
+use Rattle.std.proofs.Common.{◌≡◌, ◌⊎◌, Bool, false, ℕ, zero, suc, ◌+◌, ◌<◌, ◌≤◌, ◌==◌, List, [], ◌∷◌, ◌++◌, length, if◌then◌else◌, pos, ◌≤ℤ◌, inl, inr, refl, sym, ap, subst, ◌∙◌, arith}
 use Rattle.std.proofs.Math.Dec.{eqb-suc-zero}
 use Rattle.std.proofs.lemmas.Bool.{cases_lt}
 use Rattle.drift_world.proofs.Due.{ArePast, IsOpen, IsClockPlace, next_event, open_before, ended_cases, more_due, less_caused, get_last}
-use Rattle.drift_world.proofs.Times.{amounts, by_time}
+use Rattle.drift_world.proofs.Times.{amounts}
 use Rattle.drift_world.specs.Notes.{event_note}
 use Rattle.drift_world.specs.Standing.{behind_events}
 use Rattle.net_plan.specs.declared.event.Event.{Event}
 use Rattle.net_plan.specs.declared.ids.DeviceId.{DeviceId}
 use Rattle.net_plan.specs.declared.network.Network.{Network}
-use Rattle.run_law.specs.Order.{IsBefore, IsIn, AllBefore, NoneBefore}
-use Rattle.run_law.specs.Records.{rank, key, place_of, EndsAt, IsCaused, IsDue, IsRunOf}
+use Rattle.run_law.specs.Order.{IsBefore, AllBefore}
+use Rattle.run_law.specs.Records.{rank, key, place_of, EndsAt, IsDue, IsRunOf}
 use Rattle.run_law.specs.Runs.{IsRun}
 use Rattle.run_law.specs.declared.note.Note.{Note}
 use Rattle.run_law.specs.declared.note.NoteBody.{NoteBody}
-use Rattle.run_law.proofs.Grow.{NothingDueUpTo, grow, move_mark, run_of_same}
-use Rattle.run_law.proofs.Places.{never_self, chain, behind, before_behind, in_left, in_right, in_parts, parted}
+use Rattle.run_law.proofs.Grow.{grow, move_mark, run_of_same}
+use Rattle.run_law.proofs.Places.{never_self, chain, behind, before_behind, in_parts, parted}
 use Rattle.tte_units.specs.Amount.{amount}
 use Rattle.tte_units.specs.declared.units.Units.{Units}
 

@@ -1,13 +1,10 @@
-use Rattle.std.proofs.Common.{◌≡◌, ◌+◌, ◌∷◌, [], ◌++◌, ℤ, ◌≤ℤ◌, pos, false, true, List, length, refl, sym, ap, subst, ◌∙◌, arith}
+use Rattle.std.proofs.Common.{◌≡◌, ◌+◌, ◌≤ℤ◌, false, true, sym, ap, subst, ◌∙◌, arith}
 use Rattle.std.proofs.lemmas.Int.{ints}
 use Rattle.drift_world.proofs.Standings.{IsEndTest, applied, applied_run, has_clock, is_slow}
 use Rattle.drift_world.specs.Progress.{Progress}
-use Rattle.drift_world.specs.Clocks.{reading_of}
-use Rattle.drift_world.specs.Standing.{Stands, behind_events}
+use Rattle.drift_world.specs.Standing.{Stands}
 use Rattle.net_plan.specs.declared.event.What.{What}
-use Rattle.net_plan.specs.declared.network.Network.{Network}
 use Rattle.run_law.specs.Hypothesis.{SetsFastRate}
-use Rattle.run_law.specs.Records.{IsRunOf}
 use Rattle.run_law.specs.declared.note.Note.{Note}
 use Rattle.run_law.specs.declared.note.NoteBody.TheVariants.{Event as Befalls}
 use Rattle.trace_text.specs.Ranges.{IsOfNetwork}

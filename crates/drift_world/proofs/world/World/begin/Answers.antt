@@ -1,4 +1,4 @@
-use Rattle.std.proofs.Common.{◌≡◌, length, replicate, sym, subst}
+use Rattle.std.proofs.Common.{◌≡◌, length, replicate, subst}
 use Rattle.drift_world.proofs.Standings.{begun}
 use Rattle.net_plan.specs.declared.network.Network.{Network}
 use Rattle.tte_units.specs.Amount.{amount}

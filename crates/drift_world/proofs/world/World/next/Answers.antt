@@ -1,4 +1,4 @@
-use Rattle.std.proofs.Common.{◌≡◌, ◌+◌, ◌<◌, ◌∷◌, [], ◌++◌, ℕ, ◌<ℤ◌, false, true, List, length, refl, sym, ap, subst, ◌∙◌, arith}
+use Rattle.std.proofs.Common.{◌≡◌, ◌+◌, ◌<◌, ◌<ℤ◌, length, refl, sym, ap, subst, ◌∙◌, arith}
 use Rattle.std.specs.Prelude.{IfSome, Option, slice_get, Some}
 use Rattle.std.proofs.lemmas.Int.{ints}
 use Rattle.std.proofs.lemmas.Option.{slice_get_read}
@@ -45,4 +45,4 @@ returns-clause-stands g c = λ network events notes s.
     let body_of : NoteBody → Note = λ b. record { number = w.given + 1; time = w.now; body = b } in
     let shows = subst (λ (n : Network). IfSome (device_at n device) (λ d. c.clock_body-body.result ≡ clock_body K.reading device d clock w.now)) same c.clock_body-body.ensures in
     clock_shown K.fresh K.after_step K.reading network v events notes device is.0 clock (body_of c.clock_body-body.result) c.if-not-self.false c.self.invariant.begun refl is.1 got there
-    (ap body_of (subst (λ (o : Option Device). IfSome o (λ d. c.clock_body-body.result ≡ clock_body K.reading device d clock w.now)) is.1 shows)) t
+    (ap body_of {y = clock_body K.reading device is.0 clock w.now} (subst (λ (o : Option Device). IfSome o (λ d. c.clock_body-body.result ≡ clock_body K.reading device d clock w.now)) is.1 shows)) t
