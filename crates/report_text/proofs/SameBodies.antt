@@ -1,5 +1,5 @@
 -- Records of one text are one.
-use Rattle.std.proofs.Common.{◌≡◌, ℕ, suc, ◌<◌, ◌^◌, List, [], ◌∷◌, ◌++◌, Option, Some, None, Ok, Err, refl, sym, ap, ◌∙◌, append_assoc, arith}
+use Rattle.std.proofs.Common.{◌≡◌, ℕ, ◌<◌, ◌^◌, List, [], ◌∷◌, ◌++◌, Option, Some, None, Ok, Err, refl, sym, ap, ◌∙◌, append_assoc, arith}
 use Rattle.std.specs.Prelude.{codes, decimal, bytes_eq, find, Result}
 use Rattle.std.specs.Fmt.{signed_decimal}
 use Rattle.std.specs.Int.Signed.{mag}
@@ -12,7 +12,6 @@ use Rattle.net_plan.specs.declared.event.Event.{Event}
 use Rattle.net_plan.specs.declared.event.What.{What}
 use Rattle.net_plan.specs.declared.ids.DeviceId.{DeviceId}
 use Rattle.net_plan.specs.declared.network.Network.{Network}
-use Rattle.run_law.specs.declared.note.Note.{Note}
 use Rattle.run_law.specs.declared.note.NoteBody.{NoteBody}
 use Rattle.run_law.specs.declared.note.NoteBody.TheVariants.{Event as Befalls, Clock}
 use Rattle.sync_state.specs.declared.state.State.{State}
@@ -26,8 +25,8 @@ use Rattle.trace_text.proofs.EventsBack.{reads_back}
 use Rattle.trace_text.proofs.WordsBack.{device_back}
 use Rattle.tte_units.specs.Amount.{units_of}
 use Rattle.tte_units.specs.declared.units.Units.{Units}
-use Rattle.report_text.specs.NoteLine.{state_text, body_text, note_text}
-use Rattle.report_text.specs.Ranges.{IsBodyOf, IsNoteOf, IsSignedUnits, IsBodyInRange, IsNoteInRange}
+use Rattle.report_text.specs.NoteLine.{state_text, body_text}
+use Rattle.report_text.specs.Ranges.{IsBodyOf, IsSignedUnits, IsBodyInRange}
 use Rattle.report_text.proofs.Characters.{IsVisible, decimal_visible, signed_visible}
 use Rattle.report_text.proofs.Splits.{IsSplit, split_once}
 use Rattle.report_text.proofs.Texts.{visible_word, device_visible}
@@ -181,8 +180,8 @@ same_body network (Clock d r a s) (Befalls line what) apart of_network in_range 
     absurd (no_event_is_clock (decimal line) (what_text network what) (device_name network d) (signed_decimal r.0) (signed_decimal a.0) (state_text s) (sym same))
 same_body network (Clock d r a s) (Clock d' r' a' s') apart of_network in_range of_network' in_range' same =
     let parts = same_clock_parts (device_name network d) (device_name network d') (signed_decimal r.0) (signed_decimal r'.0) (signed_decimal a.0) (signed_decimal a'.0) (state_text s) (state_text s')
-        (device_visible network d apart.in_range of_network) (device_visible network d' apart.in_range of_network')
-        (units_visible r in_range.0) (units_visible r' in_range'.0) (units_visible a in_range.1) (units_visible a' in_range'.1) same in
+    (device_visible network d apart.in_range of_network) (device_visible network d' apart.in_range of_network')
+    (units_visible r in_range.0) (units_visible r' in_range'.0) (units_visible a in_range.1) (units_visible a' in_range'.1) same in
     let devices = same_device network d d' apart of_network of_network' parts.names in
     let readings = same_units r r' in_range.0 in_range'.0 parts.readings in
     let adjustments = same_units a a' in_range.1 in_range'.1 parts.adjustments in

@@ -1,6 +1,6 @@
 -- Lists of records of one report are one.
-use Rattle.std.proofs.Common.{◌≡◌, ℕ, ◌+◌, List, [], ◌∷◌, ◌++◌, length, refl, sym, ap, ◌∙◌, append_assoc, length-append, arith}
-use Rattle.std.specs.Prelude.{All, codes, decimal}
+use Rattle.std.proofs.Common.{◌≡◌, ℕ, List, [], ◌∷◌, ◌++◌, length, refl, sym, ap, ◌∙◌, append_assoc, length-append, arith}
+use Rattle.std.specs.Prelude.{codes, decimal}
 use Rattle.std.specs.Fmt.{signed_decimal}
 use Rattle.std.specs.List.{concat}
 use Rattle.std.proofs.lemmas.Fmt.{decimal_injective}
@@ -17,11 +17,11 @@ use Rattle.trace_text.specs.Steps.{space}
 use Rattle.tte_io.specs.Line.{lf}
 use Rattle.tte_units.specs.declared.units.Units.{Units}
 use Rattle.report_text.specs.Laws.{AreOfNetwork, OneReport}
-use Rattle.report_text.specs.NoteLine.{state_text, body_text, note_text, note_line, report_of}
+use Rattle.report_text.specs.NoteLine.{state_text, body_text, note_text, report_of}
 use Rattle.report_text.specs.Ranges.{IsBodyOf, IsNoteOf, IsBodyInRange, IsNoteInRange}
-use Rattle.report_text.proofs.Characters.{IsVisible, visible_from_test, decimal_visible}
+use Rattle.report_text.proofs.Characters.{decimal_visible}
 use Rattle.report_text.proofs.SameBodies.{IsNamedApart, split_word, units_visible, same_units, same_body}
-use Rattle.report_text.proofs.Splits.{IsSplit, split_once}
+use Rattle.report_text.proofs.Splits.{split_once}
 use Rattle.report_text.proofs.Texts.{is_lf, IsUnbroken, visible_unbroken, unbroken_append, unbroken_from_test, device_visible, what_unbroken}
 
 -- the text of each record has no LF

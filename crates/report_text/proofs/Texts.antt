@@ -15,7 +15,7 @@ use Rattle.net_plan.specs.declared.ids.LinkId.{LinkId}
 use Rattle.net_plan.specs.declared.network.Network.{Network}
 use Rattle.net_plan.specs.declared.tables.Way.{Way}
 use Rattle.net_plan.specs.declared.tables.Way.TheVariants.{Up, Down}
-use Rattle.trace_text.specs.EventLine.{device_name, link_name, what_words, what_text}
+use Rattle.trace_text.specs.EventLine.{device_name, link_name, what_text}
 use Rattle.trace_text.specs.EventWords.{way_text}
 use Rattle.trace_text.specs.Ranges.{HasDevice, HasLink, IsTime, IsRate, IsOfNetwork, IsWhatInRange}
 use Rattle.trace_text.specs.Steps.{Words, space, is_space}

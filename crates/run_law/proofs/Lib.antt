@@ -5,4 +5,7 @@ pub mod OneRun
 pub mod Grow
 pub mod Determined
 pub mod NetworkRuns
+pub mod Decisions
+pub mod Conditions
 pub mod Decided
+pub mod Examples

@@ -1,5 +1,5 @@
--- What holds of all runs.
-use Rattle.std.specs.Prelude.{◌≡◌, ℕ, List, ◌++◌}
+-- What holds of all runs, and of all judgements by the fault hypothesis.
+use Rattle.std.specs.Prelude.{◌≡◌, ◌⊎◌, ℕ, List, ◌++◌}
 use Rattle.net_plan.specs.declared.event.Event.{Event}
 use Rattle.net_plan.specs.declared.ids.DeviceId.{DeviceId}
 use Rattle.net_plan.specs.declared.network.Network.{Network}
@@ -23,8 +23,9 @@ EarlierRunIsFront =
     → IsRunOf network reading events mark notes → IsRunOf network reading events later more
     → (rest : List Note) × (more ≡ notes ++ rest)
 
--- the event is not both within the hypothesis and outside, and not outside by two conditions
+-- the event is within the hypothesis, or outside by one condition, and not both
 pub record HasOneJudgement (network : Network) (before : List Event) (event : Event) : Type 0 where
+  pub some : IsWithinHypothesis network before event ⊎ ((condition : Outside) × IsOutsideBy network before event condition)
   pub not_both : (condition : Outside) → IsWithinHypothesis network before event → IsOutsideBy network before event condition → ⊥
   pub one : (condition other : Outside) → IsOutsideBy network before event condition → IsOutsideBy network before event other → condition ≡ other
 

@@ -1,123 +1,144 @@
-use super::worked::{Added, WORKED, with_edits, with_tables};
+use super::verdicts::refused;
+use super::worked::{Edit, WORKED, edited};
 use std::alloc::Global;
 use std::process::Abort;
 use std::test::Fail;
 
-const LINK_NUMBERS: &str = "wire=32768000, jitter=1310720, hold=1310720000, speed=100";
+/// Two masters more.
+pub(super) const MORE_MASTERS: Edit<'_> = (
+    "]\nlink = [\n",
+    " {name=\"m5\", role=\"master\", mac=\"020000000031\", member=4, start=0},
+ {name=\"m6\", role=\"master\", mac=\"020000000032\", member=5, start=0},
+]
+link = [\n",
+);
 
-/// The line of a link with the numbers of the worked network.
-pub(super) fn link_line(
+/// Their links.
+pub(super) const MORE_LINKS: Edit<'_> = (
+    "]\nvl = [\n",
+    " {name=\"m5_a\", child=\"m5\", parent=\"ra\", wire=32768000, jitter=1310720, hold=1310720000, speed=100},
+ {name=\"m6_a\", child=\"m6\", parent=\"ra\", wire=32768000, jitter=1310720, hold=1310720000, speed=100},
+ {name=\"m5_b\", child=\"m5\", parent=\"rb\", wire=32768000, jitter=1310720, hold=1310720000, speed=100},
+ {name=\"m6_b\", child=\"m6\", parent=\"rb\", wire=32768000, jitter=1310720, hold=1310720000, speed=100},
+]
+vl = [\n",
+);
+
+/// The worked network gets eight relays one under another on channel a, the first under ca, and m1's
+/// link of this channel under the last.
+pub(super) const EIGHT_RELAYS: [Edit<'_>; 3] = [
+    (
+        "]\nlink = [\n",
+        " {name=\"r1\", role=\"relay\", mac=\"0200000000e1\", channel=\"a\", start=0},
+ {name=\"r2\", role=\"relay\", mac=\"0200000000e2\", channel=\"a\", start=0},
+ {name=\"r3\", role=\"relay\", mac=\"0200000000e3\", channel=\"a\", start=0},
+ {name=\"r4\", role=\"relay\", mac=\"0200000000e4\", channel=\"a\", start=0},
+ {name=\"r5\", role=\"relay\", mac=\"0200000000e5\", channel=\"a\", start=0},
+ {name=\"r6\", role=\"relay\", mac=\"0200000000e6\", channel=\"a\", start=0},
+ {name=\"r7\", role=\"relay\", mac=\"0200000000e7\", channel=\"a\", start=0},
+ {name=\"r8\", role=\"relay\", mac=\"0200000000e8\", channel=\"a\", start=0},
+]
+link = [\n",
+    ),
+    (
+        "]\nvl = [\n",
+        " {name=\"r1_up\", child=\"r1\", parent=\"ca\", wire=32768000, jitter=1310720, hold=1310720000, speed=100},
+ {name=\"r2_up\", child=\"r2\", parent=\"r1\", wire=32768000, jitter=1310720, hold=1310720000, speed=100},
+ {name=\"r3_up\", child=\"r3\", parent=\"r2\", wire=32768000, jitter=1310720, hold=1310720000, speed=100},
+ {name=\"r4_up\", child=\"r4\", parent=\"r3\", wire=32768000, jitter=1310720, hold=1310720000, speed=100},
+ {name=\"r5_up\", child=\"r5\", parent=\"r4\", wire=32768000, jitter=1310720, hold=1310720000, speed=100},
+ {name=\"r6_up\", child=\"r6\", parent=\"r5\", wire=32768000, jitter=1310720, hold=1310720000, speed=100},
+ {name=\"r7_up\", child=\"r7\", parent=\"r6\", wire=32768000, jitter=1310720, hold=1310720000, speed=100},
+ {name=\"r8_up\", child=\"r8\", parent=\"r7\", wire=32768000, jitter=1310720, hold=1310720000, speed=100},
+]
+vl = [\n",
+    ),
+    ("child=\"m1\", parent=\"ra\"", "child=\"m1\", parent=\"r8\""),
+];
+
+/// Seven of these relays are left.
+pub(super) const WITHOUT_THE_LAST: [Edit<'_>; 3] = [
+    (
+        " {name=\"r8\", role=\"relay\", mac=\"0200000000e8\", channel=\"a\", start=0},\n",
+        "",
+    ),
+    (
+        " {name=\"r8_up\", child=\"r8\", parent=\"r7\", wire=32768000, jitter=1310720, hold=1310720000, speed=100},\n",
+        "",
+    ),
+    ("child=\"m1\", parent=\"r8\"", "child=\"m1\", parent=\"r7\""),
+];
+
+const CLIENT: &str = " {name=\"k#\", role=\"client\", mac=\"0300000000#\", start=0},\n";
+
+const CLIENT_LINKS: &str =
+    " {name=\"k#_a\", child=\"k#\", parent=\"ra\", wire=32768000, jitter=1310720, hold=1310720000, speed=100},
+ {name=\"k#_b\", child=\"k#\", parent=\"rb\", wire=32768000, jitter=1310720, hold=1310720000, speed=100},\n";
+
+const SPARSE_VL: &str =
+    " {name=\"w#\", id=#, length=60, ethertype=2048, sender=\"m1\", period=64, phase=#},\n";
+
+const ROWS_TO_ALL: &str = " {vl=\"w#\", link=\"m1_a\", way=\"up\", offset=26542080000},
+ {vl=\"w#\", link=\"m1_b\", way=\"up\", offset=26542080000},
+ {vl=\"w#\", link=\"m2_a\", way=\"down\", offset=28180480000},
+ {vl=\"w#\", link=\"m2_b\", way=\"down\", offset=28180480000},
+ {vl=\"w#\", link=\"m3_a\", way=\"down\", offset=28180480000},
+ {vl=\"w#\", link=\"m3_b\", way=\"down\", offset=28180480000},
+ {vl=\"w#\", link=\"m4_a\", way=\"down\", offset=28180480000},
+ {vl=\"w#\", link=\"m4_b\", way=\"down\", offset=28180480000},
+ {vl=\"w#\", link=\"c1_a\", way=\"down\", offset=28180480000},
+ {vl=\"w#\", link=\"c1_b\", way=\"down\", offset=28180480000},\n";
+
+// The lines, once for each of so many numbers from `first` on, with the number in the place of each `#`.
+fn numbered(alloc: Global, lines: &str, first: u32, count: u32) -> Result<String, Fail> {
+    let mut text = String::new(alloc);
+    for number in first..first.saturating_add(count) {
+        let number = format!(in alloc; "{number}")?;
+        let numbered = lines.replace(alloc, "#", number.as_str())?;
+        text.push_str(numbered.as_str())?;
+    }
+    Ok(text)
+}
+
+/// The text with these lines behind a mark, which stands in it once.
+pub(super) fn behind(
+    rt: &impl Abort,
     alloc: Global,
-    name: &str,
-    child: &str,
-    parent: &str,
+    text: &str,
+    mark: &str,
+    lines: &str,
 ) -> Result<String, Fail> {
-    let ends = format!(in alloc; "name=\"{name}\", child=\"{child}\", parent=\"{parent}\"")?;
-    Ok(format!(in alloc; " {{{ends}, {LINK_NUMBERS}}},\n")?)
+    let marked = format!(in alloc; "{mark}{lines}")?;
+    edited(rt, alloc, text, mark, marked.as_str())
 }
 
-/// The lines of an end system's links, one to the relay of each channel.
-fn both_links(alloc: Global, name: &str) -> Result<String, Fail> {
-    let first = format!(in alloc; "{name}_a")?;
-    let second = format!(in alloc; "{name}_b")?;
-    let a = link_line(alloc, first.as_str(), name, "ra")?;
-    let b = link_line(alloc, second.as_str(), name, "rb")?;
-    Ok(format!(in alloc; "{a}{b}")?)
-}
-
-/// The worked network with six masters, in a file of version 2.
-pub(super) fn six_masters(rt: &impl Abort, alloc: Global) -> Result<String, Fail> {
-    let fifth = both_links(alloc, "m5")?;
-    let sixth = both_links(alloc, "m6")?;
-    let links = format!(in alloc; "{fifth}{sixth}")?;
-    let added = Added {
-        devices: " {name=\"m5\", role=\"master\", mac=\"020000000031\", member=4, start=0},\n {name=\"m6\", role=\"master\", mac=\"020000000032\", member=5, start=0},\n",
-        links: links.as_str(),
-        vls: "",
-        rows: "",
-    };
-    let text = with_tables(rt, alloc, &added)?;
-    with_edits(rt, alloc, text.as_str(), &[("version = 1", "version = 2")])
-}
-
-/// The worked network with so many further clients, each with a link to both relays.
+/// The worked network with at most 90 clients more, each with a link to both relays.
 pub(super) fn with_clients(rt: &impl Abort, alloc: Global, count: u32) -> Result<String, Fail> {
-    let mut devices = String::new(alloc);
-    let mut links = String::new(alloc);
-    for i in 0..count {
-        let name = format!(in alloc; "k{i}")?;
-        let numbers = format!(in alloc; "mac=\"0300000000{i:02}\", start=0")?;
-        let line = format!(in alloc; " {{name=\"{name}\", role=\"client\", {numbers}}},\n")?;
-        devices.push_str(line.as_str())?;
-        links.push_str(both_links(alloc, name.as_str())?.as_str())?;
-    }
-    let added = Added {
-        devices: devices.as_str(),
-        links: links.as_str(),
-        vls: "",
-        rows: "",
-    };
-    with_tables(rt, alloc, &added)
-}
-
-/// The worked network with so many relays in a row on channel a, the first under ca, and m1's link
-/// of this channel under the last.
-pub(super) fn with_relays(rt: &impl Abort, alloc: Global, count: u32) -> Result<String, Fail> {
-    let mut devices = String::new(alloc);
-    let mut links = String::new(alloc);
-    let mut parent = String::from_str(alloc, "ca")?;
-    for i in 1..=count {
-        let name = format!(in alloc; "r{i}")?;
-        let numbers = format!(in alloc; "mac=\"0200000000e{i}\", channel=\"a\", start=0")?;
-        let line = format!(in alloc; " {{name=\"{name}\", role=\"relay\", {numbers}}},\n")?;
-        devices.push_str(line.as_str())?;
-        let link = format!(in alloc; "{name}_up")?;
-        let line = link_line(alloc, link.as_str(), name.as_str(), parent.as_str())?;
-        links.push_str(line.as_str())?;
-        parent = name;
-    }
-    let added = Added {
-        devices: devices.as_str(),
-        links: links.as_str(),
-        vls: "",
-        rows: "",
-    };
-    let text = with_tables(rt, alloc, &added)?;
-    let under_last = format!(in alloc; "child=\"m1\", parent=\"{parent}\"")?;
-    let edit = ("child=\"m1\", parent=\"ra\"", under_last.as_str());
-    with_edits(rt, alloc, text.as_str(), &[edit])
-}
-
-/// The ten rows of a virtual link from m1 to all other end systems.
-fn rows_to_all(alloc: Global, vl: &str) -> Result<String, Fail> {
-    let mut rows = String::new(alloc);
-    for link in ["m1_a", "m1_b"] {
-        let way = "way=\"up\", offset=26542080000";
-        let row = format!(in alloc; " {{vl=\"{vl}\", link=\"{link}\", {way}}},\n")?;
-        rows.push_str(row.as_str())?;
-    }
-    for link in [
-        "m2_a", "m2_b", "m3_a", "m3_b", "m4_a", "m4_b", "c1_a", "c1_b",
-    ] {
-        let way = "way=\"down\", offset=28180480000";
-        let row = format!(in alloc; " {{vl=\"{vl}\", link=\"{link}\", {way}}},\n")?;
-        rows.push_str(row.as_str())?;
-    }
-    Ok(rows)
+    let clients = numbered(alloc, CLIENT, 10, count)?;
+    let text = behind(rt, alloc, WORKED, "device = [\n", clients.as_str())?;
+    let links = numbered(alloc, CLIENT_LINKS, 10, count)?;
+    behind(rt, alloc, text.as_str(), "link = [\n", links.as_str())
 }
 
 /// The worked network with 64 virtual links from m1 to all other end systems in the place of its own,
 /// each in a cycle of its own of 64. So 256 rows leave each relay.
 pub(super) fn full_schedule(rt: &impl Abort, alloc: Global) -> Result<String, Fail> {
     let (front, _) = WORKED.split_once("vl = [\n").expect(rt, "virtual links");
-    let mut vls = String::new(alloc);
-    let mut rows = String::new(alloc);
-    for i in 0..64 {
-        let name = format!(in alloc; "w{i}")?;
-        let form = "length=60, ethertype=2048, sender=\"m1\", period=64";
-        let line = format!(in alloc; " {{name=\"{name}\", id={i}, {form}, phase={i}}},\n")?;
-        vls.push_str(line.as_str())?;
-        rows.push_str(rows_to_all(alloc, name.as_str())?.as_str())?;
-    }
+    let vls = numbered(alloc, SPARSE_VL, 0, 64)?;
+    let rows = numbered(alloc, ROWS_TO_ALL, 0, 64)?;
     Ok(format!(in alloc; "{front}vl = [\n{vls}]\nrow = [\n{rows}]\n")?)
+}
+
+/// The worked network is refused with so many times the line behind the mark.
+pub(super) fn refused_with_many(
+    rt: &impl Abort,
+    alloc: Global,
+    mark: &str,
+    line: &str,
+    count: usize,
+    reason: &str,
+) -> Result<(), Fail> {
+    let lines = line.repeat(alloc, count)?;
+    let network = behind(rt, alloc, WORKED, mark, lines.as_str())?;
+    refused(rt, alloc, network.as_str(), reason)
 }

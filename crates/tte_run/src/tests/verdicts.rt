@@ -1,5 +1,5 @@
 use super::cases::{Case, try_case};
-use super::worked::{WORKED, with_edits};
+use super::worked::{Edit, WORKED, with_edits};
 use crate::Status;
 use std::alloc::Global;
 use std::process::Abort;
@@ -43,27 +43,27 @@ pub(super) fn refused(
     checked(rt, alloc, network, text.as_str(), Status::NetworkRefused)
 }
 
-/// The worked network is accepted with each of these edits, an old text and a new one.
-pub(super) fn accepted_with(
+/// The worked network is accepted with each of these lists of edits.
+pub(super) fn accepted_with_each(
     rt: &impl Abort,
     alloc: Global,
-    edits: &[(&str, &str)],
+    cases: &[&[Edit<'_>]],
 ) -> Result<(), Fail> {
-    for edit in edits {
-        let network = with_edits(rt, alloc, WORKED, &[*edit])?;
+    for edits in cases {
+        let network = with_edits(rt, alloc, WORKED, edits)?;
         accepted(rt, alloc, network.as_str())?;
     }
     Ok(())
 }
 
-/// The worked network is refused with each of these edits: an old text, a new one, and the reason.
-pub(super) fn refused_with(
+/// The worked network is refused with each of these lists of edits, for the reason beside it.
+pub(super) fn refused_with_each(
     rt: &impl Abort,
     alloc: Global,
-    cases: &[(&str, &str, &str)],
+    cases: &[(&[Edit<'_>], &str)],
 ) -> Result<(), Fail> {
-    for &(old, new, reason) in cases {
-        let network = with_edits(rt, alloc, WORKED, &[(old, new)])?;
+    for (edits, reason) in cases {
+        let network = with_edits(rt, alloc, WORKED, edits)?;
         refused(rt, alloc, network.as_str(), reason)?;
     }
     Ok(())

@@ -5,22 +5,21 @@ use std::test::Fail;
 const USAGE: &str =
     "usage: tte show FILE | check NETWORK | run NETWORK TRACE | storm NETWORK SEED CYCLES\n";
 
+const NO_FORMS: &[&[&str]] = &[
+    &[],
+    &["show"],
+    &["show", "a", "b"],
+    &["Show", "a"],
+    &["check"],
+    &["check", "a", "b"],
+    &["run", "a", "b"],
+    &["storm", "a", "1", "2"],
+];
+
 #[test]
 fn words_of_no_form_are_answered_by_the_usage(rt: HostRuntime) -> Result<(), Fail> {
     let alloc = rt.alloc();
-    let none: &[&str] = &[];
-    for words in [
-        none,
-        &["show"],
-        &["show", "a", "b"],
-        &["Show", "a"],
-        &["check"],
-        &["check", "a", "b"],
-        &["run", "a", "b"],
-        &["storm", "a", "1", "2"],
-    ]
-    .iter()
-    {
+    for words in NO_FORMS {
         let case = Case {
             words,
             octets: &[],

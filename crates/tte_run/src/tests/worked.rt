@@ -54,8 +54,11 @@ row = [
 ]
 ";
 
+/// An old text, which stands in a network once, and a new one in its place.
+pub(super) type Edit<'a> = (&'a str, &'a str);
+
 /// The text with `new` in the place of `old`, which stands in it once.
-fn edited(
+pub(super) fn edited(
     rt: &impl Abort,
     alloc: Global,
     text: &str,
@@ -67,46 +70,16 @@ fn edited(
     Ok(format!(in alloc; "{front}{new}{back}")?)
 }
 
-/// The text with these edits, each an old text and a new one, one after another.
+/// The text with these edits, one after another.
 pub(super) fn with_edits(
     rt: &impl Abort,
     alloc: Global,
     text: &str,
-    edits: &[(&str, &str)],
+    edits: &[Edit<'_>],
 ) -> Result<String, Fail> {
     let mut text = String::from_str(alloc, text)?;
     for (old, new) in edits {
         text = edited(rt, alloc, text.as_str(), old, new)?;
     }
     Ok(text)
-}
-
-/// Tables, each a line, to stand behind the others of their arrays.
-#[derive(Clone, Copy)]
-pub(super) struct Added<'a> {
-    pub(super) devices: &'a str,
-    pub(super) links: &'a str,
-    pub(super) vls: &'a str,
-    pub(super) rows: &'a str,
-}
-
-/// The worked network with these tables added.
-pub(super) fn with_tables(rt: &impl Abort, alloc: Global, added: &Added) -> Result<String, Fail> {
-    let devices = format!(in alloc; "{}]\nlink = [\n", added.devices)?;
-    let links = format!(in alloc; "{}]\nvl = [\n", added.links)?;
-    let vls = format!(in alloc; "{}]\nrow = [\n", added.vls)?;
-    let rows = format!(in alloc;
-        "link=\"c1_b\", way=\"down\", offset=28180480000}},\n{}",
-        added.rows
-    )?;
-    let edits = [
-        ("]\nlink = [\n", devices.as_str()),
-        ("]\nvl = [\n", links.as_str()),
-        ("]\nrow = [\n", vls.as_str()),
-        (
-            "link=\"c1_b\", way=\"down\", offset=28180480000},\n",
-            rows.as_str(),
-        ),
-    ];
-    with_edits(rt, alloc, WORKED, &edits)
 }
