@@ -1,6 +1,6 @@
 -- The events admitted from the octets of a trace.
-use Rattle.std.proofs.Common.{◌≡◌, ◌⊎◌, ℕ, zero, suc, ◌<◌, ◌≤◌, List, [], ◌∷◌, ◌++◌, length, ℤ, pos, negsuc, ◌≤ℤ◌, ◌<ℤ◌, unsigned_abs, Ok, inl, inr, refl, sym, ap, subst, ◌∙◌, arith, append_assoc, length-append}
-use Rattle.std.specs.List.{Any, Contains, fold}
+use Rattle.std.proofs.Common.{◌≡◌, ◌⊎◌, ℕ, zero, suc, ◌≤◌, List, [], ◌∷◌, ◌++◌, length, ℤ, pos, negsuc, ◌≤ℤ◌, ◌<ℤ◌, unsigned_abs, inl, inr, refl, sym, ap, subst, ◌∙◌, arith, append_assoc, length-append}
+use Rattle.std.specs.List.{Contains}
 use Rattle.std.proofs.lemmas.Int.{ints}
 use Rattle.std.proofs.lemmas.List.{append-nil}
 use Rattle.std.proofs.lemmas.List.Quantifiers.{Any-push}
@@ -13,7 +13,6 @@ use Rattle.run_law.specs.Hypothesis.{IsWithinHypothesis}
 use Rattle.run_law.specs.Records.{EndsAt}
 use Rattle.run_law.specs.declared.outside.Outside.TheVariants.{Order}
 use Rattle.trace_text.specs.EventReading.{event_read}
-use Rattle.trace_text.specs.Steps.{Read}
 use Rattle.tte_io.specs.Line.{first_line}
 use Rattle.tte_run.specs.Tracing.{AreAdmitted, HaveEnded, IsAdmitted, behind_lines}
 use Rattle.tte_units.specs.Amount.{amount, units_of}
@@ -43,6 +42,11 @@ last_or_in (z ∷ zs) (p ∷ ps) qs y x e =
 
 pub admitted_none : (network : Network) (octets : List ℕ) → AreAdmitted network octets []
 admitted_none network octets before behind event e = absurd (no_part before behind event e)
+
+-- the first of them are admitted
+pub admitted_front : (network : Network) (octets : List ℕ) (events more : List Event) → AreAdmitted network octets (events ++ more) → AreAdmitted network octets events
+admitted_front network octets events more all before behind event order =
+    all before (behind ++ more) event (ap (λ (t : List Event). t ++ more) order ∙ append_assoc before (event ∷ behind) more)
 
 -- the next line's event, if that is admitted, comes behind the events admitted
 pub admitted_more : (network : Network) (octets : List ℕ) (events : List Event) (event : Event) → AreAdmitted network octets events → IsAdmitted network events (behind_lines (length events) octets) event
@@ -112,6 +116,9 @@ admitted_in_order network octets events all = record {
       let p = parted events end ends in
       end_is_last network octets p.0 p.1 end refl (subst (AreAdmitted network octets) p.2 all) ∙ ap last_time (sym p.2);
 }
+
+pub have_ended : (events : List Event) (time : Units) → EndsAt events time → HaveEnded events
+have_ended events time (k, lt, at) = (k, record { time = time; what = End }, lt, at, refl)
 
 -- events of which one is the end, end at the time of the last
 pub ended_at : (events : List Event) → HaveEnded events → (time : Units) × EndsAt events time

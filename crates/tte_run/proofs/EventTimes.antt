@@ -1,5 +1,5 @@
 -- The time of an event that is read from a line.
-use Rattle.std.proofs.Common.{◌≡◌, ℕ, ◌≤◌, List, [], ◌∷◌, Bool, true, false, Option, Some, None, Ok, Err, cond, refl, subst, arith}
+use Rattle.std.proofs.Common.{◌≡◌, ℕ, ◌≤◌, List, [], ◌∷◌, Bool, true, false, Some, None, Ok, Err, cond, refl, subst, arith}
 use Rattle.std.specs.Prelude.{◌&&◌, nat_le, bytes_eq, decimal}
 use Rattle.std.specs.Option.{ok_or, option_map}
 use Rattle.std.specs.Str.Parse.{digits_value}
@@ -9,7 +9,7 @@ use Rattle.net_plan.specs.declared.event.Event.{Event}
 use Rattle.net_plan.specs.declared.event.What.{What}
 use Rattle.net_plan.specs.declared.network.Network.{Network}
 use Rattle.trace_text.specs.EventReading.{event_read, event_reader, what_behind}
-use Rattle.trace_text.specs.Numbers.{latest, number_up_to, units_spelled}
+use Rattle.trace_text.specs.Numbers.{latest}
 use Rattle.trace_text.specs.Ranges.{IsTime}
 use Rattle.trace_text.specs.Steps.{Read, Reader, Words, and_then, give, line_end, outcome, with_rest, words, ◌>>=◌}
 use Rattle.trace_text.specs.WordReading.{event_word, units}

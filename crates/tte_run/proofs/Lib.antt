@@ -12,3 +12,5 @@ pub mod EventTimes
 pub mod TraceFaults
 pub mod Admitted
 pub mod RunAnswers
+pub mod RunGiven
+pub mod WorldRecords

@@ -1,8 +1,7 @@
 -- The answer for a network under the octets of a trace: what it begins with, and that it is one.
-use Rattle.std.proofs.Common.{◌≡◌, ◌≢◌, ◌⊎◌, ℕ, ◌+◌, List, [], ◌∷◌, ◌++◌, length, refl, sym, ap, subst, ◌∙◌, inl, inr, arith, append_assoc}
-use Rattle.std.specs.Prelude.{codes}
-use Rattle.std.proofs.lemmas.List.{append-nil, map-append}
-use Rattle.drift_world.specs.Standing.{behind_events, last_time}
+use Rattle.std.proofs.Common.{◌≡◌, ◌⊎◌, ℕ, ◌+◌, List, [], ◌∷◌, ◌++◌, length, sym, ap, subst, ◌∙◌, inl, inr, append_assoc}
+use Rattle.std.proofs.lemmas.List.{map-append}
+use Rattle.drift_world.specs.Standing.{behind_events, event_note, last_time}
 use Rattle.net_plan.specs.declared.event.Event.{Event}
 use Rattle.net_plan.specs.declared.network.Network.{Network}
 use Rattle.report_text.specs.NoteLine.{note_line, report_of}
@@ -11,20 +10,16 @@ use Rattle.run_law.specs.Records.{EndsAt}
 use Rattle.run_law.specs.declared.note.Note.{Note}
 use Rattle.run_law.proofs.NetworkRuns.{run_is_one, earlier_run_is_front}
 use Rattle.run_law.proofs.Places.{before_next_time}
-use Rattle.tte_run.specs.Accepting.{refused_answer}
-use Rattle.tte_run.specs.Answering.{Answer, Gives, GivesOne}
-use Rattle.tte_run.specs.Putting.{Shown, PutsLines, PutsSome, PutFails}
-use Rattle.tte_run.specs.Running.{AreAllRecords, AreRecordsBefore, AreRecordsSoFar, IsFaultyAnswer, IsRunAnswer, IsTraceAnswer, IsUnbuilt, IsWholeAnswer, clock_reading}
+use Rattle.tte_run.specs.Answering.{Answer}
+use Rattle.tte_run.specs.Running.{AreAllRecords, AreRecordsBefore, AreRecordsSoFar, IsFaultyAnswer, IsRunAnswer, IsTraceAnswer, IsWholeAnswer, clock_reading}
 use Rattle.tte_run.specs.TraceLine.{fault_lines, fault_status}
 use Rattle.tte_run.specs.Tracing.{AreAdmitted, HaveEnded, IsFault, behind_lines}
 use Rattle.tte_run.specs.declared.fault.TraceFault.{TraceFault}
-use Rattle.tte_run.specs.declared.status.Status.{Status}
-use Rattle.tte_run.specs.declared.status.Status.TheVariants.{Done, ReadFault, WriteFault, OutOfMemory}
+use Rattle.tte_run.specs.declared.status.Status.TheVariants.{Done}
 use Rattle.tte_units.specs.Amount.{amount}
 use Rattle.tte_units.specs.declared.units.Units.{Units}
-use Rattle.tte_run.proofs.Admitted.{IsStopped, admitted_in_order, admitted_one, ended_at, stopped_one}
-use Rattle.tte_run.proofs.OneAnswers.{one_given, widened}
-use Rattle.tte_run.proofs.RunRecords.{AreInOrder, event_notes, event_notes-append, events_run, later_begins, notes_from, so_far_is}
+use Rattle.tte_run.proofs.Admitted.{IsStopped, admitted_front, admitted_in_order, admitted_none, admitted_one, ended_at, stopped_one}
+use Rattle.tte_run.proofs.RunRecords.{event_notes, event_notes-append, event_notes-more, events_run, later_begins, length-event_notes, notes_from, so_far_is}
 use Rattle.tte_run.proofs.TraceFaults.{end_has_no_fault, fault_one, fault_stops}
 
 -- ---- reports
@@ -47,6 +42,21 @@ so_far_of network octets events notes all run = so_far_is network (clock_reading
 
 pub event_notes_so_far : (network : Network) (octets : List ℕ) (events : List Event) → AreAdmitted network octets events → AreRecordsSoFar network events (event_notes events)
 event_notes_so_far network octets events all = events_run network (clock_reading network events) events (admitted_in_order network octets events all)
+
+-- at first there are none
+pub records_none : (network : Network) → AreRecordsSoFar network [] []
+records_none network = event_notes_so_far network [] [] (admitted_none network [])
+
+-- an admitted event's record comes behind them
+pub records_more : (network : Network) (octets : List ℕ) (events : List Event) (e : Event) (notes : List Note) (note : Note) → AreAdmitted network octets (events ++ e ∷ []) → AreRecordsSoFar network events notes
+    → note ≡ event_note (length notes + 1) (length events + 1) e → AreRecordsSoFar network (events ++ e ∷ []) (notes ++ note ∷ [])
+records_more network octets events e notes note all run is =
+    let same = so_far_of network octets events notes (admitted_front network octets events (e ∷ []) all) run in
+    let number : length notes ≡ length events = ap length same ∙ length-event_notes events in
+    let last : note ≡ event_note (length events + 1) (length events + 1) e = is ∙ ap (λ (n : ℕ). event_note (n + 1) (length events + 1) e) number in
+    let joined : event_notes (events ++ e ∷ []) ≡ notes ++ note ∷ [] =
+    event_notes-more events e ∙ sym (ap (λ (t : List Note). t ++ note ∷ []) same ∙ ap (λ (t : Note). event_notes events ++ t ∷ []) last) in
+    subst (AreRecordsSoFar network (events ++ e ∷ [])) joined (event_notes_so_far network octets (events ++ e ∷ []) all)
 
 -- the records of more admitted events begin with them
 more_begins : (network : Network) (events all more : List Event) → all ≡ events ++ more → BeginWith (report_of network (event_notes all)) (report_of network (event_notes events))
@@ -103,7 +113,7 @@ pub record IsAllAdmitted (network : Network) (octets : List ℕ) (events : List 
   pub none_left : behind_lines (length events) octets ≡ []
 
 -- then its answer is a whole one of these events
-all_is_whole : (network : Network) (octets : List ℕ) (events : List Event) (a : Answer) → IsAllAdmitted network octets events → IsTraceAnswer network octets a → IsWholeAnswer network octets events a
+pub all_is_whole : (network : Network) (octets : List ℕ) (events : List Event) (a : Answer) → IsAllAdmitted network octets events → IsTraceAnswer network octets a → IsWholeAnswer network octets events a
 all_is_whole network octets events a all i =
     let same = stopped_one network octets i.events events i.admitted (answer_stops network octets i.events a i.is) all.admitted (whole_stops network octets events all.none_left) in
     elim (subst (λ (es : List Event). IsWholeAnswer network octets es a ⊎ IsFaultyAnswer network octets es a) same i.is) [

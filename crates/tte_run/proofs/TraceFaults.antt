@@ -4,7 +4,6 @@ use Rattle.std.proofs.lemmas.Bool.{cases_order}
 use Rattle.net_plan.specs.declared.event.Event.{Event}
 use Rattle.net_plan.specs.declared.network.Network.{Network}
 use Rattle.run_law.specs.Hypothesis.{IsOutsideBy, IsWithinHypothesis}
-use Rattle.run_law.specs.declared.outside.Outside.{Outside}
 use Rattle.run_law.proofs.Decided.{hypothesis_is_decided}
 use Rattle.trace_text.specs.EventReading.{event_read}
 use Rattle.trace_text.specs.Steps.{Read}
