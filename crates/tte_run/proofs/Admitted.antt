@@ -97,7 +97,7 @@ parted [] x i = absurd (omega (arith, i.1))
 parted (y ∷ ys) x (zero, lt, e) = ([], ys, ap (λ t. t ∷ ys) e)
 parted (y ∷ ys) x (suc k, lt, e) = let p = parted ys x (k, omega arith, e) in (y ∷ p.0, p.1, ap (λ (t : List _). y ∷ t) p.2)
 
-last_is : (front : List Event) (last : Event) → last_time (front ++ last ∷ []) ≡ last.time
+pub last_is : (front : List Event) (last : Event) → last_time (front ++ last ∷ []) ≡ last.time
 last_is front last = fold_push (λ before event. event.time) (units_of 0) front last
 
 -- no event is admitted behind the end

@@ -1,4 +1,13 @@
--- What was put of the answer for a network under the octets of a trace.
+-- What was put of the answer for a network under the octets of a trace. By the way in which a run ends:
+--
+--     a read fails, or memory runs out before the end       cut_so_far
+--     the put of an event's record, or of one before, fails  failed_so_far
+--     the trace has a fault                                  faulty_given
+--     memory runs out behind the end                         cut_ended
+--     the put of a clock's record fails                      failed_ended
+--     all records were put                                   whole_given
+--
+-- Then built_given makes it the answer of `run`, and early_given where the run is not built yet.
 use Rattle.std.proofs.Common.{◌≡◌, ◌⊎◌, ℕ, ◌+◌, List, [], ◌∷◌, ◌++◌, length, refl, sym, ap, subst, ◌∙◌, inl, inr, append_assoc}
 use Rattle.std.specs.Prelude.{codes}
 use Rattle.std.proofs.lemmas.List.{map-append}
