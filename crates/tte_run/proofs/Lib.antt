@@ -13,5 +13,4 @@ pub mod TraceFaults
 pub mod Admitted
 pub mod RunAnswers
 pub mod RunGiven
-pub mod WorldRecords
 pub mod RunCompletes

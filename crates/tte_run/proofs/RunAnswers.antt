@@ -1,7 +1,8 @@
 -- The answer for a network under the octets of a trace: what it begins with, and that it is one.
 use Rattle.std.proofs.Common.{◌≡◌, ◌⊎◌, ℕ, ◌+◌, List, [], ◌∷◌, ◌++◌, length, sym, ap, subst, ◌∙◌, inl, inr, append_assoc}
 use Rattle.std.proofs.lemmas.List.{map-append}
-use Rattle.drift_world.specs.Standing.{behind_events, event_note, last_time}
+use Rattle.drift_world.specs.Notes.{event_note}
+use Rattle.drift_world.specs.Standing.{behind_events, last_time}
 use Rattle.net_plan.specs.declared.event.Event.{Event}
 use Rattle.net_plan.specs.declared.network.Network.{Network}
 use Rattle.report_text.specs.NoteLine.{note_line, report_of}
