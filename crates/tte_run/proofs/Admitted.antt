@@ -97,6 +97,7 @@ parted [] x i = absurd (omega (arith, i.1))
 parted (y ∷ ys) x (zero, lt, e) = ([], ys, ap (λ t. t ∷ ys) e)
 parted (y ∷ ys) x (suc k, lt, e) = let p = parted ys x (k, omega arith, e) in (y ∷ p.0, p.1, ap (λ (t : List _). y ∷ t) p.2)
 
+-- the time of the last is that of the event
 pub last_is : (front : List Event) (last : Event) → last_time (front ++ last ∷ []) ≡ last.time
 last_is front last = fold_push (λ before event. event.time) (units_of 0) front last
 
@@ -116,9 +117,6 @@ admitted_in_order network octets events all = record {
       let p = parted events end ends in
       end_is_last network octets p.0 p.1 end refl (subst (AreAdmitted network octets) p.2 all) ∙ ap last_time (sym p.2);
 }
-
-pub have_ended : (events : List Event) (time : Units) → EndsAt events time → HaveEnded events
-have_ended events time (k, lt, at) = (k, record { time = time; what = End }, lt, at, refl)
 
 -- events of which one is the end, end at the time of the last
 pub ended_at : (events : List Event) → HaveEnded events → (time : Units) × EndsAt events time

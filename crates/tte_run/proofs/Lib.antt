@@ -14,3 +14,4 @@ pub mod Admitted
 pub mod RunAnswers
 pub mod RunGiven
 pub mod RunCompletes
+pub mod BuiltNetworks
