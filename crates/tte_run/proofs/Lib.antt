@@ -7,3 +7,11 @@ pub mod KeyLengths
 pub mod Octets
 pub mod OneAnswers
 pub mod NetworkAnswers
+pub mod RunRecords
+pub mod EventTimes
+pub mod TraceFaults
+pub mod Admitted
+pub mod RunAnswers
+pub mod RunGiven
+pub mod RunCompletes
+pub mod BuiltNetworks
