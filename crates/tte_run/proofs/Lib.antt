@@ -7,3 +7,4 @@ pub mod KeyLengths
 pub mod Octets
 pub mod OneAnswers
 pub mod NetworkAnswers
+pub mod Following
