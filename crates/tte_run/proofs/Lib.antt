@@ -15,3 +15,4 @@ pub mod RunAnswers
 pub mod RunGiven
 pub mod RunCompletes
 pub mod BuiltNetworks
+pub mod Following

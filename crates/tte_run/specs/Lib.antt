@@ -10,3 +10,5 @@ pub mod NoNetworks
 pub mod Checking
 pub mod Forms
 pub mod Top
+pub mod Tracing
+pub mod Following

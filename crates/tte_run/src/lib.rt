@@ -3,6 +3,7 @@
 
 mod accepting;
 mod checking;
+mod fault;
 mod form;
 mod frame_line;
 mod network_line;
@@ -10,6 +11,7 @@ mod put_line;
 mod showing;
 mod status;
 mod top;
+mod trace;
 mod words;
 
 pub use checking::check_network;
