@@ -1,16 +1,19 @@
 -- What the program answers.
-use Rattle.std.specs.Prelude.{◌≡◌, ◌≢◌, ℕ, ◌≤◌, List, [], ◌∷◌, length, codes, Option, Some, None}
+use Rattle.std.specs.Prelude.{◌≡◌, ◌≢◌, ◌⊎◌, IfSome, ℕ, ◌≤◌, List, [], ◌∷◌, length, codes, Option, Some, None}
 use Rattle.pcf_values.specs.declared.pcf.Pcf.{Pcf}
 use Rattle.pcf_codec.specs.Sequence.{SpellsAll}
 use Rattle.tte_run.specs.Putting.{Shown}
+use Rattle.net_plan.specs.declared.event.Event.{Event}
 use Rattle.net_plan.specs.declared.network.Network.{Network}
-use Rattle.tte_run.specs.Accepting.{MeansAccepted}
-use Rattle.tte_run.specs.Answering.{Answer, Gives, IsDone}
+use Rattle.tte_run.specs.Accepting.{IsNetworkAnswer, MeansAccepted}
+use Rattle.tte_run.specs.Answering.{Answer, ForOctets, Gives, GivesOne, IsDone}
 use Rattle.tte_run.specs.Checking.{IsCheckAnswer}
+use Rattle.tte_run.specs.Running.{IsRunAnswer, IsUnbuilt}
 use Rattle.tte_run.specs.Showing.{show_answer, file_limit}
 use Rattle.tte_run.specs.Forms.{form_of}
+use Rattle.tte_run.specs.Tracing.{AreAdmitted, HaveEnded, behind_lines}
 use Rattle.tte_run.specs.declared.form.Form.{Form}
-use Rattle.tte_run.specs.declared.form.Form.TheVariants.{Show, Check}
+use Rattle.tte_run.specs.declared.form.Form.TheVariants.{Show, Check, Run}
 use Rattle.tte_run.specs.declared.status.Status.{Status}
 use Rattle.tte_run.specs.declared.status.Status.TheVariants.{Usage}
 
@@ -21,19 +24,34 @@ usage_line = codes "usage: tte show FILE | check NETWORK | run NETWORK TRACE | s
 abbrev pub usage_answer : Answer
 usage_answer = record { status = Usage; lines = usage_line ∷ [] }
 
--- an answer for a form and the octets of its file
-abbrev pub IsFormAnswer : Option Form → List ℕ → Answer → Type 0
-IsFormAnswer None octets a = a ≡ usage_answer
-IsFormAnswer (Some Show) octets a = a ≡ show_answer octets
-IsFormAnswer (Some Check) octets a = IsCheckAnswer octets a
+-- an answer for a form and the octets of its files; only `run` has a second
+abbrev pub IsFormAnswer : Option Form → List ℕ → List ℕ → Answer → Type 0
+IsFormAnswer None octets trace a = a ≡ usage_answer
+IsFormAnswer (Some Show) octets trace a = a ≡ show_answer octets
+IsFormAnswer (Some Check) octets trace a = IsCheckAnswer octets a
+IsFormAnswer (Some Run) octets trace a = IsNetworkAnswer (IsRunAnswer trace) octets a
 
--- an answer for the words and the octets of the file
-abbrev pub IsAnswer : List (List ℕ) → List ℕ → Answer → Type 0
-IsAnswer words octets a = IsFormAnswer (form_of words) octets a
+-- an answer for the words and the octets of the files
+abbrev pub IsAnswer : List (List ℕ) → List ℕ → List ℕ → Answer → Type 0
+IsAnswer words octets trace a = IsFormAnswer (form_of words) octets trace a
 
--- the words and the octets of the file have one answer
+-- the words and the octets of the files have one answer
 abbrev pub AnswerIsOne : Type 0
-AnswerIsOne = (words : List (List ℕ)) (octets : List ℕ) (a b : Answer) → IsAnswer words octets a → IsAnswer words octets b → a ≡ b
+AnswerIsOne =
+    (words : List (List ℕ)) (octets trace : List ℕ) (a b : Answer) → IsAnswer words octets trace a → IsAnswer words octets trace b → a ≡ b
+
+-- the fact holds for the octets of the second file, which `run` alone reads; where its source does not tell
+-- them, nothing is claimed of a run
+abbrev pub ForTrace : Option Form → Option (List ℕ) → (List ℕ → Type 0) → Type 0
+ForTrace None left P = P []
+ForTrace (Some Show) left P = P []
+ForTrace (Some Check) left P = P []
+ForTrace (Some Run) left P = IfSome left P
+
+-- the answer for the words was given, for the octets of both files
+abbrev pub AnswersWords : Option Form → Option (List ℕ) → Option (List ℕ) → Status → Shown → Shown → Type 0
+AnswersWords form first second status old new =
+    ForOctets first (λ octets. ForTrace form second (λ trace. GivesOne (IsFormAnswer form octets trace) status old new))
 
 -- usage is answered exactly where the words are of no form
 abbrev pub AnswersUsage : Option Form → Status → Shown → Shown → Type 0
@@ -48,9 +66,23 @@ ShowsWhole octets status = (ps : List Pcf) → length octets ≤ file_limit → 
 abbrev pub ChecksWhole : List ℕ → Status → Type 0
 ChecksWhole octets status = (network : Network) → MeansAccepted octets network → IsDone status
 
+-- a built network whose whole trace is admitted, up to its end, is run
+abbrev pub RunsWhole : List ℕ → List ℕ → Status → Type 0
+RunsWhole octets trace status =
+    (network : Network) (events : List Event) → MeansAccepted octets network → (IsUnbuilt network → ⊥)
+    → AreAdmitted network trace events → HaveEnded events → behind_lines (length events) trace ≡ [] → IsDone status
+
 -- valid input is answered to its end, where no count of faults rose
-abbrev pub Completes : Option Form → Option (List ℕ) → Type 0 → Type 0 → Status → Type 0
-Completes (Some Show) (Some octets) SourceRose SinkRose status = (SourceRose → ⊥) → (SinkRose → ⊥) → ShowsWhole octets status
-Completes (Some Check) (Some octets) SourceRose SinkRose status = (SourceRose → ⊥) → (SinkRose → ⊥) → ChecksWhole octets status
-Completes (Some form) None SourceRose SinkRose status = Unit {0}
-Completes None left SourceRose SinkRose status = Unit {0}
+abbrev pub Completes : Option Form → Option (List ℕ) → Option (List ℕ) → Type 0 → Type 0 → Status → Type 0
+Completes None first second SourceRose SinkRose status = Unit {0}
+Completes (Some form) None second SourceRose SinkRose status = Unit {0}
+Completes (Some Show) (Some octets) second SourceRose SinkRose status = (SourceRose → ⊥) → (SinkRose → ⊥) → ShowsWhole octets status
+Completes (Some Check) (Some octets) second SourceRose SinkRose status = (SourceRose → ⊥) → (SinkRose → ⊥) → ChecksWhole octets status
+Completes (Some Run) (Some octets) None SourceRose SinkRose status = Unit {0}
+Completes (Some Run) (Some octets) (Some trace) SourceRose SinkRose status = (SourceRose → ⊥) → (SinkRose → ⊥) → RunsWhole octets trace status
+
+-- a read failed: of the first file, and then nothing was put and the second was not read; or, for `run`, of the
+-- second
+abbrev pub FailsToRead : Option Form → Type 0 → Type 0 → Type 0 → Type 0
+FailsToRead (Some Run) First Second Untouched = (First × Untouched) ⊎ Second
+FailsToRead form First Second Untouched = First × Untouched

@@ -1,5 +1,5 @@
 ghost use Rattle.std.specs.Prelude.{◌≡◌};
-ghost use Rattle.tte_run.specs.Forms.{command_form, form_of};
+ghost use Rattle.tte_run.specs.Forms.{form_of, one_file_form, two_files_form};
 
 use crate::Words;
 
@@ -10,10 +10,13 @@ pub enum Form {
     Show,
     /// `check NETWORK`.
     Check,
+    /// `run NETWORK TRACE`.
+    Run,
 }
 
-fn command_form(command: &str) -> Option<Form>
-    ensures { result ≡ command_form command.now }
+/// The form of a command with one file.
+fn one_file_form(command: &str) -> Option<Form>
+    ensures { result ≡ one_file_form command.now }
 {
     match command {
         "show" => Some(Form::Show),
@@ -22,13 +25,24 @@ fn command_form(command: &str) -> Option<Form>
     }
 }
 
+/// The form of a command with two files.
+fn two_files_form(command: &str) -> Option<Form>
+    ensures { result ≡ two_files_form command.now }
+{
+    match command {
+        "run" => Some(Form::Run),
+        _ => None,
+    }
+}
+
 /// The form of the words, if they have one.
 pub fn read_form(words: &Words) -> Option<Form>
     ensures { result ≡ form_of words.now }
 {
-    if words.len() != 2 {
-        return None;
-    }
     let command = words.get(0)?;
-    command_form(command)
+    match words.len() {
+        2 => one_file_form(command),
+        3 => two_files_form(command),
+        _ => None,
+    }
 }

@@ -1,13 +1,13 @@
-ghost use Rattle.std.specs.Prelude.{◌≡◌, ◌⊎◌};
+ghost use Rattle.std.specs.Prelude.{◌≡◌, ◌≢◌, ◌⊎◌, Some};
 ghost use Rattle.tte_io.specs.Faults.{Rose};
 ghost use Rattle.tte_run.specs.Putting.{shown_by};
-ghost use Rattle.tte_run.specs.Answering.{AnswersOne, Gives};
+ghost use Rattle.tte_run.specs.Answering.{Gives};
 ghost use Rattle.tte_run.specs.Forms.{form_of};
-ghost use Rattle.tte_run.specs.Top.{AnswerIsOne, AnswersUsage, Completes, IsAnswer, usage_answer};
+ghost use Rattle.tte_run.specs.Top.{AnswerIsOne, AnswersUsage, AnswersWords, Completes, FailsToRead, usage_answer};
 
 use crate::form::{Form, read_form};
 use crate::put_line::put_last;
-use crate::{Status, Words, check_network, show};
+use crate::{Status, Words, check_network, run_trace, show};
 use net_plan::beta_is_unique;
 use schedule_checker::refusal_is_one;
 use std::alloc::Global;
@@ -25,21 +25,23 @@ pub fn tte<A: Source, B: Source, K: Sink>(
     second: &mut B,
     out: &mut K,
 ) -> Status
-    ensures general { AnswersOne (IsAnswer words.now) (A.left first.old) result
+    ensures general { AnswersWords (form_of words.now) (A.left first.old) (B.left second.old) result
         (shown_by K.written K.puts out.old) (shown_by K.written K.puts out.new) }
     ensures usage { AnswersUsage (form_of words.now) result
         (shown_by K.written K.puts out.old) (shown_by K.written K.puts out.new) }
-    ensures read { result ≡ Status.ReadFault → Rose (A.faults first.old) (A.faults first.new) }
-    ensures unread { result ≡ Status.ReadFault → out.new ≡ out.old }
+    ensures read { result ≡ Status.ReadFault → FailsToRead (form_of words.now)
+        (Rose (A.faults first.old) (A.faults first.new)) (Rose (B.faults second.old) (B.faults second.new))
+        ((out.new ≡ out.old) × (second.new ≡ second.old)) }
     ensures write { result ≡ Status.WriteFault → Rose (K.faults out.old) (K.faults out.new) }
-    ensures complete { Completes (form_of words.now) (A.left first.old)
-        (Rose (A.faults first.old) (A.faults first.new)) (Rose (K.faults out.old) (K.faults out.new)) result }
-    ensures second_unread { second.new ≡ second.old }
+    ensures complete { Completes (form_of words.now) (A.left first.old) (B.left second.old)
+        (Rose (A.faults first.old) (A.faults first.new) ⊎ Rose (B.faults second.old) (B.faults second.new))
+        (Rose (K.faults out.old) (K.faults out.new)) result }
+    ensures second_unread { form_of words.now ≢ Some Form.Run → second.new ≡ second.old }
 {
-    let _ = second;
     match read_form(words) {
         Some(Form::Show) => show(alloc, first, out),
         Some(Form::Check) => check_network(alloc, first, out),
+        Some(Form::Run) => run_trace(alloc, first, second, out),
         None => put_usage(out),
     }
 }
