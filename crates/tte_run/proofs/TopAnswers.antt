@@ -12,29 +12,30 @@ use Rattle.tte_run.specs.Forms.{form_of}
 use Rattle.tte_run.specs.Showing.{show_answer}
 use Rattle.tte_run.specs.Top.{AnswerIsOne, IsFormAnswer, usage_answer, Completes}
 use Rattle.tte_run.specs.declared.form.Form.{Form}
-use Rattle.tte_run.specs.declared.form.Form.TheVariants.{Show, Check}
+use Rattle.tte_run.specs.declared.form.Form.TheVariants.{Show, Check, Run}
 use Rattle.tte_run.specs.declared.status.Status.{Status}
 use Rattle.tte_run.specs.declared.status.Status.TheVariants.{ReadFault, WriteFault}
 use Rattle.tte_run.proofs.NetworkAnswers.{accepted_alone, network_answer_one, acceptance_one}
 use Rattle.tte_run.proofs.Octets.{for_all, for_more}
 use Rattle.tte_run.proofs.OneAnswers.{one_given}
+use Rattle.tte_run.proofs.RunCompletes.{run_one, run_whole}
 use Rattle.tte_run.proofs.ShowAnswers.{shown_whole}
 
--- usage is the answer whatever the source holds
-pub usage-any : (left : Option (List ℕ)) (status : Status) (old new : Shown) → Gives usage_answer status old new → AnswersOne (IsFormAnswer None) left status old new
-usage-any left status old new g =
-    for_all left (λ octets. GivesOne (IsFormAnswer None octets) status old new) (λ octets. one_given (λ a. a ≡ usage_answer) usage_answer status old new refl (λ b e. e) g)
+-- usage is the answer whatever the sources hold
+pub usage-any : (first second : Option (List ℕ)) (status : Status) (old new : Shown) → Gives usage_answer status old new → AnswersWords None first second status old new
+usage-any first second status old new g =
+    for_all first (λ octets. GivesOne (IsFormAnswer None octets []) status old new) (λ octets. one_given (λ a. a ≡ usage_answer) usage_answer status old new refl (λ b e. e) g)
 
 -- the answer of `show` is one for its form
-pub shown-form : (left : Option (List ℕ)) (status : Status) (old new : Shown) → Answers show_answer left status old new → AnswersOne (IsFormAnswer (Some Show)) left status old new
-shown-form left status old new g =
-    for_more left (λ octets. Gives (show_answer octets) status old new) (λ octets. GivesOne (IsFormAnswer (Some Show) octets) status old new)
+pub shown-form : (first second : Option (List ℕ)) (status : Status) (old new : Shown) → Answers show_answer first status old new → AnswersWords (Some Show) first second status old new
+shown-form first second status old new g =
+    for_more first (λ octets. Gives (show_answer octets) status old new) (λ octets. GivesOne (IsFormAnswer (Some Show) octets []) status old new)
     (λ octets h. one_given (λ a. a ≡ show_answer octets) (show_answer octets) status old new refl (λ b e. e) h) g
 
-pub completes-show : (left : Option (List ℕ)) (status : Status) (old new : Shown) (SourceRose SinkRose : Type 0) → Answers show_answer left status old new
-    → (status ≡ ReadFault → SourceRose) → (status ≡ WriteFault → SinkRose) → Completes (Some Show) left SourceRose SinkRose status
-completes-show None status old new SourceRose SinkRose a read write = tt
-completes-show (Some octets) status old new SourceRose SinkRose a read write = λ quiet calm ps short s. shown_whole octets ps status old new SourceRose SinkRose short s a read write quiet calm
+pub completes-show : (first second : Option (List ℕ)) (status : Status) (old new : Shown) (SourceRose SinkRose : Type 0) → Answers show_answer first status old new
+    → (status ≡ ReadFault → SourceRose) → (status ≡ WriteFault → SinkRose) → Completes (Some Show) first second SourceRose SinkRose status
+completes-show None second status old new SourceRose SinkRose a read write = tt
+completes-show (Some octets) second status old new SourceRose SinkRose a read write = λ quiet calm ps short s. shown_whole octets ps status old new SourceRose SinkRose short s a read write quiet calm
 
 -- an accepted network is told to its end
 told_whole : (octets : List ℕ) (n : Network) (status : Status) (old new : Shown) (SourceRose SinkRose : Type 0) → MeansAccepted octets n → GivesOne (IsCheckAnswer octets) status old new
@@ -45,15 +46,23 @@ told_whole octets n status old new SourceRose SinkRose m (inr (inl g)) read writ
 told_whole octets n status old new SourceRose SinkRose m (inr (inr (inl r, p))) read write quiet calm = absurd (quiet (read r))
 told_whole octets n status old new SourceRose SinkRose m (inr (inr (inr o, p))) read write quiet calm = inr o
 
-pub completes-check : (left : Option (List ℕ)) (status : Status) (old new : Shown) (SourceRose SinkRose : Type 0) → AnswersOne IsCheckAnswer left status old new
-    → (status ≡ ReadFault → SourceRose) → (status ≡ WriteFault → SinkRose) → Completes (Some Check) left SourceRose SinkRose status
-completes-check None status old new SourceRose SinkRose a read write = tt
-completes-check (Some octets) status old new SourceRose SinkRose a read write = λ quiet calm n m. told_whole octets n status old new SourceRose SinkRose m a read write quiet calm
+pub completes-check : (first second : Option (List ℕ)) (status : Status) (old new : Shown) (SourceRose SinkRose : Type 0) → AnswersOne IsCheckAnswer first status old new
+    → (status ≡ ReadFault → SourceRose) → (status ≡ WriteFault → SinkRose) → Completes (Some Check) first second SourceRose SinkRose status
+completes-check None second status old new SourceRose SinkRose a read write = tt
+completes-check (Some octets) second status old new SourceRose SinkRose a read write = λ quiet calm n m. told_whole octets n status old new SourceRose SinkRose m a read write quiet calm
 
-form_one : BetaIsUnique → RefusalIsOne → (form : Option Form) (octets : List ℕ) (a b : Answer) → IsFormAnswer form octets a → IsFormAnswer form octets b → a ≡ b
-form_one unique one None octets a b p q = p ∙ sym q
-form_one unique one (Some Show) octets a b p q = p ∙ sym q
-form_one unique one (Some Check) octets a b p q = network_answer_one one IsAcceptance (acceptance_one unique) octets a b p q
+pub completes-run : (first second : Option (List ℕ)) (status : Status) (old new : Shown) (SourceRose SinkRose : Type 0) → AnswersWords (Some Run) first second status old new
+    → (status ≡ ReadFault → SourceRose) → (status ≡ WriteFault → SinkRose) → Completes (Some Run) first second SourceRose SinkRose status
+completes-run None second status old new SourceRose SinkRose a read write = tt
+completes-run (Some octets) None status old new SourceRose SinkRose a read write = tt
+completes-run (Some octets) (Some trace) status old new SourceRose SinkRose a read write =
+    λ quiet calm n events m built admitted ended left. run_whole octets trace n events status old new SourceRose SinkRose m built (record { admitted = admitted; ended = ended; none_left = left }) a read write quiet calm
+
+form_one : BetaIsUnique → RefusalIsOne → (form : Option Form) (octets trace : List ℕ) (a b : Answer) → IsFormAnswer form octets trace a → IsFormAnswer form octets trace b → a ≡ b
+form_one unique one None octets trace a b p q = p ∙ sym q
+form_one unique one (Some Show) octets trace a b p q = p ∙ sym q
+form_one unique one (Some Check) octets trace a b p q = network_answer_one one IsAcceptance (acceptance_one unique) octets a b p q
+form_one unique one (Some Run) octets trace a b p q = run_one one octets trace a b p q
 
 pub one_answer : BetaIsUnique → RefusalIsOne → AnswerIsOne
-one_answer unique one words octets a b p q = form_one unique one (form_of words) octets a b p q
+one_answer unique one words octets trace a b p q = form_one unique one (form_of words) octets trace a b p q

@@ -38,7 +38,32 @@ pub fn tte<A: Source, B: Source, K: Sink>(
         (Rose (K.faults out.old) (K.faults out.new)) result }
     ensures second_unread { form_of words.now ≢ Some Form.Run → second.new ≡ second.old }
 {
-    match read_form(words) {
+    let form = read_form(words);
+    answer_form(alloc, form, first, second, out)
+}
+
+/// Answers words of this form, or of none.
+fn answer_form<A: Source, B: Source, K: Sink>(
+    alloc: Global,
+    form: Option<Form>,
+    first: &mut A,
+    second: &mut B,
+    out: &mut K,
+) -> Status
+    ensures general { AnswersWords form (A.left first.old) (B.left second.old) result
+        (shown_by K.written K.puts out.old) (shown_by K.written K.puts out.new) }
+    ensures usage { AnswersUsage form result
+        (shown_by K.written K.puts out.old) (shown_by K.written K.puts out.new) }
+    ensures read { result ≡ Status.ReadFault → FailsToRead form
+        (Rose (A.faults first.old) (A.faults first.new)) (Rose (B.faults second.old) (B.faults second.new))
+        ((out.new ≡ out.old) × (second.new ≡ second.old)) }
+    ensures write { result ≡ Status.WriteFault → Rose (K.faults out.old) (K.faults out.new) }
+    ensures complete { Completes form (A.left first.old) (B.left second.old)
+        (Rose (A.faults first.old) (A.faults first.new) ⊎ Rose (B.faults second.old) (B.faults second.new))
+        (Rose (K.faults out.old) (K.faults out.new)) result }
+    ensures second_unread { form ≢ Some Form.Run → second.new ≡ second.old }
+{
+    match form {
         Some(Form::Show) => show(alloc, first, out),
         Some(Form::Check) => check_network(alloc, first, out),
         Some(Form::Run) => run_trace(alloc, first, second, out),
