@@ -15,7 +15,7 @@ pub(super) struct Case<'a> {
     pub(super) status: Status,
 }
 
-fn words_of(alloc: Global, texts: &[&str]) -> Result<Words, OutOfMemory> {
+pub(super) fn words_of(alloc: Global, texts: &[&str]) -> Result<Words, OutOfMemory> {
     let mut words = Words::new(alloc);
     for text in texts {
         if words.len() < 8 {
