@@ -7,3 +7,6 @@ pub mod KeyLengths
 pub mod Octets
 pub mod OneAnswers
 pub mod NetworkAnswers
+pub mod PuttingRecords
+pub mod WorldMarks
+pub mod PuttingEvents

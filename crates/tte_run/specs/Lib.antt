@@ -10,3 +10,8 @@ pub mod NoNetworks
 pub mod Checking
 pub mod Forms
 pub mod Top
+pub mod Tracing
+pub mod TraceLine
+pub mod Running
+pub mod Refusing
+pub mod PutRecords

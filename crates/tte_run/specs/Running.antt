@@ -1,7 +1,8 @@
 -- What `run` answers for the octets of a network file and of a trace.
 use Rattle.std.specs.Prelude.{◌≡◌, ◌≢◌, ◌⊎◌, ℕ, ◌+◌, List, [], ◌∷◌, ◌++◌, length, Any, IsNone, codes}
 use Rattle.drift_clock.specs.Segment.{fresh_segment, stepped_segment, segment_reading}
-use Rattle.drift_world.specs.Stands.{behind_events, last_time, reading_of}
+use Rattle.drift_world.specs.Clocks.{reading_of}
+use Rattle.drift_world.specs.Standing.{behind_events, last_time}
 use Rattle.net_plan.specs.declared.event.Event.{Event}
 use Rattle.net_plan.specs.declared.ids.DeviceId.{DeviceId}
 use Rattle.net_plan.specs.declared.network.Network.{Network}
