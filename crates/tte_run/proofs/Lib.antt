@@ -10,3 +10,10 @@ pub mod NetworkAnswers
 pub mod PuttingRecords
 pub mod WorldMarks
 pub mod PuttingEvents
+pub mod RunRecords
+pub mod EventTimes
+pub mod TraceFaults
+pub mod Admitted
+pub mod RunAnswers
+pub mod RunGiven
+pub mod RunCompletes
