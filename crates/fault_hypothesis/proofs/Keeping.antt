@@ -1,0 +1,113 @@
+-- What a watch keeps stands so behind one more event.
+use Rattle.std.proofs.Common.{◌≡◌, ◌↔◌, ℕ, ◌<◌, ◌≤◌, zero, suc, List, [], ◌∷◌, ◌++◌, length, Bool, true, false, Option, Some, inl, inr, refl, sym, ap, ◌∙◌, arith}
+use Rattle.std.specs.Prelude.{slice_get, slice_set}
+use Rattle.std.proofs.lemmas.Bool.{cases_order}
+use Rattle.std.proofs.lemmas.List.{get_or-replicate, length-replicate}
+use Rattle.std.proofs.lemmas.Option.{get_or_from_slice_get, slice_get_within}
+use Rattle.std.proofs.Math.ListN.{replicate}
+use Rattle.net_plan.specs.declared.event.Event.{Event}
+use Rattle.net_plan.specs.declared.event.What.TheVariants as events
+use Rattle.net_plan.specs.declared.ids.DeviceId.{DeviceId}
+use Rattle.net_plan.specs.declared.network.Network.{Network}
+use Rattle.run_law.specs.Faults.{Breaks, IsBroken, IsTurnedOn, TurnsOn}
+use Rattle.run_law.specs.Hypothesis.{AreWithinHypothesis, IsWithinHypothesis}
+use Rattle.run_law.specs.declared.outside.Outside.TheVariants.{SecondBreak}
+use Rattle.trace_text.specs.Ranges.{HasDevice, IsOfNetwork}
+use Rattle.fault_hypothesis.specs.Watching.{AreOfNetwork}
+use Rattle.fault_hypothesis.proofs.Befalling.{any_last, any_left, any_none, any_parts, stands_where}
+
+-- one more event of the network
+pub all_of_network : (network : Network) (admitted : List Event) (event : Event) → AreOfNetwork network admitted → IsOfNetwork network event.what → AreOfNetwork network (admitted ++ event ∷ [])
+all_of_network network [] event all here zero d within = here
+all_of_network network [] event all here (suc k) d within = absurd (omega (arith, within))
+all_of_network network (x ∷ xs) event all here zero d within = all zero d (omega arith)
+all_of_network network (x ∷ xs) event all here (suc k) d within =
+    all_of_network network xs event (λ i e lt. all (suc i) e (omega (arith, lt))) here k d (omega (arith, within))
+
+-- one more event within the hypothesis
+pub all_within : (network : Network) (admitted : List Event) (event : Event) → AreWithinHypothesis network admitted → IsWithinHypothesis network admitted event → AreWithinHypothesis network (admitted ++ event ∷ [])
+all_within network admitted event all here before behind e order =
+    elim (stands_where admitted event before e behind order) [
+      | inl s ↦ all before s.rest e s.whole
+      | inr s ↦ rw (s.before_is, s.same) here
+    ]
+
+-- what a watch knows of the broken device
+abbrev pub KnowsBroken : List Event → Option DeviceId → Type 0
+KnowsBroken events broken = (d : DeviceId) → (broken ≡ Some d) ↔ IsBroken events d
+
+-- where the event breaks nothing, the broken device is as it was
+pub broken_stays : (admitted : List Event) (event : Event) (broken : Option DeviceId) → ((d : DeviceId) → Breaks d event → ⊥) → KnowsBroken admitted broken → KnowsBroken (admitted ++ event ∷ []) broken
+broken_stays admitted event broken none known = λ d. (
+  λ e. any_left (Breaks d) admitted event ((known d).0 e),
+  λ h. elim (any_parts (Breaks d) admitted event h) [ inl a ↦ (known d).1 a | inr b ↦ absurd (none d b) ],
+)
+
+-- a break within the hypothesis is the first
+pub broken_breaks : (network : Network) (admitted : List Event) (event : Event) (device : DeviceId) (broken : Option DeviceId) → IsWithinHypothesis network admitted event → event.what ≡ events.Break device → KnowsBroken admitted broken → KnowsBroken (admitted ++ event ∷ []) (Some device)
+broken_breaks network admitted event device broken within what known = λ d. (
+  λ e. any_last (Breaks d) admitted event (what ∙ ap (λ (o : DeviceId). events.Break o) cc),
+  λ h. elim (any_parts (Breaks d) admitted event h) [
+    | inl a ↦ absurd (within SecondBreak (record { device = device; broken = d; breaks = what; is_broken = a }))
+    | inr b ↦ cc
+  ],
+)
+
+-- what a watch knows of the devices that were turned on
+abbrev pub KnowsTurnedOn : Network → List Event → List Bool → Type 0
+KnowsTurnedOn network events on =
+    (d : DeviceId) → HasDevice network d → (slice_get on d.0 ≡ Some true) ↔ IsTurnedOn events d
+
+-- where the event turns nothing on, these devices are as they were
+pub on_stays : (network : Network) (admitted : List Event) (event : Event) (on : List Bool) → ((d : DeviceId) → TurnsOn d event → ⊥) → KnowsTurnedOn network admitted on → KnowsTurnedOn network (admitted ++ event ∷ []) on
+on_stays network admitted event on none known = λ d has. (
+  λ e. any_left (TurnsOn d) admitted event ((known d has).0 e),
+  λ h. elim (any_parts (TurnsOn d) admitted event h) [ inl a ↦ (known d has).1 a | inr b ↦ absurd (none d b) ],
+)
+
+get_set_same : (xs : List Bool) (i : ℕ) (x : Bool) → i < length xs → slice_get (slice_set xs i x) i ≡ Some x
+get_set_same [] i x within = absurd (omega (arith, within))
+get_set_same (y ∷ ys) zero x within = refl
+get_set_same (y ∷ ys) (suc i) x within = get_set_same ys i x (omega (arith, within))
+
+get_set_other : (xs : List Bool) (i j : ℕ) (x : Bool) → (i ≡ j → ⊥) → slice_get (slice_set xs i x) j ≡ slice_get xs j
+get_set_other [] i j x other = refl
+get_set_other (y ∷ ys) zero zero x other = absurd (other refl)
+get_set_other (y ∷ ys) zero (suc j) x other = refl
+get_set_other (y ∷ ys) (suc i) zero x other = refl
+get_set_other (y ∷ ys) (suc i) (suc j) x other = get_set_other ys i j x (λ e. other (ap (λ n. suc n) e))
+
+same_id : (a b : DeviceId) → a.0 ≡ b.0 → a ≡ b
+same_id a b e = ap (λ n. let d : DeviceId = record { 0 = n } in d) e
+
+-- the event turns one more device on
+pub on_turns : (network : Network) (admitted : List Event) (event : Event) (device : DeviceId) (on : List Bool) → length network.device ≤ length on → HasDevice network device → event.what ≡ events.On device → KnowsTurnedOn network admitted on → KnowsTurnedOn network (admitted ++ event ∷ []) (slice_set on device.0 true)
+on_turns network admitted event device on room there what known = λ d has.
+    let here : device.0 ≡ d.0 → IsTurnedOn (admitted ++ event ∷ []) d =
+    λ same. any_last (TurnsOn d) admitted event (what ∙ ap (λ (o : DeviceId). events.On o) (same_id device d same)) in
+    elim (cases_order device.0 d.0) [
+      | inl same ↦ (
+        λ e. here same,
+        λ h. rw (← same) (get_set_same on device.0 true (omega (arith, there, room))),
+      )
+      | inr other ↦
+          let differ : device.0 ≡ d.0 → ⊥ = λ e. elim other [ inl lt ↦ absurd (omega (arith, lt, e)) | inr gt ↦ absurd (omega (arith, gt, e)) ] in
+          let kept = get_set_other on device.0 d.0 true differ in (
+            λ e. any_left (TurnsOn d) admitted event ((known d has).0 (sym kept ∙ e)),
+            λ h. elim (any_parts (TurnsOn d) admitted event h) [
+              | inl a ↦ kept ∙ (known d has).1 a
+              | inr b ↦ let one : device ≡ d = cc in absurd (differ (ap (λ (x : DeviceId). x.0) one))
+            ],
+          )
+    ]
+
+-- none was turned on before any event
+pub none_on : (network : Network) (size : ℕ) → KnowsTurnedOn network [] (replicate size false)
+none_on network size = λ d has. (
+  λ e.
+      let within = slice_get_within (replicate size false) d.0 true e in
+      let here = get_or_from_slice_get (replicate size false) d.0 true true e in
+      let there = get_or-replicate size d.0 false true (omega (arith, within, length-replicate size false)) in
+      absurd cc,
+  λ h. absurd (any_none (TurnsOn d) h),
+)

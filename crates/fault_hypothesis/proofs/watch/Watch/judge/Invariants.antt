@@ -1,0 +1,14 @@
+use Rattle.std.proofs.Common.{◌≤◌, List}
+use Rattle.fault_hypothesis.specs.Watching.{Watches}
+use Rattle.net_plan.specs.declared.event.Event.{Event}
+use Rattle.net_plan.specs.declared.network.Network.{Network}
+use Rattle.run_law.specs.Hypothesis.{Violates, condition_number}
+use Rattle.run_law.specs.declared.outside.Outside.{Outside}
+use Rattle.trace_text.specs.Ranges.{IsOfNetwork}
+use Rattle.fault_hypothesis.proofs.watch.Watch.judge.Given as goal
+
+-- the event breaks none of the conditions so far
+abbrev pub invariant-conditions : goal.invariant-conditions
+invariant-conditions l =
+    (network : Network) (admitted : List Event) → Watches network l.self admitted → IsOfNetwork network l.event.what
+    → (earlier : Outside) → condition_number earlier ≤ l.condition-index → Violates network admitted l.event earlier → ⊥

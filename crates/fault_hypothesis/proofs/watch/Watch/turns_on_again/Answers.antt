@@ -1,0 +1,44 @@
+use Rattle.std.proofs.Common.{◌≡◌, ◌∙◌, inl, inr, subst, sym}
+use Rattle.net_plan.specs.declared.network.Network.{Network}
+use Rattle.run_law.specs.Faults.{BeginsOn, IsBroken, IsTurnedOn}
+use Rattle.trace_text.specs.Ranges.{IsOfNetwork}
+use Rattle.fault_hypothesis.proofs.watch.Watch.turns_on_again.Goals as goal
+use Rattle.fault_hypothesis.proofs.watch.Watch.turns_on_again.Goals.{then-begins_on, else-begins_on}
+
+pub returns-then-is_turned_on : goal.returns-then-is_turned_on
+returns-then-is_turned_on c = λ network admitted w of_network.
+    let same = c.network.ensures.value ∙ w.over in
+    let has = subst (IsOfNetwork network) c.in-On.is of_network in (
+      λ t. record {
+        device = c.in-On.device;
+        what = c.in-On.is;
+        known = elim c.if-begins_on.branch [
+          | then-begins_on x ↦ inl (subst (λ (n : Network). BeginsOn n c.in-On.device) same (c.begins_on.ensures.0 x.if-begins_on.true))
+          | else-begins_on x ↦ inr (inl ((x.is_turned_on.ensures network admitted w has).0 (sym x.value-is ∙ c.if-is_turned_on.true)))
+        ];
+      },
+      λ v. c.if-is_turned_on.true,
+    )
+
+pub returns-else-is_turned_on : goal.returns-else-is_turned_on
+returns-else-is_turned_on c = λ network admitted w of_network.
+    let same = c.network.ensures.value ∙ w.over in
+    let has = subst (IsOfNetwork network) c.in-On.is of_network in (
+      λ t. record { device = c.in-On.device; what = c.in-On.is; known = inr (inr ((c.is_broken.ensures network admitted w).0 t)) },
+      λ v.
+          let one : v.device ≡ c.in-On.device = cc in
+          elim c.if-begins_on.branch [
+            | then-begins_on x ↦ let on = x.value-is in let off = c.if-is_turned_on.false in absurd cc
+            | else-begins_on x ↦ elim v.known [
+              | inl begins ↦
+                  let yes = c.begins_on.ensures.1 (subst (λ (n : Network). BeginsOn n c.in-On.device) (sym same) (subst (BeginsOn network) one begins)) in
+                  let no = x.if-begins_on.false in
+                  absurd cc
+              | inr (inl on) ↦
+                  let yes = (x.is_turned_on.ensures network admitted w has).1 (subst (IsTurnedOn admitted) one on) in
+                  let no = sym x.value-is ∙ c.if-is_turned_on.false in
+                  absurd cc
+              | inr (inr broken) ↦ (c.is_broken.ensures network admitted w).1 (subst (IsBroken admitted) one broken)
+            ]
+          ],
+    )

@@ -1,0 +1,2 @@
+pub mod SoundMasters
+pub mod Watching

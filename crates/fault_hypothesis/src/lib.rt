@@ -1,0 +1,10 @@
+//! The watch over the fault hypothesis: whether an event may befall a network, given those that it
+//! admitted before.
+#![tactic(auto)]
+
+mod conditions;
+mod places;
+mod watch;
+
+pub use run_law::Outside;
+pub use watch::Watch;

@@ -1,0 +1,73 @@
+ghost use Rattle.std.specs.Prelude.{◌≡◌, Some, ◌↔◌, IsTrue, IsNone, MatchOption};
+ghost use Rattle.std.specs.Option.{option_copied};
+ghost use Rattle.net_plan.specs.Places.{device_at, link_at};
+ghost use Rattle.net_plan.specs.Rules.{HasOffSwitch};
+ghost use Rattle.pcf_values.specs.declared.channel.Channel.{Channel as ChannelValue};
+ghost use Rattle.run_law.specs.Faults.{BeginsOn, IsLinkOf};
+
+use net_plan::{Device, DeviceId, Link, LinkId, Network};
+use pcf_values::Channel;
+
+/// The device of this id, if the network has it.
+pub(crate) fn device_at(network: &Network, device: DeviceId) -> Option<&Device>
+    ensures { option_copied result ≡ device_at network.now device }
+{
+    network.device.as_slice().get(device.0 as usize)
+}
+
+/// The link of this id, if the network has it.
+pub(crate) fn link_at(network: &Network, link: LinkId) -> Option<&Link>
+    ensures { option_copied result ≡ link_at network.now link }
+{
+    network.link.as_slice().get(link.0 as usize)
+}
+
+/// The channel of the link, which is that of its parent.
+pub(crate) fn channel_of(network: &Network, link: LinkId) -> Option<Channel>
+    ensures { (channel : ChannelValue) → (result ≡ Some channel) ↔ IsLinkOf network.now channel link }
+{
+    let found = link_at(network, link)?;
+    let parent = device_at(network, found.parent)?;
+    parent.channel
+}
+
+/// Does the device begin on?
+pub(crate) fn begins_on(network: &Network, device: DeviceId) -> bool
+    ensures { IsTrue result ↔ BeginsOn network.now device }
+{
+    match device_at(network, device) {
+        Some(found) => found.start.is_some(),
+        None => false,
+    }
+}
+
+/// The first channel that has a switch that begins off, if one has.
+pub(crate) fn off_channel(network: &Network) -> Option<Channel>
+    ensures { MatchOption result
+        ((channel : ChannelValue) → HasOffSwitch network.now channel → ⊥)
+        (HasOffSwitch network.now) }
+{
+    if has_off_switch(network, Channel::A) {
+        Some(Channel::A)
+    } else if has_off_switch(network, Channel::B) {
+        Some(Channel::B)
+    } else {
+        None
+    }
+}
+
+fn has_off_switch(network: &Network, channel: Channel) -> bool
+    ensures { IsTrue result ↔ HasOffSwitch network.now channel }
+{
+    network
+        .device
+        .as_slice()
+        .iter()
+        .any(|device| is_off_switch(device, channel))
+}
+
+fn is_off_switch(device: &Device, channel: Channel) -> bool
+    ensures { IsTrue result ↔ ((device.now.channel ≡ Some channel) × IsNone device.now.start) }
+{
+    device.channel == Some(channel) && device.start.is_none()
+}
