@@ -17,3 +17,4 @@ pub mod Admitted
 pub mod RunAnswers
 pub mod RunGiven
 pub mod RunCompletes
+pub mod RunSteps

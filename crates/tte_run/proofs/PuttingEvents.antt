@@ -3,7 +3,7 @@ use Rattle.std.proofs.Common.{◌≡◌, ◌+◌, ◌≤ℤ◌, ℕ, List, [], �
 use Rattle.std.specs.Io.KnownBytes.{Appends}
 use Rattle.drift_clock.specs.Segment.{Segment}
 use Rattle.drift_world.specs.Progress.{Progress}
-use Rattle.drift_world.specs.Standing.{event_note}
+use Rattle.drift_world.specs.Standing.{behind_events}
 use Rattle.net_plan.specs.declared.event.Event.{Event}
 use Rattle.net_plan.specs.declared.event.What.{What}
 use Rattle.net_plan.specs.declared.network.Network.{Network}
@@ -15,6 +15,7 @@ use Rattle.tte_io.specs.Faults.{next_count}
 use Rattle.tte_io.specs.Told.{AppendsFront}
 use Rattle.tte_run.specs.PutRecords.{IsUnderway, PutsEvent, PutsUntil, StandsExact}
 use Rattle.tte_run.specs.Putting.{Shown, PutsLines, PutFails}
+use Rattle.tte_run.specs.Running.{AreRecordsBefore}
 use Rattle.tte_run.specs.declared.status.Status.{Status}
 use Rattle.tte_run.specs.declared.status.Status.TheVariants.{OutOfMemory, WriteFault}
 use Rattle.tte_run.proofs.Puts.{PutsLines-more, PutsLines-fails}
@@ -70,10 +71,10 @@ no_memory_for_event network events notes until event first world next old new st
     } in
     subst (λ (w : Progress Segment). PutsEvent {T = Unit {0}} network events notes event w (Err OutOfMemory) old new) (sym same) here
 
-pub event_put : (network : Network) (events : List Event) (notes : List Note) (until : Units) (event : Event) (world next : Progress Segment) (number line : ℕ) (note : Note) (old now new : Shown)
-    → (p : PutsUntil {T = Unit {0}} network events notes until world (Ok (tt {0})) old now) → StandsExact network next (events ++ event ∷ []) ((notes ++ p.more) ++ note ∷ []) → note ≡ event_note number line event
+pub event_put : (network : Network) (events : List Event) (notes : List Note) (until : Units) (event : Event) (world next : Progress Segment) (note : Note) (old now new : Shown)
+    → (p : PutsUntil {T = Unit {0}} network events notes until world (Ok (tt {0})) old now) → StandsExact network next (events ++ event ∷ []) ((notes ++ p.more) ++ note ∷ []) → AreRecordsBefore network (events ++ event ∷ []) (behind_events event.time) ((notes ++ p.more) ++ note ∷ [])
     → Appends now.written new.written (note_line network note) → new.puts ≡ next_count now.puts → PutsEvent {T = Unit {0}} network events notes event next (Ok (tt {0})) old new
-event_put network events notes until event world next number line note old now new p stands is written counted =
+event_put network events notes until event world next note old now new p stands run written counted =
     let more = events ++ event ∷ [] in
     record {
       befallen = more;
@@ -81,14 +82,14 @@ event_put network events notes until event world next number line note old now n
       befalls = refl;
       more = p.more ++ note ∷ [];
       stands = stands_more network more notes p.more note next stands;
-      so_far = so_far_event network next events event number line notes p.more note stands is;
+      so_far = so_far_event network events event notes p.more note run;
       puts = subst (λ (ls : List (List ℕ)). PutsLines ls old new) (report_more network p.more note) (PutsLines-more (report_of network p.more) (note_line network note) old now new p.puts written counted);
     }
 
-pub event_fails : (network : Network) (events : List Event) (notes : List Note) (until : Units) (event : Event) (world next : Progress Segment) (number line : ℕ) (note : Note) (old now new : Shown)
-    → (p : PutsUntil {T = Unit {0}} network events notes until world (Ok (tt {0})) old now) → StandsExact network next (events ++ event ∷ []) ((notes ++ p.more) ++ note ∷ []) → note ≡ event_note number line event
+pub event_fails : (network : Network) (events : List Event) (notes : List Note) (until : Units) (event : Event) (world next : Progress Segment) (note : Note) (old now new : Shown)
+    → (p : PutsUntil {T = Unit {0}} network events notes until world (Ok (tt {0})) old now) → StandsExact network next (events ++ event ∷ []) ((notes ++ p.more) ++ note ∷ []) → AreRecordsBefore network (events ++ event ∷ []) (behind_events event.time) ((notes ++ p.more) ++ note ∷ [])
     → AppendsFront now.written new.written (note_line network note) → new.puts ≡ next_count now.puts → PutsEvent {T = Unit {0}} network events notes event next (Err WriteFault) old new
-event_fails network events notes until event world next number line note old now new p stands is front counted =
+event_fails network events notes until event world next note old now new p stands run front counted =
     let more = events ++ event ∷ [] in
     record {
       befallen = more;
@@ -96,6 +97,6 @@ event_fails network events notes until event world next number line note old now
       befalls = tt {0};
       more = p.more ++ note ∷ [];
       stands = stands_more network more notes p.more note next stands;
-      so_far = so_far_event network next events event number line notes p.more note stands is;
+      so_far = so_far_event network events event notes p.more note run;
       puts = inl (refl, subst (λ (ls : List (List ℕ)). PutFails ls old new) (report_more network p.more note) (PutsLines-fails (report_of network p.more) (note_line network note) [] old now new p.puts front counted));
     }

@@ -1,7 +1,8 @@
 -- Records put one after another.
-use Rattle.std.proofs.Common.{◌≡◌, ◌⊎◌, ◌<ℤ◌, ℕ, List, [], ◌∷◌, ◌++◌, Option, Some, None, Ok, Err, slice_get, inl, inr, refl, sym, ap, ◌∙◌, subst, append_assoc}
-use Rattle.std.specs.Prelude.{MatchOption, IfSome, IfNone}
+use Rattle.std.proofs.Common.{◌≡◌, ◌⊎◌, ◌+◌, ◌<ℤ◌, ◌≤ℤ◌, ◌+ℤ◌, ℤ, pos, negsuc, unsigned_abs, arith, ℕ, List, [], ◌∷◌, ◌++◌, Option, Some, None, Ok, Err, slice_get, inl, inr, refl, sym, ap, ◌∙◌, subst, append_assoc}
+use Rattle.std.specs.Prelude.{IfSome, IfNone}
 use Rattle.std.specs.Io.KnownBytes.{Appends}
+use Rattle.std.proofs.lemmas.Int.{ints}
 use Rattle.std.proofs.lemmas.List.{append-nil, map-append}
 use Rattle.std.proofs.lemmas.Option.{slice_get_within}
 use Rattle.drift_clock.specs.Segment.{Segment}
@@ -20,11 +21,12 @@ use Rattle.schedule_tables.proofs.EntryLemmas.{all_at}
 use Rattle.trace_text.specs.Ranges.{IsOfNetwork}
 use Rattle.tte_io.specs.Faults.{next_count}
 use Rattle.tte_io.specs.Told.{AppendsFront}
-use Rattle.tte_run.specs.PutRecords.{IsUnderway, PutsUntil, StandsExact}
+use Rattle.tte_run.specs.PutRecords.{IsUnderway, PutsRest, PutsUntil, StandsExact}
 use Rattle.tte_run.specs.Putting.{Shown, PutsLines, PutFails}
 use Rattle.tte_run.specs.Running.{AreRecordsBefore}
 use Rattle.fault_hypothesis.specs.Watching.{AreOfNetwork}
-use Rattle.tte_run.specs.declared.status.Status.TheVariants.{WriteFault, OutOfMemory}
+use Rattle.tte_run.specs.declared.status.Status.{Status}
+use Rattle.tte_run.specs.declared.status.Status.TheVariants.{Done, WriteFault, OutOfMemory}
 use Rattle.tte_run.proofs.Puts.{PutsLines-none, PutsLines-more, PutsLines-fails}
 use Rattle.tte_units.specs.Amount.{amount}
 use Rattle.tte_units.specs.declared.units.Units.{Units}
@@ -93,18 +95,12 @@ underway_still network world next old now u put =
     let h = put u.events u.notes u.stands in
     record { events = u.events; notes = u.notes ++ h.more; of_network = u.of_network; stands = h.stands }
 
--- the value that an option has
-pub in_some : {X : Type 0} (o : Option X) (x : X) (P : Type 0) (Q : X → Type 0) → o ≡ Some x → MatchOption o P Q → Q x
-in_some {X} o x P Q e m = let R : Option X → Type 0 = λ p. MatchOption p P Q in subst R e m
-
+-- what holds of the value of an option, or of none
 pub if_some : {X : Type 0} (o : Option X) (x : X) (P : X → Type 0) → o ≡ Some x → IfSome o P → P x
 if_some {X} o x P e m = let R : Option X → Type 0 = λ p. IfSome p P in subst R e m
 
 pub if_none : {X : Type 0} (o : Option X) (P : Type 0) → o ≡ None → IfNone o P → P
 if_none {X} o P e m = let R : Option X → Type 0 = λ p. IfNone p P in subst R e m
-
-pub in_none : {X : Type 0} (o : Option X) (P : Type 0) (Q : X → Type 0) → o ≡ None → MatchOption o P Q → P
-in_none {X} o P Q e m = let R : Option X → Type 0 = λ p. MatchOption p P Q in subst R e m
 
 -- ---- how it ends
 
@@ -122,3 +118,23 @@ until_fails network events notes until world old new h = record { more = h.more;
 
 pub until_no_memory : (network : Network) (events : List Event) (notes : List Note) (until : Units) (world : Progress Segment) (old new : Shown) → HasPut network events notes world old new → PutsUntil {T = Unit {0}} network events notes until world (Err OutOfMemory) old new
 until_no_memory network events notes until world old new h = record { more = h.more; stands = h.stands; puts = inr (refl, h.puts); all = tt {0} }
+
+-- ---- up to the end
+
+next_amount : (time : ℤ) → pos 0 ≤ℤ time → unsigned_abs (time +ℤ pos 1) ≡ unsigned_abs time + 1
+next_amount (pos n) begun = refl
+next_amount (negsuc n) begun = absurd (omega (arith, ints))
+
+-- the time after
+pub amount_after : (time next : Units) → pos 0 ≤ℤ time.0 → next.0 ≡ time.0 +ℤ pos 1 → amount next ≡ amount time + 1
+amount_after time next begun is = ap unsigned_abs is ∙ next_amount time.0 begun
+
+pub rest_done : (network : Network) (events : List Event) (notes : List Note) (end until : Units) (world : Progress Segment) (old new : Shown) → PutsUntil {T = Unit {0}} network events notes until world (Ok (tt {0})) old new
+    → pos 0 ≤ℤ end.0 → world.now ≡ end → until.0 ≡ end.0 +ℤ pos 1 → PutsRest network events notes end world Done old new
+rest_done network events notes end until world old new p begun same after =
+    let later : world.now.0 <ℤ until.0 = let now : world.now.0 ≡ end.0 = ap (λ (t : Units). t.0) same in omega (arith, ints, now, after) in
+    let all : AreRecordsBefore network events ((amount end + 1) ∷ []) (notes ++ p.more) = subst (λ (n : ℕ). AreRecordsBefore network events (n ∷ []) (notes ++ p.more)) (amount_after end until begun after) (p.all later) in
+    record { more = p.more; stands = p.stands; puts = inl (refl, p.puts, all) }
+
+pub rest_cut : (network : Network) (events : List Event) (notes : List Note) (end until : Units) (world : Progress Segment) (status : Status) (old new : Shown) → PutsUntil {T = Unit {0}} network events notes until world (Err status) old new → PutsRest network events notes end world status old new
+rest_cut network events notes end until world status old new p = record { more = p.more; stands = p.stands; puts = inr p.puts }

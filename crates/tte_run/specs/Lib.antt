@@ -12,6 +12,8 @@ pub mod Forms
 pub mod Top
 pub mod Tracing
 pub mod TraceLine
+pub mod Following
 pub mod Running
 pub mod Refusing
 pub mod PutRecords
+pub mod RunStatus

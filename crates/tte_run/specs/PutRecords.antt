@@ -1,5 +1,5 @@
 -- What is put of the records of a run.
-use Rattle.std.specs.Prelude.{◌≡◌, ◌⊎◌, ℕ, ◌<ℤ◌, List, [], ◌∷◌, ◌++◌, Result, Ok, Err, OnOk}
+use Rattle.std.specs.Prelude.{◌≡◌, ◌⊎◌, ℕ, ◌+◌, ◌<ℤ◌, List, [], ◌∷◌, ◌++◌, Result, Ok, Err, OnOk}
 use Rattle.drift_clock.specs.Segment.{Segment, fresh_segment, stepped_segment, segment_reading}
 use Rattle.drift_world.specs.Progress.{Progress}
 use Rattle.drift_world.specs.Standing.{Stands}
@@ -11,7 +11,7 @@ use Rattle.tte_run.specs.Putting.{Shown, PutsLines, PutFails}
 use Rattle.tte_run.specs.Running.{AreRecordsBefore, AreRecordsSoFar}
 use Rattle.fault_hypothesis.specs.Watching.{AreOfNetwork}
 use Rattle.tte_run.specs.declared.status.Status.{Status}
-use Rattle.tte_run.specs.declared.status.Status.TheVariants.{WriteFault, OutOfMemory}
+use Rattle.tte_run.specs.declared.status.Status.TheVariants.{Done, WriteFault, OutOfMemory}
 use Rattle.tte_units.specs.Amount.{amount}
 use Rattle.tte_units.specs.declared.units.Units.{Units}
 
@@ -48,3 +48,16 @@ pub record PutsEvent {T : Type 0} (network : Network) (events : List Event) (not
   pub stands : StandsExact network world befallen (notes ++ more)
   pub so_far : AreRecordsSoFar network befallen (notes ++ more)
   pub puts : PutsOr result (report_of network more) old new
+
+-- the records up to the end were put; or the put of one failed, behind those before it; or memory ran out behind some
+abbrev pub PutsOrRest : Network → List Event → List Note → List Note → Units → Status → Shown → Shown → Type 0
+PutsOrRest network events notes more end status old new =
+    ((status ≡ Done) × PutsLines (report_of network more) old new × AreRecordsBefore network events ((amount end + 1) ∷ []) (notes ++ more))
+    ⊎ ((status ≡ WriteFault) × PutFails (report_of network more) old new)
+    ⊎ ((status ≡ OutOfMemory) × PutsLines (report_of network more) old new)
+
+-- the records that are left up to the end were put, or that was cut short
+pub record PutsRest (network : Network) (events : List Event) (notes : List Note) (end : Units) (world : Progress Segment) (status : Status) (old new : Shown) : Type 0 where
+  pub more : List Note
+  pub stands : StandsExact network world events (notes ++ more)
+  pub puts : PutsOrRest network events notes more end status old new

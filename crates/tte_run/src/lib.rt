@@ -10,6 +10,7 @@ mod network_line;
 mod put_line;
 mod put_records;
 mod refusing;
+mod running;
 mod showing;
 mod status;
 mod top;
@@ -18,6 +19,7 @@ mod trace_line;
 mod words;
 
 pub use checking::check_network;
+pub use running::run_trace;
 pub use showing::{show, show_law};
 pub use status::Status;
 pub use top::{answer_law, tte};

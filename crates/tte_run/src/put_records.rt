@@ -3,9 +3,9 @@ ghost use Rattle.net_plan.specs.Ranges.{IsInRange};
 ghost use Rattle.net_plan.specs.declared.event.Event.{Event as EventValue};
 ghost use Rattle.run_law.specs.Hypothesis.{SetsFastRate};
 ghost use Rattle.run_law.specs.declared.note.Note.{Note as NoteValue};
-ghost use Rattle.trace_text.specs.Ranges.{IsOfNetwork};
+ghost use Rattle.trace_text.specs.Ranges.{IsOfNetwork, IsTime};
 ghost use Rattle.tte_io.specs.Faults.{Rose};
-ghost use Rattle.tte_run.specs.PutRecords.{IsUnderway, PutsEvent, PutsUntil, StandsExact};
+ghost use Rattle.tte_run.specs.PutRecords.{IsUnderway, PutsEvent, PutsRest, PutsUntil, StandsExact};
 ghost use Rattle.tte_run.specs.Putting.{shown_by};
 
 use crate::Status;
@@ -84,5 +84,29 @@ pub(crate) fn put_event<K: Sink>(
     match write(network, &note, out) {
         Ok(()) => Ok(()),
         Err(_) => Err(Status::WriteFault),
+    }
+}
+
+/// Puts the records that are left, up to the end, which came at this time.
+///
+/// The status is Done, or that a put failed or that memory ran out.
+pub(crate) fn put_rest<K: Sink>(
+    world: &mut ExactWorld<'_>,
+    network: &Network,
+    end: Units,
+    out: &mut K,
+) -> Status
+    requires in_range { IsInRange network.now }
+    requires underway { IsUnderway network.now world.old }
+    requires time { IsTime end }
+    requires last { end ≡ world.old.now }
+    ensures puts { (events : List EventValue) (notes : List NoteValue) → StandsExact network.now world.old events notes
+        → PutsRest network.now events notes end world.new result
+        (shown_by K.written K.puts out.old) (shown_by K.written K.puts out.new) }
+    ensures cause { (result ≡ Status.Done) ⊎ ((result ≡ Status.WriteFault) × Rose (K.faults out.old) (K.faults out.new)) ⊎ (result ≡ Status.OutOfMemory) }
+{
+    match put_until(world, network, Units(end.0 + 1), out) {
+        Ok(()) => Status::Done,
+        Err(status) => status,
     }
 }

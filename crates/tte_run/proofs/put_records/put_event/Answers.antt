@@ -55,12 +55,12 @@ pub returns-in-Ok-write-clause-puts : goal.returns-in-Ok-write-clause-puts
 returns-in-Ok-write-clause-puts g c events notes stands =
     let shown = shown_by g.K.Sink.written g.K.Sink.puts in
     let p = c.in-Ok.ensures.puts events notes stands in
-    event_put c.args.network.now events notes c.args.event.now.time c.args.event.now c.put_until.new.world c.apply.new.self _ c.args.line c.in-Ok-apply.note (shown c.args.out.now) (shown c.put_until.new.out) (shown c.write.new.out)
-    p (c.in-Ok-apply.ensures.stands c.args.network.now events (notes ++ p.more) p.stands) c.in-Ok-apply.ensures.note c.in-Ok-write.ensures.all c.write.ensures.counted
+    event_put c.args.network.now events notes c.args.event.now.time c.args.event.now c.put_until.new.world c.apply.new.self c.in-Ok-apply.note (shown c.args.out.now) (shown c.put_until.new.out) (shown c.write.new.out)
+    p (c.in-Ok-apply.ensures.stands c.args.network.now events (notes ++ p.more) p.stands) (c.in-Ok-apply.ensures.run c.args.network.now events (notes ++ p.more) p.stands) c.in-Ok-write.ensures.all c.write.ensures.counted
 
 pub returns-in-Err-write-clause-puts : goal.returns-in-Err-write-clause-puts
 returns-in-Err-write-clause-puts g c events notes stands =
     let shown = shown_by g.K.Sink.written g.K.Sink.puts in
     let p = c.in-Ok.ensures.puts events notes stands in
-    event_fails c.args.network.now events notes c.args.event.now.time c.args.event.now c.put_until.new.world c.apply.new.self _ c.args.line c.in-Ok-apply.note (shown c.args.out.now) (shown c.put_until.new.out) (shown c.write.new.out)
-    p (c.in-Ok-apply.ensures.stands c.args.network.now events (notes ++ p.more) p.stands) c.in-Ok-apply.ensures.note c.in-Err-write.ensures.front c.write.ensures.counted
+    event_fails c.args.network.now events notes c.args.event.now.time c.args.event.now c.put_until.new.world c.apply.new.self c.in-Ok-apply.note (shown c.args.out.now) (shown c.put_until.new.out) (shown c.write.new.out)
+    p (c.in-Ok-apply.ensures.stands c.args.network.now events (notes ++ p.more) p.stands) (c.in-Ok-apply.ensures.run c.args.network.now events (notes ++ p.more) p.stands) c.in-Err-write.ensures.front c.write.ensures.counted

@@ -1,5 +1,5 @@
 use Rattle.std.proofs.Common.{◌≡◌, List}
-use Rattle.drift_world.specs.Standing.{left_of}
+use Rattle.drift_world.specs.Progress.{left_of}
 use Rattle.net_plan.specs.declared.event.Event.{Event as EventValue}
 use Rattle.run_law.specs.declared.note.Note.{Note as NoteValue}
 use Rattle.tte_run.specs.PutRecords.{StandsExact}
