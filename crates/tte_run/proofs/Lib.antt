@@ -7,6 +7,9 @@ pub mod KeyLengths
 pub mod Octets
 pub mod OneAnswers
 pub mod NetworkAnswers
+pub mod PuttingRecords
+pub mod WorldMarks
+pub mod PuttingEvents
 pub mod RunRecords
 pub mod EventTimes
 pub mod TraceFaults
@@ -16,3 +19,4 @@ pub mod RunGiven
 pub mod RunCompletes
 pub mod BuiltNetworks
 pub mod Following
+pub mod RunSteps

@@ -12,3 +12,8 @@ pub mod Forms
 pub mod Top
 pub mod Tracing
 pub mod Following
+pub mod TraceLine
+pub mod Running
+pub mod Refusing
+pub mod PutRecords
+pub mod RunStatus

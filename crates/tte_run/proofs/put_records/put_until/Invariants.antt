@@ -1,0 +1,17 @@
+use Rattle.std.proofs.Common.{◌≡◌, List}
+use Rattle.drift_world.specs.Progress.{left_of}
+use Rattle.net_plan.specs.declared.event.Event.{Event as EventValue}
+use Rattle.run_law.specs.declared.note.Note.{Note as NoteValue}
+use Rattle.tte_run.specs.PutRecords.{StandsExact}
+use Rattle.tte_run.specs.Putting.{shown_by}
+use Rattle.tte_run.proofs.PuttingRecords.{HasPut}
+use Rattle.tte_run.proofs.put_records.put_until.Given as goal
+
+abbrev pub invariant-notes : goal.invariant-notes
+invariant-notes g l = record {
+  puts : (events : List EventValue) (notes : List NoteValue) → StandsExact l.network l.fn.world events notes → HasPut l.network events notes l.world (shown_by g.K.Sink.written g.K.Sink.puts l.fn.out) (shown_by g.K.Sink.written g.K.Sink.puts l.out);
+  quiet : g.K.Sink.faults l.out ≡ g.K.Sink.faults l.fn.out;
+}
+
+abbrev pub decreases-notes : goal.decreases-notes
+decreases-notes g l = left_of l.world

@@ -1,0 +1,201 @@
+use Rattle.std.proofs.Common.{◌∙◌, ◌+◌, Ok, Err, refl, sym, subst, arith}
+use Rattle.tte_run.specs.Answering.{Gives}
+use Rattle.tte_run.specs.Putting.{shown_by}
+use Rattle.tte_run.specs.Refusing.{fault_answer}
+use Rattle.tte_run.specs.declared.fault.TraceFault.{TraceFault}
+use Rattle.tte_run.specs.declared.status.Status.TheVariants.{ReadFault}
+use Rattle.tte_run.proofs.RunSteps.{begins_with, for_same, gives_next, goes_on, is_next, one_line_more, reads_as, reads_end, reads_fault, reads_next, stops_at_end, stops_at_event, stops_at_fault, stops_at_read}
+use Rattle.tte_run.proofs.running.run_world.Goals as goal
+
+pub events-init : goal.events-init
+events-init g c = record {
+  running = begins_with c.args.accepted.now c.network-network.result.now c.new-trace.result c.args.world.now (g.B.Source.left c.args.second.now) (shown_by g.K.Sink.written g.K.Sink.puts c.args.out.now)
+      (sym c.network-network.ensures.value) c.new-trace.ensures.follows c.requires c.new-trace.ensures.reads;
+  calm = refl;
+  quiet = refl;
+}
+
+pub put_event-requires-clause-line : goal.put_event-requires-clause-line
+put_event-requires-clause-line g c =
+    let network = c.network-network.result.now in
+    let shown = shown_by g.K.Sink.written g.K.Sink.puts in
+    let first = g.B.Source.left c.args.second.now in
+    let left = g.B.Source.left c.events.second in
+    let after = g.B.Source.left c.next_event.new.source in
+    let old = shown c.args.out.now in
+    let now = shown c.events.out in
+    let r = c.events.invariant.running in
+    let event = c.in-Ok-Some.event in
+    let gives = gives_next network r.events event c.in-Ok-Some.field-0 c.next_event.new.self c.in-Ok-Some.field-0-is (c.in-Ok-Some.ensures.follows network r.events r.follows) in
+    let next = is_next network c.events.trace c.next_event.new.self c.events.world c.events.time event first left old now r gives in
+    c.into.ensures ∙ c.lines.ensures ∙ next.line
+
+pub put_event-requires-clause-order : goal.put_event-requires-clause-order
+put_event-requires-clause-order g c =
+    let network = c.network-network.result.now in
+    let shown = shown_by g.K.Sink.written g.K.Sink.puts in
+    let first = g.B.Source.left c.args.second.now in
+    let left = g.B.Source.left c.events.second in
+    let after = g.B.Source.left c.next_event.new.source in
+    let old = shown c.args.out.now in
+    let now = shown c.events.out in
+    let r = c.events.invariant.running in
+    let event = c.in-Ok-Some.event in
+    let gives = gives_next network r.events event c.in-Ok-Some.field-0 c.next_event.new.self c.in-Ok-Some.field-0-is (c.in-Ok-Some.ensures.follows network r.events r.follows) in
+    let next = is_next network c.events.trace c.next_event.new.self c.events.world c.events.time event first left old now r gives in
+    next.order
+
+pub put_event-requires-clause-limit : goal.put_event-requires-clause-limit
+put_event-requires-clause-limit g c =
+    let network = c.network-network.result.now in
+    let shown = shown_by g.K.Sink.written g.K.Sink.puts in
+    let first = g.B.Source.left c.args.second.now in
+    let left = g.B.Source.left c.events.second in
+    let after = g.B.Source.left c.next_event.new.source in
+    let old = shown c.args.out.now in
+    let now = shown c.events.out in
+    let r = c.events.invariant.running in
+    let event = c.in-Ok-Some.event in
+    let gives = gives_next network r.events event c.in-Ok-Some.field-0 c.next_event.new.self c.in-Ok-Some.field-0-is (c.in-Ok-Some.ensures.follows network r.events r.follows) in
+    gives.range.time.most
+
+pub put_event-requires-clause-of_network : goal.put_event-requires-clause-of_network
+put_event-requires-clause-of_network g c =
+    let network = c.network-network.result.now in
+    let shown = shown_by g.K.Sink.written g.K.Sink.puts in
+    let first = g.B.Source.left c.args.second.now in
+    let left = g.B.Source.left c.events.second in
+    let after = g.B.Source.left c.next_event.new.source in
+    let old = shown c.args.out.now in
+    let now = shown c.events.out in
+    let r = c.events.invariant.running in
+    let event = c.in-Ok-Some.event in
+    let gives = gives_next network r.events event c.in-Ok-Some.field-0 c.next_event.new.self c.in-Ok-Some.field-0-is (c.in-Ok-Some.ensures.follows network r.events r.follows) in
+    gives.of_network
+
+pub put_event-requires-clause-rate : goal.put_event-requires-clause-rate
+put_event-requires-clause-rate g c =
+    let network = c.network-network.result.now in
+    let shown = shown_by g.K.Sink.written g.K.Sink.puts in
+    let first = g.B.Source.left c.args.second.now in
+    let left = g.B.Source.left c.events.second in
+    let after = g.B.Source.left c.next_event.new.source in
+    let old = shown c.args.out.now in
+    let now = shown c.events.out in
+    let r = c.events.invariant.running in
+    let event = c.in-Ok-Some.event in
+    let gives = gives_next network r.events event c.in-Ok-Some.field-0 c.next_event.new.self c.in-Ok-Some.field-0-is (c.in-Ok-Some.ensures.follows network r.events r.follows) in
+    let next = is_next network c.events.trace c.next_event.new.self c.events.world c.events.time event first left old now r gives in
+    next.rate
+
+pub put_event-requires-clause-open : goal.put_event-requires-clause-open
+put_event-requires-clause-open g c =
+    let network = c.network-network.result.now in
+    let shown = shown_by g.K.Sink.written g.K.Sink.puts in
+    let first = g.B.Source.left c.args.second.now in
+    let left = g.B.Source.left c.events.second in
+    let after = g.B.Source.left c.next_event.new.source in
+    let old = shown c.args.out.now in
+    let now = shown c.events.out in
+    let r = c.events.invariant.running in
+    let event = c.in-Ok-Some.event in
+    let gives = gives_next network r.events event c.in-Ok-Some.field-0 c.next_event.new.self c.in-Ok-Some.field-0-is (c.in-Ok-Some.ensures.follows network r.events r.follows) in
+    let next = is_next network c.events.trace c.next_event.new.self c.events.world c.events.time event first left old now r gives in
+    next.unended
+
+pub events-smaller : goal.events-smaller
+events-smaller g c =
+    let network = c.network-network.result.now in
+    let shown = shown_by g.K.Sink.written g.K.Sink.puts in
+    let first = g.B.Source.left c.args.second.now in
+    let left = g.B.Source.left c.events.second in
+    let after = g.B.Source.left c.next_event.new.source in
+    let old = shown c.args.out.now in
+    let now = shown c.events.out in
+    let r = c.events.invariant.running in
+    let event = c.in-Ok-Some.event in
+    let gives = gives_next network r.events event c.in-Ok-Some.field-0 c.next_event.new.self c.in-Ok-Some.field-0-is (c.in-Ok-Some.ensures.follows network r.events r.follows) in
+    let line = one_line_more network c.events.trace c.next_event.new.self c.events.world c.events.time event first left old now r gives in
+    omega (arith, line.0, line.1)
+
+pub events-preserved : goal.events-preserved
+events-preserved g c =
+    let network = c.network-network.result.now in
+    let shown = shown_by g.K.Sink.written g.K.Sink.puts in
+    let first = g.B.Source.left c.args.second.now in
+    let left = g.B.Source.left c.events.second in
+    let after = g.B.Source.left c.next_event.new.source in
+    let old = shown c.args.out.now in
+    let now = shown c.events.out in
+    let r = c.events.invariant.running in
+    let event = c.in-Ok-Some.event in
+    let gives = gives_next network r.events event c.in-Ok-Some.field-0 c.next_event.new.self c.in-Ok-Some.field-0-is (c.in-Ok-Some.ensures.follows network r.events r.follows) in
+    let reads = reads_next network r.events event c.in-Ok-Some.field-0 c.next_event.new.self first after c.in-Ok-Some.field-0-is
+    (reads_as network c.events.trace c.next_event.new.self c.events.world c.events.time (Ok c.in-Ok-Some.field-0) first left after old now r c.in-Ok-Some.ensures.reads) in
+    record {
+      running = goes_on network c.events.trace c.next_event.new.self c.events.world c.put_event.new.world c.events.time event first left after old now (shown c.put_event.new.out) r gives reads (c.in-Ok.ensures.puts r.events r.notes r.stands);
+      calm = c.in-Ok-Some.ensures.unchanged (λ e. absurd cc) ∙ c.events.invariant.calm;
+      quiet = c.in-Ok.ensures.quiet ∙ c.events.invariant.quiet;
+    }
+
+pub returns-in-Err-clause-general : goal.returns-in-Err-clause-general
+returns-in-Err-clause-general g c =
+    let network = c.network-network.result.now in
+    let shown = shown_by g.K.Sink.written g.K.Sink.puts in
+    let first = g.B.Source.left c.args.second.now in
+    let left = g.B.Source.left c.events.second in
+    let after = g.B.Source.left c.next_event.new.source in
+    let old = shown c.args.out.now in
+    let now = shown c.events.out in
+    let r = c.events.invariant.running in
+    let event = c.in-Ok-Some.event in
+    let gives = gives_next network r.events event c.in-Ok-Some.field-0 c.next_event.new.self c.in-Ok-Some.field-0-is (c.in-Ok-Some.ensures.follows network r.events r.follows) in
+    let reads = reads_next network r.events event c.in-Ok-Some.field-0 c.next_event.new.self first after c.in-Ok-Some.field-0-is
+    (reads_as network c.events.trace c.next_event.new.self c.events.world c.events.time (Ok c.in-Ok-Some.field-0) first left after old now r c.in-Ok-Some.ensures.reads) in
+    for_same network c.args.accepted.now first c.in-Err.status old (shown c.put_event.new.out) c.network-network.ensures.value
+    (stops_at_event network c.events.trace c.next_event.new.self c.events.world c.put_event.new.world c.events.time event first left after c.in-Err.status old now (shown c.put_event.new.out) r reads (c.in-Err.ensures.puts r.events r.notes r.stands))
+
+pub returns-in-Ok-None-clause-general : goal.returns-in-Ok-None-clause-general
+returns-in-Ok-None-clause-general g c =
+    let network = c.network-network.result.now in
+    let shown = shown_by g.K.Sink.written g.K.Sink.puts in
+    let first = g.B.Source.left c.args.second.now in
+    let left = g.B.Source.left c.events.second in
+    let after = g.B.Source.left c.next_event.new.source in
+    let old = shown c.args.out.now in
+    let now = shown c.events.out in
+    let r = c.events.invariant.running in
+    let ended = reads_end network r.events c.in-Ok-None.field-0 c.next_event.new.self first after c.in-Ok-None.field-0-is
+    (reads_as network c.events.trace c.next_event.new.self c.events.world c.events.time (Ok c.in-Ok-None.field-0) first left after old now r c.in-Ok-None.ensures.reads) in
+    for_same network c.args.accepted.now first c.put_rest.result old (shown c.put_rest.new.out) c.network-network.ensures.value
+    (stops_at_end network c.events.trace c.events.world c.put_rest.new.world c.events.time first left c.put_rest.result old now (shown c.put_rest.new.out) r ended (c.put_rest.ensures.puts r.events r.notes r.stands))
+
+pub returns-in-Err-Fault-clause-general : goal.returns-in-Err-Fault-clause-general
+returns-in-Err-Fault-clause-general g c =
+    let network = c.network-network.result.now in
+    let shown = shown_by g.K.Sink.written g.K.Sink.puts in
+    let first = g.B.Source.left c.args.second.now in
+    let left = g.B.Source.left c.events.second in
+    let after = g.B.Source.left c.next_event.new.source in
+    let old = shown c.args.out.now in
+    let now = shown c.events.out in
+    let r = c.events.invariant.running in
+    let is = reads_fault network r.events c.in-Err-Fault.field-0 c.in-Err-Fault.fault c.next_event.new.self first after c.in-Err-Fault.field-0-is
+    (reads_as network c.events.trace c.next_event.new.self c.events.world c.events.time (Err c.in-Err-Fault.field-0) first left after old now r c.in-Err-Fault.ensures.reads) in
+    for_same network c.args.accepted.now first c.put_fault.result old (shown c.put_fault.new.out) c.network-network.ensures.value
+    (stops_at_fault network c.events.trace c.events.world c.events.time first left c.in-Err-Fault.fault (c.from.result + 1) c.put_fault.result old now (shown c.put_fault.new.out) r
+    (omega (arith, c.from.ensures, c.lines-in-Err-Fault.ensures, (c.in-Err-Fault.ensures.follows network r.events r.follows).lines)) is
+    (subst (λ (f : TraceFault). Gives (fault_answer (c.from.result + 1) f) c.put_fault.result now (shown c.put_fault.new.out)) c.in-Err-Fault.fault-is c.put_fault.ensures.gives))
+
+pub returns-in-Err-ReadFault-clause-general : goal.returns-in-Err-ReadFault-clause-general
+returns-in-Err-ReadFault-clause-general g c =
+    let network = c.network-network.result.now in
+    let shown = shown_by g.K.Sink.written g.K.Sink.puts in
+    let first = g.B.Source.left c.args.second.now in
+    let left = g.B.Source.left c.events.second in
+    let after = g.B.Source.left c.next_event.new.source in
+    let old = shown c.args.out.now in
+    let now = shown c.events.out in
+    let r = c.events.invariant.running in
+    for_same network c.args.accepted.now first ReadFault old now c.network-network.ensures.value
+    (stops_at_read network c.events.trace c.events.world c.events.time first left old now r)
