@@ -116,18 +116,41 @@ outside line 3 condition 6
 #[test]
 fn clocks_run_at_their_rates(rt: HostRuntime) -> Result<(), Fail> {
     let alloc = rt.alloc();
-    try_runs(&rt, alloc, UNCHANGED, &[whole(RATES, RATES_REPORT, Status::Done)])?;
-    try_runs(&rt, alloc, IN_GRAINS, &[whole(RATES, GRAINS_REPORT, Status::Done)])
+    try_runs(
+        &rt,
+        alloc,
+        UNCHANGED,
+        &[whole(RATES, RATES_REPORT, Status::Done)],
+    )?;
+    try_runs(
+        &rt,
+        alloc,
+        IN_GRAINS,
+        &[whole(RATES, GRAINS_REPORT, Status::Done)],
+    )
 }
 
 #[test]
 fn events_are_judged_by_the_hypothesis(rt: HostRuntime) -> Result<(), Fail> {
     let alloc = rt.alloc();
-    try_runs(&rt, alloc, UNCHANGED, &[
-        whole(CUTS, CUTS_REPORT, Status::OutsideHypothesis),
-        whole("0 rate m1 50001\n", "outside line 1 condition 3\n", Status::OutsideHypothesis),
-        whole("0 on m1\n", "outside line 1 condition 11\n", Status::OutsideHypothesis),
-    ])
+    try_runs(
+        &rt,
+        alloc,
+        UNCHANGED,
+        &[
+            whole(CUTS, CUTS_REPORT, Status::OutsideHypothesis),
+            whole(
+                "0 rate m1 50001\n",
+                "outside line 1 condition 3\n",
+                Status::OutsideHypothesis,
+            ),
+            whole(
+                "0 on m1\n",
+                "outside line 1 condition 11\n",
+                Status::OutsideHypothesis,
+            ),
+        ],
+    )
 }
 
 #[test]
@@ -135,15 +158,40 @@ fn traces_are_refused(rt: HostRuntime) -> Result<(), Fail> {
     let alloc = rt.alloc();
     let letters = "a".repeat(alloc, 4096)?;
     let more = "a".repeat(alloc, 4097)?;
-    try_runs(&rt, alloc, UNCHANGED, &[
-        whole("", "refused line 1 missing\n", Status::TraceRefused),
-        whole("0 end\n5 end\n", "1 0 event 1 end\nrefused line 2 after\n", Status::TraceRefused),
-        whole(letters.as_str(), "refused line 1 number\n", Status::TraceRefused),
-        whole(more.as_str(), "refused line 1 long\n", Status::TraceRefused),
-        whole("0 rate m9 1\n", "refused line 1 name\n", Status::TraceRefused),
-        whole("0 rate m1 1 \n", "refused line 1 form\n", Status::TraceRefused),
-        whole("65536000000 end\n", "refused line 1 early\n", Status::TraceRefused),
-    ])
+    try_runs(
+        &rt,
+        alloc,
+        UNCHANGED,
+        &[
+            whole("", "refused line 1 missing\n", Status::TraceRefused),
+            whole(
+                "0 end\n5 end\n",
+                "1 0 event 1 end\nrefused line 2 after\n",
+                Status::TraceRefused,
+            ),
+            whole(
+                letters.as_str(),
+                "refused line 1 number\n",
+                Status::TraceRefused,
+            ),
+            whole(more.as_str(), "refused line 1 long\n", Status::TraceRefused),
+            whole(
+                "0 rate m9 1\n",
+                "refused line 1 name\n",
+                Status::TraceRefused,
+            ),
+            whole(
+                "0 rate m1 1 \n",
+                "refused line 1 form\n",
+                Status::TraceRefused,
+            ),
+            whole(
+                "65536000000 end\n",
+                "refused line 1 early\n",
+                Status::TraceRefused,
+            ),
+        ],
+    )
 }
 
 #[test]
@@ -162,11 +210,31 @@ fn a_run_stops_at_a_failed_put(rt: HostRuntime) -> Result<(), Fail> {
         "1 1000 event 1 cut m1_a up\n",
         "1 1000 event 1 cut m1_a up\n2 2000 event 2 heal m1_a up\n",
     ];
-    try_runs(&rt, alloc, UNCHANGED, &[
-        Run { failing_puts: &[1], ..whole(CUTS, "", Status::WriteFault) },
-        Run { failing_puts: &[2], ..whole(CUTS, lines[0], Status::WriteFault) },
-        Run { failing_puts: &[3], ..whole(CUTS, lines[1], Status::WriteFault) },
-        Run { failing_reads: &[1], ..whole(CUTS, "", Status::ReadFault) },
-        Run { failing_reads: &[2], ..whole(CUTS, lines[0], Status::ReadFault) },
-    ])
+    try_runs(
+        &rt,
+        alloc,
+        UNCHANGED,
+        &[
+            Run {
+                failing_puts: &[1],
+                ..whole(CUTS, "", Status::WriteFault)
+            },
+            Run {
+                failing_puts: &[2],
+                ..whole(CUTS, lines[0], Status::WriteFault)
+            },
+            Run {
+                failing_puts: &[3],
+                ..whole(CUTS, lines[1], Status::WriteFault)
+            },
+            Run {
+                failing_reads: &[1],
+                ..whole(CUTS, "", Status::ReadFault)
+            },
+            Run {
+                failing_reads: &[2],
+                ..whole(CUTS, lines[0], Status::ReadFault)
+            },
+        ],
+    )
 }
