@@ -18,3 +18,4 @@ pub mod RunAnswers
 pub mod RunGiven
 pub mod RunCompletes
 pub mod RunSteps
+pub mod Following
