@@ -19,3 +19,4 @@ pub mod RunGiven
 pub mod RunCompletes
 pub mod RunSteps
 pub mod Following
+pub mod RunSources

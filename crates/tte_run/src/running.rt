@@ -72,7 +72,12 @@ fn run_network<B: Source, K: Sink>(
 fn is_unbuilt(network: &Network) -> bool
     ensures { IsTrue result ↔ IsUnbuilt network.now }
 {
-    !network.vl.as_slice().is_empty() || network.device.as_slice().iter().any(|device| device.start.is_none())
+    !network.vl.as_slice().is_empty()
+        || network
+            .device
+            .as_slice()
+            .iter()
+            .any(|device| device.start.is_none())
 }
 
 /// Runs a world that nothing has befallen.
@@ -99,7 +104,11 @@ fn run_world<B: Source, K: Sink>(
                 Err(status) => return status,
             },
             Ok(None) => return put_rest(world, network, time, out),
-            Err(TraceStop::Fault(fault)) => return put_fault(fault, u64::from(trace.lines()) + 1, out),
+            Err(TraceStop::Fault(fault)) => return put_fault(
+                fault,
+                u64::from(trace.lines()) + 1,
+                out,
+            ),
             Err(TraceStop::ReadFault) => return Status::ReadFault,
         }
     }
