@@ -4,6 +4,7 @@ mod files;
 mod grown;
 mod rules;
 mod showing;
+mod tracing;
 mod verdicts;
 mod words;
 mod worked;
