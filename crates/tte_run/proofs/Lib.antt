@@ -20,3 +20,4 @@ pub mod RunCompletes
 pub mod BuiltNetworks
 pub mod Following
 pub mod RunSteps
+pub mod RunSources

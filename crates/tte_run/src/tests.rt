@@ -5,6 +5,7 @@ mod grown;
 mod rules;
 mod running;
 mod showing;
+mod tracing;
 mod verdicts;
 mod words;
 mod worked;

@@ -1,0 +1,70 @@
+-- The answer of `run` for its two sources.
+use Rattle.std.proofs.Common.{◌≡◌, ℕ, List, [], Option, Some, None, inl, inr, refl, sym, subst, arith}
+use Rattle.std.specs.Prelude.{IfSome, IsNone, IsSomeAnd}
+use Rattle.std.proofs.lemmas.Option.{slice_get_cases}
+use Rattle.drift_world.specs.Standing.{AllBeginOn}
+use Rattle.net_plan.specs.declared.network.Network.{Network}
+use Rattle.net_plan.specs.declared.tables.Device.{Device}
+use Rattle.schedule_checker.specs.Refusals.{RefusalIsOne}
+use Rattle.tte_run.specs.Accepting.{IsNetworkAnswer, MeansAccepted}
+use Rattle.tte_run.specs.Answering.{ForOctets, Gives, GivesOne}
+use Rattle.tte_run.specs.NoNetworks.{IsNoNetwork, no_network_answer}
+use Rattle.tte_run.specs.Putting.{Shown}
+use Rattle.tte_run.specs.Refusing.{early_answer}
+use Rattle.tte_run.specs.Running.{IsRunAnswer, IsTraceAnswer, IsUnbuilt}
+use Rattle.tte_run.specs.declared.accepting.NoNetwork.{NoNetwork}
+use Rattle.tte_run.specs.declared.status.Status.{Status}
+use Rattle.tte_run.specs.declared.status.Status.TheVariants.{OutOfMemory}
+use Rattle.tte_run.proofs.NetworkAnswers.{accepted_network, no_network}
+use Rattle.tte_run.proofs.Octets.{for_more}
+use Rattle.tte_run.proofs.OneAnswers.{none_put}
+use Rattle.tte_run.proofs.Puts.{PutsLines-none}
+use Rattle.tte_run.proofs.RunGiven.{built_given, early_given}
+
+-- each device of a network whose run is built begins on
+pub all_begin_on : (network : Network) → (IsUnbuilt network → ⊥) → AllBeginOn network
+all_begin_on network built device there =
+    elim (slice_get_cases network.device device.0).1 [
+      | inl found ↦ subst (λ (o : Option Device). IsSomeAnd o (λ d. IsNone d.start → ⊥)) (sym found.2) (λ none. built (inr (device.0, found.0, found.1, found.3, none)))
+      | inr past ↦ absurd (omega (arith, past.0))
+    ]
+
+-- what holds for all octets that a source may have left
+pub if_all : (left : Option (List ℕ)) (P : List ℕ → Type 0) → ((octets : List ℕ) → P octets) → IfSome left P
+if_all None P h = tt {0}
+if_all (Some octets) P h = h octets
+
+-- a fact follows from another for the octets
+pub if_more : (left : Option (List ℕ)) (P Q : List ℕ → Type 0) → ((octets : List ℕ) → P octets → Q octets) → IfSome left P → IfSome left Q
+if_more None P Q f h = tt {0}
+if_more (Some octets) P Q f h = f octets h
+
+-- ---- for an accepted network
+
+pub run_early : (network : Network) (left : Option (List ℕ)) (status : Status) (old new : Shown) → IsUnbuilt network → Gives early_answer status old new → IfSome left (λ trace. GivesOne (IsRunAnswer trace network) status old new)
+run_early network left status old new unbuilt g = if_all left (λ trace. GivesOne (IsRunAnswer trace network) status old new) (λ trace. early_given trace network status old new unbuilt g)
+
+pub run_built : (network : Network) (left : Option (List ℕ)) (status : Status) (old new : Shown) → (IsUnbuilt network → ⊥) → IfSome left (λ trace. GivesOne (IsTraceAnswer network trace) status old new)
+    → IfSome left (λ trace. GivesOne (IsRunAnswer trace network) status old new)
+run_built network left status old new built g =
+    if_more left (λ trace. GivesOne (IsTraceAnswer network trace) status old new) (λ trace. GivesOne (IsRunAnswer trace network) status old new) (λ trace h. built_given trace network status old new built h) g
+
+-- where there is no memory for a world, nothing was put
+pub run_no_memory : (network : Network) (left : Option (List ℕ)) (s : Shown) → IfSome left (λ trace. GivesOne (IsRunAnswer trace network) OutOfMemory s s)
+run_no_memory network left s =
+    if_all left (λ trace. GivesOne (IsRunAnswer trace network) OutOfMemory s s) (λ trace. inr (inr (inr refl, λ a is. none_put a.lines s s (PutsLines-none s))))
+
+-- ---- for the octets of a network file
+
+pub run_accepted : (first second : Option (List ℕ)) (network : Network) (status : Status) (old new : Shown) → ForOctets first (λ octets. MeansAccepted octets network) → IfSome second (λ trace. GivesOne (IsRunAnswer trace network) status old new)
+    → ForOctets first (λ octets. IfSome second (λ trace. GivesOne (IsNetworkAnswer (IsRunAnswer trace) octets) status old new))
+run_accepted first second network status old new means g =
+    for_more first (λ octets. MeansAccepted octets network) (λ octets. IfSome second (λ trace. GivesOne (IsNetworkAnswer (IsRunAnswer trace) octets) status old new))
+    (λ octets m. if_more second (λ trace. GivesOne (IsRunAnswer trace network) status old new) (λ trace. GivesOne (IsNetworkAnswer (IsRunAnswer trace) octets) status old new)
+    (λ trace h. accepted_network (IsRunAnswer trace) octets network status old new m h) g) means
+
+pub run_refused : RefusalIsOne → (first second : Option (List ℕ)) (cause : NoNetwork) (status : Status) (old new : Shown) → ForOctets first (λ octets. IsNoNetwork octets cause) → Gives (no_network_answer cause) status old new
+    → ForOctets first (λ octets. IfSome second (λ trace. GivesOne (IsNetworkAnswer (IsRunAnswer trace) octets) status old new))
+run_refused one first second cause status old new none g =
+    for_more first (λ octets. IsNoNetwork octets cause) (λ octets. IfSome second (λ trace. GivesOne (IsNetworkAnswer (IsRunAnswer trace) octets) status old new))
+    (λ octets h. if_all second (λ trace. GivesOne (IsNetworkAnswer (IsRunAnswer trace) octets) status old new) (λ trace. no_network one (IsRunAnswer trace) octets cause status old new h g)) none
