@@ -118,6 +118,10 @@ admitted_in_order network octets events all = record {
       end_is_last network octets p.0 p.1 end refl (subst (AreAdmitted network octets) p.2 all) ∙ ap last_time (sym p.2);
 }
 
+-- events that end have an end
+pub have_ended : (events : List Event) (time : Units) → EndsAt events time → HaveEnded events
+have_ended events time (k, lt, at) = (k, record { time = time; what = End }, lt, at, refl)
+
 -- events of which one is the end, end at the time of the last
 pub ended_at : (events : List Event) → HaveEnded events → (time : Units) × EndsAt events time
 ended_at events (k, e, lt, at, is) =

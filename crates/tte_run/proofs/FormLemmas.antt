@@ -1,12 +1,12 @@
 -- The form of words by their count and their first.
-use Rattle.std.proofs.Common.{◌≡◌, ℕ, List, [], ◌∷◌, length, Some, None, refl, arith}
+use Rattle.std.proofs.Common.{◌≡◌, ℕ, ◌≤◌, List, [], ◌∷◌, length, Some, None, refl, arith}
 use Rattle.std.specs.Prelude.{slice_get}
 use Rattle.tte_run.specs.Forms.{form_of, one_file_form, two_files_form}
 
-pub no_words : (words : List (List ℕ)) → slice_get words 0 ≡ None → None ≡ form_of words
+pub no_words : (words : List (List ℕ)) → length words ≤ 0 → None ≡ form_of words
 unfolding form_of
 no_words [] e = refl
-no_words (a ∷ words) e = absurd cc
+no_words (a ∷ words) e = absurd (omega (arith, e))
 
 pub other_count : (words : List (List ℕ)) → (length words ≡ 2 → ⊥) → (length words ≡ 3 → ⊥) → None ≡ form_of words
 unfolding form_of

@@ -5,7 +5,6 @@ use Rattle.drift_clock.specs.Segment.{Segment}
 use Rattle.drift_world.specs.Progress.{Progress}
 use Rattle.drift_world.specs.Standing.{behind_events}
 use Rattle.net_plan.specs.declared.event.Event.{Event}
-use Rattle.net_plan.specs.declared.event.What.{What}
 use Rattle.net_plan.specs.declared.network.Network.{Network}
 use Rattle.report_text.specs.NoteLine.{note_line, report_of}
 use Rattle.run_law.specs.Hypothesis.{SetsFastRate}
@@ -13,7 +12,7 @@ use Rattle.run_law.specs.declared.note.Note.{Note}
 use Rattle.trace_text.specs.Ranges.{IsOfNetwork}
 use Rattle.tte_io.specs.Faults.{next_count}
 use Rattle.tte_io.specs.Told.{AppendsFront}
-use Rattle.tte_run.specs.PutRecords.{IsUnderway, PutsEvent, PutsUntil, StandsExact}
+use Rattle.tte_run.specs.PutRecords.{PutsEvent, PutsUntil, StandsExact}
 use Rattle.tte_run.specs.Putting.{Shown, PutsLines, PutFails}
 use Rattle.tte_run.specs.Running.{AreRecordsBefore}
 use Rattle.tte_run.specs.declared.status.Status.{Status}

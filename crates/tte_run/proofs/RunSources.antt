@@ -1,5 +1,5 @@
 -- The answer of `run` for its two sources.
-use Rattle.std.proofs.Common.{◌≡◌, ℕ, List, [], Option, Some, None, inl, inr, refl, sym, subst, arith}
+use Rattle.std.proofs.Common.{ℕ, List, Option, Some, None, inl, inr, refl, sym, subst, arith}
 use Rattle.std.specs.Prelude.{IfSome, IsNone, IsSomeAnd}
 use Rattle.std.proofs.lemmas.Option.{slice_get_cases}
 use Rattle.drift_world.specs.Standing.{AllBeginOn}

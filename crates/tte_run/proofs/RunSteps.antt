@@ -1,5 +1,5 @@
 -- A run, event by event, and how it ends.
-use Rattle.std.proofs.Common.{◌≡◌, ◌⊎◌, ◌+◌, ◌^◌, ◌<◌, ◌≤ℤ◌, ℕ, pos, List, [], ◌∷◌, ◌++◌, length, Option, Some, None, Result, Ok, Err, false, inl, inr, refl, sym, ap, ◌∙◌, subst, arith}
+use Rattle.std.proofs.Common.{◌≡◌, ◌+◌, ◌^◌, ◌<◌, ◌≤ℤ◌, ℕ, pos, List, [], ◌∷◌, ◌++◌, length, Option, Some, None, Result, Ok, Err, false, inl, inr, refl, sym, subst, arith}
 use Rattle.std.specs.Prelude.{IfSome}
 use Rattle.std.proofs.lemmas.Bool.{false_from_ne_true}
 use Rattle.std.proofs.lemmas.Int.{ints}
@@ -17,7 +17,7 @@ use Rattle.run_law.specs.declared.outside.Outside.TheVariants as conditions
 use Rattle.trace_text.specs.Ranges.{IsTime}
 use Rattle.tte_run.specs.Answering.{Gives, GivesOne}
 use Rattle.tte_run.specs.Following.{Follows, GivesEvent, GoesOn, Reads, ReadsOn}
-use Rattle.tte_run.specs.PutRecords.{IsUnderway, PutsEvent, PutsOr, PutsOrRest, PutsRest, StandsExact}
+use Rattle.tte_run.specs.PutRecords.{PutsEvent, PutsOr, PutsOrRest, PutsRest, StandsExact}
 use Rattle.tte_run.specs.Putting.{Shown, PutsLines}
 use Rattle.tte_run.specs.Refusing.{fault_answer}
 use Rattle.tte_run.specs.Running.{AreRecordsBefore, AreRecordsSoFar, IsTraceAnswer}

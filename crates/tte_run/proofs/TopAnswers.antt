@@ -1,5 +1,5 @@
 -- The answer for the words.
-use Rattle.std.proofs.Common.{◌≡◌, ℕ, List, Some, None, refl, sym, ap, ◌∙◌, inl, inr}
+use Rattle.std.proofs.Common.{◌≡◌, ℕ, List, Some, None, refl, sym, ap, ◌∙◌, inl, inr, []}
 use Rattle.std.specs.Prelude.{Option}
 use Rattle.net_plan.specs.Bounds.{BetaIsUnique}
 use Rattle.net_plan.specs.declared.network.Network.{Network}
@@ -10,7 +10,7 @@ use Rattle.tte_run.specs.Answering.{Answer, Gives, GivesOne, Answers, AnswersOne
 use Rattle.tte_run.specs.Checking.{IsAcceptance, IsCheckAnswer}
 use Rattle.tte_run.specs.Forms.{form_of}
 use Rattle.tte_run.specs.Showing.{show_answer}
-use Rattle.tte_run.specs.Top.{AnswerIsOne, IsFormAnswer, usage_answer, Completes}
+use Rattle.tte_run.specs.Top.{AnswerIsOne, AnswersWords, IsFormAnswer, usage_answer, Completes}
 use Rattle.tte_run.specs.declared.form.Form.{Form}
 use Rattle.tte_run.specs.declared.form.Form.TheVariants.{Show, Check, Run}
 use Rattle.tte_run.specs.declared.status.Status.{Status}

@@ -1,4 +1,4 @@
-use Rattle.std.proofs.Common.{List, ◌++◌}
+use Rattle.std.proofs.Common.{◌++◌}
 use Rattle.tte_run.specs.Putting.{shown_by}
 use Rattle.tte_run.proofs.PuttingEvents.{before_event, event_fails, event_put, may_befall, no_memory_for_event}
 use Rattle.tte_run.proofs.WorldMarks.{go_on}

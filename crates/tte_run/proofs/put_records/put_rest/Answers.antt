@@ -1,4 +1,4 @@
-use Rattle.std.proofs.Common.{List, ◌++◌, ◌∙◌, sym, arith}
+use Rattle.std.proofs.Common.{◌++◌, ◌∙◌, sym, arith}
 use Rattle.std.proofs.lemmas.Int.{ints}
 use Rattle.tte_run.specs.Putting.{shown_by}
 use Rattle.tte_run.proofs.PuttingRecords.{rest_cut, rest_done}

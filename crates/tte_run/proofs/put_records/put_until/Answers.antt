@@ -1,9 +1,8 @@
-use Rattle.std.proofs.Common.{◌≡◌, ◌<◌, ◌<ℤ◌, ℕ, ◌∙◌, List, [], ◌∷◌, ◌++◌, inl, refl, subst, arith}
+use Rattle.std.proofs.Common.{◌≡◌, ◌<◌, ◌<ℤ◌, ℕ, ◌∙◌, [], ◌∷◌, ◌++◌, inl, refl, subst, arith}
 use Rattle.drift_world.specs.Progress.{left_of}
 use Rattle.tte_io.specs.Faults.{Rose}
 use Rattle.tte_run.specs.Running.{AreRecordsBefore}
 use Rattle.tte_units.specs.Amount.{amount}
-use Rattle.net_plan.specs.declared.event.Event.{Event as EventValue}
 use Rattle.run_law.specs.declared.note.Note.{Note as NoteValue}
 use Rattle.tte_run.specs.PutRecords.{StandsExact}
 use Rattle.tte_run.specs.Putting.{shown_by}

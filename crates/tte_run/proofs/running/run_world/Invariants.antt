@@ -1,4 +1,4 @@
-use Rattle.std.proofs.Common.{◌≡◌, ◌-◌, ◌^◌, ◌≤◌}
+use Rattle.std.proofs.Common.{◌≡◌, ◌-◌, ◌^◌}
 use Rattle.tte_run.specs.Putting.{shown_by}
 use Rattle.tte_run.proofs.RunSteps.{IsRunning}
 use Rattle.tte_run.proofs.running.run_world.Given as goal
