@@ -20,3 +20,4 @@ pub mod RunCompletes
 pub mod RunSteps
 pub mod Following
 pub mod RunSources
+pub mod Streams
