@@ -3,6 +3,7 @@ mod checking;
 mod files;
 mod grown;
 mod rules;
+mod running;
 mod showing;
 mod tracing;
 mod verdicts;
