@@ -21,3 +21,4 @@ pub mod BuiltNetworks
 pub mod Following
 pub mod RunSteps
 pub mod RunSources
+pub mod Streams

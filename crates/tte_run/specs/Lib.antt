@@ -17,3 +17,4 @@ pub mod Running
 pub mod Refusing
 pub mod PutRecords
 pub mod RunStatus
+pub mod Streaming

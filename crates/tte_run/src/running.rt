@@ -6,6 +6,7 @@ ghost use Rattle.tte_run.specs.Answering.{ForOctets, GivesOne};
 ghost use Rattle.tte_run.specs.PutRecords.{StandsExact};
 ghost use Rattle.tte_run.specs.Putting.{shown_by};
 ghost use Rattle.tte_run.specs.RunStatus.{IsRunStatus};
+ghost use Rattle.tte_run.specs.Streaming.{ForAccepted, ForTrace, StopsBehindLines, TakesLittle};
 ghost use Rattle.tte_run.specs.Running.{IsRunAnswer, IsTraceAnswer, IsUnbuilt};
 
 use crate::Status;
@@ -37,8 +38,14 @@ pub fn run_trace<A: Source, B: Source, K: Sink>(
     // Where the first source failed, nothing was written.
     ensures read { result ≡ Status.ReadFault
         → (Rose (A.faults first.old) (A.faults first.new) × (out.new ≡ out.old) × (second.new ≡ second.old))
-        ⊎ Rose (B.faults second.old) (B.faults second.new) }
+        ⊎ (Rose (B.faults second.old) (B.faults second.new)
+        × ForAccepted (A.left first.old) (λ network. ForTrace (B.left second.old) (B.left second.new) (λ trace left.
+        StopsBehindLines network trace left
+        (shown_by K.written K.puts out.old) (shown_by K.written K.puts out.new)))) }
     ensures write { result ≡ Status.WriteFault → Rose (K.faults out.old) (K.faults out.new) }
+    ensures little { (second.new ≡ second.old)
+        ⊎ ForAccepted (A.left first.old) (λ network. ForTrace (B.left second.old) (B.left second.new) (λ trace left.
+        TakesLittle network trace left (shown_by K.written K.puts out.old) (shown_by K.written K.puts out.new))) }
 {
     refusal_is_one();
     match accept(alloc, first) {
@@ -58,6 +65,10 @@ fn run_network<B: Source, K: Sink>(
     ensures statuses { IsRunStatus result }
     ensures read { result ≡ Status.ReadFault → Rose (B.faults second.old) (B.faults second.new) }
     ensures write { result ≡ Status.WriteFault → Rose (K.faults out.old) (K.faults out.new) }
+    ensures cut { result ≡ Status.ReadFault → ForTrace (B.left second.old) (B.left second.new) (λ trace left.
+        StopsBehindLines accepted.now trace left (shown_by K.written K.puts out.old) (shown_by K.written K.puts out.new)) }
+    ensures little { ForTrace (B.left second.old) (B.left second.new) (λ trace left.
+        TakesLittle accepted.now trace left (shown_by K.written K.puts out.old) (shown_by K.written K.puts out.new)) }
 {
     if is_unbuilt(accepted.network()) {
         return put_early(out);
@@ -93,6 +104,10 @@ fn run_world<B: Source, K: Sink>(
     ensures statuses { IsRunStatus result }
     ensures read { result ≡ Status.ReadFault → Rose (B.faults second.old) (B.faults second.new) }
     ensures write { result ≡ Status.WriteFault → Rose (K.faults out.old) (K.faults out.new) }
+    ensures cut { result ≡ Status.ReadFault → ForTrace (B.left second.old) (B.left second.new) (λ trace left.
+        StopsBehindLines accepted.now trace left (shown_by K.written K.puts out.old) (shown_by K.written K.puts out.new)) }
+    ensures little { ForTrace (B.left second.old) (B.left second.new) (λ trace left.
+        TakesLittle accepted.now trace left (shown_by K.written K.puts out.old) (shown_by K.written K.puts out.new)) }
 {
     let network = accepted.network();
     let mut trace = Trace::new(accepted);

@@ -3,8 +3,10 @@ use Rattle.std.proofs.lemmas.Bool.{false≢true}
 use Rattle.drift_world.specs.Standing.{AllBeginOn}
 use Rattle.net_plan.specs.declared.network.Network.{Network}
 use Rattle.tte_run.specs.Putting.{shown_by}
+use Rattle.tte_run.specs.Refusing.{early_answer}
 use Rattle.tte_run.specs.Running.{IsUnbuilt}
 use Rattle.tte_run.proofs.RunSources.{all_begin_on, run_built, run_early, run_no_memory}
+use Rattle.tte_run.proofs.Streams.{untouched, writes_answer, writes_nothing}
 use Rattle.tte_run.proofs.running.run_network.Goals as goal
 
 pub returns-then-is_unbuilt-clause-general : goal.returns-then-is_unbuilt-clause-general
@@ -24,3 +26,13 @@ returns-in-Ok-clause-general g c =
 
 pub returns-in-Err-clause-general : goal.returns-in-Err-clause-general
 returns-in-Err-clause-general g c = run_no_memory c.args.accepted.now (g.B.Source.left c.args.second.now) (shown_by g.K.Sink.written g.K.Sink.puts c.args.out.now)
+
+pub returns-then-is_unbuilt-clause-little : goal.returns-then-is_unbuilt-clause-little
+returns-then-is_unbuilt-clause-little g c =
+    let shown = shown_by g.K.Sink.written g.K.Sink.puts in
+    untouched c.args.accepted.now (g.B.Source.left c.args.second.now) (shown c.args.out.now) (shown c.put_early.new.out) (writes_answer early_answer c.put_early.result (shown c.args.out.now) (shown c.put_early.new.out) c.put_early.ensures.gives)
+
+pub returns-in-Err-clause-little : goal.returns-in-Err-clause-little
+returns-in-Err-clause-little g c =
+    let now = shown_by g.K.Sink.written g.K.Sink.puts c.args.out.now in
+    untouched c.args.accepted.now (g.B.Source.left c.args.second.now) now now (writes_nothing now)

@@ -5,6 +5,7 @@ use Rattle.tte_run.specs.Refusing.{fault_answer}
 use Rattle.tte_run.specs.declared.fault.TraceFault.{TraceFault}
 use Rattle.tte_run.specs.declared.status.Status.TheVariants.{ReadFault}
 use Rattle.tte_run.proofs.RunSteps.{begins_with, for_same, gives_next, goes_on, is_next, one_line_more, reads_as, reads_end, reads_fault, reads_next, stops_at_end, stops_at_event, stops_at_fault, stops_at_read}
+use Rattle.tte_run.proofs.Streams.{stops_behind, takes_little, writes_answer, writes_event, writes_nothing, writes_rest}
 use Rattle.tte_run.proofs.running.run_world.Goals as goal
 
 pub events-init : goal.events-init
@@ -199,3 +200,57 @@ returns-in-Err-ReadFault-clause-general g c =
     let r = c.events.invariant.running in
     for_same network c.args.accepted.now first ReadFault old now c.network-network.ensures.value
     (stops_at_read network c.events.trace c.events.world c.events.time first left old now r)
+
+pub returns-in-Err-clause-little : goal.returns-in-Err-clause-little
+returns-in-Err-clause-little g c =
+    let network = c.network-network.result.now in
+    let shown = shown_by g.K.Sink.written g.K.Sink.puts in
+    let now = shown c.events.out in
+    let new = shown c.put_event.new.out in
+    let r = c.events.invariant.running in
+    takes_little network c.args.accepted.now c.events.trace c.next_event.new.self c.events.world c.events.time c.next_event.result (g.B.Source.left c.args.second.now) (g.B.Source.left c.events.second) (g.B.Source.left c.next_event.new.source) (shown c.args.out.now) now new
+    c.network-network.ensures.value r c.next_event.ensures.reads c.next_event.ensures.few
+    (writes_event network r.events r.notes c.in-Ok-Some.event c.put_event.new.world c.in-Err.status now new (c.in-Err.ensures.puts r.events r.notes r.stands))
+
+pub returns-in-Ok-None-clause-little : goal.returns-in-Ok-None-clause-little
+returns-in-Ok-None-clause-little g c =
+    let network = c.network-network.result.now in
+    let shown = shown_by g.K.Sink.written g.K.Sink.puts in
+    let now = shown c.events.out in
+    let new = shown c.put_rest.new.out in
+    let r = c.events.invariant.running in
+    takes_little network c.args.accepted.now c.events.trace c.next_event.new.self c.events.world c.events.time c.next_event.result (g.B.Source.left c.args.second.now) (g.B.Source.left c.events.second) (g.B.Source.left c.next_event.new.source) (shown c.args.out.now) now new
+    c.network-network.ensures.value r c.next_event.ensures.reads c.next_event.ensures.few
+    (writes_rest network r.events r.notes c.events.time c.put_rest.new.world c.put_rest.result now new (c.put_rest.ensures.puts r.events r.notes r.stands))
+
+pub returns-in-Err-Fault-clause-little : goal.returns-in-Err-Fault-clause-little
+returns-in-Err-Fault-clause-little g c =
+    let network = c.network-network.result.now in
+    let shown = shown_by g.K.Sink.written g.K.Sink.puts in
+    let now = shown c.events.out in
+    let new = shown c.put_fault.new.out in
+    takes_little network c.args.accepted.now c.events.trace c.next_event.new.self c.events.world c.events.time c.next_event.result (g.B.Source.left c.args.second.now) (g.B.Source.left c.events.second) (g.B.Source.left c.next_event.new.source) (shown c.args.out.now) now new
+    c.network-network.ensures.value c.events.invariant.running c.next_event.ensures.reads c.next_event.ensures.few
+    (writes_answer (fault_answer (c.from.result + 1) c.in-Err-Fault.fault) c.put_fault.result now new
+    (subst (λ (f : TraceFault). Gives (fault_answer (c.from.result + 1) f) c.put_fault.result now new) c.in-Err-Fault.fault-is c.put_fault.ensures.gives))
+
+pub returns-in-Err-ReadFault-clause-cut : goal.returns-in-Err-ReadFault-clause-cut
+returns-in-Err-ReadFault-clause-cut g c is =
+    let network = c.network-network.result.now in
+    let shown = shown_by g.K.Sink.written g.K.Sink.puts in
+    let first = g.B.Source.left c.args.second.now in
+    let left = g.B.Source.left c.events.second in
+    let after = g.B.Source.left c.next_event.new.source in
+    let old = shown c.args.out.now in
+    let now = shown c.events.out in
+    let r = c.events.invariant.running in
+    stops_behind network c.args.accepted.now c.events.trace c.next_event.new.self c.events.world c.events.time c.in-Err-ReadFault.field-0 first left after old now c.network-network.ensures.value c.in-Err-ReadFault.field-0-is r
+    (reads_as network c.events.trace c.next_event.new.self c.events.world c.events.time (Err c.in-Err-ReadFault.field-0) first left after old now r c.in-Err-ReadFault.ensures.reads)
+
+pub returns-in-Err-ReadFault-clause-little : goal.returns-in-Err-ReadFault-clause-little
+returns-in-Err-ReadFault-clause-little g c =
+    let network = c.network-network.result.now in
+    let shown = shown_by g.K.Sink.written g.K.Sink.puts in
+    let now = shown c.events.out in
+    takes_little network c.args.accepted.now c.events.trace c.next_event.new.self c.events.world c.events.time c.next_event.result (g.B.Source.left c.args.second.now) (g.B.Source.left c.events.second) (g.B.Source.left c.next_event.new.source) (shown c.args.out.now) now now
+    c.network-network.ensures.value c.events.invariant.running c.next_event.ensures.reads c.next_event.ensures.few (writes_nothing now)
