@@ -1,7 +1,6 @@
 -- What a run has taken of its trace, and what it has written by then.
-use Rattle.std.proofs.Common.{◌≡◌, suc, ◌+◌, ◌≤◌, ◌==◌, Bool, true, false, if◌then◌else◌, arith, ℕ, List, [], ◌∷◌, ◌++◌, length, Option, Some, None, Result, Ok, Err, inl, inr, refl, sym, subst}
+use Rattle.std.proofs.Common.{◌≡◌, suc, ◌≤◌, ◌==◌, Bool, true, false, if◌then◌else◌, arith, ℕ, List, [], ◌∷◌, ◌++◌, length, Option, Some, None, Result, Err, inl, inr, refl, sym, subst}
 use Rattle.std.specs.Prelude.{IfSome}
-use Rattle.std.specs.Io.KnownBytes.{Appends}
 use Rattle.std.specs.List.{concat}
 use Rattle.std.proofs.KnownBytes.{Appends-nil, Appends-trans}
 use Rattle.drift_clock.specs.Segment.{Segment}
@@ -15,7 +14,7 @@ use Rattle.tte_io.specs.ReaderState.{pending}
 use Rattle.tte_run.specs.Answering.{Answer, Gives}
 use Rattle.tte_run.specs.Following.{Reads, ReadsOn, TakesFew}
 use Rattle.tte_run.specs.PutRecords.{PutsEvent, PutsOr, PutsOrRest, PutsRest}
-use Rattle.tte_run.specs.Putting.{Shown, PutsLines, PutsSome, PutFails}
+use Rattle.tte_run.specs.Putting.{Shown, PutsLines, PutFails}
 use Rattle.tte_run.specs.Streaming.{ForTrace, StopsBehindLines, TakesLittle, WritesSome}
 use Rattle.tte_run.specs.declared.fault.TraceStop.{TraceStop}
 use Rattle.tte_run.specs.declared.fault.TraceStop.TheVariants.{ReadFault}

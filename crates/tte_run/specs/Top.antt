@@ -42,16 +42,16 @@ AnswerIsOne =
 
 -- the fact holds for the octets of the second file, which `run` alone reads; where its source does not tell
 -- them, nothing is claimed of a run
-abbrev pub ForTrace : Option Form → Option (List ℕ) → (List ℕ → Type 0) → Type 0
-ForTrace None left P = P []
-ForTrace (Some Show) left P = P []
-ForTrace (Some Check) left P = P []
-ForTrace (Some Run) left P = IfSome left P
+abbrev pub ForSecond : Option Form → Option (List ℕ) → (List ℕ → Type 0) → Type 0
+ForSecond None left P = P []
+ForSecond (Some Show) left P = P []
+ForSecond (Some Check) left P = P []
+ForSecond (Some Run) left P = IfSome left P
 
 -- the answer for the words was given, for the octets of both files
 abbrev pub AnswersWords : Option Form → Option (List ℕ) → Option (List ℕ) → Status → Shown → Shown → Type 0
 AnswersWords form first second status old new =
-    ForOctets first (λ octets. ForTrace form second (λ trace. GivesOne (IsFormAnswer form octets trace) status old new))
+    ForOctets first (λ octets. ForSecond form second (λ trace. GivesOne (IsFormAnswer form octets trace) status old new))
 
 -- usage is answered exactly where the words are of no form
 abbrev pub AnswersUsage : Option Form → Status → Shown → Shown → Type 0
@@ -82,7 +82,7 @@ Completes (Some Run) (Some octets) None SourceRose SinkRose status = Unit {0}
 Completes (Some Run) (Some octets) (Some trace) SourceRose SinkRose status = (SourceRose → ⊥) → (SinkRose → ⊥) → RunsWhole octets trace status
 
 -- a read failed: of the first file, and then nothing was put and the second was not read; or, for `run`, of the
--- second
-abbrev pub FailsToRead : Option Form → Type 0 → Type 0 → Type 0 → Type 0
-FailsToRead (Some Run) First Second Untouched = (First × Untouched) ⊎ Second
-FailsToRead form First Second Untouched = First × Untouched
+-- second, and then what was put stops behind the lines that were taken
+abbrev pub FailsToRead : Option Form → Type 0 → Type 0 → Type 0 → Type 0 → Type 0
+FailsToRead (Some Run) First Second Untouched Stops = (First × Untouched) ⊎ (Second × Stops)
+FailsToRead form First Second Untouched Stops = First × Untouched

@@ -3,6 +3,7 @@ ghost use Rattle.tte_io.specs.Faults.{Rose};
 ghost use Rattle.tte_run.specs.Putting.{shown_by};
 ghost use Rattle.tte_run.specs.Answering.{Gives};
 ghost use Rattle.tte_run.specs.Forms.{form_of};
+ghost use Rattle.tte_run.specs.Streaming.{ForAccepted, ForTrace, StopsBehindLines, TakesLittle};
 ghost use Rattle.tte_run.specs.Top.{AnswerIsOne, AnswersUsage, AnswersWords, Completes, FailsToRead, usage_answer};
 
 use crate::form::{Form, read_form};
@@ -31,8 +32,14 @@ pub fn tte<A: Source, B: Source, K: Sink>(
         (shown_by K.written K.puts out.old) (shown_by K.written K.puts out.new) }
     ensures read { result ≡ Status.ReadFault → FailsToRead (form_of words.now)
         (Rose (A.faults first.old) (A.faults first.new)) (Rose (B.faults second.old) (B.faults second.new))
-        ((out.new ≡ out.old) × (second.new ≡ second.old)) }
+        ((out.new ≡ out.old) × (second.new ≡ second.old))
+        (ForAccepted (A.left first.old) (λ network. ForTrace (B.left second.old) (B.left second.new) (λ trace left.
+        StopsBehindLines network trace left
+        (shown_by K.written K.puts out.old) (shown_by K.written K.puts out.new)))) }
     ensures write { result ≡ Status.WriteFault → Rose (K.faults out.old) (K.faults out.new) }
+    ensures little { (second.new ≡ second.old)
+        ⊎ ForAccepted (A.left first.old) (λ network. ForTrace (B.left second.old) (B.left second.new) (λ trace left.
+        TakesLittle network trace left (shown_by K.written K.puts out.old) (shown_by K.written K.puts out.new))) }
     ensures complete { Completes (form_of words.now) (A.left first.old) (B.left second.old)
         (Rose (A.faults first.old) (A.faults first.new) ⊎ Rose (B.faults second.old) (B.faults second.new))
         (Rose (K.faults out.old) (K.faults out.new)) result }
@@ -56,8 +63,14 @@ fn answer_form<A: Source, B: Source, K: Sink>(
         (shown_by K.written K.puts out.old) (shown_by K.written K.puts out.new) }
     ensures read { result ≡ Status.ReadFault → FailsToRead form
         (Rose (A.faults first.old) (A.faults first.new)) (Rose (B.faults second.old) (B.faults second.new))
-        ((out.new ≡ out.old) × (second.new ≡ second.old)) }
+        ((out.new ≡ out.old) × (second.new ≡ second.old))
+        (ForAccepted (A.left first.old) (λ network. ForTrace (B.left second.old) (B.left second.new) (λ trace left.
+        StopsBehindLines network trace left
+        (shown_by K.written K.puts out.old) (shown_by K.written K.puts out.new)))) }
     ensures write { result ≡ Status.WriteFault → Rose (K.faults out.old) (K.faults out.new) }
+    ensures little { (second.new ≡ second.old)
+        ⊎ ForAccepted (A.left first.old) (λ network. ForTrace (B.left second.old) (B.left second.new) (λ trace left.
+        TakesLittle network trace left (shown_by K.written K.puts out.old) (shown_by K.written K.puts out.new))) }
     ensures complete { Completes form (A.left first.old) (B.left second.old)
         (Rose (A.faults first.old) (A.faults first.new) ⊎ Rose (B.faults second.old) (B.faults second.new))
         (Rose (K.faults out.old) (K.faults out.new)) result }

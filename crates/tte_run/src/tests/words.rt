@@ -12,7 +12,8 @@ const NO_FORMS: &[&[&str]] = &[
     &["Show", "a"],
     &["check"],
     &["check", "a", "b"],
-    &["run", "a", "b"],
+    &["run", "a"],
+    &["run", "a", "b", "c"],
     &["storm", "a", "1", "2"],
 ];
 

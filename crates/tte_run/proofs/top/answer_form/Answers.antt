@@ -9,9 +9,9 @@ use Rattle.tte_run.proofs.TopAnswers.{usage-any, shown-form, completes-show, com
 use Rattle.tte_run.proofs.top.answer_form.Goals as goal
 
 -- a read that failed raised one of the counts
-read_rose : {F U V T : Type 0} → (F × U × V) ⊎ T → F ⊎ T
+read_rose : {F U V T W : Type 0} → (F × U × V) ⊎ (T × W) → F ⊎ T
 read_rose (inl h) = inl h.0
-read_rose (inr t) = inr t
+read_rose (inr h) = inr h.0
 
 pub returns-in-Some-Show-clause-general : goal.returns-in-Some-Show-clause-general
 returns-in-Some-Show-clause-general g c =
