@@ -60,6 +60,10 @@ same_body network reading events time (Clock device shown adjustment state) (Clo
     same_clock network reading events time device shown adjustment state other_shown other_adjustment other_state a there
     ∙ ap (λ (d : DeviceId). Clock d other_shown other_adjustment other_state) one
 
+same_body network reading events time (Befalls line what) other a b kinds keys = absurd b
+same_body network reading events time (Clock device shown adjustment state) other a b kinds keys = absurd b
+same_body network reading events time other b c d kinds keys = absurd c
+
 -- two notes are one where their parts are
 same_note : (a b : Note) → a.number ≡ b.number → a.time ≡ b.time → a.body ≡ b.body → a ≡ b
 same_note a b numbers times bodies =

@@ -41,6 +41,7 @@ at_first network reading event time (Befalls line what) on cause =
     let lines : line ≡ 1 = omega (arith, cause.line_is, only.0) in
     ap (λ (t : Units). amount t ∷ 1 ∷ line ∷ []) times ∙ ap (λ (l : ℕ). amount event.time ∷ 1 ∷ l ∷ []) lines
 at_first network reading event time (Clock device shown adjustment state) on cause = absurd (on (ap (λ (e : Event). e.what) (only_one event _ cause.ends)))
+at_first network reading event time other on cause = absurd cause
 
 at_time : (event : Event) (m : Note) → IsIn m (first_note event ∷ []) → IsBefore (place_of m) ((amount event.time + 1) ∷ [])
 at_time event m (inl e) = inl (omega (arith, ap (λ (n : Note). amount n.time) e))

@@ -23,11 +23,13 @@ use Rattle.tte_units.specs.declared.units.Units.{Units}
 abbrev pub rank : NoteBody → ℕ
 rank (Befalls line what) = 1
 rank (Clock device reading adjustment state) = 14
+rank other = 0
 
 -- the place among those of one time and kind: events by their lines, clocks by their devices
 abbrev pub key : NoteBody → ℕ
 key (Befalls line what) = line
 key (Clock device reading adjustment state) = device.0
+key other = 0
 
 -- where a record stands in the order
 abbrev pub place_of : Note → List ℕ
@@ -61,6 +63,7 @@ abbrev pub IsCaused : Network → (DeviceId → ℕ → ℕ) → List Event → 
 IsCaused network reading events time (Befalls line what) = IsEventRecord events time line what
 IsCaused network reading events time (Clock device shown adjustment state) =
     IsClockRecord network reading events time device shown adjustment state
+IsCaused network reading events time other = ⊥
 
 -- a record is due given those before it: it has the next number, a time from 0 on, and a cause
 pub record IsDue (network : Network) (reading : DeviceId → ℕ → ℕ) (events : List Event) (before : List Note) (note : Note) : Type 0 where

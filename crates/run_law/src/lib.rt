@@ -2,13 +2,17 @@
 //! and what holds of all runs.
 #![tactic(auto)]
 
+mod judgement;
 mod laws;
 mod note;
 mod outside;
+mod steps;
 
+pub use judgement::{Judgement, Reason, Why};
 pub use laws::{earlier_run_is_front, hypothesis_is_decided, run_is_one};
 pub use note::{Note, NoteBody};
 pub use outside::Outside;
+pub use steps::{Act, Arrival, Moment, Ripe};
 
 #[cfg(test)]
 mod tests;
