@@ -7,7 +7,7 @@ use Rattle.net_plan.specs.declared.event.What.{What}
 use Rattle.net_plan.specs.declared.ids.DeviceId.{DeviceId}
 use Rattle.net_plan.specs.declared.network.Network.{Network}
 use Rattle.net_plan.specs.declared.tables.Device.{Device}
-use Rattle.run_law.specs.Records.{rank, key, place_of, IsEventRecord, IsClockRecord, IsCaused, IsDue}
+use Rattle.run_law.specs.Silent.{rank, key, place_of, IsEventRecord, IsClockRecord, IsCaused, IsDue}
 use Rattle.run_law.specs.Runs.{IsDetermined}
 use Rattle.run_law.specs.declared.note.Note.{Note}
 use Rattle.run_law.specs.declared.note.NoteBody.{NoteBody}

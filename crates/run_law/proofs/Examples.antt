@@ -8,7 +8,7 @@ use Rattle.net_plan.specs.declared.network.Network.{Network}
 use Rattle.net_plan.specs.declared.tables.Way.{Way}
 use Rattle.run_law.specs.Hypothesis.{ComesTooEarly, ComesTooLate, Violates, IsWithinHypothesis, IsOutsideBy, condition_number}
 use Rattle.run_law.specs.Order.{IsBefore, IsIn}
-use Rattle.run_law.specs.Records.{rank, key, place_of, IsCaused, IsDue, IsRunOf}
+use Rattle.run_law.specs.Silent.{rank, key, place_of, IsCaused, IsDue, IsRunOf}
 use Rattle.run_law.specs.declared.note.Note.{Note}
 use Rattle.run_law.specs.declared.note.NoteBody.{NoteBody}
 use Rattle.run_law.specs.declared.note.NoteBody.TheVariants.{Event as Befalls, Clock}

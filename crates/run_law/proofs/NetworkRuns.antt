@@ -1,6 +1,6 @@
 -- The laws of the runs of a network.
 use Rattle.run_law.specs.Laws.{EarlierRunIsFront, RunIsOne}
-use Rattle.run_law.specs.Records.{place_of, IsDue}
+use Rattle.run_law.specs.Silent.{place_of, IsDue}
 use Rattle.run_law.proofs.Determined.{due_is_determined}
 use Rattle.run_law.proofs.FrontOfRun.{front_of_run}
 use Rattle.run_law.proofs.OneRun.{one_run}
