@@ -1,6 +1,6 @@
 -- The records of a run with the frames that they are of. A record shows its frame by its cause, so the frames
 -- are found from the first record to the last.
-use Rattle.std.specs.Prelude.{ℕ, ◌==◌, nat_lt, nat_le, List, [], ◌∷◌, ◌++◌, fold, filter, find, Option, Some, None, Result, Ok, Err, option_map, option_and_then, if◌then◌else◌}
+use Rattle.std.specs.Prelude.{ℕ, zero, suc, slice_get, ◌==◌, nat_lt, nat_le, List, [], ◌∷◌, ◌++◌, fold, filter, Option, Some, None, Result, Ok, Err, option_map, option_and_then, if◌then◌else◌}
 use Rattle.std.specs.Option.{option_map_or}
 use Rattle.net_plan.specs.declared.event.What.TheVariants.{Send}
 use Rattle.net_plan.specs.declared.network.Network.{Network}
@@ -20,9 +20,10 @@ pub record Happening : Type 0 where
   pub frame : Option Pcf
   pub octets : List ℕ
 
--- the record of this number
+-- the record of this number, from 1; 0 is the number of none
 abbrev pub numbered : List Happening → ℕ → Option Happening
-numbered hs number = find (λ h. h.note.number == number) hs
+numbered hs zero = None
+numbered hs (suc before) = slice_get hs before
 
 -- the frame of the record of this number
 abbrev pub frame_from : List Happening → ℕ → Option Pcf

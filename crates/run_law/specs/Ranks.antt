@@ -1,6 +1,6 @@
 -- The order of the records: by time, then by kind, then by device, link and cause. Where a place has further
 -- numbers behind these, they part records that no run has at one place.
-use Rattle.std.specs.Prelude.{ℕ, List, [], ◌∷◌}
+use Rattle.std.specs.Prelude.{ℕ, ℤ, pos, negsuc, List, [], ◌∷◌}
 use Rattle.std.specs.Option.{option_map_or}
 use Rattle.run_law.specs.Happenings.{Happening, time_of}
 use Rattle.run_law.specs.declared.note.NoteBody.{NoteBody}
@@ -28,12 +28,17 @@ rank (Clock device reading adjustment state) = 14
 abbrev pub members_in : Happening → ℕ
 members_in h = option_map_or (λ frame. frame.members.0) h.frame 0
 
+-- 1 for a number below 0, and else 0
+abbrev pub sign : ℤ → ℕ
+sign (pos n) = 0
+sign (negsuc n) = 1
+
 -- the place among the records of one time and kind; `members` are those of the frame
 abbrev pub key : ℕ → NoteBody → List ℕ
 key members (Event line what) = line ∷ []
 key members (Arrived device link cause clock) = device.0 ∷ link.0 ∷ cause ∷ []
 key members (Permanent device link cause point verdict) = device.0 ∷ amount point ∷ members ∷ link.0 ∷ cause ∷ []
-key members (Compressed device opened at cycle of_masters verdict) = device.0 ∷ amount opened ∷ amount at ∷ cycle ∷ of_masters.0 ∷ []
+key members (Compressed device opened at cycle of_masters verdict) = device.0 ∷ amount opened ∷ amount at ∷ cycle ∷ of_masters.0 ∷ sign opened.0 ∷ sign at.0 ∷ []
 key members (Sent device cycle) = device.0 ∷ cycle ∷ []
 key members (Corrected device cycle by adjustment) = device.0 ∷ []
 key members (State device state cause why) = device.0 ∷ cause ∷ []
