@@ -3,8 +3,10 @@ pub mod Lacking
 pub mod FrontOfRun
 pub mod OneRun
 pub mod Grow
+pub mod SameSteps
 pub mod Determined
 pub mod NetworkRuns
+pub mod SilentDetermined
 pub mod Decisions
 pub mod Conditions
 pub mod Decided

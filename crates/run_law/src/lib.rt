@@ -9,7 +9,7 @@ mod outside;
 mod steps;
 
 pub use judgement::{Judgement, Reason, Why};
-pub use laws::{earlier_run_is_front, hypothesis_is_decided, run_is_one};
+pub use laws::{earlier_run_is_front, hypothesis_is_decided, run_goes_on, run_is_one};
 pub use note::{Note, NoteBody};
 pub use outside::Outside;
 pub use steps::{Act, Arrival, Moment, Ripe};
