@@ -24,5 +24,8 @@ pub mod Corrections
 pub mod Dispatching
 pub mod Receptions
 pub mod Records
+pub mod Causes
+pub mod FirstLaws
+pub mod Safety
 pub mod Silent
 pub mod Laws
