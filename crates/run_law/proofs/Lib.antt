@@ -11,3 +11,4 @@ pub mod Decisions
 pub mod Conditions
 pub mod Decided
 pub mod Examples
+pub mod Lone

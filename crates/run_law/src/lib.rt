@@ -4,6 +4,7 @@
 
 mod judgement;
 mod laws;
+mod lone_master;
 mod machine;
 mod note;
 mod outside;
@@ -11,6 +12,7 @@ mod steps;
 
 pub use judgement::{Judgement, Reason, Why};
 pub use laws::{earlier_run_is_front, hypothesis_is_decided, run_goes_on, run_is_one};
+pub use lone_master::LoneMaster;
 pub use machine::Machine;
 pub use note::{Note, NoteBody};
 pub use outside::Outside;
