@@ -18,7 +18,7 @@ use Rattle.net_plan.specs.declared.tables.Role.{Role}
 use Rattle.net_plan.specs.declared.tables.Role.TheVariants.{Master}
 use Rattle.net_plan.specs.declared.tables.Way.{Way}
 use Rattle.net_plan.specs.declared.tables.Way.TheVariants.{Up, Down}
-use Rattle.run_law.specs.Calls.{IsLinkAt, MayCall}
+use Rattle.run_law.specs.Calls.{HasDue, IsLinkAt, MayCall}
 use Rattle.run_law.specs.Corrections.{correction_value}
 use Rattle.run_law.specs.Devices.{has_role, is_cm, is_cm_role, plan_of, start_of}
 use Rattle.run_law.specs.Lone.{IsAtStage, IsLone, StandsAlone}
@@ -239,10 +239,6 @@ second_due network device start corrects node is h =
 
 up_to_reading : (x y z : ℤ) → x ≤ℤ y → y ≤ℤ z → x ≤ℤ z
 up_to_reading x y z a b = omega (arith, ints)
-
--- some task is due at the reading
-abbrev pub HasDue : Network → DeviceId → Node → ℤ → Type 0
-HasDue network device node reading = (task : Task) × IsPending network device node task × (reading_for network node task ≤ℤ reading)
 
 first_is_first : (network : Network) (node : Node) (other : Task) → IsOwn node other → IsBefore (order_of network other) (1 ∷ 1 ∷ []) → ⊥
 first_is_first network node (doing (sending cycle)) (some, not_yet) (inl lt) = omega arith

@@ -10,7 +10,7 @@ use Rattle.net_plan.specs.declared.tables.Role.TheVariants.{Master}
 use Rattle.run_law.specs.Calls.{IsLinkAt}
 use Rattle.run_law.specs.Devices.{plan_of}
 use Rattle.run_law.specs.Frames.{dispatched_frame}
-use Rattle.run_law.specs.Nodes.{Node, sending}
+use Rattle.run_law.specs.Nodes.{Node, Phase, sending, turning_on, acting}
 use Rattle.run_law.specs.declared.lone_master.LoneMaster.{LoneMaster}
 use Rattle.run_law.specs.declared.lone_master.Stage.{Stage}
 use Rattle.run_law.specs.declared.lone_master.Stage.TheVariants.{Begun, Sent, Alone}
@@ -37,6 +37,12 @@ IsAtStage Begun network device start node = (node.standing ≡ begun (plan_of ne
 IsAtStage Sent network device start node = (node.standing ≡ begun (plan_of network device) (Some start)) × (node.done ≡ sending 1 ∷ [])
 IsAtStage Alone network device start node = (node.standing.state ≡ Integrating) × (node.standing.adjustment ≡ start)
 
+-- the kind of its last call: it has been called only to act
+abbrev pub phase_at : Stage → Phase
+phase_at Begun = turning_on
+phase_at Sent = acting
+phase_at Alone = acting
+
 -- it stands as the lone master of the network
 pub record StandsAlone (m : LoneMaster) (network : Network) (device : DeviceId) (node : Node) : Type 0 where
   pub lone : IsLone network device m.start
@@ -46,4 +52,6 @@ pub record StandsAlone (m : LoneMaster) (network : Network) (device : DeviceId) 
   pub sound : node.broken ≡ false
   pub heard : node.heard ≡ []
   pub changed : node.changed ≡ m.start.0
+  pub last : node.last ≡ m.last
+  pub phase : node.phase ≡ phase_at m.stage
   pub stage : IsAtStage m.stage network device m.start node

@@ -36,6 +36,8 @@ pub struct LoneMaster {
     sends_at: Units,
     /// The reading at which its first correction point comes.
     corrects_at: Units,
+    /// When it acted last, or the beginning.
+    last: Moment,
     stage: Stage,
 }
 
@@ -54,6 +56,10 @@ impl LoneMaster {
             start,
             sends_at: reading_at(network.cycle, start),
             corrects_at: reading_at(Units(network.cycle.0 + network.correction.0), start),
+            last: Moment {
+                time: Units(0),
+                reading: Units(0),
+            },
             stage: Stage::Begun,
         }
     }
@@ -101,7 +107,8 @@ impl Machine for LoneMaster {
         }
     }
 
-    fn act(&mut self, _moment: Moment) -> Act {
+    fn act(&mut self, moment: Moment) -> Act {
+        self.last = moment;
         match self.stage {
             Stage::Begun => {
                 self.stage = Stage::Sent;

@@ -19,5 +19,7 @@ returns c =
       sound = refl;
       heard = refl;
       changed = ap (λ (o : Option Units). (adjustment_at_start o).0) start;
+      last = refl;
+      phase = refl;
       stage = (ap (begun (plan_of c.args.network.now c.args.device)) start, refl);
     }
