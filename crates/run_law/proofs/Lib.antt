@@ -12,3 +12,4 @@ pub mod Conditions
 pub mod Decided
 pub mod Examples
 pub mod Lone
+pub mod Worked

@@ -1,4 +1,4 @@
-use Rattle.std.proofs.Common.{◌≡◌, List, ◌∷◌, [], ◌++◌, inl, inr, refl, ap}
+use Rattle.std.proofs.Common.{List, ◌∷◌, [], ◌++◌, inl, inr, refl, ap}
 use Rattle.membership.specs.Summary.{silence}
 use Rattle.run_law.specs.Nodes.{Deed, sending}
 use Rattle.run_law.proofs.Lone.{alone_rests, begun_yet, corrects_next, is_alone, sends_first, sent_once}
