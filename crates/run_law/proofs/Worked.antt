@@ -160,11 +160,11 @@ gate_passed = refl
 
 -- who looks for the time takes a frame of enough members
 tells_the_time : heard_as (plan_of worked (dev 3)) (window worked) Integrating (pos 0) (pos 270860288000) 2 (record { 0 = 7 }) ≡ Integrates
-  unfolding lib.Count.ones
+unfolding lib.Count.ones
 tells_the_time = refl
 
 too_few : heard_as (plan_of worked (dev 3)) (window worked) Integrating (pos 0) (pos 270860288000) 2 (record { 0 = 9 }) ≡ Ignored
-  unfolding lib.Count.ones
+unfolding lib.Count.ones
 too_few = refl
 
 -- ---- time-triggered frames

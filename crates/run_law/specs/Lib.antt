@@ -29,6 +29,7 @@ pub mod Tasks
 pub mod Calls
 pub mod Machines
 pub mod Lone
+pub mod Spread
 pub mod Causes
 pub mod FirstLaws
 pub mod Safety

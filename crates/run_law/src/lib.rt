@@ -4,6 +4,7 @@
 
 mod judgement;
 mod laws;
+mod locals;
 mod lone_master;
 mod machine;
 mod note;
@@ -12,6 +13,7 @@ mod steps;
 
 pub use judgement::{Judgement, Reason, Why};
 pub use laws::{earlier_run_is_front, hypothesis_is_decided, run_goes_on, run_is_one};
+pub use locals::spread;
 pub use lone_master::LoneMaster;
 pub use machine::Machine;
 pub use note::{Note, NoteBody};
