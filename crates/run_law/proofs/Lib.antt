@@ -11,3 +11,5 @@ pub mod Decisions
 pub mod Conditions
 pub mod Decided
 pub mod Examples
+pub mod FirstPlaces
+pub mod FirstDeliveries

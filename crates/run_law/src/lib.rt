@@ -2,12 +2,14 @@
 //! and what holds of all runs.
 #![tactic(auto)]
 
+mod first_laws;
 mod judgement;
 mod laws;
 mod note;
 mod outside;
 mod steps;
 
+pub use first_laws::deliveries_begin;
 pub use judgement::{Judgement, Reason, Why};
 pub use laws::{earlier_run_is_front, hypothesis_is_decided, run_goes_on, run_is_one};
 pub use note::{Note, NoteBody};
