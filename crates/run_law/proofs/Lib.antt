@@ -13,3 +13,4 @@ pub mod Decided
 pub mod Examples
 pub mod FirstPlaces
 pub mod FirstDeliveries
+pub mod FirstBroken

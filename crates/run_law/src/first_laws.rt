@@ -1,4 +1,10 @@
-ghost use Rattle.run_law.specs.FirstLaws.{DeliveriesBegin};
+ghost use Rattle.run_law.specs.FirstLaws.{BrokenAreStill, DeliveriesBegin};
+
+/// From its break on a device has no records but drops of what comes to it, the loss of what its `send` events put on
+/// a cut way, and that of its clock at the end.
+pub fn broken_are_still()
+    ensures { BrokenAreStill }
+{}
 
 /// The chain of causes of each frame that is delivered goes back to its dispatch by its sender, or to the event by
 /// which a broken master sent it.
