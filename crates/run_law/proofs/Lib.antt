@@ -14,3 +14,5 @@ pub mod Examples
 pub mod FirstPlaces
 pub mod FirstDeliveries
 pub mod FirstBroken
+pub mod FirstDelays
+pub mod FirstSent

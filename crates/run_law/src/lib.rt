@@ -9,7 +9,7 @@ mod note;
 mod outside;
 mod steps;
 
-pub use first_laws::{broken_are_still, deliveries_begin};
+pub use first_laws::{broken_are_still, deliveries_begin, sent_frames_come};
 pub use judgement::{Judgement, Reason, Why};
 pub use laws::{earlier_run_is_front, hypothesis_is_decided, run_goes_on, run_is_one};
 pub use note::{Note, NoteBody};
