@@ -43,11 +43,13 @@ off_control network device link at (Ok frame) off =
     let fault : frame_fault network device link at frame ≡ Some Off = rw off refl in
     ap (frame_or_fault network device link at frame) fault
 
+-- the same of any other frame
 off_timed : (network : Network) (device : DeviceId) (link : LinkId) (at : Standpoint) (octets : List ℕ) (last : _ → Option ℕ) → at.takes_part ≡ false → timed_arrival network device link at octets last ≡ arrivals.Dropped Off
 off_timed network device link at octets last off =
     let fault : octets_fault network at octets ≡ Some Off = rw off refl in
     ap (octets_or_fault network device link at octets last) fault
 
+-- and of whatever comes to it
 off_arrival : (s : Scenario) (ps : List Happening) (t : ℕ) (device : DeviceId) (link : LinkId) (cause : ℕ) (signal : Signal) → (standpoint s ps device t).takes_part ≡ false → arrival_of s ps t device link cause signal ≡ arrivals.Dropped Off
 off_arrival s ps t device link cause (control frame) off = off_control s.network device link (standpoint s ps device t) frame off
 off_arrival s ps t device link cause (timed octets) off = off_timed s.network device link (standpoint s ps device t) octets (last_taken ps device t link cause) off
@@ -74,6 +76,7 @@ joined_correct s ps time device (notes.Compressed other opened at cycle members 
     subst (λ (d : DeviceId). is_broken s d (amount time) ≡ false) same caused.correct
 joined_correct s ps time device other joined caused = absurd cc
 
+-- a device that is corrected is correct
 corrected_correct : (s : Scenario) (ps : List Happening) (time : Units) (device : DeviceId) (cycle : ℕ) (by adjustment : Units) (body : NoteBody) → body ≡ notes.Corrected device cycle by adjustment → IsCaused s ps time body → is_broken s device (amount time) ≡ false
 corrected_correct s ps time device cycle by adjustment body is caused =
     let there : IsCaused s ps time (notes.Corrected device cycle by adjustment) = subst (IsCaused s ps time) is caused in
@@ -139,6 +142,7 @@ left_by s ps qs time device (notes.Delivered d link cause vl cycle) founded of b
 left_by s ps qs time device (notes.Dropped d link cause reason) founded of broken c = dropped_since s ps (amount time) d link cause reason (broken_of s (amount time) d device of broken) c
 left_by s ps qs time device (notes.Clock d reading adjustment state) founded of broken c = tt
 
+-- the law: a broken device is still
 pub broken_are_still : BrokenAreStill
 broken_are_still s mark ns h device run i of broken =
     let at = founded_at s _ h run.founded i in

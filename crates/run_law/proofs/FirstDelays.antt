@@ -51,10 +51,12 @@ last_is P s setting initial t first each =
 
 -- ---- events
 
+-- what a test lets through is what was given to it
 set_if : (b : Bool) (n v : ℕ) → (if b then Some n else None) ≡ Some v → (b ≡ true) × (n ≡ v)
 set_if true n v e = (refl, cc)
 set_if false n v e = absurd cc
 
+-- a way of the same link and direction is one of the same link
 same_way_link : (link other : LinkId) (way turned : Way) → is_way_of link way other turned ≡ true → other ≡ link
 same_way_link link other way turned same =
     let both = and_parts (link.0 == other.0) (is_way way turned) same in
@@ -67,6 +69,7 @@ record SetsHold (link : LinkId) (what : What) (v : ℕ) : Type 0 where
   pub is : what ≡ events.Hold link way delay
   pub sets : amount delay ≡ v
 
+-- what sets a hold is such an event
 sets_hold : (link : LinkId) (way : Way) (what : What) (v : ℕ) → hold_set link way what ≡ Some v → SetsHold link what v
 sets_hold link way (events.Hold other turned delay) v e =
     let both = set_if (is_way_of link way other turned) (amount delay) v e in
@@ -80,6 +83,7 @@ record SetsWire (link : LinkId) (what : What) (v : ℕ) : Type 0 where
   pub is : what ≡ events.Wire link way delay
   pub sets : amount delay ≡ v
 
+-- what sets a wire delay is such an event
 sets_wire : (link : LinkId) (way : Way) (what : What) (v : ℕ) → wire_set link way what ≡ Some v → SetsWire link what v
 sets_wire link way (events.Wire other turned delay) v e =
     let both = set_if (is_way_of link way other turned) (amount delay) v e in
@@ -92,6 +96,7 @@ record IsGiven (s : Scenario) (e : Event) : Type 0 where
   pub before : List Event
   pub within : IsWithinHypothesis s.network before e
 
+-- each event of a lawful scenario is so
 given : (s : Scenario) (e : Event) → IsLawful s → IsIn e s.events → IsGiven s e
 given s e lawful i =
     let at = parted e s.events i in

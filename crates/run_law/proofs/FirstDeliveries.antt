@@ -42,11 +42,13 @@ IsTaking (arrivals.Accepted vl cycle) = Unit {0}
 IsTaking (arrivals.Delivered vl cycle) = Unit {0}
 IsTaking other = ⊥
 
+-- a frame that waits or is passed on is not taken so
 never_passed : (relay parent : Bool) (frame : Pcf) (point : Units) → IsTaking (if relay then (if parent then arrivals.Passes frame Up else arrivals.PassesAndWaits frame Down point) else arrivals.Waits frame point) → ⊥
 never_passed true true frame point t = t
 never_passed true false frame point t = t
 never_passed false parent frame point t = t
 
+-- nor is a control frame, whether it has a fault or none
 never_judged : (network : Network) (device : DeviceId) (link : LinkId) (at : Standpoint) (frame : Pcf) (fault : Option Reason) → IsTaking (frame_or_fault network device link at frame fault) → ⊥
 never_judged network device link at frame (Some reason) t = t
 never_judged network device link at frame None t = never_passed (is_relay network device) (is_parent_of network device link) _ _ t
@@ -64,9 +66,11 @@ IsPutting (notes.TtSent device link cause vl cycle) = Unit {0}
 IsPutting (notes.Event line (Send link octets)) = Unit {0}
 IsPutting other = ⊥
 
+-- what is put on the wire is a control frame
 abbrev IsControl : Launch → Type 0
 IsControl l = (frame : Result Pcf PcfRefusal) × (l.signal ≡ control frame)
 
+-- what a leaving puts on the wire is one
 left_control : (o : Option Pcf) (link : LinkId) (way : Way) (l : Launch) → option_map (λ frame. record { link = link; way = way; signal = control (Ok frame) }) o ≡ Some l → IsControl l
 left_control None link way l e = absurd cc
 left_control (Some frame) link way l e =
@@ -85,6 +89,7 @@ record IsPutBy (ps : List Happening) (cause : ℕ) : Type 0 where
   pub there : numbered ps cause ≡ Some putting
   pub puts : IsPutting putting.note.body
 
+-- a frame that is taken was put by such a record
 put_of : (s : Scenario) (ps : List Happening) (t : ℕ) (device : DeviceId) (link : LinkId) (cause : ℕ) (a : Arrival) → ArrivesAs s ps t device link cause a → IsTaking a → IsPutBy ps cause
 put_of s ps t device link cause a comes takes = record {
   putting = comes.putting;
@@ -113,13 +118,16 @@ cause_puts s ps time other taken caused = absurd taken
 abbrev Begins : List Happening → Happening → Type 0
 Begins hs h = (first : Happening) × GoesBackTo hs h first × IsBeginning first.note.body
 
+-- a beginning goes back to itself
 here : (hs : List Happening) (h : Happening) → IsBeginning h.note.body → Begins hs h
 here hs h begins = (h, record { causes = []; chain = tt; begins = refl }, begins)
 
+-- a record goes back to where its cause does
 further : (hs : List Happening) (h g : Happening) → numbered hs (cause_of h.note.body) ≡ Some g → Begins hs g → Begins hs h
 further hs h g there back =
     (back.0, record { causes = g ∷ back.1.causes; chain = (there, back.1.chain); begins = back.1.begins }, back.2)
 
+-- the last of a list is in it, or is what was given for an empty one
 last_in : (o : Option Happening) (hs : List Happening) (h : Happening) → last_or o hs ≡ Some h → (o ≡ Some h) ⊎ IsIn h hs
 last_in o [] h e = inl e
 last_in o (g ∷ hs) h e =
@@ -128,19 +136,21 @@ last_in o (g ∷ hs) h e =
       | inr more ↦ inr (inr more)
     ]
 
-no_last : (hs : List Happening) (h : Happening) → last_or None hs ≡ Some h → IsIn h hs
-no_last hs h e = elim (last_in None hs h e) [ inl none ↦ absurd cc | inr i ↦ i ]
+-- where nothing was given, the last of a list is in it
+last_there : (hs : List Happening) (h : Happening) → last_or None hs ≡ Some h → IsIn h hs
+last_there hs h e = elim (last_in None hs h e) [ inl none ↦ absurd cc | inr i ↦ i ]
 
 -- what a switch took last is among the records
 accepted_in : (ps : List Happening) (device : DeviceId) (vl : _) (t cause cycle : ℕ) (has : HasAccepted ps device vl t cause cycle) → IsIn has.taken ps
 accepted_in ps device vl t cause cycle has =
     in_filter (λ h. nat_lt (time_of h) t) ps has.taken
-    (in_filter (λ h. is_accepted device vl h.note.body) (earlier t ps) has.taken (no_last _ has.taken has.last))
+    (in_filter (λ h. is_accepted device vl h.note.body) (earlier t ps) has.taken (last_there _ has.taken has.last))
 
+-- a record of what a switch accepted says that it was taken
 is_taken : (h : Happening) (device : DeviceId) (link : LinkId) (from : ℕ) (vl : _) (cycle : ℕ) → h.note.body ≡ notes.Accepted device link from vl cycle → IsTaken h.note.body
 is_taken h device link from vl cycle is = subst IsTaken (sym is) tt
 
--- from what put a frame the chain goes back to a beginning, where it does from each earlier record by which one was taken
+-- from what put a frame the chain goes back to a beginning, where it does from each earlier record of a taking
 begins_by : (s : Scenario) (hs ps qs : List Happening) (g : Happening) → hs ≡ ps ++ g ∷ qs → IsFounded place_of (IsDue s) ps → IsDue s ps g → ((t : Happening) → IsIn t hs → t.note.number < g.note.number → IsTaken t.note.body → Begins hs t) → (body : NoteBody) → g.note.body ≡ body → IsPutting body → IsCaused s ps g.note.time body → Begins hs g
 begins_by s hs ps qs g whole founded due back (notes.TtSent device link cause vl cycle) is puts caused =
     elim caused.dispatches.at_hand [
@@ -174,6 +184,7 @@ begins_from s hs founded (suc n) h i small taken =
     (λ t ti less took. begins_from s hs founded n t ti (omega (arith, less, number, within, at.due.number, small)) took)
     put.putting.note.body refl put.puts of.due.cause)
 
+-- the law: the frames that are delivered go back to where they begin
 pub deliveries_begin : DeliveriesBegin
 deliveries_begin s mark ns h device link cause vl cycle run i is =
     begins_from s _ run.founded (suc h.note.number) h i (omega arith) (subst IsTaken (sym is) tt)

@@ -35,6 +35,7 @@ in_at [] i x e = absurd cc
 in_at (y ∷ xs) zero x e = let same : x ≡ y = cc in inl same
 in_at (y ∷ xs) (suc i) x e = inr (in_at xs i x e)
 
+-- what is kept, or is the element whose test is this, is in the list with that element
 kept_by : {X : Type 0} (b : Bool) (y x : X) (kept xs : List X) → (IsIn x kept → IsIn x xs) → IsIn x (if b then y ∷ kept else kept) → IsIn x (y ∷ xs)
 kept_by true y x kept xs back (inl e) = inl e
 kept_by true y x kept xs back (inr more) = inr (back more)
@@ -66,6 +67,7 @@ pub record IsSplit {N : Type 0} (place : N → List ℕ) (ns : List N) (p : List
   pub before : AllBefore place front p
   pub none : NoneBefore place rest p
 
+-- a founded list parts at a place that its first part is before
 split_from : {N : Type 0} (place : N → List ℕ) (IsDue : List N → N → Type 0) (p : List ℕ) (ps qs : List N) → IsFounded place IsDue (ps ++ qs) → AllBefore place ps p → IsSplit place (ps ++ qs) p
 split_from place IsDue p ps [] founded before = record { front = ps; rest = []; whole = refl; before = before; none = λ n i. absurd i }
 split_from {N} place IsDue p ps (q ∷ qs) founded before =

@@ -60,6 +60,7 @@ use Rattle.tte_units.specs.declared.units.Units.{Units}
 
 -- ---- the way up from a master
 
+-- a master is an end system
 master_ends : (role : Role) → is_master role ≡ true → is_end_system role ≡ true
 master_ends Master e = refl
 master_ends Client e = refl
@@ -89,6 +90,7 @@ way_is_up n master link l range keeps there role =
 sent_frame : (s : Scenario) (ps : List Happening) (h : Happening) (master : DeviceId) (cycle : ℕ) → IsDue s ps h → h.note.body ≡ notes.Sent master cycle → h.frame ≡ Some (dispatched_frame s.network master cycle)
 sent_frame s ps h master cycle due is = ap (λ (x : Happening). x.frame) due.same ∙ ap (frame_by s.network ps) is
 
+-- what sends is a master
 sent_by_master : (s : Scenario) (ps : List Happening) (h : Happening) (master : DeviceId) (cycle : ℕ) → IsDue s ps h → h.note.body ≡ notes.Sent master cycle → has_role s.network is_master master ≡ true
 sent_by_master s ps h master cycle due is =
     let there : IsCaused s ps h.note.time (notes.Sent master cycle) = subst (IsCaused s ps h.note.time) is due.cause in
@@ -147,6 +149,7 @@ record HasLeft (s : Scenario) (hs : List Happening) (t number : ℕ) (master : D
 abbrev next_note : List Happening → ℕ → NoteBody → Note
 next_note ps t body = record { number = length ps + 1; time = units_of t; body = body }
 
+-- such a record with a cause is due
 next_due : (s : Scenario) (ps : List Happening) (t : ℕ) (body : NoteBody) → IsCaused s ps (units_of t) body → IsDue s ps (happening s.network ps (next_note ps t body))
 next_due s ps t body cause = record { number = refl; same = refl; begun = omega (arith, ints); cause = cause }
 
@@ -201,15 +204,18 @@ record IsTakenOn (a : Arrival) : Type 0 where
 abbrev Outcome : Arrival → Type 0
 Outcome a = ((reason : Reason) × (a ≡ arrivals.Dropped reason)) ⊎ IsTakenOn a
 
+-- a frame without a fault waits, is passed on, or both
 passed_on : (relay parent : Bool) (frame : Pcf) (point : Units) → Outcome (if relay then (if parent then arrivals.Passes frame Up else arrivals.PassesAndWaits frame Down point) else arrivals.Waits frame point)
 passed_on true true frame point = inr (record { frame = frame; point = point; way = Up; is = inr (inl refl) })
 passed_on true false frame point = inr (record { frame = frame; point = point; way = Down; is = inr (inr refl) })
 passed_on false parent frame point = inr (record { frame = frame; point = point; way = Up; is = inl refl })
 
+-- a frame with a fault, or with none, is dropped or taken
 judged : (network : Network) (device : DeviceId) (link : LinkId) (at : Standpoint) (frame : Pcf) (fault : Option Reason) → Outcome (frame_or_fault network device link at frame fault)
 judged network device link at frame (Some reason) = inl (reason, refl)
 judged network device link at frame None = passed_on (is_relay network device) (is_parent_of network device link) _ _
 
+-- so is each control frame that a device finds at its arrival
 outcome : (network : Network) (device : DeviceId) (link : LinkId) (at : Standpoint) (frame : Pcf) → Outcome (control_arrival network device link at (Ok frame))
 outcome network device link at frame = judged network device link at frame (frame_fault network device link at frame)
 
@@ -307,6 +313,7 @@ goes_up s hs given number master link l switch left there parent up =
       at = omega (arith, delay, left.at);
     }
 
+-- the law: the frames of masters come to the first switches of their ways
 pub sent_frames_come : SentFramesCome
 sent_frames_come s mark ns h master cycle link switch lawful run i is leads correct whole in_time =
     let n = s.network in
