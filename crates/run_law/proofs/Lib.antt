@@ -13,3 +13,9 @@ pub mod Decided
 pub mod Examples
 pub mod Lone
 pub mod Worked
+pub mod FirstPlaces
+pub mod FirstDeliveries
+pub mod FirstBroken
+pub mod FirstDelays
+pub mod FirstSent
+pub mod Ends

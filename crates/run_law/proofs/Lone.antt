@@ -1,5 +1,5 @@
 -- What a lone master has still to do.
-use Rattle.std.proofs.Common.{◌≡◌, ◌≢◌, ◌⊎◌, ℕ, zero, suc, ◌+◌, ◌*◌, ◌^◌, ◌<◌, ◌≤◌, ℤ, pos, negsuc, ◌+ℤ◌, ◌-ℤ◌, ◌<ℤ◌, ◌≤ℤ◌, true, false, List, [], ◌∷◌, ◌++◌, Option, Some, None, IsSomeAnd, slice_get, option_and_then, length, unsigned_abs, inl, inr, refl, sym, ap, subst, ◌∙◌, arith}
+use Rattle.std.proofs.Common.{◌≡◌, ℕ, zero, suc, ◌+◌, ◌*◌, ◌≤◌, ℤ, pos, negsuc, ◌+ℤ◌, ◌-ℤ◌, ◌<ℤ◌, ◌≤ℤ◌, true, false, List, [], ◌∷◌, Option, Some, IsSomeAnd, option_and_then, unsigned_abs, inl, inr, refl, sym, ap, subst, ◌∙◌, arith}
 use Rattle.std.proofs.lemmas.Int.{ints}
 use Rattle.std.proofs.Math.Nat.{mul-le-mul_right}
 use Rattle.std.specs.List.{Contains}
@@ -8,7 +8,7 @@ use Rattle.membership.proofs.SummaryLemmas.{silence_summarizes}
 use Rattle.membership.specs.Summary.{silence, Summarizes}
 use Rattle.membership.specs.Hearing.{Hearing}
 use Rattle.net_plan.specs.Places.{device_at, link_at, is_master}
-use Rattle.net_plan.specs.Ranges.{IsInRange, IsWithin}
+use Rattle.net_plan.specs.Ranges.{IsWithin}
 use Rattle.net_plan.specs.declared.ids.DeviceId.{DeviceId}
 use Rattle.net_plan.specs.declared.ids.LinkId.{LinkId}
 use Rattle.net_plan.specs.declared.network.Network.{Network}
@@ -25,12 +25,12 @@ use Rattle.run_law.specs.Lone.{IsAtStage, IsLone, StandsAlone}
 use Rattle.run_law.specs.Machines.{ComesTo}
 use Rattle.run_law.specs.Nodes.{Deed, Node, sending, correcting, dispatching, acting}
 use Rattle.run_law.specs.Order.{IsBefore}
-use Rattle.run_law.specs.Tasks.{HasFrame, IsDueReading, IsFirstTask, IsPending, Task, emitting, doing, order_of, reading_for, value_of}
+use Rattle.run_law.specs.Tasks.{HasFrame, IsDueReading, IsFirstTask, IsPending, Task, emitting, doing, order_of, reading_for}
 use Rattle.run_law.specs.declared.lone_master.LoneMaster.{LoneMaster}
 use Rattle.run_law.specs.declared.lone_master.Stage.{Stage}
 use Rattle.run_law.specs.declared.lone_master.Stage.TheVariants.{Begun, Sent, Alone}
 use Rattle.run_law.specs.declared.steps.Moment.{Moment}
-use Rattle.schedule_tables.specs.Entries.{IsEntry, source_by, source_of}
+use Rattle.schedule_tables.specs.Entries.{source_by}
 use Rattle.sync_state.specs.Standing.{Standing, begun, next_point, point_in}
 use Rattle.sync_state.specs.Verdicts.{HasVerdict}
 use Rattle.sync_state.specs.declared.answers.Verdict.TheVariants.{SyncClique}
@@ -155,22 +155,24 @@ never_less : (x : ℤ) → x ≤ℤ x
 never_less x = omega (arith, ints)
 
 first_pending : (network : Network) (device : DeviceId) (start : Units) (node : Node) → HasBegun network device start node [] → IsPending network device node (doing (sending 1))
-first_pending network device start node h =
-    (h.sound,
-    record {
-      own = (is_a_master network device start h.lone, ap (λ (s : Standing). s.state) h.standing, omega arith);
-      ahead = ahead_of (amount network.cycle) network.cycle.0 start.0 node.changed (cycle_amount network device start h.lone) h.changed h.lone.in_first_cycle;
-      not_yet = λ there. none_there (sending 1) (subst (λ (ds : List Deed). Contains ds (sending 1)) h.done_is there);
-    })
+first_pending network device start node h = (
+  h.sound,
+  record {
+    own = (is_a_master network device start h.lone, ap (λ (s : Standing). s.state) h.standing, omega arith);
+    ahead = ahead_of (amount network.cycle) network.cycle.0 start.0 node.changed (cycle_amount network device start h.lone) h.changed h.lone.in_first_cycle;
+    not_yet = λ there. none_there (sending 1) (subst (λ (ds : List Deed). Contains ds (sending 1)) h.done_is there);
+  },
+)
 
 second_pending : (network : Network) (device : DeviceId) (start : Units) (node : Node) → HasBegun network device start node (sending 1 ∷ []) → IsPending network device node (doing (correcting 1))
-second_pending network device start node h =
-    (h.sound,
-    record {
-      own = ap next_point h.standing;
-      ahead = correction_ahead_of (amount network.cycle) (amount network.correction) network.cycle.0 start.0 node.changed (cycle_amount network device start h.lone) h.changed h.lone.in_first_cycle;
-      not_yet = λ there. no_sending 1 1 (only_there (correcting 1) (sending 1) (subst (λ (ds : List Deed). Contains ds (correcting 1)) h.done_is there));
-    })
+second_pending network device start node h = (
+  h.sound,
+  record {
+    own = ap next_point h.standing;
+    ahead = correction_ahead_of (amount network.cycle) (amount network.correction) network.cycle.0 start.0 node.changed (cycle_amount network device start h.lone) h.changed h.lone.in_first_cycle;
+    not_yet = λ there. no_sending 1 1 (only_there (correcting 1) (sending 1) (subst (λ (ds : List Deed). Contains ds (correcting 1)) h.done_is there));
+  },
+)
 
 reading_of_first : (network : Network) (device : DeviceId) (start : Units) (node : Node) (done : List Deed) → HasBegun network device start node done → reading_for network node (doing (sending 1)) ≡ (network.cycle.0 -ℤ start.0)
 reading_of_first network device start node done h =
@@ -196,9 +198,10 @@ none_before_first network device start node done (doing (correcting cycle)) h ne
     (correction_later (amount network.cycle) (amount network.correction) network.cycle.0 node.standing.adjustment.0 (cycle_amount network device start h.lone)))
 
 pub first_due : (network : Network) (device : DeviceId) (start sends : Units) (node : Node) → sends.0 ≡ (network.cycle.0 -ℤ start.0) → HasBegun network device start node [] → IsDueReading network device node (Some sends)
-first_due network device start sends node is h =
-    ((doing (sending 1), first_pending network device start node h, reading_of_first network device start node [] h ∙ sym is),
-    λ task p. subst (λ (r : ℤ). r ≤ℤ reading_for network node task) (sym is) (none_before_first network device start node [] task h (own network device start node task h.lone p)))
+first_due network device start sends node is h = (
+  (doing (sending 1), first_pending network device start node h, reading_of_first network device start node [] h ∙ sym is),
+  λ task p. subst (λ (r : ℤ). r ≤ℤ reading_for network node task) (sym is) (none_before_first network device start node [] task h (own network device start node task h.lone p)),
+)
 
 at_least_two : (n : ℕ) → 1 ≤ n → (n ≡ 1 → ⊥) → 2 ≤ n
 at_least_two zero some other = absurd (omega arith)
@@ -231,9 +234,10 @@ none_before_second network device start node (doing (correcting cycle)) h next =
     (subst (λ (r : ℤ). ((network.cycle.0 +ℤ network.correction.0) -ℤ start.0) ≤ℤ r) (sym (reading_of_second network device start node _ h)) (never_less _))
 
 pub second_due : (network : Network) (device : DeviceId) (start corrects : Units) (node : Node) → corrects.0 ≡ ((network.cycle.0 +ℤ network.correction.0) -ℤ start.0) → HasBegun network device start node (sending 1 ∷ []) → IsDueReading network device node (Some corrects)
-second_due network device start corrects node is h =
-    ((doing (correcting 1), second_pending network device start node h, reading_of_second network device start node _ h ∙ sym is),
-    λ task p. subst (λ (r : ℤ). r ≤ℤ reading_for network node task) (sym is) (none_before_second network device start node task h (own network device start node task h.lone p)))
+second_due network device start corrects node is h = (
+  (doing (correcting 1), second_pending network device start node h, reading_of_second network device start node _ h ∙ sym is),
+  λ task p. subst (λ (r : ℤ). r ≤ℤ reading_for network node task) (sym is) (none_before_second network device start node task h (own network device start node task h.lone p)),
+)
 
 -- ---- what it does
 

@@ -1,5 +1,5 @@
 -- The definitions on the worked network: what becomes of single frames there.
-use Rattle.std.proofs.Common.{◌≡◌, ℕ, ℤ, pos, List, [], ◌∷◌, ◌++◌, Option, Some, None, Ok, true, false, Bool, refl, replicate, length}
+use Rattle.std.proofs.Common.{◌≡◌, ℕ, pos, List, [], ◌∷◌, Option, Some, None, Ok, true, refl, replicate}
 use Rattle.std.specs.Prelude.{codes}
 use Rattle.net_plan.specs.declared.ids.DeviceId.{DeviceId}
 use Rattle.net_plan.specs.declared.ids.LinkId.{LinkId}
@@ -10,13 +10,12 @@ use Rattle.net_plan.specs.declared.tables.Link.{Link}
 use Rattle.net_plan.specs.declared.tables.Role.{Role}
 use Rattle.net_plan.specs.declared.tables.Role.TheVariants.{Master, Client, Cm, Relay}
 use Rattle.net_plan.specs.declared.tables.Row.{Row}
-use Rattle.net_plan.specs.declared.tables.VirtualLink.{VirtualLink}
 use Rattle.net_plan.specs.declared.tables.Way.{Way}
 use Rattle.net_plan.specs.declared.tables.Way.TheVariants.{Up, Down}
 use Rattle.pcf_values.specs.declared.channel.Channel.{Channel}
 use Rattle.pcf_values.specs.declared.channel.Channel.TheVariants.{A, B}
 use Rattle.pcf_values.specs.declared.pcf.Pcf.{Pcf}
-use Rattle.pcf_values.specs.declared.pcf.PcfKind.TheVariants.{Integration, ColdStart}
+use Rattle.pcf_values.specs.declared.pcf.PcfKind.TheVariants.{ColdStart}
 use Rattle.run_law.specs.ControlArrivals.{control_arrival}
 use Rattle.run_law.specs.Devices.{expected_by, plan_of}
 use Rattle.run_law.specs.Frames.{dispatched_frame, integration_frame, tt_frame}
@@ -27,10 +26,8 @@ use Rattle.run_law.specs.TimedArrivals.{timed_arrival}
 use Rattle.run_law.specs.Collections.{point_fault, window}
 use Rattle.run_law.specs.declared.judgement.Judgement.TheVariants.{Within, Outside, Integrates, Ignored}
 use Rattle.run_law.specs.declared.judgement.Reason.TheVariants as reasons
-use Rattle.run_law.specs.declared.steps.Arrival.{Arrival}
 use Rattle.run_law.specs.declared.steps.Arrival.TheVariants.{Dropped, Waits, Passes, PassesAndWaits, Accepted, Delivered}
-use Rattle.sync_state.specs.declared.state.State.{State}
-use Rattle.sync_state.specs.declared.state.State.TheVariants.{Off, Integrating, Joining, Synchronised}
+use Rattle.sync_state.specs.declared.state.State.TheVariants.{Integrating, Synchronised}
 use Rattle.tte_units.specs.Amount.{units_of}
 use Rattle.tte_units.specs.declared.speed.Speed.TheVariants.{Mbit100}
 
@@ -62,37 +59,37 @@ worked = record {
   pcf_destination = 0x030000000001;
   marker = 0x03040506;
   device =
-    device_of (codes "m1") Master 0x020000000011 (Some 0) None
-    ∷ device_of (codes "m2") Master 0x020000000012 (Some 1) None
-    ∷ device_of (codes "m3") Master 0x020000000013 (Some 2) None
-    ∷ device_of (codes "m4") Master 0x020000000014 (Some 3) None
-    ∷ device_of (codes "c1") Client 0x020000000015 None None
-    ∷ device_of (codes "ra") Relay 0x020000000021 None (Some A)
-    ∷ device_of (codes "ca") Cm 0x020000000022 None (Some A)
-    ∷ device_of (codes "rb") Relay 0x020000000023 None (Some B)
-    ∷ device_of (codes "cb") Cm 0x020000000024 None (Some B)
-    ∷ [];
+      device_of (codes "m1") Master 0x020000000011 (Some 0) None
+      ∷ device_of (codes "m2") Master 0x020000000012 (Some 1) None
+      ∷ device_of (codes "m3") Master 0x020000000013 (Some 2) None
+      ∷ device_of (codes "m4") Master 0x020000000014 (Some 3) None
+      ∷ device_of (codes "c1") Client 0x020000000015 None None
+      ∷ device_of (codes "ra") Relay 0x020000000021 None (Some A)
+      ∷ device_of (codes "ca") Cm 0x020000000022 None (Some A)
+      ∷ device_of (codes "rb") Relay 0x020000000023 None (Some B)
+      ∷ device_of (codes "cb") Cm 0x020000000024 None (Some B)
+      ∷ [];
   link =
-    link_of (codes "m1_a") 0 5
-    ∷ link_of (codes "m2_a") 1 5
-    ∷ link_of (codes "m3_a") 2 5
-    ∷ link_of (codes "m4_a") 3 5
-    ∷ link_of (codes "c1_a") 4 5
-    ∷ link_of (codes "ra_ca") 5 6
-    ∷ link_of (codes "m1_b") 0 7
-    ∷ link_of (codes "m2_b") 1 7
-    ∷ link_of (codes "m3_b") 2 7
-    ∷ link_of (codes "m4_b") 3 7
-    ∷ link_of (codes "c1_b") 4 7
-    ∷ link_of (codes "rb_cb") 7 8
-    ∷ [];
+      link_of (codes "m1_a") 0 5
+      ∷ link_of (codes "m2_a") 1 5
+      ∷ link_of (codes "m3_a") 2 5
+      ∷ link_of (codes "m4_a") 3 5
+      ∷ link_of (codes "c1_a") 4 5
+      ∷ link_of (codes "ra_ca") 5 6
+      ∷ link_of (codes "m1_b") 0 7
+      ∷ link_of (codes "m2_b") 1 7
+      ∷ link_of (codes "m3_b") 2 7
+      ∷ link_of (codes "m4_b") 3 7
+      ∷ link_of (codes "c1_b") 4 7
+      ∷ link_of (codes "rb_cb") 7 8
+      ∷ [];
   vl = record { name = codes "v1"; id = 1; length = 60; ethertype = 2048; sender = record { 0 = 0 }; period = 1; phase = 0 } ∷ [];
   row =
-    row_of 0 0 Up 26542080000
-    ∷ row_of 0 6 Up 26542080000
-    ∷ row_of 0 4 Down 28180480000
-    ∷ row_of 0 10 Down 28180480000
-    ∷ [];
+      row_of 0 0 Up 26542080000
+      ∷ row_of 0 6 Up 26542080000
+      ∷ row_of 0 4 Down 28180480000
+      ∷ row_of 0 10 Down 28180480000
+      ∷ [];
 }
 
 abbrev dev : ℕ → DeviceId

@@ -2,6 +2,7 @@
 //! and what holds of all runs.
 #![tactic(auto)]
 
+mod first_laws;
 mod judgement;
 mod laws;
 mod locals;
@@ -11,6 +12,7 @@ mod note;
 mod outside;
 mod steps;
 
+pub use first_laws::{broken_are_still, deliveries_begin, sent_frames_come};
 pub use judgement::{Judgement, Reason, Why};
 pub use laws::{earlier_run_is_front, hypothesis_is_decided, run_goes_on, run_is_one};
 pub use locals::spread;
