@@ -3,8 +3,8 @@
 --     event L TEXT                                                    an event, that of line L of the trace
 --     arrived DEVICE LINK CAUSE clock T                               a protocol control frame arrives
 --     permanent DEVICE LINK CAUSE point P VERDICT                     it is permanent
---     compressed DEVICE opened P at Q cycle C members M VERDICT       a compression master sends a collection's
---     sent DEVICE cycle C                                             a master sends one
+--     compressed DEVICE opened P at Q cycle C members M VERDICT       the frame of a collection is sent
+--     sent DEVICE cycle C                                             a master sends its frame
 --     corrected DEVICE cycle C by V adj A                             a device corrects its clock
 --     state DEVICE STATE CAUSE WHY                                    a device changes its state
 --     left DEVICE LINK CAUSE clock T                                  a protocol control frame leaves a device
