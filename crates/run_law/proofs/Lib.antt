@@ -3,8 +3,8 @@ pub mod Lacking
 pub mod FrontOfRun
 pub mod OneRun
 pub mod Grow
-pub mod Determined
-pub mod NetworkRuns
+pub mod SilentDetermined
+pub mod SilentNetworkRuns
 pub mod Decisions
 pub mod Conditions
 pub mod Decided

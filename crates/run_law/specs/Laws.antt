@@ -5,7 +5,7 @@ use Rattle.net_plan.specs.declared.ids.DeviceId.{DeviceId}
 use Rattle.net_plan.specs.declared.network.Network.{Network}
 use Rattle.run_law.specs.Hypothesis.{IsOutsideBy, IsWithinHypothesis}
 use Rattle.run_law.specs.Order.{IsBefore}
-use Rattle.run_law.specs.Silent.{IsRunOf}
+use Rattle.run_law.specs.Silent.{IsSilentRunOf as IsRunOf}
 use Rattle.run_law.specs.declared.note.Note.{Note}
 use Rattle.run_law.specs.declared.outside.Outside.{Outside}
 

@@ -1,4 +1,4 @@
--- A record that is due is determined by its place.
+-- A record that is due in the silent cycle is determined by its place.
 use Rattle.std.proofs.Common.{◌≡◌, ℕ, List, Some, ℤ, pos, negsuc, ◌≤ℤ◌, slice_get, unsigned_abs, sym, ap, subst, ◌∙◌, arith}
 use Rattle.std.proofs.lemmas.Int.{ints}
 use Rattle.std.specs.Option.{unwrap_or}
@@ -7,7 +7,9 @@ use Rattle.net_plan.specs.declared.event.What.{What}
 use Rattle.net_plan.specs.declared.ids.DeviceId.{DeviceId}
 use Rattle.net_plan.specs.declared.network.Network.{Network}
 use Rattle.net_plan.specs.declared.tables.Device.{Device}
-use Rattle.run_law.specs.Silent.{rank, key, place_of, IsEventRecord, IsClockRecord, IsCaused, IsDue}
+use Rattle.run_law.specs.Ranks.{rank, key}
+use Rattle.run_law.specs.Records.{IsEventRecord}
+use Rattle.run_law.specs.Silent.{silent_place, IsSilentClock, IsSilentlyCaused, IsSilentlyDue}
 use Rattle.run_law.specs.Runs.{IsDetermined}
 use Rattle.run_law.specs.declared.note.Note.{Note}
 use Rattle.run_law.specs.declared.note.NoteBody.{NoteBody}
@@ -40,7 +42,7 @@ same_what events time line what other a b =
     a.same ∙ ap (λ (e : Event). e.what) (same_at events a.before a.event b.event a.is there) ∙ sym b.same
 
 -- two records of one device's clock are one
-same_clock : (network : Network) (reading : DeviceId → ℕ → ℕ) (events : List Event) (time : Units) (device : DeviceId) (shown adjustment : Units) (state : State) (other_shown other_adjustment : Units) (other_state : State) → IsClockRecord network reading events time device shown adjustment state → IsClockRecord network reading events time device other_shown other_adjustment other_state → Clock device shown adjustment state ≡ Clock device other_shown other_adjustment other_state
+same_clock : (network : Network) (reading : DeviceId → ℕ → ℕ) (events : List Event) (time : Units) (device : DeviceId) (shown adjustment : Units) (state : State) (other_shown other_adjustment : Units) (other_state : State) → IsSilentClock network reading events time device shown adjustment state → IsSilentClock network reading events time device other_shown other_adjustment other_state → Clock device shown adjustment state ≡ Clock device other_shown other_adjustment other_state
 same_clock network reading events time device shown adjustment state other_shown other_adjustment other_state a b =
     let one = same_at network.device device.0 a.is b.is a.there b.there in
     ap (λ (r : Units). Clock device r adjustment state) (a.reads ∙ sym b.reads)
@@ -48,15 +50,16 @@ same_clock network reading events time device shown adjustment state other_shown
     ∙ ap (λ (s : State). Clock device other_shown other_adjustment s) (a.synchronised ∙ sym b.synchronised)
 
 -- two bodies with a cause at one time, of one kind and key, are one
-same_body : (network : Network) (reading : DeviceId → ℕ → ℕ) (events : List Event) (time : Units) (a b : NoteBody) → IsCaused network reading events time a → IsCaused network reading events time b → rank a ≡ rank b → key a ≡ key b → a ≡ b
+same_body : (network : Network) (reading : DeviceId → ℕ → ℕ) (events : List Event) (time : Units) (a b : NoteBody) → IsSilentlyCaused network reading events time a → IsSilentlyCaused network reading events time b → rank a ≡ rank b → key 0 a ≡ key 0 b → a ≡ b
 same_body network reading events time (Befalls line what) (Befalls other_line other_what) a b kinds keys =
-    let there = subst (λ (l : ℕ). IsEventRecord events time l other_what) (sym keys) b in
-    ap (λ (w : What). Befalls line w) (same_what events time line what other_what a there) ∙ ap (λ (l : ℕ). Befalls l other_what) keys
+    let lines : line ≡ other_line = cc in
+    let there = subst (λ (l : ℕ). IsEventRecord events time l other_what) (sym lines) b in
+    ap (λ (w : What). Befalls line w) (same_what events time line what other_what a there) ∙ ap (λ (l : ℕ). Befalls l other_what) lines
 same_body network reading events time (Befalls line what) (Clock device shown adjustment state) a b kinds keys = absurd (omega (arith, kinds))
 same_body network reading events time (Clock device shown adjustment state) (Befalls line what) a b kinds keys = absurd (omega (arith, kinds))
 same_body network reading events time (Clock device shown adjustment state) (Clock other other_shown other_adjustment other_state) a b kinds keys =
-    let one = same_device device other keys in
-    let there = subst (λ (d : DeviceId). IsClockRecord network reading events time d other_shown other_adjustment other_state) (sym one) b in
+    let one = same_device device other cc in
+    let there = subst (λ (d : DeviceId). IsSilentClock network reading events time d other_shown other_adjustment other_state) (sym one) b in
     same_clock network reading events time device shown adjustment state other_shown other_adjustment other_state a there
     ∙ ap (λ (d : DeviceId). Clock d other_shown other_adjustment other_state) one
 
@@ -72,11 +75,11 @@ same_note a b numbers times bodies =
     ∙ ap (λ (c : NoteBody). let m : Note = record { number = b.number; time = b.time; body = c } in m) bodies
 
 -- given the same records before, two that are due at one place are one
-pub due_is_determined : (network : Network) (reading : DeviceId → ℕ → ℕ) (events : List Event) → IsDetermined place_of (IsDue network reading events)
-due_is_determined network reading events ps x y a b same =
+pub silent_is_determined : (network : Network) (reading : DeviceId → ℕ → ℕ) (events : List Event) → IsDetermined silent_place (IsSilentlyDue network reading events)
+silent_is_determined network reading events ps x y a b same =
     let amounts : amount x.time ≡ amount y.time = cc in
     let kinds : rank x.body ≡ rank y.body = cc in
-    let keys : key x.body ≡ key y.body = cc in
+    let keys : key 0 x.body ≡ key 0 y.body = cc in
     let times = same_time x.time y.time a.begun b.begun amounts in
-    let there = subst (λ (t : Units). IsCaused network reading events t y.body) (sym times) b.cause in
+    let there = subst (λ (t : Units). IsSilentlyCaused network reading events t y.body) (sym times) b.cause in
     same_note x y (a.number ∙ sym b.number) times (same_body network reading events x.time x.body y.body a.cause there kinds keys)
