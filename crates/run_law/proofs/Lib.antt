@@ -5,6 +5,9 @@ pub mod OneRun
 pub mod Grow
 pub mod SilentDetermined
 pub mod SilentNetworkRuns
+pub mod SilentTimes
+pub mod SilentStates
+pub mod SilentDue
 pub mod Decisions
 pub mod Conditions
 pub mod Decided
