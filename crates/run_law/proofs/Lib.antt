@@ -8,6 +8,7 @@ pub mod SilentNetworkRuns
 pub mod SilentTimes
 pub mod SilentStates
 pub mod SilentDue
+pub mod SilentAgreement
 pub mod Decisions
 pub mod Conditions
 pub mod Decided

@@ -62,7 +62,6 @@ same_body network reading events time (Clock device shown adjustment state) (Clo
     let there = subst (λ (d : DeviceId). IsSilentClock network reading events time d other_shown other_adjustment other_state) (sym one) b in
     same_clock network reading events time device shown adjustment state other_shown other_adjustment other_state a there
     ∙ ap (λ (d : DeviceId). Clock d other_shown other_adjustment other_state) one
-
 same_body network reading events time (Befalls line what) other a b kinds keys = absurd b
 same_body network reading events time (Clock device shown adjustment state) other a b kinds keys = absurd b
 same_body network reading events time other b c d kinds keys = absurd c

@@ -1,5 +1,5 @@
 -- What is due in the first half cycle, behind records of events and clocks: no more than in the silent cycle.
-use Rattle.std.proofs.Common.{◌≡◌, ◌≢◌, ◌⊎◌, ℕ, zero, suc, ◌+◌, ◌*◌, ◌/◌, ◌<◌, ◌≤◌, ℤ, pos, ◌-ℤ◌, ◌≤ℤ◌, Bool, true, false, ◌&&◌, ◌==◌, if◌then◌else◌, List, [], ◌∷◌, ◌++◌, length, Option, Some, None, slice_get, inl, inr, refl, sym, ap, subst, ◌∙◌, arith}
+use Rattle.std.proofs.Common.{◌≡◌, ℕ, ◌+◌, ◌*◌, ◌/◌, ◌<◌, ◌≤◌, ℤ, pos, ◌≤ℤ◌, Bool, false, ◌&&◌, ◌==◌, if◌then◌else◌, List, [], ◌∷◌, length, Option, Some, None, slice_get, inl, inr, refl, sym, ap, subst, ◌∙◌, arith}
 use Rattle.std.specs.List.{All, Contains}
 use Rattle.std.specs.Option.{option_map_or, unwrap_or}
 use Rattle.std.specs.Prelude.{IsNone, IsSomeAnd, option_and_then}
@@ -9,8 +9,7 @@ use Rattle.std.proofs.lemmas.Option.{slice_get_within}
 use Rattle.compression.specs.Clusters.{AreClusters, Cluster}
 use Rattle.net_plan.specs.Places.{device_at}
 use Rattle.net_plan.specs.declared.event.Event.{Event}
-use Rattle.net_plan.specs.declared.event.What.{What}
-use Rattle.net_plan.specs.declared.event.What.TheVariants.{On, Send}
+use Rattle.net_plan.specs.declared.event.What.TheVariants.{Send}
 use Rattle.net_plan.specs.declared.ids.DeviceId.{DeviceId}
 use Rattle.net_plan.specs.declared.ids.LinkId.{LinkId}
 use Rattle.net_plan.specs.declared.ids.VlId.{VlId}
@@ -23,16 +22,15 @@ use Rattle.run_law.specs.Corrections.{ComesToCorrection, correction_value, integ
 use Rattle.run_law.specs.Devices.{start_of}
 use Rattle.run_law.specs.Dispatching.{Dispatches, Sends}
 use Rattle.run_law.specs.Emissions.{Emits}
-use Rattle.run_law.specs.Faults.{BeginsOn}
 use Rattle.run_law.specs.Happenings.{Happening, earlier, time_of, up_to}
 use Rattle.run_law.specs.Leaving.{Departs, Departure, Gives}
 use Rattle.run_law.specs.Permanence.{Ripens}
 use Rattle.run_law.specs.Receptions.{ArrivesAs}
-use Rattle.run_law.specs.Records.{ChangesState, EndsAt, IsArrivedRecord, IsCaused, IsClockRecord, IsCorrectedRecord, IsDropped, IsEventRecord, IsLost, IsSendLost}
+use Rattle.run_law.specs.Records.{ChangesState, IsArrivedRecord, IsCaused, IsClockRecord, IsDropped, IsLost, IsSendLost}
 use Rattle.run_law.specs.Scenarios.{Scenario}
 use Rattle.run_law.specs.Silent.{IsQuiet, IsSilent, IsSilentClock, IsSilentNetwork, IsSilentlyCaused}
 use Rattle.run_law.specs.States.{adjustment_after, adjustment_before, state_after}
-use Rattle.run_law.specs.Transit.{Launch, launched}
+use Rattle.run_law.specs.Transit.{launched}
 use Rattle.run_law.specs.declared.judgement.Judgement.{Judgement}
 use Rattle.run_law.specs.declared.judgement.Reason.{Reason}
 use Rattle.run_law.specs.declared.judgement.Why.{Why}

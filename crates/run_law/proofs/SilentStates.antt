@@ -1,8 +1,7 @@
 -- What records of events and clocks leave of a run: all stays as it begins.
-use Rattle.std.proofs.Common.{◌≡◌, ℕ, zero, suc, Bool, true, false, ◌-◌, not, if◌then◌else◌, List, [], ◌∷◌, ◌++◌, Option, Some, None, drop, length, slice_get, refl, sym, ap, subst, ◌∙◌}
+use Rattle.std.proofs.Common.{◌≡◌, ℕ, zero, suc, Bool, true, false, ◌-◌, not, if◌then◌else◌, List, [], ◌∷◌, ◌++◌, Option, Some, None, drop, length, slice_get, refl, ap, subst, ◌∙◌}
 use Rattle.std.specs.List.{cons_option, filter, filter_map, fold, after_last, suffix_len}
 use Rattle.net_plan.specs.declared.ids.DeviceId.{DeviceId}
-use Rattle.run_law.specs.Clocks.{changes_adjustment}
 use Rattle.run_law.specs.Collections.{point_by, points_of, ends_stretch}
 use Rattle.run_law.specs.Corrections.{cycle_after, integration_cycle, recorded_cycle}
 use Rattle.run_law.specs.Devices.{start_of}

@@ -1,7 +1,6 @@
 -- In the first half of the first cycle no clock comes to the second cycle.
-use Rattle.std.proofs.Common.{◌≡◌, ℕ, ◌+◌, ◌-◌, ◌*◌, ◌/◌, ◌^◌, ◌<◌, ◌≤◌, ℤ, pos, negsuc, ◌+ℤ◌, ◌-ℤ◌, ◌<ℤ◌, ◌≤ℤ◌, unsigned_abs, List, Option, Some, None, refl, sym, ap, subst, ◌∙◌, arith}
+use Rattle.std.proofs.Common.{◌≡◌, ℕ, ◌+◌, ◌-◌, ◌*◌, ◌/◌, ◌^◌, ◌<◌, ◌≤◌, ℤ, pos, negsuc, ◌-ℤ◌, ◌≤ℤ◌, unsigned_abs, Option, Some, None, refl, subst, arith}
 use Rattle.std.specs.Int.{abs_diff}
-use Rattle.std.specs.Option.{unwrap_or}
 use Rattle.std.specs.Prelude.{IfSome, option_and_then}
 use Rattle.std.proofs.Math.Nat.{mul-le-mul_right}
 use Rattle.std.proofs.lemmas.Int.{ints}
@@ -10,7 +9,6 @@ use Rattle.net_plan.proofs.Beta.{beta_exists}
 use Rattle.net_plan.proofs.Shape.{rules_give_trees}
 use Rattle.net_plan.specs.Bounds.{IsBeta, beta_at}
 use Rattle.net_plan.specs.Places.{device_at}
-use Rattle.net_plan.specs.Ranges.{IsInRange}
 use Rattle.net_plan.specs.declared.ids.DeviceId.{DeviceId}
 use Rattle.net_plan.specs.declared.network.Network.{Network}
 use Rattle.net_plan.specs.declared.tables.Device.{Device}
@@ -18,7 +16,6 @@ use Rattle.run_law.specs.Devices.{start_of}
 use Rattle.run_law.specs.Silent.{IsSilentNetwork}
 use Rattle.schedule_tables.proofs.EntryLemmas.{all_at}
 use Rattle.schedule_tables.proofs.Margins.{margins, shape_rules}
-use Rattle.schedule_tables.specs.Rules.{KeepsRules}
 use Rattle.schedule_tables.specs.declared.rule.Rule.TheVariants.{Masters}
 use Rattle.sync_state.specs.Standing.{adjustment_at_start}
 use Rattle.tte_units.specs.Amount.{amount}

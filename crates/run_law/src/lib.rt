@@ -6,12 +6,14 @@ mod judgement;
 mod laws;
 mod note;
 mod outside;
+mod silent_law;
 mod steps;
 
 pub use judgement::{Judgement, Reason, Why};
 pub use laws::{earlier_run_is_front, hypothesis_is_decided, run_is_one};
 pub use note::{Note, NoteBody};
 pub use outside::Outside;
+pub use silent_law::silent_runs_agree;
 pub use steps::{Act, Arrival, Moment, Ripe};
 
 #[cfg(test)]

@@ -1,4 +1,4 @@
-use crate::{Outside, earlier_run_is_front, hypothesis_is_decided, run_is_one};
+use crate::{Outside, earlier_run_is_front, hypothesis_is_decided, run_is_one, silent_runs_agree};
 
 #[test]
 fn the_conditions_are_numbered_as_they_are_judged(rt: HostRuntime) {
@@ -20,4 +20,5 @@ fn the_laws_hold(_rt: HostRuntime) {
     run_is_one();
     earlier_run_is_front();
     hypothesis_is_decided();
+    silent_runs_agree();
 }
