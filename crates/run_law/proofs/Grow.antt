@@ -2,12 +2,8 @@
 use Rattle.std.proofs.Common.{◌≡◌, ◌⊎◌, ℕ, List, [], ◌∷◌, ◌++◌, inl, inr, refl, sym, ap, subst, ◌∙◌}
 use Rattle.std.proofs.lemmas.List.{append-nil}
 use Rattle.run_law.specs.Order.{IsBefore, IsIn, AllBefore, NoneBefore}
-use Rattle.run_law.specs.Runs.{IsFounded, IsRun}
+use Rattle.run_law.specs.Runs.{IsFounded, IsRun, NothingDueUpTo}
 use Rattle.run_law.proofs.Places.{never_self, chain, either_way, behind, before_behind, nothing_between, in_left, in_right, in_parts}
-
--- what is due before the place, given those of the list before it, is before the mark
-pub record NothingDueUpTo {N : Type 0} (place : N → List ℕ) (IsDue : List N → N → Type 0) (mark : List ℕ) (ns : List N) (later : List ℕ) : Type 0 where
-  pub gap : (ps qs : List N) (y : N) → ns ≡ ps ++ qs → AllBefore place ps (place y) → NoneBefore place qs (place y) → IsDue ps y → IsBefore (place y) later → IsBefore (place y) mark
 
 -- ---- a run begins
 

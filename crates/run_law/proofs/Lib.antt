@@ -3,8 +3,9 @@ pub mod Lacking
 pub mod FrontOfRun
 pub mod OneRun
 pub mod Grow
-pub mod SilentDetermined
-pub mod SilentNetworkRuns
+pub mod SameSteps
+pub mod Determined
+pub mod NetworkRuns
 pub mod SilentTimes
 pub mod SilentStates
 pub mod SilentDue

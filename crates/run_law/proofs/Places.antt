@@ -1,6 +1,7 @@
 -- The order of places, and what is in lists.
 use Rattle.std.proofs.Common.{◌≡◌, ◌⊎◌, ℕ, ◌+◌, ◌<◌, ◌≤◌, List, [], ◌∷◌, ◌++◌, inl, inr, refl, sym, ap, subst, ◌∙◌, arith}
 use Rattle.std.proofs.lemmas.Bool.{cases_order}
+pub use Rattle.run_law.specs.Order.{behind}
 use Rattle.run_law.specs.Order.{IsBefore, IsIn}
 
 -- no place is before itself
@@ -79,10 +80,6 @@ before_next_time (x ∷ xs) a rest (inl lt) = inl (omega arith)
 before_next_time (x ∷ xs) a rest (inr h) = inl (omega (arith, h.0))
 
 -- ---- the place just behind another
-
--- just behind the place
-abbrev pub behind : List ℕ → List ℕ
-behind p = p ++ 0 ∷ []
 
 pub before_behind : (p : List ℕ) → IsBefore p (behind p)
 before_behind [] = tt

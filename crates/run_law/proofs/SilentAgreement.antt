@@ -14,6 +14,7 @@ use Rattle.run_law.specs.Silent.{silent_place, IsInFirstHalf, IsSilent, IsSilent
 use Rattle.run_law.specs.declared.note.Note.{Note}
 use Rattle.run_law.specs.declared.note.NoteBody.{NoteBody}
 use Rattle.run_law.specs.declared.note.NoteBody.TheVariants.{Event as Befalls, Clock}
+use Rattle.run_law.proofs.NetworkRuns.{same_notes}
 use Rattle.run_law.proofs.Places.{earlier_time, in_right, parted}
 use Rattle.run_law.proofs.SilentDue.{IsEarlyOn, caused_silently, quiet_cause, silently_caused}
 use Rattle.run_law.proofs.SilentStates.{AreQuiet, IsQuietBody, quiet_append}
@@ -56,20 +57,13 @@ are_plain network before (n ∷ ns) q =
 pub all_plain : (network : Network) (ns : List Note) → AreQuiet (map plain ns) → happenings network ns ≡ map plain ns
 all_plain network ns q = are_plain network [] ns q
 
-notes_from : (network : Network) (before : List Happening) (ns : List Note) → map (λ h. h.note) (fold (λ hs n. hs ++ happening network hs n ∷ []) before ns) ≡ map (λ h. h.note) before ++ ns
-notes_from network before [] = sym (append-nil (map (λ h. h.note) before))
-notes_from network before (n ∷ ns) =
-    notes_from network (before ++ happening network before n ∷ []) ns
-    ∙ ap (λ ms. ms ++ ns) (map-append (λ (h : Happening). h.note) before (happening network before n ∷ []))
-    ∙ append_assoc (map (λ h. h.note) before) (n ∷ []) ns
-
 quiet_again : (hs : List Happening) → AreQuiet hs → AreQuiet (map plain (map (λ h. h.note) hs))
 quiet_again [] q = q
 quiet_again (h ∷ hs) q = (q.0, quiet_again hs q.1)
 
 -- records that are quiet with their frames are quiet
 quiet_notes : (network : Network) (ns : List Note) → AreQuiet (happenings network ns) → AreQuiet (map plain ns)
-quiet_notes network ns q = subst (λ (ms : List Note). AreQuiet (map plain ms)) (notes_from network [] ns) (quiet_again (happenings network ns) q)
+quiet_notes network ns q = subst (λ (ms : List Note). AreQuiet (map plain ms)) (same_notes network ns) (quiet_again (happenings network ns) q)
 
 quiet_all : (ns : List Note) → ((n : Note) → IsIn n ns → IsQuietBody n.body) → AreQuiet (map plain ns)
 quiet_all [] q = tt
@@ -108,7 +102,7 @@ parts (n ∷ ns) (p ∷ ps) qs e =
     let head : plain n ≡ p = cc in
     let tail : map plain ns ≡ ps ++ qs = cc in
     let r = parts ns ps qs tail in
-    record { front = n ∷ r.front; back = r.back; whole = ap (λ (t : List Note). n ∷ t) r.whole; first = ap (λ h. h ∷ ps) (sym head) ∙ ap (λ t. plain n ∷ t) r.first; second = r.second }
+    record { front = n ∷ r.front; back = r.back; whole = ap (λ (t : List Note). n ∷ t) r.whole; first = ap (λ h. h ∷ ps) {y = plain n} (sym head) ∙ ap (λ t. plain n ∷ t) r.first; second = r.second }
 
 next_part : (back : List Note) (x : Happening) (qs : List Happening) → x ∷ qs ≡ map plain back → (n : Note) × (rest : List Note) × (back ≡ n ∷ rest) × (x ≡ plain n)
 next_part [] x qs e = absurd cc

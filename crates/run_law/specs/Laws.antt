@@ -1,11 +1,15 @@
 -- What holds of all runs, and of all judgements by the fault hypothesis.
-use Rattle.std.specs.Prelude.{◌≡◌, ◌⊎◌, ℕ, List, ◌++◌}
+use Rattle.std.specs.Prelude.{◌≡◌, ◌⊎◌, ℕ, List, [], ◌∷◌, ◌++◌}
 use Rattle.net_plan.specs.declared.event.Event.{Event}
 use Rattle.net_plan.specs.declared.ids.DeviceId.{DeviceId}
 use Rattle.net_plan.specs.declared.network.Network.{Network}
 use Rattle.run_law.specs.Hypothesis.{IsOutsideBy, IsWithinHypothesis}
-use Rattle.run_law.specs.Order.{IsBefore}
-use Rattle.run_law.specs.Silent.{IsSilentRunOf as IsRunOf}
+use Rattle.run_law.specs.Order.{IsBefore, behind}
+use Rattle.run_law.specs.Happenings.{Happening, happening, happenings}
+use Rattle.run_law.specs.Ranks.{place_of}
+use Rattle.run_law.specs.Records.{IsDue, IsRunOf, IsScenarioRun}
+use Rattle.run_law.specs.Runs.{IsNextOf}
+use Rattle.run_law.specs.Scenarios.{Scenario}
 use Rattle.run_law.specs.declared.note.Note.{Note}
 use Rattle.run_law.specs.declared.outside.Outside.{Outside}
 
@@ -22,6 +26,15 @@ EarlierRunIsFront =
     → ((p : List ℕ) → IsBefore p mark → IsBefore p later)
     → IsRunOf network reading events mark notes → IsRunOf network reading events later more
     → (rest : List Note) × (more ≡ notes ++ rest)
+
+-- a run goes on by its next record: with it, it is the run up to just behind this record
+abbrev pub RunGoesOn : Type 0
+RunGoesOn =
+    (s : Scenario) (mark : List ℕ) (notes : List Note) (note : Note) (next : Happening)
+    → IsScenarioRun s mark notes
+    → next ≡ happening s.network (happenings s.network notes) note
+    → IsNextOf place_of (IsDue s) mark (happenings s.network notes) next
+    → IsScenarioRun s (behind (place_of next)) (notes ++ note ∷ [])
 
 -- the event is within the hypothesis, or outside by one condition, and not both
 pub record HasOneJudgement (network : Network) (before : List Event) (event : Event) : Type 0 where

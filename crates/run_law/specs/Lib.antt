@@ -24,5 +24,12 @@ pub mod Corrections
 pub mod Dispatching
 pub mod Receptions
 pub mod Records
+pub mod Nodes
+pub mod Tasks
+pub mod Calls
+pub mod Machines
+pub mod Causes
+pub mod FirstLaws
+pub mod Safety
 pub mod Silent
 pub mod Laws

@@ -1,5 +1,5 @@
 -- The order of records by their places, which are lists of numbers.
-use Rattle.std.specs.Prelude.{◌≡◌, ◌⊎◌, ℕ, ◌<◌, List, [], ◌∷◌}
+use Rattle.std.specs.Prelude.{◌≡◌, ◌⊎◌, ℕ, ◌<◌, List, [], ◌∷◌, ◌++◌}
 
 -- the first place is before the second: their numbers are compared from the left, and a front of a place
 -- is before it
@@ -20,3 +20,7 @@ AllBefore {N} place ns p = (n : N) → IsIn n ns → IsBefore (place n) p
 -- no record of the list is before the place
 abbrev pub NoneBefore : {N : Type 0} → (N → List ℕ) → List N → List ℕ → Type 0
 NoneBefore {N} place ns p = (n : N) → IsIn n ns → IsBefore (place n) p → ⊥
+
+-- just behind the place: nothing is between the two
+abbrev pub behind : List ℕ → List ℕ
+behind p = p ++ 0 ∷ []

@@ -1,4 +1,4 @@
-ghost use Rattle.run_law.specs.Laws.{EarlierRunIsFront, HypothesisIsDecided, RunIsOne};
+ghost use Rattle.run_law.specs.Laws.{EarlierRunIsFront, HypothesisIsDecided, RunGoesOn, RunIsOne};
 
 /// There is one run of a network under the events up to a mark.
 pub fn run_is_one()
@@ -8,6 +8,11 @@ pub fn run_is_one()
 /// The run up to an earlier mark is the front of that up to a later one.
 pub fn earlier_run_is_front()
     ensures { EarlierRunIsFront }
+{}
+
+/// A run goes on by its next record.
+pub fn run_goes_on()
+    ensures { RunGoesOn }
 {}
 
 /// An event is within the fault hypothesis or outside by one condition, and not both.

@@ -4,13 +4,15 @@
 
 mod judgement;
 mod laws;
+mod machine;
 mod note;
 mod outside;
 mod silent_law;
 mod steps;
 
 pub use judgement::{Judgement, Reason, Why};
-pub use laws::{earlier_run_is_front, hypothesis_is_decided, run_is_one};
+pub use laws::{earlier_run_is_front, hypothesis_is_decided, run_goes_on, run_is_one};
+pub use machine::Machine;
 pub use note::{Note, NoteBody};
 pub use outside::Outside;
 pub use silent_law::silent_runs_agree;

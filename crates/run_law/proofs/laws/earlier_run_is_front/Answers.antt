@@ -1,5 +1,5 @@
-use Rattle.run_law.proofs.SilentNetworkRuns.{earlier_silent_run_is_front}
+use Rattle.run_law.proofs.NetworkRuns.{earlier_run_is_front}
 use Rattle.run_law.proofs.laws.earlier_run_is_front.Goals as goal
 
 pub returns : goal.returns
-returns c = earlier_silent_run_is_front
+returns c = earlier_run_is_front

@@ -1,0 +1,5 @@
+use Rattle.run_law.proofs.NetworkRuns.{run_goes_on}
+use Rattle.run_law.proofs.laws.run_goes_on.Goals as goal
+
+pub returns : goal.returns
+returns c = run_goes_on

@@ -1,0 +1,83 @@
+ghost use Rattle.std.specs.Prelude.{◌≡◌, ◌≤ℤ◌, false};
+ghost use Rattle.net_plan.specs.declared.ids.DeviceId.{DeviceId};
+ghost use Rattle.net_plan.specs.declared.network.Network.{Network};
+ghost use Rattle.run_law.specs.Calls.{MayArrive, MayCall, MayRipen};
+ghost use Rattle.run_law.specs.Devices.{channel_of_link};
+ghost use Rattle.run_law.specs.Machines.{IsActOf, IsRipeAt, after_arrival, after_ripe, arrival_at, called, node_turned_on};
+ghost use Rattle.run_law.specs.Nodes.{Node, arriving, ripening, acting};
+ghost use Rattle.run_law.specs.Tasks.{IsDueReading, IsPending, Task, reading_for};
+ghost use Rattle.run_law.specs.Transit.{signal_of};
+ghost use Rattle.sync_state.specs.declared.state.State.TheVariants.{Off};
+
+use crate::{Act, Arrival, Moment, Ripe};
+use net_plan::LinkId;
+use pcf_values::Pcf;
+use sync_state::State;
+use tte_units::Units;
+
+/// A device as it behaves by itself: what becomes of the frames that come to it, and what it does when its clock
+/// reaches a value.
+///
+/// At one instant the calls come in the order `turn_on`, `hear`, `ripen`, `act`. Times and readings do not fall from
+/// call to call; before a later instant `act` was called until nothing more was due; and no call comes at a reading
+/// that exceeds that of `due` by the precision or more.
+pub trait Machine {
+    /// It stands as this device of this network stands after what it was given and has done.
+    ghost stands: { Self → Network → DeviceId → Node → Type 0 };
+
+    /// The least reading at which it acts by itself, in units of 2^-16 ns. It is None exactly where it never does
+    /// without a further frame or event.
+    fn due(&self) -> Option<Units>
+        ensures { (network : Network) (device : DeviceId) (node : Node) → stands self.now network device node
+            → IsDueReading network device node result };
+
+    /// Does the first of all that is due at the moment, by kind: emissions by their opening points, then the sending,
+    /// then the correction, then the dispatches by offset, link and row.
+    ///
+    /// The reading of `due` is reached.
+    fn act(&mut self, moment: Moment) -> Act
+        requires called { (network : Network) (device : DeviceId) (node : Node) → stands self.old network device node
+            → MayCall network device node moment acting }
+        requires due { (network : Network) (device : DeviceId) (node : Node) → stands self.old network device node
+            → (task : Task) × IsPending network device node task × (reading_for network node task ≤ℤ moment.reading.0) }
+        ensures { (network : Network) (device : DeviceId) (node : Node) → stands self.old network device node
+            → (new : Node) × IsActOf network device node moment result new × stands self.new network device new };
+
+    /// What becomes of the frame of these octets, 60 to 1,514, that arrives by a link of the device.
+    fn hear(&mut self, moment: Moment, link: LinkId, octets: &[u8]) -> Arrival
+        requires called { (network : Network) (device : DeviceId) (node : Node) → stands self.old network device node
+            → MayCall network device node moment arriving }
+        requires arrives { (network : Network) (device : DeviceId) (node : Node) → stands self.old network device node
+            → MayArrive network device link octets.now }
+        ensures { (network : Network) (device : DeviceId) (node : Node) → stands self.old network device node
+            → (result ≡ arrival_at network device node moment link (signal_of octets.now))
+            × stands self.new network device (called moment arriving (after_arrival node moment result)) };
+
+    /// What becomes of a frame for whose permanence the device has waited, at the first instant at which its reading
+    /// is at least the point.
+    fn ripen(&mut self, moment: Moment, link: LinkId, frame: &Pcf, point: Units) -> Ripe
+        requires called { (network : Network) (device : DeviceId) (node : Node) → stands self.old network device node
+            → MayCall network device node moment ripening }
+        requires ripens { (network : Network) (device : DeviceId) (node : Node) → stands self.old network device node
+            → MayRipen network device node moment link frame.now point }
+        ensures { (network : Network) (device : DeviceId) (node : Node) → stands self.old network device node
+            → IsRipeAt network device node frame.now point result
+            × stands self.new network device (called moment ripening (after_ripe node moment (channel_of_link network link) frame.now point result)) };
+
+    /// An event turns the device on, which is off and not broken.
+    fn turn_on(&mut self)
+        requires off { (network : Network) (device : DeviceId) (node : Node) → stands self.old network device node
+            → (node.standing.state ≡ Off) × (node.broken ≡ false) }
+        ensures { (network : Network) (device : DeviceId) (node : Node) → stands self.old network device node
+            → stands self.new network device (node_turned_on node) };
+
+    /// The device's state after the calls so far.
+    fn state(&self) -> State
+        ensures { (network : Network) (device : DeviceId) (node : Node) → stands self.now network device node
+            → result ≡ node.standing.state };
+
+    /// Its adjustment after the calls so far, in units of 2^-16 ns.
+    fn adjustment(&self) -> Units
+        ensures { (network : Network) (device : DeviceId) (node : Node) → stands self.now network device node
+            → result ≡ node.standing.adjustment };
+}
