@@ -11,7 +11,9 @@ use Rattle.net_plan.specs.declared.event.What.TheVariants.{End}
 use Rattle.net_plan.specs.declared.ids.DeviceId.{DeviceId}
 use Rattle.net_plan.specs.declared.network.Network.{Network}
 use Rattle.run_law.specs.Order.{IsBefore}
-use Rattle.run_law.specs.Records.{rank, key, EndsAt, IsEventRecord, IsCaused, IsDue}
+use Rattle.run_law.specs.Ranks.{rank, key}
+use Rattle.run_law.specs.Records.{EndsAt, IsEventRecord}
+use Rattle.run_law.specs.Silent.{IsSilentlyCaused, IsSilentlyDue}
 use Rattle.run_law.specs.declared.note.Note.{Note}
 use Rattle.run_law.specs.declared.note.NoteBody.{NoteBody}
 use Rattle.run_law.specs.declared.note.NoteBody.TheVariants.{Event as Befalls, Clock}
@@ -65,35 +67,38 @@ event_before events now time line what past r =
     by_time (amount time) (amount now) (1 ∷ line ∷ []) (1 ∷ (length events + 1) ∷ []) le (inr (refl, inl (omega (arith, r.line_is))))
 
 -- while the run is open, all that is due is before the record of the next event
-pub open_before : (network : Network) (reading : DeviceId → ℕ → ℕ) (events : List Event) (now time : Units) (body : NoteBody) → IsOpen events → ArePast events now → IsCaused network reading events time body → IsBefore (amount time ∷ rank body ∷ key body ∷ []) (next_event events now)
+pub open_before : (network : Network) (reading : DeviceId → ℕ → ℕ) (events : List Event) (now time : Units) (body : NoteBody) → IsOpen events → ArePast events now → IsSilentlyCaused network reading events time body → IsBefore (amount time ∷ rank body ∷ key 0 body) (next_event events now)
 open_before network reading events now time (Befalls line what) open_yet past cause = event_before events now time line what past cause
 open_before network reading events now time (Clock device shown adjustment state) open_yet past cause = absurd (open_yet time cause.ends)
+open_before network reading events now time other open_yet past cause = absurd cause
 
 -- what is due at the end of a run: a record of an event, or of a clock
 pub record IsClockPlace (network : Network) (now time : Units) (body : NoteBody) : Type 0 where
-  pub at : amount time ≡ amount now
-  pub kind : rank body ≡ 14
-  pub there : key body < length network.device
+  pub device : ℕ
+  pub place : amount time ∷ rank body ∷ key 0 body ≡ amount now ∷ 14 ∷ device ∷ []
+  pub there : device < length network.device
 
-pub ended_cases : (network : Network) (reading : DeviceId → ℕ → ℕ) (events : List Event) (now time : Units) (body : NoteBody) → ((t : Units) → EndsAt events t → t ≡ now) → ArePast events now → IsCaused network reading events time body → IsBefore (amount time ∷ rank body ∷ key body ∷ []) (next_event events now) ⊎ IsClockPlace network now time body
+pub ended_cases : (network : Network) (reading : DeviceId → ℕ → ℕ) (events : List Event) (now time : Units) (body : NoteBody) → ((t : Units) → EndsAt events t → t ≡ now) → ArePast events now → IsSilentlyCaused network reading events time body → IsBefore (amount time ∷ rank body ∷ key 0 body) (next_event events now) ⊎ IsClockPlace network now time body
 ended_cases network reading events now time (Befalls line what) one past cause = inl (event_before events now time line what past cause)
 ended_cases network reading events now time (Clock device shown adjustment state) one past cause =
-    inr (record { at = ap amount (one time cause.ends); kind = refl; there = slice_get_within network.device device.0 cause.is cause.there })
+    inr (record { device = device.0; place = ap (λ (t : Units). amount t ∷ 14 ∷ device.0 ∷ []) (one time cause.ends); there = slice_get_within network.device device.0 cause.is cause.there })
+ended_cases network reading events now time other one past cause = absurd cause
 
 -- ---- one event more
 
 -- an event's record is one under one event more
-more_caused : (network : Network) (reading later : DeviceId → ℕ → ℕ) (events : List Event) (e : Event) (time : Units) (body : NoteBody) → IsOpen events → IsCaused network reading events time body → IsCaused network later (events ++ e ∷ []) time body
+more_caused : (network : Network) (reading later : DeviceId → ℕ → ℕ) (events : List Event) (e : Event) (time : Units) (body : NoteBody) → IsOpen events → IsSilentlyCaused network reading events time body → IsSilentlyCaused network later (events ++ e ∷ []) time body
 more_caused network reading later events e time (Befalls line what) open_yet r =
     record { event = r.event; before = r.before; line_is = r.line_is; is = get_old events r.before r.event e r.is; at = r.at; same = r.same }
 more_caused network reading later events e time (Clock device shown adjustment state) open_yet r = absurd (open_yet time r.ends)
+more_caused network reading later events e time other open_yet r = absurd r
 
-pub more_due : (network : Network) (reading later : DeviceId → ℕ → ℕ) (events : List Event) (e : Event) (ps : List Note) (y : Note) → IsOpen events → IsDue network reading events ps y → IsDue network later (events ++ e ∷ []) ps y
+pub more_due : (network : Network) (reading later : DeviceId → ℕ → ℕ) (events : List Event) (e : Event) (ps : List Note) (y : Note) → IsOpen events → IsSilentlyDue network reading events ps y → IsSilentlyDue network later (events ++ e ∷ []) ps y
 more_due network reading later events e ps y open_yet d = record { number = d.number; begun = d.begun; cause = more_caused network reading later events e y.time y.body open_yet d.cause }
 
 -- what is due under one event more was due, or is the record of that event, or of a clock at its time
-pub less_caused : (network : Network) (reading later : DeviceId → ℕ → ℕ) (events : List Event) (e : Event) (time : Units) (body : NoteBody) → IsOpen events → IsCaused network later (events ++ e ∷ []) time body
-    → IsCaused network reading events time body ⊎ ((amount time ∷ rank body ∷ key body ∷ [] ≡ next_event events e.time) ⊎ ((amount time ≡ amount e.time) × (rank body ≡ 14)))
+pub less_caused : (network : Network) (reading later : DeviceId → ℕ → ℕ) (events : List Event) (e : Event) (time : Units) (body : NoteBody) → IsOpen events → IsSilentlyCaused network later (events ++ e ∷ []) time body
+    → IsSilentlyCaused network reading events time body ⊎ ((amount time ∷ rank body ∷ key 0 body ≡ next_event events e.time) ⊎ ((amount time ≡ amount e.time) × (rank body ≡ 14)))
 less_caused network reading later events e time (Befalls line what) open_yet r =
     elim (get_cases events r.before r.event e r.is) [
       | inl old ↦ inl (record { event = r.event; before = r.before; line_is = r.line_is; is = old; at = r.at; same = r.same })
@@ -108,3 +113,4 @@ less_caused network reading later events e time (Clock device shown adjustment s
       | inl old ↦ absurd (open_yet time old)
       | inr last ↦ inr (inr (ap (λ (f : Event). amount f.time) (sym (only_one e end last)), refl))
     ]
+less_caused network reading later events e time other open_yet r = absurd r

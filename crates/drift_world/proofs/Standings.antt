@@ -26,7 +26,8 @@ use Rattle.net_plan.specs.declared.network.Network.{Network}
 use Rattle.net_plan.specs.declared.tables.Device.{Device}
 use Rattle.run_law.specs.Hypothesis.{SetsFastRate}
 use Rattle.run_law.specs.Rates.{rate_steps}
-use Rattle.run_law.specs.Records.{EndsAt, IsCaused, IsDue, IsRunOf, place_of}
+use Rattle.run_law.specs.Records.{EndsAt}
+use Rattle.run_law.specs.Silent.{IsSilentlyCaused, IsSilentlyDue, IsSilentRunOf, silent_place}
 use Rattle.run_law.specs.declared.note.Note.{Note}
 use Rattle.run_law.specs.declared.note.NoteBody.{NoteBody}
 use Rattle.run_law.specs.declared.note.NoteBody.TheVariants.{Event as Befalls, Clock}
@@ -78,18 +79,18 @@ open_events fresh after_step reading network w events notes s closed time there 
 pub applied_run : {C : Type 0} (fresh : ℕ → C) (after_step : C → ℕ → ℤ → C) (reading : C → ℕ → ℕ) (network : Network) (w : Progress C) (events : List Event) (notes : List Note) (e : Event) (line : ℕ) (x : Note)
     → x ≡ event_note (w.given + 1) line e → line ≡ w.lines + 1 → w.ended ≡ false → pos 0 ≤ℤ w.now.0 → w.now.0 ≤ℤ e.time.0
     → Stands fresh after_step reading network w events notes
-    → IsRunOf network (reading_of fresh after_step reading network (events ++ e ∷ [])) (events ++ e ∷ []) (behind_events e.time) (notes ++ x ∷ [])
+    → IsSilentRunOf network (reading_of fresh after_step reading network (events ++ e ∷ [])) (events ++ e ∷ []) (behind_events e.time) (notes ++ x ∷ [])
 applied_run fresh after_step reading network w events notes e line x is next_line closed begun order s =
     let later : List Event = events ++ e ∷ [] in
     let own_begun : pos 0 ≤ℤ e.time.0 = omega (arith, ints, begun, order) in
     let old : DeviceId → ℕ → ℕ = reading_of fresh after_step reading network events in
     let now : DeviceId → ℕ → ℕ = reading_of fresh after_step reading network later in
-    let was : IsRunOf network old events (mark_of (record w { shown = 0 })) notes = subst (λ (n : ℕ). IsRunOf network old events (mark_of (record w { shown = n })) notes) (s.none_shown closed) s.run in
+    let was : IsSilentRunOf network old events (mark_of (record w { shown = 0 })) notes = subst (λ (n : ℕ). IsSilentRunOf network old events (mark_of (record w { shown = n })) notes) (s.none_shown closed) s.run in
     let run = event_run network old now events w.now e notes (open_events fresh after_step reading network w events notes s closed) s.in_order begun order own_begun was in
     let number : length notes + 1 ≡ w.given + 1 = omega (arith, s.given) in
     let line_is : length events + 1 ≡ line = omega (arith, next_line, s.lines) in
     let same : event_note (length notes + 1) (length events + 1) e ≡ x = ap (λ (n : ℕ). event_note n (length events + 1) e) number ∙ ap (λ (l : ℕ). event_note (w.given + 1) l e) line_is ∙ sym is in
-    subst (λ (y : Note). IsRunOf network now later (behind_events e.time) (notes ++ y ∷ [])) same run
+    subst (λ (y : Note). IsSilentRunOf network now later (behind_events e.time) (notes ++ y ∷ [])) same run
 
 -- an event befalls a world that stands so
 pub applied : {C : Type 0} (fresh : ℕ → C) (after_step : C → ℕ → ℤ → C) (reading : C → ℕ → ℕ) (network : Network) (w : Progress C) (events : List Event) (notes : List Note) (e : Event) (clocks : List C) (line : ℕ) (ended : Bool) (x : Note)
@@ -105,7 +106,7 @@ applied {C} fresh after_step reading network w events notes e clocks line ended 
     let v : ℕ → Progress C = λ n. record { network = w.network; clocks = clocks; lines = line; given = w.given + 1; now = e.time; ended = ended; shown = n } in
     record {
       same = s.same;
-      run = subst (λ (n : ℕ). IsRunOf network now later (mark_of (v n)) (notes ++ x ∷ [])) (sym none) run;
+      run = subst (λ (n : ℕ). IsSilentRunOf network now later (mark_of (v n)) (notes ++ x ∷ [])) (sym none) run;
       lines = omega (arith, next_line, s.lines, length-append events (e ∷ []));
       given = omega (arith, s.given, length-append notes (x ∷ []));
       now = sym (fold-append (λ (t : Units) (f : Event). f.time) (units_of 0) events (e ∷ []));
@@ -134,7 +135,7 @@ clock_shown {C} fresh after_step reading network w events notes device is clock 
     let is_own : clock ≡ own = some_is clock own (sym got ∙ s.clocks device few) in
     let shown : reading clock (amount w.now) ≡ reads device (amount w.now) =
     ap (λ (c : C). reading c (amount w.now)) is_own ∙ sym (reads_all after_step reading (fresh (amount network.grain)) w.now device events s.in_order) in
-    let due : IsDue network reads events notes x = record {
+    let due : IsSilentlyDue network reads events notes x = record {
       number = omega (arith, s.given);
       begun = begun;
       cause = record { is = is; there = there; ends = (s.ended w.now).1 (over, refl); reads = ap units_of shown; adjusted = refl; synchronised = refl };
@@ -155,14 +156,14 @@ clock_shown {C} fresh after_step reading network w events notes device is clock 
 -- ---- nothing is due
 
 pub none_open : {C : Type 0} (fresh : ℕ → C) (after_step : C → ℕ → ℤ → C) (reading : C → ℕ → ℕ) (network : Network) (w : Progress C) (events : List Event) (notes : List Note) (until : Units) → w.ended ≡ false → pos 0 ≤ℤ w.now.0 → w.now.0 <ℤ until.0
-    → Stands fresh after_step reading network w events notes → IsRunOf network (reading_of fresh after_step reading network events) events (amount until ∷ []) notes
+    → Stands fresh after_step reading network w events notes → IsSilentRunOf network (reading_of fresh after_step reading network events) events (amount until ∷ []) notes
 none_open fresh after_step reading network w events notes until closed begun lt s =
     let reads : DeviceId → ℕ → ℕ = reading_of fresh after_step reading network events in
-    let was : IsRunOf network reads events (mark_of (record w { shown = 0 })) notes = subst (λ (n : ℕ). IsRunOf network reads events (mark_of (record w { shown = n })) notes) (s.none_shown closed) s.run in
+    let was : IsSilentRunOf network reads events (mark_of (record w { shown = 0 })) notes = subst (λ (n : ℕ). IsSilentRunOf network reads events (mark_of (record w { shown = n })) notes) (s.none_shown closed) s.run in
     none_while_open network reads events w.now (amount until) notes (open_events fresh after_step reading network w events notes s closed) s.in_order (later_amount w.now until begun lt) was
 
 pub none_over : {C : Type 0} (fresh : ℕ → C) (after_step : C → ℕ → ℤ → C) (reading : C → ℕ → ℕ) (network : Network) (w : Progress C) (events : List Event) (notes : List Note) (until : Units) → length network.device ≤ w.shown → pos 0 ≤ℤ w.now.0 → w.now.0 <ℤ until.0
-    → Stands fresh after_step reading network w events notes → IsRunOf network (reading_of fresh after_step reading network events) events (amount until ∷ []) notes
+    → Stands fresh after_step reading network w events notes → IsSilentRunOf network (reading_of fresh after_step reading network events) events (amount until ∷ []) notes
 none_over fresh after_step reading network w events notes until all begun lt s =
     none_at_end network (reading_of fresh after_step reading network events) events w.now w.shown (amount until) notes (one_end fresh after_step reading network w events notes s) s.in_order all (later_amount w.now until begun lt) s.run
 
@@ -171,9 +172,10 @@ none_over fresh after_step reading network w events notes until all begun lt s =
 replicated : {X : Type 0} (n i : ℕ) (x : X) → i < n → slice_get (replicate n x) i ≡ Some x
 replicated n i x lt = slice_get-get_or (replicate n x) i x (omega (arith, length-replicate n x, lt)) ∙ ap Some (get_or-replicate n i x x lt)
 
-none_caused : (network : Network) (reading : DeviceId → ℕ → ℕ) (time : Units) (body : NoteBody) → IsCaused network reading [] time body → ⊥
+none_caused : (network : Network) (reading : DeviceId → ℕ → ℕ) (time : Units) (body : NoteBody) → IsSilentlyCaused network reading [] time body → ⊥
 none_caused network reading time (Befalls line what) r = let none = r.is in absurd cc
 none_caused network reading time (Clock device shown adjustment state) r = let there = r.ends in absurd (omega (arith, there.1))
+none_caused network reading time other r = absurd r
 
 -- a world begins so
 pub begun : {C : Type 0} (fresh : ℕ → C) (after_step : C → ℕ → ℤ → C) (reading : C → ℕ → ℕ) (network : Network) (clocks : List C) → clocks ≡ replicate (length network.device) (fresh (amount network.grain))
@@ -183,7 +185,7 @@ begun {C} fresh after_step reading network clocks all =
     let w : Progress C = record { network = network; clocks = clocks; lines = 0; given = 0; now = units_of 0; ended = false; shown = 0 } in
     record {
       same = refl;
-      run = empty_run place_of (IsDue network reads []) (mark_of w) (λ y d b. none_caused network reads y.time y.body d.cause);
+      run = empty_run silent_place (IsSilentlyDue network reads []) (mark_of w) (λ y d b. none_caused network reads y.time y.body d.cause);
       lines = refl;
       given = refl;
       now = refl;

@@ -2,7 +2,7 @@
 use Rattle.std.proofs.Common.{◌≡◌, ◌⊎◌, Bool, false, ℕ, zero, suc, ◌+◌, ◌<◌, ◌≤◌, ◌==◌, List, [], ◌∷◌, ◌++◌, length, if◌then◌else◌, pos, ◌≤ℤ◌, inl, inr, refl, sym, ap, subst, ◌∙◌, arith}
 use Rattle.std.proofs.Math.Dec.{eqb-suc-zero}
 use Rattle.std.proofs.lemmas.Bool.{cases_lt}
-use Rattle.drift_world.proofs.Due.{ArePast, IsOpen, IsClockPlace, next_event, open_before, ended_cases, more_due, less_caused, get_last}
+use Rattle.drift_world.proofs.Due.{ArePast, IsOpen, next_event, open_before, ended_cases, more_due, less_caused, get_last}
 use Rattle.drift_world.proofs.Times.{amounts}
 use Rattle.drift_world.specs.Notes.{event_note}
 use Rattle.drift_world.specs.Standing.{behind_events}
@@ -10,8 +10,10 @@ use Rattle.net_plan.specs.declared.event.Event.{Event}
 use Rattle.net_plan.specs.declared.ids.DeviceId.{DeviceId}
 use Rattle.net_plan.specs.declared.network.Network.{Network}
 use Rattle.run_law.specs.Order.{IsBefore, AllBefore}
-use Rattle.run_law.specs.Records.{rank, key, place_of, EndsAt, IsDue, IsRunOf}
+use Rattle.run_law.specs.Ranks.{rank, key}
+use Rattle.run_law.specs.Records.{EndsAt}
 use Rattle.run_law.specs.Runs.{IsRun}
+use Rattle.run_law.specs.Silent.{silent_place, IsSilentlyDue, IsSilentRunOf}
 use Rattle.run_law.specs.declared.note.Note.{Note}
 use Rattle.run_law.specs.declared.note.NoteBody.{NoteBody}
 use Rattle.run_law.proofs.Grow.{grow, move_mark, run_of_same}
@@ -31,12 +33,12 @@ not_later events now later p le b =
           subst (λ (t : ℕ). IsBefore p (t ∷ 1 ∷ (length events + 1) ∷ [])) same b
     ]
 
-no_clock : (t a now : ℕ) (body : NoteBody) (line : ℕ) → t ≡ a → now ≤ a → rank body ≡ 14 → IsBefore (t ∷ rank body ∷ key body ∷ []) (now ∷ 1 ∷ line ∷ []) → ⊥
+no_clock : (t a now : ℕ) (body : NoteBody) (line : ℕ) → t ≡ a → now ≤ a → rank body ≡ 14 → IsBefore (t ∷ rank body ∷ key 0 body) (now ∷ 1 ∷ line ∷ []) → ⊥
 no_clock t a now body line same le kind (inl lt) = absurd (omega arith)
 no_clock t a now body line same le kind (inr (e, inl lt)) = absurd (omega arith)
 no_clock t a now body line same le kind (inr (e, inr (f, b))) = absurd (omega arith)
 
-no_clock_behind : (t a : ℕ) (body : NoteBody) → t ≡ a → rank body ≡ 14 → IsBefore (t ∷ rank body ∷ key body ∷ []) (a ∷ 2 ∷ []) → ⊥
+no_clock_behind : (t a : ℕ) (body : NoteBody) → t ≡ a → rank body ≡ 14 → IsBefore (t ∷ rank body ∷ key 0 body) (a ∷ 2 ∷ []) → ⊥
 no_clock_behind t a body same kind (inl lt) = absurd (omega arith)
 no_clock_behind t a body same kind (inr (e, inl lt)) = absurd (omega arith)
 no_clock_behind t a body same kind (inr (e, inr (f, b))) = b
@@ -47,22 +49,22 @@ before_behind_events events now p b = chain p (next_event events now) (behind_ev
 
 -- the event's record is the next of the run
 pub event_run : (network : Network) (reading later : DeviceId → ℕ → ℕ) (events : List Event) (now : Units) (e : Event) (notes : List Note) → IsOpen events → ArePast events now → pos 0 ≤ℤ now.0 → now.0 ≤ℤ e.time.0 → pos 0 ≤ℤ e.time.0
-    → IsRunOf network reading events (behind_events now) notes → IsRunOf network later (events ++ e ∷ []) (behind_events e.time) (notes ++ event_note (length notes + 1) (length events + 1) e ∷ [])
+    → IsSilentRunOf network reading events (behind_events now) notes → IsSilentRunOf network later (events ++ e ∷ []) (behind_events e.time) (notes ++ event_note (length notes + 1) (length events + 1) e ∷ [])
 event_run network reading later events now e notes open_yet past begun order own_begun run =
     let x : Note = event_note (length notes + 1) (length events + 1) e in
     let spot : List ℕ = next_event events now in
     let here : List ℕ = next_event events e.time in
-    let WasDue : List Note → Note → Type 0 = IsDue network reading events in
-    let NowDue : List Note → Note → Type 0 = IsDue network later (events ++ e ∷ []) in
+    let WasDue : List Note → Note → Type 0 = IsSilentlyDue network reading events in
+    let NowDue : List Note → Note → Type 0 = IsSilentlyDue network later (events ++ e ∷ []) in
     let le : amount now ≤ amount e.time = amounts now e.time begun order in
-    let old : (ps : List Note) (y : Note) → WasDue ps y → IsBefore (place_of y) spot = λ ps y d. open_before network reading events now y.time y.body open_yet past d.cause in
+    let old : (ps : List Note) (y : Note) → WasDue ps y → IsBefore (silent_place y) spot = λ ps y d. open_before network reading events now y.time y.body open_yet past d.cause in
     let up : (p : List ℕ) → IsBefore p spot → IsBefore p here = λ p b. not_later events now e.time p le b in
-    let at_spot : IsRun place_of WasDue spot notes =
-    move_mark place_of WasDue (behind_events now) spot notes run
+    let at_spot : IsRun silent_place WasDue spot notes =
+    move_mark silent_place WasDue (behind_events now) spot notes run
     (λ n i. let at = parted n notes i in old at.0 n (run.founded at.0 at.1 n at.2).1)
-    (record { gap = λ ps qs y split b n d lt. before_behind_events events now (place_of y) lt }) in
-    let under_more : IsRun place_of NowDue spot notes =
-    run_of_same place_of WasDue NowDue spot notes (λ ps y d. more_due network reading later events e ps y open_yet d)
+    (record { gap = λ ps qs y split b n d lt. before_behind_events events now (silent_place y) lt }) in
+    let under_more : IsRun silent_place NowDue spot notes =
+    run_of_same silent_place WasDue NowDue spot notes (λ ps y d. more_due network reading later events e ps y open_yet d)
     (λ ps qs y split d b.
     elim (less_caused network reading later events e y.time y.body open_yet d.cause) [
       | inl was ↦ record { number = d.number; begun = d.begun; cause = was }
@@ -75,8 +77,8 @@ event_run network reading later events now e notes open_yet past begun order own
       begun = own_begun;
       cause = record { event = e; before = length events; line_is = refl; is = get_last events e; at = refl; same = refl };
     } in
-    let grown : IsRun place_of NowDue (behind here) (notes ++ x ∷ []) =
-    grow place_of NowDue spot notes x under_more (λ n i. up (place_of n) (under_more.within n i)) due
+    let grown : IsRun silent_place NowDue (behind here) (notes ++ x ∷ []) =
+    grow silent_place NowDue spot notes x under_more (λ n i. up (silent_place n) (under_more.within n i)) due
     (record {
       gap = λ ps qs y split b n d lt.
           elim (less_caused network reading later events e y.time y.body open_yet d.cause) [
@@ -85,12 +87,12 @@ event_run network reading later events now e notes open_yet past begun order own
             | inr (inr clock) ↦ absurd (no_clock (amount y.time) (amount e.time) (amount e.time) y.body (length events + 1) clock.0 (omega arith) clock.1 lt)
           ];
     }) in
-    move_mark place_of NowDue (behind here) (behind_events e.time) (notes ++ x ∷ []) grown
-    (λ n i. chain (place_of n) (behind here) (behind_events e.time) (grown.within n i) (inr (refl, inl (omega arith))))
+    move_mark silent_place NowDue (behind here) (behind_events e.time) (notes ++ x ∷ []) grown
+    (λ n i. chain (silent_place n) (behind here) (behind_events e.time) (grown.within n i) (inr (refl, inl (omega arith))))
     (record {
       gap = λ ps qs y split b n d lt.
           elim (less_caused network reading later events e y.time y.body open_yet d.cause) [
-            | inl was ↦ chain (place_of y) here (behind here) (up (place_of y) (old ps y (record { number = d.number; begun = d.begun; cause = was }))) (before_behind here)
+            | inl was ↦ chain (silent_place y) here (behind here) (up (silent_place y) (old ps y (record { number = d.number; begun = d.begun; cause = was }))) (before_behind here)
             | inr (inl same) ↦ subst (λ (p : List ℕ). IsBefore p (behind here)) (sym same) (before_behind here)
             | inr (inr clock) ↦ absurd (no_clock_behind (amount y.time) (amount e.time) y.body clock.0 clock.1 lt)
           ];
@@ -126,9 +128,6 @@ marks now (suc k) =
       high = λ p b. b;
     })
 
-at_clock : (network : Network) (now time : Units) (body : NoteBody) → IsClockPlace network now time body → amount time ∷ rank body ∷ key body ∷ [] ≡ clock_spot now (key body)
-at_clock network now time body c = ap (λ (t : ℕ). t ∷ rank body ∷ key body ∷ []) c.at ∙ ap (λ (r : ℕ). amount now ∷ r ∷ key body ∷ []) c.kind
-
 clock_less : (t d n : ℕ) (rest : List ℕ) → IsBefore (t ∷ 14 ∷ d ∷ []) (t ∷ 14 ∷ n ∷ rest) → (d < n) ⊎ (d ≡ n)
 clock_less t d n rest (inl lt) = absurd (omega arith)
 clock_less t d n rest (inr (e, inl lt)) = absurd (omega arith)
@@ -143,48 +142,48 @@ clock_before t d n (inr (e, inr (f, inr (g, b)))) = absurd b
 
 -- the clock's record is the next of the run
 pub clock_run : (network : Network) (reading : DeviceId → ℕ → ℕ) (events : List Event) (now : Units) (shown : ℕ) (notes : List Note) (x : Note) → ((t : Units) → EndsAt events t → t ≡ now) → ArePast events now
-    → place_of x ≡ clock_spot now shown → IsDue network reading events notes x
-    → IsRunOf network reading events (mark_at now shown) notes → IsRunOf network reading events (mark_at now (shown + 1)) (notes ++ x ∷ [])
+    → silent_place x ≡ clock_spot now shown → IsSilentlyDue network reading events notes x
+    → IsSilentRunOf network reading events (mark_at now shown) notes → IsSilentRunOf network reading events (mark_at now (shown + 1)) (notes ++ x ∷ [])
 clock_run network reading events now shown notes x one past spot due run =
     let mark : List ℕ = mark_at now shown in
     let here : List ℕ = clock_spot now shown in
-    let Due : List Note → Note → Type 0 = IsDue network reading events in
+    let Due : List Note → Note → Type 0 = IsSilentlyDue network reading events in
     let facts : IsMark now shown mark = marks now shown in
     let later : IsMark now (shown + 1) (mark_at now (shown + 1)) = marks now (shown + 1) in
-    let old : (y : Note) → IsBefore (place_of y) (next_event events now) → IsBefore (place_of y) mark = λ y b. facts.low (place_of y) (before_behind_events events now (place_of y) b) in
-    let before : AllBefore place_of notes (place_of x) = λ n i. subst (λ (p : List ℕ). IsBefore (place_of n) p) (sym spot) (facts.high (place_of n) (run.within n i)) in
-    let grown : IsRun place_of Due (behind (place_of x)) (notes ++ x ∷ []) =
-    grow place_of Due mark notes x run before due
+    let old : (y : Note) → IsBefore (silent_place y) (next_event events now) → IsBefore (silent_place y) mark = λ y b. facts.low (silent_place y) (before_behind_events events now (silent_place y) b) in
+    let before : AllBefore silent_place notes (silent_place x) = λ n i. subst (λ (p : List ℕ). IsBefore (silent_place n) p) (sym spot) (facts.high (silent_place n) (run.within n i)) in
+    let grown : IsRun silent_place Due (behind (silent_place x)) (notes ++ x ∷ []) =
+    grow silent_place Due mark notes x run before due
     (record {
       gap = λ ps qs y split b n d lt.
           elim (ended_cases network reading events now y.time y.body one past d.cause) [
             | inl event ↦ old y event
             | inr c ↦
-                let at = at_clock network now y.time y.body c in
-                let less : key y.body < shown = clock_before (amount now) (key y.body) shown (subst (λ (p : List ℕ). IsBefore p here) at (subst (λ (p : List ℕ). IsBefore (place_of y) p) spot lt)) in
-                subst (λ (p : List ℕ). IsBefore p mark) (sym at) (facts.clocks (key y.body) less)
+                let at = c.place in
+                let less : c.device < shown = clock_before (amount now) (c.device) shown (subst (λ (p : List ℕ). IsBefore p here) at (subst (λ (p : List ℕ). IsBefore (silent_place y) p) spot lt)) in
+                subst (λ (p : List ℕ). IsBefore p mark) (sym at) (facts.clocks (c.device) less)
           ];
     }) in
-    let up : (p : List ℕ) → IsBefore p here → IsBefore p (behind (place_of x)) = λ p b. chain p (place_of x) (behind (place_of x)) (subst (λ (q : List ℕ). IsBefore p q) (sym spot) b) (before_behind (place_of x)) in
-    move_mark place_of Due (behind (place_of x)) (mark_at now (shown + 1)) (notes ++ x ∷ []) grown
+    let up : (p : List ℕ) → IsBefore p here → IsBefore p (behind (silent_place x)) = λ p b. chain p (silent_place x) (behind (silent_place x)) (subst (λ (q : List ℕ). IsBefore p q) (sym spot) b) (before_behind (silent_place x)) in
+    move_mark silent_place Due (behind (silent_place x)) (mark_at now (shown + 1)) (notes ++ x ∷ []) grown
     (λ n i.
     elim (in_parts n notes (x ∷ []) i) [
-      | inl l ↦ chain (place_of n) here (mark_at now (shown + 1)) (facts.high (place_of n) (run.within n l)) (later.clocks shown (omega arith))
-      | inr (inl e) ↦ subst (λ (m : Note). IsBefore (place_of m) (mark_at now (shown + 1))) (sym e) (subst (λ (p : List ℕ). IsBefore p (mark_at now (shown + 1))) (sym spot) (later.clocks shown (omega arith)))
+      | inl l ↦ chain (silent_place n) here (mark_at now (shown + 1)) (facts.high (silent_place n) (run.within n l)) (later.clocks shown (omega arith))
+      | inr (inl e) ↦ subst (λ (m : Note). IsBefore (silent_place m) (mark_at now (shown + 1))) (sym e) (subst (λ (p : List ℕ). IsBefore p (mark_at now (shown + 1))) (sym spot) (later.clocks shown (omega arith)))
       | inr (inr none) ↦ absurd none
     ])
     (record {
       gap = λ ps qs y split b n d lt.
           elim (ended_cases network reading events now y.time y.body one past d.cause) [
-            | inl event ↦ up (place_of y) (facts.high (place_of y) (old y event))
+            | inl event ↦ up (silent_place y) (facts.high (silent_place y) (old y event))
             | inr c ↦
-                let at = at_clock network now y.time y.body c in
-                let less : key y.body < shown + 1 = clock_before (amount now) (key y.body) (shown + 1) (subst (λ (p : List ℕ). IsBefore p (clock_spot now (shown + 1))) at (later.high (place_of y) lt)) in
-                elim (cases_lt (key y.body) shown) [
-                  | inl sooner ↦ subst (λ (p : List ℕ). IsBefore p (behind (place_of x))) (sym at) (up (clock_spot now (key y.body)) (inr (refl, inr (refl, inl sooner))))
+                let at = c.place in
+                let less : c.device < shown + 1 = clock_before (amount now) (c.device) (shown + 1) (subst (λ (p : List ℕ). IsBefore p (clock_spot now (shown + 1))) at (later.high (silent_place y) lt)) in
+                elim (cases_lt (c.device) shown) [
+                  | inl sooner ↦ subst (λ (p : List ℕ). IsBefore p (behind (silent_place x))) (sym at) (up (clock_spot now (c.device)) (inr (refl, inr (refl, inl sooner))))
                   | inr ge ↦
-                      let same : key y.body ≡ shown = omega arith in
-                      subst (λ (p : List ℕ). IsBefore p (behind (place_of x))) (spot ∙ ap (clock_spot now) (sym same) ∙ sym at) (before_behind (place_of x))
+                      let same : c.device ≡ shown = omega arith in
+                      subst (λ (p : List ℕ). IsBefore p (behind (silent_place x))) (spot ∙ ap (clock_spot now) (sym same) ∙ sym at) (before_behind (silent_place x))
                 ]
           ];
     })
@@ -192,30 +191,30 @@ clock_run network reading events now shown notes x one past spot due run =
 -- ---- nothing is due
 
 -- where all that is due is before the mark, the run is that up to each later time
-up_to_time : (network : Network) (reading : DeviceId → ℕ → ℕ) (events : List Event) (mark later : List ℕ) (notes : List Note) → ((p : List ℕ) → IsBefore p mark → IsBefore p later) → ((ps : List Note) (y : Note) → IsDue network reading events ps y → IsBefore (place_of y) mark)
-    → IsRunOf network reading events mark notes → IsRunOf network reading events later notes
+up_to_time : (network : Network) (reading : DeviceId → ℕ → ℕ) (events : List Event) (mark later : List ℕ) (notes : List Note) → ((p : List ℕ) → IsBefore p mark → IsBefore p later) → ((ps : List Note) (y : Note) → IsSilentlyDue network reading events ps y → IsBefore (silent_place y) mark)
+    → IsSilentRunOf network reading events mark notes → IsSilentRunOf network reading events later notes
 up_to_time network reading events mark later notes up all run =
-    move_mark place_of (IsDue network reading events) mark later notes run (λ n i. up (place_of n) (run.within n i)) (record { gap = λ ps qs y split b n d lt. all ps y d })
+    move_mark silent_place (IsSilentlyDue network reading events) mark later notes run (λ n i. up (silent_place n) (run.within n i)) (record { gap = λ ps qs y split b n d lt. all ps y d })
 
 before_until : (now : Units) (shown until : ℕ) → amount now < until → (p : List ℕ) → IsBefore p (mark_at now shown) → IsBefore p (until ∷ [])
 before_until now shown until lt p b = chain p (clock_spot now shown) (until ∷ []) ((marks now shown).high p b) (inl lt)
 
 -- while the run is open, nothing is due behind the events
 pub none_while_open : (network : Network) (reading : DeviceId → ℕ → ℕ) (events : List Event) (now : Units) (until : ℕ) (notes : List Note) → IsOpen events → ArePast events now → amount now < until
-    → IsRunOf network reading events (mark_at now 0) notes → IsRunOf network reading events (until ∷ []) notes
+    → IsSilentRunOf network reading events (mark_at now 0) notes → IsSilentRunOf network reading events (until ∷ []) notes
 none_while_open network reading events now until notes open_yet past lt run =
     up_to_time network reading events (behind_events now) (until ∷ []) notes (before_until now 0 until lt)
-    (λ ps y d. before_behind_events events now (place_of y) (open_before network reading events now y.time y.body open_yet past d.cause)) run
+    (λ ps y d. before_behind_events events now (silent_place y) (open_before network reading events now y.time y.body open_yet past d.cause)) run
 
 -- once each clock has a record, nothing is due
 pub none_at_end : (network : Network) (reading : DeviceId → ℕ → ℕ) (events : List Event) (now : Units) (shown until : ℕ) (notes : List Note) → ((t : Units) → EndsAt events t → t ≡ now) → ArePast events now → length network.device ≤ shown → amount now < until
-    → IsRunOf network reading events (mark_at now shown) notes → IsRunOf network reading events (until ∷ []) notes
+    → IsSilentRunOf network reading events (mark_at now shown) notes → IsSilentRunOf network reading events (until ∷ []) notes
 none_at_end network reading events now shown until notes one past all lt run =
     let facts : IsMark now shown (mark_at now shown) = marks now shown in
     up_to_time network reading events (mark_at now shown) (until ∷ []) notes (before_until now shown until lt)
     (λ ps y d.
     elim (ended_cases network reading events now y.time y.body one past d.cause) [
-      | inl event ↦ facts.low (place_of y) (before_behind_events events now (place_of y) event)
-      | inr c ↦ subst (λ (p : List ℕ). IsBefore p (mark_at now shown)) (sym (at_clock network now y.time y.body c)) (facts.clocks (key y.body) (omega (arith, c.there)))
+      | inl event ↦ facts.low (silent_place y) (before_behind_events events now (silent_place y) event)
+      | inr c ↦ subst (λ (p : List ℕ). IsBefore p (mark_at now shown)) (sym c.place) (facts.clocks (c.device) (omega (arith, c.there)))
     ])
     run

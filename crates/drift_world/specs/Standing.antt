@@ -7,7 +7,8 @@ use Rattle.net_plan.specs.declared.event.Event.{Event}
 use Rattle.net_plan.specs.declared.ids.DeviceId.{DeviceId}
 use Rattle.net_plan.specs.declared.network.Network.{Network}
 use Rattle.run_law.specs.Faults.{BeginsOn}
-use Rattle.run_law.specs.Records.{EndsAt, IsRunOf}
+use Rattle.run_law.specs.Records.{EndsAt}
+use Rattle.run_law.specs.Silent.{IsSilentRunOf}
 use Rattle.run_law.specs.declared.note.Note.{Note}
 use Rattle.tte_units.specs.Amount.{amount, units_of}
 use Rattle.tte_units.specs.declared.units.Units.{Units}
@@ -33,7 +34,7 @@ mark_of world = if world.shown == 0 then behind_events world.now else amount wor
 -- world's parts are as these events and records leave them
 pub record Stands {C : Type 0} (fresh : ℕ → C) (after_step : C → ℕ → ℤ → C) (reading : C → ℕ → ℕ) (network : Network) (world : Progress C) (events : List Event) (notes : List Note) : Type 0 where
   pub same : world.network ≡ network
-  pub run : IsRunOf network (reading_of fresh after_step reading network events) events (mark_of world) notes
+  pub run : IsSilentRunOf network (reading_of fresh after_step reading network events) events (mark_of world) notes
   pub lines : world.lines ≡ length events
   pub given : world.given ≡ length notes
   pub now : world.now ≡ last_time events

@@ -6,7 +6,7 @@ ghost use Rattle.drift_world.specs.Standing.{AllBeginOn, Stands, behind_events};
 ghost use Rattle.net_plan.specs.declared.event.Event.{Event};
 ghost use Rattle.net_plan.specs.declared.network.Network.{Network};
 ghost use Rattle.run_law.specs.Hypothesis.{SetsFastRate};
-ghost use Rattle.run_law.specs.Records.{IsRunOf};
+ghost use Rattle.run_law.specs.Silent.{IsSilentRunOf};
 ghost use Rattle.run_law.specs.declared.note.Note.{Note};
 ghost use Rattle.trace_text.specs.Ranges.{IsOfNetwork};
 ghost use Rattle.tte_units.specs.Amount.{amount};
@@ -84,7 +84,7 @@ impl<'a, C: Clock> World<'a, C> {
         ensures stands { (network : Network) (events : List Event) (notes : List Note) → Stands C.fresh C.after_step C.reading network self.old events notes
             → IfOk result (λ note. Stands C.fresh C.after_step C.reading network self.new (events ++ event.now ∷ []) (notes ++ note ∷ [])) }
         ensures run { (network : Network) (events : List Event) (notes : List Note) → Stands C.fresh C.after_step C.reading network self.old events notes
-            → IfOk result (λ note. IsRunOf network (reading_of C.fresh C.after_step C.reading network (events ++ event.now ∷ [])) (events ++ event.now ∷ []) (behind_events event.now.time) (notes ++ note ∷ [])) }
+            → IfOk result (λ note. IsSilentRunOf network (reading_of C.fresh C.after_step C.reading network (events ++ event.now ∷ [])) (events ++ event.now ∷ []) (behind_events event.now.time) (notes ++ note ∷ [])) }
         ensures note { IfOk result (λ note. note ≡ event_note (self.old.given + 1) line event.now) }
         ensures err { OnErr result (self.new ≡ self.old) }
     {
@@ -114,7 +114,7 @@ impl<'a, C: Clock> World<'a, C> {
             → IfOk result (λ next. IfSome next (λ note. Stands C.fresh C.after_step C.reading network self.new events (notes ++ note ∷ []))) }
         ensures complete { (network : Network) (events : List Event) (notes : List Note) → Stands C.fresh C.after_step C.reading network self.old events notes
             → self.old.now.0 <ℤ until.0
-            → IfOk result (λ next. IfNone next (IsRunOf network (reading_of C.fresh C.after_step C.reading network events) events (amount until ∷ []) notes)) }
+            → IfOk result (λ next. IfNone next (IsSilentRunOf network (reading_of C.fresh C.after_step C.reading network events) events (amount until ∷ []) notes)) }
         ensures before { IfOk result (λ next. IfSome next (λ note. note.time.0 <ℤ until.0)) }
         ensures fewer { IfOk result (λ next. IfSome next (λ _. left_of self.new < left_of self.old)) }
         ensures none { IfOk result (λ next. IfNone next (self.new ≡ self.old)) }

@@ -8,7 +8,8 @@ use Rattle.net_plan.specs.declared.network.Network.{Network}
 use Rattle.net_plan.specs.declared.tables.Way.{Way}
 use Rattle.run_law.specs.Hypothesis.{ComesTooEarly, ComesTooLate, Violates, IsWithinHypothesis, IsOutsideBy, condition_number}
 use Rattle.run_law.specs.Order.{IsBefore, IsIn}
-use Rattle.run_law.specs.Silent.{rank, key, place_of, IsCaused, IsDue, IsRunOf}
+use Rattle.run_law.specs.Ranks.{rank, key}
+use Rattle.run_law.specs.Silent.{silent_place, IsSilentlyCaused, IsSilentlyDue, IsSilentRunOf}
 use Rattle.run_law.specs.declared.note.Note.{Note}
 use Rattle.run_law.specs.declared.note.NoteBody.{NoteBody}
 use Rattle.run_law.specs.declared.note.NoteBody.TheVariants.{Event as Befalls, Clock}
@@ -34,7 +35,7 @@ only_one event other (zero, there, at) = at
 only_one event other (suc i, there, at) = absurd (omega arith)
 
 -- under one event that is no end, what is due is its record
-at_first : (network : Network) (reading : DeviceId → ℕ → ℕ) (event : Event) (time : Units) (body : NoteBody) → (event.what ≡ End → ⊥) → IsCaused network reading (event ∷ []) time body → amount time ∷ rank body ∷ key body ∷ [] ≡ place_of (first_note event)
+at_first : (network : Network) (reading : DeviceId → ℕ → ℕ) (event : Event) (time : Units) (body : NoteBody) → (event.what ≡ End → ⊥) → IsSilentlyCaused network reading (event ∷ []) time body → amount time ∷ rank body ∷ key 0 body ≡ silent_place (first_note event)
 at_first network reading event time (Befalls line what) on cause =
     let only = only_event event cause.event cause.before cause.is in
     let times : time ≡ event.time = cause.at ∙ ap (λ (e : Event). e.time) (sym only.1) in
@@ -43,21 +44,21 @@ at_first network reading event time (Befalls line what) on cause =
 at_first network reading event time (Clock device shown adjustment state) on cause = absurd (on (ap (λ (e : Event). e.what) (only_one event _ cause.ends)))
 at_first network reading event time other on cause = absurd cause
 
-at_time : (event : Event) (m : Note) → IsIn m (first_note event ∷ []) → IsBefore (place_of m) ((amount event.time + 1) ∷ [])
+at_time : (event : Event) (m : Note) → IsIn m (first_note event ∷ []) → IsBefore (silent_place m) ((amount event.time + 1) ∷ [])
 at_time event m (inl e) = inl (omega (arith, ap (λ (n : Note). amount n.time) e))
 at_time event m (inr none) = absurd none
 
-pub one_event_run : (network : Network) (reading : DeviceId → ℕ → ℕ) (event : Event) → pos 0 ≤ℤ event.time.0 → (event.what ≡ End → ⊥) → IsRunOf network reading (event ∷ []) ((amount event.time + 1) ∷ []) (first_note event ∷ [])
+pub one_event_run : (network : Network) (reading : DeviceId → ℕ → ℕ) (event : Event) → pos 0 ≤ℤ event.time.0 → (event.what ≡ End → ⊥) → IsSilentRunOf network reading (event ∷ []) ((amount event.time + 1) ∷ []) (first_note event ∷ [])
 one_event_run network reading event begun on =
-    let IsDueHere : List Note → Note → Type 0 = IsDue network reading (event ∷ []) in
+    let IsDueHere : List Note → Note → Type 0 = IsSilentlyDue network reading (event ∷ []) in
     let n : Note = first_note event in
     let due : IsDueHere [] n = record { number = refl; begun = begun; cause = record { event = event; before = 0; line_is = refl; is = refl; at = refl; same = refl } } in
-    let start = empty_run place_of IsDueHere [] (λ y owed here. here) in
-    let first = grow place_of IsDueHere [] [] n start (λ m i. absurd i) due (record {
-      gap = λ ps qs y e before rest owed here. never_self (place_of n) (subst (λ (p : List ℕ). IsBefore p (place_of n)) (at_first network reading event y.time y.body on owed.cause) here);
+    let start = empty_run silent_place IsDueHere [] (λ y owed here. here) in
+    let first = grow silent_place IsDueHere [] [] n start (λ m i. absurd i) due (record {
+      gap = λ ps qs y e before rest owed here. never_self (silent_place n) (subst (λ (p : List ℕ). IsBefore p (silent_place n)) (at_first network reading event y.time y.body on owed.cause) here);
     }) in
-    move_mark place_of IsDueHere (behind (place_of n)) ((amount event.time + 1) ∷ []) (n ∷ []) first (at_time event) (record {
-      gap = λ ps qs y e before rest owed here. subst (λ (p : List ℕ). IsBefore p (behind (place_of n))) (sym (at_first network reading event y.time y.body on owed.cause)) (before_behind (place_of n));
+    move_mark silent_place IsDueHere (behind (silent_place n)) ((amount event.time + 1) ∷ []) (n ∷ []) first (at_time event) (record {
+      gap = λ ps qs y e before rest owed here. subst (λ (p : List ℕ). IsBefore p (behind (silent_place n))) (sym (at_first network reading event y.time y.body on owed.cause)) (before_behind (silent_place n));
     })
 
 -- ---- events within the hypothesis and outside

@@ -6,7 +6,10 @@ pub mod Grow
 pub mod SameSteps
 pub mod Determined
 pub mod NetworkRuns
-pub mod SilentDetermined
+pub mod SilentTimes
+pub mod SilentStates
+pub mod SilentDue
+pub mod SilentAgreement
 pub mod Decisions
 pub mod Conditions
 pub mod Decided

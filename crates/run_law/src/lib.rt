@@ -10,6 +10,7 @@ mod lone_master;
 mod machine;
 mod note;
 mod outside;
+mod silent_law;
 mod steps;
 
 pub use first_laws::{broken_are_still, deliveries_begin, sent_frames_come};
@@ -20,6 +21,7 @@ pub use lone_master::LoneMaster;
 pub use machine::Machine;
 pub use note::{Note, NoteBody};
 pub use outside::Outside;
+pub use silent_law::silent_runs_agree;
 pub use steps::{Act, Arrival, Moment, Ripe};
 
 #[cfg(test)]

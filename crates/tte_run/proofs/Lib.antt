@@ -14,6 +14,8 @@ pub mod RunRecords
 pub mod EventTimes
 pub mod TraceFaults
 pub mod Admitted
+pub mod ClockHistories
+pub mod SilentRuns
 pub mod RunAnswers
 pub mod RunGiven
 pub mod RunCompletes

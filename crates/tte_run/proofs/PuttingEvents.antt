@@ -12,9 +12,8 @@ use Rattle.run_law.specs.declared.note.Note.{Note}
 use Rattle.trace_text.specs.Ranges.{IsOfNetwork}
 use Rattle.tte_io.specs.Faults.{next_count}
 use Rattle.tte_io.specs.Told.{AppendsFront}
-use Rattle.tte_run.specs.PutRecords.{PutsEvent, PutsUntil, StandsExact}
+use Rattle.tte_run.specs.PutRecords.{AreSilentBefore, PutsEvent, PutsUntil, StandsExact}
 use Rattle.tte_run.specs.Putting.{Shown, PutsLines, PutFails}
-use Rattle.tte_run.specs.Running.{AreRecordsBefore}
 use Rattle.tte_run.specs.declared.status.Status.{Status}
 use Rattle.tte_run.specs.declared.status.Status.TheVariants.{OutOfMemory, WriteFault}
 use Rattle.tte_run.proofs.Puts.{PutsLines-more, PutsLines-fails}
@@ -71,7 +70,7 @@ no_memory_for_event network events notes until event first world next old new st
     subst (λ (w : Progress Segment). PutsEvent {T = Unit {0}} network events notes event w (Err OutOfMemory) old new) (sym same) here
 
 pub event_put : (network : Network) (events : List Event) (notes : List Note) (until : Units) (event : Event) (world next : Progress Segment) (note : Note) (old now new : Shown)
-    → (p : PutsUntil {T = Unit {0}} network events notes until world (Ok (tt {0})) old now) → StandsExact network next (events ++ event ∷ []) ((notes ++ p.more) ++ note ∷ []) → AreRecordsBefore network (events ++ event ∷ []) (behind_events event.time) ((notes ++ p.more) ++ note ∷ [])
+    → (p : PutsUntil {T = Unit {0}} network events notes until world (Ok (tt {0})) old now) → StandsExact network next (events ++ event ∷ []) ((notes ++ p.more) ++ note ∷ []) → AreSilentBefore network (events ++ event ∷ []) (behind_events event.time) ((notes ++ p.more) ++ note ∷ [])
     → Appends now.written new.written (note_line network note) → new.puts ≡ next_count now.puts → PutsEvent {T = Unit {0}} network events notes event next (Ok (tt {0})) old new
 event_put network events notes until event world next note old now new p stands run written counted =
     let more = events ++ event ∷ [] in
@@ -86,7 +85,7 @@ event_put network events notes until event world next note old now new p stands 
     }
 
 pub event_fails : (network : Network) (events : List Event) (notes : List Note) (until : Units) (event : Event) (world next : Progress Segment) (note : Note) (old now new : Shown)
-    → (p : PutsUntil {T = Unit {0}} network events notes until world (Ok (tt {0})) old now) → StandsExact network next (events ++ event ∷ []) ((notes ++ p.more) ++ note ∷ []) → AreRecordsBefore network (events ++ event ∷ []) (behind_events event.time) ((notes ++ p.more) ++ note ∷ [])
+    → (p : PutsUntil {T = Unit {0}} network events notes until world (Ok (tt {0})) old now) → StandsExact network next (events ++ event ∷ []) ((notes ++ p.more) ++ note ∷ []) → AreSilentBefore network (events ++ event ∷ []) (behind_events event.time) ((notes ++ p.more) ++ note ∷ [])
     → AppendsFront now.written new.written (note_line network note) → new.puts ≡ next_count now.puts → PutsEvent {T = Unit {0}} network events notes event next (Err WriteFault) old new
 event_fails network events notes until event world next note old now new p stands run front counted =
     let more = events ++ event ∷ [] in

@@ -13,7 +13,7 @@ use Rattle.net_plan.specs.declared.ids.DeviceId.{DeviceId}
 use Rattle.net_plan.specs.declared.network.Network.{Network}
 use Rattle.report_text.specs.NoteLine.{note_line, report_of}
 use Rattle.report_text.specs.Ranges.{IsBodyOf, IsNoteOf}
-use Rattle.run_law.specs.Records.{IsCaused, IsRunOf}
+use Rattle.run_law.specs.Silent.{IsSilentlyCaused, IsSilentRunOf}
 use Rattle.run_law.specs.declared.note.Note.{Note}
 use Rattle.run_law.specs.declared.note.NoteBody.{NoteBody}
 use Rattle.run_law.specs.declared.note.NoteBody.TheVariants.{Event as Befalls, Clock}
@@ -21,9 +21,8 @@ use Rattle.schedule_tables.proofs.EntryLemmas.{all_at}
 use Rattle.trace_text.specs.Ranges.{IsOfNetwork}
 use Rattle.tte_io.specs.Faults.{next_count}
 use Rattle.tte_io.specs.Told.{AppendsFront}
-use Rattle.tte_run.specs.PutRecords.{IsUnderway, PutsRest, PutsUntil, StandsExact}
+use Rattle.tte_run.specs.PutRecords.{AreSilentBefore, IsUnderway, PutsRest, PutsUntil, StandsExact}
 use Rattle.tte_run.specs.Putting.{Shown, PutsLines, PutFails}
-use Rattle.tte_run.specs.Running.{AreRecordsBefore}
 use Rattle.fault_hypothesis.specs.Watching.{AreOfNetwork}
 use Rattle.tte_run.specs.declared.status.Status.{Status}
 use Rattle.tte_run.specs.declared.status.Status.TheVariants.{Done, WriteFault, OutOfMemory}
@@ -33,13 +32,14 @@ use Rattle.tte_units.specs.declared.units.Units.{Units}
 
 -- ---- a record is of the network whose run it is in
 
-body_of : (network : Network) (reading : DeviceId → ℕ → ℕ) (events : List Event) (time : Units) (body : NoteBody) → AreOfNetwork network events → IsCaused network reading events time body → IsBodyOf network body
+body_of : (network : Network) (reading : DeviceId → ℕ → ℕ) (events : List Event) (time : Units) (body : NoteBody) → AreOfNetwork network events → IsSilentlyCaused network reading events time body → IsBodyOf network body
 body_of network reading events time (Befalls line what) all cause =
     let own : IsOfNetwork network cause.event.what = all_at (λ e. IsOfNetwork network e.what) events cause.before cause.event all cause.is in
     subst (λ (w : What). IsOfNetwork network w) (sym cause.same) own
 body_of network reading events time (Clock device shown adjustment state) all cause = slice_get_within network.device device.0 cause.is cause.there
+body_of network reading events time other all cause = absurd cause
 
-pub note_of : (network : Network) (reading : DeviceId → ℕ → ℕ) (events : List Event) (mark : List ℕ) (notes : List Note) (note : Note) → AreOfNetwork network events → IsRunOf network reading events mark (notes ++ note ∷ []) → IsNoteOf network note
+pub note_of : (network : Network) (reading : DeviceId → ℕ → ℕ) (events : List Event) (mark : List ℕ) (notes : List Note) (note : Note) → AreOfNetwork network events → IsSilentRunOf network reading events mark (notes ++ note ∷ []) → IsNoteOf network note
 note_of network reading events mark notes note all run =
     let due = run.founded notes [] note refl in
     body_of network reading events note.time note.body all due.1.cause
@@ -108,7 +108,7 @@ pub HasPut-same : (network : Network) (events : List Event) (notes : List Note) 
 HasPut-same network events notes world next old new same h = subst (λ (w : Progress Segment). HasPut network events notes w old new) (sym same) h
 
 pub until_all : (network : Network) (events : List Event) (notes : List Note) (until : Units) (world next : Progress Segment) (old new : Shown) → next ≡ world → (h : HasPut network events notes world old new)
-    → (world.now.0 <ℤ until.0 → AreRecordsBefore network events (amount until ∷ []) (notes ++ h.more)) → PutsUntil {T = Unit {0}} network events notes until next (Ok (tt {0})) old new
+    → (world.now.0 <ℤ until.0 → AreSilentBefore network events (amount until ∷ []) (notes ++ h.more)) → PutsUntil {T = Unit {0}} network events notes until next (Ok (tt {0})) old new
 until_all network events notes until world next old new same h all =
     let here : PutsUntil {T = Unit {0}} network events notes until world (Ok (tt {0})) old new = record { more = h.more; stands = h.stands; puts = h.puts; all = all } in
     subst (λ (w : Progress Segment). PutsUntil {T = Unit {0}} network events notes until w (Ok (tt {0})) old new) (sym same) here
@@ -133,7 +133,7 @@ pub rest_done : (network : Network) (events : List Event) (notes : List Note) (e
     → pos 0 ≤ℤ end.0 → world.now ≡ end → until.0 ≡ end.0 +ℤ pos 1 → PutsRest network events notes end world Done old new
 rest_done network events notes end until world old new p begun same after =
     let later : world.now.0 <ℤ until.0 = let now : world.now.0 ≡ end.0 = ap (λ (t : Units). t.0) same in omega (arith, ints, now, after) in
-    let all : AreRecordsBefore network events ((amount end + 1) ∷ []) (notes ++ p.more) = subst (λ (n : ℕ). AreRecordsBefore network events (n ∷ []) (notes ++ p.more)) (amount_after end until begun after) (p.all later) in
+    let all : AreSilentBefore network events ((amount end + 1) ∷ []) (notes ++ p.more) = subst (λ (n : ℕ). AreSilentBefore network events (n ∷ []) (notes ++ p.more)) (amount_after end until begun after) (p.all later) in
     record { more = p.more; stands = p.stands; puts = inl (refl, p.puts, all) }
 
 pub rest_cut : (network : Network) (events : List Event) (notes : List Note) (end until : Units) (world : Progress Segment) (status : Status) (old new : Shown) → PutsUntil {T = Unit {0}} network events notes until world (Err status) old new → PutsRest network events notes end world status old new

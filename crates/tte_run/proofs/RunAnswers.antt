@@ -1,5 +1,5 @@
 -- The answer for a network under the octets of a trace: what it begins with, and that it is one.
-use Rattle.std.proofs.Common.{◌≡◌, ◌⊎◌, ℕ, ◌+◌, List, [], ◌∷◌, ◌++◌, length, sym, ap, subst, ◌∙◌, inl, inr, append_assoc}
+use Rattle.std.proofs.Common.{◌≡◌, ◌⊎◌, ℕ, ◌+◌, ◌<◌, List, [], ◌∷◌, ◌++◌, length, Some, slice_get, arith, refl, sym, ap, subst, ◌∙◌, inl, inr, append_assoc}
 use Rattle.std.proofs.lemmas.List.{map-append}
 use Rattle.drift_world.specs.Notes.{event_note}
 use Rattle.drift_world.specs.Standing.{behind_events, last_time}
@@ -7,8 +7,13 @@ use Rattle.net_plan.specs.declared.event.Event.{Event}
 use Rattle.net_plan.specs.declared.network.Network.{Network}
 use Rattle.report_text.specs.NoteLine.{note_line, report_of}
 use Rattle.run_law.specs.Order.{IsBefore}
-use Rattle.run_law.specs.Records.{EndsAt}
+use Rattle.run_law.specs.Ranks.{key, members_in, place_of, rank}
+use Rattle.run_law.specs.Records.{EndsAt, IsCaused, IsDue}
+use Rattle.run_law.specs.Scenarios.{Scenario}
 use Rattle.run_law.specs.declared.note.Note.{Note}
+use Rattle.run_law.specs.declared.note.NoteBody.{NoteBody}
+use Rattle.run_law.specs.declared.note.NoteBody.TheVariants.{Event as Befalls}
+use Rattle.run_law.proofs.Grow.{empty_run}
 use Rattle.run_law.proofs.NetworkRuns.{run_is_one, earlier_run_is_front}
 use Rattle.run_law.proofs.Places.{before_next_time}
 use Rattle.tte_run.specs.Answering.{Answer}
@@ -17,10 +22,11 @@ use Rattle.tte_run.specs.TraceLine.{fault_lines, fault_status}
 use Rattle.tte_run.specs.Tracing.{AreAdmitted, HaveEnded, IsFault, behind_lines}
 use Rattle.tte_run.specs.declared.fault.TraceFault.{TraceFault}
 use Rattle.tte_run.specs.declared.status.Status.TheVariants.{Done}
-use Rattle.tte_units.specs.Amount.{amount}
+use Rattle.tte_units.specs.Amount.{amount, units_of}
 use Rattle.tte_units.specs.declared.units.Units.{Units}
 use Rattle.tte_run.proofs.Admitted.{IsStopped, admitted_front, admitted_in_order, admitted_none, admitted_one, ended_at, stopped_one}
-use Rattle.tte_run.proofs.RunRecords.{event_notes, event_notes-append, event_notes-more, events_run, later_begins, length-event_notes, notes_from, so_far_is}
+use Rattle.tte_run.proofs.RunRecords.{event_notes, event_notes-append, events_run, notes_from}
+use Rattle.tte_run.proofs.SilentRuns.{IsBuilt, so_far_of_silent}
 use Rattle.tte_run.proofs.TraceFaults.{end_has_no_fault, fault_one, fault_stops}
 
 -- ---- reports
@@ -38,26 +44,29 @@ report_begins network notes front rest order = (report_of network rest, ap (repo
 -- ---- the records so far
 
 -- of admitted events these are the events' records
-pub so_far_of : (network : Network) (octets : List ℕ) (events : List Event) (notes : List Note) → AreAdmitted network octets events → AreRecordsSoFar network events notes → notes ≡ event_notes events
-so_far_of network octets events notes all run = so_far_is network (clock_reading network events) events notes (admitted_in_order network octets events all) run
+event_notes_so_far : (network : Network) (octets : List ℕ) (events : List Event) → IsBuilt network → AreAdmitted network octets events → AreRecordsSoFar network events (event_notes events)
+event_notes_so_far network octets events built all =
+    so_far_of_silent network octets events (event_notes events) built all (events_run network (clock_reading network events) events (admitted_in_order network octets events all))
 
-pub event_notes_so_far : (network : Network) (octets : List ℕ) (events : List Event) → AreAdmitted network octets events → AreRecordsSoFar network events (event_notes events)
-event_notes_so_far network octets events all = events_run network (clock_reading network events) events (admitted_in_order network octets events all)
+so_far_of : (network : Network) (octets : List ℕ) (events : List Event) (notes : List Note) → IsBuilt network → AreAdmitted network octets events → AreRecordsSoFar network events notes → notes ≡ event_notes events
+so_far_of network octets events notes built all run =
+    run_is_one network (clock_reading network events) events (behind_events (last_time events)) notes (event_notes events) run (event_notes_so_far network octets events built all)
 
--- at first there are none
+under_two : (t r : ℕ) (rest : List ℕ) → IsBefore (t ∷ r ∷ rest) (0 ∷ 2 ∷ []) → r < 2
+under_two t r rest (inl less) = absurd (omega arith)
+under_two t r rest (inr (same, inl less)) = less
+under_two t r rest (inr (same, inr (two, none))) = absurd none
+
+-- at first nothing is due
+none_at_first : (s : Scenario) (time : Units) (members : ℕ) (body : NoteBody) → s.events ≡ [] → IsCaused s [] time body → IsBefore (amount time ∷ rank body ∷ key members body) (behind_events (units_of 0)) → ⊥
+none_at_first s time members (Befalls line what) none cause before = let there = subst (λ (es : List Event). slice_get es cause.before ≡ Some cause.event) none cause.is in absurd cc
+none_at_first s time members other none cause before = let low = under_two (amount time) _ _ before in absurd (omega (arith, low))
+
+-- so there are no records
 pub records_none : (network : Network) → AreRecordsSoFar network [] []
-records_none network = event_notes_so_far network [] [] (admitted_none network [])
-
--- an admitted event's record comes behind them
-pub records_more : (network : Network) (octets : List ℕ) (events : List Event) (e : Event) (notes : List Note) (note : Note) → AreAdmitted network octets (events ++ e ∷ []) → AreRecordsSoFar network events notes
-    → note ≡ event_note (length notes + 1) (length events + 1) e → AreRecordsSoFar network (events ++ e ∷ []) (notes ++ note ∷ [])
-records_more network octets events e notes note all run is =
-    let same = so_far_of network octets events notes (admitted_front network octets events (e ∷ []) all) run in
-    let number : length notes ≡ length events = ap length same ∙ length-event_notes events in
-    let last : note ≡ event_note (length events + 1) (length events + 1) e = is ∙ ap (λ (n : ℕ). event_note (n + 1) (length events + 1) e) number in
-    let joined : event_notes (events ++ e ∷ []) ≡ notes ++ note ∷ [] =
-    event_notes-more events e ∙ sym (ap (λ (t : List Note). t ++ note ∷ []) same ∙ ap (λ (t : Note). event_notes events ++ t ∷ []) last) in
-    subst (AreRecordsSoFar network (events ++ e ∷ [])) joined (event_notes_so_far network octets (events ++ e ∷ []) all)
+records_none network =
+    let s : Scenario = record { network = network; reading = clock_reading network []; events = [] } in
+    empty_run place_of (IsDue s) (behind_events (units_of 0)) (λ h due before. none_at_first s h.note.time (members_in h) h.note.body refl due.cause before)
 
 -- the records of more admitted events begin with them
 more_begins : (network : Network) (events all more : List Event) → all ≡ events ++ more → BeginWith (report_of network (event_notes all)) (report_of network (event_notes events))
@@ -85,25 +94,25 @@ answer_stops network octets events a (inr f) = faulty_stops network octets event
 -- ---- what an answer begins with
 
 -- an answer of all admitted events begins with their records
-stopped_begins : (network : Network) (octets : List ℕ) (events : List Event) (a : Answer) → AreAdmitted network octets events → IsWholeAnswer network octets events a ⊎ IsFaultyAnswer network octets events a
+stopped_begins : (network : Network) (octets : List ℕ) (events : List Event) (a : Answer) → IsBuilt network → AreAdmitted network octets events → IsWholeAnswer network octets events a ⊎ IsFaultyAnswer network octets events a
     → BeginWith a.lines (report_of network (event_notes events))
-stopped_begins network octets events a all (inl w) =
-    let r = later_begins network (clock_reading network events) events ((amount w.records.0 + 1) ∷ []) w.notes (admitted_in_order network octets events all) (up_to_end octets network events w.records.0 all w.records.1) w.records.2 in
+stopped_begins network octets events a built all (inl w) =
+    let r = earlier_run_is_front network (clock_reading network events) events (behind_events (last_time events)) ((amount w.records.0 + 1) ∷ []) (event_notes events) w.notes (up_to_end octets network events w.records.0 all w.records.1) (event_notes_so_far network octets events built all) w.records.2 in
     let report = report_begins network w.notes (event_notes events) r.0 r.1 in
     (report.0, ap (λ (b : Answer). b.lines) w.answer ∙ report.1)
-stopped_begins network octets events a all (inr f) =
-    let same = so_far_of network octets events f.notes all f.records in
+stopped_begins network octets events a built all (inr f) =
+    let same = so_far_of network octets events f.notes built all f.records in
     (fault_lines (length events + 1) f.fault, ap (λ (b : Answer). b.lines) f.answer ∙ ap (λ (ns : List Note). report_of network ns ++ fault_lines (length events + 1) f.fault) same)
 
 -- the answer begins with the records so far, of whichever first events
-pub answer_begins : (network : Network) (octets : List ℕ) (events : List Event) (notes : List Note) (a : Answer) → AreAdmitted network octets events → AreRecordsSoFar network events notes → IsTraceAnswer network octets a
+pub answer_begins : (network : Network) (octets : List ℕ) (events : List Event) (notes : List Note) (a : Answer) → IsBuilt network → AreAdmitted network octets events → AreRecordsSoFar network events notes → IsTraceAnswer network octets a
     → BeginWith a.lines (report_of network notes)
-answer_begins network octets events notes a all run i =
+answer_begins network octets events notes a built all run i =
     let stop = answer_stops network octets i.events a i.is in
     let more = admitted_one network octets events i.events all i.admitted stop in
-    let whole = stopped_begins network octets i.events a i.admitted i.is in
+    let whole = stopped_begins network octets i.events a built i.admitted i.is in
     let front = more_begins network events i.events more.0 more.1 in
-    subst (λ (ns : List Note). BeginWith a.lines (report_of network ns)) (sym (so_far_of network octets events notes all run)) (begin_further a.lines (report_of network (event_notes i.events)) (report_of network (event_notes events)) front whole)
+    subst (λ (ns : List Note). BeginWith a.lines (report_of network ns)) (sym (so_far_of network octets events notes built all run)) (begin_further a.lines (report_of network (event_notes i.events)) (report_of network (event_notes events)) front whole)
 
 -- ---- the answer where a trace ends with its end
 

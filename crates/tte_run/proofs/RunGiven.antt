@@ -30,6 +30,7 @@ use Rattle.tte_units.specs.Amount.{amount}
 use Rattle.tte_run.proofs.Frames.{Gives-behind}
 use Rattle.tte_run.proofs.OneAnswers.{one_given, widened}
 use Rattle.tte_run.proofs.Puts.{PutsLines-append, PutFails-behind}
+use Rattle.tte_run.proofs.SilentRuns.{IsBuilt, IsUpToEnd}
 use Rattle.tte_run.proofs.RunAnswers.{BeginWith, IsAllAdmitted, IsFaultBehind, all_is_whole, answer_begins, ended_begins, faulty_answer, faulty_is}
 
 -- ---- records put one after another
@@ -74,22 +75,18 @@ front_failed Is lines status old new begins cause fails =
 -- ---- while events are admitted
 
 -- the records so far were put, and then a read failed or memory ran out
-pub cut_so_far : (network : Network) (octets : List ℕ) (events : List Event) (notes : List Note) (status : Status) (old new : Shown) → AreAdmitted network octets events → AreRecordsSoFar network events notes
+pub cut_so_far : (network : Network) (octets : List ℕ) (events : List Event) (notes : List Note) (status : Status) (old new : Shown) → IsBuilt network → AreAdmitted network octets events → AreRecordsSoFar network events notes
     → (status ≡ ReadFault) ⊎ (status ≡ OutOfMemory) → PutsLines (report_of network notes) old new → GivesOne (IsTraceAnswer network octets) status old new
-cut_so_far network octets events notes status old new all run cause puts =
-    front_given (IsTraceAnswer network octets) (report_of network notes) status old new (λ a is. answer_begins network octets events notes a all run is) cause puts
+cut_so_far network octets events notes status old new built all run cause puts =
+    front_given (IsTraceAnswer network octets) (report_of network notes) status old new (λ a is. answer_begins network octets events notes a built all run is) cause puts
 
 -- the put of one of the records so far failed
-pub failed_so_far : (network : Network) (octets : List ℕ) (events : List Event) (notes : List Note) (status : Status) (old new : Shown) → AreAdmitted network octets events → AreRecordsSoFar network events notes
+pub failed_so_far : (network : Network) (octets : List ℕ) (events : List Event) (notes : List Note) (status : Status) (old new : Shown) → IsBuilt network → AreAdmitted network octets events → AreRecordsSoFar network events notes
     → status ≡ WriteFault → PutFails (report_of network notes) old new → GivesOne (IsTraceAnswer network octets) status old new
-failed_so_far network octets events notes status old new all run cause fails =
-    front_failed (IsTraceAnswer network octets) (report_of network notes) status old new (λ a is. answer_begins network octets events notes a all run is) cause fails
+failed_so_far network octets events notes status old new built all run cause fails =
+    front_failed (IsTraceAnswer network octets) (report_of network notes) status old new (λ a is. answer_begins network octets events notes a built all run is) cause fails
 
 -- ---- behind the end
-
--- no place before the mark is behind the end
-abbrev pub IsUpToEnd : List Event → List ℕ → Type 0
-IsUpToEnd events mark = (p : List ℕ) → IsBefore p mark → IsBefore p ((amount (last_time events) + 1) ∷ [])
 
 -- records up to the end were put, and then memory ran out
 pub cut_ended : (network : Network) (octets : List ℕ) (events : List Event) (mark : List ℕ) (notes : List Note) (status : Status) (old new : Shown) → IsAllAdmitted network octets events → IsUpToEnd events mark → AreRecordsBefore network events mark notes

@@ -9,11 +9,12 @@ use Rattle.net_plan.specs.declared.event.Event.{Event}
 use Rattle.net_plan.specs.declared.ids.DeviceId.{DeviceId}
 use Rattle.net_plan.specs.declared.network.Network.{Network}
 use Rattle.run_law.specs.Order.{IsBefore, IsIn, AllBefore}
-use Rattle.run_law.specs.Records.{rank, key, place_of, EndsAt, IsCaused, IsDue, IsRunOf}
+use Rattle.run_law.specs.Ranks.{rank, key}
+use Rattle.run_law.specs.Records.{EndsAt}
+use Rattle.run_law.specs.Silent.{silent_place, IsSilentlyCaused, IsSilentlyDue, IsSilentRunOf}
 use Rattle.run_law.specs.declared.note.Note.{Note}
 use Rattle.run_law.specs.declared.note.NoteBody.{NoteBody}
 use Rattle.run_law.specs.declared.note.NoteBody.TheVariants.{Event as Befalls, Clock}
-use Rattle.run_law.proofs.NetworkRuns.{run_is_one, earlier_run_is_front}
 use Rattle.tte_units.specs.Amount.{amount, units_of}
 use Rattle.tte_units.specs.declared.units.Units.{Units}
 
@@ -158,24 +159,24 @@ place_in : (before behind : List Event) (e : Event) → slice_get (before ++ e �
 place_in [] behind e = refl
 place_in (d ∷ before) behind e = place_in before behind e
 
--- ---- they are the run
+-- ---- they are the run of the silent cycle
 
 -- of events in order the records are in order
-before_line : (d e : Event) (i j : ℕ) → amount d.time ≤ amount e.time → i < j → IsBefore (place_of (event_note i i d)) (place_of (event_note j j e))
+before_line : (d e : Event) (i j : ℕ) → amount d.time ≤ amount e.time → i < j → IsBefore (silent_place (event_note i i d)) (silent_place (event_note j j e))
 before_line d e i j le lt = elim (cases_lt (amount d.time) (amount e.time)) [ inl less ↦ inl less | inr more ↦ inr (omega arith, inr (refl, inl lt)) ]
 
-before_mark : (e : Event) (i : ℕ) (last : Units) → amount e.time ≤ amount last → IsBefore (place_of (event_note i i e)) (behind_events last)
+before_mark : (e : Event) (i : ℕ) (last : Units) → amount e.time ≤ amount last → IsBefore (silent_place (event_note i i e)) (behind_events last)
 before_mark e i last le = elim (cases_lt (amount e.time) (amount last)) [ inl less ↦ inl less | inr more ↦ inr (omega arith, inl (omega arith)) ]
 
-all_before : (before behind : List Event) (e : Event) → IsInOrder 0 (before ++ e ∷ behind) → AllBefore place_of (event_notes before) (place_of (event_note (1 + length before) (1 + length before) e))
+all_before : (before behind : List Event) (e : Event) → IsInOrder 0 (before ++ e ∷ behind) → AllBefore silent_place (event_notes before) (silent_place (event_note (1 + length before) (1 + length before) e))
 all_before before behind e order note i =
     let o = of_event 1 before note i in
     let there = slice_get_within before o.at o.event o.there in
     let le = not_earlier 0 before behind e o.at o.event order o.there in
-    subst (λ (n : Note). IsBefore (place_of n) (place_of (event_note (1 + length before) (1 + length before) e))) (sym o.is) (before_line o.event e (1 + o.at) (1 + length before) le (omega arith))
+    subst (λ (n : Note). IsBefore (silent_place n) (silent_place (event_note (1 + length before) (1 + length before) e))) (sym o.is) (before_line o.event e (1 + o.at) (1 + length before) le (omega arith))
 
 is_due : (network : Network) (reading : DeviceId → ℕ → ℕ) (before behind : List Event) (e : Event) → IsInOrder 0 (before ++ e ∷ behind)
-    → IsDue network reading (before ++ e ∷ behind) (event_notes before) (event_note (1 + length before) (1 + length before) e)
+    → IsSilentlyDue network reading (before ++ e ∷ behind) (event_notes before) (event_note (1 + length before) (1 + length before) e)
 is_due network reading before behind e order =
     record {
       number = omega (arith, length-event_notes before);
@@ -184,19 +185,19 @@ is_due network reading before behind e order =
     }
 
 is_founded : (network : Network) (reading : DeviceId → ℕ → ℕ) (events : List Event) → IsInOrder 0 events → (ps qs : List Note) (note : Note) → event_notes events ≡ ps ++ note ∷ qs
-    → AllBefore place_of ps (place_of note) × IsDue network reading events ps note
+    → AllBefore silent_place ps (silent_place note) × IsSilentlyDue network reading events ps note
 is_founded network reading events order ps qs note whole =
     let c = cut_at 1 events ps qs note whole in
     let there : IsInOrder 0 (c.before ++ c.event ∷ c.behind) = subst (IsInOrder 0) c.order order in
     let at = event_note (1 + length c.before) (1 + length c.before) c.event in
-    let due : IsDue network reading events (event_notes c.before) at = subst (λ (es : List Event). IsDue network reading es (event_notes c.before) at) (sym c.order) (is_due network reading c.before c.behind c.event there) in
-    let both : AllBefore place_of (event_notes c.before) (place_of at) × IsDue network reading events (event_notes c.before) at = (all_before c.before c.behind c.event there, due) in
-    let here = subst (λ (ns : List Note). AllBefore place_of ns (place_of at) × IsDue network reading events ns at) (sym c.front) both in
-    subst (λ (n : Note). AllBefore place_of ps (place_of n) × IsDue network reading events ps n) (sym c.is) here
+    let due : IsSilentlyDue network reading events (event_notes c.before) at = subst (λ (es : List Event). IsSilentlyDue network reading es (event_notes c.before) at) (sym c.order) (is_due network reading c.before c.behind c.event there) in
+    let both : AllBefore silent_place (event_notes c.before) (silent_place at) × IsSilentlyDue network reading events (event_notes c.before) at = (all_before c.before c.behind c.event there, due) in
+    let here = subst (λ (ns : List Note). AllBefore silent_place ns (silent_place at) × IsSilentlyDue network reading events ns at) (sym c.front) both in
+    subst (λ (n : Note). AllBefore silent_place ps (silent_place n) × IsSilentlyDue network reading events ps n) (sym c.is) here
 
 -- what is due before the mark is the record of an event
-found : (network : Network) (reading : DeviceId → ℕ → ℕ) (events : List Event) (last time : Units) (body : NoteBody) → ((t : Units) → EndsAt events t → t ≡ last) → IsCaused network reading events time body
-    → IsBefore (amount time ∷ rank body ∷ key body ∷ []) (behind_events last) → (m : Note) × IsIn m (event_notes events) × (place_of m ≡ amount time ∷ rank body ∷ key body ∷ [])
+found : (network : Network) (reading : DeviceId → ℕ → ℕ) (events : List Event) (last time : Units) (body : NoteBody) → ((t : Units) → EndsAt events t → t ≡ last) → IsSilentlyCaused network reading events time body
+    → IsBefore (amount time ∷ rank body ∷ key 0 body) (behind_events last) → (m : Note) × IsIn m (event_notes events) × (silent_place m ≡ amount time ∷ rank body ∷ key 0 body)
 found network reading events last time (Befalls line what) one r here =
     let number : 1 + r.before ≡ line = omega (arith, r.line_is) in
     let at : amount r.event.time ≡ amount time = ap amount (sym r.at) in
@@ -205,25 +206,15 @@ found network reading events last time (Befalls line what) one r here =
 found network reading events last time (Clock device shown adjustment state) one r (inl less) = absurd (omega (arith, ap amount (one time r.ends)))
 found network reading events last time (Clock device shown adjustment state) one r (inr (same, inl less)) = absurd (omega arith)
 found network reading events last time (Clock device shown adjustment state) one r (inr (same, inr more)) = absurd (omega (arith, more.0))
+found network reading events last time other one r here = absurd r
 
--- the records of events in order are the run up to the last event
-pub events_run : (network : Network) (reading : DeviceId → ℕ → ℕ) (events : List Event) → AreInOrder events → IsRunOf network reading events (behind_events (last_time events)) (event_notes events)
+-- the records of events in order are the run of the silent cycle up to the last event
+pub events_run : (network : Network) (reading : DeviceId → ℕ → ℕ) (events : List Event) → AreInOrder events → IsSilentRunOf network reading events (behind_events (last_time events)) (event_notes events)
 events_run network reading events o = record {
   founded = is_founded network reading events o.order;
   full = λ ps qs note whole before rest due here. found network reading events (last_time events) note.time note.body o.last due.cause here;
   within = λ note i.
       let e = of_event 1 events note i in
-      subst (λ (n : Note). IsBefore (place_of n) (behind_events (last_time events))) (sym e.is)
+      subst (λ (n : Note). IsBefore (silent_place n) (behind_events (last_time events))) (sym e.is)
       (before_mark e.event (1 + e.at) (last_time events) (not_behind_last (units_of 0) events e.at e.event o.order e.there));
 }
-
--- and no others are
-pub so_far_is : (network : Network) (reading : DeviceId → ℕ → ℕ) (events : List Event) (notes : List Note) → AreInOrder events → IsRunOf network reading events (behind_events (last_time events)) notes
-    → notes ≡ event_notes events
-so_far_is network reading events notes o run = run_is_one network reading events (behind_events (last_time events)) notes (event_notes events) run (events_run network reading events o)
-
--- the run up to a later mark begins with them
-pub later_begins : (network : Network) (reading : DeviceId → ℕ → ℕ) (events : List Event) (mark : List ℕ) (notes : List Note) → AreInOrder events → ((p : List ℕ) → IsBefore p (behind_events (last_time events)) → IsBefore p mark) → IsRunOf network reading events mark notes
-    → (rest : List Note) × (notes ≡ event_notes events ++ rest)
-later_begins network reading events mark notes o up run =
-    earlier_run_is_front network reading events (behind_events (last_time events)) mark (event_notes events) notes up (events_run network reading events o) run

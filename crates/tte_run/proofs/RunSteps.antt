@@ -17,10 +17,10 @@ use Rattle.run_law.specs.declared.outside.Outside.TheVariants as conditions
 use Rattle.trace_text.specs.Ranges.{IsTime}
 use Rattle.tte_run.specs.Answering.{Gives, GivesOne}
 use Rattle.tte_run.specs.Following.{Follows, GivesEvent, GoesOn, Reads, ReadsOn}
-use Rattle.tte_run.specs.PutRecords.{PutsEvent, PutsOr, PutsOrRest, PutsRest, StandsExact}
+use Rattle.tte_run.specs.PutRecords.{AreSilentBefore, AreSilentSoFar, PutsEvent, PutsOr, PutsOrRest, PutsRest, StandsExact}
 use Rattle.tte_run.specs.Putting.{Shown, PutsLines}
 use Rattle.tte_run.specs.Refusing.{fault_answer}
-use Rattle.tte_run.specs.Running.{AreRecordsBefore, AreRecordsSoFar, IsTraceAnswer}
+use Rattle.tte_run.specs.Running.{IsTraceAnswer, clock_reading}
 use Rattle.tte_run.specs.Tracing.{AreAdmitted, HaveEnded, IsFault, behind_lines}
 use Rattle.tte_run.specs.declared.fault.TraceFault.{TraceFault}
 use Rattle.tte_run.specs.declared.fault.TraceStop.{TraceStop}
@@ -28,10 +28,12 @@ use Rattle.tte_run.specs.declared.fault.TraceStop.TheVariants.{Fault}
 use Rattle.tte_run.specs.declared.status.Status.{Status}
 use Rattle.tte_run.specs.declared.status.Status.TheVariants.{ReadFault}
 use Rattle.tte_run.specs.declared.trace.Trace.{Trace}
-use Rattle.tte_run.proofs.Admitted.{have_ended, last_is}
+use Rattle.tte_run.proofs.Admitted.{admitted_in_order, admitted_none, have_ended, last_is}
 use Rattle.tte_run.proofs.Puts.{PutsLines-none}
-use Rattle.tte_run.proofs.RunAnswers.{IsAllAdmitted, all_records, records_none}
+use Rattle.tte_run.proofs.RunAnswers.{IsAllAdmitted, all_records}
+use Rattle.tte_run.proofs.RunRecords.{events_run}
 use Rattle.tte_run.proofs.RunGiven.{cut_ended, cut_so_far, failed_ended, failed_so_far, fails_report, faulty_given, puts_report, whole_given}
+use Rattle.tte_run.proofs.SilentRuns.{IsBuilt, records_of_silent, so_far_of_silent}
 use Rattle.tte_run.proofs.WorldMarks.{mark_within}
 use Rattle.tte_units.specs.Amount.{amount}
 use Rattle.tte_units.specs.declared.units.Units.{Units}
@@ -45,30 +47,32 @@ pub record IsRunning (network : Network) (trace : Trace) (world : Progress Segme
   pub notes : List Note
   pub follows : Follows network events trace
   pub stands : StandsExact network world events notes
-  pub so_far : AreRecordsSoFar network events notes
+  pub so_far : AreSilentSoFar network events notes
+  pub built : IsBuilt network
   pub last : time ≡ last_time events
   pub time_is : IsTime time
   pub puts : PutsLines (report_of network notes) old now
   pub reads : (octets : List ℕ) → first ≡ Some octets → (rest : List ℕ) × (left ≡ Some rest) × Reads network octets events trace rest
 
-begins : (network : Network) (trace : Trace) (world : Progress Segment) (left : Option (List ℕ)) (s : Shown) → Follows network [] trace → StandsExact network world [] [] → ((octets : List ℕ) → Reads network octets [] trace octets)
+begins : (network : Network) (trace : Trace) (world : Progress Segment) (left : Option (List ℕ)) (s : Shown) → IsBuilt network → Follows network [] trace → StandsExact network world [] [] → ((octets : List ℕ) → Reads network octets [] trace octets)
     → IsRunning network trace world (record { 0 = pos 0 }) left left s s
-begins network trace world left s follows stands reads = record {
+begins network trace world left s built follows stands reads = record {
   events = [];
   notes = [];
   follows = follows;
   stands = stands;
-  so_far = records_none network;
+  so_far = events_run network (clock_reading network []) [] (admitted_in_order network [] [] (admitted_none network []));
+  built = built;
   last = refl;
   time_is = record { least = omega (arith, ints); most = omega (arith, ints) };
   puts = PutsLines-none s;
   reads = λ octets told. (octets, told, reads octets);
 }
 
-pub begins_with : (network same : Network) (trace : Trace) (world : Progress Segment) (left : Option (List ℕ)) (s : Shown) → network ≡ same → Follows network [] trace → StandsExact network world [] [] → ((octets : List ℕ) → Reads network octets [] trace octets)
+pub begins_with : (network same : Network) (trace : Trace) (world : Progress Segment) (left : Option (List ℕ)) (s : Shown) → network ≡ same → IsBuilt network → Follows network [] trace → StandsExact network world [] [] → ((octets : List ℕ) → Reads network octets [] trace octets)
     → IsRunning same trace world (record { 0 = pos 0 }) left left s s
-begins_with network same trace world left s is follows stands reads =
-    subst (λ (n : Network). IsRunning n trace world (record { 0 = pos 0 }) left left s s) is (begins network trace world left s follows stands reads)
+begins_with network same trace world left s is built follows stands reads =
+    subst (λ (n : Network). IsRunning n trace world (record { 0 = pos 0 }) left left s s) is (begins network trace world left s built follows stands reads)
 
 -- ---- the next event
 
@@ -135,7 +139,8 @@ goes_on network trace next world later time event first left after old now new r
   notes = r.notes ++ p.more;
   follows = gives.follows;
   stands = subst (λ (es : List Event). StandsExact network later es (r.notes ++ p.more)) p.befalls p.stands;
-  so_far = subst (λ (es : List Event). AreRecordsSoFar network es (r.notes ++ p.more)) p.befalls p.so_far;
+  so_far = subst (λ (es : List Event). AreSilentSoFar network es (r.notes ++ p.more)) p.befalls p.so_far;
+  built = r.built;
   last = sym (last_is r.events event);
   time_is = gives.range.time;
   puts = puts_report network r.notes p.more old now new r.puts p.puts;
@@ -154,17 +159,19 @@ for_told None P h = tt {0}
 for_told (Some octets) P h = h octets refl
 
 -- that was cut short at an event
-cut_given : (network : Network) (octets : List ℕ) (events : List Event) (notes more : List Note) (status : Status) (old now new : Shown) → AreAdmitted network octets events → AreRecordsSoFar network events (notes ++ more)
+cut_given : (network : Network) (octets : List ℕ) (events : List Event) (notes more : List Note) (status : Status) (old now new : Shown) → IsBuilt network → AreAdmitted network octets events → AreSilentSoFar network events (notes ++ more)
     → PutsLines (report_of network notes) old now → PutsOr {T = Unit {0}} (Err status) (report_of network more) now new → GivesOne (IsTraceAnswer network octets) status old new
-cut_given network octets events notes more status old now new all run puts (inl f) = failed_so_far network octets events (notes ++ more) status old new all run f.0 (fails_report network notes more old now new puts f.1)
-cut_given network octets events notes more status old now new all run puts (inr m) = cut_so_far network octets events (notes ++ more) status old new all run (inr m.0) (puts_report network notes more old now new puts m.1)
+cut_given network octets events notes more status old now new built all run puts (inl f) =
+    failed_so_far network octets events (notes ++ more) status old new built all (so_far_of_silent network octets events (notes ++ more) built all run) f.0 (fails_report network notes more old now new puts f.1)
+cut_given network octets events notes more status old now new built all run puts (inr m) =
+    cut_so_far network octets events (notes ++ more) status old new built all (so_far_of_silent network octets events (notes ++ more) built all run) (inr m.0) (puts_report network notes more old now new puts m.1)
 
 pub stops_at_event : (network : Network) (trace next : Trace) (world later : Progress Segment) (time : Units) (event : Event) (first left after : Option (List ℕ)) (status : Status) (old now new : Shown)
     → (r : IsRunning network trace world time first left old now) → ReadsNext network (r.events ++ event ∷ []) next first after
     → PutsEvent {T = Unit {0}} network r.events r.notes event later (Err status) now new → IfSome first (λ octets. GivesOne (IsTraceAnswer network octets) status old new)
 stops_at_event network trace next world later time event first left after status old now new r reads p =
     for_told first (λ octets. GivesOne (IsTraceAnswer network octets) status old new)
-    (λ octets told. cut_given network octets p.befallen r.notes p.more status old now new (admitted octets told) p.so_far r.puts p.puts)
+    (λ octets told. cut_given network octets p.befallen r.notes p.more status old now new r.built (admitted octets told) p.so_far r.puts p.puts)
   where
     admitted : (octets : List ℕ) → first ≡ Some octets → AreAdmitted network octets p.befallen
     admitted octets told =
@@ -178,7 +185,9 @@ pub stops_at_read : (network : Network) (trace : Trace) (world : Progress Segmen
     → IsRunning network trace world time first left old now → IfSome first (λ octets. GivesOne (IsTraceAnswer network octets) ReadFault old now)
 stops_at_read network trace world time first left old now r =
     for_told first (λ octets. GivesOne (IsTraceAnswer network octets) ReadFault old now)
-    (λ octets told. cut_so_far network octets r.events r.notes ReadFault old now (r.reads octets told).2.admitted r.so_far (inl refl) r.puts)
+    (λ octets told.
+    let all = (r.reads octets told).2.admitted in
+    cut_so_far network octets r.events r.notes ReadFault old now r.built all (so_far_of_silent network octets r.events r.notes r.built all r.so_far) (inl refl) r.puts)
 
 -- where the trace has a fault
 pub stops_at_fault : (network : Network) (trace : Trace) (world : Progress Segment) (time : Units) (first left : Option (List ℕ)) (fault : TraceFault) (number : ℕ) (status : Status) (old now new : Shown)
@@ -186,24 +195,29 @@ pub stops_at_fault : (network : Network) (trace : Trace) (world : Progress Segme
     → Gives (fault_answer number fault) status now new → IfSome first (λ octets. GivesOne (IsTraceAnswer network octets) status old new)
 stops_at_fault network trace world time first left fault number status old now new r count is g =
     for_told first (λ octets. GivesOne (IsTraceAnswer network octets) status old new)
-    (λ octets told. faulty_given network octets r.events r.notes fault status old now new (record { admitted = (r.reads octets told).2.admitted; is = is octets told }) r.so_far r.puts
+    (λ octets told. faulty_given network octets r.events r.notes fault status old now new (record { admitted = (r.reads octets told).2.admitted; is = is octets told }) (so_far_of_silent network octets r.events r.notes r.built (r.reads octets told).2.admitted r.so_far) r.puts
     (subst (λ (n : ℕ). Gives (fault_answer n fault) status now new) count g))
 
 -- where the trace has ended
-rest_given : (network : Network) (octets : List ℕ) (events : List Event) (notes : List Note) (time : Units) (world : Progress Segment) (status : Status) (old now new : Shown) → IsAllAdmitted network octets events → time ≡ last_time events
+rest_given : (network : Network) (octets : List ℕ) (events : List Event) (notes : List Note) (time : Units) (world : Progress Segment) (status : Status) (old now new : Shown) → IsBuilt network → IsAllAdmitted network octets events → time ≡ last_time events
     → PutsLines (report_of network notes) old now → (p : PutsRest network events notes time world status now new) → PutsOrRest network events notes p.more time status now new → GivesOne (IsTraceAnswer network octets) status old new
-rest_given network octets events notes time world status old now new all last puts p (inl d) =
-    let run = subst (λ (t : Units). AreRecordsBefore network events ((amount t + 1) ∷ []) (notes ++ p.more)) last d.2 in
+rest_given network octets events notes time world status old now new built all last puts p (inl d) =
+    let silent = subst (λ (t : Units). AreSilentBefore network events ((amount t + 1) ∷ []) (notes ++ p.more)) last d.2 in
+    let run = records_of_silent network octets events ((amount (last_time events) + 1) ∷ []) (notes ++ p.more) built all.admitted (λ q before. before) silent in
     whole_given network octets events (notes ++ p.more) status old new all (all_records events network octets (notes ++ p.more) all run) d.0 (puts_report network notes p.more old now new puts d.1)
-rest_given network octets events notes time world status old now new all last puts p (inr (inl f)) =
-    failed_ended network octets events (mark_of world) (notes ++ p.more) status old new all (mark_within network world events (notes ++ p.more) p.stands) p.stands.run f.0 (fails_report network notes p.more old now new puts f.1)
-rest_given network octets events notes time world status old now new all last puts p (inr (inr m)) =
-    cut_ended network octets events (mark_of world) (notes ++ p.more) status old new all (mark_within network world events (notes ++ p.more) p.stands) p.stands.run (inr m.0) (puts_report network notes p.more old now new puts m.1)
+rest_given network octets events notes time world status old now new built all last puts p (inr (inl f)) =
+    let up = mark_within network world events (notes ++ p.more) p.stands in
+    let run = records_of_silent network octets events (mark_of world) (notes ++ p.more) built all.admitted up p.stands.run in
+    failed_ended network octets events (mark_of world) (notes ++ p.more) status old new all up run f.0 (fails_report network notes p.more old now new puts f.1)
+rest_given network octets events notes time world status old now new built all last puts p (inr (inr m)) =
+    let up = mark_within network world events (notes ++ p.more) p.stands in
+    let run = records_of_silent network octets events (mark_of world) (notes ++ p.more) built all.admitted up p.stands.run in
+    cut_ended network octets events (mark_of world) (notes ++ p.more) status old new all up run (inr m.0) (puts_report network notes p.more old now new puts m.1)
 
 pub stops_at_end : (network : Network) (trace : Trace) (world later : Progress Segment) (time : Units) (first left : Option (List ℕ)) (status : Status) (old now new : Shown)
     → (r : IsRunning network trace world time first left old now) → ((octets : List ℕ) → first ≡ Some octets → (behind_lines (length r.events) octets ≡ []) × HaveEnded r.events)
     → PutsRest network r.events r.notes time later status now new → IfSome first (λ octets. GivesOne (IsTraceAnswer network octets) status old new)
 stops_at_end network trace world later time first left status old now new r ended p =
     for_told first (λ octets. GivesOne (IsTraceAnswer network octets) status old new)
-    (λ octets told. rest_given network octets r.events r.notes time later status old now new
+    (λ octets told. rest_given network octets r.events r.notes time later status old now new r.built
     (record { admitted = (r.reads octets told).2.admitted; ended = (ended octets told).1; none_left = (ended octets told).0 }) r.last r.puts p p.puts)

@@ -25,6 +25,7 @@ use Rattle.tte_run.proofs.Puts.{PutsLines-none}
 use Rattle.tte_run.proofs.PuttingRecords.{if_some}
 use Rattle.tte_run.proofs.RunAnswers.{records_none}
 use Rattle.tte_run.proofs.RunSteps.{IsRunning, ReadsAs}
+use Rattle.tte_run.proofs.SilentRuns.{so_far_of_silent}
 use Rattle.tte_units.specs.declared.units.Units.{Units}
 
 -- ---- what was written grew
@@ -82,7 +83,7 @@ takes_little network other trace next world time found first left after old now 
         events = r.events;
         admitted = h.2.admitted;
         notes = r.notes;
-        records = r.so_far;
+        records = so_far_of_silent network octets r.events r.notes r.built h.2.admitted r.so_far;
         between = now;
         puts = r.puts;
         more = more;
@@ -134,7 +135,7 @@ stops_behind network other trace next world time stop first left after old now s
         unbroken = o.2.1;
         taken = o.2.0.coming;
         notes = r.notes;
-        records = r.so_far;
+        records = so_far_of_silent network octets r.events r.notes r.built o.2.0.admitted r.so_far;
         puts = r.puts;
       },
     )))

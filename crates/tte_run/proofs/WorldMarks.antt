@@ -9,10 +9,9 @@ use Rattle.net_plan.specs.declared.network.Network.{Network}
 use Rattle.run_law.proofs.Places.{before_next_time}
 use Rattle.run_law.specs.Order.{IsBefore}
 use Rattle.run_law.specs.declared.note.Note.{Note}
-use Rattle.tte_run.specs.PutRecords.{StandsExact}
-use Rattle.tte_run.specs.Running.{AreRecordsBefore, AreRecordsSoFar}
+use Rattle.tte_run.specs.PutRecords.{AreSilentBefore, AreSilentSoFar, StandsExact}
 use Rattle.tte_run.proofs.Admitted.{last_is}
-use Rattle.tte_run.proofs.RunGiven.{IsUpToEnd}
+use Rattle.tte_run.proofs.SilentRuns.{IsUpToEnd}
 use Rattle.tte_units.specs.Amount.{amount}
 use Rattle.tte_units.specs.declared.units.Units.{Units}
 
@@ -34,19 +33,19 @@ mark_within network world events notes stands p b =
 -- ---- the records so far
 
 -- before the end, the records given are those so far
-pub so_far_open : (network : Network) (world : Progress Segment) (events : List Event) (notes : List Note) → StandsExact network world events notes → world.ended ≡ false → AreRecordsSoFar network events notes
+pub so_far_open : (network : Network) (world : Progress Segment) (events : List Event) (notes : List Note) → StandsExact network world events notes → world.ended ≡ false → AreSilentSoFar network events notes
 so_far_open network world events notes stands unended =
     let mark : mark_of world ≡ behind_events (last_time events) =
     ap (λ (n : ℕ). mark_at world.now n) (stands.none_shown unended) ∙ ap behind_events stands.now in
-    subst (λ (m : List ℕ). AreRecordsBefore network events m notes) mark stands.run
+    subst (λ (m : List ℕ). AreSilentBefore network events m notes) mark stands.run
 
 -- just behind an event's record too
-pub so_far_event : (network : Network) (events : List Event) (event : Event) (notes more : List Note) (note : Note) → AreRecordsBefore network (events ++ event ∷ []) (behind_events event.time) ((notes ++ more) ++ note ∷ [])
-    → AreRecordsSoFar network (events ++ event ∷ []) (notes ++ (more ++ note ∷ []))
+pub so_far_event : (network : Network) (events : List Event) (event : Event) (notes more : List Note) (note : Note) → AreSilentBefore network (events ++ event ∷ []) (behind_events event.time) ((notes ++ more) ++ note ∷ [])
+    → AreSilentSoFar network (events ++ event ∷ []) (notes ++ (more ++ note ∷ []))
 so_far_event network events event notes more note run =
     let befallen = events ++ event ∷ [] in
-    let so_far : AreRecordsSoFar network befallen ((notes ++ more) ++ note ∷ []) = subst (λ (t : Units). AreRecordsBefore network befallen (behind_events t) ((notes ++ more) ++ note ∷ [])) (sym (last_is events event)) run in
-    subst (λ (ns : List Note). AreRecordsSoFar network befallen ns) (append_assoc notes more (note ∷ [])) so_far
+    let so_far : AreSilentSoFar network befallen ((notes ++ more) ++ note ∷ []) = subst (λ (t : Units). AreSilentBefore network befallen (behind_events t) ((notes ++ more) ++ note ∷ [])) (sym (last_is events event)) run in
+    subst (λ (ns : List Note). AreSilentSoFar network befallen ns) (append_assoc notes more (note ∷ [])) so_far
 
 -- ---- worlds under the same events
 

@@ -2,18 +2,27 @@
 use Rattle.std.specs.Prelude.{◌≡◌, ◌⊎◌, ℕ, ◌+◌, ◌<ℤ◌, List, [], ◌∷◌, ◌++◌, Result, Ok, Err, OnOk}
 use Rattle.drift_clock.specs.Segment.{Segment, fresh_segment, stepped_segment, segment_reading}
 use Rattle.drift_world.specs.Progress.{Progress}
-use Rattle.drift_world.specs.Standing.{Stands}
+use Rattle.drift_world.specs.Standing.{Stands, behind_events, last_time}
 use Rattle.net_plan.specs.declared.event.Event.{Event}
 use Rattle.net_plan.specs.declared.network.Network.{Network}
 use Rattle.report_text.specs.NoteLine.{report_of}
+use Rattle.run_law.specs.Silent.{IsSilentRunOf}
 use Rattle.run_law.specs.declared.note.Note.{Note}
 use Rattle.tte_run.specs.Putting.{Shown, PutsLines, PutFails}
-use Rattle.tte_run.specs.Running.{AreRecordsBefore, AreRecordsSoFar}
+use Rattle.tte_run.specs.Running.{clock_reading}
 use Rattle.fault_hypothesis.specs.Watching.{AreOfNetwork}
 use Rattle.tte_run.specs.declared.status.Status.{Status}
 use Rattle.tte_run.specs.declared.status.Status.TheVariants.{Done, WriteFault, OutOfMemory}
 use Rattle.tte_units.specs.Amount.{amount}
 use Rattle.tte_units.specs.declared.units.Units.{Units}
+
+-- the records of the silent cycle's run under the events, before the mark
+abbrev pub AreSilentBefore : Network → List Event → List ℕ → List Note → Type 0
+AreSilentBefore network events mark notes = IsSilentRunOf network (clock_reading network events) events mark notes
+
+-- those that are earlier than the last event, and those of all events
+abbrev pub AreSilentSoFar : Network → List Event → List Note → Type 0
+AreSilentSoFar network events notes = AreSilentBefore network events (behind_events (last_time events)) notes
 
 -- the world of exact clocks stands where these events and records leave it
 abbrev pub StandsExact : Network → Progress Segment → List Event → List Note → Type 0
@@ -37,7 +46,7 @@ pub record PutsUntil {T : Type 0} (network : Network) (events : List Event) (not
   pub more : List Note
   pub stands : StandsExact network world events (notes ++ more)
   pub puts : PutsOr result (report_of network more) old new
-  pub all : OnOk result (world.now.0 <ℤ until.0 → AreRecordsBefore network events (amount until ∷ []) (notes ++ more))
+  pub all : OnOk result (world.now.0 <ℤ until.0 → AreSilentBefore network events (amount until ∷ []) (notes ++ more))
 
 -- the event befell the world, and the records up to its own were put; or that was cut short, before the event or after it
 pub record PutsEvent {T : Type 0} (network : Network) (events : List Event) (notes : List Note) (event : Event) (world : Progress Segment) (result : Result T Status) (old new : Shown) : Type 0 where
@@ -46,13 +55,13 @@ pub record PutsEvent {T : Type 0} (network : Network) (events : List Event) (not
   pub befalls : OnOk result (befallen ≡ events ++ event ∷ [])
   pub more : List Note
   pub stands : StandsExact network world befallen (notes ++ more)
-  pub so_far : AreRecordsSoFar network befallen (notes ++ more)
+  pub so_far : AreSilentSoFar network befallen (notes ++ more)
   pub puts : PutsOr result (report_of network more) old new
 
 -- the records up to the end were put; or the put of one failed, behind those before it; or memory ran out behind some
 abbrev pub PutsOrRest : Network → List Event → List Note → List Note → Units → Status → Shown → Shown → Type 0
 PutsOrRest network events notes more end status old new =
-    ((status ≡ Done) × PutsLines (report_of network more) old new × AreRecordsBefore network events ((amount end + 1) ∷ []) (notes ++ more))
+    ((status ≡ Done) × PutsLines (report_of network more) old new × AreSilentBefore network events ((amount end + 1) ∷ []) (notes ++ more))
     ⊎ ((status ≡ WriteFault) × PutFails (report_of network more) old new)
     ⊎ ((status ≡ OutOfMemory) × PutsLines (report_of network more) old new)
 

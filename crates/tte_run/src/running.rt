@@ -98,7 +98,8 @@ fn run_world<B: Source, K: Sink>(
     second: &mut B,
     out: &mut K,
 ) -> Status
-    requires { StandsExact accepted.now world.old [] [] }
+    requires begun { StandsExact accepted.now world.old [] [] }
+    requires built { IsUnbuilt accepted.now → ⊥ }
     ensures general { IfSome (B.left second.old) (λ trace. GivesOne (IsTraceAnswer accepted.now trace) result
         (shown_by K.written K.puts out.old) (shown_by K.written K.puts out.new)) }
     ensures statuses { IsRunStatus result }

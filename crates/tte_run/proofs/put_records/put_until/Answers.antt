@@ -1,10 +1,9 @@
 use Rattle.std.proofs.Common.{◌≡◌, ◌<◌, ◌<ℤ◌, ℕ, ◌∙◌, [], ◌∷◌, ◌++◌, inl, refl, subst, arith}
 use Rattle.drift_world.specs.Progress.{left_of}
 use Rattle.tte_io.specs.Faults.{Rose}
-use Rattle.tte_run.specs.Running.{AreRecordsBefore}
 use Rattle.tte_units.specs.Amount.{amount}
 use Rattle.run_law.specs.declared.note.Note.{Note as NoteValue}
-use Rattle.tte_run.specs.PutRecords.{StandsExact}
+use Rattle.tte_run.specs.PutRecords.{AreSilentBefore, StandsExact}
 use Rattle.tte_run.specs.Putting.{shown_by}
 use Rattle.tte_run.proofs.PuttingRecords.{HasPut-none, HasPut-more, HasPut-fails, HasPut-same, if_none, if_some, note_of, underway_still, until_all, until_fails, until_no_memory}
 use Rattle.tte_run.proofs.put_records.put_until.Goals as goal
@@ -55,8 +54,8 @@ returns-in-Ok-None-clause-puts g c events notes stands =
     let shown = shown_by g.K.Sink.written g.K.Sink.puts in
     let h = c.notes.invariant.puts events notes stands in
     let same = if_none c.in-Ok-None.field-0 (c.next.new.self ≡ c.notes.world) c.in-Ok-None.field-0-is c.in-Ok-None.ensures.none in
-    let all : c.notes.world.now.0 <ℤ c.args.until.0 → AreRecordsBefore network events (amount c.args.until ∷ []) (notes ++ h.more) =
-    λ before. if_none c.in-Ok-None.field-0 (AreRecordsBefore network events (amount c.args.until ∷ []) (notes ++ h.more)) c.in-Ok-None.field-0-is (c.in-Ok-None.ensures.complete network events (notes ++ h.more) h.stands before) in
+    let all : c.notes.world.now.0 <ℤ c.args.until.0 → AreSilentBefore network events (amount c.args.until ∷ []) (notes ++ h.more) =
+    λ before. if_none c.in-Ok-None.field-0 (AreSilentBefore network events (amount c.args.until ∷ []) (notes ++ h.more)) c.in-Ok-None.field-0-is (c.in-Ok-None.ensures.complete network events (notes ++ h.more) h.stands before) in
     until_all network events notes c.args.until c.notes.world c.next.new.self (shown c.args.out.now) (shown c.notes.out) same h all
 
 pub returns-in-Err-clause-puts : goal.returns-in-Err-clause-puts

@@ -18,6 +18,9 @@ returns-then-is_unbuilt-clause-general g c =
 pub begin-requires : goal.begin-requires
 begin-requires g c = subst (λ (n : Network). AllBeginOn n) c.network.ensures.value (all_begin_on c.network.result.now (λ unbuilt. false≢true (c.if-is_unbuilt.ensures.1 unbuilt)))
 
+pub run_world-requires-clause-built : goal.run_world-requires-clause-built
+run_world-requires-clause-built g c = subst (λ (n : Network). IsUnbuilt n → ⊥) c.network.ensures.value (λ unbuilt. false≢true (c.if-is_unbuilt.ensures.1 unbuilt))
+
 pub returns-in-Ok-clause-general : goal.returns-in-Ok-clause-general
 returns-in-Ok-clause-general g c =
     let shown = shown_by g.K.Sink.written g.K.Sink.puts in

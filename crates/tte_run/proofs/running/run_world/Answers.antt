@@ -11,7 +11,7 @@ use Rattle.tte_run.proofs.running.run_world.Goals as goal
 pub events-init : goal.events-init
 events-init g c = record {
   running = begins_with c.args.accepted.now c.network-network.result.now c.new-trace.result c.args.world.now (g.B.Source.left c.args.second.now) (shown_by g.K.Sink.written g.K.Sink.puts c.args.out.now)
-      (sym c.network-network.ensures.value) c.new-trace.ensures.follows c.requires c.new-trace.ensures.reads;
+      (sym c.network-network.ensures.value) (record { range = c.network-network.ensures.range; rules = c.network-network.ensures.rules; built = c.requires.built }) c.new-trace.ensures.follows c.requires.begun c.new-trace.ensures.reads;
   calm = refl;
   quiet = refl;
 }
