@@ -49,7 +49,7 @@ why_text whys.Correction = codes "correction"
 why_text whys.SyncClique = codes "sync_clique"
 why_text whys.AsyncClique = codes "async_clique"
 
--- the words for why a frame is dropped; a type that is none is in two hexadecimal digits
+-- the words for why a frame is dropped; an octet that names no type has two hexadecimal digits
 abbrev pub reason_words : Reason → Words
 reason_words reasons.Off = codes "off" ∷ []
 reason_words reasons.ColdStart = codes "coldstart" ∷ []
