@@ -1,17 +1,18 @@
 -- The characters of words: none is a space or an LF.
 use Rattle.std.proofs.lemmas.Bool.Decides.{nat_tests}
-use Rattle.std.proofs.Common.{◌≡◌, ℕ, suc, ◌<◌, ◌^◌, Bool, true, List, [], ◌∷◌, refl, arith}
+use Rattle.std.proofs.Common.{◌≡◌, ℕ, zero, suc, ◌<◌, ◌^◌, Bool, true, List, [], ◌∷◌, refl, ap, ◌∙◌, arith}
 use Rattle.std.specs.Prelude.{All, decimal, ℤ, pos, negsuc, nat_lt}
 use Rattle.std.specs.Fmt.{signed_decimal}
 use Rattle.std.specs.Char.{digit_value}
+use Rattle.std.specs.Int.{w32, byte_at, bytes_high_first, to_be_bytes}
 use Rattle.std.specs.Int.Signed.{mag}
 use Rattle.std.specs.List.{list_all}
 use Rattle.std.specs.Str.Parse.{AllDigits}
 use Rattle.std.proofs.lemmas.Fmt.{decimal_is_IsNumeral}
 use Rattle.std.proofs.lemmas.List.Elements.{All-cons, All-nil, All-weaker}
 use Rattle.std.proofs.lemmas.List.Sums.{AllPass-from_list_all}
-use Rattle.hex.specs.Hex.{IsBytes, is_hex_digit, encode_lower}
-use Rattle.hex.proofs.HexLemmas.{decode_of-ok, decode_of-encode_lower}
+use Rattle.hex.specs.Hex.{IsBytes, is_hex_digit, decode_of, encode_lower}
+use Rattle.hex.proofs.HexLemmas.{decode_of-ok, decode_of-same, decode_of-encode_lower}
 use Rattle.net_plan.specs.NameText.{is_name_character, IsNameText}
 
 -- the character is above ASCII's space
@@ -52,3 +53,27 @@ pub hex_visible : (octets : List ℕ) → IsBytes octets → IsVisible (encode_l
 hex_visible octets bytes =
     let text = encode_lower octets in
     All-weaker (λ c. is_hex_digit c ≡ true) (λ c. is_visible c ≡ true) hex_character text (decode_of-ok text octets (decode_of-encode_lower octets bytes)).1
+
+-- what a number's bytes are: each is below 256
+byte_at_small : (k n : ℕ) → byte_at k n < 256
+byte_at_small zero n = omega arith
+byte_at_small (suc k) n = omega arith
+
+IsBytes-cons : (b : ℕ) (rest : List ℕ) → b < 256 → IsBytes rest → IsBytes (b ∷ rest)
+IsBytes-cons b rest h hs zero = h
+IsBytes-cons b rest h hs (suc i) = hs i
+
+bytes_are_bytes : (k n : ℕ) → IsBytes (bytes_high_first k n)
+bytes_are_bytes zero n = λ i. omega arith
+bytes_are_bytes (suc k) n = IsBytes-cons (byte_at k n) (bytes_high_first k n) (byte_at_small k n) (bytes_are_bytes k n)
+
+pub octet_is_byte : (octet : ℕ) → octet < 2 ^ 8 → IsBytes (octet ∷ [])
+octet_is_byte octet h = IsBytes-cons octet [] (omega arith) (λ i. omega arith)
+
+pub word_is_bytes : (n : ℕ) → IsBytes (to_be_bytes w32 n)
+word_is_bytes n = bytes_are_bytes 4 n
+
+-- two texts of hexadecimal digits are one where the octets are
+pub same_octets : (octets others : List ℕ) → IsBytes octets → IsBytes others → encode_lower octets ≡ encode_lower others → octets ≡ others
+same_octets octets others h g same =
+    decode_of-same (encode_lower octets) octets others (decode_of-encode_lower octets h) (ap decode_of same ∙ decode_of-encode_lower others g)

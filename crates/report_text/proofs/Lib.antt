@@ -1,5 +1,8 @@
 pub mod Splits
 pub mod Characters
 pub mod Texts
+pub mod Visible
+pub mod Lines
+pub mod SameWords
 pub mod SameBodies
 pub mod SameReports

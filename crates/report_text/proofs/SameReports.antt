@@ -1,5 +1,5 @@
 -- Lists of records of one report are one.
-use Rattle.std.proofs.Common.{◌≡◌, ℕ, List, [], ◌∷◌, ◌++◌, length, refl, sym, ap, ◌∙◌, append_assoc, length-append, arith}
+use Rattle.std.proofs.Common.{◌≡◌, ℕ, List, [], ◌∷◌, ◌++◌, length, refl, sym, ap, subst, ◌∙◌, append_assoc, length-append, arith}
 use Rattle.std.specs.Prelude.{codes, decimal}
 use Rattle.std.specs.Fmt.{signed_decimal}
 use Rattle.std.specs.List.{concat}
@@ -9,64 +9,50 @@ use Rattle.net_plan.specs.Ranges.{IsInRange}
 use Rattle.net_plan.specs.declared.network.Network.{Network}
 use Rattle.run_law.specs.declared.note.Note.{Note}
 use Rattle.run_law.specs.declared.note.NoteBody.{NoteBody}
-use Rattle.run_law.specs.declared.note.NoteBody.TheVariants.{Event, Clock}
-use Rattle.sync_state.specs.declared.state.State.{State}
-use Rattle.sync_state.specs.declared.state.State.TheVariants.{Off, Integrating, Joining, Synchronised}
-use Rattle.trace_text.specs.EventLine.{device_name, what_text}
-use Rattle.trace_text.specs.Steps.{space}
+use Rattle.trace_text.specs.Steps.{space, is_space}
 use Rattle.tte_io.specs.Line.{lf}
 use Rattle.tte_units.specs.declared.units.Units.{Units}
 use Rattle.report_text.specs.Laws.{AreOfNetwork, OneReport}
-use Rattle.report_text.specs.NoteLine.{state_text, body_text, note_text, report_of}
-use Rattle.report_text.specs.Ranges.{IsBodyOf, IsNoteOf, IsBodyInRange, IsNoteInRange}
-use Rattle.report_text.proofs.Characters.{decimal_visible}
-use Rattle.report_text.proofs.SameBodies.{IsNamedApart, split_word, units_visible, same_units, same_body}
-use Rattle.report_text.proofs.Splits.{split_once}
-use Rattle.report_text.proofs.Texts.{is_lf, IsUnbroken, visible_unbroken, unbroken_append, unbroken_from_test, device_visible, what_unbroken}
-
--- the text of each record has no LF
-
-state_unbroken : (state : State) → IsUnbroken (state_text state)
-state_unbroken Off = unbroken_from_test (state_text Off) refl
-state_unbroken Integrating = unbroken_from_test (state_text Integrating) refl
-state_unbroken Joining = unbroken_from_test (state_text Joining) refl
-state_unbroken Synchronised = unbroken_from_test (state_text Synchronised) refl
-
--- two texts, a literal one behind the first and another
-then_more : (front literal back : List ℕ) → IsUnbroken front → IsUnbroken literal → IsUnbroken back → IsUnbroken (front ++ literal ++ back)
-then_more front literal back h l g = unbroken_append (front ++ literal) back (unbroken_append front literal h l) g
-
-body_unbroken : (network : Network) (body : NoteBody) → IsInRange network → IsBodyOf network body → IsBodyInRange body → IsUnbroken (body_text network body)
-unfolding body_text
-body_unbroken network (Event line what) n of_network h =
-    let begun = unbroken_append (codes "event ") (decimal line) (unbroken_from_test (codes "event ") refl) (visible_unbroken (decimal line) (decimal_visible line h.0)) in
-    then_more (codes "event " ++ decimal line) (codes " ") (what_text network what) begun (unbroken_from_test (codes " ") refl) (what_unbroken network what n of_network h.1)
-body_unbroken network (Clock d r a s) n of_network h =
-    let name = device_name network d in
-    let reading = signed_decimal r.0 in
-    let adjustment = signed_decimal a.0 in
-    let first = unbroken_append (codes "clock ") name (unbroken_from_test (codes "clock ") refl) (visible_unbroken name (device_visible network d n of_network)) in
-    let second = then_more (codes "clock " ++ name) (codes " reading ") reading first (unbroken_from_test (codes " reading ") refl) (visible_unbroken reading (units_visible r h.0)) in
-    let third = then_more (codes "clock " ++ name ++ codes " reading " ++ reading) (codes " adj ") adjustment second (unbroken_from_test (codes " adj ") refl) (visible_unbroken adjustment (units_visible a h.1)) in
-    then_more (codes "clock " ++ name ++ codes " reading " ++ reading ++ codes " adj " ++ adjustment) (codes " state ") (state_text s) third (unbroken_from_test (codes " state ") refl) (state_unbroken s)
+use Rattle.report_text.specs.NoteLine.{body_words, body_text, note_text, report_of}
+use Rattle.report_text.specs.Ranges.{IsNoteOf, IsNoteInRange}
+use Rattle.report_text.proofs.Characters.{IsVisible, decimal_visible}
+use Rattle.report_text.proofs.SameBodies.{IsPrintable, same_body}
+use Rattle.report_text.proofs.SameWords.{IsNamedApart, same_units}
+use Rattle.report_text.proofs.Splits.{IsSplit, split_once}
+use Rattle.report_text.proofs.Texts.{is_lf, IsUnbroken, visible_unbroken, visible_word, unbroken_spaced, line_unbroken}
+use Rattle.report_text.proofs.Visible.{units_visible, body_visible}
 
 -- a record of the network with its numbers in range
-record IsPrintable (network : Network) (note : Note) : Type 0 where
+record IsWritable (network : Network) (note : Note) : Type 0 where
   of_network : IsNoteOf network note
   in_range : IsNoteInRange note
 
-note_unbroken : (network : Network) (note : Note) → IsInRange network → IsPrintable network note → IsUnbroken (note_text network note)
-note_unbroken network note n h =
-    let number = decimal note.number in
-    let time = signed_decimal note.time.0 in
-    let spaced = unbroken_from_test (codes " ") refl in
-    let begun = then_more number (codes " ") time (visible_unbroken number (decimal_visible note.number h.in_range.number)) spaced (visible_unbroken time (units_visible note.time h.in_range.time)) in
-    then_more (number ++ codes " " ++ time) (codes " ") (body_text network note.body) begun spaced (body_unbroken network note.body n h.of_network h.in_range.body)
+body_of : (network : Network) (note : Note) → IsWritable network note → IsPrintable network note.body
+body_of network note h = record { of_network = h.of_network; in_range = h.in_range.body }
 
--- two records of one text are one
+-- the text of a record: two words, and what it says
 
 note_parts : (number time body : List ℕ) → number ++ codes " " ++ time ++ codes " " ++ body ≡ number ++ space ∷ (time ++ space ∷ body)
 note_parts number time body = simp append_assoc refl
+
+-- it has no LF
+body_unbroken : (network : Network) (note : Note) → IsInRange network → IsWritable network note → IsUnbroken (body_text network note.body)
+unfolding body_text
+body_unbroken network note n h = line_unbroken (body_words network note.body) (body_visible network note.body n h.of_network h.in_range.body)
+
+note_unbroken : (network : Network) (note : Note) → IsInRange network → IsWritable network note → IsUnbroken (note_text network note)
+note_unbroken network note n h =
+    let number = decimal note.number in
+    let time = signed_decimal note.time.0 in
+    let behind = unbroken_spaced time (body_text network note.body) (visible_unbroken time (units_visible note.time h.in_range.time)) (body_unbroken network note n h) in
+    let whole = unbroken_spaced number (time ++ space ∷ body_text network note.body) (visible_unbroken number (decimal_visible note.number h.in_range.number)) behind in
+    subst IsUnbroken (sym (note_parts number time (body_text network note.body))) whole
+
+-- two records of one text are one
+
+-- two texts, each a visible word, a space and more
+split_word : (w v rest more : List ℕ) → IsVisible w → IsVisible v → w ++ space ∷ rest ≡ v ++ space ∷ more → IsSplit w rest v more
+split_word w v rest more h g same = split_once is_space space w rest v more refl (visible_word w h) (visible_word v g) same
 
 made : ℕ → Units → NoteBody → Note
 made number time body = record { number = number; time = time; body = body }
@@ -75,7 +61,7 @@ same_parts : (number number' : ℕ) (time time' : Units) (body body' : NoteBody)
 same_parts number number' time time' body body' e f g =
     ap (λ n. made n time body) e ∙ ap (λ t. made number' t body) f ∙ ap (λ b. made number' time' b) g
 
-same_note : (network : Network) (note other : Note) → IsNamedApart network → IsPrintable network note → IsPrintable network other → note_text network note ≡ note_text network other → note ≡ other
+same_note : (network : Network) (note other : Note) → IsNamedApart network → IsWritable network note → IsWritable network other → note_text network note ≡ note_text network other → note ≡ other
 unfolding made
 same_note network note other apart h g same =
     let number = decimal note.number in
@@ -90,14 +76,14 @@ same_note network note other apart h g same =
     same_parts note.number other.number note.time other.time note.body other.body
     (decimal_injective note.number other.number h.in_range.number g.in_range.number first.fronts)
     (same_units note.time other.time h.in_range.time g.in_range.time second.fronts)
-    (same_body network note.body other.body apart h.of_network h.in_range.body g.of_network g.in_range.body second.backs)
+    (same_body network note.body other.body apart (body_of network note h) (body_of network other g) second.backs)
 
 -- two lists of one report are one
 
 is_some_text : (text rest : List ℕ) → text ++ codes "\n" ++ rest ≡ [] → ⊥
 is_some_text text rest e = omega (arith, ap length e, length-append (text ++ codes "\n") rest, length-append text (codes "\n"))
 
-head_of : (network : Network) (note : Note) (notes : List Note) → AreOfNetwork network (note ∷ notes) → IsPrintable network note
+head_of : (network : Network) (note : Note) (notes : List Note) → AreOfNetwork network (note ∷ notes) → IsWritable network note
 head_of network note notes h = record { of_network = All-head (IsNoteOf network) note notes h.of_network; in_range = All-head IsNoteInRange note notes h.in_range }
 
 tail_of : (network : Network) (note : Note) (notes : List Note) → AreOfNetwork network (note ∷ notes) → AreOfNetwork network notes
@@ -122,5 +108,5 @@ same_report network (note ∷ notes) (other ∷ others) apart h g same =
     ap (λ n. n ∷ notes) heads ∙ ap (λ ns. other ∷ ns) tails
 
 pub one_report : OneReport
-one_report network notes others in_range devices links h g same =
-    same_report network notes others (record { in_range = in_range; devices = devices; links = links }) h g same
+one_report network notes others in_range devices links vls h g same =
+    same_report network notes others (record { in_range = in_range; devices = devices; links = links; vls = vls }) h g same

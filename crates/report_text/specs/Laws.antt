@@ -7,17 +7,18 @@ use Rattle.net_plan.specs.declared.network.Network.{Network}
 use Rattle.report_text.specs.NoteLine.{report_of}
 use Rattle.report_text.specs.Ranges.{IsNoteOf, IsNoteInRange}
 use Rattle.run_law.specs.declared.note.Note.{Note}
+use Rattle.schedule_tables.specs.Schedule.{VlNameIsNew}
 
 -- records of the network with their numbers in range
 pub record AreOfNetwork (network : Network) (notes : List Note) : Type 0 where
   pub of_network : All (IsNoteOf network) notes
   pub in_range : All IsNoteInRange notes
 
--- where no two devices and no two links have one name, two lists of records whose reports have the same
--- octets are one
+-- where no two devices, no two links and no two virtual links have one name, two lists of records whose
+-- reports have the same octets are one
 abbrev pub OneReport : Type 0
 OneReport =
     (network : Network) (notes others : List Note)
-    → IsInRange network → ((i : ℕ) → DeviceIsNew network i) → ((i : ℕ) → LinkIsNew network i)
+    → IsInRange network → ((i : ℕ) → DeviceIsNew network i) → ((i : ℕ) → LinkIsNew network i) → ((i : ℕ) → VlNameIsNew network i)
     → AreOfNetwork network notes → AreOfNetwork network others
     → concat (report_of network notes) ≡ concat (report_of network others) → notes ≡ others

@@ -1,3 +1,4 @@
+pub mod NoteWords
 pub mod NoteLine
 pub mod Ranges
 pub mod Laws

@@ -1,30 +1,91 @@
--- The line of a record:
+-- The line of a record: words with single spaces between them, the first two its number and its time.
 --
---     NUMBER TIME event L TEXT                            an event, that of line L of the trace
---     NUMBER TIME clock DEVICE reading R adj A state S    a device's clock at the end
-use Rattle.std.specs.Prelude.{ℕ, ◌+◌, List, ◌++◌, map, codes, decimal}
+--     event L TEXT                                                    an event, that of line L of the trace
+--     arrived DEVICE LINK CAUSE clock T                               a protocol control frame arrives
+--     permanent DEVICE LINK CAUSE point P VERDICT                     it is permanent
+--     compressed DEVICE opened P at Q cycle C members M VERDICT       the frame of a collection is sent
+--     sent DEVICE cycle C                                             a master sends its frame
+--     corrected DEVICE cycle C by V adj A                             a device corrects its clock
+--     state DEVICE STATE CAUSE WHY                                    a device changes its state
+--     left DEVICE LINK CAUSE clock T                                  a protocol control frame leaves a device
+--     lost DEVICE LINK CAUSE                                          a frame meets a cut way
+--     ttsent DEVICE LINK CAUSE vl VL cycle C                          a time-triggered frame is dispatched
+--     accepted DEVICE LINK CAUSE vl VL cycle C                        a switch takes it
+--     delivered DEVICE LINK CAUSE vl VL cycle C                       an end system takes it
+--     dropped DEVICE LINK CAUSE REASON                                a frame is dropped
+--     clock DEVICE reading R adj A state STATE                        a device's clock at the end
+--
+-- DEVICE, LINK and VL are names, and CAUSE is a record's number or 0. M has eight hexadecimal digits; the
+-- other numbers are decimal.
+use Rattle.std.specs.Prelude.{ℕ, ◌+◌, List, [], ◌∷◌, ◌++◌, map, codes, decimal}
 use Rattle.std.specs.Fmt.{signed_decimal}
+use Rattle.std.specs.List.{join_with_byte}
+use Rattle.net_plan.specs.declared.ids.DeviceId.{DeviceId}
+use Rattle.net_plan.specs.declared.ids.LinkId.{LinkId}
+use Rattle.net_plan.specs.declared.ids.VlId.{VlId}
 use Rattle.net_plan.specs.declared.network.Network.{Network}
 use Rattle.run_law.specs.declared.note.Note.{Note}
 use Rattle.run_law.specs.declared.note.NoteBody.{NoteBody}
-use Rattle.run_law.specs.declared.note.NoteBody.TheVariants.{Event, Clock}
-use Rattle.sync_state.specs.declared.state.State.{State}
-use Rattle.sync_state.specs.declared.state.State.TheVariants.{Off, Integrating, Joining, Synchronised}
-use Rattle.trace_text.specs.EventLine.{device_name, what_text, longest_text}
+use Rattle.run_law.specs.declared.note.NoteBody.TheVariants.{Event, Arrived, Permanent, Compressed, Sent, Corrected, State, Left, Lost, TtSent, Accepted, Delivered, Dropped, Clock}
+use Rattle.trace_text.specs.EventLine.{device_name, link_name, what_words, longest_text}
+use Rattle.trace_text.specs.Steps.{Words, space}
+use Rattle.report_text.specs.NoteWords.{vl_name, members_text, state_text, judgement_text, why_text, reason_words}
 
--- the word of a state
-abbrev pub state_text : State → List ℕ
-state_text Off = codes "off"
-state_text Integrating = codes "integrating"
-state_text Joining = codes "joining"
-state_text Synchronised = codes "synchronised"
+-- where a frame is and what it comes from: the device, the link and the cause
+abbrev pub passage_words : Network → DeviceId → LinkId → ℕ → Words
+passage_words network device link cause = device_name network device ∷ link_name network link ∷ decimal cause ∷ []
 
--- what a record says, behind its number and its time; an event's text is its line without its time
+-- which time-triggered frame it is: that of a virtual link in a cycle
+abbrev pub stream_words : Network → VlId → ℕ → Words
+stream_words network vl cycle = codes "vl" ∷ vl_name network vl ∷ codes "cycle" ∷ decimal cycle ∷ []
+
+-- what the record of a frame that is lost or dropped says; of another record nothing
+abbrev pub loss_words : Network → NoteBody → Words
+loss_words network (Lost device link cause) = codes "lost" ∷ passage_words network device link cause
+loss_words network (Dropped device link cause reason) =
+    codes "dropped" ∷ (passage_words network device link cause ++ reason_words reason)
+loss_words network body = []
+
+-- what that of a time-triggered frame says that is sent or taken, or of a frame that is lost or dropped
+abbrev pub tt_words : Network → NoteBody → Words
+tt_words network (TtSent device link cause vl cycle) =
+    codes "ttsent" ∷ (passage_words network device link cause ++ stream_words network vl cycle)
+tt_words network (Accepted device link cause vl cycle) =
+    codes "accepted" ∷ (passage_words network device link cause ++ stream_words network vl cycle)
+tt_words network (Delivered device link cause vl cycle) =
+    codes "delivered" ∷ (passage_words network device link cause ++ stream_words network vl cycle)
+tt_words network body = loss_words network body
+
+-- what that of any frame says
+abbrev pub frame_words : Network → NoteBody → Words
+frame_words network (Arrived device link cause clock) =
+    codes "arrived" ∷ (passage_words network device link cause ++ codes "clock" ∷ decimal clock ∷ [])
+frame_words network (Permanent device link cause point verdict) =
+    codes "permanent" ∷ (passage_words network device link cause ++ codes "point" ∷ signed_decimal point.0 ∷ judgement_text verdict ∷ [])
+frame_words network (Left device link cause clock) =
+    codes "left" ∷ (passage_words network device link cause ++ codes "clock" ∷ decimal clock ∷ [])
+frame_words network body = tt_words network body
+
+-- what a record says, behind its number and its time; an event's words are those of its line without the time
+abbrev pub body_words : Network → NoteBody → Words
+body_words network (Event line what) = codes "event" ∷ decimal line ∷ what_words network what
+body_words network (Compressed device opened at cycle members verdict) =
+    codes "compressed" ∷ device_name network device ∷ codes "opened" ∷ signed_decimal opened.0 ∷ codes "at" ∷ signed_decimal at.0
+    ∷ codes "cycle" ∷ decimal cycle ∷ codes "members" ∷ members_text members ∷ judgement_text verdict ∷ []
+body_words network (Sent device cycle) = codes "sent" ∷ device_name network device ∷ codes "cycle" ∷ decimal cycle ∷ []
+body_words network (Corrected device cycle by adjustment) =
+    codes "corrected" ∷ device_name network device ∷ codes "cycle" ∷ decimal cycle
+    ∷ codes "by" ∷ signed_decimal by.0 ∷ codes "adj" ∷ signed_decimal adjustment.0 ∷ []
+body_words network (State device state cause why) =
+    codes "state" ∷ device_name network device ∷ state_text state ∷ decimal cause ∷ why_text why ∷ []
+body_words network (Clock device reading adjustment state) =
+    codes "clock" ∷ device_name network device ∷ codes "reading" ∷ signed_decimal reading.0
+    ∷ codes "adj" ∷ signed_decimal adjustment.0 ∷ codes "state" ∷ state_text state ∷ []
+body_words network body = frame_words network body
+
+-- its text
 unfoldable pub body_text : Network → NoteBody → List ℕ
-body_text network (Event line what) = codes "event " ++ decimal line ++ codes " " ++ what_text network what
-body_text network (Clock device reading adjustment state) =
-    codes "clock " ++ device_name network device ++ codes " reading " ++ signed_decimal reading.0
-    ++ codes " adj " ++ signed_decimal adjustment.0 ++ codes " state " ++ state_text state
+body_text network body = join_with_byte space (body_words network body)
 
 -- how many octets that text has at most: where it has an event's longest text
 abbrev pub longest_body : ℕ

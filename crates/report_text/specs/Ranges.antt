@@ -1,19 +1,48 @@
 -- Which records have a line.
-use Rattle.std.specs.Prelude.{ℕ, ◌<◌, ◌^◌, FitsSigned}
+use Rattle.std.specs.Prelude.{ℕ, ◌<◌, ◌^◌, FitsSigned, ⊤, length}
 use Rattle.std.specs.Int.{w64}
+use Rattle.net_plan.specs.declared.ids.DeviceId.{DeviceId}
+use Rattle.net_plan.specs.declared.ids.LinkId.{LinkId}
+use Rattle.net_plan.specs.declared.ids.VlId.{VlId}
 use Rattle.net_plan.specs.declared.network.Network.{Network}
+use Rattle.run_law.specs.declared.judgement.Reason.{Reason}
+use Rattle.run_law.specs.declared.judgement.Reason.TheVariants.{RefusedLength, RefusedReserved, RefusedKind}
 use Rattle.run_law.specs.declared.note.Note.{Note}
 use Rattle.run_law.specs.declared.note.NoteBody.{NoteBody}
-use Rattle.run_law.specs.declared.note.NoteBody.TheVariants.{Event, Clock}
-use Rattle.trace_text.specs.Ranges.{HasDevice, IsOfNetwork, IsWhatInRange}
+use Rattle.run_law.specs.declared.note.NoteBody.TheVariants.{Event, Arrived, Permanent, Compressed, Sent, Corrected, State, Left, Lost, TtSent, Accepted, Delivered, Dropped, Clock}
+use Rattle.trace_text.specs.Ranges.{HasDevice, HasLink, IsOfNetwork, IsWhatInRange}
 use Rattle.tte_units.specs.declared.units.Units.{Units}
 
--- the devices and links of what a record says are the network's
+-- the virtual link is one of the network's
+abbrev pub HasVl : Network → VlId → Type 0
+HasVl network vl = vl.0 < length network.vl
+
+-- the device and the link are the network's
+abbrev pub HasPassage : Network → DeviceId → LinkId → Type 0
+HasPassage network device link = HasDevice network device × HasLink network link
+
+-- the device, the link and the virtual link are the network's
+abbrev pub HasStream : Network → DeviceId → LinkId → VlId → Type 0
+HasStream network device link vl = HasDevice network device × HasLink network link × HasVl network vl
+
+-- the devices, the links and the virtual links of what a record says are the network's
 abbrev pub IsBodyOf : Network → NoteBody → Type 0
 IsBodyOf network (Event line what) = IsOfNetwork network what
+IsBodyOf network (Arrived device link cause clock) = HasPassage network device link
+IsBodyOf network (Permanent device link cause point verdict) = HasPassage network device link
+IsBodyOf network (Compressed device opened at cycle members verdict) = HasDevice network device
+IsBodyOf network (Sent device cycle) = HasDevice network device
+IsBodyOf network (Corrected device cycle by adjustment) = HasDevice network device
+IsBodyOf network (State device state cause why) = HasDevice network device
+IsBodyOf network (Left device link cause clock) = HasPassage network device link
+IsBodyOf network (Lost device link cause) = HasPassage network device link
+IsBodyOf network (TtSent device link cause vl cycle) = HasStream network device link vl
+IsBodyOf network (Accepted device link cause vl cycle) = HasStream network device link vl
+IsBodyOf network (Delivered device link cause vl cycle) = HasStream network device link vl
+IsBodyOf network (Dropped device link cause reason) = HasPassage network device link
 IsBodyOf network (Clock device reading adjustment state) = HasDevice network device
 
--- the devices and links of the record are the network's
+-- the devices, the links and the virtual links of the record are the network's
 abbrev pub IsNoteOf : Network → Note → Type 0
 IsNoteOf network note = IsBodyOf network note.body
 
@@ -21,13 +50,36 @@ IsNoteOf network note = IsBodyOf network note.body
 abbrev pub IsCount : ℕ → Type 0
 IsCount n = n < 2 ^ 64
 
+-- a number of 32 bits
+abbrev pub IsShortCount : ℕ → Type 0
+IsShortCount n = n < 2 ^ 32
+
 -- a number of units of 64 bits, with its sign
 abbrev pub IsSignedUnits : Units → Type 0
 IsSignedUnits units = FitsSigned w64 units.0
 
+-- the numbers of why a frame is refused lie in their ranges
+abbrev pub IsReasonInRange : Reason → Type 0
+IsReasonInRange (RefusedLength length) = IsShortCount length
+IsReasonInRange (RefusedReserved offset) = offset < 2 ^ 8
+IsReasonInRange (RefusedKind octet) = octet < 2 ^ 8
+IsReasonInRange reason = ⊤
+
 -- the numbers of what a record says lie in their ranges
 abbrev pub IsBodyInRange : NoteBody → Type 0
 IsBodyInRange (Event line what) = IsCount line × IsWhatInRange what
+IsBodyInRange (Arrived device link cause clock) = IsCount cause × IsCount clock
+IsBodyInRange (Permanent device link cause point verdict) = IsCount cause × IsSignedUnits point
+IsBodyInRange (Compressed device opened at cycle members verdict) = IsSignedUnits opened × IsSignedUnits at × IsShortCount cycle × IsShortCount members.0
+IsBodyInRange (Sent device cycle) = IsShortCount cycle
+IsBodyInRange (Corrected device cycle by adjustment) = IsShortCount cycle × IsSignedUnits by × IsSignedUnits adjustment
+IsBodyInRange (State device state cause why) = IsCount cause
+IsBodyInRange (Left device link cause clock) = IsCount cause × IsCount clock
+IsBodyInRange (Lost device link cause) = IsCount cause
+IsBodyInRange (TtSent device link cause vl cycle) = IsCount cause × IsShortCount cycle
+IsBodyInRange (Accepted device link cause vl cycle) = IsCount cause × IsShortCount cycle
+IsBodyInRange (Delivered device link cause vl cycle) = IsCount cause × IsShortCount cycle
+IsBodyInRange (Dropped device link cause reason) = IsCount cause × IsReasonInRange reason
 IsBodyInRange (Clock device reading adjustment state) = IsSignedUnits reading × IsSignedUnits adjustment
 
 -- the record's numbers lie in their ranges

@@ -2,7 +2,10 @@
 //! they are one.
 #![tactic(auto)]
 
+mod fields;
+mod kinds;
 mod laws;
+mod words;
 mod writing;
 
 pub use laws::one_report;

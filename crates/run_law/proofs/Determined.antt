@@ -255,10 +255,10 @@ same_compressed : (s : Scenario) (hs : List Happening) (t : ℕ) (device other :
     → notes.Compressed device opened at cycle members verdict ≡ notes.Compressed other begun emitted number masters judged
 same_compressed s hs t device other opened begun at emitted cycle number members masters verdict judged devices opens ats cycles sets a b =
     let sents : (let c : Compressed = record { opened = opened; at = at; cycle = cycle; members = members } in c) ≡ record { opened = begun; at = emitted; cycle = number; members = masters } =
-        ap (λ (u : Units). let c : Compressed = record { opened = u; at = at; cycle = cycle; members = members } in c) opens
-        ∙ ap (λ (u : Units). let c : Compressed = record { opened = begun; at = u; cycle = cycle; members = members } in c) ats
-        ∙ ap (λ (k : ℕ). let c : Compressed = record { opened = begun; at = emitted; cycle = k; members = members } in c) cycles
-        ∙ ap (λ (ms : Members). let c : Compressed = record { opened = begun; at = emitted; cycle = number; members = ms } in c) sets in
+    ap (λ (u : Units). let c : Compressed = record { opened = u; at = at; cycle = cycle; members = members } in c) opens
+    ∙ ap (λ (u : Units). let c : Compressed = record { opened = begun; at = u; cycle = cycle; members = members } in c) ats
+    ∙ ap (λ (k : ℕ). let c : Compressed = record { opened = begun; at = emitted; cycle = k; members = members } in c) cycles
+    ∙ ap (λ (ms : Members). let c : Compressed = record { opened = begun; at = emitted; cycle = number; members = ms } in c) sets in
     let there = subst (λ (d : DeviceId). Emits s hs t d (let c : Compressed = record { opened = begun; at = emitted; cycle = number; members = masters } in c) judged) (sym devices) b in
     let here = subst (λ (c : Compressed). Emits s hs t device c judged) (sym sents) there in
     ap (λ (j : Judgement). notes.Compressed device opened at cycle members j) (same_heard s hs t device (let c : Compressed = record { opened = opened; at = at; cycle = cycle; members = members } in c) verdict judged a here)

@@ -14,3 +14,11 @@ pub mod Decisions
 pub mod Conditions
 pub mod Decided
 pub mod Examples
+pub mod Lone
+pub mod Worked
+pub mod FirstPlaces
+pub mod FirstDeliveries
+pub mod FirstBroken
+pub mod FirstDelays
+pub mod FirstSent
+pub mod Ends

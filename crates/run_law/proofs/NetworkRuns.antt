@@ -57,12 +57,13 @@ run_is_one network reading events mark notes others a b =
 pub earlier_run_is_front : EarlierRunIsFront
 earlier_run_is_front network reading events mark later notes more earlier a b =
     let s : Scenario = record { network = network; reading = reading; events = events } in
-    let front = front_of_run place_of (IsDue s) mark later (due_is_determined s) earlier (happenings network notes) (happenings network more) a b in
-    (notes_of front.0,
-    sym (same_notes network more)
-    ∙ ap notes_of front.1
-    ∙ notes_of_parts (happenings network notes) front.0
-    ∙ ap (λ (ns : List Note). ns ++ notes_of front.0) (same_notes network notes))
+    let front = front_of_run place_of (IsDue s) mark later (due_is_determined s) earlier (happenings network notes) (happenings network more) a b in (
+      notes_of front.0,
+      sym (same_notes network more)
+          ∙ ap notes_of front.1
+          ∙ notes_of_parts (happenings network notes) front.0
+          ∙ ap (λ (ns : List Note). ns ++ notes_of front.0) (same_notes network notes),
+    )
 
 pub run_goes_on : RunGoesOn
 run_goes_on s mark notes note next run is more =

@@ -94,10 +94,10 @@ same_point s hs t device link cause f g p q a b =
     let bodies : a.arrival.note.body ≡ b.arrival.note.body = ap (λ (h : Happening). h.note.body) one in
     let clocks : a.clock ≡ b.clock = ap arrived_clock (sym a.arrived ∙ bodies ∙ b.arrived) in
     let values : p.0 ≡ q.0 =
-        a.at_point
-        ∙ ap (λ (h : Happening). point_of (pos (s.reading device (time_of h))) a.clock s.network.dmax.0) one
-        ∙ ap (λ (c : ℕ). point_of (pos (s.reading device (time_of b.arrival))) c s.network.dmax.0) clocks
-        ∙ sym b.at_point in
+    a.at_point
+    ∙ ap (λ (h : Happening). point_of (pos (s.reading device (time_of h))) a.clock s.network.dmax.0) one
+    ∙ ap (λ (c : ℕ). point_of (pos (s.reading device (time_of b.arrival))) c s.network.dmax.0) clocks
+    ∙ sym b.at_point in
     ap (λ (n : ℤ). let u : Units = record { 0 = n } in u) values
 
 -- and one thing becomes of it

@@ -1,5 +1,5 @@
 -- When a device may be called.
-use Rattle.std.specs.Prelude.{◌≡◌, ◌⊎◌, ℕ, ◌+◌, ◌^◌, ◌≤◌, pos, ◌+ℤ◌, ◌<ℤ◌, ◌≤ℤ◌, true, false, List, length, Ok, IsSomeAnd}
+use Rattle.std.specs.Prelude.{ℤ, ◌≡◌, ◌⊎◌, ℕ, ◌+◌, ◌^◌, ◌≤◌, pos, ◌+ℤ◌, ◌<ℤ◌, ◌≤ℤ◌, true, false, List, length, Ok, IsSomeAnd}
 use Rattle.net_plan.specs.Places.{link_at}
 use Rattle.net_plan.specs.Rules.{IsChildOf}
 use Rattle.net_plan.specs.declared.ids.DeviceId.{DeviceId}
@@ -69,8 +69,6 @@ pub record IsOfMaster (network : Network) (device : DeviceId) (link : LinkId) (m
 pub record MayRipen (network : Network) (device : DeviceId) (node : Node) (moment : Moment) (link : LinkId) (frame : Pcf) (point : Units) : Type 0 where
   pub at : IsLinkAt network device link
   pub waits : waits_for network device link ≡ true
-  pub on : is_off node.standing.state ≡ false
-  pub sound : node.broken ≡ false
   pub reached : point.0 ≤ℤ moment.reading.0
   pub in_time : moment.reading.0 <ℤ (point.0 +ℤ network.precision.0)
   pub kind : frame.kind ≡ Integration
@@ -79,3 +77,43 @@ pub record MayRipen (network : Network) (device : DeviceId) (node : Node) (momen
   pub clock : frame.clock ≤ amount network.dmax
   pub from_below : IsParentOf network device link → IsOfMaster network device link frame.members
   pub not_before : node.last.time.0 <ℤ moment.time.0 → node.last.reading.0 ≤ℤ point.0
+
+-- the device has something left to do
+abbrev pub HasTask : Network → DeviceId → Node → Type 0
+HasTask network device node = (task : Task) × IsPending network device node task
+
+-- something that it has left to do is due at the reading
+abbrev pub HasDue : Network → DeviceId → Node → ℤ → Type 0
+HasDue network device node reading = (task : Task) × IsPending network device node task × (reading_for network node task ≤ℤ reading)
+
+-- some link is at the device
+abbrev pub HasLink : Network → DeviceId → Type 0
+HasLink network device = (link : LinkId) × IsLinkAt network device link
+
+-- the device takes what is permanent: it is at some link, and neither off nor broken
+pub record IsHearing (network : Network) (device : DeviceId) (node : Node) : Type 0 where
+  pub linked : HasLink network device
+  pub on : is_off node.standing.state ≡ false
+  pub sound : node.broken ≡ false
+
+-- ---- what each call asks of a device: nothing is asked where such a call never comes
+
+-- it may act: if it has anything left to do, something is due
+pub record MayAct (network : Network) (device : DeviceId) (node : Node) (moment : Moment) : Type 0 where
+  pub call : MayCall network device node moment acting
+  pub due : HasTask network device node → HasDue network device node moment.reading.0
+
+-- a frame of these octets may come to it by the link
+pub record MayHear (network : Network) (device : DeviceId) (node : Node) (moment : Moment) (link : LinkId) (octets : List ℕ) : Type 0 where
+  pub call : MayCall network device node moment arriving
+  pub arrives : HasLink network device → MayArrive network device link octets
+
+-- this frame may be permanent
+pub record MayTake (network : Network) (device : DeviceId) (node : Node) (moment : Moment) (link : LinkId) (frame : Pcf) (point : Units) : Type 0 where
+  pub call : MayCall network device node moment ripening
+  pub ripens : IsHearing network device node → MayRipen network device node moment link frame point
+
+-- the machine stands as some device of some network, for which this holds
+abbrev pub StandsFor : {M : Type 0} → (M → Network → DeviceId → Node → Type 0) → M → (Network → DeviceId → Node → Type 0) → Type 0
+StandsFor stands machine P =
+    (network : Network) × (device : DeviceId) × (node : Node) × stands machine network device node × P network device node

@@ -67,9 +67,9 @@ abbrev pub point_fault : Network → State → ℤ → ℤ → ℕ → Option Re
 point_fault network state adjustment point cycle =
     let value = dispatch_value network adjustment point in
     first_reason (
-        (is_synchronised state && int_lt (pos (4 * amount network.precision)) (place_in_cycle network value), Gate)
-        ∷ (is_synchronised state && not (is_number (int_div_euclid value network.cycle.0) cycle), Cycle)
-        ∷ [])
+    (is_synchronised state && int_lt (pos (4 * amount network.precision)) (place_in_cycle network value), Gate)
+    ∷ (is_synchronised state && not (is_number (int_div_euclid value network.cycle.0) cycle), Cycle)
+    ∷ [])
 
 -- a point's role, as what becomes of the frame
 abbrev pub ripe_by_role : Taken → Ripe

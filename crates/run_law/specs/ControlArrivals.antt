@@ -65,13 +65,13 @@ is_gate_shut network device at =
 abbrev pub frame_fault : Network → DeviceId → LinkId → Standpoint → Pcf → Option Reason
 frame_fault network device link at frame =
     first_reason (
-        (not at.takes_part, Off)
-        ∷ (is_cold_start frame.kind, ColdStart)
-        ∷ (is_of_other_domain network frame, Domain)
-        ∷ (is_of_other_member network device link frame.members, Member)
-        ∷ (nat_lt (amount network.dmax) (clock_on_arrival network link frame), Old)
-        ∷ (is_gate_shut network device at, Gate)
-        ∷ [])
+    (not at.takes_part, Off)
+    ∷ (is_cold_start frame.kind, ColdStart)
+    ∷ (is_of_other_domain network frame, Domain)
+    ∷ (is_of_other_member network device link frame.members, Member)
+    ∷ (nat_lt (amount network.dmax) (clock_on_arrival network link frame), Old)
+    ∷ (is_gate_shut network device at, Gate)
+    ∷ [])
 
 -- the permanence point of a frame that arrives with this transparent clock
 abbrev pub point_on_arrival : Network → Standpoint → ℕ → Units

@@ -28,6 +28,8 @@ pub mod Nodes
 pub mod Tasks
 pub mod Calls
 pub mod Machines
+pub mod Lone
+pub mod Spread
 pub mod Causes
 pub mod FirstLaws
 pub mod Safety

@@ -55,21 +55,21 @@ row_fault network at entry size last =
     let cycle = cycle_at network (clock_of at) in
     let place = place_in_cycle network (clock_of at) in
     first_reason (
-        (not (size == entry.vl.length), reasons.Length)
-        ∷ (not (occurs_in entry.vl cycle) || int_lt place (window_of network entry).from.0, reasons.Early)
-        ∷ (int_lt (window_of network entry).to.0 place, reasons.Late)
-        ∷ (is_taken_in cycle last, reasons.Repeat)
-        ∷ [])
+    (not (size == entry.vl.length), reasons.Length)
+    ∷ (not (occurs_in entry.vl cycle) || int_lt place (window_of network entry).from.0, reasons.Early)
+    ∷ (int_lt (window_of network entry).to.0 place, reasons.Late)
+    ∷ (is_taken_in cycle last, reasons.Repeat)
+    ∷ [])
 
 -- why any frame is dropped before its row is looked for, if it is
 abbrev pub octets_fault : Network → Standpoint → List ℕ → Option Reason
 octets_fault network at octets =
     first_reason (
-        (not at.takes_part, reasons.Off)
-        ∷ (nat_lt (field 12 2 octets) least_type, reasons.RefusedEtherType)
-        ∷ (not (is_synchronised at.state), reasons.Unsynchronised)
-        ∷ (not (field 0 4 octets == network.marker), reasons.Unknown)
-        ∷ [])
+    (not at.takes_part, reasons.Off)
+    ∷ (nat_lt (field 12 2 octets) least_type, reasons.RefusedEtherType)
+    ∷ (not (is_synchronised at.state), reasons.Unsynchronised)
+    ∷ (not (field 0 4 octets == network.marker), reasons.Unknown)
+    ∷ [])
 
 -- the device takes a frame of the virtual link in this cycle: an end system or a switch
 abbrev pub taken_by : Network → DeviceId → VlId → ℕ → Arrival

@@ -2,16 +2,22 @@
 //! and what holds of all runs.
 #![tactic(auto)]
 
+mod first_laws;
 mod judgement;
 mod laws;
+mod locals;
+mod lone_master;
 mod machine;
 mod note;
 mod outside;
 mod silent_law;
 mod steps;
 
+pub use first_laws::{broken_are_still, deliveries_begin, sent_frames_come};
 pub use judgement::{Judgement, Reason, Why};
 pub use laws::{earlier_run_is_front, hypothesis_is_decided, run_goes_on, run_is_one};
+pub use locals::spread;
+pub use lone_master::LoneMaster;
 pub use machine::Machine;
 pub use note::{Note, NoteBody};
 pub use outside::Outside;

@@ -1,11 +1,11 @@
-ghost use Rattle.std.specs.Prelude.{◌≡◌, ◌≤ℤ◌, false};
+ghost use Rattle.std.specs.Prelude.{◌≡◌, false};
 ghost use Rattle.net_plan.specs.declared.ids.DeviceId.{DeviceId};
 ghost use Rattle.net_plan.specs.declared.network.Network.{Network};
-ghost use Rattle.run_law.specs.Calls.{MayArrive, MayCall, MayRipen};
+ghost use Rattle.run_law.specs.Calls.{HasDue, IsHearing, MayAct, MayArrive, MayCall, MayHear, MayRipen, MayTake, StandsFor};
 ghost use Rattle.run_law.specs.Devices.{channel_of_link};
 ghost use Rattle.run_law.specs.Machines.{IsActOf, IsRipeAt, after_arrival, after_ripe, arrival_at, called, node_turned_on};
 ghost use Rattle.run_law.specs.Nodes.{Node, arriving, ripening, acting};
-ghost use Rattle.run_law.specs.Tasks.{IsDueReading, IsPending, Task, reading_for};
+ghost use Rattle.run_law.specs.Tasks.{IsDueReading};
 ghost use Rattle.run_law.specs.Transit.{signal_of};
 ghost use Rattle.sync_state.specs.declared.state.State.TheVariants.{Off};
 
@@ -36,39 +36,33 @@ pub trait Machine {
     ///
     /// The reading of `due` is reached.
     fn act(&mut self, moment: Moment) -> Act
-        requires called { (network : Network) (device : DeviceId) (node : Node) → stands self.old network device node
-            → MayCall network device node moment acting }
-        requires due { (network : Network) (device : DeviceId) (node : Node) → stands self.old network device node
-            → (task : Task) × IsPending network device node task × (reading_for network node task ≤ℤ moment.reading.0) }
+        requires { StandsFor stands self.old (λ network device node. MayAct network device node moment) }
         ensures { (network : Network) (device : DeviceId) (node : Node) → stands self.old network device node
+            → MayCall network device node moment acting → HasDue network device node moment.reading.0
             → (new : Node) × IsActOf network device node moment result new × stands self.new network device new };
 
     /// What becomes of the frame of these octets, 60 to 1,514, that arrives by a link of the device.
     fn hear(&mut self, moment: Moment, link: LinkId, octets: &[u8]) -> Arrival
-        requires called { (network : Network) (device : DeviceId) (node : Node) → stands self.old network device node
-            → MayCall network device node moment arriving }
-        requires arrives { (network : Network) (device : DeviceId) (node : Node) → stands self.old network device node
-            → MayArrive network device link octets.now }
+        requires { StandsFor stands self.old (λ network device node. MayHear network device node moment link octets.now) }
         ensures { (network : Network) (device : DeviceId) (node : Node) → stands self.old network device node
+            → MayCall network device node moment arriving → MayArrive network device link octets.now
             → (result ≡ arrival_at network device node moment link (signal_of octets.now))
             × stands self.new network device (called moment arriving (after_arrival node moment result)) };
 
     /// What becomes of a frame for whose permanence the device has waited, at the first instant at which its reading
-    /// is at least the point.
+    /// is at least the point. The device is neither off nor broken.
     fn ripen(&mut self, moment: Moment, link: LinkId, frame: &Pcf, point: Units) -> Ripe
-        requires called { (network : Network) (device : DeviceId) (node : Node) → stands self.old network device node
-            → MayCall network device node moment ripening }
-        requires ripens { (network : Network) (device : DeviceId) (node : Node) → stands self.old network device node
-            → MayRipen network device node moment link frame.now point }
+        requires { StandsFor stands self.old (λ network device node. MayTake network device node moment link frame.now point) }
         ensures { (network : Network) (device : DeviceId) (node : Node) → stands self.old network device node
+            → MayCall network device node moment ripening → IsHearing network device node
+            → MayRipen network device node moment link frame.now point
             → IsRipeAt network device node frame.now point result
             × stands self.new network device (called moment ripening (after_ripe node moment (channel_of_link network link) frame.now point result)) };
 
     /// An event turns the device on, which is off and not broken.
     fn turn_on(&mut self)
-        requires off { (network : Network) (device : DeviceId) (node : Node) → stands self.old network device node
-            → (node.standing.state ≡ Off) × (node.broken ≡ false) }
         ensures { (network : Network) (device : DeviceId) (node : Node) → stands self.old network device node
+            → node.standing.state ≡ Off → node.broken ≡ false
             → stands self.new network device (node_turned_on node) };
 
     /// The device's state after the calls so far.

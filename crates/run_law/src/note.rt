@@ -58,7 +58,10 @@ pub enum NoteBody {
         verdict: Judgement,
     },
     /// A master sends the protocol control frame of a cycle.
-    Sent { device: DeviceId, cycle: u32 },
+    Sent {
+        device: DeviceId,
+        cycle: u32,
+    },
     /// A device corrects its clock.
     Corrected {
         device: DeviceId,

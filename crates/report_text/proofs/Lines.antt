@@ -1,0 +1,21 @@
+-- The lines of records, from their pieces.
+use Rattle.std.proofs.Common.{◌≡◌, ℕ, List, ◌∷◌, ◌++◌, refl}
+use Rattle.std.specs.List.{join_with_byte}
+use Rattle.net_plan.specs.declared.event.What.{What}
+use Rattle.net_plan.specs.declared.event.What.TheVariants as events
+use Rattle.net_plan.specs.declared.network.Network.{Network}
+use Rattle.trace_text.specs.EventLine.{what_words, what_text}
+use Rattle.trace_text.specs.Steps.{space}
+
+-- an event's text stands behind the words before it
+pub event_joined : (word : List ℕ) (network : Network) (what : What) → join_with_byte space (word ∷ what_words network what) ≡ word ++ space ∷ what_text network what
+unfolding what_text
+event_joined word network (events.Rate d r) = refl
+event_joined word network (events.Wire l w u) = refl
+event_joined word network (events.Hold l w u) = refl
+event_joined word network (events.Cut l w) = refl
+event_joined word network (events.Heal l w) = refl
+event_joined word network (events.On d) = refl
+event_joined word network (events.Break d) = refl
+event_joined word network (events.Send l o) = refl
+event_joined word network events.End = refl

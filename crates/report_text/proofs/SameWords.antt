@@ -1,0 +1,191 @@
+-- Words of one spelling are one.
+use Rattle.std.proofs.Common.{◌≡◌, ◌≢◌, ℕ, zero, suc, ◌<◌, ◌^◌, true, false, List, [], ◌∷◌, ◌++◌, Some, Ok, Err, refl, sym, ap, ◌∙◌, arith}
+use Rattle.std.specs.Prelude.{Result, codes, decimal, bytes_eq, get_or, length, slice_get}
+use Rattle.std.specs.Fmt.{signed_decimal}
+use Rattle.std.specs.Int.{w32, to_be_bytes, from_be_bytes}
+use Rattle.std.specs.List.{join_with_byte}
+use Rattle.std.specs.Option.{option_map_or}
+use Rattle.std.proofs.lemmas.Fmt.{decimal_injective, signed_decimal_injective}
+use Rattle.std.proofs.lemmas.Int.{ints}
+use Rattle.std.proofs.lemmas.Nat.{from_be_bytes-to_be_bytes_4}
+use Rattle.std.proofs.lemmas.Slice.Eq.{bytes_eq-Decides}
+use Rattle.net_plan.specs.Ranges.{IsInRange}
+use Rattle.net_plan.specs.Rules.{DeviceIsNew, LinkIsNew}
+use Rattle.net_plan.specs.declared.event.Event.{Event}
+use Rattle.net_plan.specs.declared.event.What.{What}
+use Rattle.net_plan.specs.declared.ids.DeviceId.{DeviceId}
+use Rattle.net_plan.specs.declared.ids.LinkId.{LinkId}
+use Rattle.net_plan.specs.declared.ids.VlId.{VlId}
+use Rattle.net_plan.specs.declared.network.Network.{Network}
+use Rattle.net_plan.specs.declared.tables.Device.{Device}
+use Rattle.pcf_values.specs.declared.members.Members.{Members}
+use Rattle.run_law.specs.declared.judgement.Judgement.{Judgement}
+use Rattle.run_law.specs.declared.judgement.Judgement.TheVariants as judgements
+use Rattle.run_law.specs.declared.judgement.Reason.{Reason}
+use Rattle.run_law.specs.declared.judgement.Reason.TheVariants as reasons
+use Rattle.run_law.specs.declared.judgement.Why.{Why}
+use Rattle.run_law.specs.declared.judgement.Why.TheVariants as whys
+use Rattle.schedule_tables.specs.Schedule.{VlNameIsNew}
+use Rattle.sync_state.specs.declared.state.State.{State}
+use Rattle.sync_state.specs.declared.state.State.TheVariants as states
+use Rattle.trace_text.specs.EventLine.{device_name, link_name, what_words, what_text, event_text}
+use Rattle.trace_text.specs.EventReading.{event_read}
+use Rattle.trace_text.specs.Ranges.{HasDevice, HasLink, IsOfNetwork, IsWhatInRange}
+use Rattle.trace_text.specs.Steps.{Read, Words, space}
+use Rattle.trace_text.proofs.EventsBack.{reads_back}
+use Rattle.tte_units.specs.Amount.{units_of}
+use Rattle.tte_units.specs.declared.units.Units.{Units}
+use Rattle.hex.specs.Hex.{encode_lower}
+use Rattle.report_text.specs.NoteWords.{vl_name, members_text, state_text, judgement_text, why_text, reason_words}
+use Rattle.report_text.specs.Ranges.{HasVl, IsCount, IsShortCount, IsSignedUnits, IsReasonInRange}
+use Rattle.report_text.proofs.Characters.{octet_is_byte, word_is_bytes, same_octets}
+use Rattle.report_text.proofs.Visible.{units_mag}
+
+-- each thing of the network has a name of its own
+pub record IsNamedApart (network : Network) : Type 0 where
+  pub in_range : IsInRange network
+  pub devices : (i : ℕ) → DeviceIsNew network i
+  pub links : (i : ℕ) → LinkIsNew network i
+  pub vls : (i : ℕ) → VlNameIsNew network i
+
+-- the word at a place of a line
+abbrev pub word_at : ℕ → Words → List ℕ
+word_at i ws = get_or ws i []
+
+-- texts that a test tells apart differ
+pub differ : (text other : List ℕ) → bytes_eq text other ≡ false → text ≡ other → ⊥
+differ text other apart same =
+    let equal : bytes_eq text other ≡ true = (bytes_eq-Decides text other).1 same in
+    absurd (cc)
+
+-- ---- numbers
+
+pub same_count : (n m : ℕ) → IsCount n → IsCount m → decimal n ≡ decimal m → n ≡ m
+same_count n m h g same = decimal_injective n m h g same
+
+pub same_short : (n m : ℕ) → IsShortCount n → IsShortCount m → decimal n ≡ decimal m → n ≡ m
+same_short n m h g same = decimal_injective n m (omega arith) (omega arith) same
+
+pub same_units : (a b : Units) → IsSignedUnits a → IsSignedUnits b → signed_decimal a.0 ≡ signed_decimal b.0 → a ≡ b
+same_units a b h g same = ap (λ z. record { 0 = z }) (signed_decimal_injective a.0 b.0 (units_mag a h) (units_mag b g) same)
+
+pub same_members : (members others : Members) → IsShortCount members.0 → IsShortCount others.0 → members_text members ≡ members_text others → members ≡ others
+same_members members others h g same =
+    let octets = same_octets (to_be_bytes w32 members.0) (to_be_bytes w32 others.0) (word_is_bytes members.0) (word_is_bytes others.0) same in
+    ap (λ n. record { 0 = n }) (sym (from_be_bytes-to_be_bytes_4 members.0 h) ∙ ap (from_be_bytes w32) octets ∙ from_be_bytes-to_be_bytes_4 others.0 g)
+
+pub same_octet : (octet other : ℕ) → octet < 2 ^ 8 → other < 2 ^ 8 → encode_lower (octet ∷ []) ≡ encode_lower (other ∷ []) → octet ≡ other
+same_octet octet other h g same =
+    ap (λ (octets : List ℕ). get_or octets 0 0) (same_octets (octet ∷ []) (other ∷ []) (octet_is_byte octet h) (octet_is_byte other g) same)
+
+-- ---- names
+
+-- no thing has the name of an earlier one
+abbrev AreNew : {X : Type 0} → (X → List ℕ) → List X → Type 0
+AreNew {X} name xs = (i k : ℕ) (earlier thing : X) → k < i → slice_get xs k ≡ Some earlier → slice_get xs i ≡ Some thing → name thing ≢ name earlier
+
+thing_at : {X : Type 0} (xs : List X) (i : ℕ) → i < length xs → (x : X) × (slice_get xs i ≡ Some x)
+thing_at [] i h = absurd (omega arith)
+thing_at (x ∷ xs) zero h = (x, refl)
+thing_at (x ∷ xs) (suc i) h = thing_at xs i (omega arith)
+
+name_at : {X : Type 0} (name : X → List ℕ) (xs : List X) (i : ℕ) (x : X) → slice_get xs i ≡ Some x → option_map_or name (slice_get xs i) [] ≡ name x
+name_at name xs i x h = ap (λ o. option_map_or name o []) h
+
+-- then one name is of one place
+same_place : {X : Type 0} (name : X → List ℕ) (xs : List X) (i j : ℕ) → AreNew name xs → i < length xs → j < length xs
+    → option_map_or name (slice_get xs i) [] ≡ option_map_or name (slice_get xs j) [] → i ≡ j
+same_place name xs i j new h g same =
+    let at = thing_at xs i h in
+    let other = thing_at xs j g in
+    let names : name at.0 ≡ name other.0 = sym (name_at name xs i at.0 at.1) ∙ same ∙ name_at name xs j other.0 other.1 in
+    let not_before : i < j → ⊥ = λ before. new j i at.0 other.0 before at.1 other.1 (sym names) in
+    let not_behind : j < i → ⊥ = λ behind. new i j other.0 at.0 behind other.1 at.1 names in
+    omega (arith, not_before, not_behind)
+
+pub same_device : (network : Network) (d e : DeviceId) → IsNamedApart network → HasDevice network d → HasDevice network e → device_name network d ≡ device_name network e → d ≡ e
+same_device network d e apart h g same =
+    let new : AreNew (λ (x : Device). x.name) network.device = λ i k earlier thing before there here. (apart.devices i k earlier thing before there here).0 in
+    ap (λ i. record { 0 = i }) (same_place (λ x. x.name) network.device d.0 e.0 new h g same)
+
+pub same_link : (network : Network) (l m : LinkId) → IsNamedApart network → HasLink network l → HasLink network m → link_name network l ≡ link_name network m → l ≡ m
+same_link network l m apart h g same = ap (λ i. record { 0 = i }) (same_place (λ x. x.name) network.link l.0 m.0 apart.links h g same)
+
+pub same_vl : (network : Network) (v w : VlId) → IsNamedApart network → HasVl network v → HasVl network w → vl_name network v ≡ vl_name network w → v ≡ w
+same_vl network v w apart h g same = ap (λ i. record { 0 = i }) (same_place (λ x. x.name) network.vl v.0 w.0 apart.vls h g same)
+
+-- ---- the words of enums
+
+pub same_state : (state other : State) → state_text state ≡ state_text other → state ≡ other
+same_state states.Off states.Off same = refl
+same_state states.Integrating states.Integrating same = refl
+same_state states.Joining states.Joining same = refl
+same_state states.Synchronised states.Synchronised same = refl
+same_state state other same = absurd (differ (state_text state) (state_text other) refl same)
+
+pub same_judgement : (verdict other : Judgement) → judgement_text verdict ≡ judgement_text other → verdict ≡ other
+same_judgement judgements.Opened judgements.Opened same = refl
+same_judgement judgements.Joined judgements.Joined same = refl
+same_judgement judgements.Repeat judgements.Repeat same = refl
+same_judgement judgements.Within judgements.Within same = refl
+same_judgement judgements.Outside judgements.Outside same = refl
+same_judgement judgements.Integrates judgements.Integrates same = refl
+same_judgement judgements.Ignored judgements.Ignored same = refl
+same_judgement verdict other same = absurd (differ (judgement_text verdict) (judgement_text other) refl same)
+
+pub same_why : (why other : Why) → why_text why ≡ why_text other → why ≡ other
+same_why whys.On whys.On same = refl
+same_why whys.Frame whys.Frame same = refl
+same_why whys.Correction whys.Correction same = refl
+same_why whys.SyncClique whys.SyncClique same = refl
+same_why whys.AsyncClique whys.AsyncClique same = refl
+same_why why other same = absurd (differ (why_text why) (why_text other) refl same)
+
+-- the first two words of a reason, which tell its kind
+abbrev reason_front : Words → List ℕ
+reason_front ws = word_at 0 ws ++ word_at 1 ws
+
+pub same_reason : (reason other : Reason) → IsReasonInRange reason → IsReasonInRange other → reason_words reason ≡ reason_words other → reason ≡ other
+same_reason reasons.Off reasons.Off h g same = refl
+same_reason reasons.ColdStart reasons.ColdStart h g same = refl
+same_reason reasons.Domain reasons.Domain h g same = refl
+same_reason reasons.Member reasons.Member h g same = refl
+same_reason reasons.Old reasons.Old h g same = refl
+same_reason reasons.Gate reasons.Gate h g same = refl
+same_reason reasons.Cycle reasons.Cycle h g same = refl
+same_reason reasons.Unsynchronised reasons.Unsynchronised h g same = refl
+same_reason reasons.Unknown reasons.Unknown h g same = refl
+same_reason reasons.Length reasons.Length h g same = refl
+same_reason reasons.Early reasons.Early h g same = refl
+same_reason reasons.Late reasons.Late h g same = refl
+same_reason reasons.Repeat reasons.Repeat h g same = refl
+same_reason (reasons.RefusedLength length) (reasons.RefusedLength length') h g same = ap (λ n. reasons.RefusedLength n) (same_short length length' h g (ap (word_at 2) same))
+same_reason reasons.RefusedEtherType reasons.RefusedEtherType h g same = refl
+same_reason (reasons.RefusedReserved offset) (reasons.RefusedReserved offset') h g same =
+    ap (λ n. reasons.RefusedReserved n) (decimal_injective offset offset' (omega arith) (omega arith) (ap (word_at 2) same))
+same_reason (reasons.RefusedKind octet) (reasons.RefusedKind octet') h g same = ap (λ n. reasons.RefusedKind n) (same_octet octet octet' h g (ap (word_at 2) same))
+same_reason reason other h g same = absurd (differ (reason_front (reason_words reason)) (reason_front (reason_words other)) refl (ap reason_front same))
+
+-- ---- events
+
+value_or : {A E : Type 0} → A → Result A E → A
+value_or d (Ok x) = x
+value_or d (Err e) = d
+
+same_value : {A : Type 0} (x y : A) (r : Read A) → r ≡ Ok x → r ≡ Ok y → x ≡ y
+unfolding value_or
+same_value x y r h g = ap (value_or x) (sym h ∙ g)
+
+at_begin : What → Event
+at_begin what = record { time = units_of 0; what = what }
+
+-- two events of one text are one, since it reads back
+pub same_what : (network : Network) (what other : What) → IsNamedApart network
+    → IsOfNetwork network what → IsWhatInRange what → IsOfNetwork network other → IsWhatInRange other
+    → what_words network what ≡ what_words network other → what ≡ other
+unfolding at_begin what_text
+same_what network what other apart of_network in_range other_of_network other_in_range same =
+    let here = reads_back network (at_begin what) apart.in_range apart.devices apart.links of_network (record { time = record { least = omega (arith, ints); most = omega (arith, ints) }; what = in_range }) in
+    let there = reads_back network (at_begin other) apart.in_range apart.devices apart.links other_of_network (record { time = record { least = omega (arith, ints); most = omega (arith, ints) }; what = other_in_range }) in
+    let texts : event_text network (at_begin what) ≡ event_text network (at_begin other) = ap (λ (ws : Words). signed_decimal (units_of 0).0 ++ codes " " ++ join_with_byte space ws) same in
+    ap (λ (e : Event). e.what) (same_value (at_begin what) (at_begin other) (event_read network (event_text network (at_begin what))) here (ap (event_read network) texts ∙ there))

@@ -1,0 +1,318 @@
+ghost use Rattle.std.specs.Prelude.{◌≡◌, ◌≤◌, ◌+◌, ◌∷◌, ◌++◌, [], codes, decimal, length};
+ghost use Rattle.std.specs.Fmt.{signed_decimal};
+ghost use Rattle.std.specs.List.{join_with_byte};
+ghost use Rattle.net_plan.specs.Ranges.{IsInRange};
+ghost use Rattle.report_text.specs.NoteLine.{loss_words, tt_words, frame_words, body_words, body_text, longest_body};
+ghost use Rattle.report_text.specs.NoteWords.{members_text, judgement_text};
+ghost use Rattle.report_text.specs.Ranges.{IsBodyOf};
+ghost use Rattle.run_law.specs.declared.note.NoteBody.TheVariants as bodies;
+ghost use Rattle.trace_text.specs.EventLine.{device_name};
+ghost use Rattle.trace_text.specs.Ranges.{HasDevice, IsOfNetwork};
+ghost use Rattle.trace_text.specs.Steps.{space};
+ghost use Rattle.tte_io.specs.Line.{line_limit};
+
+use crate::fields::{push_device, push_members, push_passage, push_stream, push_units};
+use crate::words::{judgement_text, push_reason, state_text, why_text};
+use net_plan::{DeviceId, Network, What};
+use pcf_values::Members;
+use run_law::{Judgement, NoteBody, Why};
+use sync_state::State;
+use trace_text::event_text;
+use tte_io::LineText;
+use tte_units::Units;
+
+fn push_event(line: &mut LineText, network: &Network, of_trace: u64, what: &What)
+    requires in_range { IsInRange network.now }
+    requires of_network { IsOfNetwork network.now what.now }
+    requires room { length line.old + longest_body ≤ line_limit }
+    ensures text { line.new ≡ line.old ++ join_with_byte space (body_words network.now (bodies.Event of_trace what.now)) }
+    ensures grows { length line.new ≤ length line.old + longest_body }
+{
+    line.push("event ");
+    line.push_decimal(of_trace);
+    line.push(" ");
+    line.append(event_text(network, what).as_slice());
+}
+
+// Adds what the record of a collection begins with: the device, its opening point, and when it is sent.
+fn push_collection(
+    line: &mut LineText,
+    network: &Network,
+    device: DeviceId,
+    opened: Units,
+    at: Units,
+)
+    requires in_range { IsInRange network.now }
+    requires of_network { HasDevice network.now device }
+    requires room { length line.old + 81 ≤ line_limit }
+    ensures text { line.new ≡ line.old ++ join_with_byte space
+        (codes "compressed" ∷ device_name network.now device ∷ codes "opened" ∷ signed_decimal opened.0 ∷ codes "at" ∷ signed_decimal at.0 ∷ []) }
+    ensures grows { length line.new ≤ length line.old + 81 }
+{
+    push_device(line, network, "compressed", device);
+    line.push(" opened ");
+    push_units(line, opened);
+    line.push(" at ");
+    push_units(line, at);
+}
+
+// Adds what it ends with, behind a space: the frame's cycle and members, and how the device heard it.
+fn push_summary(line: &mut LineText, cycle: u32, members: Members, verdict: Judgement)
+    requires { length line.old + 55 ≤ line_limit }
+    ensures text { line.new ≡ line.old ++ space ∷ join_with_byte space
+        (codes "cycle" ∷ decimal cycle ∷ codes "members" ∷ members_text members ∷ judgement_text verdict ∷ []) }
+    ensures grows { length line.new ≤ length line.old + 55 }
+{
+    line.push(" cycle ");
+    line.push_decimal(cycle.into());
+    line.push(" members ");
+    push_members(line, members);
+    line.push(" ");
+    line.push(judgement_text(verdict));
+}
+
+fn push_sent(line: &mut LineText, network: &Network, device: DeviceId, cycle: u32)
+    requires in_range { IsInRange network.now }
+    requires of_network { HasDevice network.now device }
+    requires room { length line.old + 48 ≤ line_limit }
+    ensures text { line.new ≡ line.old ++ join_with_byte space (body_words network.now (bodies.Sent device cycle)) }
+    ensures grows { length line.new ≤ length line.old + 48 }
+{
+    push_device(line, network, "sent", device);
+    line.push(" cycle ");
+    line.push_decimal(cycle.into());
+}
+
+fn push_corrected(
+    line: &mut LineText,
+    network: &Network,
+    device: DeviceId,
+    cycle: u32,
+    by: Units,
+    adjustment: Units,
+)
+    requires in_range { IsInRange network.now }
+    requires of_network { HasDevice network.now device }
+    requires room { length line.old + 104 ≤ line_limit }
+    ensures text { line.new ≡ line.old ++ join_with_byte space (body_words network.now (bodies.Corrected device cycle by adjustment)) }
+    ensures grows { length line.new ≤ length line.old + 104 }
+{
+    push_device(line, network, "corrected", device);
+    line.push(" cycle ");
+    line.push_decimal(cycle.into());
+    line.push(" by ");
+    push_units(line, by);
+    line.push(" adj ");
+    push_units(line, adjustment);
+}
+
+fn push_state(
+    line: &mut LineText,
+    network: &Network,
+    device: DeviceId,
+    state: State,
+    cause: u64,
+    why: Why,
+)
+    requires in_range { IsInRange network.now }
+    requires of_network { HasDevice network.now device }
+    requires room { length line.old + 69 ≤ line_limit }
+    ensures text { line.new ≡ line.old ++ join_with_byte space (body_words network.now (bodies.State device state cause why)) }
+    ensures grows { length line.new ≤ length line.old + 69 }
+{
+    push_device(line, network, "state", device);
+    line.push(" ");
+    line.push(state_text(state));
+    line.push(" ");
+    line.push_decimal(cause);
+    line.push(" ");
+    line.push(why_text(why));
+}
+
+fn push_clock(
+    line: &mut LineText,
+    network: &Network,
+    device: DeviceId,
+    reading: Units,
+    adjustment: Units,
+    state: State,
+)
+    requires in_range { IsInRange network.now }
+    requires of_network { HasDevice network.now device }
+    requires room { length line.old + 97 ≤ line_limit }
+    ensures text { line.new ≡ line.old ++ join_with_byte space (body_words network.now (bodies.Clock device reading adjustment state)) }
+    ensures grows { length line.new ≤ length line.old + 97 }
+{
+    push_device(line, network, "clock", device);
+    line.push(" reading ");
+    push_units(line, reading);
+    line.push(" adj ");
+    push_units(line, adjustment);
+    line.push(" state ");
+    line.push(state_text(state));
+}
+
+// Adds what the record of a frame that is lost or dropped says, and of any other record nothing.
+fn push_loss(line: &mut LineText, network: &Network, body: &NoteBody)
+    requires in_range { IsInRange network.now }
+    requires of_network { IsBodyOf network.now body.now }
+    requires room { length line.old + longest_body ≤ line_limit }
+    ensures text { line.new ≡ line.old ++ join_with_byte space (loss_words network.now body.now) }
+    ensures grows { length line.new ≤ length line.old + longest_body }
+{
+    match body {
+        NoteBody::Lost {
+            device,
+            link,
+            cause,
+        } => push_passage(line, network, "lost", *device, *link, *cause),
+        NoteBody::Dropped {
+            device,
+            link,
+            cause,
+            reason,
+        } => {
+            push_passage(line, network, "dropped", *device, *link, *cause);
+            line.push(" ");
+            push_reason(line, *reason);
+        }
+        _ => {}
+    }
+}
+
+// Adds what that of a time-triggered frame says, or of a frame that is lost or dropped.
+fn push_tt(line: &mut LineText, network: &Network, body: &NoteBody)
+    requires in_range { IsInRange network.now }
+    requires of_network { IsBodyOf network.now body.now }
+    requires room { length line.old + longest_body ≤ line_limit }
+    ensures text { line.new ≡ line.old ++ join_with_byte space (tt_words network.now body.now) }
+    ensures grows { length line.new ≤ length line.old + longest_body }
+{
+    match body {
+        NoteBody::TtSent {
+            device,
+            link,
+            cause,
+            vl,
+            cycle,
+        } => {
+            push_passage(line, network, "ttsent", *device, *link, *cause);
+            push_stream(line, network, *vl, *cycle);
+        }
+        NoteBody::Accepted {
+            device,
+            link,
+            cause,
+            vl,
+            cycle,
+        } => {
+            push_passage(line, network, "accepted", *device, *link, *cause);
+            push_stream(line, network, *vl, *cycle);
+        }
+        NoteBody::Delivered {
+            device,
+            link,
+            cause,
+            vl,
+            cycle,
+        } => {
+            push_passage(line, network, "delivered", *device, *link, *cause);
+            push_stream(line, network, *vl, *cycle);
+        }
+        _ => push_loss(line, network, body),
+    }
+}
+
+// Adds what that of any frame says.
+fn push_frame(line: &mut LineText, network: &Network, body: &NoteBody)
+    requires in_range { IsInRange network.now }
+    requires of_network { IsBodyOf network.now body.now }
+    requires room { length line.old + longest_body ≤ line_limit }
+    ensures text { line.new ≡ line.old ++ join_with_byte space (frame_words network.now body.now) }
+    ensures grows { length line.new ≤ length line.old + longest_body }
+{
+    match body {
+        NoteBody::Arrived {
+            device,
+            link,
+            cause,
+            clock,
+        } => {
+            push_passage(line, network, "arrived", *device, *link, *cause);
+            line.push(" clock ");
+            line.push_decimal(*clock);
+        }
+        NoteBody::Permanent {
+            device,
+            link,
+            cause,
+            point,
+            verdict,
+        } => {
+            push_passage(line, network, "permanent", *device, *link, *cause);
+            line.push(" point ");
+            push_units(line, *point);
+            line.push(" ");
+            line.push(judgement_text(*verdict));
+        }
+        NoteBody::Left {
+            device,
+            link,
+            cause,
+            clock,
+        } => {
+            push_passage(line, network, "left", *device, *link, *cause);
+            line.push(" clock ");
+            line.push_decimal(*clock);
+        }
+        _ => push_tt(line, network, body),
+    }
+}
+
+// Adds what a record says, which takes at most 3,077 octets.
+#[tactic(auto, unfolding(crate::specs::NoteLine::body_text))]
+pub(crate) fn push_body(line: &mut LineText, network: &Network, body: &NoteBody)
+    requires in_range { IsInRange network.now }
+    requires of_network { IsBodyOf network.now body.now }
+    requires room { length line.old + longest_body ≤ line_limit }
+    ensures text { line.new ≡ line.old ++ body_text network.now body.now }
+    ensures grows { length line.new ≤ length line.old + longest_body }
+{
+    match body {
+        NoteBody::Event {
+            line: of_trace,
+            what,
+        } => push_event(line, network, *of_trace, what),
+        NoteBody::Compressed {
+            device,
+            opened,
+            at,
+            cycle,
+            members,
+            verdict,
+        } => {
+            push_collection(line, network, *device, *opened, *at);
+            push_summary(line, *cycle, *members, *verdict);
+        }
+        NoteBody::Sent { device, cycle } => push_sent(line, network, *device, *cycle),
+        NoteBody::Corrected {
+            device,
+            cycle,
+            by,
+            adjustment,
+        } => push_corrected(line, network, *device, *cycle, *by, *adjustment),
+        NoteBody::State {
+            device,
+            state,
+            cause,
+            why,
+        } => push_state(line, network, *device, *state, *cause, *why),
+        NoteBody::Clock {
+            device,
+            reading,
+            adjustment,
+            state,
+        } => push_clock(line, network, *device, *reading, *adjustment, *state),
+        _ => push_frame(line, network, body),
+    }
+}

@@ -1,0 +1,5 @@
+use Rattle.run_law.proofs.FirstBroken.{broken_are_still}
+use Rattle.run_law.proofs.first_laws.broken_are_still.Goals as goal
+
+pub returns : goal.returns
+returns c = broken_are_still

@@ -1,0 +1,5 @@
+use Rattle.run_law.proofs.FirstDeliveries.{deliveries_begin}
+use Rattle.run_law.proofs.first_laws.deliveries_begin.Goals as goal
+
+pub returns : goal.returns
+returns c = deliveries_begin

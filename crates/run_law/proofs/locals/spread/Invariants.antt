@@ -1,0 +1,5 @@
+use Rattle.run_law.proofs.Ends.{AreEndsOf}
+use Rattle.run_law.proofs.locals.spread.Given as goal
+
+abbrev pub invariant-loop-local : goal.invariant-loop-local
+invariant-loop-local l = AreEndsOf l.locals l.local-index l.least l.greatest
