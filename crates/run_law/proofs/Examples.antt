@@ -1,5 +1,5 @@
 -- The definitions are met: by a run of one event, an event within the hypothesis and one outside.
-use Rattle.std.proofs.Common.{◌≡◌, ℕ, zero, suc, ◌+◌, ◌<◌, pos, ◌≤ℤ◌, List, [], ◌∷◌, ◌++◌, Contains, Some, slice_get, inl, inr, refl, sym, ap, subst, ◌∙◌, arith}
+use Rattle.std.proofs.Common.{◌≡◌, ℕ, zero, suc, ◌+◌, ◌/◌, ◌<◌, pos, ◌≤ℤ◌, List, [], ◌∷◌, ◌++◌, Contains, Some, slice_get, inl, inr, refl, sym, ap, subst, ◌∙◌, arith}
 use Rattle.net_plan.specs.declared.event.Event.{Event}
 use Rattle.net_plan.specs.declared.event.What.TheVariants.{Heal, End}
 use Rattle.net_plan.specs.declared.ids.DeviceId.{DeviceId}
@@ -9,14 +9,16 @@ use Rattle.net_plan.specs.declared.tables.Way.{Way}
 use Rattle.run_law.specs.Hypothesis.{ComesTooEarly, ComesTooLate, Violates, IsWithinHypothesis, IsOutsideBy, condition_number}
 use Rattle.run_law.specs.Order.{IsBefore, IsIn}
 use Rattle.run_law.specs.Ranks.{rank, key}
-use Rattle.run_law.specs.Silent.{silent_place, IsSilentlyCaused, IsSilentlyDue, IsSilentRunOf}
+use Rattle.run_law.specs.Records.{IsRunOf}
+use Rattle.run_law.specs.Silent.{silent_place, IsInFirstHalf, IsSilent, IsSilentlyCaused, IsSilentlyDue, IsSilentRunOf}
 use Rattle.run_law.specs.declared.note.Note.{Note}
 use Rattle.run_law.specs.declared.note.NoteBody.{NoteBody}
 use Rattle.run_law.specs.declared.note.NoteBody.TheVariants.{Event as Befalls, Clock}
 use Rattle.run_law.specs.declared.outside.Outside.{Outside}
 use Rattle.run_law.specs.declared.outside.Outside.TheVariants.{Order, Late, Rate, Wire, Hold, Channel, NotMaster, SecondBreak, TooFewMasters, NotBroken, NotOff}
 use Rattle.run_law.proofs.Grow.{empty_run, grow, move_mark}
-use Rattle.run_law.proofs.Places.{never_self, behind, before_behind}
+use Rattle.run_law.proofs.SilentAgreement.{silent_runs_agree}
+use Rattle.run_law.proofs.Places.{before_later_time, never_self, behind, before_behind}
 use Rattle.tte_units.specs.Amount.{amount}
 use Rattle.tte_units.specs.declared.units.Units.{Units}
 
@@ -48,8 +50,8 @@ at_time : (event : Event) (m : Note) → IsIn m (first_note event ∷ []) → Is
 at_time event m (inl e) = inl (omega (arith, ap (λ (n : Note). amount n.time) e))
 at_time event m (inr none) = absurd none
 
-pub one_event_run : (network : Network) (reading : DeviceId → ℕ → ℕ) (event : Event) → pos 0 ≤ℤ event.time.0 → (event.what ≡ End → ⊥) → IsSilentRunOf network reading (event ∷ []) ((amount event.time + 1) ∷ []) (first_note event ∷ [])
-one_event_run network reading event begun on =
+silent_event_run : (network : Network) (reading : DeviceId → ℕ → ℕ) (event : Event) → pos 0 ≤ℤ event.time.0 → (event.what ≡ End → ⊥) → IsSilentRunOf network reading (event ∷ []) ((amount event.time + 1) ∷ []) (first_note event ∷ [])
+silent_event_run network reading event begun on =
     let IsDueHere : List Note → Note → Type 0 = IsSilentlyDue network reading (event ∷ []) in
     let n : Note = first_note event in
     let due : IsDueHere [] n = record { number = refl; begun = begun; cause = record { event = event; before = 0; line_is = refl; is = refl; at = refl; same = refl } } in
@@ -60,6 +62,13 @@ one_event_run network reading event begun on =
     move_mark silent_place IsDueHere (behind (silent_place n)) ((amount event.time + 1) ∷ []) (n ∷ []) first (at_time event) (record {
       gap = λ ps qs y e before rest owed here. subst (λ (p : List ℕ). IsBefore p (behind (silent_place n))) (sym (at_first network reading event y.time y.body on owed.cause)) (before_behind (silent_place n));
     })
+
+-- it is the run where the network is silent and the event early
+pub one_event_run : (network : Network) (reading : DeviceId → ℕ → ℕ) (event : Event) → IsSilent network reading (event ∷ []) → amount event.time < amount network.cycle / 2 → pos 0 ≤ℤ event.time.0 → (event.what ≡ End → ⊥)
+    → IsRunOf network reading (event ∷ []) ((amount event.time + 1) ∷ []) (first_note event ∷ [])
+one_event_run network reading event silent early begun on =
+    let half : IsInFirstHalf network ((amount event.time + 1) ∷ []) = λ p before. before_later_time p (amount event.time + 1) (amount network.cycle / 2) (omega (arith, early)) before in
+    (silent_runs_agree network reading (event ∷ []) ((amount event.time + 1) ∷ []) (first_note event ∷ []) silent half).0 (silent_event_run network reading event begun on)
 
 -- ---- events within the hypothesis and outside
 

@@ -102,7 +102,8 @@ parts (n ∷ ns) (p ∷ ps) qs e =
     let head : plain n ≡ p = cc in
     let tail : map plain ns ≡ ps ++ qs = cc in
     let r = parts ns ps qs tail in
-    record { front = n ∷ r.front; back = r.back; whole = ap (λ (t : List Note). n ∷ t) r.whole; first = ap (λ h. h ∷ ps) {y = plain n} (sym head) ∙ ap (λ t. plain n ∷ t) r.first; second = r.second }
+    let first : p ∷ ps ≡ map plain (n ∷ r.front) = ap (λ (h : Happening). h ∷ ps) (sym head) ∙ ap (λ (t : List Happening). plain n ∷ t) r.first in
+    record { front = n ∷ r.front; back = r.back; whole = ap (λ (t : List Note). n ∷ t) r.whole; first = first; second = r.second }
 
 next_part : (back : List Note) (x : Happening) (qs : List Happening) → x ∷ qs ≡ map plain back → (n : Note) × (rest : List Note) × (back ≡ n ∷ rest) × (x ≡ plain n)
 next_part [] x qs e = absurd cc

@@ -7,3 +7,4 @@ pub mod WordsBack
 pub mod EventsBack
 pub mod Lowering
 pub mod TextsBack
+pub mod ReadOfNetwork

@@ -1,8 +1,7 @@
 -- The rates that events in order set are a history of a clock.
-use Rattle.std.proofs.Common.{◌≡◌, ℕ, zero, suc, ◌+◌, ◌<◌, ◌≤◌, ◌==◌, List, [], ◌∷◌, Option, Some, None, Bool, true, false, if◌then◌else◌, unsigned_abs, refl, arith}
+use Rattle.std.proofs.Common.{◌≡◌, ℕ, zero, suc, ◌≤◌, ◌==◌, List, [], ◌∷◌, Option, Some, None, true, false, if◌then◌else◌, unsigned_abs, refl, arith}
 use Rattle.std.specs.List.{All, cons_option}
 use Rattle.std.specs.List.Sorted.{IsNonDecreasingBy}
-use Rattle.std.proofs.lemmas.Bool.{cases_lt}
 use Rattle.std.proofs.lemmas.List.Elements.{All-cons, All-head, All-nil, All-tail}
 use Rattle.drift_clock.specs.RateSteps.{IsHistory, RateStep}
 use Rattle.net_plan.specs.declared.event.Event.{Event}
@@ -12,7 +11,6 @@ use Rattle.net_plan.specs.declared.ids.DeviceId.{DeviceId}
 use Rattle.run_law.specs.Rates.{rate_steps, step_by}
 use Rattle.tte_run.proofs.RunRecords.{IsInOrder}
 use Rattle.tte_units.specs.Amount.{amount}
-use Rattle.tte_units.specs.declared.rates.Ppb.{Ppb}
 
 -- a rate that this sets is of a magnitude of at most rho
 abbrev pub IsSlow : ℕ → What → Type 0

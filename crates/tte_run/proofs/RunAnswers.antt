@@ -1,7 +1,6 @@
 -- The answer for a network under the octets of a trace: what it begins with, and that it is one.
 use Rattle.std.proofs.Common.{◌≡◌, ◌⊎◌, ℕ, ◌+◌, ◌<◌, List, [], ◌∷◌, ◌++◌, length, Some, slice_get, arith, refl, sym, ap, subst, ◌∙◌, inl, inr, append_assoc}
 use Rattle.std.proofs.lemmas.List.{map-append}
-use Rattle.drift_world.specs.Notes.{event_note}
 use Rattle.drift_world.specs.Standing.{behind_events, last_time}
 use Rattle.net_plan.specs.declared.event.Event.{Event}
 use Rattle.net_plan.specs.declared.network.Network.{Network}
@@ -24,7 +23,7 @@ use Rattle.tte_run.specs.declared.fault.TraceFault.{TraceFault}
 use Rattle.tte_run.specs.declared.status.Status.TheVariants.{Done}
 use Rattle.tte_units.specs.Amount.{amount, units_of}
 use Rattle.tte_units.specs.declared.units.Units.{Units}
-use Rattle.tte_run.proofs.Admitted.{IsStopped, admitted_front, admitted_in_order, admitted_none, admitted_one, ended_at, stopped_one}
+use Rattle.tte_run.proofs.Admitted.{IsStopped, admitted_in_order, admitted_one, ended_at, stopped_one}
 use Rattle.tte_run.proofs.RunRecords.{event_notes, event_notes-append, events_run, notes_from}
 use Rattle.tte_run.proofs.SilentRuns.{IsBuilt, so_far_of_silent}
 use Rattle.tte_run.proofs.TraceFaults.{end_has_no_fault, fault_one, fault_stops}
@@ -60,7 +59,7 @@ under_two t r rest (inr (same, inr (two, none))) = absurd none
 -- at first nothing is due
 none_at_first : (s : Scenario) (time : Units) (members : ℕ) (body : NoteBody) → s.events ≡ [] → IsCaused s [] time body → IsBefore (amount time ∷ rank body ∷ key members body) (behind_events (units_of 0)) → ⊥
 none_at_first s time members (Befalls line what) none cause before = let there = subst (λ (es : List Event). slice_get es cause.before ≡ Some cause.event) none cause.is in absurd cc
-none_at_first s time members other none cause before = let low = under_two (amount time) _ _ before in absurd (omega (arith, low))
+none_at_first s time members other none cause before = let low = under_two (amount time) (rank other) (key members other) before in absurd (omega (arith, low))
 
 -- so there are no records
 pub records_none : (network : Network) → AreRecordsSoFar network [] []

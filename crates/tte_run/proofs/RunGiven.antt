@@ -8,14 +8,12 @@
 --     all records were put                                   whole_given
 --
 -- Then built_given makes it the answer of `run`, and early_given where the run is not built yet.
-use Rattle.std.proofs.Common.{◌≡◌, ◌⊎◌, ℕ, ◌+◌, List, [], ◌∷◌, ◌++◌, length, refl, sym, ap, subst, ◌∙◌, inl, inr, append_assoc}
+use Rattle.std.proofs.Common.{◌≡◌, ◌⊎◌, ℕ, ◌+◌, List, ◌∷◌, ◌++◌, length, refl, sym, ap, subst, ◌∙◌, inl, inr, append_assoc}
 use Rattle.std.specs.Prelude.{codes}
 use Rattle.std.proofs.lemmas.List.{map-append}
-use Rattle.drift_world.specs.Standing.{last_time}
 use Rattle.net_plan.specs.declared.event.Event.{Event}
 use Rattle.net_plan.specs.declared.network.Network.{Network}
 use Rattle.report_text.specs.NoteLine.{note_line, report_of}
-use Rattle.run_law.specs.Order.{IsBefore}
 use Rattle.run_law.specs.declared.note.Note.{Note}
 use Rattle.tte_run.specs.Accepting.{refused_answer}
 use Rattle.tte_run.specs.Answering.{Answer, Gives, GivesOne}
@@ -26,7 +24,6 @@ use Rattle.tte_run.specs.Tracing.{AreAdmitted}
 use Rattle.tte_run.specs.declared.fault.TraceFault.{TraceFault}
 use Rattle.tte_run.specs.declared.status.Status.{Status}
 use Rattle.tte_run.specs.declared.status.Status.TheVariants.{Done, ReadFault, WriteFault, OutOfMemory}
-use Rattle.tte_units.specs.Amount.{amount}
 use Rattle.tte_run.proofs.Frames.{Gives-behind}
 use Rattle.tte_run.proofs.OneAnswers.{one_given, widened}
 use Rattle.tte_run.proofs.Puts.{PutsLines-append, PutFails-behind}

@@ -1,5 +1,5 @@
 -- The runs under admitted events are those of the silent cycle.
-use Rattle.std.proofs.Common.{◌≡◌, ℕ, ◌+◌, ◌/◌, ◌^◌, ◌<◌, ◌≤◌, List, [], ◌∷◌, ◌++◌, length, unsigned_abs, inl, inr, refl, sym, ap, subst, ◌∙◌, arith}
+use Rattle.std.proofs.Common.{◌≡◌, ℕ, ◌+◌, ◌/◌, ◌^◌, ◌<◌, ◌≤◌, List, [], ◌∷◌, ◌++◌, length, unsigned_abs, inl, inr, refl, ap, subst, arith}
 use Rattle.std.specs.List.{All, fold}
 use Rattle.std.proofs.lemmas.Bool.{cases_lt}
 use Rattle.std.proofs.lemmas.Int.{ints}
@@ -13,7 +13,6 @@ use Rattle.net_plan.specs.Ranges.{IsInRange}
 use Rattle.net_plan.specs.declared.event.Event.{Event}
 use Rattle.net_plan.specs.declared.event.What.{What}
 use Rattle.net_plan.specs.declared.event.What.TheVariants.{Rate, On, Send}
-use Rattle.net_plan.specs.declared.ids.DeviceId.{DeviceId}
 use Rattle.net_plan.specs.declared.network.Network.{Network}
 use Rattle.net_plan.specs.declared.tables.VirtualLink.{VirtualLink}
 use Rattle.run_law.proofs.Places.{before_later_time, before_next_time}
@@ -25,14 +24,15 @@ use Rattle.run_law.specs.Silent.{IsInFirstHalf, IsQuiet, IsSilent, IsSilentNetwo
 use Rattle.run_law.specs.declared.note.Note.{Note}
 use Rattle.run_law.specs.declared.outside.Outside.TheVariants as conditions
 use Rattle.schedule_tables.specs.Rules.{KeepsRules}
+use Rattle.trace_text.proofs.ReadOfNetwork.{read_of_network}
+use Rattle.trace_text.specs.Ranges.{IsOfNetwork}
 use Rattle.tte_io.specs.Line.{first_line}
 use Rattle.tte_run.proofs.Admitted.{admitted_in_order}
 use Rattle.tte_run.proofs.BuiltNetworks.{begins_on}
 use Rattle.tte_run.proofs.ClockHistories.{IsSlow, history}
-use Rattle.tte_run.proofs.EventTimes.{turns_on_own}
 use Rattle.tte_run.specs.PutRecords.{AreSilentBefore, AreSilentSoFar}
 use Rattle.tte_run.specs.Running.{AreRecordsBefore, AreRecordsSoFar, IsUnbuilt, clock_reading}
-use Rattle.tte_run.specs.Tracing.{AreAdmitted, IsAdmitted, IsEarly, behind_lines}
+use Rattle.tte_run.specs.Tracing.{AreAdmitted, IsEarly, behind_lines}
 use Rattle.tte_units.specs.Amount.{amount, units_of}
 use Rattle.tte_units.specs.declared.units.Units.{Units}
 
@@ -62,11 +62,12 @@ all_parts : {X : Type 0} (P : X → Type 0) (xs : List X) → ((before behind : 
 all_parts P [] h = All-nil P
 all_parts P (x ∷ xs) h = All-cons P x xs (h [] xs x refl) (all_parts P xs (λ before behind y e. h (x ∷ before) behind y (ap (λ t. x ∷ t) e)))
 
-quiet_by : (network : Network) (before : List Event) (event : Event) (what : What) → AllBeginOn network → ((device : DeviceId) → event.what ≡ On device → device.0 < length network.device) → (IsEarly network event → ⊥) → IsWithinHypothesis network before event
+quiet_by : (network : Network) (before : List Event) (event : Event) (what : What) → AllBeginOn network → IsOfNetwork network event.what → (IsEarly network event → ⊥) → IsWithinHypothesis network before event
     → event.what ≡ what → IsQuiet what
-quiet_by network before event (Send link octets) begin there timely within same = timely (inl (link, octets, same))
-quiet_by network before event (On device) begin there timely within same = within conditions.NotOff (record { device = device; what = same; known = inl (begin device (there device same)) })
-quiet_by network before event other begin there timely within same = tt
+quiet_by network before event (Send link octets) begin own timely within same = timely (inl (link, octets, same))
+quiet_by network before event (On device) begin own timely within same =
+    within conditions.NotOff (record { device = device; what = same; known = inl (begin device (subst (IsOfNetwork network) same own)) })
+quiet_by network before event other begin own timely within same = tt
 
 slow_by : (network : Network) (before : List Event) (event : Event) (what : What) → IsWithinHypothesis network before event → event.what ≡ what → IsSlow network.rho what
 slow_by network before event (Rate device rate) within same =
@@ -80,7 +81,7 @@ admitted_quiet : (network : Network) (octets : List ℕ) (events : List Event) �
 admitted_quiet network octets events b all =
     all_parts (λ (e : Event). IsQuiet e.what) events (λ before behind e order.
     let a = all before behind e order in
-    quiet_by network before e e.what (begins_on network b.built) (turns_on_own network (first_line (behind_lines (length before) octets)) e a.has.read) a.has.timely a.within refl)
+    quiet_by network before e e.what (begins_on network b.built) (read_of_network network (first_line (behind_lines (length before) octets)) e a.has.read) a.has.timely a.within refl)
 
 admitted_slow : (network : Network) (octets : List ℕ) (events : List Event) → AreAdmitted network octets events → All (λ e. IsSlow network.rho e.what) events
 admitted_slow network octets events all =
