@@ -8,3 +8,6 @@ mod watch;
 
 pub use run_law::Outside;
 pub use watch::Watch;
+
+#[cfg(test)]
+mod tests;

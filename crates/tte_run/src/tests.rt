@@ -1,5 +1,6 @@
 mod cases;
 mod checking;
+mod cut_short;
 mod files;
 mod grown;
 mod rules;

@@ -28,19 +28,19 @@ const WITHOUT_ROWS: Edit<'_> = (
 
 // A run over a network: its trace, the reads of the trace and the puts that fail, and what it answers.
 #[derive(Clone, Copy)]
-struct Run<'a> {
-    trace: &'a str,
-    failing_reads: &'a [u32],
-    failing_puts: &'a [u32],
-    text: &'a str,
-    status: Status,
+pub(super) struct Run<'a> {
+    pub(super) trace: &'a str,
+    pub(super) failing_reads: &'a [u32],
+    pub(super) failing_puts: &'a [u32],
+    pub(super) text: &'a str,
+    pub(super) status: Status,
 }
 
 fn try_run(rt: &impl Abort, alloc: Global, network: &str, run: &Run) -> Result<(), Fail> {
     let words = words_of(alloc, &["run", "net.toml", "net.trace"])?;
     let mut first = SteadySource::new(alloc, network.as_bytes())?;
     let mut second = MemorySource::new(alloc, run.trace.as_bytes(), 17, run.failing_reads)?;
-    let mut out = MemorySink::new(alloc, 8192, run.failing_puts)?;
+    let mut out = MemorySink::new(alloc, run.text.len() as u64 + 4096, run.failing_puts)?;
     let status = tte(alloc, &words, &mut first, &mut second, &mut out);
     if status == Status::OutOfMemory {
         assert!(rt; run.text.as_bytes().starts_with(out.written()));
@@ -52,7 +52,12 @@ fn try_run(rt: &impl Abort, alloc: Global, network: &str, run: &Run) -> Result<(
 }
 
 // Runs the worked network without traffic, and with an edit.
-fn try_runs(rt: &impl Abort, alloc: Global, edit: Edit<'_>, runs: &[Run<'_>]) -> Result<(), Fail> {
+pub(super) fn try_runs(
+    rt: &impl Abort,
+    alloc: Global,
+    edit: Edit<'_>,
+    runs: &[Run<'_>],
+) -> Result<(), Fail> {
     let network = with_edits(rt, alloc, WORKED, &[WITHOUT_VL, WITHOUT_ROWS, edit])?;
     for run in runs {
         try_run(rt, alloc, network.as_str(), run)?;
@@ -60,11 +65,11 @@ fn try_runs(rt: &impl Abort, alloc: Global, edit: Edit<'_>, runs: &[Run<'_>]) ->
     Ok(())
 }
 
-const UNCHANGED: Edit<'_> = ("version = 1\n", "version = 1\n");
+pub(super) const UNCHANGED: Edit<'_> = ("version = 1\n", "version = 1\n");
 
 const IN_GRAINS: Edit<'_> = ("rho = 50000\n", "rho = 50000\ngrain = 4096\n");
 
-fn whole<'a>(trace: &'a str, text: &'a str, status: Status) -> Run<'a> {
+pub(super) fn whole<'a>(trace: &'a str, text: &'a str, status: Status) -> Run<'a> {
     Run {
         trace,
         failing_reads: &[],
@@ -74,9 +79,9 @@ fn whole<'a>(trace: &'a str, text: &'a str, status: Status) -> Run<'a> {
     }
 }
 
-const RATES: &str = "0 rate m1 50000\n0 rate m2 -50000\n0 rate m3 1\n1500000000 end\n";
+pub(super) const RATES: &str = "0 rate m1 50000\n0 rate m2 -50000\n0 rate m3 1\n1500000000 end\n";
 
-const RATES_REPORT: &str = "1 0 event 1 rate m1 50000
+pub(super) const RATES_REPORT: &str = "1 0 event 1 rate m1 50000
 2 0 event 2 rate m2 -50000
 3 0 event 3 rate m3 1
 4 1500000000 event 4 end
@@ -106,9 +111,9 @@ const GRAINS_REPORT: &str = "1 0 event 1 rate m1 50000
 13 1500000000 clock cb reading 1499996160 adj 0 state synchronised
 ";
 
-const CUTS: &str = "1000 cut m1_a up\n2000 heal m1_a up\n3000 cut m1_b up\n4000 end\n";
+pub(super) const CUTS: &str = "1000 cut m1_a up\n2000 heal m1_a up\n3000 cut m1_b up\n4000 end\n";
 
-const CUTS_REPORT: &str = "1 1000 event 1 cut m1_a up
+pub(super) const CUTS_REPORT: &str = "1 1000 event 1 cut m1_a up
 2 2000 event 2 heal m1_a up
 outside line 3 condition 6
 ";
@@ -201,40 +206,4 @@ fn networks_of_later_runs_are_refused(rt: HostRuntime) -> Result<(), Fail> {
     try_run(&rt, alloc, WORKED, &run)?;
     let off: Edit<'_> = ("member=3, start=0", "member=3");
     try_runs(&rt, alloc, off, &[run])
-}
-
-#[test]
-fn a_run_stops_at_a_failed_put(rt: HostRuntime) -> Result<(), Fail> {
-    let alloc = rt.alloc();
-    let lines = [
-        "1 1000 event 1 cut m1_a up\n",
-        "1 1000 event 1 cut m1_a up\n2 2000 event 2 heal m1_a up\n",
-    ];
-    try_runs(
-        &rt,
-        alloc,
-        UNCHANGED,
-        &[
-            Run {
-                failing_puts: &[1],
-                ..whole(CUTS, "", Status::WriteFault)
-            },
-            Run {
-                failing_puts: &[2],
-                ..whole(CUTS, lines[0], Status::WriteFault)
-            },
-            Run {
-                failing_puts: &[3],
-                ..whole(CUTS, lines[1], Status::WriteFault)
-            },
-            Run {
-                failing_reads: &[1],
-                ..whole(CUTS, "", Status::ReadFault)
-            },
-            Run {
-                failing_reads: &[2],
-                ..whole(CUTS, lines[0], Status::ReadFault)
-            },
-        ],
-    )
 }

@@ -1,0 +1,3 @@
+mod conditions_met;
+mod events_kept;
+mod watching;
