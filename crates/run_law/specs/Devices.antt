@@ -17,10 +17,12 @@ use Rattle.tte_units.specs.declared.units.Units.{Units}
 abbrev pub has_role : Network → (Role → Bool) → DeviceId → Bool
 has_role network kind device = option_map_or (λ d. kind d.role) (device_at network device) false
 
+-- is it the role of compression masters?
 abbrev pub is_cm_role : Role → Bool
 is_cm_role Cm = true
 is_cm_role other = false
 
+-- is it the role of relays?
 abbrev pub is_relay_role : Role → Bool
 is_relay_role Relay = true
 is_relay_role other = false

@@ -44,10 +44,11 @@ pub record IsLawful (s : Scenario) : Type 0 where
 abbrev pub LeadsTo : Scenario → DeviceId → LinkId → DeviceId → Type 0
 LeadsTo s master link switch = IsSomeAnd (link_at s.network link) (λ l. (l.child ≡ master) × (l.parent ≡ switch))
 
--- when a frame that is given to the link at a time leaves on its way up, and when it then arrives
+-- when a frame that is given to the link at a time leaves on its way up
 abbrev pub leaving_time : Scenario → LinkId → ℕ → ℕ
 leaving_time s link t = t + hold_at s link Up t
 
+-- and when it then arrives
 abbrev pub arrival_time : Scenario → LinkId → ℕ → ℕ
 arrival_time s link t = leaving_time s link t + delay_at s link Up (leaving_time s link t)
 

@@ -42,6 +42,7 @@ called moment phase node = record node { last = moment; phase = phase }
 
 -- ---- it is turned on
 
+-- the device that an event turned on
 abbrev pub node_turned_on : Node → Node
 node_turned_on node = record node { standing = after node.standing turned_on }
 
@@ -116,6 +117,7 @@ with_done node deed = record node { done = node.done ++ deed ∷ [] }
 abbrev pub kept_points : Node → List Point
 kept_points node = if is_synchronised node.standing.state then node.points else []
 
+-- and what it has sent of them
 abbrev pub kept_emitted : Node → List Compressed
 kept_emitted node = if is_synchronised node.standing.state then node.emitted else []
 

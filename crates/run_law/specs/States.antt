@@ -15,10 +15,12 @@ use Rattle.sync_state.specs.declared.state.State.{State}
 use Rattle.sync_state.specs.declared.state.State.TheVariants.{Off, Integrating, Joining, Synchronised}
 use Rattle.tte_units.specs.declared.units.Units.{Units}
 
+-- is the device off?
 abbrev pub is_off : State → Bool
 is_off Off = true
 is_off other = false
 
+-- does it have the common time?
 abbrev pub is_synchronised : State → Bool
 is_synchronised Synchronised = true
 is_synchronised other = false

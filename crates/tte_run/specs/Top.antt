@@ -21,6 +21,7 @@ use Rattle.tte_run.specs.declared.status.Status.TheVariants.{Usage}
 abbrev pub usage_line : List ℕ
 usage_line = codes "usage: tte show FILE | check NETWORK | run NETWORK TRACE | storm NETWORK SEED CYCLES\n"
 
+-- the answer for words of no form: the usage line
 abbrev pub usage_answer : Answer
 usage_answer = record { status = Usage; lines = usage_line ∷ [] }
 
