@@ -1,5 +1,5 @@
 -- The correction points of a device.
-use Rattle.std.specs.Prelude.{◌≡◌, ℕ, ◌+◌, ◌*◌, ℤ, pos, Bool, true, false, ◌||◌, ◌&&◌, not, ◌==◌, List, filter, filter_map, fold, Option, Some, None, option_map, if◌then◌else◌}
+use Rattle.std.specs.Prelude.{◌≡◌, ℕ, ◌+◌, ◌*◌, ℤ, pos, Bool, true, false, ◌||◌, ◌&&◌, not, ◌==◌, nat_lt, List, filter, filter_map, fold, Option, Some, None, option_map, if◌then◌else◌}
 use Rattle.std.specs.List.{after_last}
 use Rattle.std.specs.Option.{option_map_or}
 use Rattle.membership.specs.Hearing.{Hearing}
@@ -86,11 +86,11 @@ hearing_by network device h (notes.Compressed other opened at cycle members Outs
     if device.0 == other.0 then option_map (λ channel. heard_by channel h at false) (channel_of network device) else None
 hearing_by network device h other = None
 
--- what the device has heard since its last correction point, this time included: since the last change of its
--- adjustment, and for a joiner since it has cleared
+-- what the device has heard since its last correction point before this time, this time included: since the last
+-- change of its adjustment, and for a joiner since it has cleared
 abbrev pub heard_since : Scenario → List Happening → DeviceId → ℕ → List Hearing
 heard_since s hs device t =
-    let since = after_last (λ h. changes_adjustment device h.note.body) hs in
+    let since = after_last (λ h. nat_lt (time_of h) t && changes_adjustment device h.note.body) hs in
     let kept = filter (λ h. not (has_cleared s hs device t t) || has_cleared s hs device t (time_of h)) since in
     filter_map (λ h. hearing_by s.network device h h.note.body) kept
 
