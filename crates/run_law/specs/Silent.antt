@@ -1,5 +1,5 @@
--- The run of the silent cycle, in which no frame is sent: it has the records of the events, and at the end one of each
--- device's clock. The law says that this is the run.
+-- The run of the silent cycle, in which no frame is sent: it has the records of the events, and at the end one of
+-- each device's clock. The law says that this is the run.
 use Rattle.std.specs.Prelude.{◌≡◌, ◌↔◌, ℕ, ◌+◌, ◌/◌, ◌<◌, pos, ◌≤ℤ◌, List, [], ◌∷◌, length, Some}
 use Rattle.std.specs.List.{All}
 use Rattle.std.specs.Option.{unwrap_or}
@@ -30,8 +30,8 @@ use Rattle.tte_units.specs.declared.units.Units.{Units}
 abbrev pub silent_place : Note → List ℕ
 silent_place note = amount note.time ∷ rank note.body ∷ key 0 note.body
 
--- the record is that of the device's clock, at the time of the end: what it reads, the start as its adjustment, since no
--- cycle has begun, and the state in which it begins
+-- the record is that of the device's clock, at the time of the end: what it reads, the start as its adjustment,
+-- since no cycle has begun, and the state in which it begins
 pub record IsSilentClock (network : Network) (reading : DeviceId → ℕ → ℕ) (events : List Event) (time : Units) (device : DeviceId) (shown adjustment : Units) (state : State) : Type 0 where
   pub is : Device
   pub there : device_at network device ≡ Some is

@@ -48,12 +48,6 @@ notes_from-append line (e ∷ es) fs =
 pub event_notes-append : (es fs : List Event) → event_notes (es ++ fs) ≡ event_notes es ++ notes_from (1 + length es) fs
 event_notes-append es fs = notes_from-append 1 es fs
 
--- one event more has one record more
-pub event_notes-more : (es : List Event) (e : Event) → event_notes (es ++ e ∷ []) ≡ event_notes es ++ event_note (length es + 1) (length es + 1) e ∷ []
-event_notes-more es e =
-    let same : 1 + length es ≡ length es + 1 = omega arith in
-    event_notes-append es (e ∷ []) ∙ ap (λ (n : ℕ). event_notes es ++ event_note n n e ∷ []) same
-
 length-notes_from : (line : ℕ) (es : List Event) → length (notes_from line es) ≡ length es
 length-notes_from line [] = refl
 length-notes_from line (e ∷ es) = ap suc (length-notes_from (line + 1) es)

@@ -1,10 +1,7 @@
 -- The answer of `run` for its two sources.
-use Rattle.std.proofs.Common.{ℕ, List, Option, Some, None, inl, inr, refl, sym, subst, arith}
-use Rattle.std.specs.Prelude.{IfSome, IsNone, IsSomeAnd}
-use Rattle.std.proofs.lemmas.Option.{slice_get_cases}
-use Rattle.drift_world.specs.Standing.{AllBeginOn}
+use Rattle.std.proofs.Common.{ℕ, List, Option, Some, None, inr, refl}
+use Rattle.std.specs.Prelude.{IfSome}
 use Rattle.net_plan.specs.declared.network.Network.{Network}
-use Rattle.net_plan.specs.declared.tables.Device.{Device}
 use Rattle.schedule_checker.specs.Refusals.{RefusalIsOne}
 use Rattle.tte_run.specs.Accepting.{IsNetworkAnswer, MeansAccepted}
 use Rattle.tte_run.specs.Answering.{ForOctets, Gives, GivesOne}
@@ -20,14 +17,6 @@ use Rattle.tte_run.proofs.Octets.{for_more}
 use Rattle.tte_run.proofs.OneAnswers.{none_put}
 use Rattle.tte_run.proofs.Puts.{PutsLines-none}
 use Rattle.tte_run.proofs.RunGiven.{built_given, early_given}
-
--- each device of a network whose run is built begins on
-pub all_begin_on : (network : Network) → (IsUnbuilt network → ⊥) → AllBeginOn network
-all_begin_on network built device there =
-    elim (slice_get_cases network.device device.0).1 [
-      | inl found ↦ subst (λ (o : Option Device). IsSomeAnd o (λ d. IsNone d.start → ⊥)) (sym found.2) (λ none. built (inr (device.0, found.0, found.1, found.3, none)))
-      | inr past ↦ absurd (omega (arith, past.0))
-    ]
 
 -- what holds for all octets that a source may have left
 pub if_all : (left : Option (List ℕ)) (P : List ℕ → Type 0) → ((octets : List ℕ) → P octets) → IfSome left P

@@ -5,7 +5,8 @@ use Rattle.net_plan.specs.declared.network.Network.{Network}
 use Rattle.tte_run.specs.Putting.{shown_by}
 use Rattle.tte_run.specs.Refusing.{early_answer}
 use Rattle.tte_run.specs.Running.{IsUnbuilt}
-use Rattle.tte_run.proofs.RunSources.{all_begin_on, run_built, run_early, run_no_memory}
+use Rattle.tte_run.proofs.BuiltNetworks.{begins_on}
+use Rattle.tte_run.proofs.RunSources.{run_built, run_early, run_no_memory}
 use Rattle.tte_run.proofs.Streams.{untouched, writes_answer, writes_nothing}
 use Rattle.tte_run.proofs.running.run_network.Goals as goal
 
@@ -16,7 +17,7 @@ returns-then-is_unbuilt-clause-general g c =
     run_early c.args.accepted.now (g.B.Source.left c.args.second.now) c.put_early.result (shown c.args.out.now) (shown c.put_early.new.out) unbuilt c.put_early.ensures.gives
 
 pub begin-requires : goal.begin-requires
-begin-requires g c = subst (λ (n : Network). AllBeginOn n) c.network.ensures.value (all_begin_on c.network.result.now (λ unbuilt. false≢true (c.if-is_unbuilt.ensures.1 unbuilt)))
+begin-requires g c = subst (λ (n : Network). AllBeginOn n) c.network.ensures.value (begins_on c.network.result.now (λ unbuilt. false≢true (c.if-is_unbuilt.ensures.1 unbuilt)))
 
 pub run_world-requires-clause-built : goal.run_world-requires-clause-built
 run_world-requires-clause-built g c = subst (λ (n : Network). IsUnbuilt n → ⊥) c.network.ensures.value (λ unbuilt. false≢true (c.if-is_unbuilt.ensures.1 unbuilt))
