@@ -169,7 +169,7 @@ fn virtual_links(alloc: Global) -> Result<VirtualLinks, AllocError>
     Ok(VirtualLinks(vls))
 }
 
-// Half of the worked network, with a second virtual link.
+/// Half of the worked network, with a second virtual link.
 pub fn half(alloc: Global) -> Result<Network, AllocError>
     ensures range { IfOk result IsInRange }
     ensures devices { IfOk result (λ network. length network.device ≡ 8) }
