@@ -142,7 +142,7 @@ fn rows(alloc: Global) -> Result<Rows, AllocError>
     Ok(Rows(rows))
 }
 
-// Half of the worked network: a master and a client, each below the relays of both channels.
+/// Half of the worked network: a master and a client, each below the relays of both channels.
 pub fn half(alloc: Global) -> Result<Network, AllocError>
     ensures range { IfOk result IsInRange }
     ensures rows { IfOk result (λ network. length network.row ≡ 6) }
