@@ -23,9 +23,9 @@ use Rattle.report_text.proofs.Texts.{is_lf, IsUnbroken, visible_unbroken, visibl
 use Rattle.report_text.proofs.Visible.{units_visible, body_visible}
 
 -- a record of the network with its numbers in range
-record IsWritable (network : Network) (note : Note) : Type 0 where
-  of_network : IsNoteOf network note
-  in_range : IsNoteInRange note
+pub record IsWritable (network : Network) (note : Note) : Type 0 where
+  pub of_network : IsNoteOf network note
+  pub in_range : IsNoteInRange note
 
 body_of : (network : Network) (note : Note) → IsWritable network note → IsPrintable network note.body
 body_of network note h = record { of_network = h.of_network; in_range = h.in_range.body }
@@ -40,7 +40,7 @@ body_unbroken : (network : Network) (note : Note) → IsInRange network → IsWr
 unfolding body_text
 body_unbroken network note n h = line_unbroken (body_words network note.body) (body_visible network note.body n h.of_network h.in_range.body)
 
-note_unbroken : (network : Network) (note : Note) → IsInRange network → IsWritable network note → IsUnbroken (note_text network note)
+pub note_unbroken : (network : Network) (note : Note) → IsInRange network → IsWritable network note → IsUnbroken (note_text network note)
 note_unbroken network note n h =
     let number = decimal note.number in
     let time = signed_decimal note.time.0 in
@@ -61,7 +61,7 @@ same_parts : (number number' : ℕ) (time time' : Units) (body body' : NoteBody)
 same_parts number number' time time' body body' e f g =
     ap (λ n. made n time body) e ∙ ap (λ t. made number' t body) f ∙ ap (λ b. made number' time' b) g
 
-same_note : (network : Network) (note other : Note) → IsNamedApart network → IsWritable network note → IsWritable network other → note_text network note ≡ note_text network other → note ≡ other
+pub same_note : (network : Network) (note other : Note) → IsNamedApart network → IsWritable network note → IsWritable network other → note_text network note ≡ note_text network other → note ≡ other
 unfolding made
 same_note network note other apart h g same =
     let number = decimal note.number in
@@ -80,13 +80,13 @@ same_note network note other apart h g same =
 
 -- two lists of one report are one
 
-is_some_text : (text rest : List ℕ) → text ++ codes "\n" ++ rest ≡ [] → ⊥
+pub is_some_text : (text rest : List ℕ) → text ++ codes "\n" ++ rest ≡ [] → ⊥
 is_some_text text rest e = omega (arith, ap length e, length-append (text ++ codes "\n") rest, length-append text (codes "\n"))
 
-head_of : (network : Network) (note : Note) (notes : List Note) → AreOfNetwork network (note ∷ notes) → IsWritable network note
+pub head_of : (network : Network) (note : Note) (notes : List Note) → AreOfNetwork network (note ∷ notes) → IsWritable network note
 head_of network note notes h = record { of_network = All-head (IsNoteOf network) note notes h.of_network; in_range = All-head IsNoteInRange note notes h.in_range }
 
-tail_of : (network : Network) (note : Note) (notes : List Note) → AreOfNetwork network (note ∷ notes) → AreOfNetwork network notes
+pub tail_of : (network : Network) (note : Note) (notes : List Note) → AreOfNetwork network (note ∷ notes) → AreOfNetwork network notes
 tail_of network note notes h = record { of_network = All-tail (IsNoteOf network) note notes h.of_network; in_range = All-tail IsNoteInRange note notes h.in_range }
 
 same_report : (network : Network) (notes others : List Note) → IsNamedApart network → AreOfNetwork network notes → AreOfNetwork network others

@@ -9,7 +9,8 @@ mod words;
 mod writing;
 
 pub use laws::one_report;
-pub use writing::write;
+pub use words::{judgement_text, state_text, why_text};
+pub use writing::{note_line, write};
 
 #[cfg(test)]
 mod tests;

@@ -8,7 +8,8 @@ use run_law::{Judgement, Reason, Why};
 use sync_state::State;
 use tte_io::LineText;
 
-pub(crate) fn state_text(state: State) -> &'static str
+/// The word of a state.
+pub fn state_text(state: State) -> &'static str
     ensures text { result.now ≡ state_text state }
     ensures short { length result.now ≤ 12 }
 {
@@ -20,7 +21,8 @@ pub(crate) fn state_text(state: State) -> &'static str
     }
 }
 
-pub(crate) fn judgement_text(verdict: Judgement) -> &'static str
+/// The word for how a device judges a protocol control frame.
+pub fn judgement_text(verdict: Judgement) -> &'static str
     ensures text { result.now ≡ judgement_text verdict }
     ensures short { length result.now ≤ 10 }
 {
@@ -35,7 +37,8 @@ pub(crate) fn judgement_text(verdict: Judgement) -> &'static str
     }
 }
 
-pub(crate) fn why_text(why: Why) -> &'static str
+/// The word for why a device changes its state.
+pub fn why_text(why: Why) -> &'static str
     ensures text { result.now ≡ why_text why }
     ensures short { length result.now ≤ 12 }
 {

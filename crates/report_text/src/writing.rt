@@ -12,7 +12,10 @@ use net_plan::Network;
 use run_law::Note;
 use tte_io::{LineText, Sink, SinkFailed};
 
-fn note_line(network: &Network, note: &Note) -> LineText
+/// A record's line, ended by LF.
+///
+/// The network is in its ranges, and the record's devices, links and virtual links are its own.
+pub fn note_line(network: &Network, note: &Note) -> LineText
     requires in_range { IsInRange network.now }
     requires of_network { IsNoteOf network.now note.now }
     ensures { result ≡ note_line network.now note.now }

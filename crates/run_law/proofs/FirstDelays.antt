@@ -37,7 +37,7 @@ set_next P o None rest initial none some = none refl
 set_next P o (Some v) rest initial none some = some v refl
 
 -- what holds of the initial value and of each that is set holds of the last
-set_last : {V : Type 0} (P : V → Type 0) (setting : What → Option V) (es : List Event) (o : Option V) (initial : V) → P (unwrap_or o initial) → ((e : Event) → IsIn e es → (v : V) → setting e.what ≡ Some v → P v) → P (unwrap_or (last_or o (filter_map (λ e. setting e.what) es)) initial)
+pub set_last : {V : Type 0} (P : V → Type 0) (setting : What → Option V) (es : List Event) (o : Option V) (initial : V) → P (unwrap_or o initial) → ((e : Event) → IsIn e es → (v : V) → setting e.what ≡ Some v → P v) → P (unwrap_or (last_or o (filter_map (λ e. setting e.what) es)) initial)
 set_last P setting [] o initial first each = first
 set_last P setting (e ∷ es) o initial first each =
     set_next P o (setting e.what) (filter_map (λ e. setting e.what) es) initial
@@ -57,7 +57,7 @@ set_if true n v e = (refl, cc)
 set_if false n v e = absurd cc
 
 -- a way of the same link and direction is one of the same link
-same_way_link : (link other : LinkId) (way turned : Way) → is_way_of link way other turned ≡ true → other ≡ link
+pub same_way_link : (link other : LinkId) (way turned : Way) → is_way_of link way other turned ≡ true → other ≡ link
 same_way_link link other way turned same =
     let both = and_parts (link.0 == other.0) (is_way way turned) same in
     ap (λ (n : ℕ). let l : LinkId = record { 0 = n } in l) (sym (eqb-true link.0 other.0 both.0))
@@ -77,27 +77,27 @@ sets_hold link way (events.Hold other turned delay) v e =
 sets_hold link way other v e = absurd cc
 
 -- the wire delay that an event sets on a way of the link
-record SetsWire (link : LinkId) (what : What) (v : ℕ) : Type 0 where
+pub record SetsWire (link : LinkId) (what : What) (v : ℕ) : Type 0 where
   pub way : Way
   pub delay : Units
   pub is : what ≡ events.Wire link way delay
   pub sets : amount delay ≡ v
 
 -- what sets a wire delay is such an event
-sets_wire : (link : LinkId) (way : Way) (what : What) (v : ℕ) → wire_set link way what ≡ Some v → SetsWire link what v
+pub sets_wire : (link : LinkId) (way : Way) (what : What) (v : ℕ) → wire_set link way what ≡ Some v → SetsWire link what v
 sets_wire link way (events.Wire other turned delay) v e =
     let both = set_if (is_way_of link way other turned) (amount delay) v e in
     record { way = turned; delay = delay; is = ap (λ (l : LinkId). events.Wire l turned delay) (same_way_link link other way turned both.0); sets = both.1 }
 sets_wire link way other v e = absurd cc
 
 -- an event of a lawful scenario is in range, and within the hypothesis given those before it
-record IsGiven (s : Scenario) (e : Event) : Type 0 where
+pub record IsGiven (s : Scenario) (e : Event) : Type 0 where
   pub range : IsEventInRange e
   pub before : List Event
   pub within : IsWithinHypothesis s.network before e
 
 -- each event of a lawful scenario is so
-given : (s : Scenario) (e : Event) → IsLawful s → IsIn e s.events → IsGiven s e
+pub given : (s : Scenario) (e : Event) → IsLawful s → IsIn e s.events → IsGiven s e
 given s e lawful i =
     let at = parted e s.events i in
     let there : slice_get s.events (length at.0) ≡ Some e = subst (λ (es : List Event). slice_get es (length at.0) ≡ Some e) (sym at.2) (at_length at.0 at.1 e) in

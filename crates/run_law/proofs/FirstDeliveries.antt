@@ -141,7 +141,7 @@ last_there : (hs : List Happening) (h : Happening) → last_or None hs ≡ Some 
 last_there hs h e = elim (last_in None hs h e) [ inl none ↦ absurd cc | inr i ↦ i ]
 
 -- what a switch took last is among the records
-accepted_in : (ps : List Happening) (device : DeviceId) (vl : _) (t cause cycle : ℕ) (has : HasAccepted ps device vl t cause cycle) → IsIn has.taken ps
+pub accepted_in : (ps : List Happening) (device : DeviceId) (vl : _) (t cause cycle : ℕ) (has : HasAccepted ps device vl t cause cycle) → IsIn has.taken ps
 accepted_in ps device vl t cause cycle has =
     in_filter (λ h. nat_lt (time_of h) t) ps has.taken
     (in_filter (λ h. is_accepted device vl h.note.body) (earlier t ps) has.taken (last_there _ has.taken has.last))

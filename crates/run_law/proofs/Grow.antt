@@ -44,12 +44,12 @@ move_mark place IsDue mark later ns run within nothing = record {
 -- ---- a run goes on
 
 -- a list and one more, in two parts
-record IsLastOf {N : Type 0} (ns ps qs : List N) (x : N) : Type 0 where
+pub record IsLastOf {N : Type 0} (ns ps qs : List N) (x : N) : Type 0 where
   pub others : List N
   pub last : qs ≡ others ++ x ∷ []
   pub whole : ns ≡ ps ++ others
 
-in_two : {N : Type 0} (ns ps qs : List N) (x : N) → ns ++ x ∷ [] ≡ ps ++ qs → ((qs ≡ []) × (ps ≡ ns ++ x ∷ [])) ⊎ IsLastOf ns ps qs x
+pub in_two : {N : Type 0} (ns ps qs : List N) (x : N) → ns ++ x ∷ [] ≡ ps ++ qs → ((qs ≡ []) × (ps ≡ ns ++ x ∷ [])) ⊎ IsLastOf ns ps qs x
 in_two ns [] qs x e = inr (record { others = ns; last = sym e; whole = refl })
 in_two [] (p ∷ []) [] x e = inl (refl, sym e)
 in_two [] (p ∷ []) (q ∷ qs) x e = absurd cc

@@ -17,7 +17,7 @@ use Rattle.run_law.specs.Collections.{IsCollectedAs, points_of, ripe_by_role, wi
 use Rattle.run_law.specs.Devices.{is_cm, is_cm_role, is_relay, is_relay_role}
 use Rattle.run_law.specs.Happenings.{Happening, numbered, time_of}
 use Rattle.run_law.specs.Leaving.{Departs, Departure, Gives, departure}
-use Rattle.run_law.specs.Permanence.{IsCollectedOr, IsPermanent, IsRipeSo, Ripens, ripe_as}
+use Rattle.run_law.specs.Permanence.{IsCollectedOr, IsPermanent, IsRipeSo, Ripens, ripe_as, IsJudgedBy, before_permanence}
 use Rattle.run_law.specs.Receptions.{ArrivesAs, arrival_of}
 use Rattle.run_law.specs.Scenarios.{Scenario}
 use Rattle.run_law.specs.States.{adjustment_at_hearing, state_at_hearing}
@@ -105,11 +105,11 @@ pub same_ripening : (s : Scenario) (hs : List Happening) (t : ℕ) (device : Dev
 same_ripening s hs t device link cause p q a b x y =
     let frames = same_frame s hs t device link cause x.frame y.frame p q x.permanent y.permanent in
     let points = same_point s hs t device link cause x.frame y.frame p q x.permanent y.permanent in
-    let state = state_at_hearing s hs device t in
-    let adjustment = (adjustment_at_hearing s hs device t).0 in
-    let there = subst (λ (f : Pcf). IsRipeSo s.network device state adjustment (points_of hs device) f q.0 b) (sym frames) y.becomes in
-    let here = subst (λ (u : Units). IsRipeSo s.network device state adjustment (points_of hs device) x.frame u.0 b) (sym points) there in
-    same_ripe s.network device state adjustment (points_of hs device) x.frame p.0 a b x.becomes here
+    let judged = before_permanence hs t device link cause in
+    let there = subst (λ (f : Pcf). IsJudgedBy s (judged f q) t device f q b) (sym frames) y.becomes in
+    let here = subst (λ (u : Units). IsJudgedBy s (judged x.frame u) t device x.frame u b) (sym points) there in
+    let front = judged x.frame p in
+    same_ripe s.network device (state_at_hearing s front device t) (adjustment_at_hearing s front device t).0 (points_of front device) x.frame p.0 a b x.becomes here
 
 -- judgements are told apart by what becomes of the frame
 pub same_judgement : (v w : Judgement) → ripe_as v ≡ ripe_as w → v ≡ w

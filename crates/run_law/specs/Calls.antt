@@ -1,5 +1,5 @@
 -- When a device may be called.
-use Rattle.std.specs.Prelude.{ℤ, ◌≡◌, ◌⊎◌, ℕ, ◌+◌, ◌^◌, ◌≤◌, pos, ◌+ℤ◌, ◌<ℤ◌, ◌≤ℤ◌, true, false, List, length, Ok, IsSomeAnd}
+use Rattle.std.specs.Prelude.{ℤ, ◌≡◌, ◌⊎◌, ℕ, ◌+◌, ◌^◌, ◌≤◌, pos, ◌+ℤ◌, ◌<ℤ◌, ◌≤ℤ◌, true, false, List, length, All, Ok, IsSomeAnd}
 use Rattle.net_plan.specs.Places.{link_at}
 use Rattle.net_plan.specs.Rules.{IsChildOf}
 use Rattle.net_plan.specs.declared.ids.DeviceId.{DeviceId}
@@ -77,6 +77,9 @@ pub record MayRipen (network : Network) (device : DeviceId) (node : Node) (momen
   pub clock : frame.clock ≤ amount network.dmax
   pub from_below : IsParentOf network device link → IsOfMaster network device link frame.members
   pub not_before : node.last.time.0 <ℤ moment.time.0 → node.last.reading.0 ≤ℤ point.0
+  pub from_zero : pos 0 ≤ℤ point.0
+  pub after_points : All (λ p. p.reading ≤ℤ point.0) node.points
+  pub after_emitted : All (λ sent. sent.at.0 ≤ℤ point.0) node.emitted
 
 -- the device has something left to do
 abbrev pub HasTask : Network → DeviceId → Node → Type 0
@@ -106,11 +109,15 @@ pub record MayAct (network : Network) (device : DeviceId) (node : Node) (moment 
 -- a frame of these octets may come to it by the link
 pub record MayHear (network : Network) (device : DeviceId) (node : Node) (moment : Moment) (link : LinkId) (octets : List ℕ) : Type 0 where
   pub call : MayCall network device node moment arriving
+  pub least : 60 ≤ length octets
+  pub most : length octets ≤ 1514
   pub arrives : HasLink network device → MayArrive network device link octets
 
 -- this frame may be permanent
 pub record MayTake (network : Network) (device : DeviceId) (node : Node) (moment : Moment) (link : LinkId) (frame : Pcf) (point : Units) : Type 0 where
   pub call : MayCall network device node moment ripening
+  pub reached : point.0 ≤ℤ moment.reading.0
+  pub in_time : moment.reading.0 <ℤ (point.0 +ℤ network.precision.0)
   pub ripens : IsHearing network device node → MayRipen network device node moment link frame point
 
 -- the machine stands as some device of some network, for which this holds

@@ -10,7 +10,7 @@ use Rattle.net_plan.specs.declared.ids.DeviceId.{DeviceId}
 use Rattle.net_plan.specs.declared.network.Network.{Network}
 use Rattle.run_law.specs.Happenings.{Happening}
 use Rattle.run_law.specs.Standpoints.{first_reason, place_in_cycle}
-use Rattle.run_law.specs.States.{cycle_in, is_synchronised}
+use Rattle.run_law.specs.States.{cycle_in, is_joined_by, is_synchronised}
 use Rattle.run_law.specs.Ranks.{members_in}
 use Rattle.run_law.specs.declared.judgement.Reason.{Reason}
 use Rattle.run_law.specs.declared.judgement.Reason.TheVariants.{Gate, Cycle}
@@ -22,12 +22,13 @@ use Rattle.run_law.specs.declared.steps.Ripe.TheVariants as ripe
 use Rattle.sync_state.specs.declared.state.State.{State}
 use Rattle.tte_units.specs.Amount.{amount}
 
--- does the record end a stretch of the device, in which its state is one? Being turned on ends none: before it
--- nothing was collected, and what comes at its instant belongs to the new stretch
+-- does the record end a stretch of the device, in which its state is one? A frame that tells it the time ends one at
+-- once, before the record of the new state. Being turned on ends none: before it nothing was collected, and what comes
+-- at its instant belongs to the new stretch
 abbrev pub ends_stretch : DeviceId → NoteBody → Bool
 ends_stretch device (notes.State other state cause On) = false
 ends_stretch device (notes.State other state cause why) = device.0 == other.0
-ends_stretch device other = false
+ends_stretch device other = is_joined_by device other
 
 -- the master whose bit is the members
 abbrev pub master_of : ℕ → ℕ

@@ -1,5 +1,5 @@
 -- The order of records by their places, which are lists of numbers.
-use Rattle.std.specs.Prelude.{◌≡◌, ◌⊎◌, ℕ, ◌<◌, List, [], ◌∷◌, ◌++◌}
+use Rattle.std.specs.Prelude.{◌≡◌, ◌⊎◌, ℕ, ◌<◌, List, [], ◌∷◌, ◌++◌, Bool, true, false, nat_lt, ◌==◌, ◌&&◌, ◌||◌}
 
 -- the first place is before the second: their numbers are compared from the left, and a front of a place
 -- is before it
@@ -7,6 +7,12 @@ abbrev pub IsBefore : List ℕ → List ℕ → Type 0
 IsBefore xs [] = ⊥
 IsBefore [] (y ∷ ys) = Unit {0}
 IsBefore (x ∷ xs) (y ∷ ys) = (x < y) ⊎ ((x ≡ y) × IsBefore xs ys)
+
+-- the same, as a test
+abbrev pub is_before : List ℕ → List ℕ → Bool
+is_before xs [] = false
+is_before [] (y ∷ ys) = true
+is_before (x ∷ xs) (y ∷ ys) = nat_lt x y || (x == y && is_before xs ys)
 
 -- the record is one of the list
 abbrev pub IsIn : {N : Type 0} → N → List N → Type 0

@@ -1,5 +1,5 @@
 -- How a protocol control frame becomes permanent.
-use Rattle.std.specs.Prelude.{◌≡◌, ℕ, ℤ, pos, true, false, Bool, not, ◌||◌, List, Option, Some, None, MatchBool}
+use Rattle.std.specs.Prelude.{◌≡◌, ℕ, ℤ, pos, true, false, Bool, not, ◌||◌, List, [], ◌∷◌, filter, Option, Some, None, MatchBool}
 use Rattle.compression.specs.Clusters.{Point, point_at}
 use Rattle.compression.specs.declared.taken.Taken.{Taken}
 use Rattle.drift_clock.specs.Reach.{IsReach}
@@ -11,6 +11,8 @@ use Rattle.run_law.specs.Collections.{IsCollectedAs, master_of, point_fault, poi
 use Rattle.run_law.specs.Devices.{is_cm, is_parent_of, is_relay, plan_of}
 use Rattle.run_law.specs.Happenings.{Happening, numbered, time_of}
 use Rattle.run_law.specs.Hearing.{heard_as}
+use Rattle.run_law.specs.Order.{is_before}
+use Rattle.run_law.specs.Ranks.{place_of}
 use Rattle.run_law.specs.Scenarios.{Scenario, is_broken}
 use Rattle.run_law.specs.States.{adjustment_at_hearing, state_at_hearing}
 use Rattle.run_law.specs.declared.judgement.Judgement.{Judgement}
@@ -21,6 +23,7 @@ use Rattle.run_law.specs.declared.steps.Ripe.{Ripe}
 use Rattle.run_law.specs.declared.steps.Ripe.TheVariants as ripe
 use Rattle.sync_state.specs.declared.state.State.{State}
 use Rattle.transparent_clock.specs.Points.{point_of}
+use Rattle.tte_units.specs.Amount.{amount}
 use Rattle.tte_units.specs.declared.units.Units.{Units}
 
 -- does the device wait for the permanence of what comes by the link? A relay does not for what it passes up
@@ -70,8 +73,19 @@ pub record IsPermanent (s : Scenario) (hs : List Happening) (t : ℕ) (device : 
   pub reached : IsReach (s.reading device) (pos (time_of arrival)) point.0 (pos t)
   pub correct : is_broken s device t ≡ false
 
+-- the records before the place at which the frame is permanent. What comes behind it at that time, as another frame or
+-- a change of the device's state, does not bear on it, though a record of its drop comes later still
+abbrev pub before_permanence : List Happening → ℕ → DeviceId → LinkId → ℕ → Pcf → Units → List Happening
+before_permanence hs t device link cause frame point =
+    filter (λ h. is_before (place_of h) (t ∷ 3 ∷ device.0 ∷ amount point ∷ frame.members.0 ∷ link.0 ∷ cause ∷ [])) hs
+
+-- this becomes of the frame, judged by these records
+abbrev pub IsJudgedBy : Scenario → List Happening → ℕ → DeviceId → Pcf → Units → Ripe → Type 0
+IsJudgedBy s judged t device frame point is =
+    IsRipeSo s.network device (state_at_hearing s judged device t) (adjustment_at_hearing s judged device t).0 (points_of judged device) frame point.0 is
+
 -- the frame is permanent, and this becomes of it
 pub record Ripens (s : Scenario) (hs : List Happening) (t : ℕ) (device : DeviceId) (link : LinkId) (cause : ℕ) (point : Units) (is : Ripe) : Type 0 where
   pub frame : Pcf
   pub permanent : IsPermanent s hs t device link cause frame point
-  pub becomes : IsRipeSo s.network device (state_at_hearing s hs device t) (adjustment_at_hearing s hs device t).0 (points_of hs device) frame point.0 is
+  pub becomes : IsJudgedBy s (before_permanence hs t device link cause frame point) t device frame point is

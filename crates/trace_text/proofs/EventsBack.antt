@@ -11,7 +11,7 @@ use Rattle.net_plan.specs.declared.event.What.{What}
 use Rattle.net_plan.specs.declared.event.What.TheVariants as events
 use Rattle.net_plan.specs.declared.network.Network.{Network}
 use Rattle.trace_text.specs.EventLine.{device_name, link_name, what_words, what_text, event_text}
-use Rattle.trace_text.specs.EventReading.{what_behind, event_reader, event_read}
+use Rattle.trace_text.specs.EventReading.{what_behind, what_reader, event_reader, event_read}
 use Rattle.trace_text.specs.EventWords.{event_word_text, way_text}
 use Rattle.trace_text.specs.Laws.{ReadsBack}
 use Rattle.trace_text.specs.Ranges.{IsOfNetwork, IsWhatInRange, IsEventInRange}
@@ -95,6 +95,13 @@ unfolding event_reader
 event_back network event apart of_network h =
     let behind = behind_kind network event.what in
     rw (units_back event.time (event_word_text (kind event.what) ∷ behind) h.time, event_word_back (kind event.what) behind, what_back network event.what apart of_network h.what, end_back) refl
+
+-- what befalls the network reads back by its words
+pub words_back : (network : Network) (what : What) → ((i : ℕ) → DeviceIsNew network i) → ((i : ℕ) → LinkIsNew network i) → IsOfNetwork network what → IsWhatInRange what → what_reader network (what_words network what) ≡ Ok (what, [])
+unfolding what_reader
+words_back network what devices links of_network h =
+    let behind = behind_kind network what in
+    rw (what_words_are network what, event_word_back (kind what) behind, what_back network what (record { devices = devices; links = links }) of_network h, end_back) refl
 
 -- a text and more words
 joined : (time w : List ℕ) (ws : Words) → time ++ codes " " ++ join_with_byte space (w ∷ ws) ≡ join_with_byte space (time ∷ w ∷ ws)

@@ -90,13 +90,13 @@ rate_is_word r h = signed_is_word r.0 (omega (arith, ints, h.least)) (omega (ari
 
 -- a name is written and read
 
-thing_at : {X : Type 0} (xs : List X) (i : ℕ) → i < length xs → (x : X) × (slice_get xs i ≡ Some x)
+pub thing_at : {X : Type 0} (xs : List X) (i : ℕ) → i < length xs → (x : X) × (slice_get xs i ≡ Some x)
 thing_at [] i h = absurd (omega arith)
 thing_at (x ∷ xs) zero h = (x, refl)
 thing_at (x ∷ xs) (suc i) h = thing_at xs i (omega arith)
 
 -- a thing whose name none before it has is the first bearer of its name
-first_bearer : {X : Type 0} (f : X → List ℕ) (xs : List X) (i : ℕ) (x : X) → slice_get xs i ≡ Some x
+pub first_bearer : {X : Type 0} (f : X → List ℕ) (xs : List X) (i : ℕ) (x : X) → slice_get xs i ≡ Some x
     → ((k : ℕ) (earlier thing : X) → k < i → slice_get xs k ≡ Some earlier → slice_get xs i ≡ Some thing → f thing ≢ f earlier)
     → IsFirstBearer (map f xs) (f x) i
 first_bearer f xs i x here new = record {
@@ -104,7 +104,7 @@ first_bearer f xs i x here new = record {
   first = λ k lt e. let b = behind f xs k (f x) e in new k b.0 x lt b.1 here (sym b.2);
 }
 
-device_read : (network : Network) (d : DeviceId) → ((i : ℕ) → DeviceIsNew network i) → HasDevice network d → device_spelled network (device_name network d) ≡ Some d
+pub device_read : (network : Network) (d : DeviceId) → ((i : ℕ) → DeviceIsNew network i) → HasDevice network d → device_spelled network (device_name network d) ≡ Some d
 unfolding device_spelled
 device_read network d new of_network =
     let f = λ (x : Device). x.name in
@@ -116,7 +116,7 @@ pub device_back : (network : Network) (d : DeviceId) (left : Words) → ((i : �
 unfolding device
 device_back network d left new of_network = ap (λ (o : Option DeviceId). with_rest left (ok_or o Name)) (device_read network d new of_network)
 
-link_read : (network : Network) (l : LinkId) → ((i : ℕ) → LinkIsNew network i) → HasLink network l → link_spelled network (link_name network l) ≡ Some l
+pub link_read : (network : Network) (l : LinkId) → ((i : ℕ) → LinkIsNew network i) → HasLink network l → link_spelled network (link_name network l) ≡ Some l
 unfolding link_spelled
 link_read network l new of_network =
     let f = λ (x : Link). x.name in

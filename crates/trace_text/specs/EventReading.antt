@@ -33,6 +33,14 @@ what_behind network Break = do d ← device network; give (events.Break d)
 what_behind network Send = do l ← link network; o ← octets; give (events.Send l o)
 what_behind network End = give events.End
 
+-- what befalls the network, by all the words of its line without the time
+unfoldable pub what_reader : Network → Reader What
+what_reader network = do
+  word ← event_word
+  what ← what_behind network word
+  end ← line_end
+  give what
+
 -- the whole line
 unfoldable pub event_reader : Network → Reader Event
 event_reader network = do

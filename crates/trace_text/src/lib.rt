@@ -12,9 +12,11 @@ mod refusal;
 mod words;
 
 pub use laws::{prints_back_law, reads_back_law};
+pub use names::{device_spelled, link_spelled};
 pub use printing::{EventText, event_text, print};
-pub use reading::line;
+pub use reading::{line, what};
 pub use refusal::LineRefusal;
+pub use words::Words;
 
 #[cfg(test)]
 mod tests;

@@ -7,7 +7,7 @@ use net_plan::{DeviceId, LinkId, Network};
 
 /// The first device whose name is written so.
 #[tactic(auto, unfolding(crate::specs::Names::device_spelled))]
-pub(crate) fn device_spelled(network: &Network, text: &[u8]) -> Option<DeviceId>
+pub fn device_spelled(network: &Network, text: &[u8]) -> Option<DeviceId>
     requires { IsInRange network.now }
     ensures value { result ≡ device_spelled network.now text.now }
     ensures of_network { IfSome result (HasDevice network.now) }
@@ -21,7 +21,7 @@ pub(crate) fn device_spelled(network: &Network, text: &[u8]) -> Option<DeviceId>
 
 /// The first link whose name is written so.
 #[tactic(auto, unfolding(crate::specs::Names::link_spelled))]
-pub(crate) fn link_spelled(network: &Network, text: &[u8]) -> Option<LinkId>
+pub fn link_spelled(network: &Network, text: &[u8]) -> Option<LinkId>
     requires { IsInRange network.now }
     ensures value { result ≡ link_spelled network.now text.now }
     ensures of_network { IfSome result (HasLink network.now) }

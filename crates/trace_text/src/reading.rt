@@ -1,6 +1,6 @@
 ghost use Rattle.std.specs.Prelude.{◌≡◌, IfOk};
 ghost use Rattle.net_plan.specs.Ranges.{IsInRange};
-ghost use Rattle.trace_text.specs.EventReading.{what_behind, event_read};
+ghost use Rattle.trace_text.specs.EventReading.{what_behind, what_reader, event_read};
 ghost use Rattle.trace_text.specs.Ranges.{IsOfNetwork, IsWhatInRange, IsEventInRange};
 ghost use Rattle.trace_text.specs.Steps.{Reads};
 
@@ -46,6 +46,24 @@ fn what_behind(network: &Network, word: EventWord, words: &mut Words) -> Result<
             Ok(What::Send(link, words.octets()?))
         }
         EventWord::End => Ok(What::End),
+    }
+}
+
+/// Reads what befalls the network: the words of an event's line without its time, up to the line's end.
+///
+/// The network is in its ranges.
+#[tactic(auto, unfolding(crate::specs::EventReading::what_reader))]
+pub fn what(network: &Network, words: &mut Words) -> Result<What, LineRefusal>
+    requires { IsInRange network.now }
+    ensures value { Reads (what_reader network.now words.old) result words.new }
+    ensures of_network { IfOk result (IsOfNetwork network.now) }
+    ensures range { IfOk result IsWhatInRange }
+{
+    let word = words.event_word()?;
+    let what = what_behind(network, word, words)?;
+    match words.end() {
+        Ok(()) => Ok(what),
+        Err(fault) => Err(fault),
     }
 }
 

@@ -24,7 +24,7 @@ fn first_space(text: &[u8]) -> Option<usize>
 /// The words of a line, the texts between its spaces, to be read from the left. Each reader of a
 /// word tells that the line's form is wrong where the line has ended.
 #[derive(Drop)]
-pub(crate) struct Words<'a> {
+pub struct Words<'a> {
     // It is None where the line has ended.
     left: Option<&'a [u8]>,
 }
@@ -40,13 +40,14 @@ impl<'a> Model for Words<'a> {
 
 impl<'a> Words<'a> {
     /// The words of a line.
-    pub(crate) fn of(line: &'a [u8]) -> Words<'a>
+    pub fn of(line: &'a [u8]) -> Words<'a>
         ensures { result ≡ words line.now }
     {
         Words { left: Some(line) }
     }
 
-    fn next_word(&mut self) -> Option<&'a [u8]>
+    /// The next word. It is None where the line has ended.
+    pub fn next_word(&mut self) -> Option<&'a [u8]>
         ensures { MatchOption result ((self.old ≡ []) × (self.new ≡ [])) (λ word. self.old ≡ word.now ∷ self.new) }
     {
         let left = self.left?;
