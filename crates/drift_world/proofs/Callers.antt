@@ -8,7 +8,7 @@ use Rattle.drift_world.specs.Progress.{Progress}
 use Rattle.drift_world.specs.Standing.{Stands, last_time}
 use Rattle.net_plan.specs.declared.event.Event.{Event}
 use Rattle.net_plan.specs.declared.network.Network.{Network}
-use Rattle.run_law.specs.Hypothesis.{ComesTooEarly}
+use Rattle.run_law.specs.scenario.Hypothesis.{ComesTooEarly}
 use Rattle.run_law.specs.declared.note.Note.{Note}
 use Rattle.tte_units.specs.Amount.{units_of}
 use Rattle.tte_units.specs.declared.units.Units.{Units}

@@ -10,10 +10,10 @@ use Rattle.net_plan.specs.declared.event.What.{What}
 use Rattle.net_plan.specs.declared.event.What.TheVariants.{End}
 use Rattle.net_plan.specs.declared.ids.DeviceId.{DeviceId}
 use Rattle.net_plan.specs.declared.network.Network.{Network}
-use Rattle.run_law.specs.Order.{IsBefore}
-use Rattle.run_law.specs.Ranks.{rank, key}
-use Rattle.run_law.specs.Records.{EndsAt, IsEventRecord}
-use Rattle.run_law.specs.Silent.{IsSilentlyCaused, IsSilentlyDue}
+use Rattle.run_law.specs.records.Order.{IsBefore}
+use Rattle.run_law.specs.records.Ranks.{rank, key}
+use Rattle.run_law.specs.runs.DueRecords.{EndsAt, IsEventRecord}
+use Rattle.run_law.specs.law.Silent.{IsSilentlyCaused, IsSilentlyDue}
 use Rattle.run_law.specs.declared.note.Note.{Note}
 use Rattle.run_law.specs.declared.note.NoteBody.{NoteBody}
 use Rattle.run_law.specs.declared.note.NoteBody.TheVariants.{Event as Befalls, Clock}

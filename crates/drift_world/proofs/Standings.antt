@@ -24,14 +24,14 @@ use Rattle.net_plan.specs.declared.event.What.TheVariants.{Rate, End}
 use Rattle.net_plan.specs.declared.ids.DeviceId.{DeviceId}
 use Rattle.net_plan.specs.declared.network.Network.{Network}
 use Rattle.net_plan.specs.declared.tables.Device.{Device}
-use Rattle.run_law.specs.Hypothesis.{SetsFastRate}
-use Rattle.run_law.specs.Rates.{rate_steps}
-use Rattle.run_law.specs.Records.{EndsAt}
-use Rattle.run_law.specs.Silent.{IsSilentlyCaused, IsSilentlyDue, IsSilentRunOf, silent_place}
+use Rattle.run_law.specs.scenario.Hypothesis.{SetsFastRate}
+use Rattle.run_law.specs.scenario.Rates.{rate_steps}
+use Rattle.run_law.specs.runs.DueRecords.{EndsAt}
+use Rattle.run_law.specs.law.Silent.{IsSilentlyCaused, IsSilentlyDue, IsSilentRunOf, silent_place}
 use Rattle.run_law.specs.declared.note.Note.{Note}
 use Rattle.run_law.specs.declared.note.NoteBody.{NoteBody}
 use Rattle.run_law.specs.declared.note.NoteBody.TheVariants.{Event as Befalls, Clock}
-use Rattle.run_law.proofs.Grow.{empty_run}
+use Rattle.run_law.proofs.runs.Grow.{empty_run}
 use Rattle.trace_text.specs.Ranges.{IsOfNetwork}
 use Rattle.tte_units.specs.Amount.{amount, units_of}
 use Rattle.tte_units.specs.declared.rates.Ppb.{Ppb}

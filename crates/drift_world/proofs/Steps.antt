@@ -9,15 +9,15 @@ use Rattle.drift_world.specs.Standing.{behind_events}
 use Rattle.net_plan.specs.declared.event.Event.{Event}
 use Rattle.net_plan.specs.declared.ids.DeviceId.{DeviceId}
 use Rattle.net_plan.specs.declared.network.Network.{Network}
-use Rattle.run_law.specs.Order.{IsBefore, AllBefore}
-use Rattle.run_law.specs.Ranks.{rank, key}
-use Rattle.run_law.specs.Records.{EndsAt}
-use Rattle.run_law.specs.Runs.{IsRun}
-use Rattle.run_law.specs.Silent.{silent_place, IsSilentlyDue, IsSilentRunOf}
+use Rattle.run_law.specs.records.Order.{IsBefore, AllBefore}
+use Rattle.run_law.specs.records.Ranks.{rank, key}
+use Rattle.run_law.specs.runs.DueRecords.{EndsAt}
+use Rattle.run_law.specs.runs.Runs.{IsRun}
+use Rattle.run_law.specs.law.Silent.{silent_place, IsSilentlyDue, IsSilentRunOf}
 use Rattle.run_law.specs.declared.note.Note.{Note}
 use Rattle.run_law.specs.declared.note.NoteBody.{NoteBody}
-use Rattle.run_law.proofs.Grow.{grow, move_mark, run_of_same}
-use Rattle.run_law.proofs.Places.{never_self, chain, behind, before_behind, in_parts, parted}
+use Rattle.run_law.proofs.runs.Grow.{grow, move_mark, run_of_same}
+use Rattle.run_law.proofs.runs.Places.{never_self, chain, behind, before_behind, in_parts, parted}
 use Rattle.tte_units.specs.Amount.{amount}
 use Rattle.tte_units.specs.declared.units.Units.{Units}
 

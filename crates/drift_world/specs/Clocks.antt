@@ -6,7 +6,7 @@ use Rattle.net_plan.specs.declared.event.Event.{Event}
 use Rattle.net_plan.specs.declared.event.What.{What}
 use Rattle.net_plan.specs.declared.ids.DeviceId.{DeviceId}
 use Rattle.net_plan.specs.declared.network.Network.{Network}
-use Rattle.run_law.specs.Rates.{rate_steps, step_by}
+use Rattle.run_law.specs.scenario.Rates.{rate_steps, step_by}
 use Rattle.tte_units.specs.Amount.{amount}
 use Rattle.tte_units.specs.declared.units.Units.{Units}
 

@@ -6,9 +6,9 @@ use Rattle.net_plan.specs.Ranges.{IsWithin}
 use Rattle.net_plan.specs.declared.event.Event.{Event}
 use Rattle.net_plan.specs.declared.ids.DeviceId.{DeviceId}
 use Rattle.net_plan.specs.declared.network.Network.{Network}
-use Rattle.run_law.specs.Faults.{BeginsOn}
-use Rattle.run_law.specs.Records.{EndsAt}
-use Rattle.run_law.specs.Silent.{IsSilentRunOf}
+use Rattle.run_law.specs.scenario.Faults.{BeginsOn}
+use Rattle.run_law.specs.runs.DueRecords.{EndsAt}
+use Rattle.run_law.specs.law.Silent.{IsSilentRunOf}
 use Rattle.run_law.specs.declared.note.Note.{Note}
 use Rattle.tte_units.specs.Amount.{amount, units_of}
 use Rattle.tte_units.specs.declared.units.Units.{Units}

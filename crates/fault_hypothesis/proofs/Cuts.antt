@@ -13,7 +13,7 @@ use Rattle.net_plan.specs.declared.tables.Device.{Device}
 use Rattle.net_plan.specs.declared.tables.Link.{Link}
 use Rattle.net_plan.specs.declared.tables.Way.{Way}
 use Rattle.pcf_values.specs.declared.channel.Channel.{Channel}
-use Rattle.run_law.specs.Faults.{Cuts, CutsOn, IsFaulty, IsFirstCutOn, IsLinkOf}
+use Rattle.run_law.specs.scenario.Faults.{Cuts, CutsOn, IsFaulty, IsFirstCutOn, IsLinkOf}
 use Rattle.schedule_tables.specs.Rules.{KeepsRules}
 use Rattle.schedule_tables.specs.declared.rule.Rule.TheVariants.{Joints, Masters}
 use Rattle.trace_text.specs.Ranges.{HasLink, IsOfNetwork}

@@ -11,8 +11,8 @@ use Rattle.net_plan.specs.declared.network.Network.{Network}
 use Rattle.net_plan.specs.declared.tables.Link.{Link}
 use Rattle.net_plan.specs.declared.tables.Way.{Way}
 use Rattle.pcf_values.specs.declared.channel.Channel.{Channel}
-use Rattle.run_law.specs.Faults.{IsBroken, IsFaulty, IsLinkOf}
-use Rattle.run_law.specs.Hypothesis.{BreaksSecond, CutsOtherChannel, LeavesTooFew, SendsUnbroken, sound_masters}
+use Rattle.run_law.specs.scenario.Faults.{IsBroken, IsFaulty, IsLinkOf}
+use Rattle.run_law.specs.scenario.Hypothesis.{BreaksSecond, CutsOtherChannel, LeavesTooFew, SendsUnbroken, sound_masters}
 
 -- a break is a second one where a device is broken
 pub second_by : (admitted : List Event) (event : Event) (device : DeviceId) (broken : Option DeviceId) → ((d : DeviceId) → (broken ≡ Some d) ↔ IsBroken admitted d) → event.what ≡ Break device → IsTrue (is_some broken) ↔ BreaksSecond admitted event

@@ -9,8 +9,8 @@ use Rattle.net_plan.specs.declared.event.Event.{Event}
 use Rattle.net_plan.specs.declared.event.What.TheVariants as events
 use Rattle.net_plan.specs.declared.ids.DeviceId.{DeviceId}
 use Rattle.net_plan.specs.declared.network.Network.{Network}
-use Rattle.run_law.specs.Faults.{Breaks, IsBroken, IsTurnedOn, TurnsOn}
-use Rattle.run_law.specs.Hypothesis.{AreWithinHypothesis, IsWithinHypothesis}
+use Rattle.run_law.specs.scenario.Faults.{Breaks, IsBroken, IsTurnedOn, TurnsOn}
+use Rattle.run_law.specs.scenario.Hypothesis.{AreWithinHypothesis, IsWithinHypothesis}
 use Rattle.run_law.specs.declared.outside.Outside.TheVariants.{SecondBreak}
 use Rattle.trace_text.specs.Ranges.{HasDevice, IsOfNetwork}
 use Rattle.fault_hypothesis.specs.Watching.{AreOfNetwork}

@@ -2,7 +2,7 @@
 use Rattle.std.proofs.Common.{◌≡◌, ◌⊎◌, inl, inr, ℕ, ◌+◌, ◌-◌, ◌<◌, ◌≤◌, zero, suc, List, [], ◌∷◌, refl, sym, ap, ◌∙◌, arith}
 use Rattle.std.specs.List.{slice_index_or}
 use Rattle.std.proofs.lemmas.Bool.{cases_order}
-use Rattle.run_law.specs.Hypothesis.{condition_number}
+use Rattle.run_law.specs.scenario.Hypothesis.{condition_number}
 use Rattle.run_law.specs.declared.outside.Outside.{Outside}
 use Rattle.run_law.specs.declared.outside.Outside.TheVariants.{Order, Late, Rate, Wire, Hold, Channel, NotMaster, SecondBreak, TooFewMasters, NotBroken, NotOff}
 

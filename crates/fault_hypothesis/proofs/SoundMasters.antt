@@ -11,8 +11,8 @@ use Rattle.net_plan.specs.declared.event.What.{What}
 use Rattle.net_plan.specs.declared.event.What.TheVariants as events
 use Rattle.net_plan.specs.declared.ids.DeviceId.{DeviceId}
 use Rattle.net_plan.specs.declared.network.Network.{Network}
-use Rattle.run_law.specs.Faults.{IsBroken}
-use Rattle.run_law.specs.Hypothesis.{breaks_at, is_sound_master, sound_masters}
+use Rattle.run_law.specs.scenario.Faults.{IsBroken}
+use Rattle.run_law.specs.scenario.Hypothesis.{breaks_at, is_sound_master, sound_masters}
 use Rattle.fault_hypothesis.specs.SoundMasters.{is_sound_beside}
 
 same_bool : (a b : Bool) → (a ≡ true → b ≡ true) → (b ≡ true → a ≡ true) → a ≡ b

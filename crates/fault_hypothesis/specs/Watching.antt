@@ -6,8 +6,8 @@ use Rattle.net_plan.specs.declared.event.Event.{Event}
 use Rattle.net_plan.specs.declared.ids.DeviceId.{DeviceId}
 use Rattle.net_plan.specs.declared.network.Network.{Network}
 use Rattle.pcf_values.specs.declared.channel.Channel.{Channel}
-use Rattle.run_law.specs.Faults.{IsBroken, IsFaulty, IsTurnedOn}
-use Rattle.run_law.specs.Hypothesis.{AreWithinHypothesis}
+use Rattle.run_law.specs.scenario.Faults.{IsBroken, IsFaulty, IsTurnedOn}
+use Rattle.run_law.specs.scenario.Hypothesis.{AreWithinHypothesis}
 use Rattle.trace_text.specs.Ranges.{HasDevice, IsOfNetwork}
 use Rattle.tte_units.specs.declared.units.Units.{Units}
 

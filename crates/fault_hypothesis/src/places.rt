@@ -3,7 +3,7 @@ ghost use Rattle.std.specs.Option.{option_copied};
 ghost use Rattle.net_plan.specs.Places.{device_at, link_at};
 ghost use Rattle.net_plan.specs.Rules.{HasOffSwitch};
 ghost use Rattle.pcf_values.specs.declared.channel.Channel.{Channel as ChannelValue};
-ghost use Rattle.run_law.specs.Faults.{BeginsOn, IsLinkOf};
+ghost use Rattle.run_law.specs.scenario.Faults.{BeginsOn, IsLinkOf};
 
 use net_plan::{Device, DeviceId, Link, LinkId, Network};
 use pcf_values::Channel;

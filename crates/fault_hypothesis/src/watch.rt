@@ -4,8 +4,8 @@ ghost use Rattle.net_plan.specs.declared.event.Event.{Event as EventValue};
 ghost use Rattle.net_plan.specs.declared.ids.DeviceId.{DeviceId as DeviceIdValue};
 ghost use Rattle.net_plan.specs.declared.network.Network.{Network};
 ghost use Rattle.pcf_values.specs.declared.channel.Channel.{Channel as ChannelValue};
-ghost use Rattle.run_law.specs.Faults.{IsBroken, IsFaulty};
-ghost use Rattle.run_law.specs.Hypothesis.{IsWithinHypothesis, IsOutsideBy};
+ghost use Rattle.run_law.specs.scenario.Faults.{IsBroken, IsFaulty};
+ghost use Rattle.run_law.specs.scenario.Hypothesis.{IsWithinHypothesis, IsOutsideBy};
 ghost use Rattle.trace_text.specs.Ranges.{IsOfNetwork};
 
 use crate::Outside;

@@ -1,4 +1,4 @@
-ghost use Rattle.run_law.specs.FirstLaws.{BrokenAreStill, DeliveriesBegin, SentFramesCome};
+ghost use Rattle.run_law.specs.law.FirstLaws.{BrokenAreStill, DeliveriesBegin, SentFramesCome};
 
 /// In an accepted network, under events within the fault hypothesis, the frame of a master comes to the first switch
 /// of each channel whose way is not cut when the frame leaves, unless the master is broken by then: there it arrives,

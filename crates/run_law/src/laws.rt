@@ -1,4 +1,4 @@
-ghost use Rattle.run_law.specs.Laws.{EarlierRunIsFront, HypothesisIsDecided, RunGoesOn, RunIsOne};
+ghost use Rattle.run_law.specs.law.Laws.{EarlierRunIsFront, HypothesisIsDecided, RunGoesOn, RunIsOne};
 
 /// There is one run of a network under the events up to a mark.
 pub fn run_is_one()

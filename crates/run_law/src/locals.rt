@@ -1,5 +1,5 @@
 ghost use Rattle.std.specs.Prelude.{◌≡◌, ◌⊎◌, ◌-ℤ◌, ◌≤ℤ◌, All};
-ghost use Rattle.run_law.specs.Spread.{IsLocal, IsSpread};
+ghost use Rattle.run_law.specs.law.Spread.{IsLocal, IsSpread};
 
 use tte_units::Units;
 

@@ -2,9 +2,9 @@ ghost use Rattle.std.specs.Prelude.{◌≡◌, ◌<◌, ◌^◌, ◌-ℤ◌, len
 ghost use Rattle.net_plan.specs.Places.{device_at};
 ghost use Rattle.net_plan.specs.Ranges.{IsInRange, IsWithin};
 ghost use Rattle.net_plan.specs.declared.tables.Role.TheVariants.{Master};
-ghost use Rattle.run_law.specs.Frames.{dispatched_frame};
-ghost use Rattle.run_law.specs.Lone.{IsLone, StandsAlone};
-ghost use Rattle.run_law.specs.Nodes.{begun_node};
+ghost use Rattle.run_law.specs.records.Frames.{dispatched_frame};
+ghost use Rattle.run_law.specs.machines.LoneMasters.{IsLone, StandsAlone};
+ghost use Rattle.run_law.specs.machines.Nodes.{begun_node};
 
 use crate::{Act, Arrival, Machine, Moment, Reason, Ripe};
 use membership::one;
@@ -95,7 +95,7 @@ fn first_frame(network: &Network, device: DeviceId) -> Pcf
 }
 
 impl Machine for LoneMaster {
-    ghost use Rattle.run_law.specs.Lone.{StandsAlone};
+    ghost use Rattle.run_law.specs.machines.LoneMasters.{StandsAlone};
 
     ghost stands = { StandsAlone };
 

@@ -1,12 +1,12 @@
 ghost use Rattle.std.specs.Prelude.{◌≡◌, false};
 ghost use Rattle.net_plan.specs.declared.ids.DeviceId.{DeviceId};
 ghost use Rattle.net_plan.specs.declared.network.Network.{Network};
-ghost use Rattle.run_law.specs.Calls.{HasDue, IsHearing, MayAct, MayArrive, MayCall, MayHear, MayRipen, MayTake, StandsFor};
-ghost use Rattle.run_law.specs.Devices.{channel_of_link};
-ghost use Rattle.run_law.specs.Machines.{IsActOf, IsRipeAt, after_arrival, after_ripe, arrival_at, called, node_turned_on};
-ghost use Rattle.run_law.specs.Nodes.{Node, arriving, ripening, acting};
-ghost use Rattle.run_law.specs.Tasks.{IsDueReading};
-ghost use Rattle.run_law.specs.Transit.{signal_of};
+ghost use Rattle.run_law.specs.machines.Calls.{HasDue, IsHearing, MayAct, MayArrive, MayCall, MayHear, MayRipen, MayTake, StandsFor};
+ghost use Rattle.run_law.specs.scenario.Devices.{channel_of_link};
+ghost use Rattle.run_law.specs.machines.Answers.{IsActOf, IsRipeAt, after_arrival, after_ripe, arrival_at, called, node_turned_on};
+ghost use Rattle.run_law.specs.machines.Nodes.{Node, arriving, ripening, acting};
+ghost use Rattle.run_law.specs.machines.Tasks.{IsDueReading};
+ghost use Rattle.run_law.specs.control.Wires.{signal_of};
 ghost use Rattle.sync_state.specs.declared.state.State.TheVariants.{Off};
 
 use crate::{Act, Arrival, Moment, Ripe};

@@ -1,5 +1,5 @@
 ghost use Rattle.std.specs.Prelude.{◌≡◌};
-ghost use Rattle.run_law.specs.Hypothesis.{condition_number};
+ghost use Rattle.run_law.specs.scenario.Hypothesis.{condition_number};
 
 /// Why an event is outside the fault hypothesis, given the events before it.
 #[derive(Clone, Copy, Debug, PartialEq, Eq, Hash)]

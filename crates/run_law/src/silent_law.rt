@@ -1,4 +1,4 @@
-ghost use Rattle.run_law.specs.Silent.{SilentRunsAgree};
+ghost use Rattle.run_law.specs.law.Silent.{SilentRunsAgree};
 
 /// Up to the time at which the first cycle is half over, the run of an accepted network that has no virtual link and
 /// whose devices all begin on, under events that send no frame and turn no device on, is that of the silent cycle:

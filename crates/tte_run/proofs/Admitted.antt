@@ -9,8 +9,8 @@ use Rattle.drift_world.specs.Standing.{last_time}
 use Rattle.net_plan.specs.declared.event.Event.{Event}
 use Rattle.net_plan.specs.declared.event.What.TheVariants.{End}
 use Rattle.net_plan.specs.declared.network.Network.{Network}
-use Rattle.run_law.specs.Hypothesis.{IsWithinHypothesis}
-use Rattle.run_law.specs.Records.{EndsAt}
+use Rattle.run_law.specs.scenario.Hypothesis.{IsWithinHypothesis}
+use Rattle.run_law.specs.runs.DueRecords.{EndsAt}
 use Rattle.run_law.specs.declared.outside.Outside.TheVariants.{Order}
 use Rattle.trace_text.specs.EventReading.{event_read}
 use Rattle.tte_io.specs.Line.{first_line}

@@ -8,7 +8,7 @@ use Rattle.net_plan.specs.declared.event.Event.{Event}
 use Rattle.net_plan.specs.declared.event.What.{What}
 use Rattle.net_plan.specs.declared.event.What.TheVariants.{Rate, Wire, Hold, Cut, Heal, On, Break, Send, End}
 use Rattle.net_plan.specs.declared.ids.DeviceId.{DeviceId}
-use Rattle.run_law.specs.Rates.{rate_steps, step_by}
+use Rattle.run_law.specs.scenario.Rates.{rate_steps, step_by}
 use Rattle.tte_run.proofs.RunRecords.{IsInOrder}
 use Rattle.tte_units.specs.Amount.{amount}
 

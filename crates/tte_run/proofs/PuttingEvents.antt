@@ -7,7 +7,7 @@ use Rattle.drift_world.specs.Standing.{behind_events}
 use Rattle.net_plan.specs.declared.event.Event.{Event}
 use Rattle.net_plan.specs.declared.network.Network.{Network}
 use Rattle.report_text.specs.NoteLine.{note_line, report_of}
-use Rattle.run_law.specs.Hypothesis.{SetsFastRate}
+use Rattle.run_law.specs.scenario.Hypothesis.{SetsFastRate}
 use Rattle.run_law.specs.declared.note.Note.{Note}
 use Rattle.trace_text.specs.Ranges.{IsOfNetwork}
 use Rattle.tte_io.specs.Faults.{next_count}

@@ -13,7 +13,7 @@ use Rattle.net_plan.specs.declared.ids.DeviceId.{DeviceId}
 use Rattle.net_plan.specs.declared.network.Network.{Network}
 use Rattle.report_text.specs.NoteLine.{note_line, report_of}
 use Rattle.report_text.specs.Ranges.{IsBodyOf, IsNoteOf}
-use Rattle.run_law.specs.Silent.{IsSilentlyCaused, IsSilentRunOf}
+use Rattle.run_law.specs.law.Silent.{IsSilentlyCaused, IsSilentRunOf}
 use Rattle.run_law.specs.declared.note.Note.{Note}
 use Rattle.run_law.specs.declared.note.NoteBody.{NoteBody}
 use Rattle.run_law.specs.declared.note.NoteBody.TheVariants.{Event as Befalls, Clock}

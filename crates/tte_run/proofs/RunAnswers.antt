@@ -5,16 +5,16 @@ use Rattle.drift_world.specs.Standing.{behind_events, last_time}
 use Rattle.net_plan.specs.declared.event.Event.{Event}
 use Rattle.net_plan.specs.declared.network.Network.{Network}
 use Rattle.report_text.specs.NoteLine.{note_line, report_of}
-use Rattle.run_law.specs.Order.{IsBefore}
-use Rattle.run_law.specs.Ranks.{key, members_in, place_of, rank}
-use Rattle.run_law.specs.Records.{EndsAt, IsCaused, IsDue}
-use Rattle.run_law.specs.Scenarios.{Scenario}
+use Rattle.run_law.specs.records.Order.{IsBefore}
+use Rattle.run_law.specs.records.Ranks.{key, members_in, place_of, rank}
+use Rattle.run_law.specs.runs.DueRecords.{EndsAt, IsCaused, IsDue}
+use Rattle.run_law.specs.scenario.Scenarios.{Scenario}
 use Rattle.run_law.specs.declared.note.Note.{Note}
 use Rattle.run_law.specs.declared.note.NoteBody.{NoteBody}
 use Rattle.run_law.specs.declared.note.NoteBody.TheVariants.{Event as Befalls}
-use Rattle.run_law.proofs.Grow.{empty_run}
-use Rattle.run_law.proofs.NetworkRuns.{run_is_one, earlier_run_is_front}
-use Rattle.run_law.proofs.Places.{before_next_time}
+use Rattle.run_law.proofs.runs.Grow.{empty_run}
+use Rattle.run_law.proofs.runs.NetworkRuns.{run_is_one, earlier_run_is_front}
+use Rattle.run_law.proofs.runs.Places.{before_next_time}
 use Rattle.tte_run.specs.Answering.{Answer}
 use Rattle.tte_run.specs.Running.{AreAllRecords, AreRecordsBefore, AreRecordsSoFar, IsFaultyAnswer, IsRunAnswer, IsTraceAnswer, IsWholeAnswer, clock_reading}
 use Rattle.tte_run.specs.TraceLine.{fault_lines, fault_status}

@@ -8,10 +8,10 @@ use Rattle.drift_world.specs.Standing.{behind_events, last_time}
 use Rattle.net_plan.specs.declared.event.Event.{Event}
 use Rattle.net_plan.specs.declared.ids.DeviceId.{DeviceId}
 use Rattle.net_plan.specs.declared.network.Network.{Network}
-use Rattle.run_law.specs.Order.{IsBefore, IsIn, AllBefore}
-use Rattle.run_law.specs.Ranks.{rank, key}
-use Rattle.run_law.specs.Records.{EndsAt}
-use Rattle.run_law.specs.Silent.{silent_place, IsSilentlyCaused, IsSilentlyDue, IsSilentRunOf}
+use Rattle.run_law.specs.records.Order.{IsBefore, IsIn, AllBefore}
+use Rattle.run_law.specs.records.Ranks.{rank, key}
+use Rattle.run_law.specs.runs.DueRecords.{EndsAt}
+use Rattle.run_law.specs.law.Silent.{silent_place, IsSilentlyCaused, IsSilentlyDue, IsSilentRunOf}
 use Rattle.run_law.specs.declared.note.Note.{Note}
 use Rattle.run_law.specs.declared.note.NoteBody.{NoteBody}
 use Rattle.run_law.specs.declared.note.NoteBody.TheVariants.{Event as Befalls, Clock}

@@ -11,7 +11,7 @@ use Rattle.drift_world.specs.Standing.{last_time, mark_of}
 use Rattle.net_plan.specs.declared.event.Event.{Event}
 use Rattle.net_plan.specs.declared.network.Network.{Network}
 use Rattle.report_text.specs.NoteLine.{report_of}
-use Rattle.run_law.specs.Hypothesis.{SetsFastRate}
+use Rattle.run_law.specs.scenario.Hypothesis.{SetsFastRate}
 use Rattle.run_law.specs.declared.note.Note.{Note}
 use Rattle.run_law.specs.declared.outside.Outside.TheVariants as conditions
 use Rattle.trace_text.specs.Ranges.{IsTime}

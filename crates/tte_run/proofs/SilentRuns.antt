@@ -15,12 +15,12 @@ use Rattle.net_plan.specs.declared.event.What.{What}
 use Rattle.net_plan.specs.declared.event.What.TheVariants.{Rate, On, Send}
 use Rattle.net_plan.specs.declared.network.Network.{Network}
 use Rattle.net_plan.specs.declared.tables.VirtualLink.{VirtualLink}
-use Rattle.run_law.proofs.Places.{before_later_time, before_next_time}
-use Rattle.run_law.proofs.SilentAgreement.{silent_runs_agree}
-use Rattle.run_law.specs.Hypothesis.{IsWithinHypothesis}
-use Rattle.run_law.specs.Order.{IsBefore}
-use Rattle.run_law.specs.Rates.{rate_steps}
-use Rattle.run_law.specs.Silent.{IsInFirstHalf, IsQuiet, IsSilent, IsSilentNetwork}
+use Rattle.run_law.proofs.runs.Places.{before_later_time, before_next_time}
+use Rattle.run_law.proofs.silent.Agreement.{silent_runs_agree}
+use Rattle.run_law.specs.scenario.Hypothesis.{IsWithinHypothesis}
+use Rattle.run_law.specs.records.Order.{IsBefore}
+use Rattle.run_law.specs.scenario.Rates.{rate_steps}
+use Rattle.run_law.specs.law.Silent.{IsInFirstHalf, IsQuiet, IsSilent, IsSilentNetwork}
 use Rattle.run_law.specs.declared.note.Note.{Note}
 use Rattle.run_law.specs.declared.outside.Outside.TheVariants as conditions
 use Rattle.schedule_tables.specs.Rules.{KeepsRules}

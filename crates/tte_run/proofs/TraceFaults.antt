@@ -3,8 +3,8 @@ use Rattle.std.proofs.Common.{◌≡◌, ℕ, ◌<◌, ◌≤◌, List, [], Ok, 
 use Rattle.std.proofs.lemmas.Bool.{cases_order}
 use Rattle.net_plan.specs.declared.event.Event.{Event}
 use Rattle.net_plan.specs.declared.network.Network.{Network}
-use Rattle.run_law.specs.Hypothesis.{IsOutsideBy, IsWithinHypothesis}
-use Rattle.run_law.proofs.Decided.{hypothesis_is_decided}
+use Rattle.run_law.specs.scenario.Hypothesis.{IsOutsideBy, IsWithinHypothesis}
+use Rattle.run_law.proofs.scenario.Decided.{hypothesis_is_decided}
 use Rattle.trace_text.specs.EventReading.{event_read}
 use Rattle.trace_text.specs.Steps.{Read}
 use Rattle.trace_text.specs.declared.refusal.LineRefusal.{LineRefusal}

@@ -6,8 +6,8 @@ use Rattle.drift_world.specs.Progress.{Progress}
 use Rattle.drift_world.specs.Standing.{behind_events, last_time, mark_of}
 use Rattle.net_plan.specs.declared.event.Event.{Event}
 use Rattle.net_plan.specs.declared.network.Network.{Network}
-use Rattle.run_law.proofs.Places.{before_next_time}
-use Rattle.run_law.specs.Order.{IsBefore}
+use Rattle.run_law.proofs.runs.Places.{before_next_time}
+use Rattle.run_law.specs.records.Order.{IsBefore}
 use Rattle.run_law.specs.declared.note.Note.{Note}
 use Rattle.tte_run.specs.PutRecords.{AreSilentBefore, AreSilentSoFar, StandsExact}
 use Rattle.tte_run.proofs.Admitted.{last_is}

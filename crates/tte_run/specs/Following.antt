@@ -3,7 +3,7 @@ use Rattle.std.specs.Prelude.{◌≡◌, ◌≢◌, ◌↔◌, ℕ, ◌+◌, ◌
 use Rattle.fault_hypothesis.specs.Watching.{Watches}
 use Rattle.net_plan.specs.declared.event.Event.{Event}
 use Rattle.net_plan.specs.declared.network.Network.{Network}
-use Rattle.run_law.specs.Hypothesis.{IsWithinHypothesis}
+use Rattle.run_law.specs.scenario.Hypothesis.{IsWithinHypothesis}
 use Rattle.trace_text.specs.Ranges.{IsEventInRange, IsOfNetwork}
 use Rattle.tte_io.specs.Line.{line_limit, ahead_limit, IsUnbroken, first_line}
 use Rattle.tte_io.specs.ReaderState.{LineReaderState, pending}

@@ -6,7 +6,7 @@ use Rattle.drift_world.specs.Standing.{Stands, behind_events, last_time}
 use Rattle.net_plan.specs.declared.event.Event.{Event}
 use Rattle.net_plan.specs.declared.network.Network.{Network}
 use Rattle.report_text.specs.NoteLine.{report_of}
-use Rattle.run_law.specs.Silent.{IsSilentRunOf}
+use Rattle.run_law.specs.law.Silent.{IsSilentRunOf}
 use Rattle.run_law.specs.declared.note.Note.{Note}
 use Rattle.tte_run.specs.Putting.{Shown, PutsLines, PutFails}
 use Rattle.tte_run.specs.Running.{clock_reading}

@@ -7,7 +7,7 @@ use Rattle.net_plan.specs.declared.event.Event.{Event}
 use Rattle.net_plan.specs.declared.ids.DeviceId.{DeviceId}
 use Rattle.net_plan.specs.declared.network.Network.{Network}
 use Rattle.report_text.specs.NoteLine.{report_of}
-use Rattle.run_law.specs.Records.{EndsAt, IsRunOf}
+use Rattle.run_law.specs.runs.DueRecords.{EndsAt, IsRunOf}
 use Rattle.run_law.specs.declared.note.Note.{Note}
 use Rattle.tte_run.specs.Accepting.{refused_answer}
 use Rattle.tte_run.specs.Answering.{Answer}

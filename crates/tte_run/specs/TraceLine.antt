@@ -1,7 +1,7 @@
 -- The lines about a trace that is refused.
 use Rattle.std.specs.Prelude.{ℕ, List, [], ◌∷◌, ◌++◌, codes}
 use Rattle.std.specs.Fmt.{decimal}
-use Rattle.run_law.specs.Hypothesis.{condition_number}
+use Rattle.run_law.specs.scenario.Hypothesis.{condition_number}
 use Rattle.run_law.specs.declared.outside.Outside.{Outside}
 use Rattle.trace_text.specs.declared.refusal.LineRefusal.{LineRefusal}
 use Rattle.trace_text.specs.declared.refusal.LineRefusal.TheVariants as refusals

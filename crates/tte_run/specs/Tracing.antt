@@ -4,7 +4,7 @@ use Rattle.net_plan.specs.declared.event.Event.{Event}
 use Rattle.net_plan.specs.declared.event.What.TheVariants.{Send, End}
 use Rattle.net_plan.specs.declared.ids.LinkId.{LinkId}
 use Rattle.net_plan.specs.declared.network.Network.{Network}
-use Rattle.run_law.specs.Hypothesis.{IsWithinHypothesis, IsOutsideBy}
+use Rattle.run_law.specs.scenario.Hypothesis.{IsWithinHypothesis, IsOutsideBy}
 use Rattle.trace_text.specs.EventReading.{event_read}
 use Rattle.tte_io.specs.Line.{line_limit, first_line, behind_line}
 use Rattle.tte_run.specs.declared.fault.TraceFault.{TraceFault}

@@ -1,7 +1,7 @@
 ghost use Rattle.std.specs.Prelude.{◌≡◌, ◌⊎◌, ◌≤◌, ◌+◌, ◌^◌, pos, ◌≤ℤ◌, List, false, IfErr, OnOk};
 ghost use Rattle.net_plan.specs.Ranges.{IsInRange};
 ghost use Rattle.net_plan.specs.declared.event.Event.{Event as EventValue};
-ghost use Rattle.run_law.specs.Hypothesis.{SetsFastRate};
+ghost use Rattle.run_law.specs.scenario.Hypothesis.{SetsFastRate};
 ghost use Rattle.run_law.specs.declared.note.Note.{Note as NoteValue};
 ghost use Rattle.trace_text.specs.Ranges.{IsOfNetwork, IsTime};
 ghost use Rattle.tte_io.specs.Faults.{Rose};

@@ -1,4 +1,4 @@
-use Rattle.run_law.proofs.FirstBroken.{broken_are_still}
+use Rattle.run_law.proofs.law.FirstBroken.{broken_are_still}
 use Rattle.run_law.proofs.first_laws.broken_are_still.Goals as goal
 
 pub returns : goal.returns

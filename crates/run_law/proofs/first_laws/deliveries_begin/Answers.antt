@@ -1,4 +1,4 @@
-use Rattle.run_law.proofs.FirstDeliveries.{deliveries_begin}
+use Rattle.run_law.proofs.law.FirstDeliveries.{deliveries_begin}
 use Rattle.run_law.proofs.first_laws.deliveries_begin.Goals as goal
 
 pub returns : goal.returns

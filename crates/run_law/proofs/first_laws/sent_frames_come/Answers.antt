@@ -1,4 +1,4 @@
-use Rattle.run_law.proofs.FirstSent.{sent_frames_come}
+use Rattle.run_law.proofs.law.FirstSent.{sent_frames_come}
 use Rattle.run_law.proofs.first_laws.sent_frames_come.Goals as goal
 
 pub returns : goal.returns

@@ -1,4 +1,4 @@
-use Rattle.run_law.proofs.NetworkRuns.{earlier_run_is_front}
+use Rattle.run_law.proofs.runs.NetworkRuns.{earlier_run_is_front}
 use Rattle.run_law.proofs.laws.earlier_run_is_front.Goals as goal
 
 pub returns : goal.returns

@@ -1,4 +1,4 @@
-use Rattle.run_law.proofs.Decided.{hypothesis_is_decided}
+use Rattle.run_law.proofs.scenario.Decided.{hypothesis_is_decided}
 use Rattle.run_law.proofs.laws.hypothesis_is_decided.Goals as goal
 
 pub returns : goal.returns

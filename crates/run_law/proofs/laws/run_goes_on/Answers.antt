@@ -1,4 +1,4 @@
-use Rattle.run_law.proofs.NetworkRuns.{run_goes_on}
+use Rattle.run_law.proofs.runs.NetworkRuns.{run_goes_on}
 use Rattle.run_law.proofs.laws.run_goes_on.Goals as goal
 
 pub returns : goal.returns

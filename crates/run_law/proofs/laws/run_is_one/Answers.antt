@@ -1,4 +1,4 @@
-use Rattle.run_law.proofs.NetworkRuns.{run_is_one}
+use Rattle.run_law.proofs.runs.NetworkRuns.{run_is_one}
 use Rattle.run_law.proofs.laws.run_is_one.Goals as goal
 
 pub returns : goal.returns

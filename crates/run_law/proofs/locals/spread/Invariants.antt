@@ -1,4 +1,4 @@
-use Rattle.run_law.proofs.Ends.{AreEndsOf}
+use Rattle.run_law.proofs.law.Ends.{AreEndsOf}
 use Rattle.run_law.proofs.locals.spread.Given as goal
 
 abbrev pub invariant-loop-local : goal.invariant-loop-local

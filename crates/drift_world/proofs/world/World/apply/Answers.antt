@@ -4,7 +4,7 @@ use Rattle.drift_world.proofs.Standings.{IsEndTest, applied, applied_run, has_cl
 use Rattle.drift_world.specs.Progress.{Progress}
 use Rattle.drift_world.specs.Standing.{Stands}
 use Rattle.net_plan.specs.declared.event.What.{What}
-use Rattle.run_law.specs.Hypothesis.{SetsFastRate}
+use Rattle.run_law.specs.scenario.Hypothesis.{SetsFastRate}
 use Rattle.run_law.specs.declared.note.Note.{Note}
 use Rattle.run_law.specs.declared.note.NoteBody.TheVariants.{Event as Befalls}
 use Rattle.trace_text.specs.Ranges.{IsOfNetwork}

@@ -1,7 +1,7 @@
 use Rattle.std.proofs.Common.{◌≡◌, ◌↔◌, ◌∙◌, subst, Some}
 use Rattle.net_plan.specs.declared.network.Network.{Network}
 use Rattle.pcf_values.specs.declared.channel.Channel.{Channel}
-use Rattle.run_law.specs.Faults.{IsLinkOf}
+use Rattle.run_law.specs.scenario.Faults.{IsLinkOf}
 use Rattle.fault_hypothesis.proofs.Judging.{cut_by}
 use Rattle.fault_hypothesis.proofs.watch.Watch.cuts_other_channel.Goals as goal
 

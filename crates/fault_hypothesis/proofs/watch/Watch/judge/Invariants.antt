@@ -2,7 +2,7 @@ use Rattle.std.proofs.Common.{◌≤◌, List}
 use Rattle.fault_hypothesis.specs.Watching.{Watches}
 use Rattle.net_plan.specs.declared.event.Event.{Event}
 use Rattle.net_plan.specs.declared.network.Network.{Network}
-use Rattle.run_law.specs.Hypothesis.{Violates, condition_number}
+use Rattle.run_law.specs.scenario.Hypothesis.{Violates, condition_number}
 use Rattle.run_law.specs.declared.outside.Outside.{Outside}
 use Rattle.trace_text.specs.Ranges.{IsOfNetwork}
 use Rattle.fault_hypothesis.proofs.watch.Watch.judge.Given as goal

@@ -1,7 +1,7 @@
 use Rattle.std.proofs.Common.{◌≡◌, ◌↔◌, ◌∙◌, refl, subst, Some, true, ap, sym, arith, length, length-set}
 use Rattle.net_plan.specs.declared.network.Network.{Network}
 use Rattle.pcf_values.specs.declared.channel.Channel.{Channel}
-use Rattle.run_law.specs.Faults.{IsLinkOf}
+use Rattle.run_law.specs.scenario.Faults.{IsLinkOf}
 use Rattle.schedule_tables.specs.Rules.{KeepsRules}
 use Rattle.schedule_tables.specs.declared.rule.Rule.TheVariants.{Limits}
 use Rattle.trace_text.specs.Ranges.{IsOfNetwork}

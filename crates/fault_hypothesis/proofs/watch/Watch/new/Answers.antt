@@ -1,5 +1,5 @@
 use Rattle.std.proofs.Common.{refl, arith}
-use Rattle.run_law.specs.Faults.{Breaks}
+use Rattle.run_law.specs.scenario.Faults.{Breaks}
 use Rattle.fault_hypothesis.proofs.Befalling.{any_none, none_stands}
 use Rattle.fault_hypothesis.proofs.Cuts.{faulty_begins}
 use Rattle.fault_hypothesis.proofs.Keeping.{none_on}

@@ -1,7 +1,7 @@
 use Rattle.std.proofs.Common.{List, ◌∷◌, [], ◌++◌, inl, inr, refl, ap}
 use Rattle.membership.specs.Summary.{silence}
-use Rattle.run_law.specs.Nodes.{Deed, sending}
-use Rattle.run_law.proofs.Lone.{alone_rests, begun_yet, corrects_next, is_alone, sends_first, sent_once}
+use Rattle.run_law.specs.machines.Nodes.{Deed, sending}
+use Rattle.run_law.proofs.machines.LoneMasters.{alone_rests, begun_yet, corrects_next, is_alone, sends_first, sent_once}
 use Rattle.sync_state.specs.Standing.{Standing}
 use Rattle.run_law.proofs.lone_master.LoneMasterMachine.act.Goals as goal
 

@@ -1,4 +1,4 @@
-use Rattle.run_law.proofs.Lone.{begun_yet, first_due, second_due, sent_once}
+use Rattle.run_law.proofs.machines.LoneMasters.{begun_yet, first_due, second_due, sent_once}
 use Rattle.run_law.proofs.lone_master.LoneMasterMachine.due.Goals as goal
 
 -- src/lone_master.rt:95:5

@@ -1,0 +1,2 @@
+-- The machines of this crate.
+pub mod LoneMasters

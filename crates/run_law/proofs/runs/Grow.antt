@@ -1,0 +1,110 @@
+-- How a run begins, goes up to a later mark, and goes on by its next record.
+use Rattle.std.proofs.Common.{◌≡◌, ◌⊎◌, ℕ, List, [], ◌∷◌, ◌++◌, inl, inr, refl, sym, ap, subst, ◌∙◌}
+use Rattle.std.proofs.lemmas.List.{append-nil}
+use Rattle.run_law.specs.records.Order.{IsBefore, IsIn, AllBefore, NoneBefore}
+use Rattle.run_law.specs.runs.Runs.{IsFounded, IsRun, NothingDueUpTo}
+use Rattle.run_law.proofs.runs.Places.{never_self, chain, either_way, behind, before_behind, nothing_between, in_left, in_right, in_parts}
+
+-- ---- a run begins
+
+no_part : {N : Type 0} (ps qs : List N) (x : N) → [] ≡ ps ++ x ∷ qs → ⊥
+no_part [] qs x e = cc
+no_part (p ∷ ps) qs x e = cc
+
+no_front : {N : Type 0} (ps qs : List N) → [] ≡ ps ++ qs → ps ≡ []
+no_front [] qs e = refl
+no_front (p ∷ ps) qs e = absurd cc
+
+-- no record is the run up to a mark before which none is due
+pub empty_run : {N : Type 0} (place : N → List ℕ) (IsDue : List N → N → Type 0) (mark : List ℕ) → ((y : N) → IsDue [] y → IsBefore (place y) mark → ⊥) → IsRun place IsDue mark []
+empty_run {N} place IsDue mark none = record {
+  founded = λ ps qs x e. absurd (no_part ps qs x e);
+  full = λ ps qs y e before rest due here. absurd (none y (subst (λ (t : List N). IsDue t y) (no_front ps qs e) due) here);
+  within = λ m i. absurd i;
+}
+
+-- ---- a run under other causes, and up to another mark
+
+-- a run is one under other causes that are the same up to its mark
+pub run_of_same : {N : Type 0} (place : N → List ℕ) (IsDue IsCaused : List N → N → Type 0) (mark : List ℕ) (ns : List N) → ((ps : List N) (y : N) → IsDue ps y → IsCaused ps y) → ((ps qs : List N) (y : N) → ns ≡ ps ++ qs → IsCaused ps y → IsBefore (place y) mark → IsDue ps y) → IsRun place IsDue mark ns → IsRun place IsCaused mark ns
+run_of_same place IsDue IsCaused mark ns more less run = record {
+  founded = λ ps qs x e. let due = run.founded ps qs x e in (due.0, more ps x due.1);
+  full = λ ps qs y e before rest due here. run.full ps qs y e before rest (less ps qs y e due here) here;
+  within = run.within;
+}
+
+-- a run up to a mark is that up to another one, where its records are before this and no others are due
+pub move_mark : {N : Type 0} (place : N → List ℕ) (IsDue : List N → N → Type 0) (mark later : List ℕ) (ns : List N) → IsRun place IsDue mark ns → AllBefore place ns later → NothingDueUpTo place IsDue mark ns later → IsRun place IsDue later ns
+move_mark place IsDue mark later ns run within nothing = record {
+  founded = run.founded;
+  full = λ ps qs y e before rest due here. run.full ps qs y e before rest due (nothing.gap ps qs y e before rest due here);
+  within = within;
+}
+
+-- ---- a run goes on
+
+-- a list and one more, in two parts
+pub record IsLastOf {N : Type 0} (ns ps qs : List N) (x : N) : Type 0 where
+  pub others : List N
+  pub last : qs ≡ others ++ x ∷ []
+  pub whole : ns ≡ ps ++ others
+
+pub in_two : {N : Type 0} (ns ps qs : List N) (x : N) → ns ++ x ∷ [] ≡ ps ++ qs → ((qs ≡ []) × (ps ≡ ns ++ x ∷ [])) ⊎ IsLastOf ns ps qs x
+in_two ns [] qs x e = inr (record { others = ns; last = sym e; whole = refl })
+in_two [] (p ∷ []) [] x e = inl (refl, sym e)
+in_two [] (p ∷ []) (q ∷ qs) x e = absurd cc
+in_two [] (p ∷ r ∷ ps) qs x e = absurd cc
+in_two (n ∷ ns) (p ∷ ps) qs x e =
+    let head : n ≡ p = cc in
+    let tail : ns ++ x ∷ [] ≡ ps ++ qs = cc in
+    elim (in_two ns ps qs x tail) [
+      | inl l ↦ inl (l.0, ap (λ (t : List _). p ∷ t) l.1 ∙ ap (λ t. t ∷ ns ++ x ∷ []) (sym head))
+      | inr r ↦ inr (record { others = r.others; last = r.last; whole = ap (λ (t : List _). n ∷ t) r.whole ∙ ap (λ t. t ∷ ps ++ r.others) head })
+    ]
+
+no_cons : {N : Type 0} (y : N) (qs : List N) → y ∷ qs ≡ [] → ⊥
+no_cons y qs e = cc
+
+founded_by : {N : Type 0} (place : N → List ℕ) (IsDue : List N → N → Type 0) (ns : List N) (x : N) → IsFounded place IsDue ns → AllBefore place ns (place x) → IsDue ns x → (ps qs : List N) (y : N) (others : List N) → y ∷ qs ≡ others ++ x ∷ [] → ns ≡ ps ++ others → AllBefore place ps (place y) × IsDue ps y
+founded_by {N} place IsDue ns x founded before due ps qs y [] last whole =
+    let same : x ≡ y = cc in
+    let all : ns ≡ ps = whole ∙ append-nil ps in
+    subst (λ (t : N). AllBefore place ps (place t) × IsDue ps t) same (subst (λ (t : List N). AllBefore place t (place x) × IsDue t x) all (before, due))
+founded_by {N} place IsDue ns x founded before due ps qs y (o ∷ others) last whole =
+    let same : y ≡ o = cc in
+    founded ps others y (whole ∙ ap (λ (t : N). ps ++ t ∷ others) (sym same))
+
+-- a founded list is founded with one more that is behind it and due
+pub grow_founded : {N : Type 0} (place : N → List ℕ) (IsDue : List N → N → Type 0) (ns : List N) (x : N) → IsFounded place IsDue ns → AllBefore place ns (place x) → IsDue ns x → IsFounded place IsDue (ns ++ x ∷ [])
+grow_founded place IsDue ns x founded before due ps qs y e =
+    elim (in_two ns ps (y ∷ qs) x e) [
+      | inl l ↦ absurd (no_cons y qs l.0)
+      | inr r ↦ founded_by place IsDue ns x founded before due ps qs y r.others r.last r.whole
+    ]
+
+-- a run goes on by the record that is due behind it, where no other is due before that
+pub grow : {N : Type 0} (place : N → List ℕ) (IsDue : List N → N → Type 0) (mark : List ℕ) (ns : List N) (x : N) → IsRun place IsDue mark ns → AllBefore place ns (place x) → IsDue ns x → NothingDueUpTo place IsDue mark ns (place x) → IsRun place IsDue (behind (place x)) (ns ++ x ∷ [])
+grow {N} place IsDue mark ns x run before due nothing =
+    let at_x : IsIn x (ns ++ x ∷ []) = in_right x ns (x ∷ []) (inl refl) in
+    record {
+      founded = grow_founded place IsDue ns x run.founded before due;
+      full = λ ps qs y e b n d w.
+          elim (either_way (place y) (place x)) [
+            | inr (inl same) ↦ (x, at_x, sym same)
+            | inr (inr gt) ↦ absurd (nothing_between (place x) (place y) gt w)
+            | inl lt ↦
+                elim (in_two ns ps qs x e) [
+                  | inl l ↦ absurd (never_self (place x) (chain (place x) (place y) (place x) (b x (subst (λ (t : List N). IsIn x t) (sym l.1) at_x)) lt))
+                  | inr r ↦
+                      let none : NoneBefore place r.others (place y) = λ m i. n m (subst (λ (t : List N). IsIn m t) (sym r.last) (in_left m r.others (x ∷ []) i)) in
+                      let found = run.full ps r.others y r.whole b none d (nothing.gap ps r.others y r.whole b none d lt) in
+                      (found.0, in_left found.0 ns (x ∷ []) found.1, found.2)
+                ]
+          ];
+      within = λ m i.
+          elim (in_parts m ns (x ∷ []) i) [
+            | inl l ↦ chain (place m) (place x) (behind (place x)) (before m l) (before_behind (place x))
+            | inr (inl e) ↦ subst (λ (t : N). IsBefore (place t) (behind (place x))) (sym e) (before_behind (place x))
+            | inr (inr none) ↦ absurd none
+          ];
+    }

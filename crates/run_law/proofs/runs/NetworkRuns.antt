@@ -1,0 +1,71 @@
+-- The laws of the runs of a network.
+use Rattle.std.proofs.Common.{◌≡◌, List, [], ◌∷◌, ◌++◌, map, fold, refl, sym, ap, subst, ◌∙◌, append_assoc}
+use Rattle.std.proofs.lemmas.List.{append-nil}
+use Rattle.net_plan.specs.declared.network.Network.{Network}
+use Rattle.run_law.specs.records.Happenings.{Happening, happening, happenings}
+use Rattle.run_law.specs.law.Laws.{EarlierRunIsFront, RunGoesOn, RunIsOne}
+use Rattle.run_law.specs.records.Ranks.{place_of}
+use Rattle.run_law.specs.runs.DueRecords.{IsDue}
+use Rattle.run_law.specs.runs.Runs.{IsRun}
+use Rattle.run_law.specs.scenario.Scenarios.{Scenario}
+use Rattle.run_law.specs.declared.note.Note.{Note}
+use Rattle.run_law.proofs.runs.Determined.{due_is_determined}
+use Rattle.run_law.proofs.runs.FrontOfRun.{front_of_run}
+use Rattle.run_law.proofs.runs.Grow.{grow}
+use Rattle.run_law.proofs.runs.OneRun.{one_run}
+
+-- ---- records and happenings
+
+abbrev notes_of : List Happening → List Note
+notes_of hs = map (λ h. h.note) hs
+
+abbrev with_next : Network → List Happening → Note → List Happening
+with_next network before note = before ++ happening network before note ∷ []
+
+notes_of_parts : (hs gs : List Happening) → notes_of (hs ++ gs) ≡ notes_of hs ++ notes_of gs
+notes_of_parts [] gs = refl
+notes_of_parts (h ∷ hs) gs = ap (λ (ns : List Note). h.note ∷ ns) (notes_of_parts hs gs)
+
+notes_from : (network : Network) (before : List Happening) (ns : List Note) → notes_of (fold (with_next network) before ns) ≡ notes_of before ++ ns
+notes_from network before [] = sym (append-nil (notes_of before))
+notes_from network before (n ∷ ns) =
+    notes_from network (with_next network before n) ns
+    ∙ ap (λ (ms : List Note). ms ++ ns) (notes_of_parts before (happening network before n ∷ []))
+    ∙ append_assoc (notes_of before) (n ∷ []) ns
+
+-- the records of the happenings of records are these
+pub same_notes : (network : Network) (ns : List Note) → notes_of (happenings network ns) ≡ ns
+same_notes network ns = notes_from network [] ns
+
+fold_parts : (network : Network) (before : List Happening) (ns ms : List Note) → fold (with_next network) before (ns ++ ms) ≡ fold (with_next network) (fold (with_next network) before ns) ms
+fold_parts network before [] ms = refl
+fold_parts network before (n ∷ ns) ms = fold_parts network (with_next network before n) ns ms
+
+-- one more record is one more happening
+pub one_more : (network : Network) (ns : List Note) (n : Note) → happenings network (ns ++ n ∷ []) ≡ happenings network ns ++ happening network (happenings network ns) n ∷ []
+one_more network ns n = fold_parts network [] ns (n ∷ [])
+
+-- ---- the laws
+
+pub run_is_one : RunIsOne
+run_is_one network reading events mark notes others a b =
+    let s : Scenario = record { network = network; reading = reading; events = events } in
+    sym (same_notes network notes)
+    ∙ ap notes_of (one_run place_of (IsDue s) mark (due_is_determined s) (happenings network notes) (happenings network others) a b)
+    ∙ same_notes network others
+
+pub earlier_run_is_front : EarlierRunIsFront
+earlier_run_is_front network reading events mark later notes more earlier a b =
+    let s : Scenario = record { network = network; reading = reading; events = events } in
+    let front = front_of_run place_of (IsDue s) mark later (due_is_determined s) earlier (happenings network notes) (happenings network more) a b in (
+      notes_of front.0,
+      sym (same_notes network more)
+          ∙ ap notes_of front.1
+          ∙ notes_of_parts (happenings network notes) front.0
+          ∙ ap (λ (ns : List Note). ns ++ notes_of front.0) (same_notes network notes),
+    )
+
+pub run_goes_on : RunGoesOn
+run_goes_on s mark notes note next run is more =
+    let grown = grow place_of (IsDue s) mark (happenings s.network notes) next run more.behind_all more.due more.first in
+    subst (IsRun place_of (IsDue s) _) (ap (λ (h : Happening). happenings s.network notes ++ h ∷ []) is ∙ sym (one_more s.network notes note)) grown

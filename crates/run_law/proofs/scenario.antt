@@ -1,0 +1,5 @@
+-- The fault hypothesis is decided.
+pub mod Decisions
+pub mod Conditions
+pub mod Decided
+pub mod Examples

@@ -1,0 +1,286 @@
+-- Each condition of the fault hypothesis is decided.
+use Rattle.std.proofs.Common.{◌≡◌, ◌≢◌, ◌⊎◌, ℕ, ◌<◌, ◌+ℤ◌, ◌<ℤ◌, List, [], ◌∷◌, ◌++◌, Option, Some, None, IsSomeAnd, IsNone, Any, is_some, true, unsigned_abs, inl, inr, refl, sym, ap, subst, ◌∙◌}
+use Rattle.net_plan.specs.Places.{device_at, link_at, is_master, IsSwitchOf}
+use Rattle.net_plan.specs.Rules.{HasOffSwitch}
+use Rattle.net_plan.specs.declared.event.Event.{Event}
+use Rattle.net_plan.specs.declared.event.What.{What}
+use Rattle.net_plan.specs.declared.event.What.TheVariants.{Rate, Wire, Hold, Cut, On, Break, Send}
+use Rattle.net_plan.specs.declared.ids.DeviceId.{DeviceId}
+use Rattle.net_plan.specs.declared.ids.LinkId.{LinkId}
+use Rattle.net_plan.specs.declared.network.Network.{Network}
+use Rattle.pcf_values.specs.declared.channel.Channel.{Channel}
+use Rattle.pcf_values.specs.declared.channel.Channel.TheVariants.{A, B}
+use Rattle.run_law.specs.scenario.Faults.{Breaks, TurnsOn, Cuts, CutsOn, IsBroken, IsTurnedOn, BeginsOn, IsLinkOf, IsFirstCutOn, IsFaulty}
+use Rattle.run_law.specs.scenario.Hypothesis.{ComesTooEarly, SetsFastRate, SetsOtherWire, SetsLongHold, CutsOtherChannel, BreaksNoMaster, BreaksSecond, LeavesTooFew, SendsUnbroken, TurnsOnAgain, sound_masters}
+use Rattle.run_law.proofs.scenario.Decisions.{IsDecided, decided_by, decided_not, decided_and, decided_or, decided_less, decided_same, decided_less_int, decided_true, decided_false, decided_some, decided_at, decided_any, any_first, any_later, any_of_none, any_parts}
+use Rattle.tte_units.specs.declared.rates.Ppb.{Ppb}
+use Rattle.tte_units.specs.declared.units.Units.{Units}
+
+-- ---- the time of an event
+
+no_last : (front : List Event) (last : Event) → [] ≡ front ++ last ∷ [] → ⊥
+no_last [] last e = cc
+no_last (f ∷ front) last e = cc
+
+only_last : (front : List Event) (e last : Event) → e ∷ [] ≡ front ++ last ∷ [] → last ≡ e
+only_last [] e last order = cc
+only_last (f ∷ []) e last order = absurd cc
+only_last (f ∷ g ∷ front) e last order = absurd cc
+
+last_of_rest : (front : List Event) (e f : Event) (rest : List Event) (last : Event) → e ∷ f ∷ rest ≡ front ++ last ∷ [] → (more : List Event) × (f ∷ rest ≡ more ++ last ∷ [])
+last_of_rest [] e f rest last order = absurd cc
+last_of_rest (g ∷ front) e f rest last order = (front, cc)
+
+pub too_early : (before : List Event) (event : Event) → IsDecided (ComesTooEarly before event)
+too_early [] event = inr (λ h. no_last h.front h.last h.order)
+too_early (e ∷ []) event = decided_by (λ lt. record { front = []; last = e; order = refl; later = lt }) (λ h. subst (λ (l : Event). event.time.0 <ℤ l.time.0) (only_last h.front e h.last h.order) h.later) (decided_less_int event.time.0 e.time.0)
+too_early (e ∷ f ∷ rest) event = decided_by
+    (λ h. record { front = e ∷ h.front; last = h.last; order = ap (λ (t : List Event). e ∷ t) h.order; later = h.later })
+    (λ h. let more = last_of_rest h.front e f rest h.last h.order in record { front = more.0; last = h.last; order = more.1; later = h.later })
+    (too_early (f ∷ rest) event)
+
+-- ---- what an event sets
+
+fast_rate_by : (network : Network) (event : Event) (what : What) → event.what ≡ what → IsDecided (SetsFastRate network event)
+fast_rate_by network event (Rate device rate) is = decided_by
+    (λ fast. record { device = device; rate = rate; what = is; fast = fast })
+    (λ h. let both = sym h.what ∙ is in let same : h.rate ≡ rate = cc in subst (λ (r : Ppb). network.rho < unsigned_abs r.0) same h.fast)
+    (decided_less network.rho (unsigned_abs rate.0))
+fast_rate_by network event other is = inr (λ h. let both = sym h.what ∙ is in cc)
+
+pub fast_rate : (network : Network) (event : Event) → IsDecided (SetsFastRate network event)
+fast_rate network event = fast_rate_by network event event.what refl
+
+abbrev IsOtherWire : Network → LinkId → Units → Type 0
+IsOtherWire network link delay = IsSomeAnd (link_at network link) (λ l. (delay.0 <ℤ l.wire.0) ⊎ ((l.wire.0 +ℤ l.jitter.0) <ℤ delay.0))
+
+other_wire_by : (network : Network) (event : Event) (what : What) → event.what ≡ what → IsDecided (SetsOtherWire network event)
+other_wire_by network event (Wire link way delay) is = decided_by
+    (λ other. record { link = link; way = way; delay = delay; what = is; other = other })
+    (λ h.
+    let both = sym h.what ∙ is in
+    let links : h.link ≡ link = cc in
+    let delays : h.delay ≡ delay = cc in
+    subst (IsOtherWire network link) delays (subst (λ (l : LinkId). IsOtherWire network l h.delay) links h.other))
+    (decided_some (link_at network link) (λ l. (delay.0 <ℤ l.wire.0) ⊎ ((l.wire.0 +ℤ l.jitter.0) <ℤ delay.0)) (λ l. decided_or (decided_less_int delay.0 l.wire.0) (decided_less_int (l.wire.0 +ℤ l.jitter.0) delay.0)))
+other_wire_by network event other is = inr (λ h. let both = sym h.what ∙ is in cc)
+
+pub other_wire : (network : Network) (event : Event) → IsDecided (SetsOtherWire network event)
+other_wire network event = other_wire_by network event event.what refl
+
+abbrev IsLongHold : Network → LinkId → Units → Type 0
+IsLongHold network link delay = IsSomeAnd (link_at network link) (λ l. l.hold.0 <ℤ delay.0)
+
+long_hold_by : (network : Network) (event : Event) (what : What) → event.what ≡ what → IsDecided (SetsLongHold network event)
+long_hold_by network event (Hold link way delay) is = decided_by
+    (λ long. record { link = link; way = way; delay = delay; what = is; long = long })
+    (λ h.
+    let both = sym h.what ∙ is in
+    let links : h.link ≡ link = cc in
+    let delays : h.delay ≡ delay = cc in
+    subst (IsLongHold network link) delays (subst (λ (l : LinkId). IsLongHold network l h.delay) links h.long))
+    (decided_some (link_at network link) (λ l. l.hold.0 <ℤ delay.0) (λ l. decided_less_int l.hold.0 delay.0))
+long_hold_by network event other is = inr (λ h. let both = sym h.what ∙ is in cc)
+
+pub long_hold : (network : Network) (event : Event) → IsDecided (SetsLongHold network event)
+long_hold network event = long_hold_by network event event.what refl
+
+-- ---- channels
+
+same_channel : (c d : Channel) → IsDecided (c ≡ d)
+same_channel A A = inl refl
+same_channel A B = inr (λ e. cc)
+same_channel B A = inr (λ e. cc)
+same_channel B B = inl refl
+
+one_of : (P : Channel → Type 0) → (c : Channel) × P c → P A ⊎ P B
+one_of P (A, p) = inl p
+one_of P (B, p) = inr p
+
+some_channel : (P : Channel → Type 0) → ((c : Channel) → IsDecided (P c)) → IsDecided ((c : Channel) × P c)
+some_channel P each = decided_by (λ h. elim h [ inl a ↦ (A, a) | inr b ↦ (B, b) ]) (one_of P) (decided_or (each A) (each B))
+
+no_channel : (P : Channel → Type 0) → ((c : Channel) → IsDecided (P c)) → IsDecided ((c : Channel) → P c → ⊥)
+no_channel P each = decided_by (λ none c p. none (c, p)) (λ none h. none h.0 h.1) (decided_not (some_channel P each))
+
+is_channel : (o : Option Channel) (c : Channel) → IsDecided (o ≡ Some c)
+is_channel None c = inr (λ e. cc)
+is_channel (Some d) c = decided_by (λ e. ap (λ (x : Channel). Some x) e) (λ e. let same : d ≡ c = cc in same) (same_channel d c)
+
+is_link_of : (network : Network) (channel : Channel) (link : LinkId) → IsDecided (IsLinkOf network channel link)
+is_link_of network channel link = decided_some (link_at network link) (λ l. IsSwitchOf network channel l.parent) (λ l. decided_some (device_at network l.parent) (λ d. d.channel ≡ Some channel) (λ d. is_channel d.channel channel))
+
+has_off_switch : (network : Network) (channel : Channel) → IsDecided (HasOffSwitch network channel)
+has_off_switch network channel = decided_by
+    (λ h. (record { 0 = h.0 }, h.1))
+    (λ h. (h.0.0, h.1))
+    (decided_at network.device (λ d. (d.channel ≡ Some channel) × IsNone d.start) (λ d. decided_and (is_channel d.channel channel) (decided_false (is_some d.start))))
+
+-- ---- the first cut
+
+cuts_by : (event : Event) (what : What) → event.what ≡ what → IsDecided ((link : LinkId) × Cuts link event)
+cuts_by event (Cut link way) is = inl (link, (way, is))
+cuts_by event other is = inr (λ h. let both = sym h.1.1 ∙ is in cc)
+
+cuts_on_by : (network : Network) (channel : Channel) (event : Event) (what : What) → event.what ≡ what → IsDecided (CutsOn network channel event)
+cuts_on_by network channel event (Cut link way) is = decided_by
+    (λ on. (link, (way, is), on))
+    (λ h. let both = sym h.1.1 ∙ is in let same : h.0 ≡ link = cc in subst (IsLinkOf network channel) same h.2)
+    (is_link_of network channel link)
+cuts_on_by network channel event other is = inr (λ h. let both = sym h.1.1 ∙ is in cc)
+
+-- where the first of the events cuts, it is the first cut
+cut_is_first : (network : Network) (channel : Channel) (e : Event) (rest before : List Event) (cut : Event) (behind : List Event) → e ∷ rest ≡ before ++ cut ∷ behind → ((link : LinkId) → Any (Cuts link) before → ⊥) → CutsOn network channel cut → (link : LinkId) × Cuts link e → CutsOn network channel e
+cut_is_first network channel e rest [] cut behind order none on first = let same : cut ≡ e = cc in subst (CutsOn network channel) same on
+cut_is_first network channel e rest (b ∷ before) cut behind order none on first =
+    let same : e ≡ b = cc in
+    absurd (none first.0 (any_first (Cuts first.0) b before (subst (Cuts first.0) same first.1)))
+
+-- where it does not, the first cut is among the rest
+cut_is_later : (network : Network) (channel : Channel) (e : Event) (rest before : List Event) (cut : Event) (behind : List Event) → e ∷ rest ≡ before ++ cut ∷ behind → ((link : LinkId) → Any (Cuts link) before → ⊥) → CutsOn network channel cut → ((link : LinkId) × Cuts link e → ⊥) → IsFirstCutOn network channel rest
+cut_is_later network channel e rest [] cut behind order none on fails = let same : cut ≡ e = cc in absurd (fails (on.0, subst (Cuts on.0) same on.1))
+cut_is_later network channel e rest (b ∷ before) cut behind order none on fails = record {
+  before = before;
+  cut = cut;
+  behind = behind;
+  order = cc;
+  none_before = λ link h. none link (any_later (Cuts link) b before h);
+  cuts = on;
+}
+
+no_cut : (before : List Event) (cut : Event) (behind : List Event) → [] ≡ before ++ cut ∷ behind → ⊥
+no_cut [] cut behind e = cc
+no_cut (b ∷ before) cut behind e = cc
+
+first_cut : (network : Network) (channel : Channel) (all : List Event) → IsDecided (IsFirstCutOn network channel all)
+first_cut network channel [] = inr (λ h. no_cut h.before h.cut h.behind h.order)
+first_cut network channel (e ∷ rest) =
+    elim (cuts_by e e.what refl) [
+      | inl cut ↦ decided_by
+          (λ on. record { before = []; cut = e; behind = rest; order = refl; none_before = λ link h. any_of_none (Cuts link) h; cuts = on })
+          (λ h. cut_is_first network channel e rest h.before h.cut h.behind h.order h.none_before h.cuts cut)
+          (cuts_on_by network channel e e.what refl)
+      | inr fails ↦ decided_by
+          (λ (h : IsFirstCutOn network channel rest). record {
+            before = e ∷ h.before;
+            cut = h.cut;
+            behind = h.behind;
+            order = ap (λ (t : List Event). e ∷ t) h.order;
+            none_before = λ link later. elim (any_parts (Cuts link) e h.before later) [ inl cut ↦ fails (link, cut) | inr more ↦ h.none_before link more ];
+            cuts = h.cuts;
+          })
+          (λ h. cut_is_later network channel e rest h.before h.cut h.behind h.order h.none_before h.cuts fails)
+          (first_cut network channel rest)
+    ]
+
+pub is_faulty : (network : Network) (events : List Event) (channel : Channel) → IsDecided (IsFaulty network events channel)
+is_faulty network events channel = decided_or (has_off_switch network channel) (decided_and (no_channel (HasOffSwitch network) (has_off_switch network)) (first_cut network channel events))
+
+-- the link is of the channel, and another one is faulty
+abbrev HasOther : Network → List Event → LinkId → Channel → Type 0
+HasOther network before link channel = IsLinkOf network channel link × ((faulty : Channel) × (IsFaulty network before faulty × (faulty ≢ channel)))
+
+has_other : (network : Network) (before : List Event) (link : LinkId) (channel : Channel) → IsDecided (HasOther network before link channel)
+has_other network before link channel =
+    decided_and
+    (is_link_of network channel link)
+    (some_channel (λ f. IsFaulty network before f × (f ≢ channel)) (λ f. decided_and (is_faulty network before f) (decided_not (same_channel f channel))))
+
+other_channel_by : (network : Network) (before : List Event) (event : Event) (what : What) → event.what ≡ what → IsDecided (CutsOtherChannel network before event)
+other_channel_by network before event (Cut link way) is = decided_by
+    (λ h. record { link = link; way = way; channel = h.0; faulty = h.1.1.0; what = is; on = h.1.0; is_faulty = h.1.1.1.0; other = h.1.1.1.1 })
+    (λ h.
+    let both = sym h.what ∙ is in
+    let same : h.link ≡ link = cc in
+    (h.channel, (subst (IsLinkOf network h.channel) same h.on, (h.faulty, (h.is_faulty, h.other)))))
+    (some_channel (HasOther network before link) (has_other network before link))
+other_channel_by network before event other is = inr (λ h. let both = sym h.what ∙ is in cc)
+
+pub other_channel : (network : Network) (before : List Event) (event : Event) → IsDecided (CutsOtherChannel network before event)
+other_channel network before event = other_channel_by network before event event.what refl
+
+-- ---- devices
+
+same_device : (a b : DeviceId) → IsDecided (a ≡ b)
+same_device a b = decided_by (λ e. ap (λ (n : ℕ). let d : DeviceId = record { 0 = n } in d) e) (λ e. ap (λ (d : DeviceId). d.0) e) (decided_same a.0 b.0)
+
+breaks_by : (device : DeviceId) (event : Event) (what : What) → event.what ≡ what → IsDecided (Breaks device event)
+breaks_by device event (Break other) is = decided_by (λ e. is ∙ ap (λ (d : DeviceId). Break d) e) (λ h. let both = sym h ∙ is in cc) (same_device other device)
+breaks_by device event other is = inr (λ h. let both = sym h ∙ is in cc)
+
+breaks_some_by : (event : Event) (what : What) → event.what ≡ what → IsDecided ((device : DeviceId) × Breaks device event)
+breaks_some_by event (Break device) is = inl (device, is)
+breaks_some_by event other is = inr (λ h. let both = sym h.1 ∙ is in cc)
+
+turns_on_by : (device : DeviceId) (event : Event) (what : What) → event.what ≡ what → IsDecided (TurnsOn device event)
+turns_on_by device event (On other) is = decided_by (λ e. is ∙ ap (λ (d : DeviceId). On d) e) (λ h. let both = sym h ∙ is in cc) (same_device other device)
+turns_on_by device event other is = inr (λ h. let both = sym h ∙ is in cc)
+
+pub is_broken : (events : List Event) (device : DeviceId) → IsDecided (IsBroken events device)
+is_broken events device = decided_any (Breaks device) (λ e. breaks_by device e e.what refl) events
+
+pub is_turned_on : (events : List Event) (device : DeviceId) → IsDecided (IsTurnedOn events device)
+is_turned_on events device = decided_any (TurnsOn device) (λ e. turns_on_by device e e.what refl) events
+
+pub some_broken : (events : List Event) → IsDecided ((device : DeviceId) × IsBroken events device)
+some_broken [] = inr (λ h. any_of_none (Breaks h.0) h.1)
+some_broken (e ∷ events) = decided_by
+    (λ h. elim h [ inl first ↦ (first.0, any_first (Breaks first.0) e events first.1) | inr later ↦ (later.0, any_later (Breaks later.0) e events later.1) ])
+    (λ h. elim (any_parts (Breaks h.0) e events h.1) [ inl first ↦ inl (h.0, first) | inr later ↦ inr (h.0, later) ])
+    (decided_or (breaks_some_by e e.what refl) (some_broken events))
+
+begins_on : (network : Network) (device : DeviceId) → IsDecided (BeginsOn network device)
+begins_on network device = decided_some (device_at network device) (λ d. IsNone d.start → ⊥) (λ d. decided_not (decided_false (is_some d.start)))
+
+-- ---- breaks, sends and turning on
+
+abbrev IsNoMaster : Network → DeviceId → Type 0
+IsNoMaster network device = IsSomeAnd (device_at network device) (λ d. is_master d.role ≡ true) → ⊥
+
+no_master_by : (network : Network) (event : Event) (what : What) → event.what ≡ what → IsDecided (BreaksNoMaster network event)
+no_master_by network event (Break device) is = decided_by
+    (λ fails. record { device = device; breaks = is; no_master = fails })
+    (λ h. let both = sym h.breaks ∙ is in let same : h.device ≡ device = cc in subst (IsNoMaster network) same h.no_master)
+    (decided_not (decided_some (device_at network device) (λ d. is_master d.role ≡ true) (λ d. decided_true (is_master d.role))))
+no_master_by network event other is = inr (λ h. let both = sym h.breaks ∙ is in cc)
+
+pub no_master : (network : Network) (event : Event) → IsDecided (BreaksNoMaster network event)
+no_master network event = no_master_by network event event.what refl
+
+pub second_break : (before : List Event) (event : Event) → IsDecided (BreaksSecond before event)
+second_break before event = decided_by
+    (λ h. record { device = h.0.0; broken = h.1.0; breaks = h.0.1; is_broken = h.1.1 })
+    (λ h. ((h.device, h.breaks), (h.broken, h.is_broken)))
+    (decided_and (breaks_some_by event event.what refl) (some_broken before))
+
+pub too_few : (network : Network) (before : List Event) (event : Event) → IsDecided (LeavesTooFew network before event)
+too_few network before event = decided_by
+    (λ h. record { device = h.0.0; breaks = h.0.1; few = h.1 })
+    (λ h. ((h.device, h.breaks), h.few))
+    (decided_and (breaks_some_by event event.what refl) (decided_less (sound_masters network (before ++ event ∷ [])) network.sync_threshold))
+
+abbrev IsUnbroken : Network → List Event → LinkId → Type 0
+IsUnbroken network before link = IsSomeAnd (link_at network link) (λ l. IsBroken before l.child) → ⊥
+
+sends_unbroken_by : (network : Network) (before : List Event) (event : Event) (what : What) → event.what ≡ what → IsDecided (SendsUnbroken network before event)
+sends_unbroken_by network before event (Send link octets) is = decided_by
+    (λ fails. record { link = link; octets = octets; what = is; unbroken = fails })
+    (λ h. let both = sym h.what ∙ is in let same : h.link ≡ link = cc in subst (IsUnbroken network before) same h.unbroken)
+    (decided_not (decided_some (link_at network link) (λ l. IsBroken before l.child) (λ l. is_broken before l.child)))
+sends_unbroken_by network before event other is = inr (λ h. let both = sym h.what ∙ is in cc)
+
+pub sends_unbroken : (network : Network) (before : List Event) (event : Event) → IsDecided (SendsUnbroken network before event)
+sends_unbroken network before event = sends_unbroken_by network before event event.what refl
+
+abbrev IsKnown : Network → List Event → DeviceId → Type 0
+IsKnown network before device = BeginsOn network device ⊎ IsTurnedOn before device ⊎ IsBroken before device
+
+turns_on_again_by : (network : Network) (before : List Event) (event : Event) (what : What) → event.what ≡ what → IsDecided (TurnsOnAgain network before event)
+turns_on_again_by network before event (On device) is = decided_by
+    (λ known. record { device = device; what = is; known = known })
+    (λ h. let both = sym h.what ∙ is in let same : h.device ≡ device = cc in subst (IsKnown network before) same h.known)
+    (decided_or (begins_on network device) (decided_or (is_turned_on before device) (is_broken before device)))
+turns_on_again_by network before event other is = inr (λ h. let both = sym h.what ∙ is in cc)
+
+pub turns_on_again : (network : Network) (before : List Event) (event : Event) → IsDecided (TurnsOnAgain network before event)
+turns_on_again network before event = turns_on_again_by network before event event.what refl

@@ -1,0 +1,125 @@
+-- The hypothesis judges an event in one way.
+use Rattle.std.proofs.Common.{◌≡◌, ◌⊎◌, ℕ, zero, suc, ◌^◌, ◌*◌, ◌<◌, ◌==◌, pos, List, if◌then◌else◌, inl, inr, refl, sym, ap, subst, ◌∙◌, arith}
+use Rattle.std.proofs.lemmas.Bool.{cases_lt, cases_order}
+use Rattle.net_plan.specs.declared.event.Event.{Event}
+use Rattle.net_plan.specs.declared.network.Network.{Network}
+use Rattle.run_law.specs.scenario.Hypothesis.{condition_number, IsOutsideBy, IsWithinHypothesis, Violates}
+use Rattle.run_law.specs.law.Laws.{HypothesisIsDecided}
+use Rattle.run_law.proofs.scenario.Conditions.{too_early, fast_rate, other_wire, long_hold, other_channel, no_master, second_break, too_few, sends_unbroken, turns_on_again}
+use Rattle.run_law.proofs.scenario.Decisions.{IsDecided, decided_less_int, decided_same}
+use Rattle.run_law.specs.declared.outside.Outside.{Outside}
+use Rattle.run_law.specs.declared.outside.Outside.TheVariants.{Order, Late, Rate, Wire, Hold, Channel, NotMaster, SecondBreak, TooFewMasters, NotBroken, NotOff}
+use Rattle.tte_units.specs.Amount.{amount}
+
+-- the condition of this number
+condition_of : ℕ → Outside
+condition_of n =
+    if n == 1 then Order
+    else if n == 2 then Late
+    else if n == 3 then Rate
+    else if n == 4 then Wire
+    else if n == 5 then Hold
+    else if n == 6 then Channel
+    else if n == 7 then NotMaster
+    else if n == 8 then SecondBreak
+    else if n == 9 then TooFewMasters
+    else if n == 10 then NotBroken
+    else NotOff
+
+numbered : (c : Outside) → condition_of (condition_number c) ≡ c
+unfolding condition_of
+numbered Order = refl
+numbered Late = refl
+numbered Rate = refl
+numbered Wire = refl
+numbered Hold = refl
+numbered Channel = refl
+numbered NotMaster = refl
+numbered SecondBreak = refl
+numbered TooFewMasters = refl
+numbered NotBroken = refl
+numbered NotOff = refl
+
+-- conditions of one number are one
+same_condition : (c d : Outside) → condition_number c ≡ condition_number d → c ≡ d
+same_condition c d same = sym (numbered c) ∙ ap condition_of same ∙ numbered d
+
+-- an event is outside by one condition
+one_condition : (network : Network) (before : List Event) (event : Event) (c d : Outside) → IsOutsideBy network before event c → IsOutsideBy network before event d → c ≡ d
+one_condition network before event c d a b =
+    elim (cases_order (condition_number c) (condition_number d)) [
+      | inl same ↦ same_condition c d same
+      | inr (inl lt) ↦ absurd (b.first c lt a.violates)
+      | inr (inr gt) ↦ absurd (a.first d gt b.violates)
+    ]
+
+-- each condition is broken or not
+violates : (network : Network) (before : List Event) (event : Event) (condition : Outside) → IsDecided (Violates network before event condition)
+violates network before event Order = too_early before event
+violates network before event Late = decided_less_int (pos (2 ^ 20 * amount network.cycle)) event.time.0
+violates network before event Rate = fast_rate network event
+violates network before event Wire = other_wire network event
+violates network before event Hold = long_hold network event
+violates network before event Channel = other_channel network before event
+violates network before event NotMaster = no_master network event
+violates network before event SecondBreak = second_break before event
+violates network before event TooFewMasters = too_few network before event
+violates network before event NotBroken = sends_unbroken network before event
+violates network before event NotOff = turns_on_again network before event
+
+-- no condition of a number below this is broken
+abbrev KeepsBelow : Network → List Event → Event → ℕ → Type 0
+KeepsBelow network before event n = (c : Outside) → condition_number c < n → Violates network before event c → ⊥
+
+-- where none below a number is broken, nor that of the number, none below the next is
+keeps_next : (network : Network) (before : List Event) (event : Event) (n : ℕ) → KeepsBelow network before event n → (condition_number (condition_of n) ≡ n → Violates network before event (condition_of n) → ⊥) → KeepsBelow network before event (suc n)
+keeps_next network before event n keeps here c small broken =
+    elim (cases_lt (condition_number c) n) [
+      | inl lt ↦ keeps c lt broken
+      | inr ge ↦
+          let number : condition_number c ≡ n = omega arith in
+          let same : condition_of n ≡ c = ap condition_of (sym number) ∙ numbered c in
+          here (ap condition_number same ∙ number) (subst (Violates network before event) (sym same) broken)
+    ]
+
+-- none of the conditions below a number is broken, or the event is outside by one
+judged : (network : Network) (before : List Event) (event : Event) (n : ℕ) → KeepsBelow network before event n ⊎ ((c : Outside) × IsOutsideBy network before event c)
+judged network before event zero = inl (λ c small. absurd (omega arith))
+judged network before event (suc n) =
+    elim (judged network before event n) [
+      | inr outside ↦ inr outside
+      | inl keeps ↦
+          elim (decided_same (condition_number (condition_of n)) n) [
+            | inr other ↦ inl (keeps_next network before event n keeps (λ same broken. other same))
+            | inl same ↦
+                elim (violates network before event (condition_of n)) [
+                  | inl broken ↦ inr (condition_of n, record { violates = broken; first = λ c lower. keeps c (subst (λ (m : ℕ). condition_number c < m) same lower) })
+                  | inr kept ↦ inl (keeps_next network before event n keeps (λ same broken. kept broken))
+                ]
+          ]
+    ]
+
+at_most_eleven : (c : Outside) → condition_number c < 12
+at_most_eleven Order = omega arith
+at_most_eleven Late = omega arith
+at_most_eleven Rate = omega arith
+at_most_eleven Wire = omega arith
+at_most_eleven Hold = omega arith
+at_most_eleven Channel = omega arith
+at_most_eleven NotMaster = omega arith
+at_most_eleven SecondBreak = omega arith
+at_most_eleven TooFewMasters = omega arith
+at_most_eleven NotBroken = omega arith
+at_most_eleven NotOff = omega arith
+
+-- an event is within the hypothesis, or outside by a condition
+some_judgement : (network : Network) (before : List Event) (event : Event) → IsWithinHypothesis network before event ⊎ ((c : Outside) × IsOutsideBy network before event c)
+some_judgement network before event =
+    elim (judged network before event 12) [ inl keeps ↦ inl (λ c broken. keeps c (at_most_eleven c) broken) | inr outside ↦ inr outside ]
+
+pub hypothesis_is_decided : HypothesisIsDecided
+hypothesis_is_decided network before event = record {
+  some = some_judgement network before event;
+  not_both = λ c within outside. within c outside.violates;
+  one = one_condition network before event;
+}

@@ -1,0 +1,6 @@
+-- What holds of all runs.
+pub mod Laws
+pub mod FirstLaws
+pub mod Safety
+pub mod Spread
+pub mod Silent
