@@ -10,7 +10,7 @@ use Rattle.compression.specs.Emission.{emission, compressed}
 use Rattle.compression.specs.Collecting.{Collecting, emissions}
 use Rattle.compression.specs.Row.{IsCollection, IsRow, IsSound}
 use Rattle.compression.specs.Least.{IsLeast}
-use Rattle.compression.specs.Stands.{Stands, EmittedInOrder}
+use Rattle.compression.specs.Stands.{StandsForPoints, EmittedInOrder}
 use Rattle.compression.specs.declared.compressed.Compressed.{Compressed}
 use Rattle.compression.proofs.Standing.{AreClusters-unique}
 use Rattle.compression.proofs.Rows.{row-head, row-rest, row-emissions, emission-within}
@@ -56,7 +56,7 @@ IsSound-emitted v c rest later sound split le = record {
 }
 
 -- where it stands
-pub Stands-emitted : (v : Collecting) (points : List Point) (emitted : List Compressed) (c : Cluster) (rest : List Cluster) (later : ℤ) → IsSound v → v.waiting ≡ c ∷ rest → v.earliest ≤ℤ later → emission v.ow v.calc c ≤ℤ later → Stands v points emitted → Stands (record v { earliest = later; waiting = rest }) points (emitted ++ compressed v.ow v.calc c ∷ [])
+pub Stands-emitted : (v : Collecting) (points : List Point) (emitted : List Compressed) (c : Cluster) (rest : List Cluster) (later : ℤ) → IsSound v → v.waiting ≡ c ∷ rest → v.earliest ≤ℤ later → emission v.ow v.calc c ≤ℤ later → StandsForPoints v points emitted → StandsForPoints (record v { earliest = later; waiting = rest }) points (emitted ++ compressed v.ow v.calc c ∷ [])
 Stands-emitted v points emitted c rest later sound split le at s =
     let col = row-head v.ow v.earliest c rest (subst (IsRow v.ow v.earliest) split sound.row) in
     let low = (emission-within v.ow v.calc c col).0 in

@@ -9,7 +9,7 @@ use Rattle.compression.specs.Role.{has_point_of, open_at}
 use Rattle.compression.specs.Collection.{opening, joined}
 use Rattle.compression.specs.Collecting.{Collecting, with_opened}
 use Rattle.compression.specs.Row.{IsRow, IsSound}
-use Rattle.compression.specs.Stands.{Stands}
+use Rattle.compression.specs.Stands.{StandsForPoints}
 use Rattle.compression.specs.declared.compressed.Compressed.{Compressed}
 use Rattle.compression.proofs.Growth.{AreClusters-opened, AreClusters-within, Grows}
 use Rattle.compression.proofs.Rows.{row_last, opened-before}
@@ -24,11 +24,11 @@ all-append : (r : ℤ) (cs ds : List Cluster) → AllByRecursion (λ c. c.end <�
 all-append r [] ds all more = more
 all-append r (c ∷ cs) ds all more = (all.0, all-append r cs ds all.1 more)
 
-past_at : (v : Collecting) (points : List Point) (emitted : List Compressed) (r : ℤ) (s : Stands v points emitted) → v.earliest ≤ℤ r → AllByRecursion (λ c. c.end <ℤ r) s.done
+past_at : (v : Collecting) (points : List Point) (emitted : List Compressed) (r : ℤ) (s : StandsForPoints v points emitted) → v.earliest ≤ℤ r → AllByRecursion (λ c. c.end <ℤ r) s.done
 past_at v points emitted r s le = ended_later v.earliest r s.done le (recursion_from_All (λ (c : Cluster). c.end <ℤ v.earliest) s.done s.past)
 
 -- a point that opens a collection
-pub Stands-opened : (v : Collecting) (points : List Point) (emitted : List Compressed) (p : Point) → IsSound v → v.earliest ≤ℤ p.reading → open_at v.waiting p.reading ≡ None → Stands v points emitted → Stands (with_opened v p) (points ++ p ∷ []) emitted
+pub Stands-opened : (v : Collecting) (points : List Point) (emitted : List Compressed) (p : Point) → IsSound v → v.earliest ≤ℤ p.reading → open_at v.waiting p.reading ≡ None → StandsForPoints v points emitted → StandsForPoints (with_opened v p) (points ++ p ∷ []) emitted
 Stands-opened v points emitted p sound order none s =
     let done = past_at v points emitted p.reading s order in
     let all = all-append p.reading s.done v.waiting done (all_ended v p.reading sound order none) in
@@ -40,7 +40,7 @@ Stands-opened v points emitted p sound order none s =
     }
 
 -- a point that the open collection is given
-stands_within : (v : Collecting) (points : List Point) (emitted : List Compressed) (p : Point) (front : List Cluster) (c d : Cluster) → IsSound v → v.earliest ≤ℤ p.reading → v.waiting ≡ front ++ c ∷ [] → p.reading ≤ℤ c.end → c.end ≤ℤ d.end → Grows v.ow c d p → (s : Stands v points emitted) → AreClusters v.ow (points ++ p ∷ []) (s.done ++ (front ++ d ∷ []))
+stands_within : (v : Collecting) (points : List Point) (emitted : List Compressed) (p : Point) (front : List Cluster) (c d : Cluster) → IsSound v → v.earliest ≤ℤ p.reading → v.waiting ≡ front ++ c ∷ [] → p.reading ≤ℤ c.end → c.end ≤ℤ d.end → Grows v.ow c d p → (s : StandsForPoints v points emitted) → AreClusters v.ow (points ++ p ∷ []) (s.done ++ (front ++ d ∷ []))
 stands_within v points emitted p front c d sound order split here longer grows s =
     let last = row_last v.ow v.earliest front c (subst (IsRow v.ow v.earliest) split sound.row) in
     let opened = opened-before v.ow c v.earliest last.collection last.may in
@@ -51,7 +51,7 @@ stands_within v points emitted p front c d sound order split here longer grows s
     (AreClusters-within v.ow points (s.done ++ front) c d p (omega (arith, ints, sound.some, sound.short)) are (all-append p.reading s.done front done before) (omega (arith, ints, opened, order)) here longer grows)
 
 -- one that joins it
-pub Stands-joined : (v : Collecting) (points : List Point) (emitted : List Compressed) (p : Point) (front : List Cluster) (c : Cluster) → IsSound v → v.earliest ≤ℤ p.reading → v.waiting ≡ front ++ c ∷ [] → p.reading ≤ℤ c.end → p.cycle ≡ c.cycle → has_point_of c p.master ≡ false → Stands v points emitted → Stands (with_last v front c p) (points ++ p ∷ []) emitted
+pub Stands-joined : (v : Collecting) (points : List Point) (emitted : List Compressed) (p : Point) (front : List Cluster) (c : Cluster) → IsSound v → v.earliest ≤ℤ p.reading → v.waiting ≡ front ++ c ∷ [] → p.reading ≤ℤ c.end → p.cycle ≡ c.cycle → has_point_of c p.master ≡ false → StandsForPoints v points emitted → StandsForPoints (with_last v front c p) (points ++ p ∷ []) emitted
 Stands-joined v points emitted p front c sound order split here same new s =
     let last = row_last v.ow v.earliest front c (subst (IsRow v.ow v.earliest) split sound.row) in
     let ends = joined_end-within v.ow c p.reading last.collection (omega (arith, ints, sound.some, sound.short)) in
@@ -67,7 +67,7 @@ Stands-joined v points emitted p front c sound order split here same new s =
     true_is_false e = cc
 
 -- one that it ignores
-pub Stands-ignored : (v : Collecting) (points : List Point) (emitted : List Compressed) (p : Point) (front : List Cluster) (c : Cluster) → IsSound v → v.earliest ≤ℤ p.reading → v.waiting ≡ front ++ c ∷ [] → p.reading ≤ℤ c.end → (p.cycle ≢ c.cycle) ⊎ (has_point_of c p.master ≡ true) → Stands v points emitted → Stands v (points ++ p ∷ []) emitted
+pub Stands-ignored : (v : Collecting) (points : List Point) (emitted : List Compressed) (p : Point) (front : List Cluster) (c : Cluster) → IsSound v → v.earliest ≤ℤ p.reading → v.waiting ≡ front ++ c ∷ [] → p.reading ≤ℤ c.end → (p.cycle ≢ c.cycle) ⊎ (has_point_of c p.master ≡ true) → StandsForPoints v points emitted → StandsForPoints v (points ++ p ∷ []) emitted
 Stands-ignored v points emitted p front c sound order split here why s =
     let grows : Grows v.ow c c p = record { other = λ _. refl; repeat = λ _ _. refl; joins = λ same new. absurd (neither same new why) } in
     record {

@@ -10,7 +10,7 @@ use Rattle.compression.specs.Role.{has_point_of, open_at, role_in, role}
 use Rattle.compression.specs.Collection.{joined, CanTake}
 use Rattle.compression.specs.Collecting.{Collecting, with_opened, last_joined}
 use Rattle.compression.specs.Row.{IsRow, IsSound}
-use Rattle.compression.specs.Stands.{Stands}
+use Rattle.compression.specs.Stands.{StandsForPoints}
 use Rattle.compression.specs.declared.taken.Taken.TheVariants.{Opened, Joined, Repeat, OtherCycle}
 use Rattle.compression.specs.declared.compressed.Compressed.{Compressed}
 use Rattle.compression.proofs.Roles.{open_at-in, open_at-beyond, open_at-none}
@@ -126,24 +126,24 @@ last_is_joined v p waiting is joins =
     joins split.0 j.c split.1 ∙ sym (last_joined-split v.ow p split.0 j.c) ∙ sym (ap (last_joined v.ow p) split.1)
 
 -- where a collector stands with a point that opens a collection, one that joins, and one that is ignored
-pub Stands-role_opened : (v w : Collecting) (p : Point) → IsSound v → v.earliest ≤ℤ p.reading → Opened ≡ role v.waiting p → w ≡ with_opened v p → (points : List Point) (emitted : List Compressed) → Stands v points emitted → Stands w (points ++ p ∷ []) emitted
+pub Stands-role_opened : (v w : Collecting) (p : Point) → IsSound v → v.earliest ≤ℤ p.reading → Opened ≡ role v.waiting p → w ≡ with_opened v p → (points : List Point) (emitted : List Compressed) → StandsForPoints v points emitted → StandsForPoints w (points ++ p ∷ []) emitted
 Stands-role_opened v w p sound order is opens points emitted s =
     let none = role_in-opened (open_at v.waiting p.reading) p (sym is) in
-    subst (λ (u : Collecting). Stands u (points ++ p ∷ []) emitted) (sym opens) (Stands-opened v points emitted p sound order none s)
+    subst (λ (u : Collecting). StandsForPoints u (points ++ p ∷ []) emitted) (sym opens) (Stands-opened v points emitted p sound order none s)
 
-pub Stands-role_joined : (v w : Collecting) (p : Point) → IsSound v → v.earliest ≤ℤ p.reading → Joined ≡ role v.waiting p → ((front : List Cluster) (c : Cluster) → v.waiting ≡ front ++ c ∷ [] → w ≡ with_last v front c p) → (points : List Point) (emitted : List Compressed) → Stands v points emitted → Stands w (points ++ p ∷ []) emitted
+pub Stands-role_joined : (v w : Collecting) (p : Point) → IsSound v → v.earliest ≤ℤ p.reading → Joined ≡ role v.waiting p → ((front : List Cluster) (c : Cluster) → v.waiting ≡ front ++ c ∷ [] → w ≡ with_last v front c p) → (points : List Point) (emitted : List Compressed) → StandsForPoints v points emitted → StandsForPoints w (points ++ p ∷ []) emitted
 Stands-role_joined v w p sound order is joins points emitted s =
     let j = role_in-joined (open_at v.waiting p.reading) p (sym is) in
     let at = open_at-some v.waiting p.reading j.c j.is in
     let split = last_split v.waiting j.c at.0 in
-    subst (λ (u : Collecting). Stands u (points ++ p ∷ []) emitted) (sym (joins split.0 j.c split.1)) (Stands-joined v points emitted p split.0 j.c sound order split.1 at.1 j.same j.new s)
+    subst (λ (u : Collecting). StandsForPoints u (points ++ p ∷ []) emitted) (sym (joins split.0 j.c split.1)) (Stands-joined v points emitted p split.0 j.c sound order split.1 at.1 j.same j.new s)
 
-pub Stands-role_ignored : (v w : Collecting) (p : Point) → IsSound v → v.earliest ≤ℤ p.reading → (role v.waiting p ≡ Repeat) ⊎ (role v.waiting p ≡ OtherCycle) → w ≡ v → (points : List Point) (emitted : List Compressed) → Stands v points emitted → Stands w (points ++ p ∷ []) emitted
+pub Stands-role_ignored : (v w : Collecting) (p : Point) → IsSound v → v.earliest ≤ℤ p.reading → (role v.waiting p ≡ Repeat) ⊎ (role v.waiting p ≡ OtherCycle) → w ≡ v → (points : List Point) (emitted : List Compressed) → StandsForPoints v points emitted → StandsForPoints w (points ++ p ∷ []) emitted
 Stands-role_ignored v w p sound order is same points emitted s =
     let i = role_in-ignored (open_at v.waiting p.reading) p is in
     let at = open_at-some v.waiting p.reading i.c i.is in
     let split = last_split v.waiting i.c at.0 in
-    subst (λ (u : Collecting). Stands u (points ++ p ∷ []) emitted) (sym same) (Stands-ignored v points emitted p split.0 i.c sound order split.1 at.1 i.why s)
+    subst (λ (u : Collecting). StandsForPoints u (points ++ p ∷ []) emitted) (sym same) (Stands-ignored v points emitted p split.0 i.c sound order split.1 at.1 i.why s)
 
 last_or-append : {X : Type 0} (xs ys : List X) (y : X) → last_or None ys ≡ Some y → last_or None (xs ++ ys) ≡ Some y
 last_or-append [] ys y e = e
@@ -173,7 +173,7 @@ ended_none cs reading all =
         open_at-beyond cs c reading l (all-last reading split.0 c (subst (AllByRecursion (λ k. k.end <ℤ reading)) split.1 all))
 
 -- the role by what waits is the role by all clusters
-pub role-whole : (v : Collecting) (p : Point) → v.earliest ≤ℤ p.reading → (points : List Point) (emitted : List Compressed) (cs : List Cluster) → Stands v points emitted → AreClusters v.ow points cs → role v.waiting p ≡ role cs p
+pub role-whole : (v : Collecting) (p : Point) → v.earliest ≤ℤ p.reading → (points : List Point) (emitted : List Compressed) (cs : List Cluster) → StandsForPoints v points emitted → AreClusters v.ow points cs → role v.waiting p ≡ role cs p
 role-whole v p order points emitted cs s are =
     by_last (last_or None v.waiting) refl ∙ ap (λ (ks : List Cluster). role ks p) (AreClusters-unique v.ow points (s.done ++ v.waiting) cs s.clusters are)
   where

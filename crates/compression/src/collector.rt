@@ -45,7 +45,7 @@ impl Collector {
     ghost use Rattle.compression.specs.Emission.{compressed};
     ghost use Rattle.compression.specs.Reading.{greatest_reading};
     ghost use Rattle.compression.specs.Role.{has_point_of, open_at, role};
-    ghost use Rattle.compression.specs.Stands.{Stands};
+    ghost use Rattle.compression.specs.Stands.{StandsForPoints};
     ghost use Rattle.compression.specs.declared.compressed.Compressed.{Compressed};
 
     /// A collector without points.
@@ -57,7 +57,7 @@ impl Collector {
         requires short { calc.0 ≤ℤ ow.0 }
         requires small { ow.0 ≤ℤ pos (2 ^ 40) }
         ensures value { result ≡ fresh ow.0 calc.0 }
-        ensures stands { Stands result [] [] }
+        ensures stands { StandsForPoints result [] [] }
     {
         Collector {
             ow,
@@ -96,10 +96,10 @@ impl Collector {
 
         // What it answers is the point's role by the clusters of all points before it.
         ensures role { (points : List Point) (emitted : List Compressed) (clusters : List Cluster)
-            → Stands self.old points emitted → AreClusters self.old.ow points clusters
+            → StandsForPoints self.old points emitted → AreClusters self.old.ow points clusters
             → result ≡ role clusters (point_at reading.0 master cycle) }
-        ensures stands { (points : List Point) (emitted : List Compressed) → Stands self.old points emitted
-            → Stands self.new (points ++ point_at reading.0 master cycle ∷ []) emitted }
+        ensures stands { (points : List Point) (emitted : List Compressed) → StandsForPoints self.old points emitted
+            → StandsForPoints self.new (points ++ point_at reading.0 master cycle ∷ []) emitted }
     {
         let taken = self.waiting.offer(self.ow, reading, master, cycle);
         match taken {
@@ -144,8 +144,8 @@ impl Collector {
         ensures first { (c : Cluster) × (self.old.waiting ≡ c ∷ self.new.waiting)
             × (result ≡ compressed self.old.ow self.old.calc c) }
         ensures kept { self.new ≡ record self.old { earliest = int_max self.old.earliest result.at.0; waiting = self.new.waiting } }
-        ensures stands { (points : List Point) (emitted : List Compressed) → Stands self.old points emitted
-            → Stands self.new points (emitted ++ result ∷ []) }
+        ensures stands { (points : List Point) (emitted : List Compressed) → StandsForPoints self.old points emitted
+            → StandsForPoints self.new points (emitted ++ result ∷ []) }
     {
         let first = self.waiting.remove_first();
         let compressed = first.compressed(self.ow, self.calc);
@@ -156,7 +156,7 @@ impl Collector {
     /// Forgets all points.
     pub fn clear(&mut self)
         ensures value { self.new ≡ fresh self.old.ow self.old.calc }
-        ensures stands { Stands self.new [] [] }
+        ensures stands { StandsForPoints self.new [] [] }
     {
         *self = Collector::new(self.ow, self.calc);
     }

@@ -1,4 +1,5 @@
--- The way of a protocol control frame: it leaves, is on a wire, arrives, is permanent, is collected and sent on, is heard, and sets clocks.
+-- The way of a protocol control frame: it leaves, is on a wire, arrives, is permanent, is collected and sent on, is
+-- heard, and sets clocks.
 pub mod Leaving
 pub mod Wires
 pub mod Arrivals
@@ -7,3 +8,4 @@ pub mod Collections
 pub mod Emissions
 pub mod Hearing
 pub mod Corrections
+pub mod Losses

@@ -2,3 +2,4 @@
 pub mod States
 pub mod LocalClocks
 pub mod Standpoints
+pub mod StateChanges

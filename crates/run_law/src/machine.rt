@@ -3,7 +3,7 @@ ghost use Rattle.net_plan.specs.declared.ids.DeviceId.{DeviceId};
 ghost use Rattle.net_plan.specs.declared.network.Network.{Network};
 ghost use Rattle.run_law.specs.machines.Calls.{HasDue, IsHearing, MayAct, MayArrive, MayCall, MayHear, MayRipen, MayTake, StandsFor};
 ghost use Rattle.run_law.specs.scenario.Devices.{channel_of_link};
-ghost use Rattle.run_law.specs.machines.Answers.{IsActOf, IsRipeAt, after_arrival, after_ripe, arrival_at, called, node_turned_on};
+ghost use Rattle.run_law.specs.machines.Answers.{IsActOf, IsPermanenceOutcomeAt, after_arrival, after_permanence, arrival_at, called, node_turned_on};
 ghost use Rattle.run_law.specs.machines.Nodes.{Node, arriving, ripening, acting};
 ghost use Rattle.run_law.specs.machines.Tasks.{IsDueReading};
 ghost use Rattle.run_law.specs.control.Wires.{signal_of};
@@ -56,8 +56,8 @@ pub trait Machine {
         ensures { (network : Network) (device : DeviceId) (node : Node) → stands self.old network device node
             → MayCall network device node moment ripening → IsHearing network device node
             → MayRipen network device node moment link frame.now point
-            → IsRipeAt network device node frame.now point result
-            × stands self.new network device (called moment ripening (after_ripe node moment (channel_of_link network link) frame.now point result)) };
+            → IsPermanenceOutcomeAt network device node frame.now point result
+            × stands self.new network device (called moment ripening (after_permanence node moment (channel_of_link network link) frame.now point result)) };
 
     /// An event turns the device on, which is off and not broken.
     fn turn_on(&mut self)

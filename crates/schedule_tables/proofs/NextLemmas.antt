@@ -9,7 +9,7 @@ use Rattle.net_plan.specs.declared.ids.RowId.{RowId}
 use Rattle.net_plan.specs.declared.network.Network.{Network}
 use Rattle.net_plan.specs.declared.tables.Row.{Row}
 use Rattle.schedule_tables.proofs.OrderLemmas.{same_or_below}
-use Rattle.schedule_tables.specs.Dispatches.{IsBelow, place_of, ComesBehind, IsDispatched, IsNextRow, HasNoNextRow}
+use Rattle.schedule_tables.specs.Dispatches.{IsBelow, dispatch_order, ComesBehind, IsDispatched, IsNextRow, HasNoNextRow}
 use Rattle.schedule_tables.specs.Entries.{IsEntry}
 use Rattle.schedule_tables.specs.Slots.{AreSlotsOf, Follows, HasNoNextSlot, IsBehind, IsNextSlot, IsSlotOf, numbers_of, place_by}
 use Rattle.schedule_tables.specs.Schedule.{HasPeriod}
@@ -35,7 +35,7 @@ period_divides n p has = at_place n p has.0 has.1 has.2
     at_place n p (suc (suc (suc (suc (suc (suc (suc k))))))) within at = absurd (omega arith)
 
 -- a row's place by its entry
-place_is : (n : Network) (row : RowId) (e : Entry) → IsEntry n row.0 e → place_of n row ≡ numbers_of (place_by e row)
+place_is : (n : Network) (row : RowId) (e : Entry) → IsEntry n row.0 e → dispatch_order n row ≡ numbers_of (place_by e row)
 place_is n row e is = ap (λ (o : Option Row). option_map_or (λ r. amount r.offset ∷ r.link.0 ∷ row.0 ∷ []) o []) is.row
 
 -- the place is that of the row, if there is one
@@ -43,7 +43,7 @@ abbrev pub IsPlaceOfRow : Network → Option RowId → Option Place → Type 0
 IsPlaceOfRow n None None = Unit {0}
 IsPlaceOfRow n None (Some place) = ⊥
 IsPlaceOfRow n (Some row) None = ⊥
-IsPlaceOfRow n (Some row) (Some place) = place_of n row ≡ numbers_of place
+IsPlaceOfRow n (Some row) (Some place) = dispatch_order n row ≡ numbers_of place
 
 pub no_place : (n : Network) (after : Option RowId) (place : Option Place) → after ≡ None → place ≡ None → IsPlaceOfRow n after place
 no_place n after place none nowhere = rw (none, nowhere) tt
@@ -55,12 +55,12 @@ some_place n rows after place row timed are some there within found =
     rw (some, there) (place_is n row t.entry t.is ∙ ap numbers_of (sym t.place_is))
 
 -- places that are behind are those of rows behind
-comes_behind : (n : Network) (after : Option RowId) (place : Option Place) (it : Place) (row : RowId) → IsPlaceOfRow n after place → place_of n row ≡ numbers_of it → IsBehind place it → ComesBehind n after row
+comes_behind : (n : Network) (after : Option RowId) (place : Option Place) (it : Place) (row : RowId) → IsPlaceOfRow n after place → dispatch_order n row ≡ numbers_of it → IsBehind place it → ComesBehind n after row
 comes_behind n None place it row of at behind = tt
 comes_behind n (Some other) None it row of at behind = absurd of
 comes_behind n (Some other) (Some place) it row of at behind = rw (of, at) behind
 
-is_behind : (n : Network) (after : Option RowId) (place : Option Place) (it : Place) (row : RowId) → IsPlaceOfRow n after place → place_of n row ≡ numbers_of it → ComesBehind n after row → IsBehind place it
+is_behind : (n : Network) (after : Option RowId) (place : Option Place) (it : Place) (row : RowId) → IsPlaceOfRow n after place → dispatch_order n row ≡ numbers_of it → ComesBehind n after row → IsBehind place it
 is_behind n None None it row of at behind = tt
 is_behind n None (Some place) it row of at behind = absurd of
 is_behind n (Some other) None it row of at behind = absurd of
@@ -100,7 +100,7 @@ pub is_next_row : (n : Network) (device : DeviceId) (cycle : ℕ) (after : Optio
     → IsPlaceOfRow n after place → IsNextSlot slots device (cycle % 64) place s → IsNextRow n device cycle after s.place.row
 is_next_row n device cycle after place slots s begun are periods of next =
     let is = All-contains (IsSlotOf n) slots s are.sound next.there in
-    let place_of_s : place_of n s.place.row ≡ numbers_of s.place = place_is n s.place.row is.entry is.is ∙ ap numbers_of (sym is.place) in
+    let place_of_s : dispatch_order n s.place.row ≡ numbers_of s.place = place_is n s.place.row is.entry is.is ∙ ap numbers_of (sym is.place) in
     record {
       dispatched = record {
         entry = is.entry;
@@ -114,7 +114,7 @@ is_next_row n device cycle after place slots s begun are periods of next =
       behind = comes_behind n after place s.place s.place.row of place_of_s next.follows.behind;
       first = λ later other after_it.
           let t = slot_of n device cycle later other in
-          let place_of_t : place_of n later ≡ numbers_of t.place = place_is n later other.entry other.is in
+          let place_of_t : dispatch_order n later ≡ numbers_of t.place = place_is n later other.entry other.is in
           let out = next.first t (are.complete t (is_slot n device cycle later other periods)) (follows n device cycle after place later other of after_it) in
           ⊎_elim
           (λ (e : numbers_of s.place ≡ numbers_of t.place). inl (ap row_id (last_same e)))

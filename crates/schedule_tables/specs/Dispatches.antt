@@ -16,13 +16,13 @@ IsBelow (x ∷ xs) [] = ⊥
 IsBelow (x ∷ xs) (y ∷ ys) = (x < y) ⊎ ((x ≡ y) × IsBelow xs ys)
 
 -- a row's place in the order of dispatch: by its offset, then by its link, then by the row
-abbrev pub place_of : Network → RowId → List ℕ
-place_of network row = option_map_or (λ r. amount r.offset ∷ r.link.0 ∷ row.0 ∷ []) (slice_get network.row row.0) []
+abbrev pub dispatch_order : Network → RowId → List ℕ
+dispatch_order network row = option_map_or (λ r. amount r.offset ∷ r.link.0 ∷ row.0 ∷ []) (slice_get network.row row.0) []
 
 -- the row comes behind the other in the order of dispatch, if there is another
 abbrev pub ComesBehind : Network → Option RowId → RowId → Type 0
 ComesBehind network None row = Unit {0}
-ComesBehind network (Some other) row = IsBelow (place_of network other) (place_of network row)
+ComesBehind network (Some other) row = IsBelow (dispatch_order network other) (dispatch_order network row)
 
 -- the row leaves the device, and its virtual link occurs in the cycle
 pub record IsDispatched (network : Network) (device : DeviceId) (cycle : ℕ) (row : RowId) : Type 0 where
@@ -36,7 +36,7 @@ pub record IsNextRow (network : Network) (device : DeviceId) (cycle : ℕ) (othe
   pub dispatched : IsDispatched network device cycle row
   pub behind : ComesBehind network other row
   pub first : (later : RowId) → IsDispatched network device cycle later → ComesBehind network other later
-      → (later ≡ row) ⊎ IsBelow (place_of network row) (place_of network later)
+      → (later ≡ row) ⊎ IsBelow (dispatch_order network row) (dispatch_order network later)
 
 -- the device has no row in the cycle behind the other
 abbrev pub HasNoNextRow : Network → DeviceId → ℕ → Option RowId → Type 0

@@ -5,7 +5,7 @@ use Rattle.tte_units.specs.declared.units.Units.{Units}
 use Rattle.sync_state.specs.declared.plan.SyncPlan.{SyncPlan}
 use Rattle.sync_state.specs.declared.state.State.{State}
 use Rattle.sync_state.specs.Standing.{Standing, state_at_start, adjustment_at_start}
-use Rattle.sync_state.specs.Calls.{Call, next_state, next_adjustment, next_number, next_integrated, after, after_all, IsAnswered, Stands}
+use Rattle.sync_state.specs.Calls.{Call, next_state, next_adjustment, next_number, next_integrated, after, after_all, IsAnswered, StandsAfter}
 
 -- a list that ends with y is split within the front, or at y
 push_split : {X : Type 0} (xs : List X) (y : X) (ps : List X) (x : X) (qs : List X) → xs ++ y ∷ [] ≡ ps ++ x ∷ qs
@@ -45,7 +45,7 @@ after_all-push plan start calls call =
     ∙ ap (λ (x : ℕ). made plan (fold next_state (state_at_start start) later) (fold next_adjustment (adjustment_at_start start) later) x now.integrated) n
     ∙ ap (λ (x : Option ℕ). made plan (fold next_state (state_at_start start) later) (fold next_adjustment (adjustment_at_start start) later) (fold next_number 1 later) x) i
 
-pub stands_at_start : (plan : SyncPlan) (start : Option Units) → Stands plan start [] (after_all plan start [])
+pub stands_at_start : (plan : SyncPlan) (start : Option Units) → StandsAfter plan start [] (after_all plan start [])
 stands_at_start plan start = record {
   stands = refl;
   answered = λ earlier later call same. absurd (no_split earlier call later same);
@@ -54,7 +54,7 @@ stands_at_start plan start = record {
   no_split [] x qs same = cc
   no_split (p ∷ ps) x qs same = cc
 
-pub one_more : (plan : SyncPlan) (start : Option Units) (calls : List Call) (s t : Standing) (call : Call) → IsAnswered s call → t ≡ after s call → Stands plan start calls s → Stands plan start (calls ++ call ∷ []) t
+pub one_more : (plan : SyncPlan) (start : Option Units) (calls : List Call) (s t : Standing) (call : Call) → IsAnswered s call → t ≡ after s call → StandsAfter plan start calls s → StandsAfter plan start (calls ++ call ∷ []) t
 one_more plan start calls s t call answered step is = record {
   stands = step ∙ ap (λ (u : Standing). after u call) is.stands ∙ after_all-push plan start calls call;
   answered = λ earlier later x same.

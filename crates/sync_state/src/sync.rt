@@ -6,7 +6,7 @@ ghost use Rattle.sync_state.specs.Integration.{Integrates, joined_by};
 ghost use Rattle.sync_state.specs.Verdicts.{HasVerdict, IfCorrected, IsNear, IsOutnumbered, deviation_on, members_of_best};
 ghost use Rattle.membership.specs.Summary.{Summary, best_on};
 ghost use Rattle.clock_correction.specs.Deviation.{IsSmall};
-ghost use Rattle.sync_state.specs.Calls.{turned_on, heard_frame, reached_point, after, CarriesOn, Stands};
+ghost use Rattle.sync_state.specs.Calls.{turned_on, heard_frame, reached_point, after, CarriesOn, StandsAfter};
 
 use crate::{Joined, State, SyncPlan, Verdict};
 use clock_correction::{correction, deviation};
@@ -63,7 +63,7 @@ impl Sync {
     pub fn new(plan: SyncPlan, start: Option<Units>) -> Sync
         requires { IsPlan plan }
         ensures value { result ≡ begun plan start }
-        ensures calls { Stands plan start [] result }
+        ensures calls { StandsAfter plan start [] result }
     {
         Sync {
             plan,

@@ -53,7 +53,8 @@ pub is_local : (locals : List Units) (u : Units) → All IsLocal locals → Cont
 is_local locals u all (k, lt, at) = subst IsLocal at (all k u lt)
 
 -- the ends of all make the spread
-pub apart_by : (locals : List Units) (count : ℕ) (least greatest spread : Units) → AreEndsOf locals count least greatest → (count < length locals → ⊥) → spread.0 ≡ (greatest.0 -ℤ least.0) → IsSpread locals spread
+pub apart_by : (locals : List Units) (count : ℕ) (least greatest spread : Units) → AreEndsOf locals count least greatest → (count < length locals → ⊥)
+    → spread.0 ≡ (greatest.0 -ℤ least.0) → IsSpread locals spread
 apart_by locals count least greatest spread ends all is = inr (record {
   least = least;
   greatest = greatest;

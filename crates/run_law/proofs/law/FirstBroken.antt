@@ -7,29 +7,31 @@ use Rattle.net_plan.specs.declared.ids.LinkId.{LinkId}
 use Rattle.net_plan.specs.declared.network.Network.{Network}
 use Rattle.pcf_codec.specs.declared.refusal.PcfRefusal.{PcfRefusal}
 use Rattle.pcf_values.specs.declared.pcf.Pcf.{Pcf}
-use Rattle.run_law.specs.records.Causes.{device_of}
+use Rattle.run_law.proofs.law.FirstPlaces.{founded_at, numbered_front, numbered_in}
 use Rattle.run_law.specs.control.Arrivals.{control_arrival, frame_fault, frame_or_fault, refused}
-use Rattle.run_law.specs.law.FirstLaws.{BrokenAreStill, IsLeftToBroken}
-use Rattle.run_law.specs.records.Happenings.{Happening}
-use Rattle.run_law.specs.records.Ranks.{place_of}
-use Rattle.run_law.specs.timed.Receptions.{ArrivesAs, arrival_of, last_taken}
-use Rattle.run_law.specs.runs.DueRecords.{ChangesState, IsArrivedRecord, IsCaused, IsDropped, IsDue, IsLost, IsOfThisTime}
-use Rattle.run_law.specs.runs.Runs.{IsFounded}
-use Rattle.run_law.specs.scenario.Scenarios.{Scenario, is_broken}
-use Rattle.run_law.specs.device.Standpoints.{Standpoint, standpoint}
-use Rattle.run_law.specs.device.States.{is_joined_by, is_off, state_before}
-use Rattle.run_law.specs.timed.Arrivals.{octets_fault, octets_or_fault, timed_arrival}
+use Rattle.run_law.specs.control.Losses.{IsDropped, IsLost}
 use Rattle.run_law.specs.control.Wires.{Signal, control, timed}
 use Rattle.run_law.specs.declared.judgement.Judgement.TheVariants.{Integrates}
-use Rattle.run_law.specs.declared.judgement.Reason.{Reason}
 use Rattle.run_law.specs.declared.judgement.Reason.TheVariants.{Off}
-use Rattle.run_law.specs.declared.judgement.Why.{Why}
+use Rattle.run_law.specs.declared.judgement.Reason.{Reason}
 use Rattle.run_law.specs.declared.judgement.Why.TheVariants as whys
-use Rattle.run_law.specs.declared.note.NoteBody.{NoteBody}
+use Rattle.run_law.specs.declared.judgement.Why.{Why}
 use Rattle.run_law.specs.declared.note.NoteBody.TheVariants as notes
-use Rattle.run_law.specs.declared.steps.Arrival.{Arrival}
+use Rattle.run_law.specs.declared.note.NoteBody.{NoteBody}
 use Rattle.run_law.specs.declared.steps.Arrival.TheVariants as arrivals
-use Rattle.run_law.proofs.law.FirstPlaces.{founded_at, numbered_front, numbered_in}
+use Rattle.run_law.specs.declared.steps.Arrival.{Arrival}
+use Rattle.run_law.specs.device.Standpoints.{Standpoint, standpoint}
+use Rattle.run_law.specs.device.StateChanges.{ChangesState}
+use Rattle.run_law.specs.device.States.{is_joined_by, is_off, state_before}
+use Rattle.run_law.specs.law.FirstLaws.{BrokenAreStill, IsLeftToBroken}
+use Rattle.run_law.specs.records.Causes.{device_of, IsOfThisTime}
+use Rattle.run_law.specs.records.Happenings.{Happening}
+use Rattle.run_law.specs.records.Ranks.{place_of}
+use Rattle.run_law.specs.runs.DueRecords.{IsArrivedRecord, IsCaused, IsDue}
+use Rattle.run_law.specs.runs.Runs.{IsFounded}
+use Rattle.run_law.specs.scenario.Scenarios.{Scenario, is_broken}
+use Rattle.run_law.specs.timed.Arrivals.{octets_fault, octets_or_fault, timed_arrival}
+use Rattle.run_law.specs.timed.Receptions.{ArrivesAs, arrival_of, last_taken}
 use Rattle.sync_state.specs.declared.state.State.{State}
 use Rattle.tte_units.specs.Amount.{amount}
 use Rattle.tte_units.specs.declared.units.Units.{Units}
@@ -37,27 +39,33 @@ use Rattle.tte_units.specs.declared.units.Units.{Units}
 -- ---- what comes to a broken device
 
 -- a device that takes no part drops what comes to it
-off_control : (network : Network) (device : DeviceId) (link : LinkId) (at : Standpoint) (frame : Result Pcf PcfRefusal) → at.takes_part ≡ false → control_arrival network device link at frame ≡ arrivals.Dropped Off
+off_control : (network : Network) (device : DeviceId) (link : LinkId) (at : Standpoint) (frame : Result Pcf PcfRefusal) → at.takes_part ≡ false
+    → control_arrival network device link at frame ≡ arrivals.Dropped Off
 off_control network device link at (Err refusal) off = ap (λ (b : Bool). arrivals.Dropped (if b then refused refusal else Off)) off
 off_control network device link at (Ok frame) off =
     let fault : frame_fault network device link at frame ≡ Some Off = rw off refl in
     ap (frame_or_fault network device link at frame) fault
 
 -- the same of any other frame
-off_timed : (network : Network) (device : DeviceId) (link : LinkId) (at : Standpoint) (octets : List ℕ) (last : _ → Option ℕ) → at.takes_part ≡ false → timed_arrival network device link at octets last ≡ arrivals.Dropped Off
+off_timed : (network : Network) (device : DeviceId) (link : LinkId) (at : Standpoint) (octets : List ℕ) (last : _ → Option ℕ) → at.takes_part ≡ false
+    → timed_arrival network device link at octets last ≡ arrivals.Dropped Off
 off_timed network device link at octets last off =
     let fault : octets_fault network at octets ≡ Some Off = rw off refl in
     ap (octets_or_fault network device link at octets last) fault
 
 -- and of whatever comes to it
-off_arrival : (s : Scenario) (ps : List Happening) (t : ℕ) (device : DeviceId) (link : LinkId) (cause : ℕ) (signal : Signal) → (standpoint s ps device t).takes_part ≡ false → arrival_of s ps t device link cause signal ≡ arrivals.Dropped Off
+off_arrival : (s : Scenario) (ps : List Happening) (t : ℕ) (device : DeviceId) (link : LinkId) (cause : ℕ) (signal : Signal)
+    → (standpoint s ps device t).takes_part ≡ false → arrival_of s ps device t link cause signal ≡ arrivals.Dropped Off
 off_arrival s ps t device link cause (control frame) off = off_control s.network device link (standpoint s ps device t) frame off
-off_arrival s ps t device link cause (timed octets) off = off_timed s.network device link (standpoint s ps device t) octets (last_taken ps device t link cause) off
+off_arrival s ps t device link cause (timed octets) off =
+    off_timed s.network device link (standpoint s ps device t) octets (last_taken ps device t link cause) off
 
 -- so what comes to a broken device is dropped
-dropped_off : (s : Scenario) (ps : List Happening) (t : ℕ) (device : DeviceId) (link : LinkId) (cause : ℕ) (a : Arrival) → is_broken s device t ≡ true → ArrivesAs s ps t device link cause a → a ≡ arrivals.Dropped Off
+dropped_off : (s : Scenario) (ps : List Happening) (t : ℕ) (device : DeviceId) (link : LinkId) (cause : ℕ) (a : Arrival) → is_broken s device t ≡ true
+    → ArrivesAs s ps device t link cause a → a ≡ arrivals.Dropped Off
 dropped_off s ps t device link cause a broken comes =
-    let off : (standpoint s ps device t).takes_part ≡ false = and_right (not (is_off (state_before s ps device t))) (not (is_broken s device t)) (not_from_true (is_broken s device t) broken) in
+    let off : (standpoint s ps device t).takes_part ≡ false = and_right (not (is_off (state_before s ps device t))) (not (is_broken s device t))
+            (not_from_true (is_broken s device t) broken) in
     comes.becomes ∙ off_arrival s ps t device link cause comes.signal off
 
 -- ---- what is correct is not broken
@@ -67,7 +75,8 @@ broken_of : (s : Scenario) (t : ℕ) (d device : DeviceId) → Some d ≡ Some d
 broken_of s t d device of broken = let same : device ≡ d = cc in subst (λ (x : DeviceId). is_broken s x t ≡ true) same broken
 
 -- a frame tells a correct device the time
-joined_correct : (s : Scenario) (ps : List Happening) (time : Units) (device : DeviceId) (body : NoteBody) → is_joined_by device body ≡ true → IsCaused s ps time body → is_broken s device (amount time) ≡ false
+joined_correct : (s : Scenario) (ps : List Happening) (time : Units) (device : DeviceId) (body : NoteBody) → is_joined_by device body ≡ true
+    → IsCaused s ps time body → is_broken s device (amount time) ≡ false
 joined_correct s ps time device (notes.Permanent other link cause point Integrates) joined caused =
     let same : other ≡ device = ap (λ (n : ℕ). let d : DeviceId = record { 0 = n } in d) (sym (eqb-true device.0 other.0 joined)) in
     subst (λ (d : DeviceId). is_broken s d (amount time) ≡ false) same caused.permanent.correct
@@ -77,33 +86,38 @@ joined_correct s ps time device (notes.Compressed other opened at cycle members 
 joined_correct s ps time device other joined caused = absurd cc
 
 -- a device that is corrected is correct
-corrected_correct : (s : Scenario) (ps : List Happening) (time : Units) (device : DeviceId) (cycle : ℕ) (by adjustment : Units) (body : NoteBody) → body ≡ notes.Corrected device cycle by adjustment → IsCaused s ps time body → is_broken s device (amount time) ≡ false
+corrected_correct : (s : Scenario) (ps : List Happening) (time : Units) (device : DeviceId) (cycle : ℕ) (by adjustment : Units) (body : NoteBody)
+    → body ≡ notes.Corrected device cycle by adjustment → IsCaused s ps time body → is_broken s device (amount time) ≡ false
 corrected_correct s ps time device cycle by adjustment body is caused =
     let there : IsCaused s ps time (notes.Corrected device cycle by adjustment) = subst (IsCaused s ps time) is caused in
     there.corrected.correct
 
 -- the record with a cause of this time was due
-caused_at : (s : Scenario) (ps : List Happening) (t cause : ℕ) (h : Happening) → IsFounded place_of (IsDue s) ps → IsOfThisTime ps t cause h → (before : List Happening) × IsCaused s before h.note.time h.note.body
+caused_at : (s : Scenario) (ps : List Happening) (t cause : ℕ) (h : Happening) → IsFounded place_of (IsDue s) ps → IsOfThisTime ps t cause h
+    → (before : List Happening) × IsCaused s before h.note.time h.note.body
 caused_at s ps t cause h founded there =
     let at = founded_at s ps h founded (numbered_in ps cause h there.there) in
     (at.front, at.due.cause)
 
 -- a device that changes its state is correct
-changes_correct : (s : Scenario) (ps : List Happening) (t : ℕ) (device : DeviceId) (state : State) (cause : ℕ) (why : Why) → IsFounded place_of (IsDue s) ps → ChangesState s ps t device state cause why → is_broken s device t ≡ false
+changes_correct : (s : Scenario) (ps : List Happening) (t : ℕ) (device : DeviceId) (state : State) (cause : ℕ) (why : Why) → IsFounded place_of (IsDue s) ps
+    → ChangesState s ps device t state cause why → is_broken s device t ≡ false
 changes_correct s ps t device state cause whys.On founded c = c.1
 changes_correct s ps t device state cause whys.Frame founded c =
     let from = caused_at s ps t cause c.1.0 founded c.1.1 in
     subst (λ (u : ℕ). is_broken s device u ≡ false) c.1.1.same_time (joined_correct s from.0 c.1.0.note.time device c.1.0.note.body c.1.2 from.1)
 changes_correct s ps t device state cause whys.Correction founded c =
     let from = caused_at s ps t cause c.2.3 founded c.2.4 in
-    subst (λ (u : ℕ). is_broken s device u ≡ false) c.2.4.same_time (corrected_correct s from.0 c.2.3.note.time device c.2.0 c.2.1 c.2.2 c.2.3.note.body c.2.5 from.1)
+    subst (λ (u : ℕ). is_broken s device u ≡ false) c.2.4.same_time (corrected_correct s from.0 c.2.3.note.time device c.2.0 c.2.1 c.2.2 c.2.3.note.body c.2.5
+        from.1)
 changes_correct s ps t device state cause whys.SyncClique founded c = c.2.1.correct
 changes_correct s ps t device state cause whys.AsyncClique founded c = c.2.1.correct
 
 -- ---- the records of a broken device
 
 -- nothing arrives at it that is not dropped
-no_arrived : (s : Scenario) (ps : List Happening) (t : ℕ) (device : DeviceId) (link : LinkId) (cause clock : ℕ) → is_broken s device t ≡ true → IsArrivedRecord s ps t device link cause clock → ⊥
+no_arrived : (s : Scenario) (ps : List Happening) (t : ℕ) (device : DeviceId) (link : LinkId) (cause clock : ℕ) → is_broken s device t ≡ true
+    → IsArrivedRecord s ps device t link cause clock → ⊥
 no_arrived s ps t device link cause clock broken a = elim a.taken [
   | inl waits ↦ let e = dropped_off s ps t device link cause (arrivals.Waits a.frame a.point) broken waits in cc
   | inr (inl passes) ↦ let e = dropped_off s ps t device link cause (arrivals.Passes a.frame a.way) broken passes in cc
@@ -111,39 +125,51 @@ no_arrived s ps t device link cause clock broken a = elim a.taken [
 ]
 
 -- what it drops it drops since it is off
-dropped_since : (s : Scenario) (ps : List Happening) (t : ℕ) (device : DeviceId) (link : LinkId) (cause : ℕ) (reason : Reason) → is_broken s device t ≡ true → IsDropped s ps t device link cause reason → reason ≡ Off
+dropped_since : (s : Scenario) (ps : List Happening) (t : ℕ) (device : DeviceId) (link : LinkId) (cause : ℕ) (reason : Reason) → is_broken s device t ≡ true
+    → IsDropped s ps device t link cause reason → reason ≡ Off
 dropped_since s ps t device link cause reason broken (inl comes) = let e = dropped_off s ps t device link cause (arrivals.Dropped reason) broken comes in cc
 dropped_since s ps t device link cause reason broken (inr (inl ripens)) = absurd (both_ways (is_broken s device t) ripens.1.permanent.correct broken)
 dropped_since s ps t device link cause reason broken (inr (inr departs)) = absurd (both_ways (is_broken s device t) departs.0.correct broken)
 
 -- what it loses its `send` events put on a cut way
-lost_since : (s : Scenario) (ps qs : List Happening) (t : ℕ) (device : DeviceId) (link : LinkId) (cause : ℕ) → is_broken s device t ≡ true → IsLost s ps t device link cause → IsLeftToBroken (ps ++ qs) (notes.Lost device link cause)
+lost_since : (s : Scenario) (ps qs : List Happening) (t : ℕ) (device : DeviceId) (link : LinkId) (cause : ℕ) → is_broken s device t ≡ true
+    → IsLost s ps device t link cause → IsLeftToBroken (ps ++ qs) (notes.Lost device link cause)
 lost_since s ps qs t device link cause broken (inl departs) = absurd (both_ways (is_broken s device t) departs.correct broken)
 lost_since s ps qs t device link cause broken (inr (inl dispatches)) = absurd (both_ways (is_broken s device t) dispatches.2.up.correct broken)
 lost_since s ps qs t device link cause broken (inr (inr sent)) =
     (sent.event, sent.line, sent.octets, numbered_front ps qs cause sent.event sent.is.there, sent.sends)
 
 -- of a device that is broken at the time only these records are due
-left_by : (s : Scenario) (ps qs : List Happening) (time : Units) (device : DeviceId) (body : NoteBody) → IsFounded place_of (IsDue s) ps → device_of body ≡ Some device → is_broken s device (amount time) ≡ true → IsCaused s ps time body → IsLeftToBroken (ps ++ qs) body
+left_by : (s : Scenario) (ps qs : List Happening) (time : Units) (device : DeviceId) (body : NoteBody) → IsFounded place_of (IsDue s) ps
+    → device_of body ≡ Some device → is_broken s device (amount time) ≡ true → IsCaused s ps time body → IsLeftToBroken (ps ++ qs) body
 left_by s ps qs time device (notes.Event line what) founded of broken c = absurd cc
-left_by s ps qs time device (notes.Arrived d link cause clock) founded of broken c = absurd (no_arrived s ps (amount time) d link cause clock (broken_of s (amount time) d device of broken) c)
-left_by s ps qs time device (notes.Permanent d link cause point verdict) founded of broken c = absurd (both_ways _ c.permanent.correct (broken_of s (amount time) d device of broken))
-left_by s ps qs time device (notes.Compressed d opened at cycle members verdict) founded of broken c = absurd (both_ways _ c.correct (broken_of s (amount time) d device of broken))
+left_by s ps qs time device (notes.Arrived d link cause clock) founded of broken c =
+    absurd (no_arrived s ps (amount time) d link cause clock (broken_of s (amount time) d device of broken) c)
+left_by s ps qs time device (notes.Permanent d link cause point verdict) founded of broken c =
+    absurd (both_ways _ c.permanent.correct (broken_of s (amount time) d device of broken))
+left_by s ps qs time device (notes.Compressed d opened at cycle members verdict) founded of broken c =
+    absurd (both_ways _ c.correct (broken_of s (amount time) d device of broken))
 left_by s ps qs time device (notes.Sent d cycle) founded of broken c = absurd (both_ways _ c.up.correct (broken_of s (amount time) d device of broken))
-left_by s ps qs time device (notes.Corrected d cycle by adjustment) founded of broken c = absurd (both_ways _ c.corrected.correct (broken_of s (amount time) d device of broken))
-left_by s ps qs time device (notes.State d state cause why) founded of broken c = absurd (both_ways _ (changes_correct s ps (amount time) d state cause why founded c) (broken_of s (amount time) d device of broken))
+left_by s ps qs time device (notes.Corrected d cycle by adjustment) founded of broken c =
+    absurd (both_ways _ c.corrected.correct (broken_of s (amount time) d device of broken))
+left_by s ps qs time device (notes.State d state cause why) founded of broken c =
+    absurd (both_ways _ (changes_correct s ps (amount time) d state cause why founded c) (broken_of s (amount time) d device of broken))
 left_by s ps qs time device (notes.Left d link cause clock) founded of broken c = absurd (both_ways _ c.correct (broken_of s (amount time) d device of broken))
-left_by s ps qs time device (notes.Lost d link cause) founded of broken c = lost_since s ps qs (amount time) d link cause (broken_of s (amount time) d device of broken) c
-left_by s ps qs time device (notes.TtSent d link cause vl cycle) founded of broken c = absurd (both_ways _ c.dispatches.up.correct (broken_of s (amount time) d device of broken))
+left_by s ps qs time device (notes.Lost d link cause) founded of broken c =
+    lost_since s ps qs (amount time) d link cause (broken_of s (amount time) d device of broken) c
+left_by s ps qs time device (notes.TtSent d link cause vl cycle) founded of broken c =
+    absurd (both_ways _ c.dispatches.up.correct (broken_of s (amount time) d device of broken))
 left_by s ps qs time device (notes.Accepted d link cause vl cycle) founded of broken c =
     let e = dropped_off s ps (amount time) d link cause (arrivals.Accepted vl cycle) (broken_of s (amount time) d device of broken) c in absurd cc
 left_by s ps qs time device (notes.Delivered d link cause vl cycle) founded of broken c =
     let e = dropped_off s ps (amount time) d link cause (arrivals.Delivered vl cycle) (broken_of s (amount time) d device of broken) c in absurd cc
-left_by s ps qs time device (notes.Dropped d link cause reason) founded of broken c = dropped_since s ps (amount time) d link cause reason (broken_of s (amount time) d device of broken) c
+left_by s ps qs time device (notes.Dropped d link cause reason) founded of broken c =
+    dropped_since s ps (amount time) d link cause reason (broken_of s (amount time) d device of broken) c
 left_by s ps qs time device (notes.Clock d reading adjustment state) founded of broken c = tt
 
 -- the law: a broken device is still
 pub broken_are_still : BrokenAreStill
 broken_are_still s mark ns h device run i of broken =
     let at = founded_at s _ h run.founded i in
-    subst (λ (hs : List Happening). IsLeftToBroken hs h.note.body) (sym at.whole) (left_by s at.front (h ∷ at.rest) h.note.time device h.note.body at.founded of broken at.due.cause)
+    subst (λ (hs : List Happening). IsLeftToBroken hs h.note.body) (sym at.whole)
+        (left_by s at.front (h ∷ at.rest) h.note.time device h.note.body at.founded of broken at.due.cause)

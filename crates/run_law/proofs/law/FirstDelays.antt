@@ -11,20 +11,20 @@ use Rattle.net_plan.proofs.Trees.{closed}
 use Rattle.net_plan.specs.Bounds.{beta_at}
 use Rattle.net_plan.specs.Places.{link_at}
 use Rattle.net_plan.specs.declared.event.Event.{Event}
-use Rattle.net_plan.specs.declared.event.What.{What}
 use Rattle.net_plan.specs.declared.event.What.TheVariants as events
+use Rattle.net_plan.specs.declared.event.What.{What}
 use Rattle.net_plan.specs.declared.ids.LinkId.{LinkId}
 use Rattle.net_plan.specs.declared.network.Network.{Network}
 use Rattle.net_plan.specs.declared.tables.Link.{Link}
 use Rattle.net_plan.specs.declared.tables.Way.{Way}
-use Rattle.run_law.specs.law.FirstLaws.{IsEventInRange, IsLawful}
-use Rattle.run_law.specs.scenario.Hypothesis.{IsWithinHypothesis}
-use Rattle.run_law.specs.records.Order.{IsIn}
-use Rattle.run_law.specs.scenario.Scenarios.{Scenario, events_up_to, last_set}
-use Rattle.run_law.specs.scenario.Ways.{delay_at, hold_at, hold_set, is_way, is_way_of, wire_of, wire_set}
-use Rattle.run_law.specs.declared.outside.Outside.TheVariants.{Wire, Hold}
 use Rattle.run_law.proofs.law.FirstPlaces.{at_length, in_filter}
 use Rattle.run_law.proofs.runs.Places.{parted}
+use Rattle.run_law.specs.declared.outside.Outside.TheVariants.{Wire, Hold}
+use Rattle.run_law.specs.law.FirstLaws.{IsEventInRange, IsLawful}
+use Rattle.run_law.specs.records.Order.{IsIn}
+use Rattle.run_law.specs.scenario.Hypothesis.{IsWithinHypothesis}
+use Rattle.run_law.specs.scenario.Scenarios.{Scenario, events_up_to, last_set}
+use Rattle.run_law.specs.scenario.Ways.{delay_at, hold_at, hold_set, is_way, is_way_of, wire_of, wire_set}
 use Rattle.schedule_tables.proofs.EntryLemmas.{all_at}
 use Rattle.tte_units.specs.Amount.{amount}
 use Rattle.tte_units.specs.declared.units.Units.{Units}
@@ -32,12 +32,14 @@ use Rattle.tte_units.specs.declared.units.Units.{Units}
 -- ---- what is set last
 
 -- a value or none before the rest
-set_next : {V : Type 0} (P : V → Type 0) (o : Option V) (next : Option V) (rest : List V) (initial : V) → (next ≡ None → P (unwrap_or (last_or o rest) initial)) → ((v : V) → next ≡ Some v → P (unwrap_or (last_or (Some v) rest) initial)) → P (unwrap_or (last_or o (cons_option next rest)) initial)
+set_next : {V : Type 0} (P : V → Type 0) (o : Option V) (next : Option V) (rest : List V) (initial : V) → (next ≡ None → P (unwrap_or (last_or o rest) initial))
+    → ((v : V) → next ≡ Some v → P (unwrap_or (last_or (Some v) rest) initial)) → P (unwrap_or (last_or o (cons_option next rest)) initial)
 set_next P o None rest initial none some = none refl
 set_next P o (Some v) rest initial none some = some v refl
 
 -- what holds of the initial value and of each that is set holds of the last
-pub set_last : {V : Type 0} (P : V → Type 0) (setting : What → Option V) (es : List Event) (o : Option V) (initial : V) → P (unwrap_or o initial) → ((e : Event) → IsIn e es → (v : V) → setting e.what ≡ Some v → P v) → P (unwrap_or (last_or o (filter_map (λ e. setting e.what) es)) initial)
+pub set_last : {V : Type 0} (P : V → Type 0) (setting : What → Option V) (es : List Event) (o : Option V) (initial : V) → P (unwrap_or o initial)
+    → ((e : Event) → IsIn e es → (v : V) → setting e.what ≡ Some v → P v) → P (unwrap_or (last_or o (filter_map (λ e. setting e.what) es)) initial)
 set_last P setting [] o initial first each = first
 set_last P setting (e ∷ es) o initial first each =
     set_next P o (setting e.what) (filter_map (λ e. setting e.what) es) initial
@@ -45,7 +47,8 @@ set_last P setting (e ∷ es) o initial first each =
     (λ v is. set_last P setting es (Some v) initial (each e (inl refl) v is) (λ f i w at. each f (inr i) w at))
 
 -- the same of what the events of a scenario set up to a time
-pub last_is : {V : Type 0} (P : V → Type 0) (s : Scenario) (setting : What → Option V) (initial : V) (t : ℕ) → P initial → ((e : Event) → IsIn e s.events → (v : V) → setting e.what ≡ Some v → P v) → P (last_set s setting initial t)
+pub last_is : {V : Type 0} (P : V → Type 0) (s : Scenario) (setting : What → Option V) (initial : V) (t : ℕ) → P initial
+    → ((e : Event) → IsIn e s.events → (v : V) → setting e.what ≡ Some v → P v) → P (last_set s setting initial t)
 last_is P s setting initial t first each =
     set_last P setting (events_up_to s t) None initial first (λ e i v is. each e (in_filter (λ e. nat_le (amount e.time) t) s.events e i) v is)
 
@@ -100,7 +103,8 @@ pub record IsGiven (s : Scenario) (e : Event) : Type 0 where
 pub given : (s : Scenario) (e : Event) → IsLawful s → IsIn e s.events → IsGiven s e
 given s e lawful i =
     let at = parted e s.events i in
-    let there : slice_get s.events (length at.0) ≡ Some e = subst (λ (es : List Event). slice_get es (length at.0) ≡ Some e) (sym at.2) (at_length at.0 at.1 e) in
+    let there : slice_get s.events (length at.0) ≡ Some e = subst (λ (es : List Event). slice_get es (length at.0) ≡ Some e) (sym at.2) (at_length at.0 at.1 e)
+            in
     record {
       range = all_at IsEventInRange s.events (length at.0) e lawful.events there;
       before = at.0;
@@ -108,7 +112,8 @@ given s e lawful i =
     }
 
 -- a hold that an event sets is at most the link's
-set_hold_most : (s : Scenario) (link : LinkId) (l : Link) (way : Way) → IsLawful s → link_at s.network link ≡ Some l → pos 0 ≤ℤ l.hold.0 → (e : Event) → IsIn e s.events → (v : ℕ) → hold_set link way e.what ≡ Some v → v ≤ amount l.hold
+set_hold_most : (s : Scenario) (link : LinkId) (l : Link) (way : Way) → IsLawful s → link_at s.network link ≡ Some l → pos 0 ≤ℤ l.hold.0 → (e : Event)
+    → IsIn e s.events → (v : ℕ) → hold_set link way e.what ≡ Some v → v ≤ amount l.hold
 set_hold_most s link l way lawful there least e i v is =
     let set = sets_hold link way e.what v is in
     let known = given s e lawful i in
@@ -124,12 +129,14 @@ set_hold_most s link l way lawful there least e i v is =
     (λ short. omega (arith, ints, short, begun, least, set.sets))
 
 -- so is what a frame is held at any time
-pub hold_most : (s : Scenario) (link : LinkId) (l : Link) (way : Way) (t : ℕ) → IsLawful s → link_at s.network link ≡ Some l → pos 0 ≤ℤ l.hold.0 → hold_at s link way t ≤ amount l.hold
+pub hold_most : (s : Scenario) (link : LinkId) (l : Link) (way : Way) (t : ℕ) → IsLawful s → link_at s.network link ≡ Some l → pos 0 ≤ℤ l.hold.0
+    → hold_at s link way t ≤ amount l.hold
 hold_most s link l way t lawful there least =
     last_is (λ v. v ≤ amount l.hold) s (hold_set link way) 0 t (omega arith) (set_hold_most s link l way lawful there least)
 
 -- a wire delay that an event sets is at least 1
-set_delay_least : (s : Scenario) (link : LinkId) (l : Link) (way : Way) → IsLawful s → link_at s.network link ≡ Some l → pos 1 ≤ℤ l.wire.0 → (e : Event) → IsIn e s.events → (v : ℕ) → wire_set link way e.what ≡ Some v → 1 ≤ v
+set_delay_least : (s : Scenario) (link : LinkId) (l : Link) (way : Way) → IsLawful s → link_at s.network link ≡ Some l → pos 1 ≤ℤ l.wire.0 → (e : Event)
+    → IsIn e s.events → (v : ℕ) → wire_set link way e.what ≡ Some v → 1 ≤ v
 set_delay_least s link l way lawful there least e i v is =
     let set = sets_wire link way e.what v is in
     let known = given s e lawful i in
@@ -144,15 +151,18 @@ set_delay_least s link l way lawful there least e i v is =
     (λ long. omega (arith, ints, long, least, set.sets))
 
 -- so is the wire delay at any time
-pub delay_least : (s : Scenario) (link : LinkId) (l : Link) (way : Way) (t : ℕ) → IsLawful s → link_at s.network link ≡ Some l → pos 1 ≤ℤ l.wire.0 → 1 ≤ delay_at s link way t
+pub delay_least : (s : Scenario) (link : LinkId) (l : Link) (way : Way) (t : ℕ) → IsLawful s → link_at s.network link ≡ Some l → pos 1 ≤ℤ l.wire.0
+    → 1 ≤ delay_at s link way t
 delay_least s link l way t lawful there least =
     let nominal : wire_of s.network link ≡ amount l.wire = ap (λ (o : Option Link). option_map_or (λ k. amount k.wire) o 0) there in
-    last_is (λ v. 1 ≤ v) s (wire_set link way) (wire_of s.network link) t (omega (arith, ints, nominal, least)) (set_delay_least s link l way lawful there least)
+    last_is (λ v. 1 ≤ v) s (wire_set link way) (wire_of s.network link) t (omega (arith, ints, nominal, least))
+        (set_delay_least s link l way lawful there least)
 
 -- ---- a clock over a hold
 
 -- what a clock grows over a hold is at most dmax, where that has room for beta and the delays of the link
-pub grows_little : (n : Network) (jitter links hold wire spread held seen : ℕ) → 1 ≤ amount n.grain → Measures n.rho (amount n.grain) held seen → held ≤ hold → beta_at n jitter links + (wire + spread + hold) ≤ amount n.dmax → seen ≤ amount n.dmax
+pub grows_little : (n : Network) (jitter links hold wire spread held seen : ℕ) → 1 ≤ amount n.grain → Measures n.rho (amount n.grain) held seen → held ≤ hold
+    → beta_at n jitter links + (wire + spread + hold) ≤ amount n.dmax → seen ≤ amount n.dmax
 grows_little n jitter links hold wire spread held seen grain measures short room =
     let within : held ≤ amount n.dmax = omega (arith, short, room) in
     let drift : n.rho * held ≤ n.rho * amount n.dmax = mul-le-mul_left n.rho within in

@@ -6,31 +6,31 @@ use Rattle.net_plan.specs.declared.event.What.TheVariants.{Send}
 use Rattle.net_plan.specs.declared.ids.DeviceId.{DeviceId}
 use Rattle.net_plan.specs.declared.ids.LinkId.{LinkId}
 use Rattle.net_plan.specs.declared.network.Network.{Network}
-use Rattle.net_plan.specs.declared.tables.Way.{Way}
 use Rattle.net_plan.specs.declared.tables.Way.TheVariants.{Up, Down}
+use Rattle.net_plan.specs.declared.tables.Way.{Way}
 use Rattle.pcf_codec.specs.declared.refusal.PcfRefusal.{PcfRefusal}
 use Rattle.pcf_values.specs.declared.pcf.Pcf.{Pcf}
-use Rattle.run_law.specs.records.Causes.{GoesBackTo, cause_of}
+use Rattle.run_law.proofs.law.FirstPlaces.{by_number, founded_at, in_filter, number_is, numbered_front, numbered_in, numbered_within}
+use Rattle.run_law.proofs.runs.SameSteps.{same_some}
 use Rattle.run_law.specs.control.Arrivals.{control_arrival, frame_fault, frame_or_fault}
-use Rattle.run_law.specs.scenario.Devices.{is_parent_of, is_relay}
-use Rattle.run_law.specs.timed.Dispatching.{HasAccepted, is_accepted}
+use Rattle.run_law.specs.control.Wires.{Launch, control, launched}
+use Rattle.run_law.specs.declared.judgement.Reason.{Reason}
+use Rattle.run_law.specs.declared.note.NoteBody.TheVariants as notes
+use Rattle.run_law.specs.declared.note.NoteBody.{NoteBody}
+use Rattle.run_law.specs.declared.steps.Arrival.TheVariants as arrivals
+use Rattle.run_law.specs.declared.steps.Arrival.{Arrival}
+use Rattle.run_law.specs.device.Standpoints.{Standpoint, standpoint}
 use Rattle.run_law.specs.law.FirstLaws.{DeliveriesBegin, IsBeginning}
+use Rattle.run_law.specs.records.Causes.{GoesBackTo, cause_of}
 use Rattle.run_law.specs.records.Happenings.{Happening, earlier, numbered, time_of}
 use Rattle.run_law.specs.records.Order.{IsIn}
 use Rattle.run_law.specs.records.Ranks.{place_of}
-use Rattle.run_law.specs.timed.Receptions.{ArrivesAs, arrival_of}
 use Rattle.run_law.specs.runs.DueRecords.{IsCaused, IsDue}
 use Rattle.run_law.specs.runs.Runs.{IsFounded}
+use Rattle.run_law.specs.scenario.Devices.{is_parent_of, is_relay}
 use Rattle.run_law.specs.scenario.Scenarios.{Scenario}
-use Rattle.run_law.specs.device.Standpoints.{Standpoint, standpoint}
-use Rattle.run_law.specs.control.Wires.{Launch, control, launched}
-use Rattle.run_law.specs.declared.judgement.Reason.{Reason}
-use Rattle.run_law.specs.declared.note.NoteBody.{NoteBody}
-use Rattle.run_law.specs.declared.note.NoteBody.TheVariants as notes
-use Rattle.run_law.specs.declared.steps.Arrival.{Arrival}
-use Rattle.run_law.specs.declared.steps.Arrival.TheVariants as arrivals
-use Rattle.run_law.proofs.law.FirstPlaces.{by_number, founded_at, in_filter, number_is, numbered_front, numbered_in, numbered_within}
-use Rattle.run_law.proofs.runs.SameSteps.{same_some}
+use Rattle.run_law.specs.timed.Dispatching.{HasAccepted, is_accepted}
+use Rattle.run_law.specs.timed.Receptions.{ArrivesAs, arrival_of}
 use Rattle.tte_units.specs.Amount.{amount}
 use Rattle.tte_units.specs.declared.units.Units.{Units}
 
@@ -43,18 +43,21 @@ IsTaking (arrivals.Delivered vl cycle) = Unit {0}
 IsTaking other = ⊥
 
 -- a frame that waits or is passed on is not taken so
-never_passed : (relay parent : Bool) (frame : Pcf) (point : Units) → IsTaking (if relay then (if parent then arrivals.Passes frame Up else arrivals.PassesAndWaits frame Down point) else arrivals.Waits frame point) → ⊥
+never_passed : (relay parent : Bool) (frame : Pcf) (point : Units)
+    → IsTaking (if relay then (if parent then arrivals.Passes frame Up else arrivals.PassesAndWaits frame Down point) else arrivals.Waits frame point) → ⊥
 never_passed true true frame point t = t
 never_passed true false frame point t = t
 never_passed false parent frame point t = t
 
 -- nor is a control frame, whether it has a fault or none
-never_judged : (network : Network) (device : DeviceId) (link : LinkId) (at : Standpoint) (frame : Pcf) (fault : Option Reason) → IsTaking (frame_or_fault network device link at frame fault) → ⊥
+never_judged : (network : Network) (device : DeviceId) (link : LinkId) (at : Standpoint) (frame : Pcf) (fault : Option Reason)
+    → IsTaking (frame_or_fault network device link at frame fault) → ⊥
 never_judged network device link at frame (Some reason) t = t
 never_judged network device link at frame None t = never_passed (is_relay network device) (is_parent_of network device link) _ _ t
 
 -- a control frame is not taken so
-never_control : (network : Network) (device : DeviceId) (link : LinkId) (at : Standpoint) (frame : Result Pcf PcfRefusal) → IsTaking (control_arrival network device link at frame) → ⊥
+never_control : (network : Network) (device : DeviceId) (link : LinkId) (at : Standpoint) (frame : Result Pcf PcfRefusal)
+    → IsTaking (control_arrival network device link at frame) → ⊥
 never_control network device link at (Err refusal) t = t
 never_control network device link at (Ok frame) t = never_judged network device link at frame (frame_fault network device link at frame) t
 
@@ -71,10 +74,13 @@ abbrev IsControl : Launch → Type 0
 IsControl l = (frame : Result Pcf PcfRefusal) × (l.signal ≡ control frame)
 
 -- what a leaving puts on the wire is one
-left_control : (o : Option Pcf) (link : LinkId) (way : Way) (l : Launch) → option_map (λ frame. record { link = link; way = way; signal = control (Ok frame) }) o ≡ Some l → IsControl l
+left_control : (o : Option Pcf) (link : LinkId) (way : Way) (l : Launch) → option_map (λ frame. record { link = link; way = way; signal = control (Ok frame) })
+    o ≡ Some l → IsControl l
 left_control None link way l e = absurd cc
 left_control (Some frame) link way l e =
-    (Ok frame, sym (ap (λ (x : Launch). x.signal) (same_some (Some (record { link = link; way = way; signal = control (Ok frame) })) (record { link = link; way = way; signal = control (Ok frame) }) l refl e)))
+    (Ok frame, sym (ap (λ (x : Launch). x.signal)
+        (same_some (Some (record { link = link; way = way; signal = control (Ok frame) })) (record { link = link; way = way; signal = control (Ok frame) }) l
+        refl e)))
 
 -- what is on a wire was put there by one of these, or is a control frame
 put_by : (s : Scenario) (h : Happening) (t : ℕ) (body : NoteBody) (l : Launch) → launched s h t body ≡ Some l → IsPutting body ⊎ IsControl l
@@ -90,13 +96,15 @@ record IsPutBy (ps : List Happening) (cause : ℕ) : Type 0 where
   pub puts : IsPutting putting.note.body
 
 -- a frame that is taken was put by such a record
-put_of : (s : Scenario) (ps : List Happening) (t : ℕ) (device : DeviceId) (link : LinkId) (cause : ℕ) (a : Arrival) → ArrivesAs s ps t device link cause a → IsTaking a → IsPutBy ps cause
+put_of : (s : Scenario) (ps : List Happening) (t : ℕ) (device : DeviceId) (link : LinkId) (cause : ℕ) (a : Arrival) → ArrivesAs s ps device t link cause a
+    → IsTaking a → IsPutBy ps cause
 put_of s ps t device link cause a comes takes = record {
   putting = comes.putting;
   there = comes.there;
   puts = elim (put_by s comes.putting (time_of comes.putting) comes.putting.note.body _ comes.arrives.put) [
     | inl puts ↦ puts
-    | inr c ↦ absurd (never_control s.network device link (standpoint s ps device t) c.0 (subst IsTaking (comes.becomes ∙ ap (arrival_of s ps t device link cause) c.1) takes))
+    | inr c ↦ absurd (never_control s.network device link (standpoint s ps device t) c.0
+        (subst IsTaking (comes.becomes ∙ ap (arrival_of s ps device t link cause) c.1) takes))
   ];
 }
 
@@ -108,8 +116,10 @@ IsTaken other = ⊥
 
 -- its cause is what put the frame
 cause_puts : (s : Scenario) (ps : List Happening) (time : Units) (body : NoteBody) → IsTaken body → IsCaused s ps time body → IsPutBy ps (cause_of body)
-cause_puts s ps time (notes.Accepted device link cause vl cycle) taken caused = put_of s ps (amount time) device link cause (arrivals.Accepted vl cycle) caused tt
-cause_puts s ps time (notes.Delivered device link cause vl cycle) taken caused = put_of s ps (amount time) device link cause (arrivals.Delivered vl cycle) caused tt
+cause_puts s ps time (notes.Accepted device link cause vl cycle) taken caused =
+    put_of s ps (amount time) device link cause (arrivals.Accepted vl cycle) caused tt
+cause_puts s ps time (notes.Delivered device link cause vl cycle) taken caused =
+    put_of s ps (amount time) device link cause (arrivals.Delivered vl cycle) caused tt
 cause_puts s ps time other taken caused = absurd taken
 
 -- ---- the chain of causes
@@ -147,11 +157,14 @@ accepted_in ps device vl t cause cycle has =
     (in_filter (λ h. is_accepted device vl h.note.body) (earlier t ps) has.taken (last_there _ has.taken has.last))
 
 -- a record of what a switch accepted says that it was taken
-is_taken : (h : Happening) (device : DeviceId) (link : LinkId) (from : ℕ) (vl : _) (cycle : ℕ) → h.note.body ≡ notes.Accepted device link from vl cycle → IsTaken h.note.body
+is_taken : (h : Happening) (device : DeviceId) (link : LinkId) (from : ℕ) (vl : _) (cycle : ℕ) → h.note.body ≡ notes.Accepted device link from vl cycle
+    → IsTaken h.note.body
 is_taken h device link from vl cycle is = subst IsTaken (sym is) tt
 
 -- from what put a frame the chain goes back to a beginning, where it does from each earlier record of a taking
-begins_by : (s : Scenario) (hs ps qs : List Happening) (g : Happening) → hs ≡ ps ++ g ∷ qs → IsFounded place_of (IsDue s) ps → IsDue s ps g → ((t : Happening) → IsIn t hs → t.note.number < g.note.number → IsTaken t.note.body → Begins hs t) → (body : NoteBody) → g.note.body ≡ body → IsPutting body → IsCaused s ps g.note.time body → Begins hs g
+begins_by : (s : Scenario) (hs ps qs : List Happening) (g : Happening) → hs ≡ ps ++ g ∷ qs → IsFounded place_of (IsDue s) ps → IsDue s ps g
+    → ((t : Happening) → IsIn t hs → t.note.number < g.note.number → IsTaken t.note.body → Begins hs t) → (body : NoteBody) → g.note.body ≡ body
+    → IsPutting body → IsCaused s ps g.note.time body → Begins hs g
 begins_by s hs ps qs g whole founded due back (notes.TtSent device link cause vl cycle) is puts caused =
     elim caused.dispatches.at_hand [
       | inl sender ↦ here hs g (subst IsBeginning (sym is) sender.1)
@@ -160,24 +173,28 @@ begins_by s hs ps qs g whole founded due back (notes.TtSent device link cause vl
           let there : IsIn taken ps = subst (λ v. IsIn taken ps) caused.dispatches.of_vl (accepted_in ps device _ (amount g.note.time) cause cycle has.1) in
           let found = by_number s ps taken founded there in
           let within = numbered_within ps taken.note.number taken found in
-          let in_whole : numbered hs taken.note.number ≡ Some taken = subst (λ (t : List Happening). numbered t taken.note.number ≡ Some taken) (sym whole) (numbered_front ps (g ∷ qs) taken.note.number taken found) in
+          let in_whole : numbered hs taken.note.number ≡ Some taken = subst (λ (t : List Happening). numbered t taken.note.number ≡ Some taken) (sym whole)
+                  (numbered_front ps (g ∷ qs) taken.note.number taken found) in
           let from : cause_of g.note.body ≡ taken.note.number = ap cause_of is ∙ has.1.number in
           further hs g taken
           (subst (λ (n : ℕ). numbered hs n ≡ Some taken) (sym from) in_whole)
-          (back taken (numbered_in hs taken.note.number taken in_whole) (omega (arith, within, due.number)) (is_taken taken device has.1.link has.1.from _ cycle has.1.is))
+          (back taken (numbered_in hs taken.note.number taken in_whole) (omega (arith, within, due.number))
+              (is_taken taken device has.1.link has.1.from _ cycle has.1.is))
     ]
 begins_by s hs ps qs g whole founded due back (notes.Event line (Send link octets)) is puts caused = here hs g (subst IsBeginning (sym is) tt)
 begins_by s hs ps qs g whole founded due back other is puts caused = absurd puts
 
 -- from each record by which a frame was taken the chain goes back to a beginning
-begins_from : (s : Scenario) (hs : List Happening) → IsFounded place_of (IsDue s) hs → (n : ℕ) (h : Happening) → IsIn h hs → h.note.number < n → IsTaken h.note.body → Begins hs h
+begins_from : (s : Scenario) (hs : List Happening) → IsFounded place_of (IsDue s) hs → (n : ℕ) (h : Happening) → IsIn h hs → h.note.number < n
+    → IsTaken h.note.body → Begins hs h
 begins_from s hs founded zero h i small taken = absurd (omega arith)
 begins_from s hs founded (suc n) h i small taken =
     let at = founded_at s hs h founded i in
     let put = cause_puts s at.front h.note.time h.note.body taken at.due.cause in
     let number = number_is s at.front (cause_of h.note.body) put.putting at.founded put.there in
     let within = numbered_within at.front (cause_of h.note.body) put.putting put.there in
-    let there : numbered hs (cause_of h.note.body) ≡ Some put.putting = subst (λ (t : List Happening). numbered t (cause_of h.note.body) ≡ Some put.putting) (sym at.whole) (numbered_front at.front (h ∷ at.rest) (cause_of h.note.body) put.putting put.there) in
+    let there : numbered hs (cause_of h.note.body) ≡ Some put.putting = subst (λ (t : List Happening). numbered t (cause_of h.note.body) ≡ Some put.putting)
+            (sym at.whole) (numbered_front at.front (h ∷ at.rest) (cause_of h.note.body) put.putting put.there) in
     let of = founded_at s hs put.putting founded (numbered_in hs (cause_of h.note.body) put.putting there) in
     further hs h put.putting there
     (begins_by s hs of.front of.rest put.putting of.whole of.founded of.due

@@ -5,16 +5,16 @@ use Rattle.std.proofs.lemmas.List.{append-nil}
 use Rattle.std.proofs.lemmas.List.Elements.{filter-append}
 use Rattle.std.proofs.lemmas.Option.{slice_get_within}
 use Rattle.std.specs.Prelude.{nat_lt, if◌then◌else◌}
+use Rattle.run_law.proofs.runs.Determined.{due_is_determined}
+use Rattle.run_law.proofs.runs.Lacking.{behind_first}
+use Rattle.run_law.proofs.runs.OneRun.{due_is_next}
+use Rattle.run_law.proofs.runs.Places.{before_or_not, chain, in_parts, in_right, parted}
 use Rattle.run_law.specs.records.Happenings.{Happening, earlier, numbered, time_of}
 use Rattle.run_law.specs.records.Order.{IsBefore, IsIn, AllBefore, NoneBefore}
 use Rattle.run_law.specs.records.Ranks.{place_of}
 use Rattle.run_law.specs.runs.DueRecords.{IsDue}
 use Rattle.run_law.specs.runs.Runs.{IsFounded, IsRun}
 use Rattle.run_law.specs.scenario.Scenarios.{Scenario}
-use Rattle.run_law.proofs.runs.Determined.{due_is_determined}
-use Rattle.run_law.proofs.runs.Lacking.{behind_first}
-use Rattle.run_law.proofs.runs.OneRun.{due_is_next}
-use Rattle.run_law.proofs.runs.Places.{before_or_not, chain, in_parts, in_right, parted}
 
 -- ---- lists
 
@@ -55,7 +55,8 @@ none_kept {X} p (x ∷ xs) fails =
 -- ---- founded lists
 
 -- a front of a founded list is founded
-pub front_founded : {N : Type 0} (place : N → List ℕ) (IsDue : List N → N → Type 0) (ps qs : List N) → IsFounded place IsDue (ps ++ qs) → IsFounded place IsDue ps
+pub front_founded : {N : Type 0} (place : N → List ℕ) (IsDue : List N → N → Type 0) (ps qs : List N) → IsFounded place IsDue (ps ++ qs)
+    → IsFounded place IsDue ps
 front_founded place IsDue ps qs founded rs ts x e =
     founded rs (ts ++ qs) x (ap (λ (t : List _). t ++ qs) e ∙ append_assoc rs (x ∷ ts) qs)
 
@@ -68,7 +69,8 @@ pub record IsSplit {N : Type 0} (place : N → List ℕ) (ns : List N) (p : List
   pub none : NoneBefore place rest p
 
 -- a founded list parts at a place that its first part is before
-split_from : {N : Type 0} (place : N → List ℕ) (IsDue : List N → N → Type 0) (p : List ℕ) (ps qs : List N) → IsFounded place IsDue (ps ++ qs) → AllBefore place ps p → IsSplit place (ps ++ qs) p
+split_from : {N : Type 0} (place : N → List ℕ) (IsDue : List N → N → Type 0) (p : List ℕ) (ps qs : List N) → IsFounded place IsDue (ps ++ qs)
+    → AllBefore place ps p → IsSplit place (ps ++ qs) p
 split_from place IsDue p ps [] founded before = record { front = ps; rest = []; whole = refl; before = before; none = λ n i. absurd i }
 split_from {N} place IsDue p ps (q ∷ qs) founded before =
     elim (before_or_not (place q) p) [
@@ -97,7 +99,8 @@ pub split : {N : Type 0} (place : N → List ℕ) (IsDue : List N → N → Type
 split place IsDue ns p founded = split_from place IsDue p [] ns founded (λ n i. absurd i)
 
 -- what is before the place is in the front
-pub in_front_of : {N : Type 0} (place : N → List ℕ) (ns : List N) (p : List ℕ) (at : IsSplit place ns p) (n : N) → IsIn n ns → IsBefore (place n) p → IsIn n at.front
+pub in_front_of : {N : Type 0} (place : N → List ℕ) (ns : List N) (p : List ℕ) (at : IsSplit place ns p) (n : N) → IsIn n ns → IsBefore (place n) p
+    → IsIn n at.front
 in_front_of {N} place ns p at n i lt =
     elim (in_parts n at.front at.rest (subst (IsIn n) at.whole i)) [ inl l ↦ l | inr r ↦ absurd (at.none n r lt) ]
 
@@ -158,7 +161,8 @@ number_is s hs (suc n) h founded e =
     let due = (founded at.0 at.1 h at.2).1 in
     omega (arith, due.number, at.3)
   where
-    parted_at : (gs : List Happening) (i : ℕ) (g : Happening) → slice_get gs i ≡ Some g → (ps : List Happening) × (qs : List Happening) × (gs ≡ ps ++ g ∷ qs) × (length ps ≡ i)
+    parted_at : (gs : List Happening) (i : ℕ) (g : Happening) → slice_get gs i ≡ Some g → (ps : List Happening) × (qs : List Happening) × (gs ≡ ps ++ g ∷ qs)
+        × (length ps ≡ i)
     parted_at [] i g e = absurd cc
     parted_at (f ∷ gs) zero g e = let same : f ≡ g = cc in ([], gs, ap (λ (x : Happening). x ∷ gs) same, refl)
     parted_at (f ∷ gs) (suc i) g e =
@@ -168,7 +172,8 @@ number_is s hs (suc n) h founded e =
 -- ---- a record that is due is there
 
 -- where the records of a run part at the place of one that is due, it is the next
-pub due_is_there : (s : Scenario) (mark : List ℕ) (hs : List Happening) (x : Happening) (at : IsSplit place_of hs (place_of x)) → IsRun place_of (IsDue s) mark hs → IsDue s at.front x → IsBefore (place_of x) mark → IsIn x hs
+pub due_is_there : (s : Scenario) (mark : List ℕ) (hs : List Happening) (x : Happening) (at : IsSplit place_of hs (place_of x))
+    → IsRun place_of (IsDue s) mark hs → IsDue s at.front x → IsBefore (place_of x) mark → IsIn x hs
 due_is_there s mark hs x at run due here =
     let parts = subst (IsRun place_of (IsDue s) mark) at.whole run in
     let next = due_is_next place_of (IsDue s) mark (due_is_determined s) at.front at.rest x parts at.before at.none due here in

@@ -17,37 +17,37 @@ use Rattle.net_plan.specs.declared.ids.LinkId.{LinkId}
 use Rattle.net_plan.specs.declared.network.Network.{Network}
 use Rattle.net_plan.specs.declared.tables.Device.{Device}
 use Rattle.net_plan.specs.declared.tables.Link.{Link}
-use Rattle.net_plan.specs.declared.tables.Role.{Role}
 use Rattle.net_plan.specs.declared.tables.Role.TheVariants.{Master, Client, Cm, Relay}
-use Rattle.net_plan.specs.declared.tables.Way.{Way}
+use Rattle.net_plan.specs.declared.tables.Role.{Role}
 use Rattle.net_plan.specs.declared.tables.Way.TheVariants.{Up, Down}
+use Rattle.net_plan.specs.declared.tables.Way.{Way}
 use Rattle.pcf_values.specs.declared.channel.Channel.{Channel}
 use Rattle.pcf_values.specs.declared.pcf.Pcf.{Pcf}
-use Rattle.run_law.specs.control.Arrivals.{control_arrival, frame_fault, frame_or_fault}
-use Rattle.run_law.specs.scenario.Devices.{has_role, is_parent_of, is_relay}
-use Rattle.run_law.specs.law.FirstLaws.{ComesTo, IsLawful, SentFramesCome, arrival_time, leaving_time}
-use Rattle.run_law.specs.records.Frames.{dispatched_frame}
-use Rattle.run_law.specs.records.Happenings.{Happening, frame_by, frame_from, happening, numbered, time_of, with_clock}
-use Rattle.run_law.specs.control.Leaving.{Departs, Gives, clock_at_leaving, leaves, on_cut_way, too_old}
-use Rattle.run_law.specs.records.Order.{IsBefore, IsIn}
-use Rattle.run_law.specs.records.Ranks.{key, members_in, place_of, rank}
-use Rattle.run_law.specs.timed.Receptions.{ArrivesAs}
-use Rattle.run_law.specs.runs.DueRecords.{IsArrivedRecord, IsCaused, IsDue}
-use Rattle.run_law.specs.runs.Runs.{IsFounded, IsRun}
-use Rattle.run_law.specs.scenario.Scenarios.{Scenario, is_broken, is_turned_on_at}
-use Rattle.run_law.specs.device.Standpoints.{Standpoint, standpoint}
-use Rattle.run_law.specs.device.States.{adjustment_after, is_off, state_after}
-use Rattle.run_law.specs.control.Wires.{Arrives, Launch, control, launched}
-use Rattle.run_law.specs.scenario.Ways.{delay_at, hold_at, is_cut, way_from}
-use Rattle.run_law.specs.declared.judgement.Reason.{Reason}
-use Rattle.run_law.specs.declared.note.Note.{Note}
-use Rattle.run_law.specs.declared.note.NoteBody.{NoteBody}
-use Rattle.run_law.specs.declared.note.NoteBody.TheVariants as notes
-use Rattle.run_law.specs.declared.steps.Arrival.{Arrival}
-use Rattle.run_law.specs.declared.steps.Arrival.TheVariants as arrivals
 use Rattle.run_law.proofs.law.FirstDelays.{delay_least, grows_little, hold_most}
 use Rattle.run_law.proofs.law.FirstPlaces.{IsSplit, by_number, due_is_there, founded_at, front_founded, in_front_of, same_earlier, split}
 use Rattle.run_law.proofs.runs.Places.{chain}
+use Rattle.run_law.specs.control.Arrivals.{control_arrival, frame_fault, frame_or_fault}
+use Rattle.run_law.specs.control.Leaving.{Departs, Gives, clock_at_leaving, leaves, on_cut_way, too_old}
+use Rattle.run_law.specs.control.Wires.{Arrives, Launch, control, launched}
+use Rattle.run_law.specs.declared.judgement.Reason.{Reason}
+use Rattle.run_law.specs.declared.note.Note.{Note}
+use Rattle.run_law.specs.declared.note.NoteBody.TheVariants as notes
+use Rattle.run_law.specs.declared.note.NoteBody.{NoteBody}
+use Rattle.run_law.specs.declared.steps.Arrival.TheVariants as arrivals
+use Rattle.run_law.specs.declared.steps.Arrival.{Arrival}
+use Rattle.run_law.specs.device.Standpoints.{Standpoint, standpoint}
+use Rattle.run_law.specs.device.States.{adjustment_after, is_off, state_after}
+use Rattle.run_law.specs.law.FirstLaws.{ComesTo, IsLawful, SentFramesCome, arrival_time, leaving_time}
+use Rattle.run_law.specs.records.Frames.{dispatched_frame}
+use Rattle.run_law.specs.records.Happenings.{Happening, frame_by, frame_from, happening, numbered, time_of, with_clock}
+use Rattle.run_law.specs.records.Order.{IsBefore, IsIn}
+use Rattle.run_law.specs.records.Ranks.{key, members_in, place_of, rank}
+use Rattle.run_law.specs.runs.DueRecords.{IsArrivedRecord, IsCaused, IsDue}
+use Rattle.run_law.specs.runs.Runs.{IsFounded, IsRun}
+use Rattle.run_law.specs.scenario.Devices.{has_role, is_parent_of, is_relay}
+use Rattle.run_law.specs.scenario.Scenarios.{Scenario, is_broken, is_turned_on_at}
+use Rattle.run_law.specs.scenario.Ways.{delay_at, hold_at, is_cut, way_from}
+use Rattle.run_law.specs.timed.Receptions.{ArrivesAs}
 use Rattle.schedule_tables.proofs.EntryLemmas.{all_at}
 use Rattle.schedule_tables.proofs.Margins.{margins, shape_rules}
 use Rattle.schedule_tables.specs.Delays.{delay_by}
@@ -68,7 +68,8 @@ master_ends Cm e = absurd cc
 master_ends Relay e = absurd cc
 
 -- a master is the parent of no link
-no_parent : (n : Network) (master : DeviceId) (link : LinkId) (l : Link) → IsInRange n → KeepsRules n → link_at n link ≡ Some l → has_role n is_master master ≡ true → l.parent.0 ≡ master.0 → ⊥
+no_parent : (n : Network) (master : DeviceId) (link : LinkId) (l : Link) → IsInRange n → KeepsRules n → link_at n link ≡ Some l
+    → has_role n is_master master ≡ true → l.parent.0 ≡ master.0 → ⊥
 no_parent n master link l range keeps there role same =
     let joint = keeps Joints link.0 l there in
     let switch = opened (λ (d : Device). d.channel ≡ Some joint.0) (device_at n l.parent) joint.1 in
@@ -79,7 +80,8 @@ no_parent n master link l range keeps there role same =
     both_ways (is_some switch.0.channel) (known.switches ∙ not_from_true (is_end_system switch.0.role) ends) (ap (λ (c : Option Channel). is_some c) switch.2)
 
 -- so it sends up
-way_is_up : (n : Network) (master : DeviceId) (link : LinkId) (l : Link) → IsInRange n → KeepsRules n → link_at n link ≡ Some l → has_role n is_master master ≡ true → way_from n master link ≡ Up
+way_is_up : (n : Network) (master : DeviceId) (link : LinkId) (l : Link) → IsInRange n → KeepsRules n → link_at n link ≡ Some l
+    → has_role n is_master master ≡ true → way_from n master link ≡ Up
 way_is_up n master link l range keeps there role =
     let parent : is_parent_of n master link ≡ (l.parent.0 == master.0) = ap (λ (o : Option Link). option_map_or (λ k. k.parent.0 == master.0) o false) there in
     ap (λ (b : Bool). if b then Down else Up) (parent ∙ ne_eqb l.parent.0 master.0 (no_parent n master link l range keeps there role))
@@ -87,17 +89,20 @@ way_is_up n master link l range keeps there role =
 -- ---- the leaving
 
 -- what is sent has this frame
-sent_frame : (s : Scenario) (ps : List Happening) (h : Happening) (master : DeviceId) (cycle : ℕ) → IsDue s ps h → h.note.body ≡ notes.Sent master cycle → h.frame ≡ Some (dispatched_frame s.network master cycle)
+sent_frame : (s : Scenario) (ps : List Happening) (h : Happening) (master : DeviceId) (cycle : ℕ) → IsDue s ps h → h.note.body ≡ notes.Sent master cycle
+    → h.frame ≡ Some (dispatched_frame s.network master cycle)
 sent_frame s ps h master cycle due is = ap (λ (x : Happening). x.frame) due.same ∙ ap (frame_by s.network ps) is
 
 -- what sends is a master
-sent_by_master : (s : Scenario) (ps : List Happening) (h : Happening) (master : DeviceId) (cycle : ℕ) → IsDue s ps h → h.note.body ≡ notes.Sent master cycle → has_role s.network is_master master ≡ true
+sent_by_master : (s : Scenario) (ps : List Happening) (h : Happening) (master : DeviceId) (cycle : ℕ) → IsDue s ps h → h.note.body ≡ notes.Sent master cycle
+    → has_role s.network is_master master ≡ true
 sent_by_master s ps h master cycle due is =
     let there : IsCaused s ps h.note.time (notes.Sent master cycle) = subst (IsCaused s ps h.note.time) is due.cause in
     there.master
 
 -- the time that a clock shows to have gone by, while a lawful master holds a frame, is at most dmax
-hold_is_young : (s : Scenario) (master : DeviceId) (link : LinkId) (l : Link) (t : ℕ) → IsLawful s → link_at s.network link ≡ Some l → s.reading master (leaving_time s link t) - s.reading master t ≤ amount s.network.dmax
+hold_is_young : (s : Scenario) (master : DeviceId) (link : LinkId) (l : Link) (t : ℕ) → IsLawful s → link_at s.network link ≡ Some l
+    → s.reading master (leaving_time s link t) - s.reading master t ≤ amount s.network.dmax
 hold_is_young s master link l t lawful there =
     let n = s.network in
     let known : IsLinkInRange n l = all_at (IsLinkInRange n) n.link link.0 l lawful.range.links there in
@@ -107,17 +112,21 @@ hold_is_young s master link l t lawful there =
     let room = margins rules_give_trees n (beta_at n beta.jitter beta.links) lawful.range lawful.rules is in
     let here = all_at (λ k. beta_at n beta.jitter beta.links + delay_by k ≤ amount n.dmax) n.link link.0 l room.dmax.links there in
     let most = hold_most s link l Up t lawful there known.hold.least in
-    grows_little n beta.jitter beta.links (amount l.hold) (amount l.wire) (amount l.jitter) (leaving_time s link t - t) (s.reading master (leaving_time s link t) - s.reading master t)
+    grows_little n beta.jitter beta.links (amount l.hold) (amount l.wire) (amount l.jitter) (leaving_time s link t - t)
+        (s.reading master (leaving_time s link t) - s.reading master t)
     (amount_within 1 1048576 n.grain lawful.range.grain).1
     ((lawful.clocks master).drifts t (leaving_time s link t) (omega arith))
     (omega (arith, most))
     here
 
 -- a frame that is given to a whole way and is not too old leaves
-whole_departs : (s : Scenario) (ps : List Happening) (h : Happening) (master : DeviceId) (cycle : ℕ) (link : LinkId) (frame : Pcf) → numbered ps h.note.number ≡ Some h → h.note.body ≡ notes.Sent master cycle → h.frame ≡ Some frame → IsChildOf s.network master link → way_from s.network master link ≡ Up
+whole_departs : (s : Scenario) (ps : List Happening) (h : Happening) (master : DeviceId) (cycle : ℕ) (link : LinkId) (frame : Pcf)
+    → numbered ps h.note.number ≡ Some h → h.note.body ≡ notes.Sent master cycle → h.frame ≡ Some frame → IsChildOf s.network master link
+    → way_from s.network master link ≡ Up
     → is_broken s master (leaving_time s link (time_of h)) ≡ false → is_cut s link Up (leaving_time s link (time_of h)) ≡ false
     → clock_at_leaving s master frame (time_of h) (leaving_time s link (time_of h)) ≤ amount s.network.dmax
-    → Departs s ps (leaving_time s link (time_of h)) master link h.note.number (leaves (clock_at_leaving s master frame (time_of h) (leaving_time s link (time_of h))))
+    → Departs s ps master (leaving_time s link (time_of h)) link h.note.number
+        (leaves (clock_at_leaving s master frame (time_of h) (leaving_time s link (time_of h))))
 whole_departs s ps h master cycle link frame found is of_frame child up correct whole young =
     let t : ℕ = leaving_time s link (time_of h) in
     let clock : ℕ = clock_at_leaving s master frame (time_of h) t in
@@ -132,7 +141,9 @@ whole_departs s ps h master cycle link frame found is of_frame child up correct 
       of_frame = of_frame;
       held = ap (λ (w : Way). time_of h + hold_at s link w (time_of h)) (sym up);
       correct = correct;
-      becomes = sym (ap (λ (b : Bool). if b then too_old else (if is_cut s link (way_from s.network master link) t then on_cut_way else leaves clock)) old ∙ ap (λ (b : Bool). if b then on_cut_way else leaves clock) cut);
+      becomes =
+          sym (ap (λ (b : Bool). if b then too_old else (if is_cut s link (way_from s.network master link) t then on_cut_way else leaves clock)) old
+          ∙ ap (λ (b : Bool). if b then on_cut_way else leaves clock) cut);
     }
 
 -- the record of a frame that left, with the frame
@@ -150,11 +161,13 @@ abbrev next_note : List Happening → ℕ → NoteBody → Note
 next_note ps t body = record { number = length ps + 1; time = units_of t; body = body }
 
 -- such a record with a cause is due
-next_due : (s : Scenario) (ps : List Happening) (t : ℕ) (body : NoteBody) → IsCaused s ps (units_of t) body → IsDue s ps (happening s.network ps (next_note ps t body))
+next_due : (s : Scenario) (ps : List Happening) (t : ℕ) (body : NoteBody) → IsCaused s ps (units_of t) body
+    → IsDue s ps (happening s.network ps (next_note ps t body))
 next_due s ps t body cause = record { number = refl; same = refl; begun = omega (arith, ints); cause = cause }
 
 -- the frame of a record that leaves
-left_frame : (network : Network) (ps : List Happening) (h : Happening) (clock : ℕ) (frame : Pcf) → numbered ps h.note.number ≡ Some h → h.frame ≡ Some frame → option_map (with_clock clock) (frame_from ps h.note.number) ≡ Some (with_clock clock frame)
+left_frame : (network : Network) (ps : List Happening) (h : Happening) (clock : ℕ) (frame : Pcf) → numbered ps h.note.number ≡ Some h → h.frame ≡ Some frame
+    → option_map (with_clock clock) (frame_from ps h.note.number) ≡ Some (with_clock clock frame)
 left_frame network ps h clock frame found of_frame =
     ap (λ (o : Option Happening). option_map (with_clock clock) (option_and_then (λ x. x.frame) o)) found ∙ ap (option_map (with_clock clock)) of_frame
 
@@ -163,7 +176,8 @@ sent_before : (u held : ℕ) (r : ℕ) (rest more : List ℕ) → r ≡ 5 → Is
 sent_before u held r rest more five = elim (cases_lt u (u + held)) [ inl lt ↦ inl lt | inr ge ↦ inr (omega (arith, ge), inl (omega (arith, five))) ]
 
 -- a frame that a master sends on a whole way up leaves
-has_left : (s : Scenario) (mark : List ℕ) (hs : List Happening) (h : Happening) (master : DeviceId) (cycle : ℕ) (link : LinkId) (l : Link) → IsLawful s → IsRun place_of (IsDue s) mark hs → IsIn h hs → h.note.body ≡ notes.Sent master cycle
+has_left : (s : Scenario) (mark : List ℕ) (hs : List Happening) (h : Happening) (master : DeviceId) (cycle : ℕ) (link : LinkId) (l : Link) → IsLawful s
+    → IsRun place_of (IsDue s) mark hs → IsIn h hs → h.note.body ≡ notes.Sent master cycle
     → link_at s.network link ≡ Some l → l.child ≡ master → way_from s.network master link ≡ Up
     → is_broken s master (leaving_time s link (time_of h)) ≡ false → is_cut s link Up (leaving_time s link (time_of h)) ≡ false
     → ((more : List ℕ) → IsBefore (leaving_time s link (time_of h) ∷ more) mark)
@@ -176,11 +190,13 @@ has_left s mark hs h master cycle link l lawful run i is there child up correct 
     let before = founded_at s hs h run.founded i in
     let of_frame = sent_frame s before.front h master cycle before.due is in
     let at = split place_of (IsDue s) hs (t ∷ 8 ∷ master.0 ∷ link.0 ∷ h.note.number ∷ []) run.founded in
-    let sooner : IsBefore (place_of h) (t ∷ 8 ∷ master.0 ∷ link.0 ∷ h.note.number ∷ []) = sent_before (time_of h) (hold_at s link Up (time_of h)) (rank h.note.body) (key (members_in h) h.note.body) (master.0 ∷ link.0 ∷ h.note.number ∷ []) (ap rank is) in
+    let sooner : IsBefore (place_of h) (t ∷ 8 ∷ master.0 ∷ link.0 ∷ h.note.number ∷ []) = sent_before (time_of h) (hold_at s link Up (time_of h))
+            (rank h.note.body) (key (members_in h) h.note.body) (master.0 ∷ link.0 ∷ h.note.number ∷ []) (ap rank is) in
     let front = front_founded place_of (IsDue s) at.front at.rest (subst (IsFounded place_of (IsDue s)) at.whole run.founded) in
     let found = by_number s at.front h front (in_front_of place_of hs _ at h i sooner) in
     let young : clock ≤ amount s.network.dmax = omega (arith, hold_is_young s master link l (time_of h) lawful there) in
-    let departs = whole_departs s at.front h master cycle link frame found is of_frame (closed (λ (k : Link). k.child ≡ master) (link_at s.network link) l there child) up correct whole young in
+    let departs = whole_departs s at.front h master cycle link frame found is of_frame
+            (closed (λ (k : Link). k.child ≡ master) (link_at s.network link) l there child) up correct whole young in
     record {
       leaving = happening s.network at.front (next_note at.front t body);
       there = due_is_there s mark hs (happening s.network at.front (next_note at.front t body)) at run (next_due s at.front t body departs) (in_time _);
@@ -205,13 +221,15 @@ abbrev Outcome : Arrival → Type 0
 Outcome a = ((reason : Reason) × (a ≡ arrivals.Dropped reason)) ⊎ IsTakenOn a
 
 -- a frame without a fault waits, is passed on, or both
-passed_on : (relay parent : Bool) (frame : Pcf) (point : Units) → Outcome (if relay then (if parent then arrivals.Passes frame Up else arrivals.PassesAndWaits frame Down point) else arrivals.Waits frame point)
+passed_on : (relay parent : Bool) (frame : Pcf) (point : Units)
+    → Outcome (if relay then (if parent then arrivals.Passes frame Up else arrivals.PassesAndWaits frame Down point) else arrivals.Waits frame point)
 passed_on true true frame point = inr (record { frame = frame; point = point; way = Up; is = inr (inl refl) })
 passed_on true false frame point = inr (record { frame = frame; point = point; way = Down; is = inr (inr refl) })
 passed_on false parent frame point = inr (record { frame = frame; point = point; way = Up; is = inl refl })
 
 -- a frame with a fault, or with none, is dropped or taken
-judged : (network : Network) (device : DeviceId) (link : LinkId) (at : Standpoint) (frame : Pcf) (fault : Option Reason) → Outcome (frame_or_fault network device link at frame fault)
+judged : (network : Network) (device : DeviceId) (link : LinkId) (at : Standpoint) (frame : Pcf) (fault : Option Reason)
+    → Outcome (frame_or_fault network device link at frame fault)
 judged network device link at frame (Some reason) = inl (reason, refl)
 judged network device link at frame None = passed_on (is_relay network device) (is_parent_of network device link) _ _
 
@@ -229,16 +247,23 @@ standpoint_by s device t es = record {
 }
 
 -- among all records of earlier times it stands in one place
-same_standpoint : (s : Scenario) (device : DeviceId) (t : ℕ) (more rest : List ℕ) (hs : List Happening) (at : IsSplit place_of hs (t ∷ more)) (by : IsSplit place_of hs (t ∷ rest)) → standpoint s by.front device t ≡ standpoint s at.front device t
+same_standpoint : (s : Scenario) (device : DeviceId) (t : ℕ) (more rest : List ℕ) (hs : List Happening) (at : IsSplit place_of hs (t ∷ more))
+    (by : IsSplit place_of hs (t ∷ rest)) → standpoint s by.front device t ≡ standpoint s at.front device t
 same_standpoint s device t more rest hs at by =
     ap (standpoint_by s device t) (same_earlier t rest hs by ∙ sym (same_earlier t more hs at))
 
 -- a frame that is on its way arrives, given any records with that of its leaving
-arrives_as : (s : Scenario) (ps : List Happening) (leaving : Happening) (device : DeviceId) (link : LinkId) (t : ℕ) (frame : Pcf) (a : Arrival) → numbered ps leaving.note.number ≡ Some leaving → Arrives s leaving device link t (control (Ok frame)) → control_arrival s.network device link (standpoint s ps device t) (Ok frame) ≡ a → ArrivesAs s ps t device link leaving.note.number a
-arrives_as s ps leaving device link t frame a found arrives is = record { putting = leaving; there = found; signal = control (Ok frame); arrives = arrives; becomes = sym is }
+arrives_as : (s : Scenario) (ps : List Happening) (leaving : Happening) (device : DeviceId) (link : LinkId) (t : ℕ) (frame : Pcf) (a : Arrival)
+    → numbered ps leaving.note.number ≡ Some leaving → Arrives s leaving device link t (control (Ok frame))
+    → control_arrival s.network device link (standpoint s ps device t) (Ok frame) ≡ a → ArrivesAs s ps device t link leaving.note.number a
+arrives_as s ps leaving device link t frame a found arrives is = record { putting = leaving; there = found; signal = control (Ok frame); arrives = arrives;
+    becomes = sym is }
 
 -- the record of a frame that is taken
-arrived_record : (s : Scenario) (ps : List Happening) (leaving : Happening) (device : DeviceId) (link : LinkId) (t : ℕ) (frame : Pcf) → numbered ps leaving.note.number ≡ Some leaving → Arrives s leaving device link t (control (Ok frame)) → (taken : IsTakenOn (control_arrival s.network device link (standpoint s ps device t) (Ok frame))) → IsArrivedRecord s ps t device link leaving.note.number taken.frame.clock
+arrived_record : (s : Scenario) (ps : List Happening) (leaving : Happening) (device : DeviceId) (link : LinkId) (t : ℕ) (frame : Pcf)
+    → numbered ps leaving.note.number ≡ Some leaving → Arrives s leaving device link t (control (Ok frame))
+    → (taken : IsTakenOn (control_arrival s.network device link (standpoint s ps device t) (Ok frame))) → IsArrivedRecord s ps device t link leaving.note.number
+    taken.frame.clock
 arrived_record s ps leaving device link t frame found arrives taken = record {
   frame = taken.frame;
   point = taken.point;
@@ -259,13 +284,15 @@ record HasArrived (s : Scenario) (hs : List Happening) (t number : ℕ) (device 
   pub comes : ComesTo device link number coming.note.body
 
 -- a record of an earlier time is among those before a place
-found_before : (s : Scenario) (hs : List Happening) (t : ℕ) (more : List ℕ) (at : IsSplit place_of hs (t ∷ more)) (h : Happening) → IsFounded place_of (IsDue s) hs → IsIn h hs → time_of h < t → numbered at.front h.note.number ≡ Some h
+found_before : (s : Scenario) (hs : List Happening) (t : ℕ) (more : List ℕ) (at : IsSplit place_of hs (t ∷ more)) (h : Happening)
+    → IsFounded place_of (IsDue s) hs → IsIn h hs → time_of h < t → numbered at.front h.note.number ≡ Some h
 found_before s hs t more at h founded i sooner =
     let front = front_founded place_of (IsDue s) at.front at.rest (subst (IsFounded place_of (IsDue s)) at.whole founded) in
     by_number s at.front h front (in_front_of place_of hs (t ∷ more) at h i (inl sooner))
 
 -- a control frame that is on its way comes
-has_arrived : (s : Scenario) (mark : List ℕ) (hs : List Happening) (leaving : Happening) (device : DeviceId) (link : LinkId) (t : ℕ) (frame : Pcf) → IsRun place_of (IsDue s) mark hs → IsIn leaving hs → time_of leaving < t → Arrives s leaving device link t (control (Ok frame))
+has_arrived : (s : Scenario) (mark : List ℕ) (hs : List Happening) (leaving : Happening) (device : DeviceId) (link : LinkId) (t : ℕ) (frame : Pcf)
+    → IsRun place_of (IsDue s) mark hs → IsIn leaving hs → time_of leaving < t → Arrives s leaving device link t (control (Ok frame))
     → IsBefore (t ∷ 14 ∷ []) mark → HasArrived s hs t leaving.note.number device link
 has_arrived s mark hs leaving device link t frame run i sooner arrives in_time =
     let number : ℕ = leaving.note.number in
@@ -278,7 +305,9 @@ has_arrived s mark hs leaving device link t frame run i sooner arrives in_time =
           let arrived = arrived_record s at.front leaving device link t frame (found_before s hs t _ at leaving run.founded i sooner) arrives taken in
           record {
             coming = coming;
-            there = due_is_there s mark hs coming at run (next_due s at.front t body arrived) (chain (place_of coming) (t ∷ 14 ∷ []) mark (inr (refl, inl (omega arith))) in_time);
+            there =
+                due_is_there s mark hs coming at run (next_due s at.front t body arrived)
+                (chain (place_of coming) (t ∷ 14 ∷ []) mark (inr (refl, inl (omega arith))) in_time);
             at = refl;
             comes = inl (taken.frame.clock, refl);
           }
@@ -288,10 +317,13 @@ has_arrived s mark hs leaving device link t frame run i sooner arrives in_time =
           let stands = same_standpoint s device t _ _ hs at by in
           let is : control_arrival s.network device link (standpoint s by.front device t) (Ok frame) ≡ arrivals.Dropped dropped.0 =
           ap (λ (p : Standpoint). control_arrival s.network device link p (Ok frame)) stands ∙ dropped.1 in
-          let drops = arrives_as s by.front leaving device link t frame (arrivals.Dropped dropped.0) (found_before s hs t _ by leaving run.founded i sooner) arrives is in
+          let drops = arrives_as s by.front leaving device link t frame (arrivals.Dropped dropped.0) (found_before s hs t _ by leaving run.founded i sooner)
+                  arrives is in
           record {
             coming = coming;
-            there = due_is_there s mark hs coming by run (next_due s by.front t body (inl drops)) (chain (place_of coming) (t ∷ 14 ∷ []) mark (inr (refl, inl (omega arith))) in_time);
+            there =
+                due_is_there s mark hs coming by run (next_due s by.front t body (inl drops))
+                (chain (place_of coming) (t ∷ 14 ∷ []) mark (inr (refl, inl (omega arith))) in_time);
             at = refl;
             comes = inr (dropped.0, refl);
           }
@@ -300,16 +332,22 @@ has_arrived s mark hs leaving device link t frame run i sooner arrives in_time =
 -- ---- the law
 
 -- a frame that left on its way up arrives at the parent of the link
-goes_up : (s : Scenario) (hs : List Happening) (given number : ℕ) (master : DeviceId) (link : LinkId) (l : Link) (switch : DeviceId) (left : HasLeft s hs given number master link) → link_at s.network link ≡ Some l → l.parent ≡ switch → way_from s.network master link ≡ Up → Arrives s left.leaving switch link (arrival_time s link given) (control (Ok left.frame))
+goes_up : (s : Scenario) (hs : List Happening) (given number : ℕ) (master : DeviceId) (link : LinkId) (l : Link) (switch : DeviceId)
+    (left : HasLeft s hs given number master link) → link_at s.network link ≡ Some l → l.parent ≡ switch → way_from s.network master link ≡ Up
+    → Arrives s left.leaving switch link (arrival_time s link given) (control (Ok left.frame))
 goes_up s hs given number master link l switch left there parent up =
     let n = s.network in
     let way : Way = way_from n master link in
     let t : ℕ = leaving_time s link given in
-    let delay : delay_at s link way (time_of left.leaving) ≡ delay_at s link Up t = ap (λ (w : Way). delay_at s link w (time_of left.leaving)) up ∙ ap (delay_at s link Up) left.at in
+    let delay : delay_at s link way (time_of left.leaving) ≡ delay_at s link Up t = ap (λ (w : Way). delay_at s link w (time_of left.leaving)) up
+            ∙ ap (delay_at s link Up) left.at in
     record {
       way = way;
-      put = ap (launched s left.leaving (time_of left.leaving)) left.body ∙ ap (λ (o : Option Pcf). option_map (λ frame. let x : Launch = record { link = link; way = way; signal = control (Ok frame) } in x) o) left.of_frame;
-      receiver = ap (λ (o : Option Link). option_map (target_by way) o) there ∙ ap (λ (w : Way). Some (target_by w l)) up ∙ ap (λ (d : DeviceId). Some d) parent;
+      put =
+          ap (launched s left.leaving (time_of left.leaving)) left.body
+          ∙ ap (λ (o : Option Pcf). option_map (λ frame. let x : Launch = record { link = link; way = way; signal = control (Ok frame) } in x) o) left.of_frame;
+      receiver =
+          ap (λ (o : Option Link). option_map (target_by way) o) there ∙ ap (λ (w : Way). Some (target_by w l)) up ∙ ap (λ (d : DeviceId). Some d) parent;
       at = omega (arith, delay, left.at);
     }
 
@@ -325,7 +363,8 @@ sent_frames_come s mark ns h master cycle link switch lawful run i is leads corr
     let least = delay_least s link l.0 Up t lawful l.1 known.wire.least in
     let left = has_left s mark _ h master cycle link l.0 lawful run i is l.1 l.2.0 up correct whole
     (λ more. chain (t ∷ more) (arrival_time s link (time_of h) ∷ 14 ∷ []) mark (inl (omega (arith, least))) in_time) in
-    let come = has_arrived s mark _ left.leaving switch link (arrival_time s link (time_of h)) left.frame run left.there (omega (arith, least, left.at)) (goes_up s _ (time_of h) h.note.number master link l.0 switch left l.1 l.2.1 up) in_time in
+    let come = has_arrived s mark _ left.leaving switch link (arrival_time s link (time_of h)) left.frame run left.there (omega (arith, least, left.at))
+            (goes_up s _ (time_of h) h.note.number master link l.0 switch left l.1 l.2.1 up) in_time in
     record {
       leaving = left.leaving;
       left = by_number s _ left.leaving run.founded left.there;

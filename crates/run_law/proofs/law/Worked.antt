@@ -7,26 +7,26 @@ use Rattle.net_plan.specs.declared.ids.VlId.{VlId}
 use Rattle.net_plan.specs.declared.network.Network.{Network}
 use Rattle.net_plan.specs.declared.tables.Device.{Device}
 use Rattle.net_plan.specs.declared.tables.Link.{Link}
-use Rattle.net_plan.specs.declared.tables.Role.{Role}
 use Rattle.net_plan.specs.declared.tables.Role.TheVariants.{Master, Client, Cm, Relay}
+use Rattle.net_plan.specs.declared.tables.Role.{Role}
 use Rattle.net_plan.specs.declared.tables.Row.{Row}
-use Rattle.net_plan.specs.declared.tables.Way.{Way}
 use Rattle.net_plan.specs.declared.tables.Way.TheVariants.{Up, Down}
-use Rattle.pcf_values.specs.declared.channel.Channel.{Channel}
+use Rattle.net_plan.specs.declared.tables.Way.{Way}
 use Rattle.pcf_values.specs.declared.channel.Channel.TheVariants.{A, B}
+use Rattle.pcf_values.specs.declared.channel.Channel.{Channel}
 use Rattle.pcf_values.specs.declared.pcf.Pcf.{Pcf}
 use Rattle.pcf_values.specs.declared.pcf.PcfKind.TheVariants.{ColdStart}
 use Rattle.run_law.specs.control.Arrivals.{control_arrival}
-use Rattle.run_law.specs.scenario.Devices.{expected_by, plan_of}
-use Rattle.run_law.specs.records.Frames.{dispatched_frame, integration_frame, tt_frame}
-use Rattle.run_law.specs.records.Happenings.{with_clock}
+use Rattle.run_law.specs.control.Collections.{point_fault, observation_window}
 use Rattle.run_law.specs.control.Hearing.{heard_as}
-use Rattle.run_law.specs.device.Standpoints.{Standpoint}
-use Rattle.run_law.specs.timed.Arrivals.{timed_arrival}
-use Rattle.run_law.specs.control.Collections.{point_fault, window}
 use Rattle.run_law.specs.declared.judgement.Judgement.TheVariants.{Within, Outside, Integrates, Ignored}
 use Rattle.run_law.specs.declared.judgement.Reason.TheVariants as reasons
 use Rattle.run_law.specs.declared.steps.Arrival.TheVariants.{Dropped, Waits, Passes, PassesAndWaits, Accepted, Delivered}
+use Rattle.run_law.specs.device.Standpoints.{Standpoint}
+use Rattle.run_law.specs.records.Frames.{dispatched_frame, integration_frame, tt_frame}
+use Rattle.run_law.specs.records.Happenings.{with_clock}
+use Rattle.run_law.specs.scenario.Devices.{expected_by, plan_of}
+use Rattle.run_law.specs.timed.Arrivals.{timed_arrival}
 use Rattle.sync_state.specs.declared.state.State.TheVariants.{Integrating, Synchronised}
 use Rattle.tte_units.specs.Amount.{units_of}
 use Rattle.tte_units.specs.declared.speed.Speed.TheVariants.{Mbit100}
@@ -35,7 +35,8 @@ abbrev device_of : List ℕ → Role → ℕ → Option ℕ → Option Channel �
 device_of name role mac member channel = record { name = name; role = role; mac = mac; member = member; channel = channel; start = Some (units_of 0) }
 
 abbrev link_of : List ℕ → ℕ → ℕ → Link
-link_of name child parent = record { name = name; child = record { 0 = child }; parent = record { 0 = parent }; wire = units_of 32768000; jitter = units_of 1310720; hold = units_of 1310720000; speed = Mbit100 }
+link_of name child parent = record { name = name; child = record { 0 = child }; parent = record { 0 = parent }; wire = units_of 32768000;
+    jitter = units_of 1310720; hold = units_of 1310720000; speed = Mbit100 }
 
 abbrev row_of : ℕ → ℕ → Way → ℕ → Row
 row_of vl link way offset = record { vl = record { 0 = vl }; link = record { 0 = link }; way = way; offset = units_of offset }
@@ -116,51 +117,58 @@ masters_of_compression_expect = refl
 -- ---- control frames
 
 -- the relay passes m1's frame up, its clock grown by the wire
-passes_up : control_arrival worked (dev 5) (lnk 0) (at_reading 131104768000) (Ok (dispatched_frame worked (dev 0) 1)) ≡ Passes (with_clock 32768000 (dispatched_frame worked (dev 0) 1)) Up
+passes_up : control_arrival worked (dev 5) (lnk 0) (at_reading 131104768000) (Ok (dispatched_frame worked (dev 0) 1)) ≡ Passes
+    (with_clock 32768000 (dispatched_frame worked (dev 0) 1)) Up
 passes_up = refl
 
 -- the compression master waits for its point
-waits_at_cm : control_arrival worked (dev 6) (lnk 5) (at_reading 131137536000) (Ok (with_clock 32768000 (dispatched_frame worked (dev 0) 1))) ≡ Waits (with_clock 65536000 (dispatched_frame worked (dev 0) 1)) (units_of 134348800000)
+waits_at_cm : control_arrival worked (dev 6) (lnk 5) (at_reading 131137536000) (Ok (with_clock 32768000 (dispatched_frame worked (dev 0) 1))) ≡ Waits
+    (with_clock 65536000 (dispatched_frame worked (dev 0) 1)) (units_of 134348800000)
 waits_at_cm = refl
 
 -- the relay passes the compressed frame down, and waits for it as well
-passes_down : control_arrival worked (dev 5) (lnk 5) (at_reading 136544256000) (Ok (integration_frame worked (dev 6) 1 (record { 0 = 15 }))) ≡ PassesAndWaits (with_clock 32768000 (integration_frame worked (dev 6) 1 (record { 0 = 15 }))) Down (units_of 139788288000)
+passes_down : control_arrival worked (dev 5) (lnk 5) (at_reading 136544256000) (Ok (integration_frame worked (dev 6) 1 (record { 0 = 15 }))) ≡ PassesAndWaits
+    (with_clock 32768000 (integration_frame worked (dev 6) 1 (record { 0 = 15 }))) Down (units_of 139788288000)
 passes_down = refl
 
 -- the master hears it where it expects it
-heard_in_time : heard_as (plan_of worked (dev 0)) (window worked) Synchronised (pos 0) (pos 139788288000) 1 (record { 0 = 15 }) ≡ Within
+heard_in_time : heard_as (plan_of worked (dev 0)) (observation_window worked) Synchronised (pos 0) (pos 139788288000) 1 (record { 0 = 15 }) ≡ Within
 heard_in_time = refl
 
 -- a frame with the delay of 3,244,032,000 is the oldest that the compression master takes
-oldest_taken : control_arrival worked (dev 6) (lnk 5) (at_reading 134348800000) (Ok (with_clock 3244032000 (dispatched_frame worked (dev 3) 1))) ≡ Waits (with_clock 3276800000 (dispatched_frame worked (dev 3) 1)) (units_of 134348800000)
+oldest_taken : control_arrival worked (dev 6) (lnk 5) (at_reading 134348800000) (Ok (with_clock 3244032000 (dispatched_frame worked (dev 3) 1))) ≡ Waits
+    (with_clock 3276800000 (dispatched_frame worked (dev 3) 1)) (units_of 134348800000)
 oldest_taken = refl
 
-too_old : control_arrival worked (dev 6) (lnk 5) (at_reading 134348800000) (Ok (with_clock 3244032001 (dispatched_frame worked (dev 3) 1))) ≡ Dropped reasons.Old
+too_old : control_arrival worked (dev 6) (lnk 5) (at_reading 134348800000) (Ok (with_clock 3244032001 (dispatched_frame worked (dev 3) 1))) ≡ Dropped
+    reasons.Old
 too_old = refl
 
 -- of another member, of a cold start, of another domain
 other_member : control_arrival worked (dev 5) (lnk 3) (at_reading 134316032000) (Ok (dispatched_frame worked (dev 0) 1)) ≡ Dropped reasons.Member
 other_member = refl
 
-cold_start : control_arrival worked (dev 5) (lnk 3) (at_reading 134316032000) (Ok (let f : Pcf = dispatched_frame worked (dev 3) 1 in record f { kind = ColdStart })) ≡ Dropped reasons.ColdStart
+cold_start : control_arrival worked (dev 5) (lnk 3) (at_reading 134316032000)
+    (Ok (let f : Pcf = dispatched_frame worked (dev 3) 1 in record f { kind = ColdStart })) ≡ Dropped reasons.ColdStart
 cold_start = refl
 
-other_domain : control_arrival worked (dev 5) (lnk 3) (at_reading 134316032000) (Ok (let f : Pcf = dispatched_frame worked (dev 3) 1 in record f { domain = 1 })) ≡ Dropped reasons.Domain
+other_domain : control_arrival worked (dev 5) (lnk 3) (at_reading 134316032000)
+    (Ok (let f : Pcf = dispatched_frame worked (dev 3) 1 in record f { domain = 1 })) ≡ Dropped reasons.Domain
 other_domain = refl
 
 -- the early frame of a broken master is heard outside, and passes the gate of the compression master
-heard_outside : heard_as (plan_of worked (dev 0)) (window worked) Synchronised (pos 0) (pos 138739711999) 1 (record { 0 = 8 }) ≡ Outside
+heard_outside : heard_as (plan_of worked (dev 0)) (observation_window worked) Synchronised (pos 0) (pos 138739711999) 1 (record { 0 = 8 }) ≡ Outside
 heard_outside = refl
 
 gate_passed : point_fault worked Synchronised (pos 0) (pos 133300223999) 1 ≡ None
 gate_passed = refl
 
 -- who looks for the time takes a frame of enough members
-tells_the_time : heard_as (plan_of worked (dev 3)) (window worked) Integrating (pos 0) (pos 270860288000) 2 (record { 0 = 7 }) ≡ Integrates
+tells_the_time : heard_as (plan_of worked (dev 3)) (observation_window worked) Integrating (pos 0) (pos 270860288000) 2 (record { 0 = 7 }) ≡ Integrates
 unfolding lib.Count.ones
 tells_the_time = refl
 
-too_few : heard_as (plan_of worked (dev 3)) (window worked) Integrating (pos 0) (pos 270860288000) 2 (record { 0 = 9 }) ≡ Ignored
+too_few : heard_as (plan_of worked (dev 3)) (observation_window worked) Integrating (pos 0) (pos 270860288000) 2 (record { 0 = 9 }) ≡ Ignored
 unfolding lib.Count.ones
 too_few = refl
 
@@ -183,7 +191,7 @@ delivered_to_client = refl
 copy_dropped : timed_arrival worked (dev 4) (lnk 10) (at_reading 159725649920) of_v1 (λ vl. Some 1) ≡ Dropped reasons.Repeat
 copy_dropped = refl
 
--- before its window, behind it, by another link, and where the device has no common time
+-- before its observation_window, behind it, by another link, and where the device has no common time
 too_early : timed_arrival worked (dev 5) (lnk 0) (at_reading 157012459515) of_v1 nothing_taken ≡ Dropped reasons.Early
 too_early = refl
 
@@ -199,5 +207,6 @@ too_late = refl
 by_another_link : timed_arrival worked (dev 5) (lnk 1) (at_reading 158087249920) of_v1 nothing_taken ≡ Dropped reasons.Unknown
 by_another_link = refl
 
-unsynchronised : timed_arrival worked (dev 5) (lnk 0) (record { takes_part = true; state = Integrating; reading = 158087249920; adjustment = pos 0 }) of_v1 nothing_taken ≡ Dropped reasons.Unsynchronised
+unsynchronised : timed_arrival worked (dev 5) (lnk 0) (record { takes_part = true; state = Integrating; reading = 158087249920; adjustment = pos 0 }) of_v1
+    nothing_taken ≡ Dropped reasons.Unsynchronised
 unsynchronised = refl

@@ -5,38 +5,41 @@ use Rattle.compression.specs.declared.compressed.Compressed.{Compressed}
 use Rattle.membership.proofs.OneSummary.{one_summary}
 use Rattle.membership.specs.Summary.{Summary}
 use Rattle.net_plan.specs.declared.event.Event.{Event}
-use Rattle.net_plan.specs.declared.event.What.{What}
 use Rattle.net_plan.specs.declared.event.What.TheVariants.{On}
+use Rattle.net_plan.specs.declared.event.What.{What}
 use Rattle.net_plan.specs.declared.ids.DeviceId.{DeviceId}
 use Rattle.net_plan.specs.declared.ids.LinkId.{LinkId}
 use Rattle.net_plan.specs.declared.ids.VlId.{VlId}
 use Rattle.pcf_values.specs.declared.members.Members.{Members}
+use Rattle.run_law.proofs.runs.SameSteps.{same_some, same_arrival, same_point, same_ripening, same_judgement, same_departure, arrives_or_departs, arrives_or_ripens, dropped_or_departs}
 use Rattle.run_law.specs.control.Corrections.{ComesToCorrection, standing_before}
 use Rattle.run_law.specs.control.Emissions.{Emits}
-use Rattle.run_law.specs.records.Happenings.{Happening, happening, numbered}
 use Rattle.run_law.specs.control.Leaving.{Departs, leaves, too_old}
-use Rattle.run_law.specs.control.Permanence.{Ripens, ripe_as}
-use Rattle.run_law.specs.records.Ranks.{rank, key, members_in, place_of, sign}
-use Rattle.run_law.specs.timed.Receptions.{ArrivesAs}
-use Rattle.run_law.specs.runs.DueRecords.{ChangesState, IsArrivedRecord, IsCaused, IsClockRecord, IsCorrectedRecord, IsDropped, IsDue, IsEventRecord, IsOfThisTime}
-use Rattle.run_law.specs.runs.Runs.{IsDetermined}
-use Rattle.run_law.specs.scenario.Scenarios.{Scenario}
-use Rattle.run_law.specs.device.States.{adjustment_before, is_joined_by}
+use Rattle.run_law.specs.control.Losses.{IsDropped}
+use Rattle.run_law.specs.control.Permanence.{BecomesPermanent, ripe_as}
 use Rattle.run_law.specs.declared.judgement.Judgement.{Judgement}
 use Rattle.run_law.specs.declared.judgement.Reason.{Reason}
-use Rattle.run_law.specs.declared.judgement.Why.{Why}
 use Rattle.run_law.specs.declared.judgement.Why.TheVariants as whys
+use Rattle.run_law.specs.declared.judgement.Why.{Why}
 use Rattle.run_law.specs.declared.note.Note.{Note}
-use Rattle.run_law.specs.declared.note.NoteBody.{NoteBody}
 use Rattle.run_law.specs.declared.note.NoteBody.TheVariants as notes
-use Rattle.run_law.specs.declared.steps.Arrival.{Arrival}
+use Rattle.run_law.specs.declared.note.NoteBody.{NoteBody}
 use Rattle.run_law.specs.declared.steps.Arrival.TheVariants as arrivals
+use Rattle.run_law.specs.declared.steps.Arrival.{Arrival}
 use Rattle.run_law.specs.declared.steps.Ripe.TheVariants as ripe
-use Rattle.run_law.proofs.runs.SameSteps.{same_some, same_arrival, same_point, same_ripening, same_judgement, same_departure, arrives_or_departs, arrives_or_ripens, dropped_or_departs}
+use Rattle.run_law.specs.device.StateChanges.{ChangesState}
+use Rattle.run_law.specs.device.States.{adjustment_before, is_joined_by}
+use Rattle.run_law.specs.records.Causes.{IsOfThisTime}
+use Rattle.run_law.specs.records.Happenings.{Happening, happening, numbered}
+use Rattle.run_law.specs.records.Ranks.{rank, key, members_in, place_of, sign}
+use Rattle.run_law.specs.runs.DueRecords.{IsArrivedRecord, IsCaused, IsClockRecord, IsCorrectedRecord, IsDue, IsEventRecord}
+use Rattle.run_law.specs.runs.Runs.{IsDetermined}
+use Rattle.run_law.specs.scenario.Scenarios.{Scenario}
+use Rattle.run_law.specs.timed.Receptions.{ArrivesAs}
 use Rattle.sync_state.proofs.LawLemmas.{one_verdict}
 use Rattle.sync_state.specs.Verdicts.{HasVerdict}
-use Rattle.sync_state.specs.declared.answers.Verdict.{Verdict}
 use Rattle.sync_state.specs.declared.answers.Verdict.TheVariants.{Corrected, SyncClique, AsyncClique}
+use Rattle.sync_state.specs.declared.answers.Verdict.{Verdict}
 use Rattle.sync_state.specs.declared.state.State.{State}
 use Rattle.tte_units.specs.Amount.{amount}
 use Rattle.tte_units.specs.declared.units.Units.{Units}
@@ -78,7 +81,8 @@ same_three a b c x y z us vs e = (cc, cc, cc, cc)
 -- ---- the parts of a record
 
 -- two records of one line are of one event
-same_what : (events : List Event) (time : Units) (line : ℕ) (what other : What) → IsEventRecord events time line what → IsEventRecord events time line other → what ≡ other
+same_what : (events : List Event) (time : Units) (line : ℕ) (what other : What) → IsEventRecord events time line what → IsEventRecord events time line other
+    → what ≡ other
 same_what events time line what other a b =
     let places : b.before ≡ a.before = omega (arith, a.line_is, b.line_is) in
     let there = subst (λ (i : ℕ). slice_get events i ≡ Some b.event) places b.is in
@@ -93,10 +97,11 @@ clock_in other = 0
 
 record IsShown (s : Scenario) (hs : List Happening) (t : ℕ) (device : DeviceId) (link : LinkId) (cause clock : ℕ) : Type 0 where
   pub arrival : Arrival
-  pub comes : ArrivesAs s hs t device link cause arrival
+  pub comes : ArrivesAs s hs device t link cause arrival
   pub shows : clock ≡ clock_in arrival
 
-shown : (s : Scenario) (hs : List Happening) (t : ℕ) (device : DeviceId) (link : LinkId) (cause clock : ℕ) → IsArrivedRecord s hs t device link cause clock → IsShown s hs t device link cause clock
+shown : (s : Scenario) (hs : List Happening) (t : ℕ) (device : DeviceId) (link : LinkId) (cause clock : ℕ) → IsArrivedRecord s hs device t link cause clock
+    → IsShown s hs t device link cause clock
 shown s hs t device link cause clock a =
     elim a.taken [
       | inl waits ↦ record { arrival = arrivals.Waits a.frame a.point; comes = waits; shows = a.shows }
@@ -104,22 +109,28 @@ shown s hs t device link cause clock a =
       | inr (inr both) ↦ record { arrival = arrivals.PassesAndWaits a.frame a.way a.point; comes = both; shows = a.shows }
     ]
 
-same_clock_on_arrival : (s : Scenario) (hs : List Happening) (t : ℕ) (device : DeviceId) (link : LinkId) (cause clock other : ℕ) → IsArrivedRecord s hs t device link cause clock → IsArrivedRecord s hs t device link cause other → clock ≡ other
+same_clock_on_arrival : (s : Scenario) (hs : List Happening) (t : ℕ) (device : DeviceId) (link : LinkId) (cause clock other : ℕ)
+    → IsArrivedRecord s hs device t link cause clock → IsArrivedRecord s hs device t link cause other → clock ≡ other
 same_clock_on_arrival s hs t device link cause clock other a b =
     let x = shown s hs t device link cause clock a in
     let y = shown s hs t device link cause other b in
     x.shows ∙ ap clock_in (same_arrival s hs t device link cause x.arrival y.arrival x.comes y.comes) ∙ sym y.shows
 
 -- a correction point is of one cycle, and comes to one thing
-same_cycle : (s : Scenario) (hs : List Happening) (t : ℕ) (device : DeviceId) (cycle other : ℕ) (v w : Verdict) → ComesToCorrection s hs t device cycle v → ComesToCorrection s hs t device other w → cycle ≡ other
+same_cycle : (s : Scenario) (hs : List Happening) (t : ℕ) (device : DeviceId) (cycle other : ℕ) (v w : Verdict) → ComesToCorrection s hs device t cycle v
+    → ComesToCorrection s hs device t other w → cycle ≡ other
 same_cycle s hs t device cycle other v w a b = same_some _ cycle other a.next b.next
 
-same_verdict : (s : Scenario) (hs : List Happening) (t : ℕ) (device : DeviceId) (cycle other : ℕ) (v w : Verdict) → ComesToCorrection s hs t device cycle v → ComesToCorrection s hs t device other w → v ≡ w
+same_verdict : (s : Scenario) (hs : List Happening) (t : ℕ) (device : DeviceId) (cycle other : ℕ) (v w : Verdict) → ComesToCorrection s hs device t cycle v
+    → ComesToCorrection s hs device t other w → v ≡ w
 same_verdict s hs t device cycle other v w a b =
     let heard = one_summary _ a.summary b.summary a.heard b.heard in
-    one_verdict (standing_before s hs device t) a.summary v w a.comes (subst (λ (u : Summary). HasVerdict (standing_before s hs device t) u w) (sym heard) b.comes)
+    one_verdict (standing_before s hs device t) a.summary v w a.comes (subst (λ (u : Summary). HasVerdict (standing_before s hs device t) u w) (sym heard)
+        b.comes)
 
-same_corrected : (s : Scenario) (hs : List Happening) (t : ℕ) (device : DeviceId) (cycle other : ℕ) (by gain adjustment later : Units) → IsCorrectedRecord s hs t device cycle by adjustment → IsCorrectedRecord s hs t device other gain later → notes.Corrected device cycle by adjustment ≡ notes.Corrected device other gain later
+same_corrected : (s : Scenario) (hs : List Happening) (t : ℕ) (device : DeviceId) (cycle other : ℕ) (by gain adjustment later : Units)
+    → IsCorrectedRecord s hs device t cycle by adjustment → IsCorrectedRecord s hs device t other gain later
+    → notes.Corrected device cycle by adjustment ≡ notes.Corrected device other gain later
 same_corrected s hs t device cycle other by gain adjustment later a b =
     let cycles = same_cycle s hs t device cycle other (Corrected by) (Corrected gain) a.corrected b.corrected in
     let verdicts = same_verdict s hs t device cycle other (Corrected by) (Corrected gain) a.corrected b.corrected in
@@ -153,7 +164,8 @@ correction_tells device other cycle by adjustment e = cc
 abbrev IsSameChange : State → Why → State → Why → Type 0
 IsSameChange state why other for = (state ≡ other) × (why ≡ for)
 
-same_change : (s : Scenario) (hs : List Happening) (t : ℕ) (device : DeviceId) (cause : ℕ) (state other : State) (why for : Why) → ChangesState s hs t device state cause why → ChangesState s hs t device other cause for → IsSameChange state why other for
+same_change : (s : Scenario) (hs : List Happening) (t : ℕ) (device : DeviceId) (cause : ℕ) (state other : State) (why for : Why)
+    → ChangesState s hs device t state cause why → ChangesState s hs device t other cause for → IsSameChange state why other for
 same_change s hs t device cause state other whys.On whys.On a b = (a.0 ∙ sym b.0, refl)
 same_change s hs t device cause state other whys.On whys.Frame a b =
     absurd (event_tells device a.2.0 (On device) (tells_as device _ _ (same_cause hs t cause _ _ b.1.1 a.2.2 ∙ a.2.3) b.1.2))
@@ -196,44 +208,60 @@ pub record IsSameRoute (device other : DeviceId) (link by : LinkId) (cause from 
   pub links : link ≡ by
   pub causes : cause ≡ from
 
-same_route : (device other : DeviceId) (link by : LinkId) (cause from : ℕ) (us vs : List ℕ) → device.0 ∷ link.0 ∷ cause ∷ us ≡ other.0 ∷ by.0 ∷ from ∷ vs → IsSameRoute device other link by cause from
+same_route : (device other : DeviceId) (link by : LinkId) (cause from : ℕ) (us vs : List ℕ) → device.0 ∷ link.0 ∷ cause ∷ us ≡ other.0 ∷ by.0 ∷ from ∷ vs
+    → IsSameRoute device other link by cause from
 same_route device other link by cause from us vs e =
     let three = same_three device.0 link.0 cause other.0 by.0 from us vs e in
     record { devices = same_device device other three.0; links = same_link link by three.1; causes = three.2 }
 
 -- what holds of one route holds of the same route
-moved : (P : DeviceId → LinkId → ℕ → Type 0) (device other : DeviceId) (link by : LinkId) (cause from : ℕ) → IsSameRoute device other link by cause from → P other by from → P device link cause
+moved : (P : DeviceId → LinkId → ℕ → Type 0) (device other : DeviceId) (link by : LinkId) (cause from : ℕ) → IsSameRoute device other link by cause from
+    → P other by from → P device link cause
 moved P device other link by cause from same there =
-    subst (λ (d : DeviceId). P d link cause) (sym same.devices) (subst (λ (l : LinkId). P other l cause) (sym same.links) (subst (λ (c : ℕ). P other by c) (sym same.causes) there))
+    subst (λ (d : DeviceId). P d link cause) (sym same.devices)
+        (subst (λ (l : LinkId). P other l cause) (sym same.links) (subst (λ (c : ℕ). P other by c) (sym same.causes) there))
 
 -- and makes one body of it
-remade : (made : DeviceId → LinkId → ℕ → NoteBody) (device other : DeviceId) (link by : LinkId) (cause from : ℕ) → IsSameRoute device other link by cause from → made device link cause ≡ made other by from
+remade : (made : DeviceId → LinkId → ℕ → NoteBody) (device other : DeviceId) (link by : LinkId) (cause from : ℕ) → IsSameRoute device other link by cause from
+    → made device link cause ≡ made other by from
 remade made device other link by cause from same =
     ap (λ (d : DeviceId). made d link cause) same.devices ∙ ap (λ (l : LinkId). made other l cause) same.links ∙ ap (λ (c : ℕ). made other by c) same.causes
 
-same_reason : (s : Scenario) (hs : List Happening) (t : ℕ) (device : DeviceId) (link : LinkId) (cause : ℕ) (reason other : Reason) → IsDropped s hs t device link cause reason → IsDropped s hs t device link cause other → reason ≡ other
+same_reason : (s : Scenario) (hs : List Happening) (t : ℕ) (device : DeviceId) (link : LinkId) (cause : ℕ) (reason other : Reason)
+    → IsDropped s hs device t link cause reason → IsDropped s hs device t link cause other → reason ≡ other
 same_reason s hs t device link cause reason other (inl a) (inl b) =
     let one = same_arrival s hs t device link cause (arrivals.Dropped reason) (arrivals.Dropped other) a b in cc
-same_reason s hs t device link cause reason other (inl a) (inr (inl b)) = absurd (arrives_or_ripens s hs t device link cause (arrivals.Dropped reason) b.0 (ripe.Dropped other) a b.1)
-same_reason s hs t device link cause reason other (inl a) (inr (inr b)) = absurd (arrives_or_departs s hs t device link cause (arrivals.Dropped reason) too_old a b.0)
-same_reason s hs t device link cause reason other (inr (inl a)) (inl b) = absurd (arrives_or_ripens s hs t device link cause (arrivals.Dropped other) a.0 (ripe.Dropped reason) b a.1)
+same_reason s hs t device link cause reason other (inl a) (inr (inl b)) =
+    absurd (arrives_or_ripens s hs t device link cause (arrivals.Dropped reason) b.0 (ripe.Dropped other) a b.1)
+same_reason s hs t device link cause reason other (inl a) (inr (inr b)) =
+    absurd (arrives_or_departs s hs t device link cause (arrivals.Dropped reason) too_old a b.0)
+same_reason s hs t device link cause reason other (inr (inl a)) (inl b) =
+    absurd (arrives_or_ripens s hs t device link cause (arrivals.Dropped other) a.0 (ripe.Dropped reason) b a.1)
 same_reason s hs t device link cause reason other (inr (inl a)) (inr (inl b)) =
     let one = same_ripening s hs t device link cause a.0 b.0 (ripe.Dropped reason) (ripe.Dropped other) a.1 b.1 in cc
 same_reason s hs t device link cause reason other (inr (inl a)) (inr (inr b)) = absurd (dropped_or_departs s hs t device link cause a.0 reason too_old a.1 b.0)
-same_reason s hs t device link cause reason other (inr (inr a)) (inl b) = absurd (arrives_or_departs s hs t device link cause (arrivals.Dropped other) too_old b a.0)
+same_reason s hs t device link cause reason other (inr (inr a)) (inl b) =
+    absurd (arrives_or_departs s hs t device link cause (arrivals.Dropped other) too_old b a.0)
 same_reason s hs t device link cause reason other (inr (inr a)) (inr (inl b)) = absurd (dropped_or_departs s hs t device link cause b.0 other too_old b.1 a.0)
 same_reason s hs t device link cause reason other (inr (inr a)) (inr (inr b)) = a.1 ∙ sym b.1
 
-same_permanent : (s : Scenario) (hs : List Happening) (t : ℕ) (device : DeviceId) (link : LinkId) (cause : ℕ) (p q : Units) (v w : Judgement) → Ripens s hs t device link cause p (ripe_as v) → Ripens s hs t device link cause q (ripe_as w) → notes.Permanent device link cause p v ≡ notes.Permanent device link cause q w
+same_permanent : (s : Scenario) (hs : List Happening) (t : ℕ) (device : DeviceId) (link : LinkId) (cause : ℕ) (p q : Units) (v w : Judgement)
+    → BecomesPermanent s hs device t link cause p (ripe_as v) → BecomesPermanent s hs device t link cause q (ripe_as w)
+    → notes.Permanent device link cause p v ≡ notes.Permanent device link cause q w
 same_permanent s hs t device link cause p q v w a b =
     ap (λ (u : Units). notes.Permanent device link cause u v) (same_point s hs t device link cause a.frame b.frame p q a.permanent b.permanent)
-    ∙ ap (λ (j : Judgement). notes.Permanent device link cause q j) (same_judgement v w (same_ripening s hs t device link cause p q (ripe_as v) (ripe_as w) a b))
+    ∙ ap (λ (j : Judgement). notes.Permanent device link cause q j)
+        (same_judgement v w (same_ripening s hs t device link cause p q (ripe_as v) (ripe_as w) a b))
 
 -- what a compression master sends is heard in one way
-same_heard : (s : Scenario) (hs : List Happening) (t : ℕ) (device : DeviceId) (sent : Compressed) (v w : Judgement) → Emits s hs t device sent v → Emits s hs t device sent w → v ≡ w
+same_heard : (s : Scenario) (hs : List Happening) (t : ℕ) (device : DeviceId) (sent : Compressed) (v w : Judgement) → Emits s hs device t sent v
+    → Emits s hs device t sent w → v ≡ w
 same_heard s hs t device sent v w a b = a.heard ∙ sym b.heard
 
-same_clock : (s : Scenario) (hs : List Happening) (time : Units) (device : DeviceId) (shown adjustment : Units) (state : State) (other_shown other_adjustment : Units) (other_state : State) → IsClockRecord s hs time device shown adjustment state → IsClockRecord s hs time device other_shown other_adjustment other_state → notes.Clock device shown adjustment state ≡ notes.Clock device other_shown other_adjustment other_state
+same_clock : (s : Scenario) (hs : List Happening) (time : Units) (device : DeviceId) (shown adjustment : Units) (state : State)
+    (other_shown other_adjustment : Units) (other_state : State) → IsClockRecord s hs device time shown adjustment state
+    → IsClockRecord s hs device time other_shown other_adjustment other_state → notes.Clock device shown adjustment state ≡ notes.Clock device other_shown
+    other_adjustment other_state
 same_clock s hs time device shown adjustment state other_shown other_adjustment other_state a b =
     ap (λ (r : Units). notes.Clock device r adjustment state) (a.reads ∙ sym b.reads)
     ∙ ap (λ (d : Units). notes.Clock device other_shown d state) (a.adjusted ∙ sym b.adjusted)
@@ -243,42 +271,48 @@ same_members : (a b : Members) → a.0 ≡ b.0 → a ≡ b
 same_members a b same = ap (λ (n : ℕ). let m : Members = record { 0 = n } in m) same
 
 -- the key of a permanence
-same_ripe_route : (device other : DeviceId) (point second : Units) (m n : ℕ) (link by : LinkId) (cause from : ℕ) → device.0 ∷ amount point ∷ m ∷ link.0 ∷ cause ∷ [] ≡ other.0 ∷ amount second ∷ n ∷ by.0 ∷ from ∷ [] → IsSameRoute device other link by cause from
+same_ripe_route : (device other : DeviceId) (point second : Units) (m n : ℕ) (link by : LinkId) (cause from : ℕ) → device.0 ∷ amount point ∷ m ∷ link.0 ∷ cause
+    ∷ [] ≡ other.0 ∷ amount second ∷ n ∷ by.0 ∷ from ∷ [] → IsSameRoute device other link by cause from
 same_ripe_route device other point second m n link by cause from e =
     let ids : device.0 ≡ other.0 = cc in
     let links : link.0 ≡ by.0 = cc in
     record { devices = same_device device other ids; links = same_link link by links; causes = cc }
 
-same_compressed : (s : Scenario) (hs : List Happening) (t : ℕ) (device other : DeviceId) (opened begun at emitted : Units) (cycle number : ℕ) (members masters : Members) (verdict judged : Judgement) → device ≡ other → opened ≡ begun → at ≡ emitted → cycle ≡ number → members ≡ masters
-    → Emits s hs t device (record { opened = opened; at = at; cycle = cycle; members = members }) verdict
-    → Emits s hs t other (record { opened = begun; at = emitted; cycle = number; members = masters }) judged
+same_compressed : (s : Scenario) (hs : List Happening) (t : ℕ) (device other : DeviceId) (opened begun at emitted : Units) (cycle number : ℕ)
+    (members masters : Members) (verdict judged : Judgement) → device ≡ other → opened ≡ begun → at ≡ emitted → cycle ≡ number → members ≡ masters
+    → Emits s hs device t (record { opened = opened; at = at; cycle = cycle; members = members }) verdict
+    → Emits s hs other t (record { opened = begun; at = emitted; cycle = number; members = masters }) judged
     → notes.Compressed device opened at cycle members verdict ≡ notes.Compressed other begun emitted number masters judged
 same_compressed s hs t device other opened begun at emitted cycle number members masters verdict judged devices opens ats cycles sets a b =
-    let sents : (let c : Compressed = record { opened = opened; at = at; cycle = cycle; members = members } in c) ≡ record { opened = begun; at = emitted; cycle = number; members = masters } =
+    let sents : (let c : Compressed = record { opened = opened; at = at; cycle = cycle; members = members } in c) ≡ record { opened = begun; at = emitted;
+            cycle = number; members = masters } =
     ap (λ (u : Units). let c : Compressed = record { opened = u; at = at; cycle = cycle; members = members } in c) opens
     ∙ ap (λ (u : Units). let c : Compressed = record { opened = begun; at = u; cycle = cycle; members = members } in c) ats
     ∙ ap (λ (k : ℕ). let c : Compressed = record { opened = begun; at = emitted; cycle = k; members = members } in c) cycles
     ∙ ap (λ (ms : Members). let c : Compressed = record { opened = begun; at = emitted; cycle = number; members = ms } in c) sets in
-    let there = subst (λ (d : DeviceId). Emits s hs t d (let c : Compressed = record { opened = begun; at = emitted; cycle = number; members = masters } in c) judged) (sym devices) b in
-    let here = subst (λ (c : Compressed). Emits s hs t device c judged) (sym sents) there in
-    ap (λ (j : Judgement). notes.Compressed device opened at cycle members j) (same_heard s hs t device (let c : Compressed = record { opened = opened; at = at; cycle = cycle; members = members } in c) verdict judged a here)
+    let there = subst (λ (d : DeviceId). Emits s hs d t (let c : Compressed = record { opened = begun; at = emitted; cycle = number; members = masters } in c)
+            judged) (sym devices) b in
+    let here = subst (λ (c : Compressed). Emits s hs device t c judged) (sym sents) there in
+    ap (λ (j : Judgement). notes.Compressed device opened at cycle members j)
+        (same_heard s hs t device (let c : Compressed = record { opened = opened; at = at; cycle = cycle; members = members } in c) verdict judged a here)
     ∙ ap (λ (c : Compressed). notes.Compressed device c.opened c.at c.cycle c.members judged) sents
     ∙ ap (λ (d : DeviceId). notes.Compressed d begun emitted number masters judged) devices
 
 -- two bodies with a cause at one time, of one kind and key, are one
-same_body : (s : Scenario) (hs : List Happening) (time : Units) (m n : ℕ) (a b : NoteBody) → IsCaused s hs time a → IsCaused s hs time b → rank a ≡ rank b → key m a ≡ key n b → a ≡ b
+same_body : (s : Scenario) (hs : List Happening) (time : Units) (m n : ℕ) (a b : NoteBody) → IsCaused s hs time a → IsCaused s hs time b → rank a ≡ rank b
+    → key m a ≡ key n b → a ≡ b
 same_body s hs time m n (notes.Event line what) (notes.Event other_line other_what) a b kinds keys =
     let lines : line ≡ other_line = cc in
     let there = subst (λ (l : ℕ). IsEventRecord s.events time l other_what) (sym lines) b in
     ap (λ (w : What). notes.Event line w) (same_what s.events time line what other_what a there) ∙ ap (λ (l : ℕ). notes.Event l other_what) lines
 same_body s hs time m n (notes.Arrived device link cause clock) (notes.Arrived other by from later) a b kinds keys =
     let same = same_route device other link by cause from [] [] keys in
-    let there = moved (λ d l c. IsArrivedRecord s hs (amount time) d l c later) device other link by cause from same b in
+    let there = moved (λ d l c. IsArrivedRecord s hs d (amount time) l c later) device other link by cause from same b in
     ap (λ (k : ℕ). notes.Arrived device link cause k) (same_clock_on_arrival s hs (amount time) device link cause clock later a there)
     ∙ remade (λ d l c. notes.Arrived d l c later) device other link by cause from same
 same_body s hs time m n (notes.Permanent device link cause point verdict) (notes.Permanent other by from second judged) a b kinds keys =
     let same = same_ripe_route device other point second m n link by cause from keys in
-    let there = moved (λ d l c. Ripens s hs (amount time) d l c second (ripe_as judged)) device other link by cause from same b in
+    let there = moved (λ d l c. BecomesPermanent s hs d (amount time) l c second (ripe_as judged)) device other link by cause from same b in
     same_permanent s hs (amount time) device link cause point second verdict judged a there
     ∙ remade (λ d l c. notes.Permanent d l c second judged) device other link by cause from same
 same_body s hs time m n (notes.Compressed device opened at cycle members verdict) (notes.Compressed other begun emitted number masters judged) a b kinds keys =
@@ -289,7 +323,9 @@ same_body s hs time m n (notes.Compressed device opened at cycle members verdict
     let at_signs : sign at.0 ≡ sign emitted.0 = cc in
     let cycles : cycle ≡ number = cc in
     let sets : members.0 ≡ masters.0 = cc in
-    same_compressed s hs (amount time) device other opened begun at emitted cycle number members masters verdict judged (same_device device other ids) (same_units opened begun (same_signed opened.0 begun.0 opens open_signs)) (same_units at emitted (same_signed at.0 emitted.0 ats at_signs)) cycles (same_members members masters sets) a b
+    same_compressed s hs (amount time) device other opened begun at emitted cycle number members masters verdict judged (same_device device other ids)
+        (same_units opened begun (same_signed opened.0 begun.0 opens open_signs)) (same_units at emitted (same_signed at.0 emitted.0 ats at_signs)) cycles
+        (same_members members masters sets) a b
 same_body s hs time m n (notes.Sent device cycle) (notes.Sent other number) a b kinds keys =
     let ids : device.0 ≡ other.0 = cc in
     let devices : device ≡ other = same_device device other ids in
@@ -298,14 +334,15 @@ same_body s hs time m n (notes.Sent device cycle) (notes.Sent other number) a b 
 same_body s hs time m n (notes.Corrected device cycle by adjustment) (notes.Corrected other number gain later) a b kinds keys =
     let ids : device.0 ≡ other.0 = cc in
     let devices : device ≡ other = same_device device other ids in
-    let there = subst (λ (d : DeviceId). IsCorrectedRecord s hs (amount time) d number gain later) (sym devices) b in
+    let there = subst (λ (d : DeviceId). IsCorrectedRecord s hs d (amount time) number gain later) (sym devices) b in
     same_corrected s hs (amount time) device cycle number by gain adjustment later a there
     ∙ ap (λ (d : DeviceId). notes.Corrected d number gain later) devices
 same_body s hs time m n (notes.State device state cause why) (notes.State other later from for) a b kinds keys =
     let ids : device.0 ≡ other.0 = cc in
     let devices : device ≡ other = same_device device other ids in
     let causes : cause ≡ from = cc in
-    let there = subst (λ (d : DeviceId). ChangesState s hs (amount time) d later cause for) (sym devices) (subst (λ (c : ℕ). ChangesState s hs (amount time) other later c for) (sym causes) b) in
+    let there = subst (λ (d : DeviceId). ChangesState s hs d (amount time) later cause for) (sym devices)
+            (subst (λ (c : ℕ). ChangesState s hs other (amount time) later c for) (sym causes) b) in
     let one = same_change s hs (amount time) device cause state later why for a there in
     ap (λ (u : State). notes.State device u cause why) one.0
     ∙ ap (λ (w : Why). notes.State device later cause w) one.1
@@ -313,7 +350,7 @@ same_body s hs time m n (notes.State device state cause why) (notes.State other 
     ∙ ap (λ (c : ℕ). notes.State other later c for) causes
 same_body s hs time m n (notes.Left device link cause clock) (notes.Left other by from later) a b kinds keys =
     let same = same_route device other link by cause from [] [] keys in
-    let there = moved (λ d l c. Departs s hs (amount time) d l c (leaves later)) device other link by cause from same b in
+    let there = moved (λ d l c. Departs s hs d (amount time) l c (leaves later)) device other link by cause from same b in
     let one = same_departure s hs (amount time) device link cause (leaves clock) (leaves later) a there in
     let clocks : clock ≡ later = cc in
     ap (λ (k : ℕ). notes.Left device link cause k) clocks ∙ remade (λ d l c. notes.Left d l c later) device other link by cause from same
@@ -329,7 +366,7 @@ same_body s hs time m n (notes.TtSent device link cause vl cycle) (notes.TtSent 
     ∙ remade (λ d l c. notes.TtSent d l c second number) device other link by cause from same
 same_body s hs time m n (notes.Accepted device link cause vl cycle) (notes.Accepted other by from second number) a b kinds keys =
     let same = same_route device other link by cause from [] [] keys in
-    let there = moved (λ d l c. ArrivesAs s hs (amount time) d l c (arrivals.Accepted second number)) device other link by cause from same b in
+    let there = moved (λ d l c. ArrivesAs s hs d (amount time) l c (arrivals.Accepted second number)) device other link by cause from same b in
     let one = same_arrival s hs (amount time) device link cause (arrivals.Accepted vl cycle) (arrivals.Accepted second number) a there in
     let vls : vl ≡ second = cc in
     let cycles : cycle ≡ number = cc in
@@ -338,7 +375,7 @@ same_body s hs time m n (notes.Accepted device link cause vl cycle) (notes.Accep
     ∙ remade (λ d l c. notes.Accepted d l c second number) device other link by cause from same
 same_body s hs time m n (notes.Delivered device link cause vl cycle) (notes.Delivered other by from second number) a b kinds keys =
     let same = same_route device other link by cause from [] [] keys in
-    let there = moved (λ d l c. ArrivesAs s hs (amount time) d l c (arrivals.Delivered second number)) device other link by cause from same b in
+    let there = moved (λ d l c. ArrivesAs s hs d (amount time) l c (arrivals.Delivered second number)) device other link by cause from same b in
     let one = same_arrival s hs (amount time) device link cause (arrivals.Delivered vl cycle) (arrivals.Delivered second number) a there in
     let vls : vl ≡ second = cc in
     let cycles : cycle ≡ number = cc in
@@ -347,13 +384,13 @@ same_body s hs time m n (notes.Delivered device link cause vl cycle) (notes.Deli
     ∙ remade (λ d l c. notes.Delivered d l c second number) device other link by cause from same
 same_body s hs time m n (notes.Dropped device link cause reason) (notes.Dropped other by from second) a b kinds keys =
     let same = same_route device other link by cause from [] [] keys in
-    let there = moved (λ d l c. IsDropped s hs (amount time) d l c second) device other link by cause from same b in
+    let there = moved (λ d l c. IsDropped s hs d (amount time) l c second) device other link by cause from same b in
     ap (λ (r : Reason). notes.Dropped device link cause r) (same_reason s hs (amount time) device link cause reason second a there)
     ∙ remade (λ d l c. notes.Dropped d l c second) device other link by cause from same
 same_body s hs time m n (notes.Clock device seen adjustment state) (notes.Clock other other_seen other_adjustment other_state) a b kinds keys =
     let ids : device.0 ≡ other.0 = cc in
     let devices : device ≡ other = same_device device other ids in
-    let there = subst (λ (d : DeviceId). IsClockRecord s hs time d other_seen other_adjustment other_state) (sym devices) b in
+    let there = subst (λ (d : DeviceId). IsClockRecord s hs d time other_seen other_adjustment other_state) (sym devices) b in
     same_clock s hs time device seen adjustment state other_seen other_adjustment other_state a there
     ∙ ap (λ (d : DeviceId). notes.Clock d other_seen other_adjustment other_state) devices
 same_body s hs time m n (notes.Event line what) other a b kinds keys = absurd (omega (arith, kinds))

@@ -1,9 +1,9 @@
 -- How a run begins, goes up to a later mark, and goes on by its next record.
 use Rattle.std.proofs.Common.{◌≡◌, ◌⊎◌, ℕ, List, [], ◌∷◌, ◌++◌, inl, inr, refl, sym, ap, subst, ◌∙◌}
 use Rattle.std.proofs.lemmas.List.{append-nil}
+use Rattle.run_law.proofs.runs.Places.{never_self, chain, either_way, behind, before_behind, nothing_between, in_left, in_right, in_parts}
 use Rattle.run_law.specs.records.Order.{IsBefore, IsIn, AllBefore, NoneBefore}
 use Rattle.run_law.specs.runs.Runs.{IsFounded, IsRun, NothingDueUpTo}
-use Rattle.run_law.proofs.runs.Places.{never_self, chain, either_way, behind, before_behind, nothing_between, in_left, in_right, in_parts}
 
 -- ---- a run begins
 
@@ -16,7 +16,8 @@ no_front [] qs e = refl
 no_front (p ∷ ps) qs e = absurd cc
 
 -- no record is the run up to a mark before which none is due
-pub empty_run : {N : Type 0} (place : N → List ℕ) (IsDue : List N → N → Type 0) (mark : List ℕ) → ((y : N) → IsDue [] y → IsBefore (place y) mark → ⊥) → IsRun place IsDue mark []
+pub empty_run : {N : Type 0} (place : N → List ℕ) (IsDue : List N → N → Type 0) (mark : List ℕ) → ((y : N) → IsDue [] y → IsBefore (place y) mark → ⊥)
+    → IsRun place IsDue mark []
 empty_run {N} place IsDue mark none = record {
   founded = λ ps qs x e. absurd (no_part ps qs x e);
   full = λ ps qs y e before rest due here. absurd (none y (subst (λ (t : List N). IsDue t y) (no_front ps qs e) due) here);
@@ -26,7 +27,9 @@ empty_run {N} place IsDue mark none = record {
 -- ---- a run under other causes, and up to another mark
 
 -- a run is one under other causes that are the same up to its mark
-pub run_of_same : {N : Type 0} (place : N → List ℕ) (IsDue IsCaused : List N → N → Type 0) (mark : List ℕ) (ns : List N) → ((ps : List N) (y : N) → IsDue ps y → IsCaused ps y) → ((ps qs : List N) (y : N) → ns ≡ ps ++ qs → IsCaused ps y → IsBefore (place y) mark → IsDue ps y) → IsRun place IsDue mark ns → IsRun place IsCaused mark ns
+pub run_of_same : {N : Type 0} (place : N → List ℕ) (IsDue IsCaused : List N → N → Type 0) (mark : List ℕ) (ns : List N)
+    → ((ps : List N) (y : N) → IsDue ps y → IsCaused ps y) → ((ps qs : List N) (y : N) → ns ≡ ps ++ qs → IsCaused ps y → IsBefore (place y) mark → IsDue ps y)
+    → IsRun place IsDue mark ns → IsRun place IsCaused mark ns
 run_of_same place IsDue IsCaused mark ns more less run = record {
   founded = λ ps qs x e. let due = run.founded ps qs x e in (due.0, more ps x due.1);
   full = λ ps qs y e before rest due here. run.full ps qs y e before rest (less ps qs y e due here) here;
@@ -34,7 +37,8 @@ run_of_same place IsDue IsCaused mark ns more less run = record {
 }
 
 -- a run up to a mark is that up to another one, where its records are before this and no others are due
-pub move_mark : {N : Type 0} (place : N → List ℕ) (IsDue : List N → N → Type 0) (mark later : List ℕ) (ns : List N) → IsRun place IsDue mark ns → AllBefore place ns later → NothingDueUpTo place IsDue mark ns later → IsRun place IsDue later ns
+pub move_mark : {N : Type 0} (place : N → List ℕ) (IsDue : List N → N → Type 0) (mark later : List ℕ) (ns : List N) → IsRun place IsDue mark ns
+    → AllBefore place ns later → NothingDueUpTo place IsDue mark ns later → IsRun place IsDue later ns
 move_mark place IsDue mark later ns run within nothing = record {
   founded = run.founded;
   full = λ ps qs y e before rest due here. run.full ps qs y e before rest due (nothing.gap ps qs y e before rest due here);
@@ -65,7 +69,8 @@ in_two (n ∷ ns) (p ∷ ps) qs x e =
 no_cons : {N : Type 0} (y : N) (qs : List N) → y ∷ qs ≡ [] → ⊥
 no_cons y qs e = cc
 
-founded_by : {N : Type 0} (place : N → List ℕ) (IsDue : List N → N → Type 0) (ns : List N) (x : N) → IsFounded place IsDue ns → AllBefore place ns (place x) → IsDue ns x → (ps qs : List N) (y : N) (others : List N) → y ∷ qs ≡ others ++ x ∷ [] → ns ≡ ps ++ others → AllBefore place ps (place y) × IsDue ps y
+founded_by : {N : Type 0} (place : N → List ℕ) (IsDue : List N → N → Type 0) (ns : List N) (x : N) → IsFounded place IsDue ns → AllBefore place ns (place x)
+    → IsDue ns x → (ps qs : List N) (y : N) (others : List N) → y ∷ qs ≡ others ++ x ∷ [] → ns ≡ ps ++ others → AllBefore place ps (place y) × IsDue ps y
 founded_by {N} place IsDue ns x founded before due ps qs y [] last whole =
     let same : x ≡ y = cc in
     let all : ns ≡ ps = whole ∙ append-nil ps in
@@ -75,7 +80,8 @@ founded_by {N} place IsDue ns x founded before due ps qs y (o ∷ others) last w
     founded ps others y (whole ∙ ap (λ (t : N). ps ++ t ∷ others) (sym same))
 
 -- a founded list is founded with one more that is behind it and due
-pub grow_founded : {N : Type 0} (place : N → List ℕ) (IsDue : List N → N → Type 0) (ns : List N) (x : N) → IsFounded place IsDue ns → AllBefore place ns (place x) → IsDue ns x → IsFounded place IsDue (ns ++ x ∷ [])
+pub grow_founded : {N : Type 0} (place : N → List ℕ) (IsDue : List N → N → Type 0) (ns : List N) (x : N) → IsFounded place IsDue ns
+    → AllBefore place ns (place x) → IsDue ns x → IsFounded place IsDue (ns ++ x ∷ [])
 grow_founded place IsDue ns x founded before due ps qs y e =
     elim (in_two ns ps (y ∷ qs) x e) [
       | inl l ↦ absurd (no_cons y qs l.0)
@@ -83,7 +89,8 @@ grow_founded place IsDue ns x founded before due ps qs y e =
     ]
 
 -- a run goes on by the record that is due behind it, where no other is due before that
-pub grow : {N : Type 0} (place : N → List ℕ) (IsDue : List N → N → Type 0) (mark : List ℕ) (ns : List N) (x : N) → IsRun place IsDue mark ns → AllBefore place ns (place x) → IsDue ns x → NothingDueUpTo place IsDue mark ns (place x) → IsRun place IsDue (behind (place x)) (ns ++ x ∷ [])
+pub grow : {N : Type 0} (place : N → List ℕ) (IsDue : List N → N → Type 0) (mark : List ℕ) (ns : List N) (x : N) → IsRun place IsDue mark ns
+    → AllBefore place ns (place x) → IsDue ns x → NothingDueUpTo place IsDue mark ns (place x) → IsRun place IsDue (behind (place x)) (ns ++ x ∷ [])
 grow {N} place IsDue mark ns x run before due nothing =
     let at_x : IsIn x (ns ++ x ∷ []) = in_right x ns (x ∷ []) (inl refl) in
     record {
@@ -96,7 +103,8 @@ grow {N} place IsDue mark ns x run before due nothing =
                 elim (in_two ns ps qs x e) [
                   | inl l ↦ absurd (never_self (place x) (chain (place x) (place y) (place x) (b x (subst (λ (t : List N). IsIn x t) (sym l.1) at_x)) lt))
                   | inr r ↦
-                      let none : NoneBefore place r.others (place y) = λ m i. n m (subst (λ (t : List N). IsIn m t) (sym r.last) (in_left m r.others (x ∷ []) i)) in
+                      let none : NoneBefore place r.others (place y) = λ m i. n m
+                              (subst (λ (t : List N). IsIn m t) (sym r.last) (in_left m r.others (x ∷ []) i)) in
                       let found = run.full ps r.others y r.whole b none d (nothing.gap ps r.others y r.whole b none d lt) in
                       (found.0, in_left found.0 ns (x ∷ []) found.1, found.2)
                 ]

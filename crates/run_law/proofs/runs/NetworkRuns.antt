@@ -2,17 +2,17 @@
 use Rattle.std.proofs.Common.{◌≡◌, List, [], ◌∷◌, ◌++◌, map, fold, refl, sym, ap, subst, ◌∙◌, append_assoc}
 use Rattle.std.proofs.lemmas.List.{append-nil}
 use Rattle.net_plan.specs.declared.network.Network.{Network}
-use Rattle.run_law.specs.records.Happenings.{Happening, happening, happenings}
-use Rattle.run_law.specs.law.Laws.{EarlierRunIsFront, RunGoesOn, RunIsOne}
-use Rattle.run_law.specs.records.Ranks.{place_of}
-use Rattle.run_law.specs.runs.DueRecords.{IsDue}
-use Rattle.run_law.specs.runs.Runs.{IsRun}
-use Rattle.run_law.specs.scenario.Scenarios.{Scenario}
-use Rattle.run_law.specs.declared.note.Note.{Note}
 use Rattle.run_law.proofs.runs.Determined.{due_is_determined}
 use Rattle.run_law.proofs.runs.FrontOfRun.{front_of_run}
 use Rattle.run_law.proofs.runs.Grow.{grow}
 use Rattle.run_law.proofs.runs.OneRun.{one_run}
+use Rattle.run_law.specs.declared.note.Note.{Note}
+use Rattle.run_law.specs.law.Laws.{EarlierRunIsFront, RunGoesOn, RunIsOne}
+use Rattle.run_law.specs.records.Happenings.{Happening, happening, happenings}
+use Rattle.run_law.specs.records.Ranks.{place_of}
+use Rattle.run_law.specs.runs.DueRecords.{IsDue}
+use Rattle.run_law.specs.runs.Runs.{IsRun}
+use Rattle.run_law.specs.scenario.Scenarios.{Scenario}
 
 -- ---- records and happenings
 
@@ -37,12 +37,14 @@ notes_from network before (n ∷ ns) =
 pub same_notes : (network : Network) (ns : List Note) → notes_of (happenings network ns) ≡ ns
 same_notes network ns = notes_from network [] ns
 
-fold_parts : (network : Network) (before : List Happening) (ns ms : List Note) → fold (with_next network) before (ns ++ ms) ≡ fold (with_next network) (fold (with_next network) before ns) ms
+fold_parts : (network : Network) (before : List Happening) (ns ms : List Note) → fold (with_next network) before (ns ++ ms) ≡ fold (with_next network)
+    (fold (with_next network) before ns) ms
 fold_parts network before [] ms = refl
 fold_parts network before (n ∷ ns) ms = fold_parts network (with_next network before n) ns ms
 
 -- one more record is one more happening
-pub one_more : (network : Network) (ns : List Note) (n : Note) → happenings network (ns ++ n ∷ []) ≡ happenings network ns ++ happening network (happenings network ns) n ∷ []
+pub one_more : (network : Network) (ns : List Note) (n : Note) → happenings network (ns ++ n ∷ []) ≡ happenings network ns
+    ++ happening network (happenings network ns) n ∷ []
 one_more network ns n = fold_parts network [] ns (n ∷ [])
 
 -- ---- the laws

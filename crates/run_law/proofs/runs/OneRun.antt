@@ -1,18 +1,19 @@
 -- There is one run, and what is due is its next record.
 use Rattle.std.proofs.Common.{◌≡◌, ℕ, List, [], ◌∷◌, ◌++◌, length, inl, inr, refl, sym, ap, subst, ◌∙◌, arith}
 use Rattle.std.proofs.lemmas.List.{append-nil, length-append}
-use Rattle.run_law.specs.records.Order.{IsBefore, IsIn, AllBefore, NoneBefore}
-use Rattle.run_law.specs.runs.Runs.{IsRun, IsDetermined}
 use Rattle.run_law.proofs.runs.FrontOfRun.{front_of_run}
 use Rattle.run_law.proofs.runs.Lacking.{behind_first}
 use Rattle.run_law.proofs.runs.Places.{never_self, in_parts}
+use Rattle.run_law.specs.records.Order.{IsBefore, IsIn, AllBefore, NoneBefore}
+use Rattle.run_law.specs.runs.Runs.{IsRun, IsDetermined}
 
 -- two lists are one where each is a front of the other
 fronts : {N : Type 0} (xs ys more rest : List N) → ys ≡ xs ++ more → xs ≡ ys ++ rest → xs ≡ ys
 fronts xs ys [] rest a b = sym (a ∙ append-nil xs)
 fronts xs ys (m ∷ more) rest a b = absurd (omega (arith, ap length a, length-append xs (m ∷ more), ap length b, length-append ys rest))
 
-pub one_run : {N : Type 0} (place : N → List ℕ) (IsDue : List N → N → Type 0) (mark : List ℕ) → IsDetermined place IsDue → (xs ys : List N) → IsRun place IsDue mark xs → IsRun place IsDue mark ys → xs ≡ ys
+pub one_run : {N : Type 0} (place : N → List ℕ) (IsDue : List N → N → Type 0) (mark : List ℕ) → IsDetermined place IsDue → (xs ys : List N)
+    → IsRun place IsDue mark xs → IsRun place IsDue mark ys → xs ≡ ys
 one_run place IsDue mark one xs ys a b =
     let more = front_of_run place IsDue mark mark one (λ p before. before) xs ys a b in
     let rest = front_of_run place IsDue mark mark one (λ p before. before) ys xs b a in
@@ -23,7 +24,9 @@ not_in_front : {N : Type 0} (place : N → List ℕ) (ps : List N) (x m : N) →
 not_in_front place ps x m before i same = never_self (place x) (subst (λ (p : List ℕ). IsBefore p (place x)) same (before m i))
 
 -- in a run, a record that is due given a part, behind all of it and before none of the rest, is the next
-pub due_is_next : {N : Type 0} (place : N → List ℕ) (IsDue : List N → N → Type 0) (mark : List ℕ) → IsDetermined place IsDue → (ps qs : List N) (x : N) → IsRun place IsDue mark (ps ++ qs) → AllBefore place ps (place x) → NoneBefore place qs (place x) → IsDue ps x → IsBefore (place x) mark → (rest : List N) × (qs ≡ x ∷ rest)
+pub due_is_next : {N : Type 0} (place : N → List ℕ) (IsDue : List N → N → Type 0) (mark : List ℕ) → IsDetermined place IsDue → (ps qs : List N) (x : N)
+    → IsRun place IsDue mark (ps ++ qs) → AllBefore place ps (place x) → NoneBefore place qs (place x) → IsDue ps x → IsBefore (place x) mark → (rest : List N)
+    × (qs ≡ x ∷ rest)
 due_is_next place IsDue mark one ps [] x run before none due here =
     let there = run.full ps [] x refl before none due here in
     elim (in_parts there.0 ps [] there.1) [ inl i ↦ absurd (not_in_front place ps x there.0 before i there.2) | inr i ↦ absurd i ]

@@ -1,5 +1,6 @@
 -- What comes at one time from one cause is one.
 use Rattle.std.proofs.Common.{◌≡◌, ℕ, ℤ, pos, Bool, List, Option, Some, None, true, false, MatchBool, refl, sym, ap, subst, ◌∙◌}
+use Rattle.std.specs.Option.{option_map_or}
 use Rattle.compression.proofs.Times.{one_list_of_clusters}
 use Rattle.compression.specs.Clusters.{Cluster, Point}
 use Rattle.compression.specs.Role.{role}
@@ -9,27 +10,26 @@ use Rattle.net_plan.specs.declared.ids.DeviceId.{DeviceId}
 use Rattle.net_plan.specs.declared.ids.LinkId.{LinkId}
 use Rattle.net_plan.specs.declared.network.Network.{Network}
 use Rattle.net_plan.specs.declared.tables.Device.{Device}
-use Rattle.net_plan.specs.declared.tables.Role.{Role}
 use Rattle.net_plan.specs.declared.tables.Role.TheVariants.{Master, Client, Cm, Relay}
+use Rattle.net_plan.specs.declared.tables.Role.{Role}
 use Rattle.pcf_values.specs.declared.pcf.Pcf.{Pcf}
-use Rattle.std.specs.Option.{option_map_or}
-use Rattle.run_law.specs.control.Collections.{IsCollectedAs, points_of, ripe_by_role, window}
-use Rattle.run_law.specs.scenario.Devices.{is_cm, is_cm_role, is_relay, is_relay_role}
-use Rattle.run_law.specs.records.Happenings.{Happening, numbered, time_of}
+use Rattle.run_law.specs.control.Collections.{IsCollectedAs, points_of, ripe_by_role, observation_window}
 use Rattle.run_law.specs.control.Leaving.{Departs, Departure, Gives, departure}
-use Rattle.run_law.specs.control.Permanence.{IsCollectedOr, IsPermanent, IsRipeSo, Ripens, ripe_as, IsJudgedBy, before_permanence}
-use Rattle.run_law.specs.timed.Receptions.{ArrivesAs, arrival_of}
-use Rattle.run_law.specs.scenario.Scenarios.{Scenario}
-use Rattle.run_law.specs.device.States.{adjustment_at_hearing, state_at_hearing}
+use Rattle.run_law.specs.control.Permanence.{IsCollectedOrDropped, IsPermanent, IsPermanenceOutcome, BecomesPermanent, ripe_as, IsJudgedBy, before_permanence}
 use Rattle.run_law.specs.control.Wires.{Arrives, Launch, Signal, launched}
-use Rattle.run_law.specs.declared.judgement.Judgement.{Judgement}
 use Rattle.run_law.specs.declared.judgement.Judgement.TheVariants as judgements
+use Rattle.run_law.specs.declared.judgement.Judgement.{Judgement}
 use Rattle.run_law.specs.declared.judgement.Reason.{Reason}
-use Rattle.run_law.specs.declared.note.NoteBody.{NoteBody}
 use Rattle.run_law.specs.declared.note.NoteBody.TheVariants as notes
+use Rattle.run_law.specs.declared.note.NoteBody.{NoteBody}
 use Rattle.run_law.specs.declared.steps.Arrival.{Arrival}
-use Rattle.run_law.specs.declared.steps.Ripe.{Ripe}
 use Rattle.run_law.specs.declared.steps.Ripe.TheVariants as ripe
+use Rattle.run_law.specs.declared.steps.Ripe.{Ripe}
+use Rattle.run_law.specs.device.States.{adjustment_at_hearing, state_at_hearing}
+use Rattle.run_law.specs.records.Happenings.{Happening, numbered, time_of}
+use Rattle.run_law.specs.scenario.Devices.{is_cm, is_cm_role, is_relay, is_relay_role}
+use Rattle.run_law.specs.scenario.Scenarios.{Scenario}
+use Rattle.run_law.specs.timed.Receptions.{ArrivesAs, arrival_of}
 use Rattle.sync_state.specs.declared.state.State.{State}
 use Rattle.transparent_clock.specs.Points.{point_of}
 use Rattle.tte_units.specs.declared.units.Units.{Units}
@@ -41,41 +41,51 @@ same_some o x y a b = let one : Some x ≡ Some y = sym a ∙ b in cc
 -- ---- arrivals
 
 -- what arrives from one record is one signal
-same_signal : (s : Scenario) (h : Happening) (device : DeviceId) (link : LinkId) (t : ℕ) (a b : Signal) → Arrives s h device link t a → Arrives s h device link t b → a ≡ b
+same_signal : (s : Scenario) (h : Happening) (device : DeviceId) (link : LinkId) (t : ℕ) (a b : Signal) → Arrives s h device link t a
+    → Arrives s h device link t b → a ≡ b
 same_signal s h device link t a b x y =
-    ap (λ (l : Launch). l.signal) (same_some (launched s h (time_of h) h.note.body) (record { link = link; way = x.way; signal = a }) (record { link = link; way = y.way; signal = b }) x.put y.put)
+    ap (λ (l : Launch). l.signal) (same_some (launched s h (time_of h) h.note.body) (record { link = link; way = x.way; signal = a })
+        (record { link = link; way = y.way; signal = b }) x.put y.put)
 
 -- and one thing becomes of it
-pub same_arrival : (s : Scenario) (hs : List Happening) (t : ℕ) (device : DeviceId) (link : LinkId) (cause : ℕ) (a b : Arrival) → ArrivesAs s hs t device link cause a → ArrivesAs s hs t device link cause b → a ≡ b
+pub same_arrival : (s : Scenario) (hs : List Happening) (t : ℕ) (device : DeviceId) (link : LinkId) (cause : ℕ) (a b : Arrival)
+    → ArrivesAs s hs device t link cause a → ArrivesAs s hs device t link cause b → a ≡ b
 same_arrival s hs t device link cause a b x y =
     let one = same_some (numbered hs cause) x.putting y.putting x.there y.there in
     let there = subst (λ (h : Happening). Arrives s h device link t y.signal) (sym one) y.arrives in
     let signals = same_signal s x.putting device link t x.signal y.signal x.arrives there in
-    x.becomes ∙ ap (arrival_of s hs t device link cause) signals ∙ sym y.becomes
+    x.becomes ∙ ap (arrival_of s hs device t link cause) signals ∙ sym y.becomes
 
 -- ---- permanence
 
 -- a point has one role
-same_taken : (network : Network) (points : List Point) (point : Point) (a b : Taken) → IsCollectedAs network points point a → IsCollectedAs network points point b → a ≡ b
+same_taken : (network : Network) (points : List Point) (point : Point) (a b : Taken) → IsCollectedAs network points point a
+    → IsCollectedAs network points point b → a ≡ b
 same_taken network points point a b x y =
-    let only = (one_list_of_clusters (window network) points).2 in
+    let only = (one_list_of_clusters (observation_window network) points).2 in
     x.is ∙ ap (λ (cs : List Cluster). role cs point) (only x.clusters x.are ∙ sym (only y.clusters y.are)) ∙ sym y.is
 
-same_collected : (network : Network) (points : List Point) (point : Point) (fault : Option Reason) (a b : Ripe) → IsCollectedOr network points point fault a → IsCollectedOr network points point fault b → a ≡ b
+same_collected : (network : Network) (points : List Point) (point : Point) (fault : Option Reason) (a b : Ripe)
+    → IsCollectedOrDropped network points point fault a → IsCollectedOrDropped network points point fault b → a ≡ b
 same_collected network points point (Some reason) a b x y = x ∙ sym y
-same_collected network points point None a b x y = x.becomes ∙ ap ripe_by_role (same_taken network points point x.taken y.taken x.collected y.collected) ∙ sym y.becomes
+same_collected network points point None a b x y =
+    x.becomes ∙ ap ripe_by_role (same_taken network points point x.taken y.taken x.collected y.collected) ∙ sym y.becomes
 
-same_by_kind : (b : _) {P : Ripe → Type 0} (heard x y : Ripe) → ((v w : Ripe) → P v → P w → v ≡ w) → MatchBool b (P x) (x ≡ heard) → MatchBool b (P y) (y ≡ heard) → x ≡ y
+same_by_kind : (b : _) {P : Ripe → Type 0} (heard x y : Ripe) → ((v w : Ripe) → P v → P w → v ≡ w) → MatchBool b (P x) (x ≡ heard)
+    → MatchBool b (P y) (y ≡ heard) → x ≡ y
 same_by_kind true heard x y one a b = one x y a b
 same_by_kind false heard x y one a b = a ∙ sym b
 
 -- one thing becomes of a frame that is permanent
-same_ripe : (network : Network) (device : DeviceId) (state : State) (adjustment : _) (points : List Point) (frame : Pcf) (point : _) (a b : Ripe) → IsRipeSo network device state adjustment points frame point a → IsRipeSo network device state adjustment points frame point b → a ≡ b
+same_ripe : (network : Network) (device : DeviceId) (state : State) (adjustment : _) (points : List Point) (frame : Pcf) (point : _) (a b : Ripe)
+    → IsPermanenceOutcome network device state adjustment points frame point a → IsPermanenceOutcome network device state adjustment points frame point b
+    → a ≡ b
 same_ripe network device state adjustment points frame point a b x y =
     same_by_kind (is_cm network device) _ a b (same_collected network points _ _) x y
 
 -- two frames that are permanent from one record have one arrival
-same_permanent_arrival : (s : Scenario) (hs : List Happening) (t : ℕ) (device : DeviceId) (link : LinkId) (cause : ℕ) (f g : Pcf) (p q : Units) (a : IsPermanent s hs t device link cause f p) (b : IsPermanent s hs t device link cause g q) → a.arrival ≡ b.arrival
+same_permanent_arrival : (s : Scenario) (hs : List Happening) (t : ℕ) (device : DeviceId) (link : LinkId) (cause : ℕ) (f g : Pcf) (p q : Units)
+    (a : IsPermanent s hs device t link cause f p) (b : IsPermanent s hs device t link cause g q) → a.arrival ≡ b.arrival
 same_permanent_arrival s hs t device link cause f g p q a b = same_some (numbered hs cause) a.arrival b.arrival a.there b.there
 
 abbrev arrived_clock : NoteBody → ℕ
@@ -83,12 +93,14 @@ arrived_clock (notes.Arrived device link from clock) = clock
 arrived_clock other = 0
 
 -- one frame is permanent from one record, at one point
-same_frame : (s : Scenario) (hs : List Happening) (t : ℕ) (device : DeviceId) (link : LinkId) (cause : ℕ) (f g : Pcf) (p q : Units) → IsPermanent s hs t device link cause f p → IsPermanent s hs t device link cause g q → f ≡ g
+same_frame : (s : Scenario) (hs : List Happening) (t : ℕ) (device : DeviceId) (link : LinkId) (cause : ℕ) (f g : Pcf) (p q : Units)
+    → IsPermanent s hs device t link cause f p → IsPermanent s hs device t link cause g q → f ≡ g
 same_frame s hs t device link cause f g p q a b =
     let one = same_permanent_arrival s hs t device link cause f g p q a b in
     same_some a.arrival.frame f g a.of_frame (ap (λ (h : Happening). h.frame) one ∙ b.of_frame)
 
-pub same_point : (s : Scenario) (hs : List Happening) (t : ℕ) (device : DeviceId) (link : LinkId) (cause : ℕ) (f g : Pcf) (p q : Units) → IsPermanent s hs t device link cause f p → IsPermanent s hs t device link cause g q → p ≡ q
+pub same_point : (s : Scenario) (hs : List Happening) (t : ℕ) (device : DeviceId) (link : LinkId) (cause : ℕ) (f g : Pcf) (p q : Units)
+    → IsPermanent s hs device t link cause f p → IsPermanent s hs device t link cause g q → p ≡ q
 same_point s hs t device link cause f g p q a b =
     let one = same_permanent_arrival s hs t device link cause f g p q a b in
     let bodies : a.arrival.note.body ≡ b.arrival.note.body = ap (λ (h : Happening). h.note.body) one in
@@ -101,15 +113,17 @@ same_point s hs t device link cause f g p q a b =
     ap (λ (n : ℤ). let u : Units = record { 0 = n } in u) values
 
 -- and one thing becomes of it
-pub same_ripening : (s : Scenario) (hs : List Happening) (t : ℕ) (device : DeviceId) (link : LinkId) (cause : ℕ) (p q : Units) (a b : Ripe) → Ripens s hs t device link cause p a → Ripens s hs t device link cause q b → a ≡ b
+pub same_ripening : (s : Scenario) (hs : List Happening) (t : ℕ) (device : DeviceId) (link : LinkId) (cause : ℕ) (p q : Units) (a b : Ripe)
+    → BecomesPermanent s hs device t link cause p a → BecomesPermanent s hs device t link cause q b → a ≡ b
 same_ripening s hs t device link cause p q a b x y =
     let frames = same_frame s hs t device link cause x.frame y.frame p q x.permanent y.permanent in
     let points = same_point s hs t device link cause x.frame y.frame p q x.permanent y.permanent in
-    let judged = before_permanence hs t device link cause in
-    let there = subst (λ (f : Pcf). IsJudgedBy s (judged f q) t device f q b) (sym frames) y.becomes in
-    let here = subst (λ (u : Units). IsJudgedBy s (judged x.frame u) t device x.frame u b) (sym points) there in
+    let judged = before_permanence hs device t link cause in
+    let there = subst (λ (f : Pcf). IsJudgedBy s (judged f q) device t f q b) (sym frames) y.becomes in
+    let here = subst (λ (u : Units). IsJudgedBy s (judged x.frame u) device t x.frame u b) (sym points) there in
     let front = judged x.frame p in
-    same_ripe s.network device (state_at_hearing s front device t) (adjustment_at_hearing s front device t).0 (points_of front device) x.frame p.0 a b x.becomes here
+    same_ripe s.network device (state_at_hearing s front device t) (adjustment_at_hearing s front device t).0 (points_of front device) x.frame p.0 a b x.becomes
+        here
 
 -- judgements are told apart by what becomes of the frame
 pub same_judgement : (v w : Judgement) → ripe_as v ≡ ripe_as w → v ≡ w
@@ -143,12 +157,14 @@ by_kind_is true P v reason h = refl
 by_kind_is false P v reason h = absurd (never_dropped v reason (sym h))
 
 -- only a compression master drops a frame that is permanent
-dropped_at_cm : (s : Scenario) (hs : List Happening) (t : ℕ) (device : DeviceId) (link : LinkId) (cause : ℕ) (point : Units) (reason : Reason) → Ripens s hs t device link cause point (ripe.Dropped reason) → is_cm s.network device ≡ true
+dropped_at_cm : (s : Scenario) (hs : List Happening) (t : ℕ) (device : DeviceId) (link : LinkId) (cause : ℕ) (point : Units) (reason : Reason)
+    → BecomesPermanent s hs device t link cause point (ripe.Dropped reason) → is_cm s.network device ≡ true
 dropped_at_cm s hs t device link cause point reason r = by_kind_is (is_cm s.network device) _ _ reason r.becomes
 
 -- ---- leavings
 
-pub same_departure : (s : Scenario) (hs : List Happening) (t : ℕ) (device : DeviceId) (link : LinkId) (cause : ℕ) (a b : Departure) → Departs s hs t device link cause a → Departs s hs t device link cause b → a ≡ b
+pub same_departure : (s : Scenario) (hs : List Happening) (t : ℕ) (device : DeviceId) (link : LinkId) (cause : ℕ) (a b : Departure)
+    → Departs s hs device t link cause a → Departs s hs device t link cause b → a ≡ b
 same_departure s hs t device link cause a b x y =
     let one = same_some (numbered hs cause) x.giving y.giving x.there y.there in
     let frames = same_some x.giving.frame x.frame y.frame x.of_frame (ap (λ (h : Happening). h.frame) one ∙ y.of_frame) in
@@ -160,29 +176,34 @@ same_departure s hs t device link cause a b x y =
 -- ---- what comes from a record is of one kind
 
 -- what puts a frame on a wire gives none to a link
-puts_or_gives : (s : Scenario) (h : Happening) (t : ℕ) (body : NoteBody) (device : DeviceId) (link : LinkId) (l : Launch) → launched s h t body ≡ Some l → Gives s.network body device link → ⊥
+puts_or_gives : (s : Scenario) (h : Happening) (t : ℕ) (body : NoteBody) (device : DeviceId) (link : LinkId) (l : Launch) → launched s h t body ≡ Some l
+    → Gives s.network body device link → ⊥
 puts_or_gives s h t (notes.Sent master cycle) device link l put gives = cc
 puts_or_gives s h t (notes.Compressed cm opened at cycle members verdict) device link l put gives = cc
 puts_or_gives s h t (notes.Arrived relay by cause clock) device link l put gives = cc
 puts_or_gives s h t other device link l put gives = gives
 
-no_launch : (s : Scenario) (h : Happening) (t : ℕ) (body : NoteBody) (device : DeviceId) (link : LinkId) (from clock : ℕ) (l : Launch) → body ≡ notes.Arrived device link from clock → launched s h t body ≡ Some l → ⊥
+no_launch : (s : Scenario) (h : Happening) (t : ℕ) (body : NoteBody) (device : DeviceId) (link : LinkId) (from clock : ℕ) (l : Launch)
+    → body ≡ notes.Arrived device link from clock → launched s h t body ≡ Some l → ⊥
 no_launch s h t body device link from clock l is put =
     let none : launched s h t (notes.Arrived device link from clock) ≡ Some l = subst (λ (b : NoteBody). launched s h t b ≡ Some l) is put in
     cc
 
 -- no frame arrives and leaves from one record
-pub arrives_or_departs : (s : Scenario) (hs : List Happening) (t : ℕ) (device : DeviceId) (link : LinkId) (cause : ℕ) (a : Arrival) (d : Departure) → ArrivesAs s hs t device link cause a → Departs s hs t device link cause d → ⊥
+pub arrives_or_departs : (s : Scenario) (hs : List Happening) (t : ℕ) (device : DeviceId) (link : LinkId) (cause : ℕ) (a : Arrival) (d : Departure)
+    → ArrivesAs s hs device t link cause a → Departs s hs device t link cause d → ⊥
 arrives_or_departs s hs t device link cause a d x y =
     let one = same_some (numbered hs cause) x.putting y.giving x.there y.there in
     let gives = subst (λ (h : Happening). Gives s.network h.note.body device link) (sym one) y.gives in
     puts_or_gives s x.putting (time_of x.putting) x.putting.note.body device link _ x.arrives.put gives
 
 -- no frame arrives and is permanent from one record
-pub arrives_or_ripens : (s : Scenario) (hs : List Happening) (t : ℕ) (device : DeviceId) (link : LinkId) (cause : ℕ) (a : Arrival) (point : Units) (b : Ripe) → ArrivesAs s hs t device link cause a → Ripens s hs t device link cause point b → ⊥
+pub arrives_or_ripens : (s : Scenario) (hs : List Happening) (t : ℕ) (device : DeviceId) (link : LinkId) (cause : ℕ) (a : Arrival) (point : Units) (b : Ripe)
+    → ArrivesAs s hs device t link cause a → BecomesPermanent s hs device t link cause point b → ⊥
 arrives_or_ripens s hs t device link cause a point b x y =
     let one = same_some (numbered hs cause) x.putting y.permanent.arrival x.there y.permanent.there in
-    no_launch s x.putting (time_of x.putting) x.putting.note.body device link y.permanent.from y.permanent.clock _ (ap (λ (h : Happening). h.note.body) one ∙ y.permanent.arrived) x.arrives.put
+    no_launch s x.putting (time_of x.putting) x.putting.note.body device link y.permanent.from y.permanent.clock _ (ap (λ (h : Happening). h.note.body) one
+        ∙ y.permanent.arrived) x.arrives.put
 
 -- a relay is no compression master
 roles_differ : (role : Role) → is_cm_role role ≡ true → is_relay_role role ≡ true → ⊥
@@ -195,13 +216,15 @@ devices_differ : (o : Option Device) → option_map_or (λ d. is_cm_role d.role)
 devices_differ None a b = cc
 devices_differ (Some d) a b = roles_differ d.role a b
 
-gives_as_relay : (network : Network) (body : NoteBody) (device : DeviceId) (link by : LinkId) (from clock : ℕ) → body ≡ notes.Arrived device by from clock → Gives network body device link → is_relay network device ≡ true
+gives_as_relay : (network : Network) (body : NoteBody) (device : DeviceId) (link by : LinkId) (from clock : ℕ) → body ≡ notes.Arrived device by from clock
+    → Gives network body device link → is_relay network device ≡ true
 gives_as_relay network body device link by from clock is gives =
     let there : Gives network (notes.Arrived device by from clock) device link = subst (λ (b : NoteBody). Gives network b device link) is gives in
     there.1.relay
 
 -- no frame that a device drops when it is permanent leaves it
-pub dropped_or_departs : (s : Scenario) (hs : List Happening) (t : ℕ) (device : DeviceId) (link : LinkId) (cause : ℕ) (point : Units) (reason : Reason) (d : Departure) → Ripens s hs t device link cause point (ripe.Dropped reason) → Departs s hs t device link cause d → ⊥
+pub dropped_or_departs : (s : Scenario) (hs : List Happening) (t : ℕ) (device : DeviceId) (link : LinkId) (cause : ℕ) (point : Units) (reason : Reason)
+    (d : Departure) → BecomesPermanent s hs device t link cause point (ripe.Dropped reason) → Departs s hs device t link cause d → ⊥
 dropped_or_departs s hs t device link cause point reason d x y =
     let one = same_some (numbered hs cause) x.permanent.arrival y.giving x.permanent.there y.there in
     let is = ap (λ (h : Happening). h.note.body) (sym one) ∙ x.permanent.arrived in

@@ -3,16 +3,16 @@ use Rattle.std.proofs.Common.{◌≡◌, ◌≢◌, ◌⊎◌, ℕ, ◌<◌, ◌
 use Rattle.net_plan.specs.Places.{device_at, link_at, is_master, IsSwitchOf}
 use Rattle.net_plan.specs.Rules.{HasOffSwitch}
 use Rattle.net_plan.specs.declared.event.Event.{Event}
-use Rattle.net_plan.specs.declared.event.What.{What}
 use Rattle.net_plan.specs.declared.event.What.TheVariants.{Rate, Wire, Hold, Cut, On, Break, Send}
+use Rattle.net_plan.specs.declared.event.What.{What}
 use Rattle.net_plan.specs.declared.ids.DeviceId.{DeviceId}
 use Rattle.net_plan.specs.declared.ids.LinkId.{LinkId}
 use Rattle.net_plan.specs.declared.network.Network.{Network}
-use Rattle.pcf_values.specs.declared.channel.Channel.{Channel}
 use Rattle.pcf_values.specs.declared.channel.Channel.TheVariants.{A, B}
+use Rattle.pcf_values.specs.declared.channel.Channel.{Channel}
+use Rattle.run_law.proofs.scenario.Decisions.{IsDecided, decided_by, decided_not, decided_and, decided_or, decided_less, decided_same, decided_less_int, decided_true, decided_false, decided_some, decided_at, decided_any, any_first, any_later, any_of_none, any_parts}
 use Rattle.run_law.specs.scenario.Faults.{Breaks, TurnsOn, Cuts, CutsOn, IsBroken, IsTurnedOn, BeginsOn, IsLinkOf, IsFirstCutOn, IsFaulty}
 use Rattle.run_law.specs.scenario.Hypothesis.{ComesTooEarly, SetsFastRate, SetsOtherWire, SetsLongHold, CutsOtherChannel, BreaksNoMaster, BreaksSecond, LeavesTooFew, SendsUnbroken, TurnsOnAgain, sound_masters}
-use Rattle.run_law.proofs.scenario.Decisions.{IsDecided, decided_by, decided_not, decided_and, decided_or, decided_less, decided_same, decided_less_int, decided_true, decided_false, decided_some, decided_at, decided_any, any_first, any_later, any_of_none, any_parts}
 use Rattle.tte_units.specs.declared.rates.Ppb.{Ppb}
 use Rattle.tte_units.specs.declared.units.Units.{Units}
 
@@ -27,13 +27,16 @@ only_last [] e last order = cc
 only_last (f ∷ []) e last order = absurd cc
 only_last (f ∷ g ∷ front) e last order = absurd cc
 
-last_of_rest : (front : List Event) (e f : Event) (rest : List Event) (last : Event) → e ∷ f ∷ rest ≡ front ++ last ∷ [] → (more : List Event) × (f ∷ rest ≡ more ++ last ∷ [])
+last_of_rest : (front : List Event) (e f : Event) (rest : List Event) (last : Event) → e ∷ f ∷ rest ≡ front ++ last ∷ [] → (more : List Event)
+    × (f ∷ rest ≡ more ++ last ∷ [])
 last_of_rest [] e f rest last order = absurd cc
 last_of_rest (g ∷ front) e f rest last order = (front, cc)
 
 pub too_early : (before : List Event) (event : Event) → IsDecided (ComesTooEarly before event)
 too_early [] event = inr (λ h. no_last h.front h.last h.order)
-too_early (e ∷ []) event = decided_by (λ lt. record { front = []; last = e; order = refl; later = lt }) (λ h. subst (λ (l : Event). event.time.0 <ℤ l.time.0) (only_last h.front e h.last h.order) h.later) (decided_less_int event.time.0 e.time.0)
+too_early (e ∷ []) event =
+    decided_by (λ lt. record { front = []; last = e; order = refl; later = lt })
+    (λ h. subst (λ (l : Event). event.time.0 <ℤ l.time.0) (only_last h.front e h.last h.order) h.later) (decided_less_int event.time.0 e.time.0)
 too_early (e ∷ f ∷ rest) event = decided_by
     (λ h. record { front = e ∷ h.front; last = h.last; order = ap (λ (t : List Event). e ∷ t) h.order; later = h.later })
     (λ h. let more = last_of_rest h.front e f rest h.last h.order in record { front = more.0; last = h.last; order = more.1; later = h.later })
@@ -62,7 +65,8 @@ other_wire_by network event (Wire link way delay) is = decided_by
     let links : h.link ≡ link = cc in
     let delays : h.delay ≡ delay = cc in
     subst (IsOtherWire network link) delays (subst (λ (l : LinkId). IsOtherWire network l h.delay) links h.other))
-    (decided_some (link_at network link) (λ l. (delay.0 <ℤ l.wire.0) ⊎ ((l.wire.0 +ℤ l.jitter.0) <ℤ delay.0)) (λ l. decided_or (decided_less_int delay.0 l.wire.0) (decided_less_int (l.wire.0 +ℤ l.jitter.0) delay.0)))
+    (decided_some (link_at network link) (λ l. (delay.0 <ℤ l.wire.0) ⊎ ((l.wire.0 +ℤ l.jitter.0) <ℤ delay.0))
+        (λ l. decided_or (decided_less_int delay.0 l.wire.0) (decided_less_int (l.wire.0 +ℤ l.jitter.0) delay.0)))
 other_wire_by network event other is = inr (λ h. let both = sym h.what ∙ is in cc)
 
 pub other_wire : (network : Network) (event : Event) → IsDecided (SetsOtherWire network event)
@@ -108,13 +112,16 @@ is_channel None c = inr (λ e. cc)
 is_channel (Some d) c = decided_by (λ e. ap (λ (x : Channel). Some x) e) (λ e. let same : d ≡ c = cc in same) (same_channel d c)
 
 is_link_of : (network : Network) (channel : Channel) (link : LinkId) → IsDecided (IsLinkOf network channel link)
-is_link_of network channel link = decided_some (link_at network link) (λ l. IsSwitchOf network channel l.parent) (λ l. decided_some (device_at network l.parent) (λ d. d.channel ≡ Some channel) (λ d. is_channel d.channel channel))
+is_link_of network channel link =
+    decided_some (link_at network link) (λ l. IsSwitchOf network channel l.parent)
+    (λ l. decided_some (device_at network l.parent) (λ d. d.channel ≡ Some channel) (λ d. is_channel d.channel channel))
 
 has_off_switch : (network : Network) (channel : Channel) → IsDecided (HasOffSwitch network channel)
 has_off_switch network channel = decided_by
     (λ h. (record { 0 = h.0 }, h.1))
     (λ h. (h.0.0, h.1))
-    (decided_at network.device (λ d. (d.channel ≡ Some channel) × IsNone d.start) (λ d. decided_and (is_channel d.channel channel) (decided_false (is_some d.start))))
+    (decided_at network.device (λ d. (d.channel ≡ Some channel) × IsNone d.start)
+        (λ d. decided_and (is_channel d.channel channel) (decided_false (is_some d.start))))
 
 -- ---- the first cut
 
@@ -130,14 +137,17 @@ cuts_on_by network channel event (Cut link way) is = decided_by
 cuts_on_by network channel event other is = inr (λ h. let both = sym h.1.1 ∙ is in cc)
 
 -- where the first of the events cuts, it is the first cut
-cut_is_first : (network : Network) (channel : Channel) (e : Event) (rest before : List Event) (cut : Event) (behind : List Event) → e ∷ rest ≡ before ++ cut ∷ behind → ((link : LinkId) → Any (Cuts link) before → ⊥) → CutsOn network channel cut → (link : LinkId) × Cuts link e → CutsOn network channel e
+cut_is_first : (network : Network) (channel : Channel) (e : Event) (rest before : List Event) (cut : Event) (behind : List Event) → e ∷ rest ≡ before ++ cut
+    ∷ behind → ((link : LinkId) → Any (Cuts link) before → ⊥) → CutsOn network channel cut → (link : LinkId) × Cuts link e → CutsOn network channel e
 cut_is_first network channel e rest [] cut behind order none on first = let same : cut ≡ e = cc in subst (CutsOn network channel) same on
 cut_is_first network channel e rest (b ∷ before) cut behind order none on first =
     let same : e ≡ b = cc in
     absurd (none first.0 (any_first (Cuts first.0) b before (subst (Cuts first.0) same first.1)))
 
 -- where it does not, the first cut is among the rest
-cut_is_later : (network : Network) (channel : Channel) (e : Event) (rest before : List Event) (cut : Event) (behind : List Event) → e ∷ rest ≡ before ++ cut ∷ behind → ((link : LinkId) → Any (Cuts link) before → ⊥) → CutsOn network channel cut → ((link : LinkId) × Cuts link e → ⊥) → IsFirstCutOn network channel rest
+cut_is_later : (network : Network) (channel : Channel) (e : Event) (rest before : List Event) (cut : Event) (behind : List Event) → e ∷ rest ≡ before ++ cut
+    ∷ behind → ((link : LinkId) → Any (Cuts link) before → ⊥) → CutsOn network channel cut → ((link : LinkId) × Cuts link e → ⊥)
+    → IsFirstCutOn network channel rest
 cut_is_later network channel e rest [] cut behind order none on fails = let same : cut ≡ e = cc in absurd (fails (on.0, subst (Cuts on.0) same on.1))
 cut_is_later network channel e rest (b ∷ before) cut behind order none on fails = record {
   before = before;
@@ -174,7 +184,8 @@ first_cut network channel (e ∷ rest) =
     ]
 
 pub is_faulty : (network : Network) (events : List Event) (channel : Channel) → IsDecided (IsFaulty network events channel)
-is_faulty network events channel = decided_or (has_off_switch network channel) (decided_and (no_channel (HasOffSwitch network) (has_off_switch network)) (first_cut network channel events))
+is_faulty network events channel =
+    decided_or (has_off_switch network channel) (decided_and (no_channel (HasOffSwitch network) (has_off_switch network)) (first_cut network channel events))
 
 -- the link is of the channel, and another one is faulty
 abbrev HasOther : Network → List Event → LinkId → Channel → Type 0
@@ -186,7 +197,8 @@ has_other network before link channel =
     (is_link_of network channel link)
     (some_channel (λ f. IsFaulty network before f × (f ≢ channel)) (λ f. decided_and (is_faulty network before f) (decided_not (same_channel f channel))))
 
-other_channel_by : (network : Network) (before : List Event) (event : Event) (what : What) → event.what ≡ what → IsDecided (CutsOtherChannel network before event)
+other_channel_by : (network : Network) (before : List Event) (event : Event) (what : What) → event.what ≡ what
+    → IsDecided (CutsOtherChannel network before event)
 other_channel_by network before event (Cut link way) is = decided_by
     (λ h. record { link = link; way = way; channel = h.0; faulty = h.1.1.0; what = is; on = h.1.0; is_faulty = h.1.1.1.0; other = h.1.1.1.1 })
     (λ h.

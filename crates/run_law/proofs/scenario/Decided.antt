@@ -3,12 +3,12 @@ use Rattle.std.proofs.Common.{◌≡◌, ◌⊎◌, ℕ, zero, suc, ◌^◌, ◌
 use Rattle.std.proofs.lemmas.Bool.{cases_lt, cases_order}
 use Rattle.net_plan.specs.declared.event.Event.{Event}
 use Rattle.net_plan.specs.declared.network.Network.{Network}
-use Rattle.run_law.specs.scenario.Hypothesis.{condition_number, IsOutsideBy, IsWithinHypothesis, Violates}
-use Rattle.run_law.specs.law.Laws.{HypothesisIsDecided}
 use Rattle.run_law.proofs.scenario.Conditions.{too_early, fast_rate, other_wire, long_hold, other_channel, no_master, second_break, too_few, sends_unbroken, turns_on_again}
 use Rattle.run_law.proofs.scenario.Decisions.{IsDecided, decided_less_int, decided_same}
-use Rattle.run_law.specs.declared.outside.Outside.{Outside}
 use Rattle.run_law.specs.declared.outside.Outside.TheVariants.{Order, Late, Rate, Wire, Hold, Channel, NotMaster, SecondBreak, TooFewMasters, NotBroken, NotOff}
+use Rattle.run_law.specs.declared.outside.Outside.{Outside}
+use Rattle.run_law.specs.law.Laws.{HypothesisIsDecided}
+use Rattle.run_law.specs.scenario.Hypothesis.{condition_number, IsOutsideBy, IsWithinHypothesis, Violates}
 use Rattle.tte_units.specs.Amount.{amount}
 
 -- the condition of this number
@@ -45,7 +45,8 @@ same_condition : (c d : Outside) → condition_number c ≡ condition_number d �
 same_condition c d same = sym (numbered c) ∙ ap condition_of same ∙ numbered d
 
 -- an event is outside by one condition
-one_condition : (network : Network) (before : List Event) (event : Event) (c d : Outside) → IsOutsideBy network before event c → IsOutsideBy network before event d → c ≡ d
+one_condition : (network : Network) (before : List Event) (event : Event) (c d : Outside) → IsOutsideBy network before event c
+    → IsOutsideBy network before event d → c ≡ d
 one_condition network before event c d a b =
     elim (cases_order (condition_number c) (condition_number d)) [
       | inl same ↦ same_condition c d same
@@ -72,7 +73,8 @@ abbrev KeepsBelow : Network → List Event → Event → ℕ → Type 0
 KeepsBelow network before event n = (c : Outside) → condition_number c < n → Violates network before event c → ⊥
 
 -- where none below a number is broken, nor that of the number, none below the next is
-keeps_next : (network : Network) (before : List Event) (event : Event) (n : ℕ) → KeepsBelow network before event n → (condition_number (condition_of n) ≡ n → Violates network before event (condition_of n) → ⊥) → KeepsBelow network before event (suc n)
+keeps_next : (network : Network) (before : List Event) (event : Event) (n : ℕ) → KeepsBelow network before event n
+    → (condition_number (condition_of n) ≡ n → Violates network before event (condition_of n) → ⊥) → KeepsBelow network before event (suc n)
 keeps_next network before event n keeps here c small broken =
     elim (cases_lt (condition_number c) n) [
       | inl lt ↦ keeps c lt broken
@@ -83,7 +85,8 @@ keeps_next network before event n keeps here c small broken =
     ]
 
 -- none of the conditions below a number is broken, or the event is outside by one
-judged : (network : Network) (before : List Event) (event : Event) (n : ℕ) → KeepsBelow network before event n ⊎ ((c : Outside) × IsOutsideBy network before event c)
+judged : (network : Network) (before : List Event) (event : Event) (n : ℕ) → KeepsBelow network before event n
+    ⊎ ((c : Outside) × IsOutsideBy network before event c)
 judged network before event zero = inl (λ c small. absurd (omega arith))
 judged network before event (suc n) =
     elim (judged network before event n) [
@@ -93,7 +96,8 @@ judged network before event (suc n) =
             | inr other ↦ inl (keeps_next network before event n keeps (λ same broken. other same))
             | inl same ↦
                 elim (violates network before event (condition_of n)) [
-                  | inl broken ↦ inr (condition_of n, record { violates = broken; first = λ c lower. keeps c (subst (λ (m : ℕ). condition_number c < m) same lower) })
+                  | inl broken ↦ inr
+                      (condition_of n, record { violates = broken; first = λ c lower. keeps c (subst (λ (m : ℕ). condition_number c < m) same lower) })
                   | inr kept ↦ inl (keeps_next network before event n keeps (λ same broken. kept broken))
                 ]
           ]
@@ -113,7 +117,8 @@ at_most_eleven NotBroken = omega arith
 at_most_eleven NotOff = omega arith
 
 -- an event is within the hypothesis, or outside by a condition
-some_judgement : (network : Network) (before : List Event) (event : Event) → IsWithinHypothesis network before event ⊎ ((c : Outside) × IsOutsideBy network before event c)
+some_judgement : (network : Network) (before : List Event) (event : Event) → IsWithinHypothesis network before event
+    ⊎ ((c : Outside) × IsOutsideBy network before event c)
 some_judgement network before event =
     elim (judged network before event 12) [ inl keeps ↦ inl (λ c broken. keeps c (at_most_eleven c) broken) | inr outside ↦ inr outside ]
 

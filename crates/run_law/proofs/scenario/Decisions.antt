@@ -50,7 +50,8 @@ pub decided_some : {X : Type 0} (o : Option X) (P : X → Type 0) → ((x : X) �
 decided_some None P each = inr (λ h. h)
 decided_some (Some x) P each = each x
 
-neither : {X : Type 0} (x : X) (xs : List X) (P : X → Type 0) → (P x → ⊥) → ((i : ℕ) × IsSomeAnd (slice_get xs i) P → ⊥) → (i : ℕ) × IsSomeAnd (slice_get (x ∷ xs) i) P → ⊥
+neither : {X : Type 0} (x : X) (xs : List X) (P : X → Type 0) → (P x → ⊥) → ((i : ℕ) × IsSomeAnd (slice_get xs i) P → ⊥) → (i : ℕ)
+    × IsSomeAnd (slice_get (x ∷ xs) i) P → ⊥
 neither x xs P fails none (zero, p) = fails p
 neither x xs P fails none (suc i, p) = none (i, p)
 
@@ -83,4 +84,5 @@ any_parts P x xs (suc k, y, lt, at, p) = inr (k, y, omega arith, at, p)
 pub decided_any : {X : Type 0} (P : X → Type 0) → ((x : X) → IsDecided (P x)) → (xs : List X) → IsDecided (Any P xs)
 decided_any P each [] = inr (any_of_none P)
 decided_any P each (x ∷ xs) =
-    decided_by (λ h. elim h [ inl p ↦ any_first P x xs p | inr later ↦ any_later P x xs later ]) (any_parts P x xs) (decided_or (each x) (decided_any P each xs))
+    decided_by (λ h. elim h [ inl p ↦ any_first P x xs p | inr later ↦ any_later P x xs later ]) (any_parts P x xs)
+        (decided_or (each x) (decided_any P each xs))

@@ -4,20 +4,20 @@ use Rattle.std.specs.List.{fold}
 use Rattle.std.proofs.lemmas.List.{append-nil, length-map, map-append}
 use Rattle.net_plan.specs.declared.event.What.TheVariants.{Send}
 use Rattle.net_plan.specs.declared.network.Network.{Network}
+use Rattle.run_law.proofs.runs.NetworkRuns.{same_notes}
+use Rattle.run_law.proofs.runs.Places.{earlier_time, in_right, parted}
+use Rattle.run_law.proofs.silent.Due.{IsEarlyOn, caused_silently, quiet_cause, silently_caused}
+use Rattle.run_law.proofs.silent.States.{AreQuiet, IsQuietBody, quiet_append}
+use Rattle.run_law.specs.declared.note.Note.{Note}
+use Rattle.run_law.specs.declared.note.NoteBody.TheVariants.{Event as Befalls, Clock}
+use Rattle.run_law.specs.declared.note.NoteBody.{NoteBody}
+use Rattle.run_law.specs.law.Silent.{silent_place, IsInFirstHalf, IsSilent, IsSilentlyDue, SilentRunsAgree}
 use Rattle.run_law.specs.records.Happenings.{Happening, frame_by, happening, happenings, octets_by, time_of}
 use Rattle.run_law.specs.records.Order.{AllBefore, IsBefore, IsIn, NoneBefore}
 use Rattle.run_law.specs.records.Ranks.{key, members_in, place_of, rank}
 use Rattle.run_law.specs.runs.DueRecords.{IsDue}
 use Rattle.run_law.specs.runs.Runs.{IsRun}
 use Rattle.run_law.specs.scenario.Scenarios.{Scenario}
-use Rattle.run_law.specs.law.Silent.{silent_place, IsInFirstHalf, IsSilent, IsSilentlyDue, SilentRunsAgree}
-use Rattle.run_law.specs.declared.note.Note.{Note}
-use Rattle.run_law.specs.declared.note.NoteBody.{NoteBody}
-use Rattle.run_law.specs.declared.note.NoteBody.TheVariants.{Event as Befalls, Clock}
-use Rattle.run_law.proofs.runs.NetworkRuns.{same_notes}
-use Rattle.run_law.proofs.runs.Places.{earlier_time, in_right, parted}
-use Rattle.run_law.proofs.silent.Due.{IsEarlyOn, caused_silently, quiet_cause, silently_caused}
-use Rattle.run_law.proofs.silent.States.{AreQuiet, IsQuietBody, quiet_append}
 use Rattle.tte_units.specs.Amount.{amount}
 
 -- ---- records of no frame
@@ -41,12 +41,14 @@ no_octets network before other q = absurd q
 -- a quiet record is of no frame
 is_plain : (network : Network) (before : List Happening) (note : Note) → IsQuietBody note.body → happening network before note ≡ plain note
 is_plain network before note q =
-    ap (λ frame. let h : Happening = record { note = note; frame = frame; octets = octets_by network before note.body } in h) (no_frame network before note.body q)
+    ap (λ frame. let h : Happening = record { note = note; frame = frame; octets = octets_by network before note.body } in h)
+        (no_frame network before note.body q)
     ∙ ap (λ octets. let h : Happening = record { note = note; frame = None; octets = octets } in h) (no_octets network before note.body q)
 
 -- ---- lists of them
 
-are_plain : (network : Network) (before : List Happening) (ns : List Note) → AreQuiet (map plain ns) → fold (λ hs n. hs ++ happening network hs n ∷ []) before ns ≡ before ++ map plain ns
+are_plain : (network : Network) (before : List Happening) (ns : List Note) → AreQuiet (map plain ns) → fold (λ hs n. hs ++ happening network hs n ∷ []) before
+    ns ≡ before ++ map plain ns
 are_plain network before [] q = sym (append-nil before)
 are_plain network before (n ∷ ns) q =
     ap (λ h. fold (λ hs m. hs ++ happening network hs m ∷ []) (before ++ h ∷ []) ns) (is_plain network before n q.0)
@@ -105,7 +107,8 @@ parts (n ∷ ns) (p ∷ ps) qs e =
     let first : p ∷ ps ≡ map plain (n ∷ r.front) = ap (λ (h : Happening). h ∷ ps) (sym head) ∙ ap (λ (t : List Happening). plain n ∷ t) r.first in
     record { front = n ∷ r.front; back = r.back; whole = ap (λ (t : List Note). n ∷ t) r.whole; first = first; second = r.second }
 
-next_part : (back : List Note) (x : Happening) (qs : List Happening) → x ∷ qs ≡ map plain back → (n : Note) × (rest : List Note) × (back ≡ n ∷ rest) × (x ≡ plain n)
+next_part : (back : List Note) (x : Happening) (qs : List Happening) → x ∷ qs ≡ map plain back → (n : Note) × (rest : List Note) × (back ≡ n ∷ rest)
+    × (x ≡ plain n)
 next_part [] x qs e = absurd cc
 next_part (n ∷ rest) x qs e = (n, rest, refl, cc)
 
@@ -117,7 +120,8 @@ none_of_plain ls p none h i before = let r = from_plain ls h i in none r.0 r.1 (
 
 -- ---- what is due
 
-due : (s : Scenario) (ls : List Note) (n : Note) → IsSilent s.network s.reading s.events → AreQuiet (map plain ls) → IsSilentlyDue s.network s.reading s.events ls n → IsDue s (map plain ls) (plain n)
+due : (s : Scenario) (ls : List Note) (n : Note) → IsSilent s.network s.reading s.events → AreQuiet (map plain ls)
+    → IsSilentlyDue s.network s.reading s.events ls n → IsDue s (map plain ls) (plain n)
 due s ls n silent q d = record {
   number = d.number ∙ ap (λ (k : ℕ). k + 1) (sym (length-map ls plain));
   same = sym (is_plain s.network (map plain ls) n (quiet_cause s.network s.reading s.events n.time n.body silent.quiet d.cause));
@@ -125,7 +129,8 @@ due s ls n silent q d = record {
   cause = silently_caused s (map plain ls) n.time n.body silent.silent q d.cause;
 }
 
-silently_due : (s : Scenario) (ls : List Note) (h : Happening) → IsEarlyOn s (map plain ls) (time_of h) → IsDue s (map plain ls) h → IsSilentlyDue s.network s.reading s.events ls h.note
+silently_due : (s : Scenario) (ls : List Note) (h : Happening) → IsEarlyOn s (map plain ls) (time_of h) → IsDue s (map plain ls) h
+    → IsSilentlyDue s.network s.reading s.events ls h.note
 silently_due s ls h e d = record {
   number = d.number ∙ ap (λ (k : ℕ). k + 1) (length-map ls plain);
   begun = d.begun;
@@ -133,17 +138,20 @@ silently_due s ls h e d = record {
 }
 
 due_is_quiet : (s : Scenario) (hs : List Happening) (h : Happening) → IsEarlyOn s hs (time_of h) → IsDue s hs h → IsQuietBody h.note.body
-due_is_quiet s hs h e d = quiet_cause s.network s.reading s.events h.note.time h.note.body e.silent.quiet (caused_silently s hs h.note.time h.note.body e d.cause)
+due_is_quiet s hs h e d =
+    quiet_cause s.network s.reading s.events h.note.time h.note.body e.silent.quiet (caused_silently s hs h.note.time h.note.body e d.cause)
 
 due_is_plain : (s : Scenario) (hs : List Happening) (h : Happening) → IsEarlyOn s hs (time_of h) → IsDue s hs h → h ≡ plain h.note
 due_is_plain s hs h e d = d.same ∙ is_plain s.network hs h.note (due_is_quiet s hs h e d)
 
 in_half : (s : Scenario) (mark : List ℕ) (h : Happening) → IsInFirstHalf s.network mark → IsBefore (place_of h) mark → time_of h < amount s.network.cycle / 2
-in_half s mark h half before = earlier_time (time_of h) (amount s.network.cycle / 2) (rank h.note.body ∷ key (members_in h) h.note.body) (half (place_of h) before)
+in_half s mark h half before =
+    earlier_time (time_of h) (amount s.network.cycle / 2) (rank h.note.body ∷ key (members_in h) h.note.body) (half (place_of h) before)
 
 -- ---- runs
 
-quiet_run : (s : Scenario) (mark : List ℕ) (hs ps qs : List Happening) → IsSilent s.network s.reading s.events → IsInFirstHalf s.network mark → IsRun place_of (IsDue s) mark hs → hs ≡ ps ++ qs → AreQuiet ps → AreQuiet qs
+quiet_run : (s : Scenario) (mark : List ℕ) (hs ps qs : List Happening) → IsSilent s.network s.reading s.events → IsInFirstHalf s.network mark
+    → IsRun place_of (IsDue s) mark hs → hs ≡ ps ++ qs → AreQuiet ps → AreQuiet qs
 quiet_run s mark hs ps [] silent half run whole q = tt
 quiet_run s mark hs ps (x ∷ qs) silent half run whole q =
     let owed = run.founded ps qs x whole in
@@ -172,16 +180,19 @@ with_frames s mark ns silent half q run = record {
       let d = subst (λ (t : List Happening). IsDue s t y) cut.first owed in
       let place : place_of y ≡ silent_place y.note = ap place_of (due_is_plain s (map plain cut.front) y early d) in
       let b : AllBefore silent_place cut.front (silent_place y.note) = λ n i.
-      subst (λ (p : List ℕ). IsBefore (silent_place n) p) place (before (plain n) (subst (λ (t : List Happening). IsIn (plain n) t) (sym cut.first) (in_plain cut.front n i))) in
+      subst (λ (p : List ℕ). IsBefore (silent_place n) p) place
+          (before (plain n) (subst (λ (t : List Happening). IsIn (plain n) t) (sym cut.first) (in_plain cut.front n i))) in
       let r : NoneBefore silent_place cut.back (silent_place y.note) = λ n i less.
-      rest (plain n) (subst (λ (t : List Happening). IsIn (plain n) t) (sym cut.second) (in_plain cut.back n i)) (subst (λ (p : List ℕ). IsBefore (silent_place n) p) (sym place) less) in
+      rest (plain n) (subst (λ (t : List Happening). IsIn (plain n) t) (sym cut.second) (in_plain cut.back n i))
+          (subst (λ (p : List ℕ). IsBefore (silent_place n) p) (sym place) less) in
       let found = run.full cut.front cut.back y.note cut.whole b r (silently_due s cut.front y early d) (subst (λ (p : List ℕ). IsBefore p mark) place here) in
       (plain found.0, in_plain ns found.0 found.1, found.2 ∙ sym place);
   within = all_of_plain ns mark run.within;
 }
 
 -- and without them a run is the run of the silent cycle
-without_frames : (s : Scenario) (mark : List ℕ) (ns : List Note) → IsSilent s.network s.reading s.events → IsInFirstHalf s.network mark → AreQuiet (map plain ns)
+without_frames : (s : Scenario) (mark : List ℕ) (ns : List Note) → IsSilent s.network s.reading s.events → IsInFirstHalf s.network mark
+    → AreQuiet (map plain ns)
     → IsRun place_of (IsDue s) mark (map plain ns) → IsRun silent_place (IsSilentlyDue s.network s.reading s.events) mark ns
 without_frames s mark ns silent half q run = record {
   founded = λ ps qs n whole.
@@ -194,7 +205,8 @@ without_frames s mark ns silent half q run = record {
   full = λ ps qs n whole before rest owed here.
       let order : map plain ns ≡ map plain ps ++ map plain qs = ap (map plain) whole ∙ map-append plain ps qs in
       let front = quiet_front ps qs (subst (λ (t : List Note). AreQuiet (map plain t)) whole q) in
-      let found = run.full (map plain ps) (map plain qs) (plain n) order (all_of_plain ps (silent_place n) before) (none_of_plain qs (silent_place n) rest) (due s ps n silent front owed) here in
+      let found = run.full (map plain ps) (map plain qs) (plain n) order (all_of_plain ps (silent_place n) before) (none_of_plain qs (silent_place n) rest)
+              (due s ps n silent front owed) here in
       let own = from_plain ns found.0 found.1 in
       (own.0, own.1, ap place_of (sym own.2) ∙ found.2);
   within = λ n i. run.within (plain n) (in_plain ns n i);
@@ -204,7 +216,8 @@ pub silent_runs_agree : SilentRunsAgree
 silent_runs_agree network reading events mark ns silent half =
     let s : Scenario = record { network = network; reading = reading; events = events } in (
       λ run.
-          let q = quiet_all ns (λ n i. let at = parted n ns i in quiet_cause network reading events n.time n.body silent.quiet (run.founded at.0 at.1 n at.2).1.cause) in
+          let q = quiet_all ns (λ n i. let at = parted n ns i in quiet_cause network reading events n.time n.body silent.quiet
+                  (run.founded at.0 at.1 n at.2).1.cause) in
           subst (λ (hs : List Happening). IsRun place_of (IsDue s) mark hs) (sym (all_plain network ns q)) (with_frames s mark ns silent half q run),
       λ run.
           let q = quiet_notes network ns (quiet_run s mark (happenings network ns) [] (happenings network ns) silent half run refl tt) in

@@ -4,13 +4,13 @@ use Rattle.std.specs.List.{cons_option, filter, filter_map, fold, after_last, su
 use Rattle.net_plan.specs.declared.ids.DeviceId.{DeviceId}
 use Rattle.run_law.specs.control.Collections.{point_by, points_of, ends_stretch}
 use Rattle.run_law.specs.control.Corrections.{cycle_after, integration_cycle, recorded_cycle}
-use Rattle.run_law.specs.scenario.Devices.{start_of}
-use Rattle.run_law.specs.records.Happenings.{Happening, numbered}
-use Rattle.run_law.specs.scenario.Scenarios.{Scenario}
-use Rattle.run_law.specs.law.Silent.{IsQuiet}
-use Rattle.run_law.specs.device.States.{adjustment_after, adjustment_with, cycle_in, is_joined_by, state_after, state_with}
-use Rattle.run_law.specs.declared.note.NoteBody.{NoteBody}
 use Rattle.run_law.specs.declared.note.NoteBody.TheVariants.{Event as Befalls, Clock}
+use Rattle.run_law.specs.declared.note.NoteBody.{NoteBody}
+use Rattle.run_law.specs.device.States.{adjustment_after, adjustment_with, cycle_in, is_joined_by, state_after, state_with}
+use Rattle.run_law.specs.law.Silent.{IsQuiet}
+use Rattle.run_law.specs.records.Happenings.{Happening, numbered}
+use Rattle.run_law.specs.scenario.Devices.{start_of}
+use Rattle.run_law.specs.scenario.Scenarios.{Scenario}
 use Rattle.sync_state.specs.Standing.{adjustment_at_start, state_at_start}
 use Rattle.sync_state.specs.declared.state.State.{State}
 use Rattle.tte_units.specs.declared.units.Units.{Units}
@@ -57,7 +57,8 @@ quiet_numbered hs (suc before) h q e = quiet_at hs before h q e
 
 -- ---- what a quiet list makes of a value
 
-quiet_fold : {B : Type 0} (f : B → Happening → B) (z : B) → ((h : Happening) → IsQuietBody h.note.body → f z h ≡ z) → (hs : List Happening) → AreQuiet hs → fold f z hs ≡ z
+quiet_fold : {B : Type 0} (f : B → Happening → B) (z : B) → ((h : Happening) → IsQuietBody h.note.body → f z h ≡ z) → (hs : List Happening) → AreQuiet hs
+    → fold f z hs ≡ z
 quiet_fold f z stays [] q = refl
 quiet_fold f z stays (h ∷ hs) q = ap (λ y. fold f y hs) (stays h q.0) ∙ quiet_fold f z stays hs q.1
 
@@ -65,7 +66,8 @@ quiet_none : (p : Happening → Bool) → ((h : Happening) → IsQuietBody h.not
 quiet_none p fails [] q = refl
 quiet_none p fails (h ∷ hs) q = ap (λ (b : Bool). if b then h ∷ filter p hs else filter p hs) (fails h q.0) ∙ quiet_none p fails hs q.1
 
-quiet_nothing : {B : Type 0} (f : Happening → Option B) → ((h : Happening) → IsQuietBody h.note.body → f h ≡ None) → (hs : List Happening) → AreQuiet hs → filter_map f hs ≡ []
+quiet_nothing : {B : Type 0} (f : Happening → Option B) → ((h : Happening) → IsQuietBody h.note.body → f h ≡ None) → (hs : List Happening) → AreQuiet hs
+    → filter_map f hs ≡ []
 quiet_nothing f fails [] q = refl
 quiet_nothing f fails (h ∷ hs) q = ap (λ o. cons_option o (filter_map f hs)) (fails h q.0) ∙ quiet_nothing f fails hs q.1
 
@@ -81,7 +83,8 @@ state_stays device old (Befalls line what) q = refl
 state_stays device old (Clock other reading adjustment state) q = refl
 state_stays device old other q = absurd q
 
-adjustment_stays : (s : Scenario) (device : DeviceId) (cycle : ℕ) (old : Units) (body : NoteBody) → IsQuietBody body → adjustment_with s device cycle old body ≡ old
+adjustment_stays : (s : Scenario) (device : DeviceId) (cycle : ℕ) (old : Units) (body : NoteBody) → IsQuietBody body
+    → adjustment_with s device cycle old body ≡ old
 adjustment_stays s device cycle old (Befalls line what) q = refl
 adjustment_stays s device cycle old (Clock other reading adjustment state) q = refl
 adjustment_stays s device cycle old other q = absurd q
@@ -103,10 +106,12 @@ state_begins s hs device q =
     let start = state_at_start (start_of s.network device) in
     quiet_fold (λ state h. state_with device state h.note.body) start (λ h r. state_stays device start h.note.body r) hs q
 
-pub adjustment_begins : (s : Scenario) (hs : List Happening) (device : DeviceId) → AreQuiet hs → adjustment_after s hs device ≡ adjustment_at_start (start_of s.network device)
+pub adjustment_begins : (s : Scenario) (hs : List Happening) (device : DeviceId) → AreQuiet hs → adjustment_after s hs device ≡ adjustment_at_start
+    (start_of s.network device)
 adjustment_begins s hs device q =
     let start = adjustment_at_start (start_of s.network device) in
-    quiet_fold (λ adjustment h. adjustment_with s device (cycle_in h) adjustment h.note.body) start (λ h r. adjustment_stays s device (cycle_in h) start h.note.body r) hs q
+    quiet_fold (λ adjustment h. adjustment_with s device (cycle_in h) adjustment h.note.body) start
+        (λ h r. adjustment_stays s device (cycle_in h) start h.note.body r) hs q
 
 pub never_integrates : (hs : List Happening) (device : DeviceId) → AreQuiet hs → integration_cycle hs device ≡ None
 never_integrates hs device q =

@@ -12,8 +12,8 @@ use Rattle.net_plan.specs.Places.{device_at}
 use Rattle.net_plan.specs.declared.ids.DeviceId.{DeviceId}
 use Rattle.net_plan.specs.declared.network.Network.{Network}
 use Rattle.net_plan.specs.declared.tables.Device.{Device}
-use Rattle.run_law.specs.scenario.Devices.{start_of}
 use Rattle.run_law.specs.law.Silent.{IsSilentNetwork}
+use Rattle.run_law.specs.scenario.Devices.{start_of}
 use Rattle.schedule_tables.proofs.EntryLemmas.{all_at}
 use Rattle.schedule_tables.proofs.Margins.{margins, shape_rules}
 use Rattle.schedule_tables.specs.declared.rule.Rule.TheVariants.{Masters}
@@ -35,13 +35,16 @@ whole (pos n) begun = refl
 whole (negsuc n) begun = absurd (omega (arith, ints))
 
 -- the adjustment at the beginning is at most the spread of the starts
-start_is_settled : (start : Option Units) (settled : Units) → pos 0 ≤ℤ settled.0 → IfSome start (λ s. s.0 ≤ℤ settled.0) → (adjustment_at_start start).0 ≤ℤ settled.0
+start_is_settled : (start : Option Units) (settled : Units) → pos 0 ≤ℤ settled.0 → IfSome start (λ s. s.0 ≤ℤ settled.0)
+    → (adjustment_at_start start).0 ≤ℤ settled.0
 start_is_settled None settled begun h = begun
 start_is_settled (Some s) settled begun h = h
 
-device_start : (network : Network) (device : DeviceId) (o : Option Device) → IsSilentNetwork network → device_at network device ≡ o → IfSome (option_and_then (λ d. d.start) o) (λ s. s.0 ≤ℤ network.settled.0)
+device_start : (network : Network) (device : DeviceId) (o : Option Device) → IsSilentNetwork network → device_at network device ≡ o
+    → IfSome (option_and_then (λ d. d.start) o) (λ s. s.0 ≤ℤ network.settled.0)
 device_start network device None silent there = tt
-device_start network device (Some d) silent there = all_at (λ e. IfSome e.start (λ s. s.0 ≤ℤ network.settled.0)) network.device device.0 d ((silent.rules Masters 4).starts refl) there
+device_start network device (Some d) silent there =
+    all_at (λ e. IfSome e.start (λ s. s.0 ≤ℤ network.settled.0)) network.device device.0 d ((silent.rules Masters 4).starts refl) there
 
 begins_settled : (network : Network) (device : DeviceId) → IsSilentNetwork network → (adjustment_at_start (start_of network device)).0 ≤ℤ network.settled.0
 begins_settled network device silent =
@@ -50,7 +53,8 @@ begins_settled network device silent =
 -- ---- the readings
 
 -- what is read in the first half cycle leaves a start's room to the cycle
-early_reading : (rho grain cycle settled t r : ℕ) → rho ≤ 1000000 → grain ≤ 1048576 → 2 ^ 32 ≤ cycle → 18 * settled ≤ cycle → t < cycle / 2 → 10 ^ 9 * abs_diff r t ≤ rho * t + 2 * grain * 10 ^ 9 → r + settled < cycle
+early_reading : (rho grain cycle settled t r : ℕ) → rho ≤ 1000000 → grain ≤ 1048576 → 2 ^ 32 ≤ cycle → 18 * settled ≤ cycle → t < cycle / 2
+    → 10 ^ 9 * abs_diff r t ≤ rho * t + 2 * grain * 10 ^ 9 → r + settled < cycle
 early_reading rho grain cycle settled t r slow fine long few early measured =
     let drift : rho * t ≤ 1000000 * t = mul-le-mul_right t slow in
     omega (arith, measured, drift)
@@ -71,13 +75,17 @@ from_zero rho grain t r first begins measured =
     subst (λ (n : ℕ). Measures rho grain t n) grown (subst (λ (n : ℕ). Measures rho grain n (r - first)) time measured)
 
 -- in the first half cycle, no reading reaches the length of a cycle less the device's start
-pub never_there : (network : Network) (reading : ℕ → ℕ) (device : DeviceId) (t : ℕ) (v start : ℤ) → IsSilentNetwork network → KeepsClockLaws network.rho (amount network.grain) reading → reading 0 ≡ 0
-    → t < amount network.cycle / 2 → pos (amount network.cycle) ≤ℤ v → start ≡ (adjustment_at_start (start_of network device)).0 → (v -ℤ start) ≤ℤ pos (reading t) → ⊥
+pub never_there : (network : Network) (reading : ℕ → ℕ) (device : DeviceId) (t : ℕ) (v start : ℤ) → IsSilentNetwork network
+    → KeepsClockLaws network.rho (amount network.grain) reading → reading 0 ≡ 0
+    → t < amount network.cycle / 2 → pos (amount network.cycle) ≤ℤ v → start ≡ (adjustment_at_start (start_of network device)).0
+        → (v -ℤ start) ≤ℤ pos (reading t) → ⊥
 never_there network reading device t v start silent laws begins early far is reached =
-    let measured : Measures network.rho (amount network.grain) t (reading t) = from_zero network.rho (amount network.grain) t (reading t) (reading 0) begins (laws.drifts 0 t (omega arith)) in
+    let measured : Measures network.rho (amount network.grain) t (reading t) = from_zero network.rho (amount network.grain) t (reading t) (reading 0) begins
+            (laws.drifts 0 t (omega arith)) in
     let fine = amount_grain network.grain.0 1048576 (omega (arith, ints, silent.range.grain.least)) silent.range.grain.most in
     let long = amount_cycle network.cycle.0 (2 ^ 32) silent.range.cycle.least in
-    let room = early_reading network.rho (amount network.grain) (amount network.cycle) (amount network.settled) t (reading t) silent.range.rho fine long (few_starts network silent) early measured in
+    let room = early_reading network.rho (amount network.grain) (amount network.cycle) (amount network.settled) t (reading t) silent.range.rho fine long
+            (few_starts network silent) early measured in
     let settled = whole network.settled.0 silent.range.settled.least in
     let small = begins_settled network device silent in
     omega (arith, ints, room, reached, far, is, small, settled)

@@ -6,21 +6,21 @@ use Rattle.net_plan.specs.declared.ids.DeviceId.{DeviceId}
 use Rattle.net_plan.specs.declared.ids.LinkId.{LinkId}
 use Rattle.net_plan.specs.declared.network.Network.{Network}
 use Rattle.net_plan.specs.declared.tables.Way.TheVariants.{Up, Down}
-use Rattle.pcf_codec.specs.declared.refusal.PcfRefusal.{PcfRefusal}
 use Rattle.pcf_codec.specs.declared.refusal.PcfRefusal.TheVariants as refusals
+use Rattle.pcf_codec.specs.declared.refusal.PcfRefusal.{PcfRefusal}
 use Rattle.pcf_values.specs.declared.members.Members.{Members}
 use Rattle.pcf_values.specs.declared.pcf.Pcf.{Pcf}
-use Rattle.pcf_values.specs.declared.pcf.PcfKind.{PcfKind}
 use Rattle.pcf_values.specs.declared.pcf.PcfKind.TheVariants.{Integration}
-use Rattle.run_law.specs.scenario.Devices.{is_end, is_parent_of, is_relay, member_of}
-use Rattle.run_law.specs.records.Happenings.{with_clock}
-use Rattle.run_law.specs.device.Standpoints.{Standpoint, clock_of, first_reason, place_in_cycle}
-use Rattle.run_law.specs.device.States.{is_synchronised}
-use Rattle.run_law.specs.scenario.Ways.{wire_of}
-use Rattle.run_law.specs.declared.judgement.Reason.{Reason}
+use Rattle.pcf_values.specs.declared.pcf.PcfKind.{PcfKind}
 use Rattle.run_law.specs.declared.judgement.Reason.TheVariants.{Off, ColdStart, Domain, Member, Old, Gate, RefusedLength, RefusedEtherType, RefusedReserved, RefusedKind}
-use Rattle.run_law.specs.declared.steps.Arrival.{Arrival}
+use Rattle.run_law.specs.declared.judgement.Reason.{Reason}
 use Rattle.run_law.specs.declared.steps.Arrival.TheVariants.{Dropped, Waits, Passes, PassesAndWaits}
+use Rattle.run_law.specs.declared.steps.Arrival.{Arrival}
+use Rattle.run_law.specs.device.Standpoints.{Standpoint, clock_of, first_reason, offset_in_cycle}
+use Rattle.run_law.specs.device.States.{is_synchronised}
+use Rattle.run_law.specs.records.Happenings.{with_clock}
+use Rattle.run_law.specs.scenario.Devices.{is_end, is_parent_of, is_relay, member_of}
+use Rattle.run_law.specs.scenario.Ways.{wire_of}
 use Rattle.transparent_clock.specs.Points.{point_of}
 use Rattle.tte_units.specs.Amount.{amount}
 use Rattle.tte_units.specs.declared.units.Units.{Units}
@@ -49,7 +49,8 @@ are_others (Some member) members = not (members.0 == 2 ^ member)
 -- does the frame come to a switch from an end system whose bit is not its members?
 abbrev pub is_of_other_member : Network → DeviceId → LinkId → Members → Bool
 is_of_other_member network device link members =
-    option_map_or (λ l. l.parent.0 == device.0 && is_end network l.child && are_others (member_of network l.child) members) (link_at network link) false
+    option_map_or (λ l. l.parent.0 == device.0 && is_end network l.child
+        && are_others (member_of network l.child) members) (link_at network link) false
 
 -- the frame's transparent clock at its arrival: the nominal delay of the wire is added
 abbrev pub clock_on_arrival : Network → LinkId → Pcf → ℕ
@@ -59,7 +60,8 @@ clock_on_arrival network link frame = frame.clock + wire_of network link
 abbrev pub is_gate_shut : Network → DeviceId → Standpoint → Bool
 is_gate_shut network device at =
     is_relay network device && is_synchronised at.state
-    && int_lt (pos (amount network.correction + 2 * amount network.precision)) (place_in_cycle network (clock_of at +ℤ pos (2 * amount network.precision)))
+    && int_lt (pos (amount network.correction + 2 * amount network.precision))
+        (offset_in_cycle network (clock_of at +ℤ pos (2 * amount network.precision)))
 
 -- why a frame that the decoder gave is dropped at its arrival, if it is: the first reason in this order
 abbrev pub frame_fault : Network → DeviceId → LinkId → Standpoint → Pcf → Option Reason
@@ -95,4 +97,5 @@ frame_or_fault network device link at frame None =
 -- what becomes of a protocol control frame that arrives at the device by the link
 abbrev pub control_arrival : Network → DeviceId → LinkId → Standpoint → Result Pcf PcfRefusal → Arrival
 control_arrival network device link at (Err refusal) = Dropped (if at.takes_part then refused refusal else Off)
-control_arrival network device link at (Ok frame) = frame_or_fault network device link at frame (frame_fault network device link at frame)
+control_arrival network device link at (Ok frame) =
+    frame_or_fault network device link at frame (frame_fault network device link at frame)

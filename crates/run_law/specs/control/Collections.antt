@@ -4,21 +4,21 @@ use Rattle.std.specs.Int.{int_div_euclid, trailing_zeros, w32}
 use Rattle.std.specs.List.{after_last}
 use Rattle.compression.specs.Clusters.{AreClusters, Cluster, Point, point_at}
 use Rattle.compression.specs.Role.{role}
-use Rattle.compression.specs.declared.taken.Taken.{Taken}
 use Rattle.compression.specs.declared.taken.Taken.TheVariants as taken
+use Rattle.compression.specs.declared.taken.Taken.{Taken}
 use Rattle.net_plan.specs.declared.ids.DeviceId.{DeviceId}
 use Rattle.net_plan.specs.declared.network.Network.{Network}
-use Rattle.run_law.specs.records.Happenings.{Happening}
-use Rattle.run_law.specs.device.Standpoints.{first_reason, place_in_cycle}
-use Rattle.run_law.specs.device.States.{cycle_in, is_joined_by, is_synchronised}
-use Rattle.run_law.specs.records.Ranks.{members_in}
-use Rattle.run_law.specs.declared.judgement.Reason.{Reason}
 use Rattle.run_law.specs.declared.judgement.Reason.TheVariants.{Gate, Cycle}
+use Rattle.run_law.specs.declared.judgement.Reason.{Reason}
 use Rattle.run_law.specs.declared.judgement.Why.TheVariants.{On}
-use Rattle.run_law.specs.declared.note.NoteBody.{NoteBody}
 use Rattle.run_law.specs.declared.note.NoteBody.TheVariants as notes
-use Rattle.run_law.specs.declared.steps.Ripe.{Ripe}
+use Rattle.run_law.specs.declared.note.NoteBody.{NoteBody}
 use Rattle.run_law.specs.declared.steps.Ripe.TheVariants as ripe
+use Rattle.run_law.specs.declared.steps.Ripe.{Ripe}
+use Rattle.run_law.specs.device.Standpoints.{first_reason, offset_in_cycle}
+use Rattle.run_law.specs.device.States.{cycle_in, is_joined_by, is_synchronised}
+use Rattle.run_law.specs.records.Happenings.{Happening}
+use Rattle.run_law.specs.records.Ranks.{members_in}
 use Rattle.sync_state.specs.declared.state.State.{State}
 use Rattle.tte_units.specs.Amount.{amount}
 
@@ -42,21 +42,23 @@ point_by device h other = None
 
 -- the points of the device's present stretch, in their order
 abbrev pub points_of : List Happening → DeviceId → List Point
-points_of hs device = filter_map (λ h. point_by device h h.note.body) (after_last (λ h. ends_stretch device h.note.body) hs)
+points_of hs device =
+    filter_map (λ h. point_by device h h.note.body) (after_last (λ h. ends_stretch device h.note.body) hs)
 
--- the observation window, which is the precision
-abbrev pub window : Network → ℤ
-window network = pos (amount network.precision)
+-- the observation observation_window, which is the precision
+abbrev pub observation_window : Network → ℤ
+observation_window network = pos (amount network.precision)
 
 -- this becomes of a point behind these: its role in their clusters
 pub record IsCollectedAs (network : Network) (points : List Point) (point : Point) (taken : Taken) : Type 0 where
   pub clusters : List Cluster
-  pub are : AreClusters (window network) points clusters
+  pub are : AreClusters (observation_window network) points clusters
   pub is : taken ≡ role clusters point
 
 -- the local value at which the frame of this point was dispatched, as it seems, and two precisions
 abbrev pub dispatch_value : Network → ℤ → ℤ → ℤ
-dispatch_value network adjustment point = ((point +ℤ adjustment) -ℤ pos (amount network.dmax)) +ℤ pos (2 * amount network.precision)
+dispatch_value network adjustment point =
+    ((point +ℤ adjustment) -ℤ pos (amount network.dmax)) +ℤ pos (2 * amount network.precision)
 
 -- is the whole number this one?
 abbrev pub is_number : ℤ → ℕ → Bool
@@ -68,7 +70,7 @@ abbrev pub point_fault : Network → State → ℤ → ℤ → ℕ → Option Re
 point_fault network state adjustment point cycle =
     let value = dispatch_value network adjustment point in
     first_reason (
-    (is_synchronised state && int_lt (pos (4 * amount network.precision)) (place_in_cycle network value), Gate)
+    (is_synchronised state && int_lt (pos (4 * amount network.precision)) (offset_in_cycle network value), Gate)
     ∷ (is_synchronised state && not (is_number (int_div_euclid value network.cycle.0) cycle), Cycle)
     ∷ [])
 

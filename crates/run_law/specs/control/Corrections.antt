@@ -7,15 +7,15 @@ use Rattle.membership.specs.Summary.{Summary, Summarizes}
 use Rattle.net_plan.specs.declared.ids.DeviceId.{DeviceId}
 use Rattle.net_plan.specs.declared.network.Network.{Network}
 use Rattle.pcf_values.specs.declared.channel.Channel.{Channel}
+use Rattle.run_law.specs.declared.judgement.Judgement.TheVariants.{Within, Outside}
+use Rattle.run_law.specs.declared.note.NoteBody.TheVariants as notes
+use Rattle.run_law.specs.declared.note.NoteBody.{NoteBody}
 use Rattle.run_law.specs.device.LocalClocks.{Reaches, changes_adjustment, had_come}
-use Rattle.run_law.specs.scenario.Devices.{channel_of, channel_of_link, plan_of}
+use Rattle.run_law.specs.device.States.{adjustment_before, cycle_in, is_joined_by, state_before}
 use Rattle.run_law.specs.records.Happenings.{Happening, earlier, time_of}
 use Rattle.run_law.specs.records.Ranks.{members_in}
+use Rattle.run_law.specs.scenario.Devices.{channel_of, channel_of_link, plan_of}
 use Rattle.run_law.specs.scenario.Scenarios.{Scenario, is_broken}
-use Rattle.run_law.specs.device.States.{adjustment_before, cycle_in, is_joined_by, state_before}
-use Rattle.run_law.specs.declared.judgement.Judgement.TheVariants.{Within, Outside}
-use Rattle.run_law.specs.declared.note.NoteBody.{NoteBody}
-use Rattle.run_law.specs.declared.note.NoteBody.TheVariants as notes
 use Rattle.sync_state.specs.Standing.{Standing, next_point}
 use Rattle.sync_state.specs.Verdicts.{HasVerdict}
 use Rattle.sync_state.specs.declared.answers.Verdict.{Verdict}
@@ -28,7 +28,8 @@ correction_value network cycle = pos (cycle * amount network.cycle + amount netw
 
 -- the cycle of the frame that told the device the time last
 abbrev pub integration_cycle : List Happening → DeviceId → Option ℕ
-integration_cycle hs device = fold (λ last h. if is_joined_by device h.note.body then Some (cycle_in h) else last) None hs
+integration_cycle hs device =
+    fold (λ last h. if is_joined_by device h.note.body then Some (cycle_in h) else last) None hs
 
 -- the cycle of the correction point that is next after a record: the frame's, or the one after the correction's
 abbrev pub cycle_after : DeviceId → ℕ → Happening → NoteBody → ℕ
@@ -42,7 +43,8 @@ recorded_cycle hs device = fold (λ next h. cycle_after device next h h.note.bod
 -- is that the cycle by whose frame the device joined? At its correction point a joiner only clears what it has
 -- heard, which makes no record
 abbrev pub is_integration_cycle : List Happening → DeviceId → Bool
-is_integration_cycle hs device = option_map_or (λ cycle. recorded_cycle hs device == cycle) (integration_cycle hs device) false
+is_integration_cycle hs device =
+    option_map_or (λ cycle. recorded_cycle hs device == cycle) (integration_cycle hs device) false
 
 -- a joiner before t: has it cleared what it had heard, at the correction point of its integration cycle, before the
 -- time `by`?
@@ -54,7 +56,8 @@ has_cleared s hs device t by =
 -- the cycle of the device's next correction point
 abbrev pub next_cycle : Scenario → List Happening → DeviceId → ℕ → ℕ
 next_cycle s hs device t =
-    if has_cleared s hs device t t then recorded_cycle (earlier t hs) device + 1 else recorded_cycle (earlier t hs) device
+    if has_cleared s hs device t t then recorded_cycle (earlier t hs) device + 1
+        else recorded_cycle (earlier t hs) device
 
 -- where the device's synchronisation stands before this time
 abbrev pub standing_before : Scenario → List Happening → DeviceId → ℕ → Standing
@@ -77,13 +80,16 @@ heard_by channel h point within = record {
 -- what the device has heard by a record: a frame within its time or outside it
 abbrev pub hearing_by : Network → DeviceId → Happening → NoteBody → Option Hearing
 hearing_by network device h (notes.Permanent other link cause point Within) =
-    if device.0 == other.0 then option_map (λ channel. heard_by channel h point true) (channel_of_link network link) else None
+    if device.0 == other.0 then option_map (λ channel. heard_by channel h point true) (channel_of_link network link)
+        else None
 hearing_by network device h (notes.Permanent other link cause point Outside) =
-    if device.0 == other.0 then option_map (λ channel. heard_by channel h point false) (channel_of_link network link) else None
+    if device.0 == other.0 then option_map (λ channel. heard_by channel h point false) (channel_of_link network link)
+        else None
 hearing_by network device h (notes.Compressed other opened at cycle members Within) =
     if device.0 == other.0 then option_map (λ channel. heard_by channel h at true) (channel_of network device) else None
 hearing_by network device h (notes.Compressed other opened at cycle members Outside) =
-    if device.0 == other.0 then option_map (λ channel. heard_by channel h at false) (channel_of network device) else None
+    if device.0 == other.0 then option_map (λ channel. heard_by channel h at false) (channel_of network device)
+        else None
 hearing_by network device h other = None
 
 -- what the device has heard since its last correction point before this time, this time included: since the last
@@ -95,7 +101,8 @@ heard_since s hs device t =
     filter_map (λ h. hearing_by s.network device h h.note.body) kept
 
 -- the correction point of this cycle comes at the time, and comes to this
-pub record ComesToCorrection (s : Scenario) (hs : List Happening) (t : ℕ) (device : DeviceId) (cycle : ℕ) (verdict : Verdict) : Type 0 where
+pub record ComesToCorrection (s : Scenario) (hs : List Happening) (device : DeviceId) (t : ℕ) (cycle : ℕ)
+    (verdict : Verdict) : Type 0 where
   pub next : next_point (standing_before s hs device t) ≡ Some cycle
   pub reached : Reaches s hs device (correction_value s.network cycle) t
   pub correct : is_broken s device t ≡ false

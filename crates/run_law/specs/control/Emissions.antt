@@ -6,24 +6,26 @@ use Rattle.compression.specs.Emission.{compressed}
 use Rattle.compression.specs.declared.compressed.Compressed.{Compressed}
 use Rattle.drift_clock.specs.Reach.{IsReach}
 use Rattle.net_plan.specs.declared.ids.DeviceId.{DeviceId}
-use Rattle.run_law.specs.control.Collections.{points_of, window}
-use Rattle.run_law.specs.scenario.Devices.{is_cm, plan_of}
-use Rattle.run_law.specs.records.Happenings.{Happening}
+use Rattle.run_law.specs.control.Collections.{points_of, observation_window}
 use Rattle.run_law.specs.control.Hearing.{heard_as}
-use Rattle.run_law.specs.scenario.Scenarios.{Scenario, is_broken}
-use Rattle.run_law.specs.device.States.{adjustment_at_hearing, state_at_hearing}
 use Rattle.run_law.specs.declared.judgement.Judgement.{Judgement}
+use Rattle.run_law.specs.device.States.{adjustment_at_hearing, state_at_hearing}
+use Rattle.run_law.specs.records.Happenings.{Happening}
+use Rattle.run_law.specs.scenario.Devices.{is_cm, plan_of}
+use Rattle.run_law.specs.scenario.Scenarios.{Scenario, is_broken}
 use Rattle.tte_units.specs.Amount.{amount}
 
 -- the compression master sends the frame of a cluster of its present stretch: its reading first reaches the
 -- cluster's emission reading at the time, and it hears the frame so, at that reading
-pub record Emits (s : Scenario) (hs : List Happening) (t : ℕ) (device : DeviceId) (sent : Compressed) (verdict : Judgement) : Type 0 where
+pub record Emits (s : Scenario) (hs : List Happening) (device : DeviceId) (t : ℕ) (sent : Compressed)
+    (verdict : Judgement) : Type 0 where
   pub cm : is_cm s.network device ≡ true
   pub correct : is_broken s device t ≡ false
   pub clusters : List Cluster
-  pub are : AreClusters (window s.network) (points_of hs device) clusters
+  pub are : AreClusters (observation_window s.network) (points_of hs device) clusters
   pub cluster : Cluster
   pub there : Contains clusters cluster
-  pub is : sent ≡ compressed (window s.network) (pos (amount s.network.calc)) cluster
+  pub is : sent ≡ compressed (observation_window s.network) (pos (amount s.network.calc)) cluster
   pub reached : IsReach (s.reading device) (pos 0) sent.at.0 (pos t)
-  pub heard : verdict ≡ heard_as (plan_of s.network device) (window s.network) (state_at_hearing s hs device t) (adjustment_at_hearing s hs device t).0 sent.at.0 sent.cycle sent.members
+  pub heard : verdict ≡ heard_as (plan_of s.network device) (observation_window s.network)
+      (state_at_hearing s hs device t) (adjustment_at_hearing s hs device t).0 sent.at.0 sent.cycle sent.members

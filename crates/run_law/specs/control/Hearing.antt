@@ -2,25 +2,25 @@
 use Rattle.std.specs.Prelude.{ℕ, ◌+◌, ◌^◌, ℤ, ◌+ℤ◌, ◌-ℤ◌, int_le, nat_le, Bool, ◌&&◌, if◌then◌else◌}
 use Rattle.membership.specs.Members.{count_of}
 use Rattle.pcf_values.specs.declared.members.Members.{Members}
-use Rattle.run_law.specs.declared.judgement.Judgement.{Judgement}
 use Rattle.run_law.specs.declared.judgement.Judgement.TheVariants.{Within, Outside, Integrates, Ignored}
+use Rattle.run_law.specs.declared.judgement.Judgement.{Judgement}
 use Rattle.sync_state.specs.Plan.{expected_at}
 use Rattle.sync_state.specs.declared.plan.SyncPlan.{SyncPlan}
-use Rattle.sync_state.specs.declared.state.State.{State}
 use Rattle.sync_state.specs.declared.state.State.TheVariants.{Off, Integrating, Joining, Synchronised}
+use Rattle.sync_state.specs.declared.state.State.{State}
 
 -- the last cycle of a frame that is used
 abbrev pub last_cycle : ℕ
 last_cycle = 2 ^ 20 + 2 ^ 17
 
 -- is the local value where the frame of the cycle is expected, up to the precision?
-abbrev pub is_in_time : SyncPlan → ℤ → ℕ → ℤ → Bool
-is_in_time plan precision cycle value =
+abbrev pub is_in_schedule : SyncPlan → ℤ → ℕ → ℤ → Bool
+is_in_schedule plan precision cycle value =
     int_le (expected_at plan cycle -ℤ precision) value && int_le value (expected_at plan cycle +ℤ precision)
 
 -- how a device that has the common time hears a frame
-abbrev pub heard_in_time : Bool → Judgement
-heard_in_time in_time = if in_time then Within else Outside
+abbrev pub heard_by_schedule : Bool → Judgement
+heard_by_schedule in_time = if in_time then Within else Outside
 
 -- how a device that looks for it does
 abbrev pub heard_enough : Bool → Judgement
@@ -29,6 +29,9 @@ heard_enough enough = if enough then Integrates else Ignored
 -- how a device in this state and with this adjustment hears a frame of a cycle and members at a point
 abbrev pub heard_as : SyncPlan → ℤ → State → ℤ → ℤ → ℕ → Members → Judgement
 heard_as plan precision Off adjustment point cycle members = Ignored
-heard_as plan precision Integrating adjustment point cycle members = heard_enough (nat_le plan.threshold (count_of members) && nat_le cycle last_cycle)
-heard_as plan precision Joining adjustment point cycle members = heard_in_time (nat_le cycle last_cycle && is_in_time plan precision cycle (point +ℤ adjustment))
-heard_as plan precision Synchronised adjustment point cycle members = heard_in_time (nat_le cycle last_cycle && is_in_time plan precision cycle (point +ℤ adjustment))
+heard_as plan precision Integrating adjustment point cycle members =
+    heard_enough (nat_le plan.threshold (count_of members) && nat_le cycle last_cycle)
+heard_as plan precision Joining adjustment point cycle members =
+    heard_by_schedule (nat_le cycle last_cycle && is_in_schedule plan precision cycle (point +ℤ adjustment))
+heard_as plan precision Synchronised adjustment point cycle members =
+    heard_by_schedule (nat_le cycle last_cycle && is_in_schedule plan precision cycle (point +ℤ adjustment))

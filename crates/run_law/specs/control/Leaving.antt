@@ -5,25 +5,27 @@ use Rattle.net_plan.specs.declared.ids.DeviceId.{DeviceId}
 use Rattle.net_plan.specs.declared.ids.LinkId.{LinkId}
 use Rattle.net_plan.specs.declared.network.Network.{Network}
 use Rattle.pcf_values.specs.declared.pcf.Pcf.{Pcf}
-use Rattle.run_law.specs.scenario.Devices.{IsParentOf, is_relay}
+use Rattle.run_law.specs.declared.note.NoteBody.TheVariants as notes
+use Rattle.run_law.specs.declared.note.NoteBody.{NoteBody}
 use Rattle.run_law.specs.records.Happenings.{Happening, numbered, time_of}
+use Rattle.run_law.specs.scenario.Devices.{IsParentOf, is_relay}
 use Rattle.run_law.specs.scenario.Scenarios.{Scenario, is_broken}
 use Rattle.run_law.specs.scenario.Ways.{hold_at, is_cut, way_from}
-use Rattle.run_law.specs.declared.note.NoteBody.{NoteBody}
-use Rattle.run_law.specs.declared.note.NoteBody.TheVariants as notes
 use Rattle.tte_units.specs.Amount.{amount}
 
 -- a relay passes a frame from a child link up by its parent link, and one from its parent link down by all its
 -- child links
 pub record Passes (network : Network) (device : DeviceId) (by link : LinkId) : Type 0 where
   pub relay : is_relay network device ≡ true
-  pub on : (IsParentOf network device by × IsChildOf network device link) ⊎ (IsChildOf network device by × IsParentOf network device link)
+  pub on : (IsParentOf network device by × IsChildOf network device link)
+      ⊎ (IsChildOf network device by × IsParentOf network device link)
 
 -- the device gives the frame of the record to the link: a master its own to both links, a compression master its
 -- own to all child links, a relay what it passes
 abbrev pub Gives : Network → NoteBody → DeviceId → LinkId → Type 0
 Gives network (notes.Sent master cycle) device link = (device ≡ master) × IsChildOf network device link
-Gives network (notes.Compressed cm opened at cycle members verdict) device link = (device ≡ cm) × IsParentOf network device link
+Gives network (notes.Compressed cm opened at cycle members verdict) device link =
+    (device ≡ cm) × IsParentOf network device link
 Gives network (notes.Arrived relay by cause clock) device link = (device ≡ relay) × Passes network device by link
 Gives network other device link = ⊥
 
@@ -42,11 +44,13 @@ clock_at_leaving s device frame given t = frame.clock + (s.reading device t - s.
 abbrev pub departure : Scenario → DeviceId → LinkId → Pcf → ℕ → ℕ → Departure
 departure s device link frame given t =
     if nat_lt (amount s.network.dmax) (clock_at_leaving s device frame given t) then too_old
-    else (if is_cut s link (way_from s.network device link) t then on_cut_way else leaves (clock_at_leaving s device frame given t))
+    else (if is_cut s link (way_from s.network device link) t then on_cut_way
+        else leaves (clock_at_leaving s device frame given t))
 
 -- the frame of the record with the number `cause`, which the device gave to the link, leaves at the time, after
 -- the hold, and this becomes of it. A device that broke by then sends nothing
-pub record Departs (s : Scenario) (hs : List Happening) (t : ℕ) (device : DeviceId) (link : LinkId) (cause : ℕ) (is : Departure) : Type 0 where
+pub record Departs (s : Scenario) (hs : List Happening) (device : DeviceId) (t : ℕ) (link : LinkId) (cause : ℕ)
+    (is : Departure) : Type 0 where
   pub giving : Happening
   pub there : numbered hs cause ≡ Some giving
   pub gives : Gives s.network giving.note.body device link

@@ -7,20 +7,20 @@ use Rattle.net_plan.specs.declared.ids.DeviceId.{DeviceId}
 use Rattle.net_plan.specs.declared.ids.LinkId.{LinkId}
 use Rattle.net_plan.specs.declared.network.Network.{Network}
 use Rattle.pcf_values.specs.declared.pcf.Pcf.{Pcf}
-use Rattle.run_law.specs.control.Collections.{IsCollectedAs, master_of, point_fault, points_of, ripe_by_role, window}
-use Rattle.run_law.specs.scenario.Devices.{is_cm, is_parent_of, is_relay, plan_of}
-use Rattle.run_law.specs.records.Happenings.{Happening, numbered, time_of}
+use Rattle.run_law.specs.control.Collections.{IsCollectedAs, master_of, point_fault, points_of, ripe_by_role, observation_window}
 use Rattle.run_law.specs.control.Hearing.{heard_as}
-use Rattle.run_law.specs.records.Order.{is_before}
-use Rattle.run_law.specs.records.Ranks.{place_of}
-use Rattle.run_law.specs.scenario.Scenarios.{Scenario, is_broken}
-use Rattle.run_law.specs.device.States.{adjustment_at_hearing, state_at_hearing}
-use Rattle.run_law.specs.declared.judgement.Judgement.{Judgement}
 use Rattle.run_law.specs.declared.judgement.Judgement.TheVariants as judgements
+use Rattle.run_law.specs.declared.judgement.Judgement.{Judgement}
 use Rattle.run_law.specs.declared.judgement.Reason.{Reason}
 use Rattle.run_law.specs.declared.note.NoteBody.TheVariants as notes
-use Rattle.run_law.specs.declared.steps.Ripe.{Ripe}
 use Rattle.run_law.specs.declared.steps.Ripe.TheVariants as ripe
+use Rattle.run_law.specs.declared.steps.Ripe.{Ripe}
+use Rattle.run_law.specs.device.States.{adjustment_at_hearing, state_at_hearing}
+use Rattle.run_law.specs.records.Happenings.{Happening, numbered, time_of}
+use Rattle.run_law.specs.records.Order.{is_before}
+use Rattle.run_law.specs.records.Ranks.{place_of}
+use Rattle.run_law.specs.scenario.Devices.{is_cm, is_parent_of, is_relay, plan_of}
+use Rattle.run_law.specs.scenario.Scenarios.{Scenario, is_broken}
 use Rattle.sync_state.specs.declared.state.State.{State}
 use Rattle.transparent_clock.specs.Points.{point_of}
 use Rattle.tte_units.specs.Amount.{amount}
@@ -41,27 +41,30 @@ ripe_as judgements.Integrates = ripe.Integrates
 ripe_as judgements.Ignored = ripe.Ignored
 
 -- the frame of a point behind these is collected so
-pub record IsTakenSo (network : Network) (points : List Point) (point : Point) (is : Ripe) : Type 0 where
+pub record IsCollectionOutcome (network : Network) (points : List Point) (point : Point) (is : Ripe) : Type 0 where
   pub taken : Taken
   pub collected : IsCollectedAs network points point taken
   pub becomes : is ≡ ripe_by_role taken
 
 -- this becomes of a point at a compression master that has this fault, or none
-abbrev pub IsCollectedOr : Network → List Point → Point → Option Reason → Ripe → Type 0
-IsCollectedOr network points point (Some reason) is = is ≡ ripe.Dropped reason
-IsCollectedOr network points point None is = IsTakenSo network points point is
+abbrev pub IsCollectedOrDropped : Network → List Point → Point → Option Reason → Ripe → Type 0
+IsCollectedOrDropped network points point (Some reason) is = is ≡ ripe.Dropped reason
+IsCollectedOrDropped network points point None is = IsCollectionOutcome network points point is
 
 -- this becomes of a frame that is permanent at a device in this state and with this adjustment: a compression
 -- master collects it, behind these points; any other device hears it
-abbrev pub IsRipeSo : Network → DeviceId → State → ℤ → List Point → Pcf → ℤ → Ripe → Type 0
-IsRipeSo network device state adjustment points frame point is =
+abbrev pub IsPermanenceOutcome : Network → DeviceId → State → ℤ → List Point → Pcf → ℤ → Ripe → Type 0
+IsPermanenceOutcome network device state adjustment points frame point is =
     MatchBool (is_cm network device)
-    (IsCollectedOr network points (point_at point (master_of frame.members.0) frame.cycle) (point_fault network state adjustment point frame.cycle) is)
-    (is ≡ ripe_as (heard_as (plan_of network device) (window network) state adjustment point frame.cycle frame.members))
+    (IsCollectedOrDropped network points (point_at point (master_of frame.members.0) frame.cycle)
+        (point_fault network state adjustment point frame.cycle) is)
+    (is ≡ ripe_as (heard_as (plan_of network device) (observation_window network) state adjustment point frame.cycle
+        frame.members))
 
 -- the frame of the `arrived` record with the number `cause` is permanent at the time: the device waits for it, and
 -- its reading is first at least the frame's point. A broken device makes no record of it
-pub record IsPermanent (s : Scenario) (hs : List Happening) (t : ℕ) (device : DeviceId) (link : LinkId) (cause : ℕ) (frame : Pcf) (point : Units) : Type 0 where
+pub record IsPermanent (s : Scenario) (hs : List Happening) (device : DeviceId) (t : ℕ) (link : LinkId) (cause : ℕ)
+    (frame : Pcf) (point : Units) : Type 0 where
   pub arrival : Happening
   pub there : numbered hs cause ≡ Some arrival
   pub from : ℕ
@@ -75,17 +78,19 @@ pub record IsPermanent (s : Scenario) (hs : List Happening) (t : ℕ) (device : 
 
 -- the records before the place at which the frame is permanent. What comes behind it at that time, as another frame or
 -- a change of the device's state, does not bear on it, though a record of its drop comes later still
-abbrev pub before_permanence : List Happening → ℕ → DeviceId → LinkId → ℕ → Pcf → Units → List Happening
-before_permanence hs t device link cause frame point =
+abbrev pub before_permanence : List Happening → DeviceId → ℕ → LinkId → ℕ → Pcf → Units → List Happening
+before_permanence hs device t link cause frame point =
     filter (λ h. is_before (place_of h) (t ∷ 3 ∷ device.0 ∷ amount point ∷ frame.members.0 ∷ link.0 ∷ cause ∷ [])) hs
 
 -- this becomes of the frame, judged by these records
-abbrev pub IsJudgedBy : Scenario → List Happening → ℕ → DeviceId → Pcf → Units → Ripe → Type 0
-IsJudgedBy s judged t device frame point is =
-    IsRipeSo s.network device (state_at_hearing s judged device t) (adjustment_at_hearing s judged device t).0 (points_of judged device) frame point.0 is
+abbrev pub IsJudgedBy : Scenario → List Happening → DeviceId → ℕ → Pcf → Units → Ripe → Type 0
+IsJudgedBy s judged device t frame point is =
+    IsPermanenceOutcome s.network device (state_at_hearing s judged device t)
+        (adjustment_at_hearing s judged device t).0 (points_of judged device) frame point.0 is
 
 -- the frame is permanent, and this becomes of it
-pub record Ripens (s : Scenario) (hs : List Happening) (t : ℕ) (device : DeviceId) (link : LinkId) (cause : ℕ) (point : Units) (is : Ripe) : Type 0 where
+pub record BecomesPermanent (s : Scenario) (hs : List Happening) (device : DeviceId) (t : ℕ) (link : LinkId) (cause : ℕ)
+    (point : Units) (is : Ripe) : Type 0 where
   pub frame : Pcf
-  pub permanent : IsPermanent s hs t device link cause frame point
-  pub becomes : IsJudgedBy s (before_permanence hs t device link cause frame point) t device frame point is
+  pub permanent : IsPermanent s hs device t link cause frame point
+  pub becomes : IsJudgedBy s (before_permanence hs device t link cause frame point) device t frame point is

@@ -6,18 +6,18 @@ use Rattle.net_plan.specs.declared.event.What.TheVariants.{Send}
 use Rattle.net_plan.specs.declared.ids.DeviceId.{DeviceId}
 use Rattle.net_plan.specs.declared.ids.LinkId.{LinkId}
 use Rattle.net_plan.specs.declared.network.Network.{Network}
-use Rattle.net_plan.specs.declared.tables.Way.{Way}
 use Rattle.net_plan.specs.declared.tables.Way.TheVariants.{Up}
+use Rattle.net_plan.specs.declared.tables.Way.{Way}
 use Rattle.pcf_codec.specs.Decoding.{decoded}
 use Rattle.pcf_codec.specs.EtherType.{pcf_type}
 use Rattle.pcf_codec.specs.Fields.{field}
 use Rattle.pcf_codec.specs.declared.refusal.PcfRefusal.{PcfRefusal}
 use Rattle.pcf_values.specs.declared.pcf.Pcf.{Pcf}
+use Rattle.run_law.specs.declared.note.NoteBody.TheVariants as notes
+use Rattle.run_law.specs.declared.note.NoteBody.{NoteBody}
 use Rattle.run_law.specs.records.Happenings.{Happening, time_of}
 use Rattle.run_law.specs.scenario.Scenarios.{Scenario}
 use Rattle.run_law.specs.scenario.Ways.{delay_at, is_cut, receiver_of, way_from}
-use Rattle.run_law.specs.declared.note.NoteBody.{NoteBody}
-use Rattle.run_law.specs.declared.note.NoteBody.TheVariants as notes
 use Rattle.tte_units.specs.OctetTime.{octet_time}
 
 -- what a device finds on a wire: a protocol control frame, as its octets decode, or the octets of any other frame
@@ -38,20 +38,26 @@ pub record Launch : Type 0 where
 -- the frame that a record puts on a way: a control frame that leaves, a time-triggered frame that is dispatched,
 -- or the octets of a `send` event, which go up from the broken master where that way is not cut
 abbrev pub launched : Scenario → Happening → ℕ → NoteBody → Option Launch
-launched s h t (notes.Left device link cause clock) = option_map (λ frame. record { link = link; way = way_from s.network device link; signal = control (Ok frame) }) h.frame
-launched s h t (notes.TtSent device link cause vl cycle) = Some (record { link = link; way = way_from s.network device link; signal = timed h.octets })
-launched s h t (notes.Event line (Send link octets)) = if is_cut s link Up t then None else Some (record { link = link; way = Up; signal = signal_of octets })
+launched s h t (notes.Left device link cause clock) =
+    option_map (λ frame. record { link = link; way = way_from s.network device link; signal = control (Ok frame) })
+    h.frame
+launched s h t (notes.TtSent device link cause vl cycle) =
+    Some (record { link = link; way = way_from s.network device link; signal = timed h.octets })
+launched s h t (notes.Event line (Send link octets)) =
+    if is_cut s link Up t then None else Some (record { link = link; way = Up; signal = signal_of octets })
 launched s h t other = None
 
 -- how long the frame is on its port before it has arrived: a control frame is timed by its first octet, any other
 -- by its last, with the 24 octets of preamble, delimiter, check sequence and gap (IEEE 802.3)
 abbrev pub time_on_port : Network → LinkId → Signal → ℕ
 time_on_port network link (control frame) = 0
-time_on_port network link (timed octets) = option_map_or (λ l. (length octets + 24) * octet_time l.speed) (link_at network link) 0
+time_on_port network link (timed octets) =
+    option_map_or (λ l. (length octets + 24) * octet_time l.speed) (link_at network link) 0
 
 -- the frame that the record puts on a wire arrives at the device by the link at this time: its time on the port and
 -- the wire delay of that time later
-pub record Arrives (s : Scenario) (h : Happening) (device : DeviceId) (link : LinkId) (t : ℕ) (signal : Signal) : Type 0 where
+pub record Arrives (s : Scenario) (h : Happening) (device : DeviceId) (link : LinkId) (t : ℕ)
+    (signal : Signal) : Type 0 where
   pub way : Way
   pub put : launched s h (time_of h) h.note.body ≡ Some (record { link = link; way = way; signal = signal })
   pub receiver : receiver_of s.network link way ≡ Some device

@@ -4,11 +4,11 @@ use Rattle.std.specs.List.{last_or}
 use Rattle.std.specs.Option.{option_map_or}
 use Rattle.drift_clock.specs.Reach.{IsReach}
 use Rattle.net_plan.specs.declared.ids.DeviceId.{DeviceId}
+use Rattle.run_law.specs.declared.note.NoteBody.TheVariants as notes
+use Rattle.run_law.specs.declared.note.NoteBody.{NoteBody}
+use Rattle.run_law.specs.device.States.{adjustment_after, adjustment_before, is_joined_by}
 use Rattle.run_law.specs.records.Happenings.{Happening, earlier, up_to, time_of}
 use Rattle.run_law.specs.scenario.Scenarios.{Scenario}
-use Rattle.run_law.specs.device.States.{adjustment_after, adjustment_before, is_joined_by}
-use Rattle.run_law.specs.declared.note.NoteBody.{NoteBody}
-use Rattle.run_law.specs.declared.note.NoteBody.TheVariants as notes
 
 -- the local clock of the device at a time: its reading and its adjustment
 abbrev pub local : Scenario → List Happening → DeviceId → ℕ → ℤ
@@ -25,7 +25,8 @@ changes_adjustment device body = is_joined_by device body
 
 -- when the device's adjustment last changed before the time, or 0
 abbrev pub changed_at : List Happening → DeviceId → ℕ → ℕ
-changed_at hs device t = option_map_or time_of (last_or None (filter (λ h. changes_adjustment device h.note.body) (earlier t hs))) 0
+changed_at hs device t =
+    option_map_or time_of (last_or None (filter (λ h. changes_adjustment device h.note.body) (earlier t hs))) 0
 
 -- the local clock of the device right after that change
 abbrev pub local_at_change : Scenario → List Happening → DeviceId → ℕ → ℤ
@@ -35,7 +36,8 @@ local_at_change s hs device t = pos (s.reading device (changed_at hs device t)) 
 -- this is the least time from then on at which it is not. What a change has passed is not reached by it
 pub record Reaches (s : Scenario) (hs : List Happening) (device : DeviceId) (v : ℤ) (t : ℕ) : Type 0 where
   pub below : local_at_change s hs device t <ℤ v
-  pub reach : IsReach (s.reading device) (pos (changed_at hs device t)) (v -ℤ (adjustment_before s hs device t).0) (pos t)
+  pub reach : IsReach (s.reading device) (pos (changed_at hs device t)) (v -ℤ (adjustment_before s hs device t).0)
+      (pos t)
 
 -- since the last change of the device's adjustment before t, has its clock come to v before the time `by`?
 abbrev pub had_come : Scenario → List Happening → DeviceId → ℤ → ℕ → ℕ → Bool

@@ -3,10 +3,10 @@ use Rattle.std.specs.Prelude.{ℕ, ℤ, pos, negsuc, ◌+ℤ◌, Bool, ◌&&◌,
 use Rattle.std.specs.Int.{int_div_euclid, int_rem_euclid}
 use Rattle.net_plan.specs.declared.ids.DeviceId.{DeviceId}
 use Rattle.net_plan.specs.declared.network.Network.{Network}
+use Rattle.run_law.specs.declared.judgement.Reason.{Reason}
+use Rattle.run_law.specs.device.States.{adjustment_before, is_off, state_before}
 use Rattle.run_law.specs.records.Happenings.{Happening}
 use Rattle.run_law.specs.scenario.Scenarios.{Scenario, is_broken}
-use Rattle.run_law.specs.device.States.{adjustment_before, is_off, state_before}
-use Rattle.run_law.specs.declared.judgement.Reason.{Reason}
 use Rattle.sync_state.specs.declared.state.State.{State}
 
 -- is it on and not broken, its state, its reading and its adjustment
@@ -40,8 +40,8 @@ abbrev pub cycle_at : Network → ℤ → ℕ
 cycle_at network value = natural (int_div_euclid value network.cycle.0)
 
 -- the place of a local value in its cycle
-abbrev pub place_in_cycle : Network → ℤ → ℤ
-place_in_cycle network value = int_rem_euclid value network.cycle.0
+abbrev pub offset_in_cycle : Network → ℤ → ℤ
+offset_in_cycle network value = int_rem_euclid value network.cycle.0
 
 -- the first of these reasons whose test holds
 abbrev pub first_reason : List (Bool × Reason) → Option Reason

@@ -3,16 +3,16 @@ use Rattle.std.specs.Prelude.{ℕ, ◌-ℤ◌, Bool, true, false, ◌&&◌, ◌|
 use Rattle.std.specs.List.{list_any}
 use Rattle.std.specs.Option.{option_map_or}
 use Rattle.net_plan.specs.declared.ids.DeviceId.{DeviceId}
-use Rattle.run_law.specs.scenario.Devices.{plan_of, start_of}
-use Rattle.run_law.specs.records.Happenings.{Happening, earlier, time_of}
-use Rattle.run_law.specs.scenario.Scenarios.{Scenario, is_turned_on_at}
 use Rattle.run_law.specs.declared.judgement.Judgement.TheVariants.{Integrates}
-use Rattle.run_law.specs.declared.note.NoteBody.{NoteBody}
 use Rattle.run_law.specs.declared.note.NoteBody.TheVariants as notes
+use Rattle.run_law.specs.declared.note.NoteBody.{NoteBody}
+use Rattle.run_law.specs.records.Happenings.{Happening, earlier, time_of}
+use Rattle.run_law.specs.scenario.Devices.{plan_of, start_of}
+use Rattle.run_law.specs.scenario.Scenarios.{Scenario, is_turned_on_at}
 use Rattle.sync_state.specs.Plan.{expected_at}
 use Rattle.sync_state.specs.Standing.{state_at_start, adjustment_at_start}
-use Rattle.sync_state.specs.declared.state.State.{State}
 use Rattle.sync_state.specs.declared.state.State.TheVariants.{Off, Integrating, Joining, Synchronised}
+use Rattle.sync_state.specs.declared.state.State.{State}
 use Rattle.tte_units.specs.declared.units.Units.{Units}
 
 -- is the device off?
@@ -46,19 +46,24 @@ cycle_in h = option_map_or (λ frame. frame.cycle) h.frame 0
 
 -- the adjustment that a record leaves the device with; `cycle` is that of its frame
 abbrev pub adjustment_with : Scenario → DeviceId → ℕ → Units → NoteBody → Units
-adjustment_with s device cycle old (notes.Corrected other number by adjustment) = if device.0 == other.0 then adjustment else old
-adjustment_with s device cycle old (notes.Permanent other link cause point Integrates) = if device.0 == other.0 then joined_adjustment s device cycle point else old
-adjustment_with s device cycle old (notes.Compressed other opened at own members Integrates) = if device.0 == other.0 then joined_adjustment s device own at else old
+adjustment_with s device cycle old (notes.Corrected other number by adjustment) =
+    if device.0 == other.0 then adjustment else old
+adjustment_with s device cycle old (notes.Permanent other link cause point Integrates) =
+    if device.0 == other.0 then joined_adjustment s device cycle point else old
+adjustment_with s device cycle old (notes.Compressed other opened at own members Integrates) =
+    if device.0 == other.0 then joined_adjustment s device own at else old
 adjustment_with s device cycle old other = old
 
 -- the device's state after these records: at first synchronised, or off where it begins off
 abbrev pub state_after : Scenario → List Happening → DeviceId → State
-state_after s hs device = fold (λ state h. state_with device state h.note.body) (state_at_start (start_of s.network device)) hs
+state_after s hs device =
+    fold (λ state h. state_with device state h.note.body) (state_at_start (start_of s.network device)) hs
 
 -- its adjustment after these records: at first its start, or 0 where it begins off
 abbrev pub adjustment_after : Scenario → List Happening → DeviceId → Units
 adjustment_after s hs device =
-    fold (λ adjustment h. adjustment_with s device (cycle_in h) adjustment h.note.body) (adjustment_at_start (start_of s.network device)) hs
+    fold (λ adjustment h. adjustment_with s device (cycle_in h) adjustment h.note.body)
+        (adjustment_at_start (start_of s.network device)) hs
 
 -- its state when something comes at this time: after the records of earlier times and the events of this one
 abbrev pub state_before : Scenario → List Happening → DeviceId → ℕ → State

@@ -9,20 +9,20 @@ use Rattle.net_plan.specs.declared.event.What.TheVariants.{Hold, Send}
 use Rattle.net_plan.specs.declared.ids.DeviceId.{DeviceId}
 use Rattle.net_plan.specs.declared.ids.LinkId.{LinkId}
 use Rattle.net_plan.specs.declared.ids.VlId.{VlId}
-use Rattle.net_plan.specs.declared.tables.Way.{Way}
 use Rattle.net_plan.specs.declared.tables.Way.TheVariants.{Up}
+use Rattle.net_plan.specs.declared.tables.Way.{Way}
+use Rattle.run_law.specs.declared.judgement.Reason.TheVariants.{Off}
+use Rattle.run_law.specs.declared.judgement.Reason.{Reason}
+use Rattle.run_law.specs.declared.note.Note.{Note}
+use Rattle.run_law.specs.declared.note.NoteBody.TheVariants as notes
+use Rattle.run_law.specs.declared.note.NoteBody.{NoteBody}
 use Rattle.run_law.specs.records.Causes.{GoesBackTo, device_of}
 use Rattle.run_law.specs.records.Happenings.{Happening, happenings, numbered, time_of}
-use Rattle.run_law.specs.scenario.Hypothesis.{AreWithinHypothesis}
 use Rattle.run_law.specs.records.Order.{IsBefore, IsIn}
 use Rattle.run_law.specs.runs.DueRecords.{IsScenarioRun}
+use Rattle.run_law.specs.scenario.Hypothesis.{AreWithinHypothesis}
 use Rattle.run_law.specs.scenario.Scenarios.{Scenario, is_broken}
 use Rattle.run_law.specs.scenario.Ways.{delay_at, hold_at, is_cut}
-use Rattle.run_law.specs.declared.judgement.Reason.{Reason}
-use Rattle.run_law.specs.declared.judgement.Reason.TheVariants.{Off}
-use Rattle.run_law.specs.declared.note.Note.{Note}
-use Rattle.run_law.specs.declared.note.NoteBody.{NoteBody}
-use Rattle.run_law.specs.declared.note.NoteBody.TheVariants as notes
 use Rattle.schedule_tables.specs.Rules.{KeepsRules}
 use Rattle.tte_units.specs.Amount.{amount}
 use Rattle.tte_units.specs.declared.units.Units.{Units}
@@ -56,10 +56,12 @@ arrival_time s link t = leaving_time s link t + delay_at s link Up (leaving_time
 -- for some reason
 abbrev pub ComesTo : DeviceId → LinkId → ℕ → NoteBody → Type 0
 ComesTo switch link cause body =
-    ((clock : ℕ) × (body ≡ notes.Arrived switch link cause clock)) ⊎ ((reason : Reason) × (body ≡ notes.Dropped switch link cause reason))
+    ((clock : ℕ) × (body ≡ notes.Arrived switch link cause clock))
+        ⊎ ((reason : Reason) × (body ≡ notes.Dropped switch link cause reason))
 
 -- the master's frame of this number has left by the link, and has come to the switch at its time
-pub record HasCome (s : Scenario) (hs : List Happening) (t number : ℕ) (master : DeviceId) (link : LinkId) (switch : DeviceId) : Type 0 where
+pub record HasCome (s : Scenario) (hs : List Happening) (t number : ℕ) (master : DeviceId) (link : LinkId)
+    (switch : DeviceId) : Type 0 where
   pub leaving : Happening
   pub left : numbered hs leaving.note.number ≡ Some leaving
   pub clock : ℕ
@@ -74,7 +76,8 @@ pub record HasCome (s : Scenario) (hs : List Happening) (t number : ℕ) (master
 -- broken by its leaving: there it arrives, or is dropped for a reason
 abbrev pub SentFramesCome : Type 0
 SentFramesCome =
-    (s : Scenario) (mark : List ℕ) (ns : List Note) (h : Happening) (master : DeviceId) (cycle : ℕ) (link : LinkId) (switch : DeviceId)
+    (s : Scenario) (mark : List ℕ) (ns : List Note) (h : Happening) (master : DeviceId) (cycle : ℕ) (link : LinkId)
+        (switch : DeviceId)
     → IsLawful s → IsScenarioRun s mark ns
     → IsIn h (happenings s.network ns) → h.note.body ≡ notes.Sent master cycle → LeadsTo s master link switch
     → is_broken s master (leaving_time s link (time_of h)) ≡ false
@@ -87,7 +90,8 @@ SentFramesCome =
 abbrev pub IsLeftToBroken : List Happening → NoteBody → Type 0
 IsLeftToBroken hs (notes.Dropped device link cause reason) = reason ≡ Off
 IsLeftToBroken hs (notes.Lost device link cause) =
-    (event : Happening) × (line : ℕ) × (octets : List ℕ) × (numbered hs cause ≡ Some event) × (event.note.body ≡ notes.Event line (Send link octets))
+    (event : Happening) × (line : ℕ) × (octets : List ℕ) × (numbered hs cause ≡ Some event)
+        × (event.note.body ≡ notes.Event line (Send link octets))
 IsLeftToBroken hs (notes.Clock device reading adjustment state) = Unit {0}
 IsLeftToBroken hs other = ⊥
 
@@ -107,6 +111,8 @@ IsBeginning other = ⊥
 -- the chain of causes of each frame that is delivered goes back to its beginning
 abbrev pub DeliveriesBegin : Type 0
 DeliveriesBegin =
-    (s : Scenario) (mark : List ℕ) (ns : List Note) (h : Happening) (device : DeviceId) (link : LinkId) (cause : ℕ) (vl : VlId) (cycle : ℕ)
-    → IsScenarioRun s mark ns → IsIn h (happenings s.network ns) → h.note.body ≡ notes.Delivered device link cause vl cycle
+    (s : Scenario) (mark : List ℕ) (ns : List Note) (h : Happening) (device : DeviceId) (link : LinkId) (cause : ℕ)
+        (vl : VlId) (cycle : ℕ)
+    → IsScenarioRun s mark ns → IsIn h (happenings s.network ns) → h.note.body ≡ notes.Delivered device link cause vl
+        cycle
     → (first : Happening) × GoesBackTo (happenings s.network ns) h first × IsBeginning first.note.body

@@ -3,15 +3,15 @@ use Rattle.std.specs.Prelude.{◌≡◌, ◌⊎◌, ℕ, List, [], ◌∷◌, �
 use Rattle.net_plan.specs.declared.event.Event.{Event}
 use Rattle.net_plan.specs.declared.ids.DeviceId.{DeviceId}
 use Rattle.net_plan.specs.declared.network.Network.{Network}
-use Rattle.run_law.specs.scenario.Hypothesis.{IsOutsideBy, IsWithinHypothesis}
-use Rattle.run_law.specs.records.Order.{IsBefore, behind}
+use Rattle.run_law.specs.declared.note.Note.{Note}
+use Rattle.run_law.specs.declared.outside.Outside.{Outside}
 use Rattle.run_law.specs.records.Happenings.{Happening, happening, happenings}
+use Rattle.run_law.specs.records.Order.{IsBefore, behind}
 use Rattle.run_law.specs.records.Ranks.{place_of}
 use Rattle.run_law.specs.runs.DueRecords.{IsDue, IsRunOf, IsScenarioRun}
 use Rattle.run_law.specs.runs.Runs.{IsNextOf}
+use Rattle.run_law.specs.scenario.Hypothesis.{IsOutsideBy, IsWithinHypothesis}
 use Rattle.run_law.specs.scenario.Scenarios.{Scenario}
-use Rattle.run_law.specs.declared.note.Note.{Note}
-use Rattle.run_law.specs.declared.outside.Outside.{Outside}
 
 -- there is one run of a network under the events up to a mark
 abbrev pub RunIsOne : Type 0
@@ -22,7 +22,8 @@ RunIsOne =
 -- the run up to an earlier mark is the front of that up to a later one
 abbrev pub EarlierRunIsFront : Type 0
 EarlierRunIsFront =
-    (network : Network) (reading : DeviceId → ℕ → ℕ) (events : List Event) (mark later : List ℕ) (notes more : List Note)
+    (network : Network) (reading : DeviceId → ℕ → ℕ) (events : List Event) (mark later : List ℕ)
+        (notes more : List Note)
     → ((p : List ℕ) → IsBefore p mark → IsBefore p later)
     → IsRunOf network reading events mark notes → IsRunOf network reading events later more
     → (rest : List Note) × (more ≡ notes ++ rest)
@@ -38,9 +39,12 @@ RunGoesOn =
 
 -- the event is within the hypothesis, or outside by one condition, and not both
 pub record HasOneJudgement (network : Network) (before : List Event) (event : Event) : Type 0 where
-  pub some : IsWithinHypothesis network before event ⊎ ((condition : Outside) × IsOutsideBy network before event condition)
-  pub not_both : (condition : Outside) → IsWithinHypothesis network before event → IsOutsideBy network before event condition → ⊥
-  pub one : (condition other : Outside) → IsOutsideBy network before event condition → IsOutsideBy network before event other → condition ≡ other
+  pub some : IsWithinHypothesis network before event
+      ⊎ ((condition : Outside) × IsOutsideBy network before event condition)
+  pub not_both : (condition : Outside) → IsWithinHypothesis network before event
+      → IsOutsideBy network before event condition → ⊥
+  pub one : (condition other : Outside) → IsOutsideBy network before event condition
+      → IsOutsideBy network before event other → condition ≡ other
 
 -- the hypothesis judges each event of each network in one way
 abbrev pub HypothesisIsDecided : Type 0

@@ -8,16 +8,16 @@ use Rattle.net_plan.specs.declared.ids.LinkId.{LinkId}
 use Rattle.net_plan.specs.declared.ids.VlId.{VlId}
 use Rattle.net_plan.specs.declared.network.Network.{Network}
 use Rattle.net_plan.specs.declared.tables.VirtualLink.{VirtualLink}
-use Rattle.run_law.specs.records.Causes.{GoesBackTo}
+use Rattle.run_law.specs.declared.note.NoteBody.TheVariants as notes
+use Rattle.run_law.specs.declared.note.NoteBody.{NoteBody}
 use Rattle.run_law.specs.device.LocalClocks.{Reaches, local, local_before}
+use Rattle.run_law.specs.device.Standpoints.{offset_in_cycle}
+use Rattle.run_law.specs.device.States.{state_after, state_before}
+use Rattle.run_law.specs.records.Causes.{GoesBackTo}
 use Rattle.run_law.specs.records.Frames.{tt_frame_by}
 use Rattle.run_law.specs.records.Happenings.{Happening, time_of, up_to}
 use Rattle.run_law.specs.records.Order.{IsIn}
 use Rattle.run_law.specs.scenario.Scenarios.{Scenario, is_broken}
-use Rattle.run_law.specs.device.Standpoints.{place_in_cycle}
-use Rattle.run_law.specs.device.States.{state_after, state_before}
-use Rattle.run_law.specs.declared.note.NoteBody.{NoteBody}
-use Rattle.run_law.specs.declared.note.NoteBody.TheVariants as notes
 use Rattle.schedule_tables.specs.Entries.{IsEntry, source_of, target_of}
 use Rattle.schedule_tables.specs.Windows.{OccursIn, window_end, window_of}
 use Rattle.schedule_tables.specs.declared.entry.Entry.{Entry}
@@ -44,8 +44,10 @@ pub record IsInStepBefore (s : Scenario) (hs : List Happening) (device : DeviceI
 
 -- at each instant the local clocks of any two correct synchronised devices differ by at most the precision
 pub record ClocksAgree (s : Scenario) (hs : List Happening) (until : ℕ) : Type 0 where
-  pub after : (t : ℕ) (d e : DeviceId) → t ≤ until → IsInStep s hs d t → IsInStep s hs e t → AreClose s.network (local s hs d t) (local s hs e t)
-  pub before : (t : ℕ) (d e : DeviceId) → t ≤ until → IsInStepBefore s hs d t → IsInStepBefore s hs e t → AreClose s.network (local_before s hs d t) (local_before s hs e t)
+  pub after : (t : ℕ) (d e : DeviceId) → t ≤ until → IsInStep s hs d t → IsInStep s hs e t
+      → AreClose s.network (local s hs d t) (local s hs e t)
+  pub before : (t : ℕ) (d e : DeviceId) → t ≤ until → IsInStepBefore s hs d t → IsInStepBefore s hs e t
+      → AreClose s.network (local_before s hs d t) (local_before s hs e t)
 
 -- ---- ports
 
@@ -57,7 +59,8 @@ time_of_octets network link octets = option_map_or (λ l. (octets + 24) * octet_
 -- before its port time is over
 abbrev pub IsTtOnPort : Scenario → Happening → NoteBody → DeviceId → LinkId → ℕ → Type 0
 IsTtOnPort s h (notes.TtSent sender by cause vl cycle) device link t =
-    (sender ≡ device) × (by ≡ link) × (time_of h ≤ t) × (t < time_of h + time_of_octets s.network link (length h.octets))
+    (sender ≡ device) × (by ≡ link) × (time_of h ≤ t)
+        × (t < time_of h + time_of_octets s.network link (length h.octets))
 IsTtOnPort s h other device link t = ⊥
 
 -- the same of the control frame of 60 octets of the record
@@ -88,7 +91,8 @@ pub record IsRowInto (network : Network) (vl : VlId) (device : DeviceId) (entry 
 
 -- so far into the cycle a window of the virtual link at the device ends
 abbrev pub IsWindowEnd : Network → VlId → DeviceId → ℕ → Type 0
-IsWindowEnd network vl device end = (entry : Entry) × IsRowInto network vl device entry × (end ≡ window_end network entry)
+IsWindowEnd network vl device end =
+    (entry : Entry) × IsRowInto network vl device entry × (end ≡ window_end network entry)
 
 -- the device's clock reaches this place of the cycle at the time
 abbrev pub ReachesPlace : Scenario → List Happening → DeviceId → ℕ → ℕ → ℕ → Type 0
@@ -97,7 +101,8 @@ ReachesPlace s hs device cycle place t = Reaches s hs device (pos (cycle * amoun
 -- the frame of the virtual link in the cycle is owed to the device: the virtual link occurs in it and enters the
 -- device, which is an end system; from the beginning of the cycle to the end of its last window the device is correct
 -- and synchronised; the sender was synchronised when its clock reached its offsets, and is correct at that end
-pub record IsOwed (s : Scenario) (hs : List Happening) (until : ℕ) (vl : VlId) (of_vl : VirtualLink) (cycle : ℕ) (device : DeviceId) : Type 0 where
+pub record IsOwed (s : Scenario) (hs : List Happening) (until : ℕ) (vl : VlId) (of_vl : VirtualLink) (cycle : ℕ)
+    (device : DeviceId) : Type 0 where
   pub there : slice_get s.network.vl vl.0 ≡ Some of_vl
   pub occurs : OccursIn of_vl cycle
   pub end_system : IsEndSystem s.network device
@@ -112,32 +117,39 @@ pub record IsOwed (s : Scenario) (hs : List Happening) (until : ℕ) (vl : VlId)
   pub in_order : from < to
   pub in_run : to ≤ until
   pub receiver : (t : ℕ) → from ≤ t → t ≤ to → IsInStep s hs device t
-  pub rows : (place : ℕ) (entry : Entry) → IsEntry s.network place entry → entry.row.vl ≡ vl → source_of entry ≡ of_vl.sender
-      → (t : ℕ) × (t < to) × ReachesPlace s hs of_vl.sender cycle (amount entry.row.offset) t × (state_before s hs of_vl.sender t ≡ Synchronised)
+  pub rows : (place : ℕ) (entry : Entry) → IsEntry s.network place entry → entry.row.vl ≡ vl
+      → source_of entry ≡ of_vl.sender
+      → (t : ℕ) × (t < to) × ReachesPlace s hs of_vl.sender cycle (amount entry.row.offset) t
+          × (state_before s hs of_vl.sender t ≡ Synchronised)
   pub sender : is_broken s of_vl.sender to ≡ false
 
 -- the record's frame came by a row of the virtual link into the device, within the row's window
-pub record IsInWindow (s : Scenario) (hs : List Happening) (h : Happening) (vl : VlId) (device : DeviceId) (link : LinkId) : Type 0 where
+pub record IsInWindow (s : Scenario) (hs : List Happening) (h : Happening) (vl : VlId) (device : DeviceId)
+    (link : LinkId) : Type 0 where
   pub entry : Entry
   pub row : IsRowInto s.network vl device entry
   pub by : entry.row.link ≡ link
-  pub not_before : (window_of s.network entry).from.0 ≤ℤ place_in_cycle s.network (local_before s hs device (time_of h))
-  pub not_behind : place_in_cycle s.network (local_before s hs device (time_of h)) ≤ℤ (window_of s.network entry).to.0
+  pub not_before : (window_of s.network entry).from.0 ≤ℤ offset_in_cycle s.network
+      (local_before s hs device (time_of h))
+  pub not_behind : offset_in_cycle s.network (local_before s hs device (time_of h)) ≤ℤ (window_of s.network entry).to.0
 
 -- the record is the first dispatch of the virtual link's frame of the cycle, by its sender
 abbrev pub IsFirstDispatch : VlId → VirtualLink → ℕ → NoteBody → Type 0
-IsFirstDispatch vl of_vl cycle (notes.TtSent device link cause other number) = (device ≡ of_vl.sender) × (cause ≡ 0) × (other ≡ vl) × (number ≡ cycle)
+IsFirstDispatch vl of_vl cycle (notes.TtSent device link cause other number) =
+    (device ≡ of_vl.sender) × (cause ≡ 0) × (other ≡ vl) × (number ≡ cycle)
 IsFirstDispatch vl of_vl cycle other = ⊥
 
 -- the frame of the virtual link in the cycle is delivered to the device exactly once, inside its window, as its
 -- sender dispatched it
-pub record IsDelivered (s : Scenario) (hs : List Happening) (vl : VlId) (of_vl : VirtualLink) (cycle : ℕ) (device : DeviceId) : Type 0 where
+pub record IsDelivered (s : Scenario) (hs : List Happening) (vl : VlId) (of_vl : VirtualLink) (cycle : ℕ)
+    (device : DeviceId) : Type 0 where
   pub delivery : Happening
   pub there : IsIn delivery hs
   pub link : LinkId
   pub cause : ℕ
   pub is : delivery.note.body ≡ notes.Delivered device link cause vl cycle
-  pub once : (other : Happening) (by : LinkId) (from : ℕ) → IsIn other hs → other.note.body ≡ notes.Delivered device by from vl cycle → other ≡ delivery
+  pub once : (other : Happening) (by : LinkId) (from : ℕ) → IsIn other hs
+      → other.note.body ≡ notes.Delivered device by from vl cycle → other ≡ delivery
   pub in_window : IsInWindow s hs delivery vl device link
   pub first : Happening
   pub back : GoesBackTo hs delivery first

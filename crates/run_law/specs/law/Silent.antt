@@ -7,22 +7,22 @@ use Rattle.drift_clock.specs.ClockLaws.{KeepsClockLaws}
 use Rattle.net_plan.specs.Places.{device_at}
 use Rattle.net_plan.specs.Ranges.{IsInRange}
 use Rattle.net_plan.specs.declared.event.Event.{Event}
-use Rattle.net_plan.specs.declared.event.What.{What}
 use Rattle.net_plan.specs.declared.event.What.TheVariants.{On, Send}
+use Rattle.net_plan.specs.declared.event.What.{What}
 use Rattle.net_plan.specs.declared.ids.DeviceId.{DeviceId}
 use Rattle.net_plan.specs.declared.network.Network.{Network}
 use Rattle.net_plan.specs.declared.tables.Device.{Device}
-use Rattle.run_law.specs.scenario.Faults.{BeginsOn}
+use Rattle.run_law.specs.declared.note.Note.{Note}
+use Rattle.run_law.specs.declared.note.NoteBody.TheVariants.{Event as Befalls, Clock}
+use Rattle.run_law.specs.declared.note.NoteBody.{NoteBody}
 use Rattle.run_law.specs.records.Order.{IsBefore}
 use Rattle.run_law.specs.records.Ranks.{key, rank}
 use Rattle.run_law.specs.runs.DueRecords.{EndsAt, IsEventRecord, IsRunOf}
 use Rattle.run_law.specs.runs.Runs.{IsRun}
-use Rattle.run_law.specs.declared.note.Note.{Note}
-use Rattle.run_law.specs.declared.note.NoteBody.{NoteBody}
-use Rattle.run_law.specs.declared.note.NoteBody.TheVariants.{Event as Befalls, Clock}
+use Rattle.run_law.specs.scenario.Faults.{BeginsOn}
 use Rattle.schedule_tables.specs.Rules.{KeepsRules}
-use Rattle.sync_state.specs.declared.state.State.{State}
 use Rattle.sync_state.specs.declared.state.State.TheVariants.{Synchronised}
+use Rattle.sync_state.specs.declared.state.State.{State}
 use Rattle.tte_units.specs.Amount.{amount, units_of}
 use Rattle.tte_units.specs.declared.units.Units.{Units}
 
@@ -32,7 +32,8 @@ silent_place note = amount note.time ∷ rank note.body ∷ key 0 note.body
 
 -- the record is that of the device's clock, at the time of the end: what it reads, the start as its adjustment,
 -- since no cycle has begun, and the state in which it begins
-pub record IsSilentClock (network : Network) (reading : DeviceId → ℕ → ℕ) (events : List Event) (time : Units) (device : DeviceId) (shown adjustment : Units) (state : State) : Type 0 where
+pub record IsSilentClock (network : Network) (reading : DeviceId → ℕ → ℕ) (events : List Event) (time : Units)
+    (device : DeviceId) (shown adjustment : Units) (state : State) : Type 0 where
   pub is : Device
   pub there : device_at network device ≡ Some is
   pub ends : EndsAt events time
@@ -48,7 +49,8 @@ IsSilentlyCaused network reading events time (Clock device shown adjustment stat
 IsSilentlyCaused network reading events time other = ⊥
 
 -- a record is due given those before it: it has the next number, a time from 0 on, and a cause
-pub record IsSilentlyDue (network : Network) (reading : DeviceId → ℕ → ℕ) (events : List Event) (before : List Note) (note : Note) : Type 0 where
+pub record IsSilentlyDue (network : Network) (reading : DeviceId → ℕ → ℕ) (events : List Event) (before : List Note)
+    (note : Note) : Type 0 where
   pub number : note.number ≡ length before + 1
   pub begun : pos 0 ≤ℤ note.time.0
   pub cause : IsSilentlyCaused network reading events note.time note.body

@@ -11,29 +11,29 @@ use Rattle.net_plan.specs.declared.network.Network.{Network}
 use Rattle.pcf_values.specs.declared.channel.Channel.{Channel}
 use Rattle.pcf_values.specs.declared.members.Members.{Members}
 use Rattle.pcf_values.specs.declared.pcf.Pcf.{Pcf}
-use Rattle.run_law.specs.control.Collections.{master_of, window}
 use Rattle.run_law.specs.control.Arrivals.{control_arrival}
-use Rattle.run_law.specs.scenario.Devices.{channel_of, plan_of}
-use Rattle.run_law.specs.records.Frames.{dispatched_frame, integration_frame}
+use Rattle.run_law.specs.control.Collections.{master_of, observation_window}
 use Rattle.run_law.specs.control.Hearing.{heard_as}
-use Rattle.run_law.specs.machines.Nodes.{Deed, Node, Phase, sending, correcting, dispatching, acting, last_taken_by, local_at, standpoint_at}
-use Rattle.run_law.specs.control.Permanence.{IsRipeSo, ripe_as}
-use Rattle.run_law.specs.device.States.{is_synchronised}
-use Rattle.run_law.specs.machines.Tasks.{IsFirstTask, emitting, doing}
-use Rattle.run_law.specs.timed.Arrivals.{timed_arrival}
+use Rattle.run_law.specs.control.Permanence.{IsPermanenceOutcome, ripe_as}
 use Rattle.run_law.specs.control.Wires.{Signal, control, timed}
-use Rattle.run_law.specs.declared.steps.Act.{Act}
 use Rattle.run_law.specs.declared.steps.Act.TheVariants as acts
-use Rattle.run_law.specs.declared.steps.Arrival.{Arrival}
+use Rattle.run_law.specs.declared.steps.Act.{Act}
 use Rattle.run_law.specs.declared.steps.Arrival.TheVariants as arrivals
+use Rattle.run_law.specs.declared.steps.Arrival.{Arrival}
 use Rattle.run_law.specs.declared.steps.Moment.{Moment}
-use Rattle.run_law.specs.declared.steps.Ripe.{Ripe}
 use Rattle.run_law.specs.declared.steps.Ripe.TheVariants as ripe
+use Rattle.run_law.specs.declared.steps.Ripe.{Ripe}
+use Rattle.run_law.specs.device.States.{is_synchronised}
+use Rattle.run_law.specs.machines.Nodes.{ClockTask, Node, Phase, sending, correcting, dispatching, acting, last_taken_by, local_at, standpoint_at}
+use Rattle.run_law.specs.machines.Tasks.{IsFirstTask, emitting, doing}
+use Rattle.run_law.specs.records.Frames.{dispatched_frame, integration_frame}
+use Rattle.run_law.specs.scenario.Devices.{channel_of, plan_of}
+use Rattle.run_law.specs.timed.Arrivals.{timed_arrival}
 use Rattle.sync_state.specs.Calls.{after, heard_frame, reached_point, turned_on}
 use Rattle.sync_state.specs.Integration.{joined_by}
 use Rattle.sync_state.specs.Verdicts.{HasVerdict}
-use Rattle.sync_state.specs.declared.answers.Verdict.{Verdict}
 use Rattle.sync_state.specs.declared.answers.Verdict.TheVariants.{Corrected, SyncClique, AsyncClique, Cleared}
+use Rattle.sync_state.specs.declared.answers.Verdict.{Verdict}
 use Rattle.tte_units.specs.declared.units.Units.{Units}
 
 -- the device after a call of this kind at the moment
@@ -50,12 +50,15 @@ node_turned_on node = record node { standing = after node.standing turned_on }
 
 -- what becomes of what arrives at the device by the link
 abbrev pub arrival_at : Network → DeviceId → Node → Moment → LinkId → Signal → Arrival
-arrival_at network device node moment link (control frame) = control_arrival network device link (standpoint_at node moment) frame
-arrival_at network device node moment link (timed octets) = timed_arrival network device link (standpoint_at node moment) octets (last_taken_by node)
+arrival_at network device node moment link (control frame) =
+    control_arrival network device link (standpoint_at node moment) frame
+arrival_at network device node moment link (timed octets) =
+    timed_arrival network device link (standpoint_at node moment) octets (last_taken_by node)
 
 -- the device took a frame
 abbrev pub with_taken : Node → Moment → VlId → ℕ → Node
-with_taken node moment vl cycle = record node { taken = node.taken ++ record { vl = vl; cycle = cycle; at = local_at node moment } ∷ [] }
+with_taken node moment vl cycle =
+    record node { taken = node.taken ++ record { vl = vl; cycle = cycle; at = local_at node moment } ∷ [] }
 
 -- the device after a frame of which this became
 abbrev pub after_arrival : Node → Moment → Arrival → Node
@@ -68,11 +71,14 @@ after_arrival node moment other = node
 -- the frame of these members as it was heard by a channel
 abbrev pub hearings : Option Channel → ℕ → Members → Units → Bool → List Hearing
 hearings channel cycle members point within =
-    option_to_list (option_map (λ c. record { channel = c; frame = record { cycle = cycle; members = members; point = point }; within = within }) channel)
+    option_to_list (option_map
+        (λ c. record { channel = c; frame = record { cycle = cycle; members = members; point = point };
+        within = within }) channel)
 
 -- the device that has heard the frame
 abbrev pub with_heard : Node → Option Channel → Pcf → Units → Bool → Node
-with_heard node channel frame point within = record node { heard = node.heard ++ hearings channel frame.cycle frame.members point within }
+with_heard node channel frame point within =
+    record node { heard = node.heard ++ hearings channel frame.cycle frame.members point within }
 
 -- the device that the frame has told the time: it begins anew
 abbrev pub with_joined : Node → Moment → Pcf → Units → Node
@@ -89,28 +95,29 @@ with_joined node moment frame point =
 
 -- a compression master with one more point
 abbrev pub with_point : Node → Pcf → Units → Node
-with_point node frame point = record node { points = node.points ++ point_at point.0 (master_of frame.members.0) frame.cycle ∷ [] }
+with_point node frame point =
+    record node { points = node.points ++ point_at point.0 (master_of frame.members.0) frame.cycle ∷ [] }
 
 -- the device after a frame that came by a channel and of which this became
-abbrev pub after_ripe : Node → Moment → Option Channel → Pcf → Units → Ripe → Node
-after_ripe node moment channel frame point ripe.Opened = with_point node frame point
-after_ripe node moment channel frame point ripe.Joined = with_point node frame point
-after_ripe node moment channel frame point ripe.Repeat = with_point node frame point
-after_ripe node moment channel frame point ripe.Within = with_heard node channel frame point true
-after_ripe node moment channel frame point ripe.Outside = with_heard node channel frame point false
-after_ripe node moment channel frame point ripe.Integrates = with_joined node moment frame point
-after_ripe node moment channel frame point ripe.Ignored = node
-after_ripe node moment channel frame point (ripe.Dropped reason) = node
+abbrev pub after_permanence : Node → Moment → Option Channel → Pcf → Units → Ripe → Node
+after_permanence node moment channel frame point ripe.Opened = with_point node frame point
+after_permanence node moment channel frame point ripe.Joined = with_point node frame point
+after_permanence node moment channel frame point ripe.Repeat = with_point node frame point
+after_permanence node moment channel frame point ripe.Within = with_heard node channel frame point true
+after_permanence node moment channel frame point ripe.Outside = with_heard node channel frame point false
+after_permanence node moment channel frame point ripe.Integrates = with_joined node moment frame point
+after_permanence node moment channel frame point ripe.Ignored = node
+after_permanence node moment channel frame point (ripe.Dropped reason) = node
 
 -- this becomes of the frame that is permanent at the device
-abbrev pub IsRipeAt : Network → DeviceId → Node → Pcf → Units → Ripe → Type 0
-IsRipeAt network device node frame point is =
-    IsRipeSo network device node.standing.state node.standing.adjustment.0 node.points frame point.0 is
+abbrev pub IsPermanenceOutcomeAt : Network → DeviceId → Node → Pcf → Units → Ripe → Type 0
+IsPermanenceOutcomeAt network device node frame point is =
+    IsPermanenceOutcome network device node.standing.state node.standing.adjustment.0 node.points frame point.0 is
 
 -- ---- it acts
 
 -- the device that has done the deed
-abbrev pub with_done : Node → Deed → Node
+abbrev pub with_done : Node → ClockTask → Node
 with_done node deed = record node { done = node.done ++ deed ∷ [] }
 
 -- the points of a stretch that goes on where the device was synchronised; a joiner's first correction ends it
@@ -145,7 +152,8 @@ after_correction node moment heard cycle (Corrected by) = with_corrected node mo
 after_correction node moment heard cycle SyncClique = with_clique node heard SyncClique
 after_correction node moment heard cycle AsyncClique = with_clique node heard AsyncClique
 after_correction node moment heard cycle Cleared =
-    with_done (record node { standing = after node.standing (reached_point heard Cleared); heard = [] }) (correcting cycle)
+    with_done (record node { standing = after node.standing (reached_point heard Cleared); heard = [] })
+        (correcting cycle)
 
 -- what the device heard since its last correction point comes to this
 pub record ComesTo (node : Node) (heard : Summary) (verdict : Verdict) : Type 0 where
@@ -155,12 +163,14 @@ pub record ComesTo (node : Node) (heard : Summary) (verdict : Verdict) : Type 0 
 -- how a compression master hears the frame that it sends
 abbrev pub own_hearing : Network → DeviceId → Node → Compressed → Ripe
 own_hearing network device node sent =
-    ripe_as (heard_as (plan_of network device) (window network) node.standing.state node.standing.adjustment.0 sent.at.0 sent.cycle sent.members)
+    ripe_as (heard_as (plan_of network device) (observation_window network) node.standing.state
+        node.standing.adjustment.0 sent.at.0 sent.cycle sent.members)
 
 -- the compression master that has sent a frame, and heard it so
 abbrev pub after_emission : Network → DeviceId → Node → Moment → Compressed → Ripe → Node
 after_emission network device node moment sent heard =
-    after_ripe (record node { emitted = node.emitted ++ sent ∷ [] }) moment (channel_of network device) (integration_frame network device sent.cycle sent.members) sent.at heard
+    after_permanence (record node { emitted = node.emitted ++ sent ∷ [] }) moment (channel_of network device)
+        (integration_frame network device sent.cycle sent.members) sent.at heard
 
 -- the device does the first of the tasks that are due at the moment, and this is how it stands then
 abbrev pub IsActOf : Network → DeviceId → Node → Moment → Act → Node → Type 0
@@ -169,10 +179,12 @@ IsActOf network device node moment (acts.Send frame) new =
     × (frame ≡ dispatched_frame network device cycle) × (new ≡ called moment acting (with_done node (sending cycle)))
 IsActOf network device node moment (acts.Emit sent heard) new =
     IsFirstTask network device node moment.reading.0 (emitting sent)
-    × (heard ≡ own_hearing network device node sent) × (new ≡ called moment acting (after_emission network device node moment sent heard))
+    × (heard ≡ own_hearing network device node sent)
+        × (new ≡ called moment acting (after_emission network device node moment sent heard))
 IsActOf network device node moment (acts.Correct cycle verdict) new =
     IsFirstTask network device node moment.reading.0 (doing (correcting cycle))
-    × ((heard : Summary) × ComesTo node heard verdict × (new ≡ called moment acting (after_correction node moment heard cycle verdict)))
+    × ((heard : Summary) × ComesTo node heard verdict
+        × (new ≡ called moment acting (after_correction node moment heard cycle verdict)))
 IsActOf network device node moment (acts.Dispatch row cycle) new =
     IsFirstTask network device node moment.reading.0 (doing (dispatching row cycle))
     × (new ≡ called moment acting (with_done node (dispatching row cycle)))

@@ -8,22 +8,22 @@ use Rattle.net_plan.specs.declared.network.Network.{Network}
 use Rattle.pcf_values.specs.declared.members.Members.{Members}
 use Rattle.pcf_values.specs.declared.pcf.Pcf.{Pcf}
 use Rattle.pcf_values.specs.declared.pcf.PcfKind.TheVariants.{Integration}
-use Rattle.run_law.specs.scenario.Devices.{IsParentOf, is_end, member_of}
-use Rattle.run_law.specs.machines.Nodes.{Node, Phase, turning_on, arriving, ripening, acting}
 use Rattle.run_law.specs.control.Permanence.{waits_for}
-use Rattle.run_law.specs.device.States.{is_off}
-use Rattle.run_law.specs.machines.Tasks.{IsPending, Task, reading_for}
 use Rattle.run_law.specs.control.Wires.{control, signal_of}
 use Rattle.run_law.specs.declared.steps.Moment.{Moment}
+use Rattle.run_law.specs.device.States.{is_off}
+use Rattle.run_law.specs.machines.Nodes.{Node, Phase, turning_on, arriving, ripening, acting}
+use Rattle.run_law.specs.machines.Tasks.{IsPending, Task, reading_for}
+use Rattle.run_law.specs.scenario.Devices.{IsParentOf, is_end, member_of}
 use Rattle.tte_units.specs.Amount.{amount}
 use Rattle.tte_units.specs.declared.units.Units.{Units}
 
 -- the place of a kind of call among those of one instant
-abbrev pub place_in_instant : Phase → ℕ
-place_in_instant turning_on = 0
-place_in_instant arriving = 1
-place_in_instant ripening = 2
-place_in_instant acting = 3
+abbrev pub order_of_phase : Phase → ℕ
+order_of_phase turning_on = 0
+order_of_phase arriving = 1
+order_of_phase ripening = 2
+order_of_phase acting = 3
 
 -- the moment is in the range of runs, and neither its time nor its reading is less than at the last call
 pub record IsLaterMoment (last moment : Moment) : Type 0 where
@@ -34,11 +34,14 @@ pub record IsLaterMoment (last moment : Moment) : Type 0 where
 
 -- the device may be called so at the moment: the calls of an instant come in their order, before a later instant all
 -- is done that was due, and what is due has not waited for as long as the precision
-pub record MayCall (network : Network) (device : DeviceId) (node : Node) (moment : Moment) (phase : Phase) : Type 0 where
+pub record MayCall (network : Network) (device : DeviceId) (node : Node) (moment : Moment)
+    (phase : Phase) : Type 0 where
   pub later : IsLaterMoment node.last moment
-  pub in_order : moment.time ≡ node.last.time → place_in_instant node.phase ≤ place_in_instant phase
-  pub all_done : node.last.time.0 <ℤ moment.time.0 → (task : Task) → IsPending network device node task → node.last.reading.0 <ℤ reading_for network node task
-  pub in_time : (task : Task) → IsPending network device node task → moment.reading.0 <ℤ (reading_for network node task +ℤ network.precision.0)
+  pub in_order : moment.time ≡ node.last.time → order_of_phase node.phase ≤ order_of_phase phase
+  pub all_done : node.last.time.0 <ℤ moment.time.0 → (task : Task) → IsPending network device node task
+      → node.last.reading.0 <ℤ reading_for network node task
+  pub in_time : (task : Task) → IsPending network device node task
+      → moment.reading.0 <ℤ (reading_for network node task +ℤ network.precision.0)
 
 -- the link is one of the device
 abbrev pub IsLinkAt : Network → DeviceId → LinkId → Type 0
@@ -46,7 +49,8 @@ IsLinkAt network device link = IsChildOf network device link ⊎ IsParentOf netw
 
 -- the members are the bit of one master of the network
 abbrev pub IsOneMaster : Network → Members → Type 0
-IsOneMaster network members = (master : DeviceId) × IsSomeAnd (member_of network master) (λ member. members.0 ≡ 2 ^ member)
+IsOneMaster network members =
+    (master : DeviceId) × IsSomeAnd (member_of network master) (λ member. members.0 ≡ 2 ^ member)
 
 -- the link leads from a switch to the device, its parent
 pub record IsFromSwitch (network : Network) (device : DeviceId) (link : LinkId) : Type 0 where
@@ -58,15 +62,18 @@ pub record MayArrive (network : Network) (device : DeviceId) (link : LinkId) (oc
   pub at : IsLinkAt network device link
   pub least : 60 ≤ length octets
   pub most : length octets ≤ 1514
-  pub one_master : IsFromSwitch network device link → (frame : Pcf) → signal_of octets ≡ control (Ok frame) → IsOneMaster network frame.members
+  pub one_master : IsFromSwitch network device link → (frame : Pcf) → signal_of octets ≡ control (Ok frame)
+      → IsOneMaster network frame.members
 
 -- the frame that comes by a link from below is that of one master: of the link's child, where this is an end system
 pub record IsOfMaster (network : Network) (device : DeviceId) (link : LinkId) (members : Members) : Type 0 where
   pub one : IsOneMaster network members
-  pub own : (child : DeviceId) → IsChildOf network child link → is_end network child ≡ true → IsSomeAnd (member_of network child) (λ member. members.0 ≡ 2 ^ member)
+  pub own : (child : DeviceId) → IsChildOf network child link → is_end network child ≡ true
+      → IsSomeAnd (member_of network child) (λ member. members.0 ≡ 2 ^ member)
 
 -- this frame may be permanent at the device at the moment
-pub record MayRipen (network : Network) (device : DeviceId) (node : Node) (moment : Moment) (link : LinkId) (frame : Pcf) (point : Units) : Type 0 where
+pub record MayRipen (network : Network) (device : DeviceId) (node : Node) (moment : Moment) (link : LinkId)
+    (frame : Pcf) (point : Units) : Type 0 where
   pub at : IsLinkAt network device link
   pub waits : waits_for network device link ≡ true
   pub reached : point.0 ≤ℤ moment.reading.0
@@ -87,7 +94,8 @@ HasTask network device node = (task : Task) × IsPending network device node tas
 
 -- something that it has left to do is due at the reading
 abbrev pub HasDue : Network → DeviceId → Node → ℤ → Type 0
-HasDue network device node reading = (task : Task) × IsPending network device node task × (reading_for network node task ≤ℤ reading)
+HasDue network device node reading =
+    (task : Task) × IsPending network device node task × (reading_for network node task ≤ℤ reading)
 
 -- some link is at the device
 abbrev pub HasLink : Network → DeviceId → Type 0
@@ -107,20 +115,24 @@ pub record MayAct (network : Network) (device : DeviceId) (node : Node) (moment 
   pub due : HasTask network device node → HasDue network device node moment.reading.0
 
 -- a frame of these octets may come to it by the link
-pub record MayHear (network : Network) (device : DeviceId) (node : Node) (moment : Moment) (link : LinkId) (octets : List ℕ) : Type 0 where
+pub record MayHear (network : Network) (device : DeviceId) (node : Node) (moment : Moment) (link : LinkId)
+    (octets : List ℕ) : Type 0 where
   pub call : MayCall network device node moment arriving
   pub least : 60 ≤ length octets
   pub most : length octets ≤ 1514
   pub arrives : HasLink network device → MayArrive network device link octets
 
 -- this frame may be permanent
-pub record MayTake (network : Network) (device : DeviceId) (node : Node) (moment : Moment) (link : LinkId) (frame : Pcf) (point : Units) : Type 0 where
+pub record MayTake (network : Network) (device : DeviceId) (node : Node) (moment : Moment) (link : LinkId) (frame : Pcf)
+    (point : Units) : Type 0 where
   pub call : MayCall network device node moment ripening
   pub reached : point.0 ≤ℤ moment.reading.0
   pub in_time : moment.reading.0 <ℤ (point.0 +ℤ network.precision.0)
   pub ripens : IsHearing network device node → MayRipen network device node moment link frame point
 
 -- the machine stands as some device of some network, for which this holds
-abbrev pub StandsFor : {M : Type 0} → (M → Network → DeviceId → Node → Type 0) → M → (Network → DeviceId → Node → Type 0) → Type 0
+abbrev pub StandsFor : {M : Type 0} → (M → Network → DeviceId → Node → Type 0) → M
+    → (Network → DeviceId → Node → Type 0) → Type 0
 StandsFor stands machine P =
-    (network : Network) × (device : DeviceId) × (node : Node) × stands machine network device node × P network device node
+    (network : Network) × (device : DeviceId) × (node : Node) × stands machine network device node
+        × P network device node

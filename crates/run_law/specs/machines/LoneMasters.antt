@@ -7,13 +7,13 @@ use Rattle.net_plan.specs.declared.ids.LinkId.{LinkId}
 use Rattle.net_plan.specs.declared.network.Network.{Network}
 use Rattle.net_plan.specs.declared.tables.Device.{Device}
 use Rattle.net_plan.specs.declared.tables.Role.TheVariants.{Master}
-use Rattle.run_law.specs.machines.Calls.{IsLinkAt}
-use Rattle.run_law.specs.scenario.Devices.{plan_of}
-use Rattle.run_law.specs.records.Frames.{dispatched_frame}
-use Rattle.run_law.specs.machines.Nodes.{Node, Phase, sending, turning_on, acting}
 use Rattle.run_law.specs.declared.lone_master.LoneMaster.{LoneMaster}
-use Rattle.run_law.specs.declared.lone_master.Stage.{Stage}
 use Rattle.run_law.specs.declared.lone_master.Stage.TheVariants.{Begun, Sent, Alone}
+use Rattle.run_law.specs.declared.lone_master.Stage.{Stage}
+use Rattle.run_law.specs.machines.Calls.{IsLinkAt}
+use Rattle.run_law.specs.machines.Nodes.{Node, Phase, sending, turning_on, acting}
+use Rattle.run_law.specs.records.Frames.{dispatched_frame}
+use Rattle.run_law.specs.scenario.Devices.{plan_of}
 use Rattle.sync_state.specs.Standing.{begun}
 use Rattle.sync_state.specs.declared.state.State.TheVariants.{Integrating}
 use Rattle.tte_units.specs.declared.units.Units.{Units}
@@ -33,8 +33,10 @@ pub record IsLone (network : Network) (device : DeviceId) (start : Units) : Type
 
 -- it has done nothing yet; it has sent its first frame; or it has found itself alone, and looks for the others
 abbrev pub IsAtStage : Stage → Network → DeviceId → Units → Node → Type 0
-IsAtStage Begun network device start node = (node.standing ≡ begun (plan_of network device) (Some start)) × (node.done ≡ [])
-IsAtStage Sent network device start node = (node.standing ≡ begun (plan_of network device) (Some start)) × (node.done ≡ sending 1 ∷ [])
+IsAtStage Begun network device start node =
+    (node.standing ≡ begun (plan_of network device) (Some start)) × (node.done ≡ [])
+IsAtStage Sent network device start node =
+    (node.standing ≡ begun (plan_of network device) (Some start)) × (node.done ≡ sending 1 ∷ [])
 IsAtStage Alone network device start node = (node.standing.state ≡ Integrating) × (node.standing.adjustment ≡ start)
 
 -- the kind of its last call: it has been called only to act

@@ -8,10 +8,10 @@ use Rattle.net_plan.specs.declared.ids.DeviceId.{DeviceId}
 use Rattle.net_plan.specs.declared.ids.RowId.{RowId}
 use Rattle.net_plan.specs.declared.ids.VlId.{VlId}
 use Rattle.net_plan.specs.declared.network.Network.{Network}
-use Rattle.run_law.specs.scenario.Devices.{plan_of, start_of}
+use Rattle.run_law.specs.declared.steps.Moment.{Moment}
 use Rattle.run_law.specs.device.Standpoints.{Standpoint}
 use Rattle.run_law.specs.device.States.{is_off}
-use Rattle.run_law.specs.declared.steps.Moment.{Moment}
+use Rattle.run_law.specs.scenario.Devices.{plan_of, start_of}
 use Rattle.sync_state.specs.Standing.{Standing, begun}
 use Rattle.tte_units.specs.Amount.{amount, units_of}
 
@@ -23,17 +23,17 @@ pub data Phase : Type 0 where
   acting : Phase
 
 -- a frame that the device took: its virtual link, the device's cycle, and what its local clock showed
-pub record Taking : Type 0 where
+pub record TakenFrame : Type 0 where
   pub vl : VlId
   pub cycle : ℕ
   pub at : ℤ
 
 -- what a device does when its local clock reaches a value: it sends the control frame of a cycle, comes to the
 -- correction point of a cycle, or dispatches a row's frame of a cycle
-pub data Deed : Type 0 where
-  sending : ℕ → Deed
-  correcting : ℕ → Deed
-  dispatching : RowId → ℕ → Deed
+pub data ClockTask : Type 0 where
+  sending : ℕ → ClockTask
+  correcting : ℕ → ClockTask
+  dispatching : RowId → ℕ → ClockTask
 
 -- a device: where its synchronisation stands, whether it is broken, what its local clock showed right after the last
 -- change of its adjustment, what it did since then, what it heard since its last correction point, the points that it
@@ -43,11 +43,11 @@ pub record Node : Type 0 where
   pub standing : Standing
   pub broken : Bool
   pub changed : ℤ
-  pub done : List Deed
+  pub done : List ClockTask
   pub heard : List Hearing
   pub points : List Point
   pub emitted : List Compressed
-  pub taken : List Taking
+  pub taken : List TakenFrame
   pub last : Moment
   pub phase : Phase
 
@@ -82,9 +82,9 @@ abbrev pub local_at : Node → Moment → ℤ
 local_at node moment = moment.reading.0 +ℤ node.standing.adjustment.0
 
 -- the last frame of the virtual link that it took
-abbrev pub last_taking : Node → VlId → Option Taking
-last_taking node vl = last_or None (filter (λ taking. taking.vl.0 == vl.0) node.taken)
+abbrev pub last_taken_frame : Node → VlId → Option TakenFrame
+last_taken_frame node vl = last_or None (filter (λ taking. taking.vl.0 == vl.0) node.taken)
 
 -- the cycle in which it did
 abbrev pub last_taken_by : Node → VlId → Option ℕ
-last_taken_by node vl = option_map (λ taking. taking.cycle) (last_taking node vl)
+last_taken_by node vl = option_map (λ taking. taking.cycle) (last_taken_frame node vl)

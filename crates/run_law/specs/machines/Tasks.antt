@@ -1,8 +1,7 @@
 -- What a device has still to do by itself.
-use Rattle.std.specs.Prelude.{◌≡◌, ◌⊎◌, ℕ, ◌+◌, ◌*◌, ◌≤◌, ℤ, pos, ◌-ℤ◌, ◌<ℤ◌, ◌≤ℤ◌, true, false, List, [], ◌∷◌, Option, Some, None, IsSomeAnd}
+use Rattle.std.specs.Prelude.{◌≡◌, ◌⊎◌, ℕ, ◌+◌, ◌*◌, ◌≤◌, ℤ, pos, ◌-ℤ◌, ◌<ℤ◌, ◌≤ℤ◌, true, false, List, [], ◌∷◌, Option, Some, None, IsSomeAnd, slice_get}
 use Rattle.std.specs.List.{Contains}
 use Rattle.std.specs.Option.{option_map_or}
-use Rattle.std.specs.Prelude.{slice_get}
 use Rattle.compression.specs.Clusters.{AreClusters, Cluster}
 use Rattle.compression.specs.Emission.{compressed}
 use Rattle.compression.specs.declared.compressed.Compressed.{Compressed}
@@ -10,12 +9,12 @@ use Rattle.net_plan.specs.Places.{is_master}
 use Rattle.net_plan.specs.declared.ids.DeviceId.{DeviceId}
 use Rattle.net_plan.specs.declared.ids.RowId.{RowId}
 use Rattle.net_plan.specs.declared.network.Network.{Network}
-use Rattle.run_law.specs.control.Collections.{window}
+use Rattle.run_law.specs.control.Collections.{observation_window}
 use Rattle.run_law.specs.control.Corrections.{correction_value}
-use Rattle.run_law.specs.scenario.Devices.{has_role, is_cm, is_end}
-use Rattle.run_law.specs.machines.Nodes.{Deed, Node, sending, correcting, dispatching, last_taking}
+use Rattle.run_law.specs.machines.Nodes.{ClockTask, Node, sending, correcting, dispatching, last_taken_frame}
 use Rattle.run_law.specs.records.Order.{IsBefore}
-use Rattle.schedule_tables.specs.Dispatches.{place_of}
+use Rattle.run_law.specs.scenario.Devices.{has_role, is_cm, is_end}
+use Rattle.schedule_tables.specs.Dispatches.{dispatch_order}
 use Rattle.schedule_tables.specs.Entries.{IsEntry, source_of}
 use Rattle.schedule_tables.specs.Windows.{OccursIn}
 use Rattle.schedule_tables.specs.declared.entry.Entry.{Entry}
@@ -27,14 +26,14 @@ use Rattle.tte_units.specs.declared.units.Units.{Units}
 -- a task: the frame of a collection to be sent, or a deed
 pub data Task : Type 0 where
   emitting : Compressed → Task
-  doing : Deed → Task
+  doing : ClockTask → Task
 
 -- where a row's frame is dispatched in the cycle
 abbrev pub offset_of : Network → RowId → ℕ
 offset_of network row = option_map_or (λ r. amount r.offset) (slice_get network.row row.0) 0
 
 -- the local value at which the deed is done
-abbrev pub value_of : Network → Deed → ℤ
+abbrev pub value_of : Network → ClockTask → ℤ
 value_of network (sending cycle) = pos (cycle * amount network.cycle)
 value_of network (correcting cycle) = correction_value network cycle
 value_of network (dispatching row cycle) = pos (cycle * amount network.cycle + offset_of network row)
@@ -46,7 +45,8 @@ reading_for network node (doing deed) = value_of network deed -ℤ node.standing
 
 -- a switch took the row's frame of the cycle before its local clock reached the row's place
 pub record HasTaken (network : Network) (node : Node) (entry : Entry) (row : RowId) (cycle : ℕ) : Type 0 where
-  pub last : IsSomeAnd (last_taking node entry.row.vl) (λ taking. (taking.cycle ≡ cycle) × (taking.at <ℤ value_of network (dispatching row cycle)))
+  pub last : IsSomeAnd (last_taken_frame node entry.row.vl) (λ taking. (taking.cycle ≡ cycle)
+      × (taking.at <ℤ value_of network (dispatching row cycle)))
 
 -- the row leaves the device, its virtual link occurs in the cycle, and the device has the frame: it is the sender, or
 -- a switch that took it
@@ -59,24 +59,26 @@ pub record HasFrame (network : Network) (device : DeviceId) (node : Node) (row :
 
 -- the deed is one of the device in its state: a synchronised master sends in each cycle but the silent one, a
 -- synchronised device dispatches, and one with a next correction point comes to it
-abbrev pub IsDeedOf : Network → DeviceId → Node → Deed → Type 0
-IsDeedOf network device node (sending cycle) = (has_role network is_master device ≡ true) × (node.standing.state ≡ Synchronised) × (1 ≤ cycle)
+abbrev pub IsDeedOf : Network → DeviceId → Node → ClockTask → Type 0
+IsDeedOf network device node (sending cycle) =
+    (has_role network is_master device ≡ true) × (node.standing.state ≡ Synchronised) × (1 ≤ cycle)
 IsDeedOf network device node (correcting cycle) = next_point node.standing ≡ Some cycle
-IsDeedOf network device node (dispatching row cycle) = (node.standing.state ≡ Synchronised) × HasFrame network device node row cycle
+IsDeedOf network device node (dispatching row cycle) =
+    (node.standing.state ≡ Synchronised) × HasFrame network device node row cycle
 
 -- a compression master has still to send this frame, that of a cluster of its points
 pub record IsWaiting (network : Network) (device : DeviceId) (node : Node) (sent : Compressed) : Type 0 where
   pub cm : is_cm network device ≡ true
   pub clusters : List Cluster
-  pub are : AreClusters (window network) node.points clusters
+  pub are : AreClusters (observation_window network) node.points clusters
   pub cluster : Cluster
   pub there : Contains clusters cluster
-  pub is : sent ≡ compressed (window network) (pos (amount network.calc)) cluster
+  pub is : sent ≡ compressed (observation_window network) (pos (amount network.calc)) cluster
   pub not_yet : Contains node.emitted sent → ⊥
 
 -- the device has still to do the deed: its local clock was below the value right after the last change of the
 -- adjustment, and it has not done it since
-pub record IsUndone (network : Network) (device : DeviceId) (node : Node) (deed : Deed) : Type 0 where
+pub record IsUndone (network : Network) (device : DeviceId) (node : Node) (deed : ClockTask) : Type 0 where
   pub own : IsDeedOf network device node deed
   pub ahead : node.changed <ℤ value_of network deed
   pub not_yet : Contains node.done deed → ⊥
@@ -99,10 +101,11 @@ abbrev pub order_of : Network → Task → List ℕ
 order_of network (emitting sent) = 0 ∷ amount sent.opened ∷ []
 order_of network (doing (sending cycle)) = 1 ∷ cycle ∷ []
 order_of network (doing (correcting cycle)) = 2 ∷ cycle ∷ []
-order_of network (doing (dispatching row cycle)) = 3 ∷ place_of network row
+order_of network (doing (dispatching row cycle)) = 3 ∷ dispatch_order network row
 
 -- the task is the first of those that are due at the reading
 pub record IsFirstTask (network : Network) (device : DeviceId) (node : Node) (reading : ℤ) (task : Task) : Type 0 where
   pub pending : IsPending network device node task
   pub due : reading_for network node task ≤ℤ reading
-  pub first : (other : Task) → IsPending network device node other → reading_for network node other ≤ℤ reading → IsBefore (order_of network other) (order_of network task) → ⊥
+  pub first : (other : Task) → IsPending network device node other → reading_for network node other ≤ℤ reading
+      → IsBefore (order_of network other) (order_of network task) → ⊥

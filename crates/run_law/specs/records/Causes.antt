@@ -1,9 +1,9 @@
 -- The causes of records, and where a chain of causes begins.
 use Rattle.std.specs.Prelude.{◌≡◌, ℕ, List, [], ◌∷◌, Option, Some, None}
 use Rattle.net_plan.specs.declared.ids.DeviceId.{DeviceId}
-use Rattle.run_law.specs.records.Happenings.{Happening, numbered}
-use Rattle.run_law.specs.declared.note.NoteBody.{NoteBody}
 use Rattle.run_law.specs.declared.note.NoteBody.TheVariants as notes
+use Rattle.run_law.specs.declared.note.NoteBody.{NoteBody}
+use Rattle.run_law.specs.records.Happenings.{Happening, numbered, time_of}
 
 -- the number of the record that a record comes from, or 0
 abbrev pub cause_of : NoteBody → ℕ
@@ -50,3 +50,8 @@ pub record GoesBackTo (hs : List Happening) (h first : Happening) : Type 0 where
   pub causes : List Happening
   pub chain : IsChain hs h causes
   pub begins : first ≡ last_from h causes
+
+-- the record with the number `cause` is of this time
+pub record IsOfThisTime (hs : List Happening) (t cause : ℕ) (h : Happening) : Type 0 where
+  pub there : numbered hs cause ≡ Some h
+  pub same_time : time_of h ≡ t

@@ -7,10 +7,10 @@ use Rattle.net_plan.specs.declared.network.Network.{Network}
 use Rattle.pcf_codec.specs.Decoding.{decoded}
 use Rattle.pcf_codec.specs.declared.refusal.PcfRefusal.{PcfRefusal}
 use Rattle.pcf_values.specs.declared.pcf.Pcf.{Pcf}
-use Rattle.run_law.specs.records.Frames.{dispatched_frame, integration_frame, tt_frame}
 use Rattle.run_law.specs.declared.note.Note.{Note}
-use Rattle.run_law.specs.declared.note.NoteBody.{NoteBody}
 use Rattle.run_law.specs.declared.note.NoteBody.TheVariants as notes
+use Rattle.run_law.specs.declared.note.NoteBody.{NoteBody}
+use Rattle.run_law.specs.records.Frames.{dispatched_frame, integration_frame, tt_frame}
 use Rattle.tte_units.specs.Amount.{amount}
 
 -- a record, the protocol control frame that it is of, and the octets of the frame of a `send` event or of a
@@ -46,16 +46,19 @@ with_clock clock frame = record frame { clock = clock }
 abbrev pub frame_by : Network → List Happening → NoteBody → Option Pcf
 frame_by network before (notes.Event line (Send link octets)) = frame_in (decoded octets)
 frame_by network before (notes.Sent device cycle) = Some (dispatched_frame network device cycle)
-frame_by network before (notes.Compressed device opened at cycle members verdict) = Some (integration_frame network device cycle members)
+frame_by network before (notes.Compressed device opened at cycle members verdict) =
+    Some (integration_frame network device cycle members)
 frame_by network before (notes.Left device link cause clock) = option_map (with_clock clock) (frame_from before cause)
-frame_by network before (notes.Arrived device link cause clock) = option_map (with_clock clock) (frame_from before cause)
+frame_by network before (notes.Arrived device link cause clock) =
+    option_map (with_clock clock) (frame_from before cause)
 frame_by network before (notes.Permanent device link cause point verdict) = frame_from before cause
 frame_by network before other = None
 
 -- the octets of a record, given those before it
 abbrev pub octets_by : Network → List Happening → NoteBody → List ℕ
 octets_by network before (notes.Event line (Send link octets)) = octets
-octets_by network before (notes.TtSent device link cause vl cycle) = if cause == 0 then tt_frame network vl cycle else octets_from before cause
+octets_by network before (notes.TtSent device link cause vl cycle) =
+    if cause == 0 then tt_frame network vl cycle else octets_from before cause
 octets_by network before (notes.Accepted device link cause vl cycle) = octets_from before cause
 octets_by network before (notes.Delivered device link cause vl cycle) = octets_from before cause
 octets_by network before other = []

@@ -2,9 +2,9 @@
 -- numbers behind these, they part records that no run has at one place.
 use Rattle.std.specs.Prelude.{ℕ, ℤ, pos, negsuc, List, [], ◌∷◌}
 use Rattle.std.specs.Option.{option_map_or}
-use Rattle.run_law.specs.records.Happenings.{Happening, time_of}
-use Rattle.run_law.specs.declared.note.NoteBody.{NoteBody}
 use Rattle.run_law.specs.declared.note.NoteBody.TheVariants.{Event, Arrived, Permanent, Compressed, Sent, Corrected, State, Left, Lost, TtSent, Accepted, Delivered, Dropped, Clock}
+use Rattle.run_law.specs.declared.note.NoteBody.{NoteBody}
+use Rattle.run_law.specs.records.Happenings.{Happening, time_of}
 use Rattle.tte_units.specs.Amount.{amount}
 
 -- the kinds of record at one time: an effect at the instant of its cause has the higher rank
@@ -38,7 +38,8 @@ abbrev pub key : ℕ → NoteBody → List ℕ
 key members (Event line what) = line ∷ []
 key members (Arrived device link cause clock) = device.0 ∷ link.0 ∷ cause ∷ []
 key members (Permanent device link cause point verdict) = device.0 ∷ amount point ∷ members ∷ link.0 ∷ cause ∷ []
-key members (Compressed device opened at cycle of_masters verdict) = device.0 ∷ amount opened ∷ amount at ∷ cycle ∷ of_masters.0 ∷ sign opened.0 ∷ sign at.0 ∷ []
+key members (Compressed device opened at cycle of_masters verdict) =
+    device.0 ∷ amount opened ∷ amount at ∷ cycle ∷ of_masters.0 ∷ sign opened.0 ∷ sign at.0 ∷ []
 key members (Sent device cycle) = device.0 ∷ cycle ∷ []
 key members (Corrected device cycle by adjustment) = device.0 ∷ []
 key members (State device state cause why) = device.0 ∷ cause ∷ []

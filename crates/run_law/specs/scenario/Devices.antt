@@ -5,8 +5,8 @@ use Rattle.net_plan.specs.Places.{device_at, link_at, is_end_system}
 use Rattle.net_plan.specs.declared.ids.DeviceId.{DeviceId}
 use Rattle.net_plan.specs.declared.ids.LinkId.{LinkId}
 use Rattle.net_plan.specs.declared.network.Network.{Network}
-use Rattle.net_plan.specs.declared.tables.Role.{Role}
 use Rattle.net_plan.specs.declared.tables.Role.TheVariants.{Cm, Relay}
+use Rattle.net_plan.specs.declared.tables.Role.{Role}
 use Rattle.pcf_values.specs.declared.channel.Channel.{Channel}
 use Rattle.schedule_tables.specs.Margins.{compression_time, expected_offset}
 use Rattle.sync_state.specs.declared.plan.SyncPlan.{SyncPlan}

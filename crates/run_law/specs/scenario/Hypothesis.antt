@@ -3,17 +3,17 @@ use Rattle.std.specs.Prelude.{◌≡◌, ◌≢◌, ◌⊎◌, ℕ, pos, ◌*◌
 use Rattle.std.specs.List.{count_by, enumerate_from, list_any}
 use Rattle.net_plan.specs.Places.{device_at, link_at, is_master}
 use Rattle.net_plan.specs.declared.event.Event.{Event}
-use Rattle.net_plan.specs.declared.event.What.{What}
 use Rattle.net_plan.specs.declared.event.What.TheVariants as events
+use Rattle.net_plan.specs.declared.event.What.{What}
 use Rattle.net_plan.specs.declared.ids.DeviceId.{DeviceId}
 use Rattle.net_plan.specs.declared.ids.LinkId.{LinkId}
 use Rattle.net_plan.specs.declared.network.Network.{Network}
-use Rattle.net_plan.specs.declared.tables.Way.{Way}
 use Rattle.net_plan.specs.declared.tables.Device.{Device}
+use Rattle.net_plan.specs.declared.tables.Way.{Way}
 use Rattle.pcf_values.specs.declared.channel.Channel.{Channel}
-use Rattle.run_law.specs.scenario.Faults.{BeginsOn, Breaks, IsBroken, IsFaulty, IsLinkOf, IsTurnedOn}
-use Rattle.run_law.specs.declared.outside.Outside.{Outside}
 use Rattle.run_law.specs.declared.outside.Outside.TheVariants.{Order, Late, Rate, Wire, Hold, Channel as OtherChannel, NotMaster, SecondBreak, TooFewMasters, NotBroken, NotOff}
+use Rattle.run_law.specs.declared.outside.Outside.{Outside}
+use Rattle.run_law.specs.scenario.Faults.{BeginsOn, Breaks, IsBroken, IsFaulty, IsLinkOf, IsTurnedOn}
 use Rattle.tte_units.specs.Amount.{amount}
 use Rattle.tte_units.specs.declared.rates.Ppb.{Ppb}
 use Rattle.tte_units.specs.declared.units.Units.{Units}
@@ -151,9 +151,11 @@ IsWithinHypothesis network before event = (condition : Outside) → Violates net
 -- the event is outside by this condition, the first that it breaks
 pub record IsOutsideBy (network : Network) (before : List Event) (event : Event) (condition : Outside) : Type 0 where
   pub violates : Violates network before event condition
-  pub first : (earlier : Outside) → condition_number earlier < condition_number condition → Violates network before event earlier → ⊥
+  pub first : (earlier : Outside) → condition_number earlier < condition_number condition
+      → Violates network before event earlier → ⊥
 
 -- each of the events is within the hypothesis, given those before it
 abbrev pub AreWithinHypothesis : Network → List Event → Type 0
 AreWithinHypothesis network all =
-    (before behind : List Event) (event : Event) → all ≡ before ++ event ∷ behind → IsWithinHypothesis network before event
+    (before behind : List Event) (event : Event) → all ≡ before ++ event ∷ behind
+        → IsWithinHypothesis network before event

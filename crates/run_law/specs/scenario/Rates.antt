@@ -3,8 +3,8 @@ use Rattle.std.specs.Prelude.{ℕ, ◌==◌, List, Option, Some, None, if◌then
 use Rattle.std.specs.List.{filter_map}
 use Rattle.drift_clock.specs.RateSteps.{RateStep}
 use Rattle.net_plan.specs.declared.event.Event.{Event}
-use Rattle.net_plan.specs.declared.event.What.{What}
 use Rattle.net_plan.specs.declared.event.What.TheVariants.{Rate, Wire, Hold, Cut, Heal, On, Break, Send, End}
+use Rattle.net_plan.specs.declared.event.What.{What}
 use Rattle.net_plan.specs.declared.ids.DeviceId.{DeviceId}
 use Rattle.tte_units.specs.Amount.{amount}
 

@@ -10,14 +10,14 @@ use Rattle.net_plan.specs.declared.tables.Row.{Row}
 use Rattle.net_plan.specs.declared.tables.VirtualLink.{VirtualLink}
 use Rattle.pcf_codec.specs.EtherType.{least_type}
 use Rattle.pcf_codec.specs.Fields.{field}
-use Rattle.run_law.specs.scenario.Devices.{is_end}
-use Rattle.run_law.specs.device.Standpoints.{Standpoint, clock_of, cycle_at, first_reason, place_in_cycle}
-use Rattle.run_law.specs.device.States.{is_synchronised}
-use Rattle.run_law.specs.scenario.Ways.{is_way_of, way_to}
-use Rattle.run_law.specs.declared.judgement.Reason.{Reason}
 use Rattle.run_law.specs.declared.judgement.Reason.TheVariants as reasons
-use Rattle.run_law.specs.declared.steps.Arrival.{Arrival}
+use Rattle.run_law.specs.declared.judgement.Reason.{Reason}
 use Rattle.run_law.specs.declared.steps.Arrival.TheVariants.{Dropped, Accepted, Delivered}
+use Rattle.run_law.specs.declared.steps.Arrival.{Arrival}
+use Rattle.run_law.specs.device.Standpoints.{Standpoint, clock_of, cycle_at, first_reason, offset_in_cycle}
+use Rattle.run_law.specs.device.States.{is_synchronised}
+use Rattle.run_law.specs.scenario.Devices.{is_end}
+use Rattle.run_law.specs.scenario.Ways.{is_way_of, way_to}
 use Rattle.schedule_tables.specs.Windows.{window_of}
 use Rattle.schedule_tables.specs.declared.entry.Entry.{Entry}
 
@@ -37,7 +37,8 @@ row_entering network device link id =
 -- the row with its virtual link and its link
 abbrev pub entry_of : Network → Row → Option Entry
 entry_of network row =
-    option_and_then (λ vl. option_map (λ link. record { row = row; vl = vl; link = link }) (link_at network row.link)) (slice_get network.vl row.vl.0)
+    option_and_then (λ vl. option_map (λ link. record { row = row; vl = vl; link = link }) (link_at network row.link))
+        (slice_get network.vl row.vl.0)
 
 -- the same of the row by which the frame enters
 abbrev pub entry_entering : Network → DeviceId → LinkId → ℕ → Option Entry
@@ -53,7 +54,7 @@ is_taken_in cycle (Some last) = last == cycle
 abbrev pub row_fault : Network → Standpoint → Entry → ℕ → Option ℕ → Option Reason
 row_fault network at entry size last =
     let cycle = cycle_at network (clock_of at) in
-    let place = place_in_cycle network (clock_of at) in
+    let place = offset_in_cycle network (clock_of at) in
     first_reason (
     (not (size == entry.vl.length), reasons.Length)
     ∷ (not (occurs_in entry.vl cycle) || int_lt place (window_of network entry).from.0, reasons.Early)
@@ -83,10 +84,12 @@ taken_or_fault network device at entry None = taken_by network device entry.row.
 -- what becomes of a frame of so many octets that is one of this row, or of none
 abbrev pub entry_arrival : Network → DeviceId → Standpoint → ℕ → (VlId → Option ℕ) → Option Entry → Arrival
 entry_arrival network device at size last None = Dropped reasons.Unknown
-entry_arrival network device at size last (Some entry) = taken_or_fault network device at entry (row_fault network at entry size (last entry.row.vl))
+entry_arrival network device at size last (Some entry) =
+    taken_or_fault network device at entry (row_fault network at entry size (last entry.row.vl))
 
 -- what becomes of a frame with this fault, or with none
-abbrev pub octets_or_fault : Network → DeviceId → LinkId → Standpoint → List ℕ → (VlId → Option ℕ) → Option Reason → Arrival
+abbrev pub octets_or_fault : Network → DeviceId → LinkId → Standpoint → List ℕ → (VlId → Option ℕ) → Option Reason
+    → Arrival
 octets_or_fault network device link at octets last (Some reason) = Dropped reason
 octets_or_fault network device link at octets last None =
     entry_arrival network device at (length octets) last (entry_entering network device link (field 4 2 octets))

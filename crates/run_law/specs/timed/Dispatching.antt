@@ -1,19 +1,18 @@
 -- What a synchronised device dispatches.
-use Rattle.std.specs.Prelude.{◌≡◌, ◌⊎◌, ℕ, ◌+◌, ◌*◌, ◌≤◌, pos, ◌&&◌, ◌==◌, true, false, Bool, List, filter, Option, Some}
+use Rattle.std.specs.Prelude.{◌≡◌, ◌⊎◌, ℕ, ◌+◌, ◌*◌, ◌≤◌, pos, ◌&&◌, ◌==◌, true, false, Bool, List, filter, Option, Some, None}
 use Rattle.std.specs.List.{last_or}
-use Rattle.std.specs.Prelude.{None}
 use Rattle.net_plan.specs.Places.{is_master}
 use Rattle.net_plan.specs.declared.ids.DeviceId.{DeviceId}
 use Rattle.net_plan.specs.declared.ids.LinkId.{LinkId}
 use Rattle.net_plan.specs.declared.ids.VlId.{VlId}
 use Rattle.net_plan.specs.declared.network.Network.{Network}
-use Rattle.run_law.specs.device.LocalClocks.{Reaches}
-use Rattle.run_law.specs.scenario.Devices.{has_role, is_end}
-use Rattle.run_law.specs.records.Happenings.{Happening, earlier}
-use Rattle.run_law.specs.scenario.Scenarios.{Scenario, is_broken}
-use Rattle.run_law.specs.device.States.{state_before}
-use Rattle.run_law.specs.declared.note.NoteBody.{NoteBody}
 use Rattle.run_law.specs.declared.note.NoteBody.TheVariants as notes
+use Rattle.run_law.specs.declared.note.NoteBody.{NoteBody}
+use Rattle.run_law.specs.device.LocalClocks.{Reaches}
+use Rattle.run_law.specs.device.States.{state_before}
+use Rattle.run_law.specs.records.Happenings.{Happening, earlier}
+use Rattle.run_law.specs.scenario.Devices.{has_role, is_end}
+use Rattle.run_law.specs.scenario.Scenarios.{Scenario, is_broken}
 use Rattle.schedule_tables.specs.Entries.{IsEntry, source_of}
 use Rattle.schedule_tables.specs.Windows.{OccursIn}
 use Rattle.schedule_tables.specs.declared.entry.Entry.{Entry}
@@ -27,7 +26,7 @@ pub record IsUp (s : Scenario) (hs : List Happening) (device : DeviceId) (t : �
 
 -- a master sends the control frame of a cycle: its clock reaches the beginning of the cycle, which is not the
 -- silent one
-pub record Sends (s : Scenario) (hs : List Happening) (t : ℕ) (device : DeviceId) (cycle : ℕ) : Type 0 where
+pub record Sends (s : Scenario) (hs : List Happening) (device : DeviceId) (t : ℕ) (cycle : ℕ) : Type 0 where
   pub master : has_role s.network is_master device ≡ true
   pub up : IsUp s hs device t
   pub begun : 1 ≤ cycle
@@ -60,7 +59,8 @@ HasAtHand network hs device entry t cause cycle =
 
 -- the device dispatches a row's frame of the cycle on the link: the row leaves it, the virtual link occurs in the
 -- cycle, its clock reaches the row's offset, and it has the frame at hand
-pub record Dispatches (s : Scenario) (hs : List Happening) (t : ℕ) (device : DeviceId) (link : LinkId) (cause : ℕ) (vl : VlId) (cycle : ℕ) : Type 0 where
+pub record Dispatches (s : Scenario) (hs : List Happening) (device : DeviceId) (t : ℕ) (link : LinkId) (cause : ℕ)
+    (vl : VlId) (cycle : ℕ) : Type 0 where
   pub place : ℕ
   pub entry : Entry
   pub row : IsEntry s.network place entry

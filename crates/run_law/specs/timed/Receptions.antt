@@ -5,14 +5,14 @@ use Rattle.net_plan.specs.declared.ids.DeviceId.{DeviceId}
 use Rattle.net_plan.specs.declared.ids.LinkId.{LinkId}
 use Rattle.net_plan.specs.declared.ids.VlId.{VlId}
 use Rattle.run_law.specs.control.Arrivals.{control_arrival}
+use Rattle.run_law.specs.control.Wires.{Arrives, Signal, control, timed}
+use Rattle.run_law.specs.declared.note.NoteBody.TheVariants as notes
+use Rattle.run_law.specs.declared.note.NoteBody.{NoteBody}
+use Rattle.run_law.specs.declared.steps.Arrival.{Arrival}
+use Rattle.run_law.specs.device.Standpoints.{standpoint}
 use Rattle.run_law.specs.records.Happenings.{Happening, numbered, time_of}
 use Rattle.run_law.specs.scenario.Scenarios.{Scenario}
-use Rattle.run_law.specs.device.Standpoints.{standpoint}
 use Rattle.run_law.specs.timed.Arrivals.{timed_arrival}
-use Rattle.run_law.specs.control.Wires.{Arrives, Signal, control, timed}
-use Rattle.run_law.specs.declared.note.NoteBody.{NoteBody}
-use Rattle.run_law.specs.declared.note.NoteBody.TheVariants as notes
-use Rattle.run_law.specs.declared.steps.Arrival.{Arrival}
 
 -- is the arrival of this link and cause, at one time, before that of the other?
 abbrev pub comes_before : LinkId → ℕ → LinkId → ℕ → Bool
@@ -35,17 +35,21 @@ taken_cycle other = None
 -- the cycle in which the device took the last frame of the virtual link, before one with this link and cause
 abbrev pub last_taken : List Happening → DeviceId → ℕ → LinkId → ℕ → VlId → Option ℕ
 last_taken hs device t link cause vl =
-    option_and_then (λ h. taken_cycle h.note.body) (last_or None (filter (λ h. is_taken_before device vl t link cause (time_of h) h.note.body) hs))
+    option_and_then (λ h. taken_cycle h.note.body)
+        (last_or None (filter (λ h. is_taken_before device vl t link cause (time_of h) h.note.body) hs))
 
 -- what becomes of what arrives
-abbrev pub arrival_of : Scenario → List Happening → ℕ → DeviceId → LinkId → ℕ → Signal → Arrival
-arrival_of s hs t device link cause (control frame) = control_arrival s.network device link (standpoint s hs device t) frame
-arrival_of s hs t device link cause (timed octets) = timed_arrival s.network device link (standpoint s hs device t) octets (last_taken hs device t link cause)
+abbrev pub arrival_of : Scenario → List Happening → DeviceId → ℕ → LinkId → ℕ → Signal → Arrival
+arrival_of s hs device t link cause (control frame) =
+    control_arrival s.network device link (standpoint s hs device t) frame
+arrival_of s hs device t link cause (timed octets) =
+    timed_arrival s.network device link (standpoint s hs device t) octets (last_taken hs device t link cause)
 
 -- what the record with the number `cause` put on the link arrives at the device at the time, and this becomes of it
-pub record ArrivesAs (s : Scenario) (hs : List Happening) (t : ℕ) (device : DeviceId) (link : LinkId) (cause : ℕ) (is : Arrival) : Type 0 where
+pub record ArrivesAs (s : Scenario) (hs : List Happening) (device : DeviceId) (t : ℕ) (link : LinkId) (cause : ℕ)
+    (is : Arrival) : Type 0 where
   pub putting : Happening
   pub there : numbered hs cause ≡ Some putting
   pub signal : Signal
   pub arrives : Arrives s putting device link t signal
-  pub becomes : is ≡ arrival_of s hs t device link cause signal
+  pub becomes : is ≡ arrival_of s hs device t link cause signal

@@ -2,7 +2,7 @@ use Rattle.std.proofs.Common.{◌≡◌, ◌≤ℤ◌, ap, sym, subst, arith, to
 use Rattle.std.proofs.lemmas.Int.{ints}
 use Rattle.compression.specs.Emission.{emission}
 use Rattle.compression.specs.Collecting.{Collecting}
-use Rattle.compression.specs.Stands.{Stands}
+use Rattle.compression.specs.Stands.{StandsForPoints}
 use Rattle.compression.specs.declared.compressed.Compressed.{Compressed}
 use Rattle.compression.proofs.Emitting.{IsLeast-first, IsSound-emitted, Stands-emitted}
 use Rattle.compression.proofs.collector.Collector.emit.Goals as goal
@@ -29,4 +29,4 @@ returns-clause-stands c =
     let past : emission v.ow v.calc c.remove_first-first.result ≤ℤ later = omega (arith, ints, c.max.ensures.other_bound, at) in
     λ points emitted s.
     rw c.compressed-compressed.ensures
-    (Stands-emitted v points emitted c.remove_first-first.result c.remove_first-first.new.self later c.self.invariant c.remove_first-first.ensures le past (subst (λ (u : Collecting). Stands u points emitted) (sym c.self.view_is) s))
+    (Stands-emitted v points emitted c.remove_first-first.result c.remove_first-first.new.self later c.self.invariant c.remove_first-first.ensures le past (subst (λ (u : Collecting). StandsForPoints u points emitted) (sym c.self.view_is) s))

@@ -3,7 +3,7 @@ use Rattle.compression.specs.Clusters.{Point, Cluster, point_at}
 use Rattle.compression.specs.Collecting.{Collecting, with_opened, with_joined}
 use Rattle.compression.specs.Row.{IsSound}
 use Rattle.compression.specs.Role.{role}
-use Rattle.compression.specs.Stands.{Stands}
+use Rattle.compression.specs.Stands.{StandsForPoints}
 use Rattle.compression.specs.declared.taken.Taken.{Taken}
 use Rattle.compression.specs.declared.taken.Taken.TheVariants.{Opened, Joined, Repeat, OtherCycle}
 use Rattle.compression.proofs.Taking.{able, last_is_joined, role-whole, IsSound-takes, Stands-role_opened, Stands-role_joined, Stands-role_ignored}
@@ -56,7 +56,7 @@ returns-in-Joined-clause-stands c =
     λ points emitted s.
     Stands-role_joined v w p c.self.invariant order c.in-Joined.ensures.role
     (λ front k split. ap (λ (ws : List Cluster). record w { waiting = ws }) (c.in-Joined.ensures.joined refl front k split))
-    points emitted (subst (λ (u : Collecting). Stands u points emitted) (sym c.self.view_is) s)
+    points emitted (subst (λ (u : Collecting). StandsForPoints u points emitted) (sym c.self.view_is) s)
 
 not_joined : (t : Taken) → (t ≡ Repeat) ⊎ (t ≡ OtherCycle) → t ≢ Joined
 not_joined t (inl e) j = cc
@@ -79,4 +79,4 @@ returns-in-Repeat-clause-stands c =
     let is : (role v.waiting p ≡ Repeat) ⊎ (role v.waiting p ≡ OtherCycle) =
     elim c.in-Repeat.is [ inl e ↦ inl (sym c.offer-taken.ensures.role ∙ e) | inr e ↦ inr (sym c.offer-taken.ensures.role ∙ e) ] in
     λ points emitted s.
-    Stands-role_ignored v w p c.self.invariant order is same points emitted (subst (λ (u : Collecting). Stands u points emitted) (sym c.self.view_is) s)
+    Stands-role_ignored v w p c.self.invariant order is same points emitted (subst (λ (u : Collecting). StandsForPoints u points emitted) (sym c.self.view_is) s)

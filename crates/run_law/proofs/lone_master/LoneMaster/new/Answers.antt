@@ -1,8 +1,8 @@
 use Rattle.std.proofs.Common.{Option, refl, ap, ◌∙◌, arith}
 use Rattle.std.proofs.lemmas.Int.{ints}
-use Rattle.run_law.specs.scenario.Devices.{plan_of}
-use Rattle.run_law.proofs.machines.LoneMasters.{begins_so}
 use Rattle.run_law.proofs.lone_master.LoneMaster.new.Goals as goal
+use Rattle.run_law.proofs.machines.LoneMasters.{begins_so}
+use Rattle.run_law.specs.scenario.Devices.{plan_of}
 use Rattle.sync_state.specs.Standing.{begun, adjustment_at_start}
 use Rattle.tte_units.specs.declared.units.Units.{Units}
 

@@ -1,9 +1,9 @@
 use Rattle.std.proofs.Common.{List, ◌∷◌, [], ◌++◌, inl, inr, refl, ap}
 use Rattle.membership.specs.Summary.{silence}
-use Rattle.run_law.specs.machines.Nodes.{Deed, sending}
-use Rattle.run_law.proofs.machines.LoneMasters.{alone_rests, begun_yet, corrects_next, is_alone, sends_first, sent_once}
-use Rattle.sync_state.specs.Standing.{Standing}
 use Rattle.run_law.proofs.lone_master.LoneMasterMachine.act.Goals as goal
+use Rattle.run_law.proofs.machines.LoneMasters.{alone_rests, begun_yet, corrects_next, is_alone, sends_first, sent_once}
+use Rattle.run_law.specs.machines.Nodes.{ClockTask, sending}
+use Rattle.sync_state.specs.Standing.{Standing}
 
 -- src/lone_master.rt:103:5
 pub returns-in-Begun : goal.returns-in-Begun
@@ -21,7 +21,7 @@ returns-in-Begun c network device node stands may due =
         changed = stands.changed;
         last = refl;
         phase = refl;
-        stage = (begun.standing, ap (λ (ds : List Deed). ds ++ sending 1 ∷ []) begun.done_is);
+        stage = (begun.standing, ap (λ (ds : List ClockTask). ds ++ sending 1 ∷ []) begun.done_is);
       },
     )
 

@@ -1,5 +1,5 @@
-use Rattle.run_law.proofs.machines.LoneMasters.{begun_yet, first_due, second_due, sent_once}
 use Rattle.run_law.proofs.lone_master.LoneMasterMachine.due.Goals as goal
+use Rattle.run_law.proofs.machines.LoneMasters.{begun_yet, first_due, second_due, sent_once}
 
 -- src/lone_master.rt:95:5
 pub returns-in-Begun : goal.returns-in-Begun

@@ -1,7 +1,7 @@
 use Rattle.std.proofs.Common.{[], ◌∷◌, ◌++◌, Option, Some, None, refl, sym, ap, subst}
 use Rattle.sync_state.specs.declared.answers.Joined.{Joined}
 use Rattle.sync_state.specs.Standing.{Standing}
-use Rattle.sync_state.specs.Calls.{Call, heard_frame, after, Stands}
+use Rattle.sync_state.specs.Calls.{Call, heard_frame, after, StandsAfter}
 use Rattle.sync_state.proofs.CallLemmas.{one_more}
 use Rattle.sync_state.proofs.sync.Sync.integrate.Goals as goal
 
@@ -9,7 +9,7 @@ pub returns-in_err-joined-clause-calls : goal.returns-in_err-joined-clause-calls
 returns-in_err-joined-clause-calls c = λ plan start calls is.
     let s = c.args.self.now in
     let call : Option Joined → Call = heard_frame c.args.frame.now c.args.point in
-    subst (λ (answer : Option Joined). Stands plan start (calls ++ call answer ∷ []) s) (sym c.from_residual.ensures)
+    subst (λ (answer : Option Joined). StandsAfter plan start (calls ++ call answer ∷ []) s) (sym c.from_residual.ensures)
     (one_more plan start calls s s (call None) c.in_err-joined.ensures refl is)
 
 pub returns-clause-calls : goal.returns-clause-calls

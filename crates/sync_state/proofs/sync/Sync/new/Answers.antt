@@ -1,7 +1,7 @@
 use Rattle.std.proofs.Common.{◌≡◌, None, [], sym, subst, arith}
 use Rattle.std.proofs.lemmas.Grind.{common_steps}
 use Rattle.sync_state.specs.Standing.{Standing, begun}
-use Rattle.sync_state.specs.Calls.{Stands}
+use Rattle.sync_state.specs.Calls.{StandsAfter}
 use Rattle.sync_state.proofs.CallLemmas.{stands_at_start}
 use Rattle.sync_state.proofs.sync.Sync.new.Goals as goal
 
@@ -11,4 +11,4 @@ returns-clause-calls c =
     let start = c.args.start in
     let made : Standing = record { plan = plan; state = c.if-is_some.result; adjustment = c.unwrap_or.result; number = 1; integrated = None } in
     let value : made ≡ begun plan start = grind (arith, common_steps) in
-    subst (Stands plan start []) (sym value) (stands_at_start plan start)
+    subst (StandsAfter plan start []) (sym value) (stands_at_start plan start)
