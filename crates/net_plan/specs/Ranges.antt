@@ -36,9 +36,11 @@ pub record IsLinkInRange (network : Network) (link : Link) : Type 0 where
 -- is the EtherType of protocol control frames
 pub record IsVlInRange (network : Network) (vl : VirtualLink) : Type 0 where
   pub name : IsNameText vl.name
+  pub id : vl.id < 2 ^ 16
   pub length_least : 60 ≤ vl.length
   pub length_most : vl.length ≤ 1514
   pub ethertype_least : 1536 ≤ vl.ethertype
+  pub ethertype_most : vl.ethertype < 2 ^ 16
   pub ethertype_other : vl.ethertype ≢ 35101
   pub sender : vl.sender.0 < length network.device
   pub period_least : 1 ≤ vl.period
@@ -64,6 +66,7 @@ pub record IsInRange (network : Network) : Type 0 where
   pub precision : IsWithin 1 (2 ^ 40) network.precision
   pub correction : IsWithin 0 (2 ^ 40) network.correction
   pub tt_start : IsWithin 0 (2 ^ 40) network.tt_start
+  pub marker : network.marker < 2 ^ 32
   pub threshold_least : 1 ≤ network.sync_threshold
   pub threshold_most : network.sync_threshold ≤ 31
   pub few_devices : length network.device < 2 ^ 32

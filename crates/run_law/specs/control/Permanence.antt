@@ -18,7 +18,7 @@ use Rattle.run_law.specs.declared.steps.Ripe.{Ripe}
 use Rattle.run_law.specs.device.States.{adjustment_at_hearing, state_at_hearing}
 use Rattle.run_law.specs.records.Happenings.{Happening, numbered, time_of}
 use Rattle.run_law.specs.records.Order.{is_before}
-use Rattle.run_law.specs.records.Ranks.{place_of}
+use Rattle.run_law.specs.records.Ranks.{place_at, place_of}
 use Rattle.run_law.specs.scenario.Devices.{is_cm, is_parent_of, is_relay, plan_of}
 use Rattle.run_law.specs.scenario.Scenarios.{Scenario, is_broken}
 use Rattle.sync_state.specs.declared.state.State.{State}
@@ -76,11 +76,13 @@ pub record IsPermanent (s : Scenario) (hs : List Happening) (device : DeviceId) 
   pub reached : IsReach (s.reading device) (pos (time_of arrival)) point.0 (pos t)
   pub correct : is_broken s device t ≡ false
 
--- the records before the place at which the frame is permanent. What comes behind it at that time, as another frame or
--- a change of the device's state, does not bear on it, though a record of its drop comes later still
+-- the records before the place of the frame's permanence, which is the same for each judgement. What comes behind it at
+-- that time, as another frame or a change of the device's state, does not bear on it, though the record of a drop comes
+-- later still
 abbrev pub before_permanence : List Happening → DeviceId → ℕ → LinkId → ℕ → Pcf → Units → List Happening
 before_permanence hs device t link cause frame point =
-    filter (λ h. is_before (place_of h) (t ∷ 3 ∷ device.0 ∷ amount point ∷ frame.members.0 ∷ link.0 ∷ cause ∷ [])) hs
+    let place = place_at t frame.members.0 (notes.Permanent device link cause point judgements.Ignored) in
+    filter (λ h. is_before (place_of h) place) hs
 
 -- this becomes of the frame, judged by these records
 abbrev pub IsJudgedBy : Scenario → List Happening → DeviceId → ℕ → Pcf → Units → Ripe → Type 0

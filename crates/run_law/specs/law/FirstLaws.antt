@@ -1,5 +1,5 @@
 -- First laws of all runs.
-use Rattle.std.specs.Prelude.{◌≡◌, ◌⊎◌, ℕ, ◌+◌, pos, ◌≤ℤ◌, true, false, List, [], ◌∷◌, Some, IsSomeAnd}
+use Rattle.std.specs.Prelude.{◌≡◌, ◌⊎◌, ℕ, ◌+◌, ◌<◌, pos, ◌≤ℤ◌, true, false, List, [], ◌∷◌, length, Some, IsSomeAnd}
 use Rattle.std.specs.List.{All}
 use Rattle.drift_clock.specs.ClockLaws.{KeepsClockLaws}
 use Rattle.net_plan.specs.Places.{link_at}
@@ -20,6 +20,7 @@ use Rattle.run_law.specs.records.Causes.{GoesBackTo, device_of}
 use Rattle.run_law.specs.records.Happenings.{Happening, happenings, numbered, time_of}
 use Rattle.run_law.specs.records.Order.{IsBefore, IsIn}
 use Rattle.run_law.specs.runs.DueRecords.{IsScenarioRun}
+use Rattle.run_law.specs.scenario.Faults.{Cuts}
 use Rattle.run_law.specs.scenario.Hypothesis.{AreWithinHypothesis}
 use Rattle.run_law.specs.scenario.Scenarios.{Scenario, is_broken}
 use Rattle.run_law.specs.scenario.Ways.{delay_at, hold_at, is_cut}
@@ -32,13 +33,22 @@ pub record IsEventInRange (event : Event) : Type 0 where
   pub time : pos 0 ≤ℤ event.time.0
   pub hold : (link : LinkId) (way : Way) (delay : Units) → event.what ≡ Hold link way delay → pos 0 ≤ℤ delay.0
 
--- an accepted network, under events within the fault hypothesis, with clocks that keep the clock laws
+-- each event that cuts a link cuts one of the network, as in the text of a trace: the first cut of no link would be one
+-- of no channel, and the cuts behind it might be of both
+abbrev pub CutsNameLinks : Scenario → Type 0
+CutsNameLinks s =
+    (event : Event) (link : LinkId) → IsIn event s.events → Cuts link event → link.0 < length s.network.link
+
+-- an accepted network, under events within the fault hypothesis, with clocks that keep the clock laws and read 0 at
+-- time 0
 pub record IsLawful (s : Scenario) : Type 0 where
   pub range : IsInRange s.network
   pub rules : KeepsRules s.network
   pub events : All IsEventInRange s.events
+  pub named : CutsNameLinks s
   pub within : AreWithinHypothesis s.network s.events
   pub clocks : (device : DeviceId) → KeepsClockLaws s.network.rho (amount s.network.grain) (s.reading device)
+  pub begins : (device : DeviceId) → s.reading device 0 ≡ 0
 
 -- the link leads from the master up to the switch
 abbrev pub LeadsTo : Scenario → DeviceId → LinkId → DeviceId → Type 0

@@ -51,6 +51,10 @@ key members (Delivered device link cause vl cycle) = device.0 ∷ link.0 ∷ cau
 key members (Dropped device link cause reason) = device.0 ∷ link.0 ∷ cause ∷ []
 key members (Clock device reading adjustment state) = device.0 ∷ []
 
+-- where a record of this body, whose frame has these members, stands in the order if it is of this time
+abbrev pub place_at : ℕ → ℕ → NoteBody → List ℕ
+place_at time members body = time ∷ rank body ∷ key members body
+
 -- where a record stands in the order
 abbrev pub place_of : Happening → List ℕ
-place_of h = time_of h ∷ rank h.note.body ∷ key (members_in h) h.note.body
+place_of h = place_at (time_of h) (members_in h) h.note.body

@@ -23,6 +23,7 @@ returns-clause-in_range c = record {
   precision = c.in_ok-precision.ensures.within;
   correction = c.in_ok-correction.ensures.within;
   tt_start = c.in_ok-tt_start.ensures.within;
+  marker = search rules;
   threshold_least = c.in_ok-sync_threshold.ensures.least;
   threshold_most = c.in_ok-sync_threshold.ensures.most;
   few_devices = search rules;

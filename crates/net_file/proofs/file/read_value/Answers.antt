@@ -15,6 +15,7 @@ returns-clause-in_range c =
       precision = top.precision;
       correction = top.correction;
       tt_start = top.tt_start;
+      marker = top.marker;
       threshold_least = top.threshold_least;
       threshold_most = top.threshold_most;
       few_devices = c.in_ok-devices-2.ensures.few;
