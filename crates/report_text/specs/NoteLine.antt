@@ -39,49 +39,39 @@ passage_words network device link cause = device_name network device ∷ link_na
 abbrev pub stream_words : Network → VlId → ℕ → Words
 stream_words network vl cycle = codes "vl" ∷ vl_name network vl ∷ codes "cycle" ∷ decimal cycle ∷ []
 
--- what the record of a frame that is lost or dropped says; of another record nothing
-abbrev pub loss_words : Network → NoteBody → Words
-loss_words network (Lost device link cause) = codes "lost" ∷ passage_words network device link cause
-loss_words network (Dropped device link cause reason) =
-    codes "dropped" ∷ (passage_words network device link cause ++ reason_words reason)
-loss_words network body = []
-
--- what that of a time-triggered frame says that is sent or taken, or of a frame that is lost or dropped
-abbrev pub tt_words : Network → NoteBody → Words
-tt_words network (TtSent device link cause vl cycle) =
-    codes "ttsent" ∷ (passage_words network device link cause ++ stream_words network vl cycle)
-tt_words network (Accepted device link cause vl cycle) =
-    codes "accepted" ∷ (passage_words network device link cause ++ stream_words network vl cycle)
-tt_words network (Delivered device link cause vl cycle) =
-    codes "delivered" ∷ (passage_words network device link cause ++ stream_words network vl cycle)
-tt_words network body = loss_words network body
-
--- what that of any frame says
-abbrev pub frame_words : Network → NoteBody → Words
-frame_words network (Arrived device link cause clock) =
-    codes "arrived" ∷ (passage_words network device link cause ++ codes "clock" ∷ decimal clock ∷ [])
-frame_words network (Permanent device link cause point verdict) =
-    codes "permanent" ∷ (passage_words network device link cause ++ codes "point" ∷ signed_decimal point.0 ∷ judgement_text verdict ∷ [])
-frame_words network (Left device link cause clock) =
-    codes "left" ∷ (passage_words network device link cause ++ codes "clock" ∷ decimal clock ∷ [])
-frame_words network body = tt_words network body
-
 -- what a record says, behind its number and its time; an event's words are those of its line without the time
 abbrev pub body_words : Network → NoteBody → Words
 body_words network (Event line what) = codes "event" ∷ decimal line ∷ what_words network what
+body_words network (Arrived device link cause clock) =
+    codes "arrived" ∷ (passage_words network device link cause ++ codes "clock" ∷ decimal clock ∷ [])
+body_words network (Permanent device link cause point verdict) =
+    codes "permanent" ∷ (passage_words network device link cause
+        ++ codes "point" ∷ signed_decimal point.0 ∷ judgement_text verdict ∷ [])
 body_words network (Compressed device opened at cycle members verdict) =
-    codes "compressed" ∷ device_name network device ∷ codes "opened" ∷ signed_decimal opened.0 ∷ codes "at" ∷ signed_decimal at.0
+    codes "compressed" ∷ device_name network device
+    ∷ codes "opened" ∷ signed_decimal opened.0 ∷ codes "at" ∷ signed_decimal at.0
     ∷ codes "cycle" ∷ decimal cycle ∷ codes "members" ∷ members_text members ∷ judgement_text verdict ∷ []
-body_words network (Sent device cycle) = codes "sent" ∷ device_name network device ∷ codes "cycle" ∷ decimal cycle ∷ []
+body_words network (Sent device cycle) =
+    codes "sent" ∷ device_name network device ∷ codes "cycle" ∷ decimal cycle ∷ []
 body_words network (Corrected device cycle by adjustment) =
     codes "corrected" ∷ device_name network device ∷ codes "cycle" ∷ decimal cycle
     ∷ codes "by" ∷ signed_decimal by.0 ∷ codes "adj" ∷ signed_decimal adjustment.0 ∷ []
 body_words network (State device state cause why) =
     codes "state" ∷ device_name network device ∷ state_text state ∷ decimal cause ∷ why_text why ∷ []
+body_words network (Left device link cause clock) =
+    codes "left" ∷ (passage_words network device link cause ++ codes "clock" ∷ decimal clock ∷ [])
+body_words network (Lost device link cause) = codes "lost" ∷ passage_words network device link cause
+body_words network (TtSent device link cause vl cycle) =
+    codes "ttsent" ∷ (passage_words network device link cause ++ stream_words network vl cycle)
+body_words network (Accepted device link cause vl cycle) =
+    codes "accepted" ∷ (passage_words network device link cause ++ stream_words network vl cycle)
+body_words network (Delivered device link cause vl cycle) =
+    codes "delivered" ∷ (passage_words network device link cause ++ stream_words network vl cycle)
+body_words network (Dropped device link cause reason) =
+    codes "dropped" ∷ (passage_words network device link cause ++ reason_words reason)
 body_words network (Clock device reading adjustment state) =
     codes "clock" ∷ device_name network device ∷ codes "reading" ∷ signed_decimal reading.0
     ∷ codes "adj" ∷ signed_decimal adjustment.0 ∷ codes "state" ∷ state_text state ∷ []
-body_words network body = frame_words network body
 
 -- its text
 unfoldable pub body_text : Network → NoteBody → List ℕ
@@ -93,7 +83,8 @@ longest_body = 6 + 20 + 1 + longest_text
 
 -- a record's text
 abbrev pub note_text : Network → Note → List ℕ
-note_text network note = decimal note.number ++ codes " " ++ signed_decimal note.time.0 ++ codes " " ++ body_text network note.body
+note_text network note =
+    decimal note.number ++ codes " " ++ signed_decimal note.time.0 ++ codes " " ++ body_text network note.body
 
 -- its line
 abbrev pub note_line : Network → Note → List ℕ

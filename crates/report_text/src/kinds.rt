@@ -2,20 +2,20 @@ ghost use Rattle.std.specs.Prelude.{◌≡◌, ◌≤◌, ◌+◌, ◌∷◌, �
 ghost use Rattle.std.specs.Fmt.{signed_decimal};
 ghost use Rattle.std.specs.List.{join_with_byte};
 ghost use Rattle.net_plan.specs.Ranges.{IsInRange};
-ghost use Rattle.report_text.specs.NoteLine.{loss_words, tt_words, frame_words, body_words, body_text, longest_body};
+ghost use Rattle.report_text.specs.NoteLine.{passage_words, stream_words, body_words, body_text, longest_body};
 ghost use Rattle.report_text.specs.NoteWords.{members_text, judgement_text};
-ghost use Rattle.report_text.specs.Ranges.{IsBodyOf};
+ghost use Rattle.report_text.specs.Ranges.{HasVl, IsBodyOf};
 ghost use Rattle.run_law.specs.declared.note.NoteBody.TheVariants as bodies;
 ghost use Rattle.trace_text.specs.EventLine.{device_name};
-ghost use Rattle.trace_text.specs.Ranges.{HasDevice, IsOfNetwork};
+ghost use Rattle.trace_text.specs.Ranges.{HasDevice, HasLink, IsOfNetwork};
 ghost use Rattle.trace_text.specs.Steps.{space};
 ghost use Rattle.tte_io.specs.Line.{line_limit};
 
 use crate::fields::{push_device, push_members, push_passage, push_stream, push_units};
 use crate::words::{judgement_text, push_reason, state_text, why_text};
-use net_plan::{DeviceId, Network, What};
+use net_plan::{DeviceId, LinkId, Network, VlId, What};
 use pcf_values::Members;
-use run_law::{Judgement, NoteBody, Why};
+use run_law::{Judgement, NoteBody, Reason, Why};
 use sync_state::State;
 use trace_text::event_text;
 use tte_io::LineText;
@@ -25,7 +25,8 @@ fn push_event(line: &mut LineText, network: &Network, of_trace: u64, what: &What
     requires in_range { IsInRange network.now }
     requires of_network { IsOfNetwork network.now what.now }
     requires room { length line.old + longest_body ≤ line_limit }
-    ensures text { line.new ≡ line.old ++ join_with_byte space (body_words network.now (bodies.Event of_trace what.now)) }
+    ensures text { line.new ≡ line.old ++ join_with_byte space
+        (body_words network.now (bodies.Event of_trace what.now)) }
     ensures grows { length line.new ≤ length line.old + longest_body }
 {
     line.push("event ");
@@ -75,7 +76,8 @@ fn push_sent(line: &mut LineText, network: &Network, device: DeviceId, cycle: u3
     requires in_range { IsInRange network.now }
     requires of_network { HasDevice network.now device }
     requires room { length line.old + 48 ≤ line_limit }
-    ensures text { line.new ≡ line.old ++ join_with_byte space (body_words network.now (bodies.Sent device cycle)) }
+    ensures text { line.new ≡ line.old ++ join_with_byte space
+        (body_words network.now (bodies.Sent device cycle)) }
     ensures grows { length line.new ≤ length line.old + 48 }
 {
     push_device(line, network, "sent", device);
@@ -94,7 +96,8 @@ fn push_corrected(
     requires in_range { IsInRange network.now }
     requires of_network { HasDevice network.now device }
     requires room { length line.old + 104 ≤ line_limit }
-    ensures text { line.new ≡ line.old ++ join_with_byte space (body_words network.now (bodies.Corrected device cycle by adjustment)) }
+    ensures text { line.new ≡ line.old ++ join_with_byte space
+        (body_words network.now (bodies.Corrected device cycle by adjustment)) }
     ensures grows { length line.new ≤ length line.old + 104 }
 {
     push_device(line, network, "corrected", device);
@@ -117,7 +120,8 @@ fn push_state(
     requires in_range { IsInRange network.now }
     requires of_network { HasDevice network.now device }
     requires room { length line.old + 69 ≤ line_limit }
-    ensures text { line.new ≡ line.old ++ join_with_byte space (body_words network.now (bodies.State device state cause why)) }
+    ensures text { line.new ≡ line.old ++ join_with_byte space
+        (body_words network.now (bodies.State device state cause why)) }
     ensures grows { length line.new ≤ length line.old + 69 }
 {
     push_device(line, network, "state", device);
@@ -140,7 +144,8 @@ fn push_clock(
     requires in_range { IsInRange network.now }
     requires of_network { HasDevice network.now device }
     requires room { length line.old + 97 ≤ line_limit }
-    ensures text { line.new ≡ line.old ++ join_with_byte space (body_words network.now (bodies.Clock device reading adjustment state)) }
+    ensures text { line.new ≡ line.old ++ join_with_byte space
+        (body_words network.now (bodies.Clock device reading adjustment state)) }
     ensures grows { length line.new ≤ length line.old + 97 }
 {
     push_device(line, network, "clock", device);
@@ -152,121 +157,96 @@ fn push_clock(
     line.push(state_text(state));
 }
 
-// Adds what the record of a frame that is lost or dropped says, and of any other record nothing.
-fn push_loss(line: &mut LineText, network: &Network, body: &NoteBody)
+// Adds what the record of a control frame with its transparent clock says: `kind` is its word.
+fn push_clocked(
+    line: &mut LineText,
+    network: &Network,
+    kind: &str,
+    device: DeviceId,
+    link: LinkId,
+    cause: u64,
+    clock: u64,
+)
     requires in_range { IsInRange network.now }
-    requires of_network { IsBodyOf network.now body.now }
-    requires room { length line.old + longest_body ≤ line_limit }
-    ensures text { line.new ≡ line.old ++ join_with_byte space (loss_words network.now body.now) }
-    ensures grows { length line.new ≤ length line.old + longest_body }
+    requires device_of_network { HasDevice network.now device }
+    requires link_of_network { HasLink network.now link }
+    requires room { length line.old + length kind.now + 82 ≤ line_limit }
+    ensures text { line.new ≡ line.old ++ join_with_byte space
+        (kind.now ∷ (passage_words network.now device link cause ++ codes "clock" ∷ decimal clock ∷ [])) }
+    ensures grows { length line.new ≤ length line.old + length kind.now + 82 }
 {
-    match body {
-        NoteBody::Lost {
-            device,
-            link,
-            cause,
-        } => push_passage(line, network, "lost", *device, *link, *cause),
-        NoteBody::Dropped {
-            device,
-            link,
-            cause,
-            reason,
-        } => {
-            push_passage(line, network, "dropped", *device, *link, *cause);
-            line.push(" ");
-            push_reason(line, *reason);
-        }
-        _ => {}
-    }
+    push_passage(line, network, kind, device, link, cause);
+    line.push(" clock ");
+    line.push_decimal(clock);
 }
 
-// Adds what that of a time-triggered frame says, or of a frame that is lost or dropped.
-fn push_tt(line: &mut LineText, network: &Network, body: &NoteBody)
+fn push_permanent(
+    line: &mut LineText,
+    network: &Network,
+    device: DeviceId,
+    link: LinkId,
+    cause: u64,
+    point: Units,
+    verdict: Judgement,
+)
     requires in_range { IsInRange network.now }
-    requires of_network { IsBodyOf network.now body.now }
+    requires device_of_network { HasDevice network.now device }
+    requires link_of_network { HasLink network.now link }
     requires room { length line.old + longest_body ≤ line_limit }
-    ensures text { line.new ≡ line.old ++ join_with_byte space (tt_words network.now body.now) }
+    ensures text { line.new ≡ line.old ++ join_with_byte space
+        (body_words network.now (bodies.Permanent device link cause point verdict)) }
     ensures grows { length line.new ≤ length line.old + longest_body }
 {
-    match body {
-        NoteBody::TtSent {
-            device,
-            link,
-            cause,
-            vl,
-            cycle,
-        } => {
-            push_passage(line, network, "ttsent", *device, *link, *cause);
-            push_stream(line, network, *vl, *cycle);
-        }
-        NoteBody::Accepted {
-            device,
-            link,
-            cause,
-            vl,
-            cycle,
-        } => {
-            push_passage(line, network, "accepted", *device, *link, *cause);
-            push_stream(line, network, *vl, *cycle);
-        }
-        NoteBody::Delivered {
-            device,
-            link,
-            cause,
-            vl,
-            cycle,
-        } => {
-            push_passage(line, network, "delivered", *device, *link, *cause);
-            push_stream(line, network, *vl, *cycle);
-        }
-        _ => push_loss(line, network, body),
-    }
+    push_passage(line, network, "permanent", device, link, cause);
+    line.push(" point ");
+    push_units(line, point);
+    line.push(" ");
+    line.push(judgement_text(verdict));
 }
 
-// Adds what that of any frame says.
-fn push_frame(line: &mut LineText, network: &Network, body: &NoteBody)
+// Adds what the record of a time-triggered frame says: `kind` is its word.
+fn push_timed(
+    line: &mut LineText,
+    network: &Network,
+    kind: &str,
+    device: DeviceId,
+    link: LinkId,
+    cause: u64,
+    vl: VlId,
+    cycle: u32,
+)
     requires in_range { IsInRange network.now }
-    requires of_network { IsBodyOf network.now body.now }
+    requires device_of_network { HasDevice network.now device }
+    requires link_of_network { HasLink network.now link }
+    requires vl_of_network { HasVl network.now vl }
+    requires room { length line.old + length kind.now + 102 ≤ line_limit }
+    ensures text { line.new ≡ line.old ++ join_with_byte space
+        (kind.now ∷ (passage_words network.now device link cause ++ stream_words network.now vl cycle)) }
+    ensures grows { length line.new ≤ length line.old + length kind.now + 102 }
+{
+    push_passage(line, network, kind, device, link, cause);
+    push_stream(line, network, vl, cycle);
+}
+
+fn push_dropped(
+    line: &mut LineText,
+    network: &Network,
+    device: DeviceId,
+    link: LinkId,
+    cause: u64,
+    reason: Reason,
+)
+    requires in_range { IsInRange network.now }
+    requires device_of_network { HasDevice network.now device }
+    requires link_of_network { HasLink network.now link }
     requires room { length line.old + longest_body ≤ line_limit }
-    ensures text { line.new ≡ line.old ++ join_with_byte space (frame_words network.now body.now) }
+    ensures text { line.new ≡ line.old ++ join_with_byte space
+        (body_words network.now (bodies.Dropped device link cause reason)) }
     ensures grows { length line.new ≤ length line.old + longest_body }
 {
-    match body {
-        NoteBody::Arrived {
-            device,
-            link,
-            cause,
-            clock,
-        } => {
-            push_passage(line, network, "arrived", *device, *link, *cause);
-            line.push(" clock ");
-            line.push_decimal(*clock);
-        }
-        NoteBody::Permanent {
-            device,
-            link,
-            cause,
-            point,
-            verdict,
-        } => {
-            push_passage(line, network, "permanent", *device, *link, *cause);
-            line.push(" point ");
-            push_units(line, *point);
-            line.push(" ");
-            line.push(judgement_text(*verdict));
-        }
-        NoteBody::Left {
-            device,
-            link,
-            cause,
-            clock,
-        } => {
-            push_passage(line, network, "left", *device, *link, *cause);
-            line.push(" clock ");
-            line.push_decimal(*clock);
-        }
-        _ => push_tt(line, network, body),
-    }
+    push_passage(line, network, "dropped", device, link, cause);
+    line.push(" ");
+    push_reason(line, reason);
 }
 
 // Adds what a record says, which takes at most 3,077 octets.
@@ -313,6 +293,56 @@ pub(crate) fn push_body(line: &mut LineText, network: &Network, body: &NoteBody)
             adjustment,
             state,
         } => push_clock(line, network, *device, *reading, *adjustment, *state),
-        _ => push_frame(line, network, body),
+        NoteBody::Arrived {
+            device,
+            link,
+            cause,
+            clock,
+        } => push_clocked(line, network, "arrived", *device, *link, *cause, *clock),
+        NoteBody::Left {
+            device,
+            link,
+            cause,
+            clock,
+        } => push_clocked(line, network, "left", *device, *link, *cause, *clock),
+        NoteBody::Permanent {
+            device,
+            link,
+            cause,
+            point,
+            verdict,
+        } => push_permanent(line, network, *device, *link, *cause, *point, *verdict),
+        NoteBody::TtSent {
+            device,
+            link,
+            cause,
+            vl,
+            cycle,
+        } => push_timed(line, network, "ttsent", *device, *link, *cause, *vl, *cycle),
+        NoteBody::Accepted {
+            device,
+            link,
+            cause,
+            vl,
+            cycle,
+        } => push_timed(line, network, "accepted", *device, *link, *cause, *vl, *cycle),
+        NoteBody::Delivered {
+            device,
+            link,
+            cause,
+            vl,
+            cycle,
+        } => push_timed(line, network, "delivered", *device, *link, *cause, *vl, *cycle),
+        NoteBody::Lost {
+            device,
+            link,
+            cause,
+        } => push_passage(line, network, "lost", *device, *link, *cause),
+        NoteBody::Dropped {
+            device,
+            link,
+            cause,
+            reason,
+        } => push_dropped(line, network, *device, *link, *cause, *reason),
     }
 }
