@@ -1,6 +1,8 @@
 //! The rules of when a device sends its rows.
-ghost use Rattle.std.specs.Prelude.{◌+◌, ◌^◌, ◌<◌, ◌≤◌, ◌↔◌, ℕ, All, IsTrue, length};
+ghost use Rattle.std.specs.Prelude.{◌≡◌, ◌+◌, ◌^◌, ◌<◌, ◌≤◌, ◌↔◌, ℕ, All, IsTrue, length};
+ghost use Rattle.net_plan.specs.Bounds.{gamma_of};
 ghost use Rattle.net_plan.specs.Ranges.{IsInRange, IsWithin};
+ghost use Rattle.net_plan.specs.declared.network.Network.{Network as NetworkValue};
 ghost use Rattle.schedule_tables.specs.Entries.{AreEntries, IsEntryInRange};
 ghost use Rattle.schedule_tables.specs.Schedule.{Coincide, ComesInTime, HasFewRows, StandsApart};
 ghost use Rattle.schedule_tables.specs.Windows.{port_time};
@@ -34,11 +36,25 @@ fn stands_apart_from(network: &Network, earlier: &[Entry], entry: &Entry) -> boo
     ensures { IsTrue result ↔ All (λ other. AreApart network.now other entry.now) earlier.now }
 {
     let gamma = network.gamma().amount();
-    earlier.iter().all(|other| other.row.link != entry.row.link
-        || other.row.way != entry.row.way
-        || !coincide(&entry.vl, &other.vl)
-        || is_clear_before(gamma, other, entry)
-        || is_clear_before(gamma, entry, other))
+    earlier.iter().all(|other| are_apart(gamma, other, entry))
+}
+
+/// Are two entries of one link and way, whose virtual links occur in one cycle, clear of one another?
+fn are_apart(gamma: u64, earlier: &Entry, entry: &Entry) -> bool
+    requires gamma { gamma ≤ 2 ^ 41 }
+    requires offset { IsWithin 0 (2 ^ 40) earlier.now.row.offset }
+    requires octets { earlier.now.vl.length ≤ 1514 }
+    requires other { IsWithin 0 (2 ^ 40) entry.now.row.offset }
+    requires other_octets { entry.now.vl.length ≤ 1514 }
+    requires period { 1 ≤ earlier.now.vl.period }
+    requires other_period { 1 ≤ entry.now.vl.period }
+    ensures { (network : NetworkValue) → gamma ≡ gamma_of network → IsTrue result ↔ AreApart network earlier.now entry.now }
+{
+    earlier.row.link != entry.row.link
+        || earlier.row.way != entry.row.way
+        || !coincide(&entry.vl, &earlier.vl)
+        || is_clear_before(gamma, earlier, entry)
+        || is_clear_before(gamma, entry, earlier)
 }
 
 /// Do the virtual links occur in one cycle?
