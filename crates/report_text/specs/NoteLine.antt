@@ -46,7 +46,7 @@ body_words network (Arrived device link cause clock) =
     codes "arrived" ∷ (passage_words network device link cause ++ codes "clock" ∷ decimal clock ∷ [])
 body_words network (Permanent device link cause point verdict) =
     codes "permanent" ∷ (passage_words network device link cause
-        ++ codes "point" ∷ signed_decimal point.0 ∷ judgement_text verdict ∷ [])
+    ++ codes "point" ∷ signed_decimal point.0 ∷ judgement_text verdict ∷ [])
 body_words network (Compressed device opened at cycle members verdict) =
     codes "compressed" ∷ device_name network device
     ∷ codes "opened" ∷ signed_decimal opened.0 ∷ codes "at" ∷ signed_decimal at.0

@@ -325,14 +325,25 @@ pub(crate) fn push_body(line: &mut LineText, network: &Network, body: &NoteBody)
             cause,
             vl,
             cycle,
-        } => push_timed(line, network, "accepted", *device, *link, *cause, *vl, *cycle),
+        } => push_timed(
+            line, network, "accepted", *device, *link, *cause, *vl, *cycle,
+        ),
         NoteBody::Delivered {
             device,
             link,
             cause,
             vl,
             cycle,
-        } => push_timed(line, network, "delivered", *device, *link, *cause, *vl, *cycle),
+        } => push_timed(
+            line,
+            network,
+            "delivered",
+            *device,
+            *link,
+            *cause,
+            *vl,
+            *cycle,
+        ),
         NoteBody::Lost {
             device,
             link,

@@ -65,7 +65,7 @@ dropped_off : (s : Scenario) (ps : List Happening) (t : ℕ) (device : DeviceId)
     → ArrivesAs s ps device t link cause a → a ≡ arrivals.Dropped Off
 dropped_off s ps t device link cause a broken comes =
     let off : (standpoint s ps device t).takes_part ≡ false = and_right (not (is_off (state_before s ps device t))) (not (is_broken s device t))
-            (not_from_true (is_broken s device t) broken) in
+    (not_from_true (is_broken s device t) broken) in
     comes.becomes ∙ off_arrival s ps t device link cause comes.signal off
 
 -- ---- what is correct is not broken
@@ -109,7 +109,7 @@ changes_correct s ps t device state cause whys.Frame founded c =
 changes_correct s ps t device state cause whys.Correction founded c =
     let from = caused_at s ps t cause c.2.3 founded c.2.4 in
     subst (λ (u : ℕ). is_broken s device u ≡ false) c.2.4.same_time (corrected_correct s from.0 c.2.3.note.time device c.2.0 c.2.1 c.2.2 c.2.3.note.body c.2.5
-        from.1)
+    from.1)
 changes_correct s ps t device state cause whys.SyncClique founded c = c.2.1.correct
 changes_correct s ps t device state cause whys.AsyncClique founded c = c.2.1.correct
 
@@ -172,4 +172,4 @@ pub broken_are_still : BrokenAreStill
 broken_are_still s mark ns h device run i of broken =
     let at = founded_at s _ h run.founded i in
     subst (λ (hs : List Happening). IsLeftToBroken hs h.note.body) (sym at.whole)
-        (left_by s at.front (h ∷ at.rest) h.note.time device h.note.body at.founded of broken at.due.cause)
+    (left_by s at.front (h ∷ at.rest) h.note.time device h.note.body at.founded of broken at.due.cause)

@@ -104,7 +104,7 @@ pub given : (s : Scenario) (e : Event) → IsLawful s → IsIn e s.events → Is
 given s e lawful i =
     let at = parted e s.events i in
     let there : slice_get s.events (length at.0) ≡ Some e = subst (λ (es : List Event). slice_get es (length at.0) ≡ Some e) (sym at.2) (at_length at.0 at.1 e)
-            in
+    in
     record {
       range = all_at IsEventInRange s.events (length at.0) e lawful.events there;
       before = at.0;
@@ -156,7 +156,7 @@ pub delay_least : (s : Scenario) (link : LinkId) (l : Link) (way : Way) (t : ℕ
 delay_least s link l way t lawful there least =
     let nominal : wire_of s.network link ≡ amount l.wire = ap (λ (o : Option Link). option_map_or (λ k. amount k.wire) o 0) there in
     last_is (λ v. 1 ≤ v) s (wire_set link way) (wire_of s.network link) t (omega (arith, ints, nominal, least))
-        (set_delay_least s link l way lawful there least)
+    (set_delay_least s link l way lawful there least)
 
 -- ---- a clock over a hold
 

@@ -77,10 +77,12 @@ IsControl l = (frame : Result Pcf PcfRefusal) × (l.signal ≡ control frame)
 left_control : (o : Option Pcf) (link : LinkId) (way : Way) (l : Launch) → option_map (λ frame. record { link = link; way = way; signal = control (Ok frame) })
     o ≡ Some l → IsControl l
 left_control None link way l e = absurd cc
-left_control (Some frame) link way l e =
-    (Ok frame, sym (ap (λ (x : Launch). x.signal)
-        (same_some (Some (record { link = link; way = way; signal = control (Ok frame) })) (record { link = link; way = way; signal = control (Ok frame) }) l
-        refl e)))
+left_control (Some frame) link way l e = (
+  Ok frame,
+  sym (ap (λ (x : Launch). x.signal)
+      (same_some (Some (record { link = link; way = way; signal = control (Ok frame) })) (record { link = link; way = way; signal = control (Ok frame) }) l
+      refl e)),
+)
 
 -- what is on a wire was put there by one of these, or is a control frame
 put_by : (s : Scenario) (h : Happening) (t : ℕ) (body : NoteBody) (l : Launch) → launched s h t body ≡ Some l → IsPutting body ⊎ IsControl l
@@ -174,12 +176,12 @@ begins_by s hs ps qs g whole founded due back (notes.TtSent device link cause vl
           let found = by_number s ps taken founded there in
           let within = numbered_within ps taken.note.number taken found in
           let in_whole : numbered hs taken.note.number ≡ Some taken = subst (λ (t : List Happening). numbered t taken.note.number ≡ Some taken) (sym whole)
-                  (numbered_front ps (g ∷ qs) taken.note.number taken found) in
+          (numbered_front ps (g ∷ qs) taken.note.number taken found) in
           let from : cause_of g.note.body ≡ taken.note.number = ap cause_of is ∙ has.1.number in
           further hs g taken
           (subst (λ (n : ℕ). numbered hs n ≡ Some taken) (sym from) in_whole)
           (back taken (numbered_in hs taken.note.number taken in_whole) (omega (arith, within, due.number))
-              (is_taken taken device has.1.link has.1.from _ cycle has.1.is))
+          (is_taken taken device has.1.link has.1.from _ cycle has.1.is))
     ]
 begins_by s hs ps qs g whole founded due back (notes.Event line (Send link octets)) is puts caused = here hs g (subst IsBeginning (sym is) tt)
 begins_by s hs ps qs g whole founded due back other is puts caused = absurd puts
@@ -194,7 +196,7 @@ begins_from s hs founded (suc n) h i small taken =
     let number = number_is s at.front (cause_of h.note.body) put.putting at.founded put.there in
     let within = numbered_within at.front (cause_of h.note.body) put.putting put.there in
     let there : numbered hs (cause_of h.note.body) ≡ Some put.putting = subst (λ (t : List Happening). numbered t (cause_of h.note.body) ≡ Some put.putting)
-            (sym at.whole) (numbered_front at.front (h ∷ at.rest) (cause_of h.note.body) put.putting put.there) in
+    (sym at.whole) (numbered_front at.front (h ∷ at.rest) (cause_of h.note.body) put.putting put.there) in
     let of = founded_at s hs put.putting founded (numbered_in hs (cause_of h.note.body) put.putting there) in
     further hs h put.putting there
     (begins_by s hs of.front of.rest put.putting of.whole of.founded of.due

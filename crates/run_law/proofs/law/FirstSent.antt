@@ -113,7 +113,7 @@ hold_is_young s master link l t lawful there =
     let here = all_at (λ k. beta_at n beta.jitter beta.links + delay_by k ≤ amount n.dmax) n.link link.0 l room.dmax.links there in
     let most = hold_most s link l Up t lawful there known.hold.least in
     grows_little n beta.jitter beta.links (amount l.hold) (amount l.wire) (amount l.jitter) (leaving_time s link t - t)
-        (s.reading master (leaving_time s link t) - s.reading master t)
+    (s.reading master (leaving_time s link t) - s.reading master t)
     (amount_within 1 1048576 n.grain lawful.range.grain).1
     ((lawful.clocks master).drifts t (leaving_time s link t) (omega arith))
     (omega (arith, most))
@@ -126,7 +126,7 @@ whole_departs : (s : Scenario) (ps : List Happening) (h : Happening) (master : D
     → is_broken s master (leaving_time s link (time_of h)) ≡ false → is_cut s link Up (leaving_time s link (time_of h)) ≡ false
     → clock_at_leaving s master frame (time_of h) (leaving_time s link (time_of h)) ≤ amount s.network.dmax
     → Departs s ps master (leaving_time s link (time_of h)) link h.note.number
-        (leaves (clock_at_leaving s master frame (time_of h) (leaving_time s link (time_of h))))
+    (leaves (clock_at_leaving s master frame (time_of h) (leaving_time s link (time_of h))))
 whole_departs s ps h master cycle link frame found is of_frame child up correct whole young =
     let t : ℕ = leaving_time s link (time_of h) in
     let clock : ℕ = clock_at_leaving s master frame (time_of h) t in
@@ -191,12 +191,12 @@ has_left s mark hs h master cycle link l lawful run i is there child up correct 
     let of_frame = sent_frame s before.front h master cycle before.due is in
     let at = split place_of (IsDue s) hs (t ∷ 8 ∷ master.0 ∷ link.0 ∷ h.note.number ∷ []) run.founded in
     let sooner : IsBefore (place_of h) (t ∷ 8 ∷ master.0 ∷ link.0 ∷ h.note.number ∷ []) = sent_before (time_of h) (hold_at s link Up (time_of h))
-            (rank h.note.body) (key (members_in h) h.note.body) (master.0 ∷ link.0 ∷ h.note.number ∷ []) (ap rank is) in
+    (rank h.note.body) (key (members_in h) h.note.body) (master.0 ∷ link.0 ∷ h.note.number ∷ []) (ap rank is) in
     let front = front_founded place_of (IsDue s) at.front at.rest (subst (IsFounded place_of (IsDue s)) at.whole run.founded) in
     let found = by_number s at.front h front (in_front_of place_of hs _ at h i sooner) in
     let young : clock ≤ amount s.network.dmax = omega (arith, hold_is_young s master link l (time_of h) lawful there) in
     let departs = whole_departs s at.front h master cycle link frame found is of_frame
-            (closed (λ (k : Link). k.child ≡ master) (link_at s.network link) l there child) up correct whole young in
+    (closed (λ (k : Link). k.child ≡ master) (link_at s.network link) l there child) up correct whole young in
     record {
       leaving = happening s.network at.front (next_note at.front t body);
       there = due_is_there s mark hs (happening s.network at.front (next_note at.front t body)) at run (next_due s at.front t body departs) (in_time _);
@@ -256,8 +256,13 @@ same_standpoint s device t more rest hs at by =
 arrives_as : (s : Scenario) (ps : List Happening) (leaving : Happening) (device : DeviceId) (link : LinkId) (t : ℕ) (frame : Pcf) (a : Arrival)
     → numbered ps leaving.note.number ≡ Some leaving → Arrives s leaving device link t (control (Ok frame))
     → control_arrival s.network device link (standpoint s ps device t) (Ok frame) ≡ a → ArrivesAs s ps device t link leaving.note.number a
-arrives_as s ps leaving device link t frame a found arrives is = record { putting = leaving; there = found; signal = control (Ok frame); arrives = arrives;
-    becomes = sym is }
+arrives_as s ps leaving device link t frame a found arrives is = record {
+  putting = leaving;
+  there = found;
+  signal = control (Ok frame);
+  arrives = arrives;
+  becomes = sym is;
+}
 
 -- the record of a frame that is taken
 arrived_record : (s : Scenario) (ps : List Happening) (leaving : Happening) (device : DeviceId) (link : LinkId) (t : ℕ) (frame : Pcf)
@@ -318,7 +323,7 @@ has_arrived s mark hs leaving device link t frame run i sooner arrives in_time =
           let is : control_arrival s.network device link (standpoint s by.front device t) (Ok frame) ≡ arrivals.Dropped dropped.0 =
           ap (λ (p : Standpoint). control_arrival s.network device link p (Ok frame)) stands ∙ dropped.1 in
           let drops = arrives_as s by.front leaving device link t frame (arrivals.Dropped dropped.0) (found_before s hs t _ by leaving run.founded i sooner)
-                  arrives is in
+          arrives is in
           record {
             coming = coming;
             there =
@@ -340,7 +345,7 @@ goes_up s hs given number master link l switch left there parent up =
     let way : Way = way_from n master link in
     let t : ℕ = leaving_time s link given in
     let delay : delay_at s link way (time_of left.leaving) ≡ delay_at s link Up t = ap (λ (w : Way). delay_at s link w (time_of left.leaving)) up
-            ∙ ap (delay_at s link Up) left.at in
+    ∙ ap (delay_at s link Up) left.at in
     record {
       way = way;
       put =
@@ -364,7 +369,7 @@ sent_frames_come s mark ns h master cycle link switch lawful run i is leads corr
     let left = has_left s mark _ h master cycle link l.0 lawful run i is l.1 l.2.0 up correct whole
     (λ more. chain (t ∷ more) (arrival_time s link (time_of h) ∷ 14 ∷ []) mark (inl (omega (arith, least))) in_time) in
     let come = has_arrived s mark _ left.leaving switch link (arrival_time s link (time_of h)) left.frame run left.there (omega (arith, least, left.at))
-            (goes_up s _ (time_of h) h.note.number master link l.0 switch left l.1 l.2.1 up) in_time in
+    (goes_up s _ (time_of h) h.note.number master link l.0 switch left l.1 l.2.1 up) in_time in
     record {
       leaving = left.leaving;
       left = by_number s _ left.leaving run.founded left.there;

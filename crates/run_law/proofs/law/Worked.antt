@@ -35,8 +35,15 @@ abbrev device_of : List ℕ → Role → ℕ → Option ℕ → Option Channel �
 device_of name role mac member channel = record { name = name; role = role; mac = mac; member = member; channel = channel; start = Some (units_of 0) }
 
 abbrev link_of : List ℕ → ℕ → ℕ → Link
-link_of name child parent = record { name = name; child = record { 0 = child }; parent = record { 0 = parent }; wire = units_of 32768000;
-    jitter = units_of 1310720; hold = units_of 1310720000; speed = Mbit100 }
+link_of name child parent = record {
+  name = name;
+  child = record { 0 = child };
+  parent = record { 0 = parent };
+  wire = units_of 32768000;
+  jitter = units_of 1310720;
+  hold = units_of 1310720000;
+  speed = Mbit100;
+}
 
 abbrev row_of : ℕ → ℕ → Way → ℕ → Row
 row_of vl link way offset = record { vl = record { 0 = vl }; link = record { 0 = link }; way = way; offset = units_of offset }

@@ -52,7 +52,7 @@ its_amount low high u h = from_zero low u.0 h.least
 no_cm_by : (o : Option Device) (is : Device) → o ≡ Some is → is.role ≡ Master → option_map_or (λ d. is_cm_role d.role) o false ≡ true → ⊥
 no_cm_by o is there master cm =
     let here : option_map_or (λ d. is_cm_role d.role) (Some is) false ≡ true = subst
-            (λ (p : Option Device). option_map_or (λ d. is_cm_role d.role) p false ≡ true) there cm in
+    (λ (p : Option Device). option_map_or (λ d. is_cm_role d.role) p false ≡ true) there cm in
     let role : is_cm_role Master ≡ true = subst (λ (r : Role). is_cm_role r ≡ true) master here in
     cc
 
@@ -196,7 +196,7 @@ reading_of_second : (network : Network) (device : DeviceId) (start : Units) (nod
     → reading_for network node (doing (correcting 1)) ≡ ((network.cycle.0 +ℤ network.correction.0) -ℤ start.0)
 reading_of_second network device start node done h =
     first_correction (amount network.cycle) (amount network.correction) network.cycle.0 network.correction.0 node.standing.adjustment.0
-        (cycle_amount network device start h.lone) (correction_amount network device start h.lone)
+    (cycle_amount network device start h.lone) (correction_amount network device start h.lone)
     ∙ ap (λ (a : ℤ). (network.cycle.0 +ℤ network.correction.0) -ℤ a) (started_at network device start node done h)
 
 -- nothing is due before the first sending
@@ -204,7 +204,7 @@ none_before_first : (network : Network) (device : DeviceId) (start : Units) (nod
     → HasBegun network device start node done → IsOwn node task → (network.cycle.0 -ℤ start.0) ≤ℤ reading_for network node task
 none_before_first network device start node done (doing (sending cycle)) h (some, not_yet) =
     subst (λ (a : ℤ). (network.cycle.0 -ℤ a) ≤ℤ (pos (cycle * amount network.cycle) -ℤ node.standing.adjustment.0))
-        (started_at network device start node done h)
+    (started_at network device start node done h)
     (sending_later (amount network.cycle) cycle network.cycle.0 node.standing.adjustment.0 (cycle_amount network device start h.lone) some)
 none_before_first network device start node done (emitting sent) h none = absurd none
 none_before_first network device start node done (doing (dispatching row cycle)) h none = absurd none
@@ -237,9 +237,9 @@ second_far : (network : Network) (device : DeviceId) (start : Units) (node : Nod
     → (((network.cycle.0 +ℤ network.correction.0) -ℤ start.0) +ℤ network.precision.0) ≤ℤ reading_for network node (doing (sending cycle))
 second_far network device start node cycle h two =
     subst (λ (a : ℤ). (((network.cycle.0 +ℤ network.correction.0) -ℤ a) +ℤ network.precision.0) ≤ℤ (pos (cycle * amount network.cycle)
-        -ℤ node.standing.adjustment.0)) (started_at network device start node _ h)
+    -ℤ node.standing.adjustment.0)) (started_at network device start node _ h)
     (second_sending (amount network.cycle) cycle network.cycle.0 network.correction.0 network.precision.0 node.standing.adjustment.0
-        (cycle_amount network device start h.lone) two h.lone.corrects_early)
+    (cycle_amount network device start h.lone) two h.lone.corrects_early)
 
 less_with_more : (x p y : ℤ) → pos 1 ≤ℤ p → (x +ℤ p) ≤ℤ y → x ≤ℤ y
 less_with_more x p y some le = omega (arith, ints)
@@ -248,7 +248,7 @@ none_before_second : (network : Network) (device : DeviceId) (start : Units) (no
     → IsOwn node task → ((network.cycle.0 +ℤ network.correction.0) -ℤ start.0) ≤ℤ reading_for network node task
 none_before_second network device start node (doing (sending cycle)) h (some, not_yet) =
     less_with_more _ network.precision.0 _ h.lone.range.precision.least
-        (second_far network device start node cycle h (not_the_first node cycle h.done_is not_yet some))
+    (second_far network device start node cycle h (not_the_first node cycle h.done_is not_yet some))
 none_before_second network device start node (emitting sent) h none = absurd none
 none_before_second network device start node (doing (dispatching row cycle)) h none = absurd none
 none_before_second network device start node (doing (correcting cycle)) h next =

@@ -126,7 +126,7 @@ same_verdict : (s : Scenario) (hs : List Happening) (t : ℕ) (device : DeviceId
 same_verdict s hs t device cycle other v w a b =
     let heard = one_summary _ a.summary b.summary a.heard b.heard in
     one_verdict (standing_before s hs device t) a.summary v w a.comes (subst (λ (u : Summary). HasVerdict (standing_before s hs device t) u w) (sym heard)
-        b.comes)
+    b.comes)
 
 same_corrected : (s : Scenario) (hs : List Happening) (t : ℕ) (device : DeviceId) (cycle other : ℕ) (by gain adjustment later : Units)
     → IsCorrectedRecord s hs device t cycle by adjustment → IsCorrectedRecord s hs device t other gain later
@@ -219,7 +219,7 @@ moved : (P : DeviceId → LinkId → ℕ → Type 0) (device other : DeviceId) (
     → P other by from → P device link cause
 moved P device other link by cause from same there =
     subst (λ (d : DeviceId). P d link cause) (sym same.devices)
-        (subst (λ (l : LinkId). P other l cause) (sym same.links) (subst (λ (c : ℕ). P other by c) (sym same.causes) there))
+    (subst (λ (l : LinkId). P other l cause) (sym same.links) (subst (λ (c : ℕ). P other by c) (sym same.causes) there))
 
 -- and makes one body of it
 remade : (made : DeviceId → LinkId → ℕ → NoteBody) (device other : DeviceId) (link by : LinkId) (cause from : ℕ) → IsSameRoute device other link by cause from
@@ -251,7 +251,7 @@ same_permanent : (s : Scenario) (hs : List Happening) (t : ℕ) (device : Device
 same_permanent s hs t device link cause p q v w a b =
     ap (λ (u : Units). notes.Permanent device link cause u v) (same_point s hs t device link cause a.frame b.frame p q a.permanent b.permanent)
     ∙ ap (λ (j : Judgement). notes.Permanent device link cause q j)
-        (same_judgement v w (same_ripening s hs t device link cause p q (ripe_as v) (ripe_as w) a b))
+    (same_judgement v w (same_ripening s hs t device link cause p q (ripe_as v) (ripe_as w) a b))
 
 -- what a compression master sends is heard in one way
 same_heard : (s : Scenario) (hs : List Happening) (t : ℕ) (device : DeviceId) (sent : Compressed) (v w : Judgement) → Emits s hs device t sent v
@@ -284,17 +284,21 @@ same_compressed : (s : Scenario) (hs : List Happening) (t : ℕ) (device other :
     → Emits s hs other t (record { opened = begun; at = emitted; cycle = number; members = masters }) judged
     → notes.Compressed device opened at cycle members verdict ≡ notes.Compressed other begun emitted number masters judged
 same_compressed s hs t device other opened begun at emitted cycle number members masters verdict judged devices opens ats cycles sets a b =
-    let sents : (let c : Compressed = record { opened = opened; at = at; cycle = cycle; members = members } in c) ≡ record { opened = begun; at = emitted;
-            cycle = number; members = masters } =
+    let sents : (let c : Compressed = record { opened = opened; at = at; cycle = cycle; members = members } in c) ≡ record {
+      opened = begun;
+      at = emitted;
+      cycle = number;
+      members = masters;
+    } =
     ap (λ (u : Units). let c : Compressed = record { opened = u; at = at; cycle = cycle; members = members } in c) opens
     ∙ ap (λ (u : Units). let c : Compressed = record { opened = begun; at = u; cycle = cycle; members = members } in c) ats
     ∙ ap (λ (k : ℕ). let c : Compressed = record { opened = begun; at = emitted; cycle = k; members = members } in c) cycles
     ∙ ap (λ (ms : Members). let c : Compressed = record { opened = begun; at = emitted; cycle = number; members = ms } in c) sets in
     let there = subst (λ (d : DeviceId). Emits s hs d t (let c : Compressed = record { opened = begun; at = emitted; cycle = number; members = masters } in c)
-            judged) (sym devices) b in
+    judged) (sym devices) b in
     let here = subst (λ (c : Compressed). Emits s hs device t c judged) (sym sents) there in
     ap (λ (j : Judgement). notes.Compressed device opened at cycle members j)
-        (same_heard s hs t device (let c : Compressed = record { opened = opened; at = at; cycle = cycle; members = members } in c) verdict judged a here)
+    (same_heard s hs t device (let c : Compressed = record { opened = opened; at = at; cycle = cycle; members = members } in c) verdict judged a here)
     ∙ ap (λ (c : Compressed). notes.Compressed device c.opened c.at c.cycle c.members judged) sents
     ∙ ap (λ (d : DeviceId). notes.Compressed d begun emitted number masters judged) devices
 
@@ -324,8 +328,8 @@ same_body s hs time m n (notes.Compressed device opened at cycle members verdict
     let cycles : cycle ≡ number = cc in
     let sets : members.0 ≡ masters.0 = cc in
     same_compressed s hs (amount time) device other opened begun at emitted cycle number members masters verdict judged (same_device device other ids)
-        (same_units opened begun (same_signed opened.0 begun.0 opens open_signs)) (same_units at emitted (same_signed at.0 emitted.0 ats at_signs)) cycles
-        (same_members members masters sets) a b
+    (same_units opened begun (same_signed opened.0 begun.0 opens open_signs)) (same_units at emitted (same_signed at.0 emitted.0 ats at_signs)) cycles
+    (same_members members masters sets) a b
 same_body s hs time m n (notes.Sent device cycle) (notes.Sent other number) a b kinds keys =
     let ids : device.0 ≡ other.0 = cc in
     let devices : device ≡ other = same_device device other ids in
@@ -342,7 +346,7 @@ same_body s hs time m n (notes.State device state cause why) (notes.State other 
     let devices : device ≡ other = same_device device other ids in
     let causes : cause ≡ from = cc in
     let there = subst (λ (d : DeviceId). ChangesState s hs d (amount time) later cause for) (sym devices)
-            (subst (λ (c : ℕ). ChangesState s hs other (amount time) later c for) (sym causes) b) in
+    (subst (λ (c : ℕ). ChangesState s hs other (amount time) later c for) (sym causes) b) in
     let one = same_change s hs (amount time) device cause state later why for a there in
     ap (λ (u : State). notes.State device u cause why) one.0
     ∙ ap (λ (w : Why). notes.State device later cause w) one.1

@@ -104,7 +104,7 @@ grow {N} place IsDue mark ns x run before due nothing =
                   | inl l ↦ absurd (never_self (place x) (chain (place x) (place y) (place x) (b x (subst (λ (t : List N). IsIn x t) (sym l.1) at_x)) lt))
                   | inr r ↦
                       let none : NoneBefore place r.others (place y) = λ m i. n m
-                              (subst (λ (t : List N). IsIn m t) (sym r.last) (in_left m r.others (x ∷ []) i)) in
+                      (subst (λ (t : List N). IsIn m t) (sym r.last) (in_left m r.others (x ∷ []) i)) in
                       let found = run.full ps r.others y r.whole b none d (nothing.gap ps r.others y r.whole b none d lt) in
                       (found.0, in_left found.0 ns (x ∷ []) found.1, found.2)
                 ]

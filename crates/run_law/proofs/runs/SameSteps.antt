@@ -45,7 +45,7 @@ same_signal : (s : Scenario) (h : Happening) (device : DeviceId) (link : LinkId)
     → Arrives s h device link t b → a ≡ b
 same_signal s h device link t a b x y =
     ap (λ (l : Launch). l.signal) (same_some (launched s h (time_of h) h.note.body) (record { link = link; way = x.way; signal = a })
-        (record { link = link; way = y.way; signal = b }) x.put y.put)
+    (record { link = link; way = y.way; signal = b }) x.put y.put)
 
 -- and one thing becomes of it
 pub same_arrival : (s : Scenario) (hs : List Happening) (t : ℕ) (device : DeviceId) (link : LinkId) (cause : ℕ) (a b : Arrival)
@@ -123,7 +123,7 @@ same_ripening s hs t device link cause p q a b x y =
     let here = subst (λ (u : Units). IsJudgedBy s (judged x.frame u) device t x.frame u b) (sym points) there in
     let front = judged x.frame p in
     same_ripe s.network device (state_at_hearing s front device t) (adjustment_at_hearing s front device t).0 (points_of front device) x.frame p.0 a b x.becomes
-        here
+    here
 
 -- judgements are told apart by what becomes of the frame
 pub same_judgement : (v w : Judgement) → ripe_as v ≡ ripe_as w → v ≡ w
@@ -203,7 +203,7 @@ pub arrives_or_ripens : (s : Scenario) (hs : List Happening) (t : ℕ) (device :
 arrives_or_ripens s hs t device link cause a point b x y =
     let one = same_some (numbered hs cause) x.putting y.permanent.arrival x.there y.permanent.there in
     no_launch s x.putting (time_of x.putting) x.putting.note.body device link y.permanent.from y.permanent.clock _ (ap (λ (h : Happening). h.note.body) one
-        ∙ y.permanent.arrived) x.arrives.put
+    ∙ y.permanent.arrived) x.arrives.put
 
 -- a relay is no compression master
 roles_differ : (role : Role) → is_cm_role role ≡ true → is_relay_role role ≡ true → ⊥

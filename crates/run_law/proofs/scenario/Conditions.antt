@@ -66,7 +66,7 @@ other_wire_by network event (Wire link way delay) is = decided_by
     let delays : h.delay ≡ delay = cc in
     subst (IsOtherWire network link) delays (subst (λ (l : LinkId). IsOtherWire network l h.delay) links h.other))
     (decided_some (link_at network link) (λ l. (delay.0 <ℤ l.wire.0) ⊎ ((l.wire.0 +ℤ l.jitter.0) <ℤ delay.0))
-        (λ l. decided_or (decided_less_int delay.0 l.wire.0) (decided_less_int (l.wire.0 +ℤ l.jitter.0) delay.0)))
+    (λ l. decided_or (decided_less_int delay.0 l.wire.0) (decided_less_int (l.wire.0 +ℤ l.jitter.0) delay.0)))
 other_wire_by network event other is = inr (λ h. let both = sym h.what ∙ is in cc)
 
 pub other_wire : (network : Network) (event : Event) → IsDecided (SetsOtherWire network event)
@@ -121,7 +121,7 @@ has_off_switch network channel = decided_by
     (λ h. (record { 0 = h.0 }, h.1))
     (λ h. (h.0.0, h.1))
     (decided_at network.device (λ d. (d.channel ≡ Some channel) × IsNone d.start)
-        (λ d. decided_and (is_channel d.channel channel) (decided_false (is_some d.start))))
+    (λ d. decided_and (is_channel d.channel channel) (decided_false (is_some d.start))))
 
 -- ---- the first cut
 

@@ -85,4 +85,4 @@ pub decided_any : {X : Type 0} (P : X → Type 0) → ((x : X) → IsDecided (P 
 decided_any P each [] = inr (any_of_none P)
 decided_any P each (x ∷ xs) =
     decided_by (λ h. elim h [ inl p ↦ any_first P x xs p | inr later ↦ any_later P x xs later ]) (any_parts P x xs)
-        (decided_or (each x) (decided_any P each xs))
+    (decided_or (each x) (decided_any P each xs))

@@ -57,7 +57,7 @@ silent_event_run network reading event begun on =
     let IsDueHere : List Note → Note → Type 0 = IsSilentlyDue network reading (event ∷ []) in
     let n : Note = first_note event in
     let due : IsDueHere [] n =
-            record { number = refl; begun = begun; cause = record { event = event; before = 0; line_is = refl; is = refl; at = refl; same = refl } } in
+    record { number = refl; begun = begun; cause = record { event = event; before = 0; line_is = refl; is = refl; at = refl; same = refl } } in
     let start = empty_run silent_place IsDueHere [] (λ y owed here. here) in
     let first = grow silent_place IsDueHere [] [] n start (λ m i. absurd i) due (record {
       gap =
@@ -76,9 +76,9 @@ pub one_event_run : (network : Network) (reading : DeviceId → ℕ → ℕ) (ev
     → IsRunOf network reading (event ∷ []) ((amount event.time + 1) ∷ []) (first_note event ∷ [])
 one_event_run network reading event silent early begun on =
     let half : IsInFirstHalf network ((amount event.time + 1) ∷ []) = λ p before. before_later_time p (amount event.time + 1) (amount network.cycle / 2)
-            (omega (arith, early)) before in
+    (omega (arith, early)) before in
     (silent_runs_agree network reading (event ∷ []) ((amount event.time + 1) ∷ []) (first_note event ∷ []) silent half).0
-        (silent_event_run network reading event begun on)
+    (silent_event_run network reading event begun on)
 
 -- ---- events within the hypothesis and outside
 

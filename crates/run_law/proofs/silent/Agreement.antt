@@ -42,7 +42,7 @@ no_octets network before other q = absurd q
 is_plain : (network : Network) (before : List Happening) (note : Note) → IsQuietBody note.body → happening network before note ≡ plain note
 is_plain network before note q =
     ap (λ frame. let h : Happening = record { note = note; frame = frame; octets = octets_by network before note.body } in h)
-        (no_frame network before note.body q)
+    (no_frame network before note.body q)
     ∙ ap (λ octets. let h : Happening = record { note = note; frame = None; octets = octets } in h) (no_octets network before note.body q)
 
 -- ---- lists of them
@@ -181,10 +181,10 @@ with_frames s mark ns silent half q run = record {
       let place : place_of y ≡ silent_place y.note = ap place_of (due_is_plain s (map plain cut.front) y early d) in
       let b : AllBefore silent_place cut.front (silent_place y.note) = λ n i.
       subst (λ (p : List ℕ). IsBefore (silent_place n) p) place
-          (before (plain n) (subst (λ (t : List Happening). IsIn (plain n) t) (sym cut.first) (in_plain cut.front n i))) in
+      (before (plain n) (subst (λ (t : List Happening). IsIn (plain n) t) (sym cut.first) (in_plain cut.front n i))) in
       let r : NoneBefore silent_place cut.back (silent_place y.note) = λ n i less.
       rest (plain n) (subst (λ (t : List Happening). IsIn (plain n) t) (sym cut.second) (in_plain cut.back n i))
-          (subst (λ (p : List ℕ). IsBefore (silent_place n) p) (sym place) less) in
+      (subst (λ (p : List ℕ). IsBefore (silent_place n) p) (sym place) less) in
       let found = run.full cut.front cut.back y.note cut.whole b r (silently_due s cut.front y early d) (subst (λ (p : List ℕ). IsBefore p mark) place here) in
       (plain found.0, in_plain ns found.0 found.1, found.2 ∙ sym place);
   within = all_of_plain ns mark run.within;
@@ -206,7 +206,7 @@ without_frames s mark ns silent half q run = record {
       let order : map plain ns ≡ map plain ps ++ map plain qs = ap (map plain) whole ∙ map-append plain ps qs in
       let front = quiet_front ps qs (subst (λ (t : List Note). AreQuiet (map plain t)) whole q) in
       let found = run.full (map plain ps) (map plain qs) (plain n) order (all_of_plain ps (silent_place n) before) (none_of_plain qs (silent_place n) rest)
-              (due s ps n silent front owed) here in
+      (due s ps n silent front owed) here in
       let own = from_plain ns found.0 found.1 in
       (own.0, own.1, ap place_of (sym own.2) ∙ found.2);
   within = λ n i. run.within (plain n) (in_plain ns n i);
@@ -217,7 +217,7 @@ silent_runs_agree network reading events mark ns silent half =
     let s : Scenario = record { network = network; reading = reading; events = events } in (
       λ run.
           let q = quiet_all ns (λ n i. let at = parted n ns i in quiet_cause network reading events n.time n.body silent.quiet
-                  (run.founded at.0 at.1 n at.2).1.cause) in
+          (run.founded at.0 at.1 n at.2).1.cause) in
           subst (λ (hs : List Happening). IsRun place_of (IsDue s) mark hs) (sym (all_plain network ns q)) (with_frames s mark ns silent half q run),
       λ run.
           let q = quiet_notes network ns (quiet_run s mark (happenings network ns) [] (happenings network ns) silent half run refl tt) in

@@ -67,7 +67,7 @@ none_reached : (s : Scenario) (hs : List Happening) (t : ℕ) (device : DeviceId
     → Reaches s hs device v t → ⊥
 none_reached s hs t device v e far r =
     never_there s.network (s.reading device) device t v (adjustment_before s hs device t).0 e.silent.silent (e.silent.clocks device) (e.silent.begins device)
-        e.early far
+    e.early far
     (ap (λ (u : Units). u.0) (quiet_earlier s hs t device e.quiet)) r.reach.reached
 
 -- each value of a later cycle is one of the second or more
@@ -91,7 +91,7 @@ never_cleared : (s : Scenario) (hs : List Happening) (t : ℕ) (device : DeviceI
 never_cleared s hs t device q =
     let none : integration_cycle (earlier t hs) device ≡ None = never_integrates (earlier t hs) device (quiet_filter _ hs q) in
     let other : is_integration_cycle (earlier t hs) device ≡ false =
-            ap (λ (o : Option ℕ). option_map_or (λ cycle. recorded_cycle (earlier t hs) device == cycle) o false) none in
+    ap (λ (o : Option ℕ). option_map_or (λ cycle. recorded_cycle (earlier t hs) device == cycle) o false) none in
     ap (λ (b : Bool). b && had_come s hs device (correction_value s.network (recorded_cycle (earlier t hs) device)) t t) other
 
 first_is_next : (s : Scenario) (hs : List Happening) (t : ℕ) (device : DeviceId) → AreQuiet hs → next_cycle s hs device t ≡ 1
@@ -144,7 +144,7 @@ no_emission : (s : Scenario) (hs : List Happening) (t : ℕ) (device : DeviceId)
     → AreQuiet hs → Emits s hs device t (record { opened = opened; at = at; cycle = cycle; members = members }) verdict → ⊥
 no_emission s hs t device opened at cycle members verdict q e =
     no_cluster (observation_window s.network) e.clusters e.cluster
-        (subst (λ ps. AreClusters (observation_window s.network) ps e.clusters) (no_points hs device q) e.are) e.there
+    (subst (λ ps. AreClusters (observation_window s.network) ps e.clusters) (no_points hs device q) e.are) e.there
 
 no_dispatch : (s : Scenario) (hs : List Happening) (t : ℕ) (device : DeviceId) (link : LinkId) (cause : ℕ) (vl : VlId) (cycle : ℕ) → IsSilentNetwork s.network
     → Dispatches s hs device t link cause vl cycle → ⊥
@@ -226,8 +226,15 @@ clock_of_silent : (s : Scenario) (hs : List Happening) (time : Units) (device : 
     → AreQuiet hs → IsSilentClock s.network s.reading s.events time device shown adjustment state → IsClockRecord s hs device time shown adjustment state
 clock_of_silent s hs time device shown adjustment state silent q c =
     let leaves = leaves_at_start s (up_to (amount time) hs) device c.is silent (quiet_filter _ hs q) c.there in
-    record { is = c.is; there = c.there; ends = c.ends; reads = c.reads; adjusted = c.adjusted ∙ sym leaves.adjustment; in_state = c.synchronised
-        ∙ sym leaves.state }
+    record {
+      is = c.is;
+      there = c.there;
+      ends = c.ends;
+      reads = c.reads;
+      adjusted = c.adjusted ∙ sym leaves.adjustment;
+      in_state = c.synchronised
+          ∙ sym leaves.state;
+    }
 
 -- ---- what is caused
 

@@ -111,7 +111,7 @@ pub adjustment_begins : (s : Scenario) (hs : List Happening) (device : DeviceId)
 adjustment_begins s hs device q =
     let start = adjustment_at_start (start_of s.network device) in
     quiet_fold (λ adjustment h. adjustment_with s device (cycle_in h) adjustment h.note.body) start
-        (λ h r. adjustment_stays s device (cycle_in h) start h.note.body r) hs q
+    (λ h r. adjustment_stays s device (cycle_in h) start h.note.body r) hs q
 
 pub never_integrates : (hs : List Happening) (device : DeviceId) → AreQuiet hs → integration_cycle hs device ≡ None
 never_integrates hs device q =

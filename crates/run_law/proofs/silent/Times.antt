@@ -78,14 +78,14 @@ from_zero rho grain t r first begins measured =
 pub never_there : (network : Network) (reading : ℕ → ℕ) (device : DeviceId) (t : ℕ) (v start : ℤ) → IsSilentNetwork network
     → KeepsClockLaws network.rho (amount network.grain) reading → reading 0 ≡ 0
     → t < amount network.cycle / 2 → pos (amount network.cycle) ≤ℤ v → start ≡ (adjustment_at_start (start_of network device)).0
-        → (v -ℤ start) ≤ℤ pos (reading t) → ⊥
+    → (v -ℤ start) ≤ℤ pos (reading t) → ⊥
 never_there network reading device t v start silent laws begins early far is reached =
     let measured : Measures network.rho (amount network.grain) t (reading t) = from_zero network.rho (amount network.grain) t (reading t) (reading 0) begins
-            (laws.drifts 0 t (omega arith)) in
+    (laws.drifts 0 t (omega arith)) in
     let fine = amount_grain network.grain.0 1048576 (omega (arith, ints, silent.range.grain.least)) silent.range.grain.most in
     let long = amount_cycle network.cycle.0 (2 ^ 32) silent.range.cycle.least in
     let room = early_reading network.rho (amount network.grain) (amount network.cycle) (amount network.settled) t (reading t) silent.range.rho fine long
-            (few_starts network silent) early measured in
+    (few_starts network silent) early measured in
     let settled = whole network.settled.0 silent.range.settled.least in
     let small = begins_settled network device silent in
     omega (arith, ints, room, reached, far, is, small, settled)

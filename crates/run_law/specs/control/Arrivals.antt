@@ -50,7 +50,7 @@ are_others (Some member) members = not (members.0 == 2 ^ member)
 abbrev pub is_of_other_member : Network → DeviceId → LinkId → Members → Bool
 is_of_other_member network device link members =
     option_map_or (λ l. l.parent.0 == device.0 && is_end network l.child
-        && are_others (member_of network l.child) members) (link_at network link) false
+    && are_others (member_of network l.child) members) (link_at network link) false
 
 -- the frame's transparent clock at its arrival: the nominal delay of the wire is added
 abbrev pub clock_on_arrival : Network → LinkId → Pcf → ℕ
@@ -61,7 +61,7 @@ abbrev pub is_gate_shut : Network → DeviceId → Standpoint → Bool
 is_gate_shut network device at =
     is_relay network device && is_synchronised at.state
     && int_lt (pos (amount network.correction + 2 * amount network.precision))
-        (offset_in_cycle network (clock_of at +ℤ pos (2 * amount network.precision)))
+    (offset_in_cycle network (clock_of at +ℤ pos (2 * amount network.precision)))
 
 -- why a frame that the decoder gave is dropped at its arrival, if it is: the first reason in this order
 abbrev pub frame_fault : Network → DeviceId → LinkId → Standpoint → Pcf → Option Reason

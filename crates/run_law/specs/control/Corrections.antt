@@ -57,7 +57,7 @@ has_cleared s hs device t by =
 abbrev pub next_cycle : Scenario → List Happening → DeviceId → ℕ → ℕ
 next_cycle s hs device t =
     if has_cleared s hs device t t then recorded_cycle (earlier t hs) device + 1
-        else recorded_cycle (earlier t hs) device
+    else recorded_cycle (earlier t hs) device
 
 -- where the device's synchronisation stands before this time
 abbrev pub standing_before : Scenario → List Happening → DeviceId → ℕ → Standing
@@ -81,15 +81,15 @@ heard_by channel h point within = record {
 abbrev pub hearing_by : Network → DeviceId → Happening → NoteBody → Option Hearing
 hearing_by network device h (notes.Permanent other link cause point Within) =
     if device.0 == other.0 then option_map (λ channel. heard_by channel h point true) (channel_of_link network link)
-        else None
+    else None
 hearing_by network device h (notes.Permanent other link cause point Outside) =
     if device.0 == other.0 then option_map (λ channel. heard_by channel h point false) (channel_of_link network link)
-        else None
+    else None
 hearing_by network device h (notes.Compressed other opened at cycle members Within) =
     if device.0 == other.0 then option_map (λ channel. heard_by channel h at true) (channel_of network device) else None
 hearing_by network device h (notes.Compressed other opened at cycle members Outside) =
     if device.0 == other.0 then option_map (λ channel. heard_by channel h at false) (channel_of network device)
-        else None
+    else None
 hearing_by network device h other = None
 
 -- what the device has heard since its last correction point before this time, this time included: since the last

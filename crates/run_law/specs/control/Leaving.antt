@@ -45,7 +45,7 @@ abbrev pub departure : Scenario → DeviceId → LinkId → Pcf → ℕ → ℕ 
 departure s device link frame given t =
     if nat_lt (amount s.network.dmax) (clock_at_leaving s device frame given t) then too_old
     else (if is_cut s link (way_from s.network device link) t then on_cut_way
-        else leaves (clock_at_leaving s device frame given t))
+    else leaves (clock_at_leaving s device frame given t))
 
 -- the frame of the record with the number `cause`, which the device gave to the link, leaves at the time, after
 -- the hold, and this becomes of it. A device that broke by then sends nothing

@@ -48,7 +48,7 @@ abbrev pub IsLost : Scenario → List Happening → DeviceId → ℕ → LinkId 
 IsLost s hs device t link cause =
     Departs s hs device t link cause on_cut_way
     ⊎ (((vl : VlId) × (cycle : ℕ) × Dispatches s hs device t link cause vl cycle
-        × (is_cut s link (way_from s.network device link) t ≡ true))
+    × (is_cut s link (way_from s.network device link) t ≡ true))
     ⊎ IsSendLost s hs device t link cause)
 
 -- a frame is dropped, at its arrival, when it is permanent, or at its leaving

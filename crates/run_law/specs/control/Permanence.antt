@@ -57,9 +57,9 @@ abbrev pub IsPermanenceOutcome : Network → DeviceId → State → ℤ → List
 IsPermanenceOutcome network device state adjustment points frame point is =
     MatchBool (is_cm network device)
     (IsCollectedOrDropped network points (point_at point (master_of frame.members.0) frame.cycle)
-        (point_fault network state adjustment point frame.cycle) is)
+    (point_fault network state adjustment point frame.cycle) is)
     (is ≡ ripe_as (heard_as (plan_of network device) (observation_window network) state adjustment point frame.cycle
-        frame.members))
+    frame.members))
 
 -- the frame of the `arrived` record with the number `cause` is permanent at the time: the device waits for it, and
 -- its reading is first at least the frame's point. A broken device makes no record of it
@@ -88,7 +88,7 @@ before_permanence hs device t link cause frame point =
 abbrev pub IsJudgedBy : Scenario → List Happening → DeviceId → ℕ → Pcf → Units → Ripe → Type 0
 IsJudgedBy s judged device t frame point is =
     IsPermanenceOutcome s.network device (state_at_hearing s judged device t)
-        (adjustment_at_hearing s judged device t).0 (points_of judged device) frame point.0 is
+    (adjustment_at_hearing s judged device t).0 (points_of judged device) frame point.0 is
 
 -- the frame is permanent, and this becomes of it
 pub record BecomesPermanent (s : Scenario) (hs : List Happening) (device : DeviceId) (t : ℕ) (link : LinkId) (cause : ℕ)

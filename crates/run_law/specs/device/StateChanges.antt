@@ -27,7 +27,7 @@ ChangesState s hs device t state cause whys.Frame =
 ChangesState s hs device t state cause whys.Correction =
     (state ≡ Synchronised) × (state_before s hs device t ≡ Joining)
     × ((cycle : ℕ) × (by : Units) × (adjustment : Units) × (h : Happening) × IsOfThisTime hs t cause h
-        × (h.note.body ≡ notes.Corrected device cycle by adjustment))
+    × (h.note.body ≡ notes.Corrected device cycle by adjustment))
 ChangesState s hs device t state cause whys.SyncClique =
     (state ≡ Integrating) × (cause ≡ 0) × ((cycle : ℕ) × ComesToCorrection s hs device t cycle SyncClique)
 ChangesState s hs device t state cause whys.AsyncClique =

@@ -63,7 +63,7 @@ state_after s hs device =
 abbrev pub adjustment_after : Scenario → List Happening → DeviceId → Units
 adjustment_after s hs device =
     fold (λ adjustment h. adjustment_with s device (cycle_in h) adjustment h.note.body)
-        (adjustment_at_start (start_of s.network device)) hs
+    (adjustment_at_start (start_of s.network device)) hs
 
 -- its state when something comes at this time: after the records of earlier times and the events of this one
 abbrev pub state_before : Scenario → List Happening → DeviceId → ℕ → State

@@ -67,7 +67,7 @@ arrival_time s link t = leaving_time s link t + delay_at s link Up (leaving_time
 abbrev pub ComesTo : DeviceId → LinkId → ℕ → NoteBody → Type 0
 ComesTo switch link cause body =
     ((clock : ℕ) × (body ≡ notes.Arrived switch link cause clock))
-        ⊎ ((reason : Reason) × (body ≡ notes.Dropped switch link cause reason))
+    ⊎ ((reason : Reason) × (body ≡ notes.Dropped switch link cause reason))
 
 -- the master's frame of this number has left by the link, and has come to the switch at its time
 pub record HasCome (s : Scenario) (hs : List Happening) (t number : ℕ) (master : DeviceId) (link : LinkId)
@@ -87,7 +87,7 @@ pub record HasCome (s : Scenario) (hs : List Happening) (t number : ℕ) (master
 abbrev pub SentFramesCome : Type 0
 SentFramesCome =
     (s : Scenario) (mark : List ℕ) (ns : List Note) (h : Happening) (master : DeviceId) (cycle : ℕ) (link : LinkId)
-        (switch : DeviceId)
+    (switch : DeviceId)
     → IsLawful s → IsScenarioRun s mark ns
     → IsIn h (happenings s.network ns) → h.note.body ≡ notes.Sent master cycle → LeadsTo s master link switch
     → is_broken s master (leaving_time s link (time_of h)) ≡ false
@@ -101,7 +101,7 @@ abbrev pub IsLeftToBroken : List Happening → NoteBody → Type 0
 IsLeftToBroken hs (notes.Dropped device link cause reason) = reason ≡ Off
 IsLeftToBroken hs (notes.Lost device link cause) =
     (event : Happening) × (line : ℕ) × (octets : List ℕ) × (numbered hs cause ≡ Some event)
-        × (event.note.body ≡ notes.Event line (Send link octets))
+    × (event.note.body ≡ notes.Event line (Send link octets))
 IsLeftToBroken hs (notes.Clock device reading adjustment state) = Unit {0}
 IsLeftToBroken hs other = ⊥
 
@@ -122,7 +122,7 @@ IsBeginning other = ⊥
 abbrev pub DeliveriesBegin : Type 0
 DeliveriesBegin =
     (s : Scenario) (mark : List ℕ) (ns : List Note) (h : Happening) (device : DeviceId) (link : LinkId) (cause : ℕ)
-        (vl : VlId) (cycle : ℕ)
+    (vl : VlId) (cycle : ℕ)
     → IsScenarioRun s mark ns → IsIn h (happenings s.network ns) → h.note.body ≡ notes.Delivered device link cause vl
-        cycle
+    cycle
     → (first : Happening) × GoesBackTo (happenings s.network ns) h first × IsBeginning first.note.body

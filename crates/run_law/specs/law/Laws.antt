@@ -23,7 +23,7 @@ RunIsOne =
 abbrev pub EarlierRunIsFront : Type 0
 EarlierRunIsFront =
     (network : Network) (reading : DeviceId → ℕ → ℕ) (events : List Event) (mark later : List ℕ)
-        (notes more : List Note)
+    (notes more : List Note)
     → ((p : List ℕ) → IsBefore p mark → IsBefore p later)
     → IsRunOf network reading events mark notes → IsRunOf network reading events later more
     → (rest : List Note) × (more ≡ notes ++ rest)

@@ -60,7 +60,7 @@ time_of_octets network link octets = option_map_or (λ l. (octets + 24) * octet_
 abbrev pub IsTtOnPort : Scenario → Happening → NoteBody → DeviceId → LinkId → ℕ → Type 0
 IsTtOnPort s h (notes.TtSent sender by cause vl cycle) device link t =
     (sender ≡ device) × (by ≡ link) × (time_of h ≤ t)
-        × (t < time_of h + time_of_octets s.network link (length h.octets))
+    × (t < time_of h + time_of_octets s.network link (length h.octets))
 IsTtOnPort s h other device link t = ⊥
 
 -- the same of the control frame of 60 octets of the record
@@ -120,7 +120,7 @@ pub record IsOwed (s : Scenario) (hs : List Happening) (until : ℕ) (vl : VlId)
   pub rows : (place : ℕ) (entry : Entry) → IsEntry s.network place entry → entry.row.vl ≡ vl
       → source_of entry ≡ of_vl.sender
       → (t : ℕ) × (t < to) × ReachesPlace s hs of_vl.sender cycle (amount entry.row.offset) t
-          × (state_before s hs of_vl.sender t ≡ Synchronised)
+      × (state_before s hs of_vl.sender t ≡ Synchronised)
   pub sender : is_broken s of_vl.sender to ≡ false
 
 -- the record's frame came by a row of the virtual link into the device, within the row's window

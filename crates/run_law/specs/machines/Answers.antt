@@ -72,8 +72,11 @@ after_arrival node moment other = node
 abbrev pub hearings : Option Channel → ℕ → Members → Units → Bool → List Hearing
 hearings channel cycle members point within =
     option_to_list (option_map
-        (λ c. record { channel = c; frame = record { cycle = cycle; members = members; point = point };
-        within = within }) channel)
+    (λ c. record {
+      channel = c;
+      frame = record { cycle = cycle; members = members; point = point };
+      within = within;
+    }) channel)
 
 -- the device that has heard the frame
 abbrev pub with_heard : Node → Option Channel → Pcf → Units → Bool → Node
@@ -153,7 +156,7 @@ after_correction node moment heard cycle SyncClique = with_clique node heard Syn
 after_correction node moment heard cycle AsyncClique = with_clique node heard AsyncClique
 after_correction node moment heard cycle Cleared =
     with_done (record node { standing = after node.standing (reached_point heard Cleared); heard = [] })
-        (correcting cycle)
+    (correcting cycle)
 
 -- what the device heard since its last correction point comes to this
 pub record ComesTo (node : Node) (heard : Summary) (verdict : Verdict) : Type 0 where
@@ -164,13 +167,13 @@ pub record ComesTo (node : Node) (heard : Summary) (verdict : Verdict) : Type 0 
 abbrev pub own_hearing : Network → DeviceId → Node → Compressed → Ripe
 own_hearing network device node sent =
     ripe_as (heard_as (plan_of network device) (observation_window network) node.standing.state
-        node.standing.adjustment.0 sent.at.0 sent.cycle sent.members)
+    node.standing.adjustment.0 sent.at.0 sent.cycle sent.members)
 
 -- the compression master that has sent a frame, and heard it so
 abbrev pub after_emission : Network → DeviceId → Node → Moment → Compressed → Ripe → Node
 after_emission network device node moment sent heard =
     after_permanence (record node { emitted = node.emitted ++ sent ∷ [] }) moment (channel_of network device)
-        (integration_frame network device sent.cycle sent.members) sent.at heard
+    (integration_frame network device sent.cycle sent.members) sent.at heard
 
 -- the device does the first of the tasks that are due at the moment, and this is how it stands then
 abbrev pub IsActOf : Network → DeviceId → Node → Moment → Act → Node → Type 0
@@ -180,11 +183,11 @@ IsActOf network device node moment (acts.Send frame) new =
 IsActOf network device node moment (acts.Emit sent heard) new =
     IsFirstTask network device node moment.reading.0 (emitting sent)
     × (heard ≡ own_hearing network device node sent)
-        × (new ≡ called moment acting (after_emission network device node moment sent heard))
+    × (new ≡ called moment acting (after_emission network device node moment sent heard))
 IsActOf network device node moment (acts.Correct cycle verdict) new =
     IsFirstTask network device node moment.reading.0 (doing (correcting cycle))
     × ((heard : Summary) × ComesTo node heard verdict
-        × (new ≡ called moment acting (after_correction node moment heard cycle verdict)))
+    × (new ≡ called moment acting (after_correction node moment heard cycle verdict)))
 IsActOf network device node moment (acts.Dispatch row cycle) new =
     IsFirstTask network device node moment.reading.0 (doing (dispatching row cycle))
     × (new ≡ called moment acting (with_done node (dispatching row cycle)))

@@ -135,4 +135,4 @@ abbrev pub StandsFor : {M : Type 0} → (M → Network → DeviceId → Node →
     → (Network → DeviceId → Node → Type 0) → Type 0
 StandsFor stands machine P =
     (network : Network) × (device : DeviceId) × (node : Node) × stands machine network device node
-        × P network device node
+    × P network device node

@@ -40,9 +40,9 @@ dispatched_frame network master cycle =
 abbrev pub tt_frame_by : Network → VirtualLink → ℕ → List ℕ
 tt_frame_by network vl cycle =
     padded vl.length
-        (big_bytes 4 network.marker
-        ++ (big_bytes 2 vl.id
-        ++ (big_bytes 6 (mac_of network vl.sender) ++ (big_bytes 2 vl.ethertype ++ big_bytes 4 cycle))))
+    (big_bytes 4 network.marker
+    ++ (big_bytes 2 vl.id
+    ++ (big_bytes 6 (mac_of network vl.sender) ++ (big_bytes 2 vl.ethertype ++ big_bytes 4 cycle))))
 
 -- the same, of the virtual link of this id
 abbrev pub tt_frame : Network → VlId → ℕ → List ℕ

@@ -158,4 +158,4 @@ pub record IsOutsideBy (network : Network) (before : List Event) (event : Event)
 abbrev pub AreWithinHypothesis : Network → List Event → Type 0
 AreWithinHypothesis network all =
     (before behind : List Event) (event : Event) → all ≡ before ++ event ∷ behind
-        → IsWithinHypothesis network before event
+    → IsWithinHypothesis network before event

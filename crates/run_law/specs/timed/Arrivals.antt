@@ -38,7 +38,7 @@ row_entering network device link id =
 abbrev pub entry_of : Network → Row → Option Entry
 entry_of network row =
     option_and_then (λ vl. option_map (λ link. record { row = row; vl = vl; link = link }) (link_at network row.link))
-        (slice_get network.vl row.vl.0)
+    (slice_get network.vl row.vl.0)
 
 -- the same of the row by which the frame enters
 abbrev pub entry_entering : Network → DeviceId → LinkId → ℕ → Option Entry

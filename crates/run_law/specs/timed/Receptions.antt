@@ -36,7 +36,7 @@ taken_cycle other = None
 abbrev pub last_taken : List Happening → DeviceId → ℕ → LinkId → ℕ → VlId → Option ℕ
 last_taken hs device t link cause vl =
     option_and_then (λ h. taken_cycle h.note.body)
-        (last_or None (filter (λ h. is_taken_before device vl t link cause (time_of h) h.note.body) hs))
+    (last_or None (filter (λ h. is_taken_before device vl t link cause (time_of h) h.note.body) hs))
 
 -- what becomes of what arrives
 abbrev pub arrival_of : Scenario → List Happening → DeviceId → ℕ → LinkId → ℕ → Signal → Arrival
