@@ -38,30 +38,38 @@ pub IsLeast-first : (v : Collecting) (c : Cluster) (rest : List Cluster) → IsS
 IsLeast-first v c rest sound split =
     let row : IsRow v.ow v.earliest (c ∷ rest) = subst (IsRow v.ow v.earliest) split sound.row in
     let first = emission v.ow v.calc c in
-    let others : All (λ k. first ≤ℤ emission v.ow v.calc k) rest = All-from_recursion (λ (k : Cluster). first ≤ℤ emission v.ow v.calc k) rest (row-emissions v.ow v.calc v.earliest c rest row) in
+    let others : All (λ k. first ≤ℤ emission v.ow v.calc k) rest = All-from_recursion (λ (k : Cluster). first ≤ℤ emission v.ow v.calc k) rest
+    (row-emissions v.ow v.calc v.earliest c rest row) in
     let whole : IsLeast first (map (emission v.ow v.calc) (c ∷ rest)) = record {
       there = (0, omega arith, refl);
-      bound = All-cons (λ (x : ℤ). first ≤ℤ x) first (map (emission v.ow v.calc) rest) (omega (arith, ints)) (All-map (λ (x : ℤ). first ≤ℤ x) (emission v.ow v.calc) rest others);
+      bound =
+          All-cons (λ (x : ℤ). first ≤ℤ x) first (map (emission v.ow v.calc) rest) (omega (arith, ints))
+          (All-map (λ (x : ℤ). first ≤ℤ x) (emission v.ow v.calc) rest others);
     } in
     subst (λ (ws : List Cluster). IsLeast first (map (emission v.ow v.calc) ws)) (sym split) whole
 
 -- a collector without the first that waits, at a later reading
-pub IsSound-emitted : (v : Collecting) (c : Cluster) (rest : List Cluster) (later : ℤ) → IsSound v → v.waiting ≡ c ∷ rest → v.earliest ≤ℤ later → IsSound (record v { earliest = later; waiting = rest })
+pub IsSound-emitted : (v : Collecting) (c : Cluster) (rest : List Cluster) (later : ℤ) → IsSound v → v.waiting ≡ c ∷ rest → v.earliest ≤ℤ later
+    → IsSound (record v { earliest = later; waiting = rest })
 IsSound-emitted v c rest later sound split le = record {
   some = sound.some;
   short = sound.short;
   small = sound.small;
   low = omega (arith, ints, le, sound.low);
   row = row-rest v.ow v.earliest later c rest le (subst (IsRow v.ow v.earliest) split sound.row);
+  few = omega (arith, sound.few, ap length split);
 }
 
 -- where it stands
-pub Stands-emitted : (v : Collecting) (points : List Point) (emitted : List Compressed) (c : Cluster) (rest : List Cluster) (later : ℤ) → IsSound v → v.waiting ≡ c ∷ rest → v.earliest ≤ℤ later → emission v.ow v.calc c ≤ℤ later → StandsForPoints v points emitted → StandsForPoints (record v { earliest = later; waiting = rest }) points (emitted ++ compressed v.ow v.calc c ∷ [])
+pub Stands-emitted : (v : Collecting) (points : List Point) (emitted : List Compressed) (c : Cluster) (rest : List Cluster) (later : ℤ) → IsSound v
+    → v.waiting ≡ c ∷ rest → v.earliest ≤ℤ later → emission v.ow v.calc c ≤ℤ later → StandsForPoints v points emitted
+    → StandsForPoints (record v { earliest = later; waiting = rest }) points (emitted ++ compressed v.ow v.calc c ∷ [])
 Stands-emitted v points emitted c rest later sound split le at s =
     let col = row-head v.ow v.earliest c rest (subst (IsRow v.ow v.earliest) split sound.row) in
     let low = (emission-within v.ow v.calc c col).0 in
     let ended : c.end <ℤ later = omega (arith, ints, low, at, col.two, sound.some) in
-    let before : All (λ k. k.end <ℤ later) s.done = All-weaker (λ (k : Cluster). k.end <ℤ v.earliest) (λ (k : Cluster). k.end <ℤ later) (λ k h. omega (arith, ints, h, le)) s.done s.past in
+    let before : All (λ k. k.end <ℤ later) s.done = All-weaker (λ (k : Cluster). k.end <ℤ v.earliest) (λ (k : Cluster). k.end <ℤ later)
+    (λ k h. omega (arith, ints, h, le)) s.done s.past in
     record {
       done = s.done ++ c ∷ [];
       clusters = subst (AreClusters v.ow points) (ap (λ (ws : List Cluster). s.done ++ ws) split ∙ sym (append_assoc s.done (c ∷ []) rest)) s.clusters;

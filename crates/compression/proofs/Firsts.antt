@@ -29,7 +29,9 @@ pub record Counts (acc xs : List Point) : Type 0 where
   pub is : fold with_first acc xs ≡ acc ++ more
   pub each : AllByRecursion (λ q. Contains xs q × (has_master acc q.master ≡ false)) more
 
-also_in : (x : Point) (acc acc' xs : List Point) → ((m : ℕ) → has_master acc' m ≡ false → has_master acc m ≡ false) → (qs : List Point) → AllByRecursion (λ q. Contains xs q × (has_master acc' q.master ≡ false)) qs → AllByRecursion (λ q. Contains (x ∷ xs) q × (has_master acc q.master ≡ false)) qs
+also_in : (x : Point) (acc acc' xs : List Point) → ((m : ℕ) → has_master acc' m ≡ false → has_master acc m ≡ false) → (qs : List Point)
+    → AllByRecursion (λ q. Contains xs q × (has_master acc' q.master ≡ false)) qs
+    → AllByRecursion (λ q. Contains (x ∷ xs) q × (has_master acc q.master ≡ false)) qs
 also_in x acc acc' xs fewer [] all = tt
 also_in x acc acc' xs fewer (q ∷ qs) all = ((in_tail x q xs all.0.0, fewer q.master all.0.1), also_in x acc acc' xs fewer qs all.1)
 
@@ -93,10 +95,12 @@ bit_of-at_most : (b : Bool) → cond b 1 0 ≤ 1
 bit_of-at_most true = omega arith
 bit_of-at_most false = omega arith
 
-bit_at-fold : (a : ℕ) (xs : List Point) (m : ℕ) → bit_at (fold (λ members q. bit_or members (2 ^ q.master)) a xs) m ≡ max (bit_at a m) (cond (has_master xs m) 1 0)
+bit_at-fold : (a : ℕ) (xs : List Point) (m : ℕ) → bit_at (fold (λ members q. bit_or members (2 ^ q.master)) a xs) m ≡ max (bit_at a m)
+    (cond (has_master xs m) 1 0)
 bit_at-fold a [] m = omega arith
 bit_at-fold a (x ∷ xs) m =
-    let rest : bit_at (fold (λ members q. bit_or members (2 ^ q.master)) (bit_or a (2 ^ x.master)) xs) m ≡ max (bit_at (bit_or a (2 ^ x.master)) m) (cond (has_master xs m) 1 0) = bit_at-fold (bit_or a (2 ^ x.master)) xs m in
+    let rest : bit_at (fold (λ members q. bit_or members (2 ^ q.master)) (bit_or a (2 ^ x.master)) xs) m ≡ max (bit_at (bit_or a (2 ^ x.master)) m)
+    (cond (has_master xs m) 1 0) = bit_at-fold (bit_or a (2 ^ x.master)) xs m in
     let step : bit_at (bit_or a (2 ^ x.master)) m ≡ max (bit_at a m) (bit_at (2 ^ x.master) m) = bit_at_or a (2 ^ x.master) m in
     let small = bit_of-at_most (has_master xs m) in
     elim (cases_eq x.master m) [

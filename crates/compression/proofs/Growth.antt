@@ -45,7 +45,8 @@ end_of-least ow o ps some =
     ]
 
 -- a point beyond the end changes nothing
-pub cluster_of-beyond : (ow : ℤ) (o : Point) (ps : List Point) (p : Point) → pos 0 ≤ℤ ow → end_of ow o ps <ℤ p.reading → cluster_of ow o (ps ++ p ∷ []) ≡ cluster_of ow o ps
+pub cluster_of-beyond : (ow : ℤ) (o : Point) (ps : List Point) (p : Point) → pos 0 ≤ℤ ow → end_of ow o ps <ℤ p.reading
+    → cluster_of ow o (ps ++ p ∷ []) ≡ cluster_of ow o ps
 cluster_of-beyond ow o ps p some past =
     let least = end_of-least ow o ps some in
     let first : of_cycle_within o.cycle o.reading (window_end ow o) (ps ++ p ∷ []) ≡ of_cycle_within o.cycle o.reading (window_end ow o) ps =
@@ -82,18 +83,22 @@ pub record Comes (ow : ℤ) (o : Point) (ps : List Point) (p : Point) : Type 0 w
   pub starts : (more : List Point) × (counted (window_end ow o) o ps ≡ o ∷ more)
 
 -- what counts up to an end that is not before the cluster's
-counted-push : (ow : ℤ) (o : Point) (ps : List Point) (p : Point) → Comes ow o ps p → (end : ℤ) → end_of ow o ps ≤ℤ end → counted end o (ps ++ p ∷ []) ≡ with_first (counted (end_of ow o ps) o ps) p
+counted-push : (ow : ℤ) (o : Point) (ps : List Point) (p : Point) → Comes ow o ps p → (end : ℤ) → end_of ow o ps ≤ℤ end
+    → counted end o (ps ++ p ∷ []) ≡ with_first (counted (end_of ow o ps) o ps) p
 counted-push ow o ps p comes end le =
     let held = held-push_in o.cycle o.reading end ps p comes.same comes.low (omega (arith, ints, comes.high, le)) in
     let same = held-same o.cycle o.reading (end_of ow o ps) end ps le comes.none in
     ap firsts (held ∙ ap (λ (h : List Point). h ++ p ∷ []) same) ∙ firsts-push (of_cycle_within o.cycle o.reading (end_of ow o ps) ps) p
 
 -- what counts in the first window with a point that lies in it, and with one that does not
-window-push_in : (ow : ℤ) (o : Point) (ps : List Point) (p : Point) → Comes ow o ps p → p.reading ≤ℤ window_end ow o → counted (window_end ow o) o (ps ++ p ∷ []) ≡ with_first (counted (window_end ow o) o ps) p
+window-push_in : (ow : ℤ) (o : Point) (ps : List Point) (p : Point) → Comes ow o ps p → p.reading ≤ℤ window_end ow o
+    → counted (window_end ow o) o (ps ++ p ∷ []) ≡ with_first (counted (window_end ow o) o ps) p
 window-push_in ow o ps p comes first =
-    ap firsts (held-push_in o.cycle o.reading (window_end ow o) ps p comes.same comes.low first) ∙ firsts-push (of_cycle_within o.cycle o.reading (window_end ow o) ps) p
+    ap firsts (held-push_in o.cycle o.reading (window_end ow o) ps p comes.same comes.low first)
+    ∙ firsts-push (of_cycle_within o.cycle o.reading (window_end ow o) ps) p
 
-window-push_out : (ow : ℤ) (o : Point) (ps : List Point) (p : Point) → window_end ow o <ℤ p.reading → counted (window_end ow o) o (ps ++ p ∷ []) ≡ counted (window_end ow o) o ps
+window-push_out : (ow : ℤ) (o : Point) (ps : List Point) (p : Point) → window_end ow o <ℤ p.reading → counted (window_end ow o) o (ps ++ p ∷ []) ≡ counted
+    (window_end ow o) o ps
 window-push_out ow o ps p past = ap firsts (held-push_beyond o.cycle o.reading (window_end ow o) ps p past)
 
 length-with_first : (xs : List Point) (p : Point) → length xs ≤ length (with_first xs p)
@@ -104,11 +109,13 @@ length-with_first xs p =
     ]
 
 -- where the first window has one master, the cluster has no more
-one_window : (ow : ℤ) (o : Point) (ps : List Point) → length (counted (window_end ow o) o ps) < 2 → counted (end_of ow o ps) o ps ≡ counted (window_end ow o) o ps
+one_window : (ow : ℤ) (o : Point) (ps : List Point) → length (counted (window_end ow o) o ps) < 2 → counted (end_of ow o ps) o ps ≡ counted (window_end ow o) o
+    ps
 one_window ow o ps few = ap (λ (e : ℤ). counted e o ps) (end_of-one ow o ps few)
 
 -- the end with the point of a master that has none there
-end_of-joined : (ow : ℤ) (o : Point) (ps : List Point) (p : Point) → Comes ow o ps p → has_master (counted (end_of ow o ps) o ps) p.master ≡ false → end_of ow o (ps ++ p ∷ []) ≡ joined_end ow (cluster_of ow o ps) p.reading
+end_of-joined : (ow : ℤ) (o : Point) (ps : List Point) (p : Point) → Comes ow o ps p → has_master (counted (end_of ow o ps) o ps) p.master ≡ false
+    → end_of ow o (ps ++ p ∷ []) ≡ joined_end ow (cluster_of ow o ps) p.reading
 end_of-joined ow o ps p comes new =
     elim (cases_Bool (int_le p.reading (window_end ow o))) [
       | inl inside ↦
@@ -129,7 +136,8 @@ end_of-joined ow o ps p comes new =
     ]
 
 -- the end with the point of a master that has one there
-end_of-repeat : (ow : ℤ) (o : Point) (ps : List Point) (p : Point) → Comes ow o ps p → has_master (counted (end_of ow o ps) o ps) p.master ≡ true → end_of ow o (ps ++ p ∷ []) ≡ end_of ow o ps
+end_of-repeat : (ow : ℤ) (o : Point) (ps : List Point) (p : Point) → Comes ow o ps p → has_master (counted (end_of ow o ps) o ps) p.master ≡ true
+    → end_of ow o (ps ++ p ∷ []) ≡ end_of ow o ps
 end_of-repeat ow o ps p comes old =
     elim (cases_Bool (int_le p.reading (window_end ow o))) [
       | inl inside ↦
@@ -140,7 +148,8 @@ end_of-repeat ow o ps p comes old =
                 let there : has_master (counted (window_end ow o) o ps) p.master ≡ true = rw (one_window ow o ps few) at old in
                 end_of-same ow o ps (ps ++ p ∷ []) (push ∙ with_first-old (counted (window_end ow o) o ps) p there)
             | inr many ↦
-                let two : 2 ≤ length (counted (window_end ow o) o (ps ++ p ∷ [])) = rw push (omega (arith, many, length-with_first (counted (window_end ow o) o ps) p)) in
+                let two : 2 ≤ length (counted (window_end ow o) o (ps ++ p ∷ [])) = rw push
+                (omega (arith, many, length-with_first (counted (window_end ow o) o ps) p)) in
                 end_of-two ow o (ps ++ p ∷ []) two ∙ sym (end_of-two ow o ps many)
           ]
       | inr outside ↦
@@ -159,13 +168,15 @@ joined_end-later ow o ps reading some =
 abbrev pub cluster_with : Point → ℤ → List ℤ → ℕ → Cluster
 cluster_with o end points members = record { opened = o.reading; end = end; cycle = o.cycle; points = points; members = members }
 
-cluster_by-push : (o : Point) (end : ℤ) (counts : List Point) (p : Point) → cluster_by o end (counts ++ p ∷ []) ≡ cluster_with o end (map (λ q. q.reading) counts ++ p.reading ∷ []) (bit_or (members_of counts) (2 ^ p.master))
+cluster_by-push : (o : Point) (end : ℤ) (counts : List Point) (p : Point) → cluster_by o end (counts ++ p ∷ []) ≡ cluster_with o end
+    (map (λ q. q.reading) counts ++ p.reading ∷ []) (bit_or (members_of counts) (2 ^ p.master))
 cluster_by-push o end counts p =
     ap (λ (points : List ℤ). cluster_with o end points (members_of (counts ++ p ∷ []))) (map-append (λ (q : Point). q.reading) counts (p ∷ []))
     ∙ ap (λ (members : ℕ). cluster_with o end (map (λ q. q.reading) counts ++ p.reading ∷ []) members) (members_of-push counts p)
 
 -- the cluster with a point that joins
-pub cluster_of-joined : (ow : ℤ) (o : Point) (ps : List Point) (p : Point) → Comes ow o ps p → has_point_of (cluster_of ow o ps) p.master ≡ false → cluster_of ow o (ps ++ p ∷ []) ≡ joined ow (cluster_of ow o ps) p.reading p.master
+pub cluster_of-joined : (ow : ℤ) (o : Point) (ps : List Point) (p : Point) → Comes ow o ps p → has_point_of (cluster_of ow o ps) p.master ≡ false
+    → cluster_of ow o (ps ++ p ∷ []) ≡ joined ow (cluster_of ow o ps) p.reading p.master
 cluster_of-joined ow o ps p comes new =
     let counts = counted (end_of ow o ps) o ps in
     let end = joined_end ow (cluster_of ow o ps) p.reading in
@@ -175,7 +186,8 @@ cluster_of-joined ow o ps p comes new =
     ∙ cluster_by-push o end counts p
 
 -- the cluster with a point that repeats
-pub cluster_of-repeat : (ow : ℤ) (o : Point) (ps : List Point) (p : Point) → Comes ow o ps p → has_point_of (cluster_of ow o ps) p.master ≡ true → cluster_of ow o (ps ++ p ∷ []) ≡ cluster_of ow o ps
+pub cluster_of-repeat : (ow : ℤ) (o : Point) (ps : List Point) (p : Point) → Comes ow o ps p → has_point_of (cluster_of ow o ps) p.master ≡ true
+    → cluster_of ow o (ps ++ p ∷ []) ≡ cluster_of ow o ps
 cluster_of-repeat ow o ps p comes old =
     let counts = counted (end_of ow o ps) o ps in
     let end = end_of ow o ps in
@@ -211,14 +223,18 @@ no_clusters ow [] are = refl
 no_clusters ow (o ∷ ps) are = absurd are
 
 -- a point that comes after all clusters opens another
-pub AreClusters-opened : (ow : ℤ) (ps : List Point) (cs : List Cluster) (p : Point) → pos 0 ≤ℤ ow → AreClusters ow ps cs → AllByRecursion (λ c. c.end <ℤ p.reading) cs → AreClusters ow (ps ++ p ∷ []) (cs ++ opening ow p ∷ [])
+pub AreClusters-opened : (ow : ℤ) (ps : List Point) (cs : List Cluster) (p : Point) → pos 0 ≤ℤ ow → AreClusters ow ps cs
+    → AllByRecursion (λ c. c.end <ℤ p.reading) cs → AreClusters ow (ps ++ p ∷ []) (cs ++ opening ow p ∷ [])
 AreClusters-opened ow [] [] p some are past = (sym (cluster_of-alone ow p some), tt)
 AreClusters-opened ow [] (c ∷ cs) p some are past = absurd are
 AreClusters-opened ow (o ∷ ps) [] p some are past = absurd are
 AreClusters-opened ow (o ∷ ps) (c ∷ cs) p some are past =
     let beyond_end : end_of ow o (o ∷ ps) <ℤ p.reading = subst (λ (k : Cluster). k.end <ℤ p.reading) are.0 past.0 in
-    let rest = AreClusters-opened ow (beyond c.end ps) cs p some are.1 past.1 in
-    (are.0 ∙ sym (cluster_of-beyond ow o (o ∷ ps) p some beyond_end), subst (λ (qs : List Point). AreClusters ow qs (cs ++ opening ow p ∷ [])) (sym (beyond-push_out c.end ps p past.0)) rest)
+    let rest = AreClusters-opened ow (beyond c.end ps) cs p some are.1 past.1 in (
+      are.0 ∙ sym (cluster_of-beyond ow o (o ∷ ps) p some beyond_end),
+      subst (λ (qs : List Point). AreClusters ow qs (cs ++ opening ow p ∷ []))
+          (sym (beyond-push_out c.end ps p past.0)) rest,
+    )
 
 -- the cluster that is open, with a point that is not beyond it
 pub record Grows (ow : ℤ) (c d : Cluster) (p : Point) : Type 0 where
@@ -226,7 +242,8 @@ pub record Grows (ow : ℤ) (c d : Cluster) (p : Point) : Type 0 where
   pub repeat : p.cycle ≡ c.cycle → has_point_of c p.master ≡ true → d ≡ c
   pub joins : p.cycle ≡ c.cycle → has_point_of c p.master ≡ false → d ≡ joined ow c p.reading p.master
 
-grows_whole : (ow : ℤ) (o : Point) (ps : List Point) (d : Cluster) (p : Point) → Comes' ow o ps p → Grows ow (cluster_of ow o ps) d p → d ≡ cluster_of ow o (ps ++ p ∷ [])
+grows_whole : (ow : ℤ) (o : Point) (ps : List Point) (d : Cluster) (p : Point) → Comes' ow o ps p → Grows ow (cluster_of ow o ps) d p
+    → d ≡ cluster_of ow o (ps ++ p ∷ [])
 grows_whole ow o ps d p comes grows =
     elim (cases_eq p.cycle o.cycle) [
       | inl same ↦
@@ -238,7 +255,8 @@ grows_whole ow o ps d p comes grows =
       | inr other ↦ grows.other other ∙ sym (cluster_of-other ow o ps p other)
     ]
 
-cluster_of-grows : (ow : ℤ) (o : Point) (ps : List Point) (c d : Cluster) (p : Point) → pos 0 ≤ℤ ow → c ≡ cluster_of ow o (o ∷ ps) → beyond c.end ps ≡ [] → c.opened ≤ℤ p.reading → p.reading ≤ℤ c.end → Grows ow c d p → d ≡ cluster_of ow o ((o ∷ ps) ++ p ∷ [])
+cluster_of-grows : (ow : ℤ) (o : Point) (ps : List Point) (c d : Cluster) (p : Point) → pos 0 ≤ℤ ow → c ≡ cluster_of ow o (o ∷ ps) → beyond c.end ps ≡ []
+    → c.opened ≤ℤ p.reading → p.reading ≤ℤ c.end → Grows ow c d p → d ≡ cluster_of ow o ((o ∷ ps) ++ p ∷ [])
 cluster_of-grows ow o ps c d p some is none low high grows =
     let k = cluster_of ow o (o ∷ ps) in
     let least = end_of-least ow o (o ∷ ps) some in
@@ -255,7 +273,9 @@ cluster_of-grows ow o ps c d p some is none low high grows =
     grows_whole ow o (o ∷ ps) d p comes (subst (λ (x : Cluster). Grows ow x d p) is grows)
 
 -- a point that is not beyond the last cluster
-pub AreClusters-within : (ow : ℤ) (ps : List Point) (cs : List Cluster) (c d : Cluster) (p : Point) → pos 0 ≤ℤ ow → AreClusters ow ps (cs ++ c ∷ []) → AllByRecursion (λ k. k.end <ℤ p.reading) cs → c.opened ≤ℤ p.reading → p.reading ≤ℤ c.end → c.end ≤ℤ d.end → Grows ow c d p → AreClusters ow (ps ++ p ∷ []) (cs ++ d ∷ [])
+pub AreClusters-within : (ow : ℤ) (ps : List Point) (cs : List Cluster) (c d : Cluster) (p : Point) → pos 0 ≤ℤ ow → AreClusters ow ps (cs ++ c ∷ [])
+    → AllByRecursion (λ k. k.end <ℤ p.reading) cs → c.opened ≤ℤ p.reading → p.reading ≤ℤ c.end → c.end ≤ℤ d.end → Grows ow c d p
+    → AreClusters ow (ps ++ p ∷ []) (cs ++ d ∷ [])
 AreClusters-within ow [] [] c d p some are past low high longer grows = absurd are
 AreClusters-within ow [] (k ∷ cs) c d p some are past low high longer grows = absurd are
 AreClusters-within ow (o ∷ ps) [] c d p some are past low high longer grows =
@@ -264,5 +284,8 @@ AreClusters-within ow (o ∷ ps) [] c d p some are past low high longer grows =
     (cluster_of-grows ow o ps c d p some are.0 none low high grows, subst (λ (qs : List Point). AreClusters ow qs []) (sym still) tt)
 AreClusters-within ow (o ∷ ps) (k ∷ cs) c d p some are past low high longer grows =
     let beyond_end : end_of ow o (o ∷ ps) <ℤ p.reading = subst (λ (x : Cluster). x.end <ℤ p.reading) are.0 past.0 in
-    let rest = AreClusters-within ow (beyond k.end ps) cs c d p some are.1 past.1 low high longer grows in
-    (are.0 ∙ sym (cluster_of-beyond ow o (o ∷ ps) p some beyond_end), subst (λ (qs : List Point). AreClusters ow qs (cs ++ d ∷ [])) (sym (beyond-push_out k.end ps p past.0)) rest)
+    let rest = AreClusters-within ow (beyond k.end ps) cs c d p some are.1 past.1 low high longer grows in (
+      are.0 ∙ sym (cluster_of-beyond ow o (o ∷ ps) p some beyond_end),
+      subst (λ (qs : List Point). AreClusters ow qs (cs ++ d ∷ []))
+          (sym (beyond-push_out k.end ps p past.0)) rest,
+    )

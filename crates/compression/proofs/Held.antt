@@ -30,7 +30,8 @@ test_of : ℕ → ℤ → ℤ → Point → Bool
 test_of cycle from to q = q.cycle == cycle && (int_le from q.reading && int_le q.reading to)
 
 -- a point of the cycle in the interval
-pub held-push_in : (cycle : ℕ) (from to : ℤ) (ps : List Point) (p : Point) → p.cycle ≡ cycle → from ≤ℤ p.reading → p.reading ≤ℤ to → of_cycle_within cycle from to (ps ++ p ∷ []) ≡ of_cycle_within cycle from to ps ++ p ∷ []
+pub held-push_in : (cycle : ℕ) (from to : ℤ) (ps : List Point) (p : Point) → p.cycle ≡ cycle → from ≤ℤ p.reading → p.reading ≤ℤ to
+    → of_cycle_within cycle from to (ps ++ p ∷ []) ≡ of_cycle_within cycle from to ps ++ p ∷ []
 held-push_in cycle from to ps p same low high =
     let e : (p.cycle == cycle && (int_le from p.reading && int_le p.reading to)) ≡ true =
     and_from (p.cycle == cycle) (int_le from p.reading && int_le p.reading to) (eq-eqb p.cycle cycle same)
@@ -38,7 +39,8 @@ held-push_in cycle from to ps p same low high =
     filter-push_in (λ q. q.cycle == cycle && (int_le from q.reading && int_le q.reading to)) ps p e
 
 -- one beyond it
-pub held-push_beyond : (cycle : ℕ) (from to : ℤ) (ps : List Point) (p : Point) → to <ℤ p.reading → of_cycle_within cycle from to (ps ++ p ∷ []) ≡ of_cycle_within cycle from to ps
+pub held-push_beyond : (cycle : ℕ) (from to : ℤ) (ps : List Point) (p : Point) → to <ℤ p.reading
+    → of_cycle_within cycle from to (ps ++ p ∷ []) ≡ of_cycle_within cycle from to ps
 held-push_beyond cycle from to ps p past =
     let e : (p.cycle == cycle && (int_le from p.reading && int_le p.reading to)) ≡ false =
     and_right (p.cycle == cycle) (int_le from p.reading && int_le p.reading to)
@@ -46,14 +48,16 @@ held-push_beyond cycle from to ps p past =
     filter-push_out (λ q. q.cycle == cycle && (int_le from q.reading && int_le q.reading to)) ps p e
 
 -- one of another cycle
-pub held-push_other : (cycle : ℕ) (from to : ℤ) (ps : List Point) (p : Point) → p.cycle ≢ cycle → of_cycle_within cycle from to (ps ++ p ∷ []) ≡ of_cycle_within cycle from to ps
+pub held-push_other : (cycle : ℕ) (from to : ℤ) (ps : List Point) (p : Point) → p.cycle ≢ cycle → of_cycle_within cycle from to (ps ++ p ∷ []) ≡ of_cycle_within
+    cycle from to ps
 held-push_other cycle from to ps p other =
     let e : (p.cycle == cycle && (int_le from p.reading && int_le p.reading to)) ≡ false =
     and_left (p.cycle == cycle) (int_le from p.reading && int_le p.reading to) (ne_eqb p.cycle cycle other) in
     filter-push_out (λ q. q.cycle == cycle && (int_le from q.reading && int_le q.reading to)) ps p e
 
 -- the first, of its own cycle
-pub held-start : (o : Point) (to : ℤ) (ps : List Point) → o.reading ≤ℤ to → of_cycle_within o.cycle o.reading to (o ∷ ps) ≡ o ∷ of_cycle_within o.cycle o.reading to ps
+pub held-start : (o : Point) (to : ℤ) (ps : List Point) → o.reading ≤ℤ to → of_cycle_within o.cycle o.reading to (o ∷ ps) ≡ o
+    ∷ of_cycle_within o.cycle o.reading to ps
 held-start o to ps within =
     let e : (o.cycle == o.cycle && (int_le o.reading o.reading && int_le o.reading to)) ≡ true =
     and_from (o.cycle == o.cycle) (int_le o.reading o.reading && int_le o.reading to) (eq-eqb o.cycle o.cycle refl)
@@ -88,7 +92,8 @@ beyond-later end later (q ∷ qs) le none =
     rw (int_lt-false later q.reading (omega (arith, ints, parts.0, le))) (beyond-later end later qs le parts.1)
 
 -- where none lies beyond the first of two ends, the intervals up to them hold the same
-pub held-same : (cycle : ℕ) (from end later : ℤ) (ps : List Point) → end ≤ℤ later → beyond end ps ≡ [] → of_cycle_within cycle from later ps ≡ of_cycle_within cycle from end ps
+pub held-same : (cycle : ℕ) (from end later : ℤ) (ps : List Point) → end ≤ℤ later → beyond end ps ≡ [] → of_cycle_within cycle from later ps ≡ of_cycle_within
+    cycle from end ps
 held-same cycle from end later [] le none = refl
 held-same cycle from end later (q ∷ qs) le none =
     let parts = beyond-none end q qs none in

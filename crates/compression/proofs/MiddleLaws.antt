@@ -22,7 +22,8 @@ but_one P [] all = tt
 but_one P (x ∷ xs) all = inl (All-tail P x xs all)
 
 -- the last but one
-last_but : (low high a b c : ℤ) (more : List ℤ) → IsAscending (a ∷ b ∷ c ∷ more) → AllButOne (LiesWithin low high) (a ∷ b ∷ c ∷ more) → LiesWithin low high (get_or (a ∷ b ∷ c ∷ more) (suc (length more)) (pos 0))
+last_but : (low high a b c : ℤ) (more : List ℤ) → IsAscending (a ∷ b ∷ c ∷ more) → AllButOne (LiesWithin low high) (a ∷ b ∷ c ∷ more)
+    → LiesWithin low high (get_or (a ∷ b ∷ c ∷ more) (suc (length more)) (pos 0))
 last_but low high a b c [] up all = second low high a b c [] up all
 last_but low high a b c (d ∷ ds) up (inl all) = last_but low high b c d ds up.1 (but_one (LiesWithin low high) (b ∷ c ∷ d ∷ ds) all)
 last_but low high a b c (d ∷ ds) up (inr rest) = last_but low high b c d ds up.1 rest.1
@@ -43,7 +44,8 @@ middle_among_others (a ∷ b ∷ c ∷ more) low high many up all =
     let d = get_or ps (suc (length more)) (pos 0) in
     let is : mean_of (b -ℤ a) (d -ℤ a) ≡ middle_of (relative ps) = sym (ap (λ (n : ℕ). mean_of (b -ℤ a) (offset_at ps n)) at) ∙ inner in
     subst (λ (m : ℤ). LiesWithin low high (a +ℤ m)) is
-    (mean_within low high a b d (mean_of (b -ℤ a) (d -ℤ a)) (mean_of-floor (b -ℤ a) (d -ℤ a)) (second low high a b c more up all) (last_but low high a b c more up all))
+    (mean_within low high a b d (mean_of (b -ℤ a) (d -ℤ a)) (mean_of-floor (b -ℤ a) (d -ℤ a)) (second low high a b c more up all)
+    (last_but low high a b c more up all))
 
 pub middle_from_first_to_last : MiddleFromFirstToLast
 middle_from_first_to_last p ps up =

@@ -56,9 +56,11 @@ length-some (x ∷ xs) some = omega arith
 between : (a b m s : ℤ) → IsMean a b m → (pos 0 ≤ℤ a) × (a ≤ℤ s) → (pos 0 ≤ℤ b) × (b ≤ℤ s) → (pos 0 ≤ℤ m) × (m ≤ℤ s)
 between a b m s mean from to = (omega (arith, ints, mean.least, mean.most, from.0, to.0), omega (arith, ints, mean.least, mean.most, from.1, to.1))
 
-mean_of-within : (ps : List ℤ) (i j : ℕ) → IsAscending ps → i < length ps → j < length ps → (pos 0 ≤ℤ mean_of (offset_at ps i) (offset_at ps j)) × (mean_of (offset_at ps i) (offset_at ps j) ≤ℤ spread ps)
+mean_of-within : (ps : List ℤ) (i j : ℕ) → IsAscending ps → i < length ps → j < length ps → (pos 0 ≤ℤ mean_of (offset_at ps i) (offset_at ps j))
+    × (mean_of (offset_at ps i) (offset_at ps j) ≤ℤ spread ps)
 mean_of-within ps i j up inside within =
-    between (offset_at ps i) (offset_at ps j) (mean_of (offset_at ps i) (offset_at ps j)) (spread ps) (mean_of-floor (offset_at ps i) (offset_at ps j)) (offset_at-within ps i up inside) (offset_at-within ps j up within)
+    between (offset_at ps i) (offset_at ps j) (mean_of (offset_at ps i) (offset_at ps j)) (spread ps) (mean_of-floor (offset_at ps i) (offset_at ps j))
+    (offset_at-within ps i up inside) (offset_at-within ps j up within)
 
 -- a middle lies among the points
 pub middle_of-within : (ps : List ℤ) → ps ≢ [] → IsAscending ps → (pos 0 ≤ℤ middle_of (relative ps)) × (middle_of (relative ps) ≤ℤ spread ps)

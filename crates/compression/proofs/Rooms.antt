@@ -43,12 +43,14 @@ record Left (masters : List ℕ) (counts : List Point) : Type 0 where
   pub total : length counts + length rest ≡ length masters
   pub each : (m : ℕ) → Contains masters m → has_master counts m ≡ false → Contains rest m
 
-left_after : (masters : List ℕ) (acc xs : List Point) → Left masters acc → AllByRecursion (λ p. Contains masters p.master) xs → Left masters (fold with_first acc xs)
+left_after : (masters : List ℕ) (acc xs : List Point) → Left masters acc → AllByRecursion (λ p. Contains masters p.master) xs
+    → Left masters (fold with_first acc xs)
 left_after masters acc [] l all = l
 left_after masters acc (x ∷ xs) l all =
     elim (cases_Bool (has_master acc x.master)) [
       | inl old ↦ subst (λ (a : List Point). Left masters (fold with_first a xs)) (sym (with_first-old acc x old)) (left_after masters acc xs l all.1)
-      | inr new ↦ subst (λ (a : List Point). Left masters (fold with_first a xs)) (sym (with_first-new acc x new)) (left_after masters (acc ++ x ∷ []) xs (one_more new) all.1)
+      | inr new ↦ subst (λ (a : List Point). Left masters (fold with_first a xs)) (sym (with_first-new acc x new))
+          (left_after masters (acc ++ x ∷ []) xs (one_more new) all.1)
     ]
   where
     one_more : has_master acc x.master ≡ false → Left masters (acc ++ x ∷ [])
@@ -64,7 +66,8 @@ left_after masters acc (x ∷ xs) l all =
         }
 
 -- what counts of a list whose points are of these masters
-few_count : (masters : List ℕ) (xs : List Point) → AllByRecursion (λ p. Contains masters p.master) xs → (m : ℕ) → Contains masters m → has_master (firsts xs) m ≡ false → length (firsts xs) < length masters
+few_count : (masters : List ℕ) (xs : List Point) → AllByRecursion (λ p. Contains masters p.master) xs → (m : ℕ) → Contains masters m
+    → has_master (firsts xs) m ≡ false → length (firsts xs) < length masters
 few_count masters xs all m at none =
     let start : Left masters [] = record { rest = masters; total = omega arith; each = λ k in_k free. in_k } in
     let l = left_after masters [] xs start all in
@@ -74,7 +77,8 @@ few_count masters xs all m at none =
     some_left [] here total = absurd (in_none m here)
     some_left (r ∷ rs) here total = omega (arith, total)
 
-room : (ow : ℤ) (ps : List Point) (cs : List Cluster) (masters : List ℕ) → AreClusters ow ps cs → AllByRecursion (λ p. Contains masters p.master) ps → (c : Cluster) → Contains cs c → (m : ℕ) → Contains masters m → has_point_of c m ≡ false → length c.points < length masters
+room : (ow : ℤ) (ps : List Point) (cs : List Cluster) (masters : List ℕ) → AreClusters ow ps cs → AllByRecursion (λ p. Contains masters p.master) ps
+    → (c : Cluster) → Contains cs c → (m : ℕ) → Contains masters m → has_point_of c m ≡ false → length c.points < length masters
 room ow [] [] masters are all c at m in_m free = absurd (in_none c at)
 room ow [] (k ∷ ks) masters are all c at m in_m free = absurd are
 room ow (o ∷ ps) [] masters are all c at m in_m free = absurd are
@@ -86,7 +90,8 @@ room ow (o ∷ ps) (k ∷ ks) masters are all c at m in_m free =
           let is : c ≡ cluster_of ow o L = sym e ∙ are.0 in
           let free' : has_point_of (cluster_of ow o L) m ≡ false = subst (λ (x : Cluster). has_point_of x m ≡ false) is free in
           let none : has_master counts m ≡ false = sym (has_point_of-is (cluster_of ow o L) counts m refl) ∙ free' in
-          let held = all-filter (λ (p : Point). Contains masters p.master) (λ q. q.cycle == o.cycle && (int_le o.reading q.reading && int_le q.reading (end_of ow o L))) L all in
+          let held = all-filter (λ (p : Point). Contains masters p.master)
+          (λ q. q.cycle == o.cycle && (int_le o.reading q.reading && int_le q.reading (end_of ow o L))) L all in
           let few = few_count masters (of_cycle_within o.cycle o.reading (end_of ow o L) L) held m in_m none in
           subst (λ (x : Cluster). length x.points < length masters) (sym is) (rw length-map few)
       | inr here ↦ room ow (beyond k.end ps) ks masters are.1 (rest k.end) c here m in_m free
@@ -96,4 +101,5 @@ room ow (o ∷ ps) (k ∷ ks) masters are all c at m in_m free =
     rest end = all-filter (λ (p : Point). Contains masters p.master) _ ps all.1
 
 pub room_for_each_master : RoomForEachMaster
-room_for_each_master ow ps cs masters are all c at m in_m free = room ow ps cs masters are (recursion_from_All (λ (p : Point). Contains masters p.master) ps all) c at m in_m free
+room_for_each_master ow ps cs masters are all c at m in_m free =
+    room ow ps cs masters are (recursion_from_All (λ (p : Point). Contains masters p.master) ps all) c at m in_m free

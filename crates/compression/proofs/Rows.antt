@@ -78,13 +78,15 @@ row_last ow reading (k ∷ m ∷ ms) c row =
     row_head ow reading m (n ∷ ns) row = row.0
 
 -- a row with the collection that opens next
-pub row-push : (ow t reading : ℤ) (cs : List Cluster) (d : Cluster) → IsRow ow t cs → AllByRecursion (λ k. k.end <ℤ d.opened) cs → IsCollection ow d → MayFollow d.points reading → IsRow ow reading (cs ++ d ∷ [])
+pub row-push : (ow t reading : ℤ) (cs : List Cluster) (d : Cluster) → IsRow ow t cs → AllByRecursion (λ k. k.end <ℤ d.opened) cs → IsCollection ow d
+    → MayFollow d.points reading → IsRow ow reading (cs ++ d ∷ [])
 row-push ow t reading [] d row before col may = (col, may)
 row-push ow t reading (c ∷ []) d row before col may = (row.0, before.0, (col, may))
 row-push ow t reading (c ∷ e ∷ es) d row before col may = (row.0, row.1, row-push ow t reading (e ∷ es) d row.2 before.1 col may)
 
 -- a row with another last collection of the same opening
-pub row-replace : (ow t reading : ℤ) (front : List Cluster) (c d : Cluster) → IsRow ow t (front ++ c ∷ []) → d.opened ≡ c.opened → IsCollection ow d → MayFollow d.points reading → IsRow ow reading (front ++ d ∷ [])
+pub row-replace : (ow t reading : ℤ) (front : List Cluster) (c d : Cluster) → IsRow ow t (front ++ c ∷ []) → d.opened ≡ c.opened → IsCollection ow d
+    → MayFollow d.points reading → IsRow ow reading (front ++ d ∷ [])
 row-replace ow t reading [] c d row same col may = (col, may)
 row-replace ow t reading (k ∷ []) c d row same col may = (row.0, subst (λ (o : ℤ). k.end <ℤ o) (sym same) row.1, (col, may))
 row-replace ow t reading (k ∷ m ∷ ms) c d row same col may = (row.0, row.1, row-replace ow t reading (m ∷ ms) c d row.2 same col may)
@@ -104,18 +106,21 @@ row-head ow reading c [] row = row.0
 row-head ow reading c (d ∷ ds) row = row.0
 
 -- the others open after the first has ended
-pub row-after : (ow reading : ℤ) (c : Cluster) (cs : List Cluster) → IsRow ow reading (c ∷ cs) → AllByRecursion (λ k. (c.end <ℤ k.opened) × IsCollection ow k) cs
+pub row-after : (ow reading : ℤ) (c : Cluster) (cs : List Cluster) → IsRow ow reading (c ∷ cs) → AllByRecursion (λ k. (c.end <ℤ k.opened) × IsCollection ow k)
+    cs
 row-after ow reading c [] row = tt
 row-after ow reading c (d ∷ ds) row =
     let d_is = row-head ow reading d ds row.2 in
     ((row.1, d_is), later ds (omega (arith, ints, row.1, opened-end ow d d_is)) (row-after ow reading d ds row.2))
   where
-    later : (es : List Cluster) → c.end ≤ℤ d.end → AllByRecursion (λ k. (d.end <ℤ k.opened) × IsCollection ow k) es → AllByRecursion (λ k. (c.end <ℤ k.opened) × IsCollection ow k) es
+    later : (es : List Cluster) → c.end ≤ℤ d.end → AllByRecursion (λ k. (d.end <ℤ k.opened) × IsCollection ow k) es
+        → AllByRecursion (λ k. (c.end <ℤ k.opened) × IsCollection ow k) es
     later [] le all = tt
     later (e ∷ es) le all = ((omega (arith, ints, le, all.0.0), all.0.1), later es le all.1)
 
 -- an emission lies two windows and the time to calculate after a reading of the cluster
-pub emission-within : (ow calc : ℤ) (c : Cluster) → IsCollection ow c → ((c.opened +ℤ (pos 2 *ℤ ow) +ℤ calc) ≤ℤ emission ow calc c) × (emission ow calc c ≤ℤ (c.end +ℤ (pos 2 *ℤ ow) +ℤ calc))
+pub emission-within : (ow calc : ℤ) (c : Cluster) → IsCollection ow c → ((c.opened +ℤ (pos 2 *ℤ ow) +ℤ calc) ≤ℤ emission ow calc c)
+    × (emission ow calc c ≤ℤ (c.end +ℤ (pos 2 *ℤ ow) +ℤ calc))
 emission-within ow calc c col =
     let among = middle_of-within (c.opened ∷ col.later) (λ e. cc) col.rising in
     let low : pos 0 ≤ℤ middle_of (relative c.points) = rw col.points among.0 in
@@ -123,19 +128,22 @@ emission-within ow calc c col =
     (omega (arith, ints, low), omega (arith, ints, high, col.held))
 
 -- emissions come in the order of the openings
-pub row-emissions : (ow calc reading : ℤ) (c : Cluster) (cs : List Cluster) → IsRow ow reading (c ∷ cs) → AllByRecursion (λ k. emission ow calc c ≤ℤ emission ow calc k) cs
+pub row-emissions : (ow calc reading : ℤ) (c : Cluster) (cs : List Cluster) → IsRow ow reading (c ∷ cs)
+    → AllByRecursion (λ k. emission ow calc c ≤ℤ emission ow calc k) cs
 row-emissions ow calc reading c cs row =
     let c_is = row-head ow reading c cs row in
     each cs (row-after ow reading c cs row) (emission-within ow calc c c_is)
   where
-    each : (ks : List Cluster) → AllByRecursion (λ k. (c.end <ℤ k.opened) × IsCollection ow k) ks → ((c.opened +ℤ (pos 2 *ℤ ow) +ℤ calc) ≤ℤ emission ow calc c) × (emission ow calc c ≤ℤ (c.end +ℤ (pos 2 *ℤ ow) +ℤ calc)) → AllByRecursion (λ k. emission ow calc c ≤ℤ emission ow calc k) ks
+    each : (ks : List Cluster) → AllByRecursion (λ k. (c.end <ℤ k.opened) × IsCollection ow k) ks → ((c.opened +ℤ (pos 2 *ℤ ow) +ℤ calc) ≤ℤ emission ow calc c)
+        × (emission ow calc c ≤ℤ (c.end +ℤ (pos 2 *ℤ ow) +ℤ calc)) → AllByRecursion (λ k. emission ow calc c ≤ℤ emission ow calc k) ks
     each [] all within = tt
     each (k ∷ ks) all within =
         let other = emission-within ow calc k all.0.1 in
         (omega (arith, ints, within.1, other.0, all.0.0), each ks all.1 within)
 
 -- five collections are never open or waiting where a sixth would open: the first would be due too long before
-pub row-room : (ow calc t reading : ℤ) (cs : List Cluster) → pos 0 ≤ℤ ow → calc ≤ℤ ow → IsRow ow t cs → AllByRecursion (λ k. k.end <ℤ reading) cs → AllByRecursion (λ k. (reading -ℤ ow) <ℤ emission ow calc k) cs → length cs < 5
+pub row-room : (ow calc t reading : ℤ) (cs : List Cluster) → pos 0 ≤ℤ ow → calc ≤ℤ ow → IsRow ow t cs → AllByRecursion (λ k. k.end <ℤ reading) cs
+    → AllByRecursion (λ k. (reading -ℤ ow) <ℤ emission ow calc k) cs → length cs < 5
 row-room ow calc t reading [] some short row past due = omega arith
 row-room ow calc t reading (a ∷ []) some short row past due = omega arith
 row-room ow calc t reading (a ∷ b ∷ []) some short row past due = omega arith

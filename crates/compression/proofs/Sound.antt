@@ -1,11 +1,11 @@
 -- What is true of every collector stays true.
-use Rattle.std.proofs.Common.{◌≡◌, ◌∙◌, inl, inr, ℕ, ◌<◌, ℤ, pos, ◌+ℤ◌, ◌-ℤ◌, ◌*ℤ◌, ◌≤ℤ◌, ◌<ℤ◌, List, [], ◌∷◌, ◌++◌, length, map, ap, refl, sym, subst, arith, Option, Some, None}
+use Rattle.std.proofs.Common.{◌≡◌, ◌∙◌, inl, inr, ℕ, ◌+◌, ◌<◌, ℤ, pos, ◌+ℤ◌, ◌-ℤ◌, ◌*ℤ◌, ◌≤ℤ◌, ◌<ℤ◌, List, [], ◌∷◌, ◌++◌, length, map, ap, refl, sym, subst, arith, Option, Some, None}
 use Rattle.std.specs.Prelude.{int_lt, int_le, All}
 use Rattle.std.specs.List.{last_or, AllByRecursion}
 use Rattle.std.proofs.lemmas.Int.{ints}
 use Rattle.std.proofs.lemmas.Bool.{cases_Bool}
 use Rattle.std.proofs.lemmas.List.Elements.{recursion_from_All}
-use Rattle.compression.specs.Reading.{greatest_reading}
+use Rattle.tte_units.specs.Reading.{greatest_reading}
 use Rattle.compression.specs.Ascent.{MayFollow, last_from}
 use Rattle.compression.specs.Clusters.{Point, Cluster}
 use Rattle.compression.specs.Emission.{emission}
@@ -36,7 +36,8 @@ open_at-some cs reading c e =
         ]
 
 -- where none is open, all ended before
-pub all_ended : (v : Collecting) (reading : ℤ) → IsSound v → v.earliest ≤ℤ reading → open_at v.waiting reading ≡ None → AllByRecursion (λ k. k.end <ℤ reading) v.waiting
+pub all_ended : (v : Collecting) (reading : ℤ) → IsSound v → v.earliest ≤ℤ reading → open_at v.waiting reading ≡ None
+    → AllByRecursion (λ k. k.end <ℤ reading) v.waiting
 all_ended v reading sound order none =
     by_last (last_or None v.waiting) refl
   where
@@ -44,7 +45,8 @@ all_ended v reading sound order none =
     all_before o [] le all = tt
     all_before o (k ∷ ks) le all = (omega (arith, ints, le, all.0), all_before o ks le all.1)
 
-    all_push : (ks : List Cluster) (c : Cluster) → AllByRecursion (λ k. k.end <ℤ reading) ks → c.end <ℤ reading → AllByRecursion (λ k. k.end <ℤ reading) (ks ++ c ∷ [])
+    all_push : (ks : List Cluster) (c : Cluster) → AllByRecursion (λ k. k.end <ℤ reading) ks → c.end <ℤ reading
+        → AllByRecursion (λ k. k.end <ℤ reading) (ks ++ c ∷ [])
     all_push [] c all past = (past, tt)
     all_push (k ∷ ks) c all past = (all.0, all_push ks c all.1 past)
 
@@ -57,13 +59,20 @@ all_ended v reading sound order none =
               let last = row_last v.ow v.earliest split.0 c (subst (IsRow v.ow v.earliest) split.1 sound.row) in
               let opened = opened-before v.ow c v.earliest last.collection last.may in
               let past : c.end <ℤ reading = grind (arith, ints, ended) in
-              subst (AllByRecursion (λ k. k.end <ℤ reading)) (sym split.1) (all_push split.0 c (all_before c.opened split.0 (omega (arith, ints, opened, order)) last.before) past)
+              subst (AllByRecursion (λ k. k.end <ℤ reading)) (sym split.1)
+              (all_push split.0 c (all_before c.opened split.0 (omega (arith, ints, opened, order)) last.before) past)
           | inr here ↦ absurd (none_is_some c (rw (l, here) at none))
         ]
 
+-- a list with one more is longer by one
+pub length-push : (cs : List Cluster) (c : Cluster) → length (cs ++ c ∷ []) ≡ length cs + 1
+length-push [] c = refl
+length-push (k ∷ ks) c = omega (arith, length-push ks c)
+
 -- a collector with another collection
-pub IsSound-opened : (v : Collecting) (p : Point) → IsSound v → v.earliest ≤ℤ p.reading → p.reading ≤ℤ greatest_reading → open_at v.waiting p.reading ≡ None → IsSound (with_opened v p)
-IsSound-opened v p sound order high none =
+pub IsSound-opened : (v : Collecting) (p : Point) → IsSound v → v.earliest ≤ℤ p.reading → p.reading ≤ℤ greatest_reading → open_at v.waiting p.reading ≡ None
+    → length v.waiting < 5 → IsSound (with_opened v p)
+IsSound-opened v p sound order high none room =
     let col : IsCollection v.ow (opening v.ow p) = record {
       low = omega (arith, ints, order, sound.low);
       high = high;
@@ -80,13 +89,15 @@ IsSound-opened v p sound order high none =
       small = sound.small;
       low = omega (arith, ints, order, sound.low);
       row = row-push v.ow v.earliest p.reading v.waiting (opening v.ow p) sound.row (all_ended v p.reading sound order none) col (omega (arith, ints));
+      few = omega (arith, room, length-push v.waiting (opening v.ow p));
     }
 
 last_from-push : (p : ℤ) (ps : List ℤ) (q : ℤ) → last_from p (ps ++ q ∷ []) ≡ q
 last_from-push p [] q = refl
 last_from-push p (r ∷ rs) q = last_from-push r rs q
 
-pub joined_end-within : (ow : ℤ) (c : Cluster) (reading : ℤ) → IsCollection ow c → pos 0 ≤ℤ ow → (c.end ≤ℤ joined_end ow c reading) × (joined_end ow c reading ≤ℤ (c.opened +ℤ (pos 2 *ℤ ow)))
+pub joined_end-within : (ow : ℤ) (c : Cluster) (reading : ℤ) → IsCollection ow c → pos 0 ≤ℤ ow → (c.end ≤ℤ joined_end ow c reading)
+    × (joined_end ow c reading ≤ℤ (c.opened +ℤ (pos 2 *ℤ ow)))
 joined_end-within ow c reading col some =
     elim (cases_Bool (int_le reading (c.opened +ℤ ow))) [
       | inl inside ↦ rw inside (col.two, omega (arith, ints))
@@ -94,7 +105,8 @@ joined_end-within ow c reading col some =
     ]
 
 -- a collection with a point that joins it
-pub IsCollection-joined : (ow : ℤ) (c : Cluster) (reading : ℤ) (master : ℕ) → IsCollection ow c → pos 0 ≤ℤ ow → MayFollow c.points reading → reading ≤ℤ c.end → IsCollection ow (joined ow c reading master)
+pub IsCollection-joined : (ow : ℤ) (c : Cluster) (reading : ℤ) (master : ℕ) → IsCollection ow c → pos 0 ≤ℤ ow → MayFollow c.points reading → reading ≤ℤ c.end
+    → IsCollection ow (joined ow c reading master)
 IsCollection-joined ow c reading master col some may here =
     let ends = joined_end-within ow c reading col some in
     let may' : MayFollow (c.opened ∷ col.later) reading = subst (λ (ps : List ℤ). MayFollow ps reading) col.points may in
@@ -121,13 +133,15 @@ last_or-push (p ∷ ps) q = after p ps
 abbrev pub with_last : Collecting → List Cluster → Cluster → Point → Collecting
 with_last v front c p = record v { earliest = p.reading; waiting = front ++ joined v.ow c p.reading p.master ∷ [] }
 
-pub last_joined-split : (ow : ℤ) (p : Point) (front : List Cluster) (c : Cluster) → last_joined ow p (front ++ c ∷ []) ≡ front ++ joined ow c p.reading p.master ∷ []
+pub last_joined-split : (ow : ℤ) (p : Point) (front : List Cluster) (c : Cluster) → last_joined ow p (front ++ c ∷ []) ≡ front ++ joined ow c p.reading p.master
+    ∷ []
 last_joined-split ow p [] c = refl
 last_joined-split ow p (k ∷ []) c = refl
 last_joined-split ow p (k ∷ m ∷ ms) c = ap (λ (ks : List Cluster). k ∷ ks) (last_joined-split ow p (m ∷ ms) c)
 
 -- a collector whose last collection is joined
-pub IsSound-joined : (v : Collecting) (front : List Cluster) (c : Cluster) (p : Point) → IsSound v → v.earliest ≤ℤ p.reading → v.waiting ≡ front ++ c ∷ [] → p.reading ≤ℤ c.end → IsSound (with_last v front c p)
+pub IsSound-joined : (v : Collecting) (front : List Cluster) (c : Cluster) (p : Point) → IsSound v → v.earliest ≤ℤ p.reading → v.waiting ≡ front ++ c ∷ []
+    → p.reading ≤ℤ c.end → IsSound (with_last v front c p)
 IsSound-joined v front c p sound order split here =
     let row : IsRow v.ow v.earliest (front ++ c ∷ []) = subst (IsRow v.ow v.earliest) split sound.row in
     let last = row_last v.ow v.earliest front c row in
@@ -140,14 +154,18 @@ IsSound-joined v front c p sound order split here =
       small = sound.small;
       low = omega (arith, ints, order, sound.low);
       row = row-replace v.ow v.earliest p.reading front c (joined v.ow c p.reading p.master) row refl col follows;
+      few = omega (arith, sound.few, ap length split, length-push front c, length-push front (joined v.ow c p.reading p.master));
     }
 
-emissions_due : (ow calc reading : ℤ) (cs : List Cluster) → AllByRecursion (λ at. (reading -ℤ ow) <ℤ at) (map (emission ow calc) cs) → AllByRecursion (λ k. (reading -ℤ ow) <ℤ emission ow calc k) cs
+emissions_due : (ow calc reading : ℤ) (cs : List Cluster) → AllByRecursion (λ at. (reading -ℤ ow) <ℤ at) (map (emission ow calc) cs)
+    → AllByRecursion (λ k. (reading -ℤ ow) <ℤ emission ow calc k) cs
 emissions_due ow calc reading [] all = tt
 emissions_due ow calc reading (c ∷ cs) all = (all.0, emissions_due ow calc reading cs all.1)
 
 -- there is room for one more
-pub room_to_open : (v : Collecting) (reading : ℤ) → IsSound v → v.earliest ≤ℤ reading → All (λ at. (reading -ℤ v.ow) <ℤ at) (emissions v) → open_at v.waiting reading ≡ None → length v.waiting < 5
+pub room_to_open : (v : Collecting) (reading : ℤ) → IsSound v → v.earliest ≤ℤ reading → All (λ at. (reading -ℤ v.ow) <ℤ at) (emissions v)
+    → open_at v.waiting reading ≡ None → length v.waiting < 5
 room_to_open v reading sound order due none =
-    row-room v.ow v.calc v.earliest reading v.waiting (omega (arith, ints, sound.some, sound.short)) sound.short sound.row (all_ended v reading sound order none)
+    row-room v.ow v.calc v.earliest reading v.waiting (omega (arith, ints, sound.some, sound.short)) sound.short sound.row
+    (all_ended v reading sound order none)
     (emissions_due v.ow v.calc reading v.waiting (recursion_from_All (λ (at : ℤ). (reading -ℤ v.ow) <ℤ at) (emissions v) due))

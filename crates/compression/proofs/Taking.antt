@@ -94,7 +94,9 @@ role_in-ignored (Some c) p e =
     joined_not (inr e) = cc
 
 -- the last collection can take a point that is not beyond it
-pub able : (v : Collecting) (reading : ℤ) (master : ℕ) → IsSound v → v.earliest ≤ℤ reading → IfSome (open_at v.waiting reading) (λ c. IsTrue (has_point_of c master) ⊎ (length c.points < 8)) → IfSome (last_or None v.waiting) (λ c. reading ≤ℤ c.end → CanTake c reading master)
+pub able : (v : Collecting) (reading : ℤ) (master : ℕ) → IsSound v → v.earliest ≤ℤ reading
+    → IfSome (open_at v.waiting reading) (λ c. IsTrue (has_point_of c master) ⊎ (length c.points < 8))
+    → IfSome (last_or None v.waiting) (λ c. reading ≤ℤ c.end → CanTake c reading master)
 able v reading master sound order room =
     by_last (last_or None v.waiting) refl
   where
@@ -118,7 +120,9 @@ able v reading master sound order room =
         })
 
 -- what waits where a point joined the last
-pub last_is_joined : (v : Collecting) (p : Point) (waiting : List Cluster) → Joined ≡ role v.waiting p → ((front : List Cluster) (c : Cluster) → v.waiting ≡ front ++ c ∷ [] → waiting ≡ front ++ joined v.ow c p.reading p.master ∷ []) → waiting ≡ last_joined v.ow p v.waiting
+pub last_is_joined : (v : Collecting) (p : Point) (waiting : List Cluster) → Joined ≡ role v.waiting p
+    → ((front : List Cluster) (c : Cluster) → v.waiting ≡ front ++ c ∷ [] → waiting ≡ front ++ joined v.ow c p.reading p.master ∷ [])
+    → waiting ≡ last_joined v.ow p v.waiting
 last_is_joined v p waiting is joins =
     let j = role_in-joined (open_at v.waiting p.reading) p (sym is) in
     let at = open_at-some v.waiting p.reading j.c j.is in
@@ -126,24 +130,30 @@ last_is_joined v p waiting is joins =
     joins split.0 j.c split.1 ∙ sym (last_joined-split v.ow p split.0 j.c) ∙ sym (ap (last_joined v.ow p) split.1)
 
 -- where a collector stands with a point that opens a collection, one that joins, and one that is ignored
-pub Stands-role_opened : (v w : Collecting) (p : Point) → IsSound v → v.earliest ≤ℤ p.reading → Opened ≡ role v.waiting p → w ≡ with_opened v p → (points : List Point) (emitted : List Compressed) → StandsForPoints v points emitted → StandsForPoints w (points ++ p ∷ []) emitted
+pub Stands-role_opened : (v w : Collecting) (p : Point) → IsSound v → v.earliest ≤ℤ p.reading → Opened ≡ role v.waiting p → w ≡ with_opened v p
+    → (points : List Point) (emitted : List Compressed) → StandsForPoints v points emitted → StandsForPoints w (points ++ p ∷ []) emitted
 Stands-role_opened v w p sound order is opens points emitted s =
     let none = role_in-opened (open_at v.waiting p.reading) p (sym is) in
     subst (λ (u : Collecting). StandsForPoints u (points ++ p ∷ []) emitted) (sym opens) (Stands-opened v points emitted p sound order none s)
 
-pub Stands-role_joined : (v w : Collecting) (p : Point) → IsSound v → v.earliest ≤ℤ p.reading → Joined ≡ role v.waiting p → ((front : List Cluster) (c : Cluster) → v.waiting ≡ front ++ c ∷ [] → w ≡ with_last v front c p) → (points : List Point) (emitted : List Compressed) → StandsForPoints v points emitted → StandsForPoints w (points ++ p ∷ []) emitted
+pub Stands-role_joined : (v w : Collecting) (p : Point) → IsSound v → v.earliest ≤ℤ p.reading → Joined ≡ role v.waiting p
+    → ((front : List Cluster) (c : Cluster) → v.waiting ≡ front ++ c ∷ [] → w ≡ with_last v front c p) → (points : List Point) (emitted : List Compressed)
+    → StandsForPoints v points emitted → StandsForPoints w (points ++ p ∷ []) emitted
 Stands-role_joined v w p sound order is joins points emitted s =
     let j = role_in-joined (open_at v.waiting p.reading) p (sym is) in
     let at = open_at-some v.waiting p.reading j.c j.is in
     let split = last_split v.waiting j.c at.0 in
-    subst (λ (u : Collecting). StandsForPoints u (points ++ p ∷ []) emitted) (sym (joins split.0 j.c split.1)) (Stands-joined v points emitted p split.0 j.c sound order split.1 at.1 j.same j.new s)
+    subst (λ (u : Collecting). StandsForPoints u (points ++ p ∷ []) emitted) (sym (joins split.0 j.c split.1))
+    (Stands-joined v points emitted p split.0 j.c sound order split.1 at.1 j.same j.new s)
 
-pub Stands-role_ignored : (v w : Collecting) (p : Point) → IsSound v → v.earliest ≤ℤ p.reading → (role v.waiting p ≡ Repeat) ⊎ (role v.waiting p ≡ OtherCycle) → w ≡ v → (points : List Point) (emitted : List Compressed) → StandsForPoints v points emitted → StandsForPoints w (points ++ p ∷ []) emitted
+pub Stands-role_ignored : (v w : Collecting) (p : Point) → IsSound v → v.earliest ≤ℤ p.reading → (role v.waiting p ≡ Repeat) ⊎ (role v.waiting p ≡ OtherCycle)
+    → w ≡ v → (points : List Point) (emitted : List Compressed) → StandsForPoints v points emitted → StandsForPoints w (points ++ p ∷ []) emitted
 Stands-role_ignored v w p sound order is same points emitted s =
     let i = role_in-ignored (open_at v.waiting p.reading) p is in
     let at = open_at-some v.waiting p.reading i.c i.is in
     let split = last_split v.waiting i.c at.0 in
-    subst (λ (u : Collecting). StandsForPoints u (points ++ p ∷ []) emitted) (sym same) (Stands-ignored v points emitted p split.0 i.c sound order split.1 at.1 i.why s)
+    subst (λ (u : Collecting). StandsForPoints u (points ++ p ∷ []) emitted) (sym same)
+    (Stands-ignored v points emitted p split.0 i.c sound order split.1 at.1 i.why s)
 
 last_or-append : {X : Type 0} (xs ys : List X) (y : X) → last_or None ys ≡ Some y → last_or None (xs ++ ys) ≡ Some y
 last_or-append [] ys y e = e
@@ -173,7 +183,8 @@ ended_none cs reading all =
         open_at-beyond cs c reading l (all-last reading split.0 c (subst (AllByRecursion (λ k. k.end <ℤ reading)) split.1 all))
 
 -- the role by what waits is the role by all clusters
-pub role-whole : (v : Collecting) (p : Point) → v.earliest ≤ℤ p.reading → (points : List Point) (emitted : List Compressed) (cs : List Cluster) → StandsForPoints v points emitted → AreClusters v.ow points cs → role v.waiting p ≡ role cs p
+pub role-whole : (v : Collecting) (p : Point) → v.earliest ≤ℤ p.reading → (points : List Point) (emitted : List Compressed) (cs : List Cluster)
+    → StandsForPoints v points emitted → AreClusters v.ow points cs → role v.waiting p ≡ role cs p
 role-whole v p order points emitted cs s are =
     by_last (last_or None v.waiting) refl ∙ ap (λ (ks : List Cluster). role ks p) (AreClusters-unique v.ow points (s.done ++ v.waiting) cs s.clusters are)
   where
@@ -182,14 +193,19 @@ role-whole v p order points emitted cs s are =
         let none : v.waiting ≡ [] = last_or-none v.waiting l in
         let whole : s.done ++ v.waiting ≡ s.done = ap (λ (ws : List Cluster). s.done ++ ws) none ∙ append-nil s.done in
         let done = ended_later v.earliest p.reading s.done order (recursion_from_All (λ (c : Cluster). c.end <ℤ v.earliest) s.done s.past) in
-        ap (λ (o : Option Cluster). role_in o p) (open_at-none v.waiting p.reading l ∙ sym (ended_none s.done p.reading done)) ∙ ap (λ (ks : List Cluster). role ks p) (sym whole)
+        ap (λ (o : Option Cluster). role_in o p) (open_at-none v.waiting p.reading l ∙ sym (ended_none s.done p.reading done))
+        ∙ ap (λ (ks : List Cluster). role ks p) (sym whole)
     by_last (Some c) l =
-        ap (λ (o : Option Cluster). role_in (option_and_then (λ (k : Cluster). if int_lt k.end p.reading then None else Some k) o) p) (l ∙ sym (last_or-append s.done v.waiting c l))
+        ap (λ (o : Option Cluster). role_in (option_and_then (λ (k : Cluster). if int_lt k.end p.reading then None else Some k) o) p)
+        (l ∙ sym (last_or-append s.done v.waiting c l))
 
 -- the invariant with a point that joins
-pub IsSound-takes : (v : Collecting) (p : Point) (waiting : List Cluster) → IsSound v → v.earliest ≤ℤ p.reading → role v.waiting p ≡ Joined → ((front : List Cluster) (c : Cluster) → v.waiting ≡ front ++ c ∷ [] → waiting ≡ front ++ joined v.ow c p.reading p.master ∷ []) → IsSound (record v { earliest = p.reading; waiting = waiting })
+pub IsSound-takes : (v : Collecting) (p : Point) (waiting : List Cluster) → IsSound v → v.earliest ≤ℤ p.reading → role v.waiting p ≡ Joined
+    → ((front : List Cluster) (c : Cluster) → v.waiting ≡ front ++ c ∷ [] → waiting ≡ front ++ joined v.ow c p.reading p.master ∷ [])
+    → IsSound (record v { earliest = p.reading; waiting = waiting })
 IsSound-takes v p waiting sound order is joins =
     let j = role_in-joined (open_at v.waiting p.reading) p is in
     let at = open_at-some v.waiting p.reading j.c j.is in
     let split = last_split v.waiting j.c at.0 in
-    subst (λ (ws : List Cluster). IsSound (record v { earliest = p.reading; waiting = ws })) (sym (joins split.0 j.c split.1)) (IsSound-joined v split.0 j.c p sound order split.1 at.1)
+    subst (λ (ws : List Cluster). IsSound (record v { earliest = p.reading; waiting = ws })) (sym (joins split.0 j.c split.1))
+    (IsSound-joined v split.0 j.c p sound order split.1 at.1)

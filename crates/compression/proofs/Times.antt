@@ -11,7 +11,8 @@ use Rattle.compression.proofs.Growth.{end_of-least}
 use Rattle.compression.proofs.Standing.{AreClusters-unique}
 
 -- clusters of points that lie beyond a reading open beyond it
-pub open_beyond : (ow low : ℤ) (ps : List Point) (cs : List Cluster) → AreClusters ow ps cs → AllByRecursion (λ q. low <ℤ q.reading) ps → AllByRecursion (λ c. low <ℤ c.opened) cs
+pub open_beyond : (ow low : ℤ) (ps : List Point) (cs : List Cluster) → AreClusters ow ps cs → AllByRecursion (λ q. low <ℤ q.reading) ps
+    → AllByRecursion (λ c. low <ℤ c.opened) cs
 open_beyond ow low [] [] are all = tt
 open_beyond ow low [] (c ∷ cs) are all = absurd are
 open_beyond ow low (o ∷ ps) [] are all = absurd are
@@ -19,7 +20,8 @@ open_beyond ow low (o ∷ ps) (c ∷ cs) are all =
     (subst (λ (k : Cluster). low <ℤ k.opened) (sym are.0) all.0, open_beyond ow low (beyond c.end ps) cs are.1 (all-beyond low c.end ps all.1))
 
 -- a point of the first cluster's time lies in no other
-pub only_first : (ow : ℤ) (ps : List Point) (c : Cluster) (cs : List Cluster) (p : Point) → AreClusters ow (beyond c.end ps) cs → p.reading ≤ℤ c.end → (d : Cluster) → Contains cs d → LiesIn d p → ⊥
+pub only_first : (ow : ℤ) (ps : List Point) (c : Cluster) (cs : List Cluster) (p : Point) → AreClusters ow (beyond c.end ps) cs → p.reading ≤ℤ c.end
+    → (d : Cluster) → Contains cs d → LiesIn d p → ⊥
 only_first ow ps c cs p are within d at lies =
     let past : c.end <ℤ d.opened = all_at (λ (k : Cluster). c.end <ℤ k.opened) cs d (open_beyond ow c.end (beyond c.end ps) cs are (beyond-all c.end ps)) at in
     omega (arith, ints, past, within, lies.low)
@@ -49,7 +51,8 @@ in_rest o ps p end start past at =
     apart : end <ℤ o.reading → ⊥
     apart h = omega (arith, ints)
 
-one_time : (ow : ℤ) (ps : List Point) (cs : List Cluster) → pos 0 ≤ℤ ow → Ordered ps → AreClusters ow ps cs → (p : Point) → Contains ps p → (c : Cluster) × Contains cs c × LiesIn c p × ((d : Cluster) → Contains cs d → LiesIn d p → d ≡ c)
+one_time : (ow : ℤ) (ps : List Point) (cs : List Cluster) → pos 0 ≤ℤ ow → Ordered ps → AreClusters ow ps cs → (p : Point) → Contains ps p → (c : Cluster)
+    × Contains cs c × LiesIn c p × ((d : Cluster) → Contains cs d → LiesIn d p → d ≡ c)
 one_time ow [] cs some up are p at = absurd (in_none p at)
 one_time ow (o ∷ ps) [] some up are p at = absurd are
 one_time ow (o ∷ ps) (c ∷ cs) some up are p at =
@@ -61,7 +64,8 @@ one_time ow (o ∷ ps) (c ∷ cs) some up are p at =
           (c, in_head c cs, record { low = low; high = within }, λ d in_d lies. only within d (in_cases c d cs in_d) lies)
       | inr outside ↦
           let past : c.end <ℤ p.reading = grind (arith, ints, outside) in
-          let rest = one_time ow (beyond c.end ps) cs some (Ordered-beyond c.end ps up.1) are.1 p (in_rest o ps p c.end (omega (arith, ints, start.0, start.1)) past at) in
+          let rest = one_time ow (beyond c.end ps) cs some (Ordered-beyond c.end ps up.1) are.1 p
+          (in_rest o ps p c.end (omega (arith, ints, start.0, start.1)) past at) in
           (rest.0, in_tail c rest.0 cs rest.1, rest.2, λ d in_d lies. other past rest.0 rest.3 d (in_cases c d cs in_d) lies)
     ]
   where
@@ -69,7 +73,8 @@ one_time ow (o ∷ ps) (c ∷ cs) some up are p at =
     only within d (inl e) lies = sym e
     only within d (inr at) lies = absurd (only_first ow ps c cs p are.1 within d at lies)
 
-    other : c.end <ℤ p.reading → (k : Cluster) → ((d : Cluster) → Contains cs d → LiesIn d p → d ≡ k) → (d : Cluster) → (c ≡ d) ⊎ Contains cs d → LiesIn d p → d ≡ k
+    other : c.end <ℤ p.reading → (k : Cluster) → ((d : Cluster) → Contains cs d → LiesIn d p → d ≡ k) → (d : Cluster) → (c ≡ d) ⊎ Contains cs d → LiesIn d p
+        → d ≡ k
     other past k unique d (inl e) lies = absurd (apart (subst (λ (x : Cluster). LiesIn x p) (sym e) lies) past)
       where
         apart : LiesIn c p → c.end <ℤ p.reading → ⊥

@@ -13,7 +13,8 @@ use Rattle.compression.proofs.Growth.{counted, window_end, end_of-one, end_of-tw
 use Rattle.compression.proofs.Times.{only_first, first_end, not_before, in_rest}
 
 -- what counts in the first window: the opener, and then points of other masters
-window_counts : (ow : ℤ) (o : Point) (ps : List Point) → pos 0 ≤ℤ ow → (k : Counts (o ∷ []) (of_cycle_within o.cycle o.reading (window_end ow o) ps)) × (counted (window_end ow o) o (o ∷ ps) ≡ o ∷ k.more)
+window_counts : (ow : ℤ) (o : Point) (ps : List Point) → pos 0 ≤ℤ ow → (k : Counts (o ∷ []) (of_cycle_within o.cycle o.reading (window_end ow o) ps))
+    × (counted (window_end ow o) o (o ∷ ps) ≡ o ∷ k.more)
 window_counts ow o ps some =
     let k = counts (o ∷ []) (of_cycle_within o.cycle o.reading (window_end ow o) ps) in
     (k, ap firsts (held-start o (window_end ow o) ps (omega (arith, ints, some))) ∙ k.is)
@@ -30,7 +31,8 @@ second_master ow o ps some many =
     let k = window_counts ow o ps some in
     found (k.0.more) (k.0.each) (subst (λ (n : ℕ). 2 ≤ n) (ap length k.1) many)
   where
-    found : (more : List Point) → AllByRecursion (λ q. Contains (of_cycle_within o.cycle o.reading (window_end ow o) ps) q × (has_master (o ∷ []) q.master ≡ false)) more → 2 ≤ length (o ∷ more) → (w : Point) × Other ow o ps w
+    found : (more : List Point) → AllByRecursion (λ q. Contains (of_cycle_within o.cycle o.reading (window_end ow o) ps) q
+        × (has_master (o ∷ []) q.master ≡ false)) more → 2 ≤ length (o ∷ more) → (w : Point) × Other ow o ps w
     found [] each many = absurd (omega arith)
     found (w ∷ ws) each many =
         let parts = in_filter (λ q. q.cycle == o.cycle && (int_le o.reading q.reading && int_le q.reading (window_end ow o))) ps w each.0.0 in
@@ -47,11 +49,13 @@ second_master ow o ps some many =
         )
 
 -- and where there is one, the points in the first window are of the opener's
-only_master : (ow : ℤ) (o : Point) (ps : List Point) → pos 0 ≤ℤ ow → length (counted (window_end ow o) o (o ∷ ps)) < 2 → (q : Point) → Contains (o ∷ ps) q → q.cycle ≡ o.cycle → o.reading ≤ℤ q.reading → q.reading ≤ℤ window_end ow o → q.master ≡ o.master
+only_master : (ow : ℤ) (o : Point) (ps : List Point) → pos 0 ≤ℤ ow → length (counted (window_end ow o) o (o ∷ ps)) < 2 → (q : Point) → Contains (o ∷ ps) q
+    → q.cycle ≡ o.cycle → o.reading ≤ℤ q.reading → q.reading ≤ℤ window_end ow o → q.master ≡ o.master
 only_master ow o ps some few q at same low high =
     let passes : (q.cycle == o.cycle && (int_le o.reading q.reading && int_le q.reading (window_end ow o))) ≡ true =
     and_from (q.cycle == o.cycle) (int_le o.reading q.reading && int_le q.reading (window_end ow o)) (eq-eqb q.cycle o.cycle same)
-    (and_from (int_le o.reading q.reading) (int_le q.reading (window_end ow o)) (int_le-true o.reading q.reading low) (int_le-true q.reading (window_end ow o) high)) in
+    (and_from (int_le o.reading q.reading) (int_le q.reading (window_end ow o)) (int_le-true o.reading q.reading low)
+    (int_le-true q.reading (window_end ow o) high)) in
     let here = in_filter_from (λ r. r.cycle == o.cycle && (int_le o.reading r.reading && int_le r.reading (window_end ow o))) (o ∷ ps) q at passes in
     let has = firsts-has (of_cycle_within o.cycle o.reading (window_end ow o) (o ∷ ps)) q here in
     let k = window_counts ow o ps some in
@@ -77,7 +81,8 @@ pub record First (ow : ℤ) (o : Point) (ps : List Point) (c : Cluster) (cs : Li
   pub near : (p q : Point) → IsKept (o ∷ ps) (c ∷ cs) b cycle p → IsKept (o ∷ ps) (c ∷ cs) b cycle q → p.reading ≤ℤ (q.reading +ℤ ow)
 
 -- a point of the opener's cycle up to the end is not dropped
-not_dropped : (ow : ℤ) (o : Point) (ps : List Point) (c : Cluster) (cs : List Cluster) (b cycle : ℕ) → First ow o ps c cs b cycle → (q : Point) → q.cycle ≡ o.cycle → q.reading ≤ℤ c.end → ¬ IsDropped (c ∷ cs) q
+not_dropped : (ow : ℤ) (o : Point) (ps : List Point) (c : Cluster) (cs : List Cluster) (b cycle : ℕ) → First ow o ps c cs b cycle → (q : Point)
+    → q.cycle ≡ o.cycle → q.reading ≤ℤ c.end → ¬ IsDropped (c ∷ cs) q
 not_dropped ow o ps c cs b cycle f q same within (d, at, other, lies) =
     elim (in_cases c d cs at) [
       | inl e ↦ other (same ∙ sym (ap (λ (k : Cluster). k.cycle) f.is) ∙ ap (λ (k : Cluster). k.cycle) e)
@@ -85,7 +90,8 @@ not_dropped ow o ps c cs b cycle f q same within (d, at, other, lies) =
     ]
 
 -- one that is kept and lies up to the end is of the opener's cycle
-own_cycle : (ow : ℤ) (o : Point) (ps : List Point) (c : Cluster) (cs : List Cluster) (b cycle : ℕ) → First ow o ps c cs b cycle → (q : Point) → IsKept (o ∷ ps) (c ∷ cs) b cycle q → q.reading ≤ℤ c.end → Holds c q
+own_cycle : (ow : ℤ) (o : Point) (ps : List Point) (c : Cluster) (cs : List Cluster) (b cycle : ℕ) → First ow o ps c cs b cycle → (q : Point)
+    → IsKept (o ∷ ps) (c ∷ cs) b cycle q → q.reading ≤ℤ c.end → Holds c q
 own_cycle ow o ps c cs b cycle f q k within =
     let start = first_end ow o ps c f.some f.is in
     let low : c.opened ≤ℤ q.reading = subst (λ (r : ℤ). r ≤ℤ q.reading) (sym start.0) (not_before o ps q f.order k.there) in
@@ -96,7 +102,8 @@ own_cycle ow o ps c cs b cycle f q k within =
     ]
 
 -- where one that is kept lies up to the end, so do all
-all_within : (ow : ℤ) (o : Point) (ps : List Point) (c : Cluster) (cs : List Cluster) (b cycle : ℕ) → First ow o ps c cs b cycle → (q r : Point) → IsKept (o ∷ ps) (c ∷ cs) b cycle q → IsKept (o ∷ ps) (c ∷ cs) b cycle r → q.reading ≤ℤ c.end → r.reading ≤ℤ c.end
+all_within : (ow : ℤ) (o : Point) (ps : List Point) (c : Cluster) (cs : List Cluster) (b cycle : ℕ) → First ow o ps c cs b cycle → (q r : Point)
+    → IsKept (o ∷ ps) (c ∷ cs) b cycle q → IsKept (o ∷ ps) (c ∷ cs) b cycle r → q.reading ≤ℤ c.end → r.reading ≤ℤ c.end
 all_within ow o ps c cs b cycle f q r kq kr within =
     let holds = own_cycle ow o ps c cs b cycle f q kq within in
     let end_is : c.end ≡ end_of ow o (o ∷ ps) = ap (λ (k : Cluster). k.end) f.is in
@@ -104,7 +111,13 @@ all_within ow o ps c cs b cycle f q r kq kr within =
     let cycle_is : q.cycle ≡ o.cycle = holds.0 ∙ ap (λ (k : Cluster). k.cycle) f.is in
     elim (cases_eq o.master b) [
       | inr other ↦
-          let ko : IsKept (o ∷ ps) (c ∷ cs) b cycle o = record { there = in_head o ps; other = other; same = sym cycle_is ∙ kq.same; kept = not_dropped ow o ps c cs b cycle f o refl (omega (arith, ints, end_is, least, f.some)) } in
+          let ko : IsKept (o ∷ ps) (c ∷ cs) b cycle o = record {
+            there = in_head o ps;
+            other = other;
+            same = sym cycle_is
+                ∙ kq.same;
+            kept = not_dropped ow o ps c cs b cycle f o refl (omega (arith, ints, end_is, least, f.some));
+          } in
           let near = f.near r o kr ko in
           omega (arith, ints, near, end_is, least)
       | inl is_b ↦
@@ -116,7 +129,13 @@ all_within ow o ps c cs b cycle f q r kq kr within =
             | inr many ↦
                 let two = end_of-two ow o (o ∷ ps) many in
                 let w = second_master ow o ps f.some many in
-                let kw : IsKept (o ∷ ps) (c ∷ cs) b cycle w.0 = record { there = in_tail o w.0 ps w.1.there; other = λ e. w.1.other (e ∙ sym is_b); same = w.1.same ∙ sym cycle_is ∙ kq.same; kept = not_dropped ow o ps c cs b cycle f w.0 w.1.same (omega (arith, ints, end_is, least, w.1.first)) } in
+                let kw : IsKept (o ∷ ps) (c ∷ cs) b cycle w.0 = record {
+                  there = in_tail o w.0 ps w.1.there;
+                  other = λ e. w.1.other (e ∙ sym is_b);
+                  same = w.1.same ∙ sym cycle_is ∙ kq.same;
+                  kept = not_dropped ow o ps c cs b cycle f w.0 w.1.same
+                      (omega (arith, ints, end_is, least, w.1.first));
+                } in
                 let near = f.near r w.0 kr kw in
                 omega (arith, ints, near, end_is, two, w.1.first)
           ]
@@ -135,7 +154,8 @@ together ow (o ∷ ps) (c ∷ cs) b cycle some up are near p k =
           (c, in_head c cs, λ q kq. own_cycle ow o ps c cs b cycle f q kq (all_within ow o ps c cs b cycle f p q k kq within))
       | inr outside ↦
           let past : c.end <ℤ p.reading = grind (arith, ints, outside) in
-          let rest = together ow (beyond c.end ps) cs b cycle some (Ordered-beyond c.end ps up.1) are.1 (λ q r kq kr. near q r (whole q kq) (whole r kr)) p (part p k past) in
+          let rest = together ow (beyond c.end ps) cs b cycle some (Ordered-beyond c.end ps up.1) are.1 (λ q r kq kr. near q r (whole q kq) (whole r kr)) p
+          (part p k past) in
           (rest.0, in_tail c rest.0 cs rest.1, λ q kq. rest.2 q (part q kq (also f past q kq)))
     ]
   where

@@ -36,7 +36,8 @@ firsts ps = fold with_first [] ps
 abbrev pub members_of : List Point → ℕ
 members_of ps = fold (λ members q. bit_or members (2 ^ q.master)) 0 ps
 
--- where the cluster that o opens ends: after one observation window, or after two where the first has points of its cycle of two masters or more
+-- where the cluster that o opens ends: after one observation window, or after two where the first has points of its
+-- cycle of two masters or more
 abbrev pub end_of : ℤ → Point → List Point → ℤ
 end_of ow o ps =
     let masters = length (firsts (of_cycle_within o.cycle o.reading (o.reading +ℤ ow) ps)) in
@@ -55,7 +56,13 @@ abbrev pub cluster_of : ℤ → Point → List Point → Cluster
 cluster_of ow o ps =
     let end = end_of ow o ps in
     let counted = firsts (of_cycle_within o.cycle o.reading end ps) in
-    record { opened = o.reading; end = end; cycle = o.cycle; points = map (λ q. q.reading) counted; members = members_of counted }
+    record {
+      opened = o.reading;
+      end = end;
+      cycle = o.cycle;
+      points = map (λ q. q.reading) counted;
+      members = members_of counted;
+    }
 
 -- the clusters of a list of points: the first point opens one, and the first beyond its end opens the next
 abbrev pub AreClusters : ℤ → List Point → List Cluster → Type 0

@@ -1,11 +1,12 @@
 -- What a collector keeps.
 use Rattle.std.specs.Prelude.{ℤ, List, [], ◌∷◌, ◌++◌, map}
-use Rattle.compression.specs.Reading.{least_reading}
+use Rattle.tte_units.specs.Reading.{least_reading}
 use Rattle.compression.specs.Clusters.{Point, Cluster}
 use Rattle.compression.specs.Emission.{emission}
 use Rattle.compression.specs.Collection.{opening, joined}
 
--- the observation window, the time to calculate, the least reading that the next point may have, and the clusters of the points so far that are not emitted
+-- the observation window, the time to calculate, the least reading that the next point may have, and the clusters of
+-- the points so far that are not emitted
 pub record Collecting : Type 0 where
   pub ow : ℤ
   pub calc : ℤ

@@ -4,10 +4,16 @@ use Rattle.compression.specs.Middle.{relative, middle_of}
 use Rattle.compression.specs.Clusters.{Cluster}
 use Rattle.compression.specs.declared.compressed.Compressed.{Compressed}
 
--- the emission reading of a cluster: two observation windows, the time to calculate, and the middle of its points after its opening
+-- the emission reading of a cluster: two observation windows, the time to calculate, and the middle of its points after
+-- its opening
 abbrev pub emission : ℤ → ℤ → Cluster → ℤ
 emission ow calc c = c.opened +ℤ (pos 2 *ℤ ow) +ℤ calc +ℤ middle_of (relative c.points)
 
 -- what is emitted for a cluster
 abbrev pub compressed : ℤ → ℤ → Cluster → Compressed
-compressed ow calc c = record { opened = record { 0 = c.opened }; at = record { 0 = emission ow calc c }; cycle = c.cycle; members = record { 0 = c.members } }
+compressed ow calc c = record {
+  opened = record { 0 = c.opened };
+  at = record { 0 = emission ow calc c };
+  cycle = c.cycle;
+  members = record { 0 = c.members };
+}

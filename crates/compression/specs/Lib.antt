@@ -1,4 +1,3 @@
-pub mod Reading
 pub mod Ascent
 pub mod Middle
 pub mod Clusters

@@ -39,8 +39,11 @@ AllButOne P (x ∷ xs) = All P xs ⊎ (P x × AllButOne P xs)
 
 -- of three or more sorted points one may be anywhere: the middle lies among the others
 abbrev pub MiddleAmongOthers : Type 0
-MiddleAmongOthers = (ps : List ℤ) (low high : ℤ) → 3 ≤ length ps → IsAscending ps → AllButOne (LiesWithin low high) ps → LiesWithin low high (middle_point ps)
+MiddleAmongOthers =
+    (ps : List ℤ) (low high : ℤ) → 3 ≤ length ps → IsAscending ps → AllButOne (LiesWithin low high) ps
+    → LiesWithin low high (middle_point ps)
 
 -- the middle of any sorted points lies from the first to the last
 abbrev pub MiddleFromFirstToLast : Type 0
-MiddleFromFirstToLast = (p : ℤ) (ps : List ℤ) → IsAscending (p ∷ ps) → LiesWithin p (last_from p ps) (middle_point (p ∷ ps))
+MiddleFromFirstToLast =
+    (p : ℤ) (ps : List ℤ) → IsAscending (p ∷ ps) → LiesWithin p (last_from p ps) (middle_point (p ∷ ps))

@@ -27,17 +27,23 @@ pub record IsKept (ps : List Point) (cs : List Cluster) (b cycle : ℕ) (p : Poi
   pub same : p.cycle ≡ cycle
   pub kept : ¬ IsDropped cs p
 
--- where those that are kept lie within one observation window of each other, one cluster holds them all, wherever the points of b are
+-- where those that are kept lie within one observation window of each other, one cluster holds them all, wherever the
+-- points of b are
 abbrev pub OneCluster : Type 0
-OneCluster = (ow : ℤ) (ps : List Point) (cs : List Cluster) (b cycle : ℕ) → pos 0 ≤ℤ ow → AreInOrder ps → AreClusters ow ps cs
+OneCluster =
+    (ow : ℤ) (ps : List Point) (cs : List Cluster) (b cycle : ℕ) → pos 0 ≤ℤ ow → AreInOrder ps → AreClusters ow ps cs
     → ((p q : Point) → IsKept ps cs b cycle p → IsKept ps cs b cycle q → p.reading ≤ℤ (q.reading +ℤ ow))
-    → (p : Point) → IsKept ps cs b cycle p → (c : Cluster) × Contains cs c × ((q : Point) → IsKept ps cs b cycle q → Holds c q)
+    → (p : Point) → IsKept ps cs b cycle p → (c : Cluster) × Contains cs c
+    × ((q : Point) → IsKept ps cs b cycle q → Holds c q)
 
 -- each point lies in the time of one cluster, and of no other
 abbrev pub OneTime : Type 0
 OneTime = (ow : ℤ) (ps : List Point) (cs : List Cluster) → pos 0 ≤ℤ ow → AreInOrder ps → AreClusters ow ps cs
-    → (p : Point) → Contains ps p → (c : Cluster) × Contains cs c × LiesIn c p × ((d : Cluster) → Contains cs d → LiesIn d p → d ≡ c)
+    → (p : Point) → Contains ps p → (c : Cluster) × Contains cs c × LiesIn c p
+    × ((d : Cluster) → Contains cs d → LiesIn d p → d ≡ c)
 
 -- a list of points has one list of clusters
 abbrev pub OneListOfClusters : Type 0
-OneListOfClusters = (ow : ℤ) (ps : List Point) → (cs : List Cluster) × AreClusters ow ps cs × ((ds : List Cluster) → AreClusters ow ps ds → ds ≡ cs)
+OneListOfClusters =
+    (ow : ℤ) (ps : List Point) → (cs : List Cluster) × AreClusters ow ps cs
+    × ((ds : List Cluster) → AreClusters ow ps ds → ds ≡ cs)

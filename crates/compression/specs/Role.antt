@@ -13,7 +13,8 @@ has_point_of c master = not (bit_and c.members (2 ^ master) == 0)
 abbrev pub open_at : List Cluster → ℤ → Option Cluster
 open_at cs reading = option_and_then (λ c. if int_lt c.end reading then None else Some c) (last_or None cs)
 
--- the role of a point in the cluster that is open, if one is: one of its cycle joins where it is the first of its master
+-- the role of a point in the cluster that is open, if one is: one of its cycle joins where it is the first of its
+-- master
 abbrev pub role_in : Option Cluster → Point → Taken
 role_in None p = Opened
 role_in (Some c) p = if p.cycle == c.cycle then (if has_point_of c p.master then Repeat else Joined) else OtherCycle

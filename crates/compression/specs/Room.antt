@@ -3,7 +3,11 @@ use Rattle.std.specs.Prelude.{ℕ, ◌<◌, ℤ, List, length, All, Contains, Is
 use Rattle.compression.specs.Clusters.{Point, Cluster, AreClusters}
 use Rattle.compression.specs.Role.{has_point_of}
 
--- where all points are of these masters, a cluster without a point of one of them has fewer points than there are masters
+-- where all points are of these masters, a cluster without a point of one of them has fewer points than there are
+-- masters
 abbrev pub RoomForEachMaster : Type 0
-RoomForEachMaster = (ow : ℤ) (ps : List Point) (cs : List Cluster) (masters : List ℕ) → AreClusters ow ps cs → All (λ p. Contains masters p.master) ps
-    → (c : Cluster) → Contains cs c → (m : ℕ) → Contains masters m → IsFalse (has_point_of c m) → length c.points < length masters
+RoomForEachMaster =
+    (ow : ℤ) (ps : List Point) (cs : List Cluster) (masters : List ℕ) → AreClusters ow ps cs
+    → All (λ p. Contains masters p.master) ps
+    → (c : Cluster) → Contains cs c → (m : ℕ) → Contains masters m → IsFalse (has_point_of c m)
+    → length c.points < length masters

@@ -1,6 +1,6 @@
 -- How collections follow each other, and what is true of every collector.
-use Rattle.std.specs.Prelude.{◌≡◌, ◌^◌, ℤ, pos, ◌+ℤ◌, ◌*ℤ◌, ◌≤ℤ◌, ◌<ℤ◌, List, [], ◌∷◌, ⊤}
-use Rattle.compression.specs.Reading.{least_reading, greatest_reading}
+use Rattle.std.specs.Prelude.{◌≡◌, ◌≤◌, length, ◌^◌, ℤ, pos, ◌+ℤ◌, ◌*ℤ◌, ◌≤ℤ◌, ◌<ℤ◌, List, [], ◌∷◌, ⊤}
+use Rattle.tte_units.specs.Reading.{least_reading, greatest_reading}
 use Rattle.compression.specs.Ascent.{IsAscending, MayFollow, last_from}
 use Rattle.compression.specs.Clusters.{Cluster}
 use Rattle.compression.specs.Collecting.{Collecting}
@@ -29,3 +29,4 @@ pub record IsSound (v : Collecting) : Type 0 where
   pub small : v.ow ≤ℤ pos (2 ^ 40)
   pub low : least_reading ≤ℤ v.earliest
   pub row : IsRow v.ow v.earliest v.waiting
+  pub few : length v.waiting ≤ 5

@@ -36,7 +36,7 @@ impl Default for Collection {
 }
 
 impl Collection {
-    ghost use Rattle.compression.specs.Reading.{least_reading, greatest_reading};
+    ghost use Rattle.tte_units.specs.Reading.{least_reading, greatest_reading};
     ghost use Rattle.compression.specs.Ascent.{MayFollow};
     ghost use Rattle.compression.specs.Clusters.{point_at};
     ghost use Rattle.compression.specs.Collection.{opening, joined_end, joined, CanTake};

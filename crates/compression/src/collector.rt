@@ -1,11 +1,11 @@
 ghost use Rattle.std.specs.Int.{int_max};
-ghost use Rattle.std.specs.Prelude.{◌≡◌, ◌≢◌, ◌⊎◌, ◌<◌, ◌^◌, ◌↔◌, List, pos, ◌<ℤ◌, ◌≤ℤ◌, ◌-ℤ◌, None, [], ◌∷◌, ◌++◌, length, All, IsNone, IfSome, IsSomeAnd, IsTrue, IsFalse};
+ghost use Rattle.std.specs.Prelude.{◌≡◌, ◌≢◌, ◌⊎◌, ◌<◌, ◌≤◌, ◌^◌, ◌↔◌, List, pos, ◌<ℤ◌, ◌≤ℤ◌, ◌-ℤ◌, None, [], ◌∷◌, ◌++◌, length, All, IsNone, IfSome, IsSomeAnd, IsTrue, IsFalse};
 
 use crate::collection::Collection;
 use crate::waiting::Waiting;
 use crate::{Compressed, Taken};
 use std::marker::Model;
-use tte_units::Units;
+use tte_units::{READING_LIMIT, Units};
 
 /// Collects the permanence points of one compression master into clusters.
 ///
@@ -36,14 +36,14 @@ impl Model for Collector {
     ghost invariant = { λ c. IsSound (record { ow = c.ow.0; calc = c.calc.0; earliest = c.earliest.0; waiting = c.waiting }) };
 }
 
-const LEAST_READING: Units = Units(-(1 << 61) - (1 << 58));
+const LEAST_READING: Units = Units(-(READING_LIMIT as i64));
 
 impl Collector {
     ghost use Rattle.compression.specs.Clusters.{Point, Cluster, AreClusters, point_at};
     ghost use Rattle.compression.specs.Collecting.{fresh, with_opened, with_joined, emissions};
     ghost use Rattle.compression.specs.Least.{IsLeast};
     ghost use Rattle.compression.specs.Emission.{compressed};
-    ghost use Rattle.compression.specs.Reading.{greatest_reading};
+    ghost use Rattle.tte_units.specs.Reading.{greatest_reading};
     ghost use Rattle.compression.specs.Role.{has_point_of, open_at, role};
     ghost use Rattle.compression.specs.Stands.{StandsForPoints};
     ghost use Rattle.compression.specs.declared.compressed.Compressed.{Compressed};
@@ -71,7 +71,7 @@ impl Collector {
     ///
     /// Readings do not fall, none is less than the `at` of an earlier `emit`, and `due` is None or
     /// greater than `reading - ow`. The master is below 32. The open collection has a point of this
-    /// master or points of fewer than eight masters.
+    /// master or points of fewer than eight masters. At most five collections wait after it.
     pub fn point(&mut self, reading: Units, master: u32, cycle: u32) -> Taken
         requires order { self.old.earliest ≤ℤ reading.0 }
         requires high { reading.0 ≤ℤ greatest_reading }
@@ -98,6 +98,7 @@ impl Collector {
         ensures role { (points : List Point) (emitted : List Compressed) (clusters : List Cluster)
             → StandsForPoints self.old points emitted → AreClusters self.old.ow points clusters
             → result ≡ role clusters (point_at reading.0 master cycle) }
+        ensures few { length self.new.waiting ≤ 5 }
         ensures stands { (points : List Point) (emitted : List Compressed) → StandsForPoints self.old points emitted
             → StandsForPoints self.new (points ++ point_at reading.0 master cycle ∷ []) emitted }
     {
@@ -119,7 +120,8 @@ impl Collector {
         // Each emission reading that waits is later than the reading less the window.
         requires due { All (λ at. (reading.0 -ℤ self.old.ow) <ℤ at) (emissions self.old) }
         requires none { open_at self.old.waiting reading.0 ≡ None }
-        ensures { self.new ≡ with_opened self.old (point_at reading.0 master cycle) }
+        ensures value { self.new ≡ with_opened self.old (point_at reading.0 master cycle) }
+        ensures few { length self.new.waiting ≤ 5 }
     {
         let collection = Collection::open(self.ow, reading, master, cycle);
         self.waiting.push(collection);
@@ -143,7 +145,10 @@ impl Collector {
         ensures due { IsLeast result.at.0 (emissions self.old) }
         ensures first { (c : Cluster) × (self.old.waiting ≡ c ∷ self.new.waiting)
             × (result ≡ compressed self.old.ow self.old.calc c) }
-        ensures kept { self.new ≡ record self.old { earliest = int_max self.old.earliest result.at.0; waiting = self.new.waiting } }
+        ensures kept { self.new ≡ record self.old {
+          earliest = int_max self.old.earliest result.at.0;
+          waiting = self.new.waiting;
+        } }
         ensures stands { (points : List Point) (emitted : List Compressed) → StandsForPoints self.old points emitted
             → StandsForPoints self.new points (emitted ++ result ∷ []) }
     {

@@ -21,10 +21,15 @@ rest_within P s steps all k d lt = all (suc k) d (omega arith)
 after_first : (s : RateStep) (steps : List RateStep) → IsNonDecreasingBy (λ s. s.at) (s ∷ steps) → All (λ x. s.at ≤ x.at) steps
 after_first s steps sorted k d lt = sorted 0 (suc k) d (omega arith) (omega arith)
 
-in_order_from : (rho from : ℕ) (steps : List RateStep) → IsNonDecreasingBy (λ s. s.at) steps → All (λ s. unsigned_abs s.rate ≤ rho) steps → All (λ s. from ≤ s.at) steps → InOrder rho from steps
+in_order_from : (rho from : ℕ) (steps : List RateStep) → IsNonDecreasingBy (λ s. s.at) steps → All (λ s. unsigned_abs s.rate ≤ rho) steps
+    → All (λ s. from ≤ s.at) steps → InOrder rho from steps
 in_order_from rho from [] sorted small after = tt
-in_order_from rho from (s ∷ steps) sorted small after =
-    (after 0 s (omega arith), small 0 s (omega arith), in_order_from rho s.at steps (rest_in_order s steps sorted) (rest_within (λ x. unsigned_abs x.rate ≤ rho) s steps small) (after_first s steps sorted))
+in_order_from rho from (s ∷ steps) sorted small after = (
+  after 0 s (omega arith),
+  small 0 s (omega arith),
+  in_order_from rho s.at steps (rest_in_order s steps sorted)
+      (rest_within (λ x. unsigned_abs x.rate ≤ rho) s steps small) (after_first s steps sorted),
+)
 
 pub in_order : (rho : ℕ) (steps : List RateStep) → IsHistory rho steps → InOrder rho 0 steps
 in_order rho steps h = in_order_from rho 0 steps h.in_order h.within (λ k d lt. omega arith)

@@ -47,7 +47,8 @@ counts_up at count g m d fast ahead steps =
           omega (arith, times.1),
     )
 
-pub segment_counts_up : (c : Segment) (m d : ℕ) → 0 < gain c.rate → c.count ≤ 10 ^ 9 * m → d ≡ div_ceil (10 ^ 9 * m - c.count) (gain c.rate) → IsCounted c m (c.at + d)
+pub segment_counts_up : (c : Segment) (m d : ℕ) → 0 < gain c.rate → c.count ≤ 10 ^ 9 * m → d ≡ div_ceil (10 ^ 9 * m - c.count) (gain c.rate)
+    → IsCounted c m (c.at + d)
 segment_counts_up c m d fast ahead steps = let up = counts_up c.at c.count (gain c.rate) m d fast ahead steps in record { counted = up.0; not_before = up.1 }
 
 -- a reading below n has a count below m, the next whole grain
@@ -62,7 +63,8 @@ grows : (n g a b : ℕ) → a ≤ b → n + g * a ≤ n + g * b
 grows n g a b le = omega (arith, mul-le-mul_left g le)
 
 -- the time at which m is counted is the one at which n is read
-pub segment_reaches : (c : Segment) (s n m t : ℕ) → 1 ≤ c.grain → m % c.grain ≡ 0 → n ≤ m → m < n + c.grain → c.at ≤ s → segment_reading c s < n → IsCounted c m t → IsReachFrom (segment_reading c) s n t
+pub segment_reaches : (c : Segment) (s n m t : ℕ) → 1 ≤ c.grain → m % c.grain ≡ 0 → n ≤ m → m < n + c.grain → c.at ≤ s → segment_reading c s < n
+    → IsCounted c m t → IsReachFrom (segment_reading c) s n t
 segment_reaches c s n m t some whole enough least after short counted = record {
   from_on =
       elim (cases_lt t s) [
@@ -77,7 +79,8 @@ segment_reaches c s n m t some whole enough least after short counted = record {
 }
 
 -- the time in whole grains is at least n from the next whole grain m on
-pub steady_reaches : (grain s n m : ℕ) → 1 ≤ grain → m % grain ≡ 0 → n ≤ m → m < n + grain → grain * (s / grain) < n → IsReachFrom (λ t. grain * (t / grain)) s n m
+pub steady_reaches : (grain s n m : ℕ) → 1 ≤ grain → m % grain ≡ 0 → n ≤ m → m < n + grain → grain * (s / grain) < n
+    → IsReachFrom (λ t. grain * (t / grain)) s n m
 steady_reaches grain s n m some whole enough least short =
     let grains : grain * (m / grain) ≡ m = omega arith in
     record {

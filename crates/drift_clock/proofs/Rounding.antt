@@ -42,10 +42,12 @@ rounded-mono grain a b some le =
     let fewer : a / (grain * 10 ^ 9) ≤ b / (grain * 10 ^ 9) = le-div (a / (grain * 10 ^ 9)) b (grain * 10 ^ 9) positive (omega (arith, low)) in
     mul-le-mul_left grain fewer
 
-apart : (rho grain d a b x y : ℕ) → Advances rho d a b → 10 ^ 9 * x ≤ a → a < 10 ^ 9 * x + grain * 10 ^ 9 → 10 ^ 9 * y ≤ b → b < 10 ^ 9 * y + grain * 10 ^ 9 → x ≤ y → Measures rho grain d (y - x)
+apart : (rho grain d a b x y : ℕ) → Advances rho d a b → 10 ^ 9 * x ≤ a → a < 10 ^ 9 * x + grain * 10 ^ 9 → 10 ^ 9 * y ≤ b → b < 10 ^ 9 * y + grain * 10 ^ 9
+    → x ≤ y → Measures rho grain d (y - x)
 apart rho grain d a b x y near a_low a_high b_low b_high up = omega (arith, near.least, near.most)
 
 -- between two counts that advance rightly the reading measures the time
 pub rounded-measures : (rho grain d a b : ℕ) → 1 ≤ grain → a ≤ b → Advances rho d a b → Measures rho grain d (rounded grain b - rounded grain a)
 rounded-measures rho grain d a b some up near =
-    apart rho grain d a b (rounded grain a) (rounded grain b) near (rounded-le grain a) (lt-rounded grain a some) (rounded-le grain b) (lt-rounded grain b some) (rounded-mono grain a b some up)
+    apart rho grain d a b (rounded grain a) (rounded grain b) near (rounded-le grain a) (lt-rounded grain a some) (rounded-le grain b) (lt-rounded grain b some)
+    (rounded-mono grain a b some up)

@@ -22,7 +22,8 @@ close rho grain v l d small some far near =
     ]
 
 -- the later value is not reached too late
-late : (rho grain : ℕ) (reading : ℕ → ℕ) (from u v s t : ℕ) → KeepsClockLaws rho grain reading → IsReach reading (pos from) (pos u) (pos s) → IsReach reading (pos from) (pos (u + v)) (pos t) → s < t → 10 ^ 9 * (t - (s + v)) ≤ rho * (t - s + 1) + 2 * grain * 10 ^ 9
+late : (rho grain : ℕ) (reading : ℕ → ℕ) (from u v s t : ℕ) → KeepsClockLaws rho grain reading → IsReach reading (pos from) (pos u) (pos s)
+    → IsReach reading (pos from) (pos (u + v)) (pos t) → s < t → 10 ^ 9 * (t - (s + v)) ≤ rho * (t - s + 1) + 2 * grain * 10 ^ 9
 late rho grain reading from u v s t laws first second after =
     let short = second.not_before (t - 1) (omega (arith, ints, first.from_on)) (omega (arith, ints)) in
     let up = laws.never_falls s (t - 1) (omega arith) in
@@ -31,7 +32,8 @@ late rho grain reading from u v s t laws first second after =
     omega (arith, ints, short, up, drift, less, first.reached)
 
 -- nor too early
-early : (rho grain : ℕ) (reading : ℕ → ℕ) (from u v s t : ℕ) → KeepsClockLaws rho grain reading → reading from ≤ u → IsReach reading (pos from) (pos u) (pos s) → IsReach reading (pos from) (pos (u + v)) (pos t) → s ≤ t → 10 ^ 9 * (s + v - t) ≤ rho * (t - s + 1) + 2 * grain * 10 ^ 9
+early : (rho grain : ℕ) (reading : ℕ → ℕ) (from u v s t : ℕ) → KeepsClockLaws rho grain reading → reading from ≤ u → IsReach reading (pos from) (pos u) (pos s)
+    → IsReach reading (pos from) (pos (u + v)) (pos t) → s ≤ t → 10 ^ 9 * (s + v - t) ≤ rho * (t - s + 1) + 2 * grain * 10 ^ 9
 early rho grain reading from u v s t laws below first second after =
     elim (cases_lt from s) [
       | inl moved ↦

@@ -11,7 +11,8 @@ abbrev weight : Stretch → ℕ
 weight s = gain s.rate * s.units
 
 -- the count at t is that at the last step, and the gains over the stretches since
-counts : (c : Segment) (steps : List RateStep) (t : ℕ) → segment_count (value_after stepped_segment c steps) t ≡ c.count + sum_by weight (stretches c.at c.rate steps t)
+counts : (c : Segment) (steps : List RateStep) (t : ℕ) → segment_count (value_after stepped_segment c steps) t ≡ c.count + sum_by weight
+    (stretches c.at c.rate steps t)
 counts c [] t = omega (arith, sum_by-cons weight (record { rate = c.rate; units = t - c.at }) [])
 counts c (s ∷ steps) t =
     let rest = counts (stepped_segment c s.at s.rate) steps t in

@@ -15,12 +15,17 @@ pub record KeepsClockLaws (rho grain : ℕ) (reading : ℕ → ℕ) : Type 0 whe
 
 -- from its last step on, what the steps make of a clock reads what the clock reads under these steps
 abbrev pub ReadsItsSteps : {C : Type 0} → (ℕ → C) → (C → ℕ → ℤ → C) → (C → ℕ → ℕ) → Type 0
-ReadsItsSteps fresh after_step reading = (grain : ℕ) (steps : List RateStep) (t : ℕ) → All (λ s. s.at ≤ t) steps → reading_at after_step reading (fresh grain) steps t ≡ reading (value_after after_step (fresh grain) steps) t
+ReadsItsSteps fresh after_step reading =
+    (grain : ℕ) (steps : List RateStep) (t : ℕ) → All (λ s. s.at ≤ t) steps
+    → reading_at after_step reading (fresh grain) steps t ≡ reading (value_after after_step (fresh grain) steps) t
 
 -- a clock of any grain keeps the clock laws, whatever its steps to rates within rho
 abbrev pub AlwaysKeepsClockLaws : {C : Type 0} → (ℕ → C) → (C → ℕ → ℤ → C) → (C → ℕ → ℕ) → Type 0
-AlwaysKeepsClockLaws fresh after_step reading = (rho grain : ℕ) (steps : List RateStep) → rho ≤ 1000000 → 1 ≤ grain → IsHistory rho steps → KeepsClockLaws rho grain (reading_at after_step reading (fresh grain) steps)
+AlwaysKeepsClockLaws fresh after_step reading =
+    (rho grain : ℕ) (steps : List RateStep) → rho ≤ 1000000 → 1 ≤ grain → IsHistory rho steps
+    → KeepsClockLaws rho grain (reading_at after_step reading (fresh grain) steps)
 
 -- a clock of any grain reads 0 at time 0, whatever its steps
 abbrev pub AlwaysBeginsAtZero : {C : Type 0} → (ℕ → C) → (C → ℕ → ℤ → C) → (C → ℕ → ℕ) → Type 0
-AlwaysBeginsAtZero fresh after_step reading = (grain : ℕ) (steps : List RateStep) → reading_at after_step reading (fresh grain) steps 0 ≡ 0
+AlwaysBeginsAtZero fresh after_step reading =
+    (grain : ℕ) (steps : List RateStep) → reading_at after_step reading (fresh grain) steps 0 ≡ 0

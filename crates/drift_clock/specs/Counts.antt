@@ -32,4 +32,6 @@ pub record Advances (rho d a b : ℕ) : Type 0 where
 
 -- a clock of any grain, whatever its steps, reads its count in whole grains
 abbrev pub ReadsCount : {C : Type 0} → (ℕ → C) → (C → ℕ → ℤ → C) → (C → ℕ → ℕ) → Type 0
-ReadsCount fresh after_step reading = (grain : ℕ) (steps : List RateStep) (t : ℕ) → reading_at after_step reading (fresh grain) steps t ≡ rounded grain (count_of steps t)
+ReadsCount fresh after_step reading =
+    (grain : ℕ) (steps : List RateStep) (t : ℕ) → reading_at after_step reading (fresh grain) steps t ≡ rounded grain
+    (count_of steps t)

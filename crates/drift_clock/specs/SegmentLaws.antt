@@ -15,12 +15,14 @@ pub keeps_count : (c : Segment) (t : ℕ) (r : ℤ) → segment_count (stepped_s
 keeps_count c t r = stays (segment_count c t) (gain r) (t - t) (omega arith)
 
 -- a gain is that of no rate, but for the rate
-pub gain_near : (r : ℤ) (rho : ℕ) → unsigned_abs r ≤ rho → rho ≤ 1000000 → (10 ^ 9 ≤ gain r + rho) × (gain r ≤ 10 ^ 9 + rho)
+pub gain_near : (r : ℤ) (rho : ℕ) → unsigned_abs r ≤ rho → rho ≤ 1000000 → (10 ^ 9 ≤ gain r + rho)
+    × (gain r ≤ 10 ^ 9 + rho)
 gain_near (pos r) rho small max = (omega arith, omega arith)
 gain_near (negsuc r) rho small max = (omega (arith, ints), omega (arith, ints))
 
 -- a count at one gain
-advances_by : (n g rho d e a : ℕ) → 10 ^ 9 ≤ g + rho → g ≤ 10 ^ 9 + rho → a ≡ d + e → Advances rho e (n + g * d) (n + g * a)
+advances_by : (n g rho d e a : ℕ) → 10 ^ 9 ≤ g + rho → g ≤ 10 ^ 9 + rho → a ≡ d + e
+    → Advances rho e (n + g * d) (n + g * a)
 advances_by n g rho d e a low high same =
     let p : (10 ^ 9) * e ≤ (g + rho) * e = mul-le-mul_right e low in
     let q : g * e ≤ (10 ^ 9 + rho) * e = mul-le-mul_right e high in

@@ -9,6 +9,10 @@ use Rattle.drift_clock.specs.Reach.{IsReach}
 abbrev pub grained_slip : ℕ → ℕ → ℕ → ℕ
 grained_slip rho grain v = slip_of rho v + 4 * (grain - 1)
 
--- where readings that keep the clock laws, and are at most u at first, reach u at s and u + v at t, t is s + v up to the slip
+-- where readings that keep the clock laws, and are at most u at first, reach u at s and u + v at t, t is s + v up to
+-- the slip
 abbrev pub SlipsLittle : Type 0
-SlipsLittle = (rho grain : ℕ) (reading : ℕ → ℕ) (from u v s t : ℕ) → rho ≤ 1000000 → 1 ≤ grain → KeepsClockLaws rho grain reading → reading from ≤ u → IsReach reading (pos from) (pos u) (pos s) → IsReach reading (pos from) (pos (u + v)) (pos t) → abs_diff t (s + v) ≤ grained_slip rho grain v
+SlipsLittle =
+    (rho grain : ℕ) (reading : ℕ → ℕ) (from u v s t : ℕ) → rho ≤ 1000000 → 1 ≤ grain → KeepsClockLaws rho grain reading
+    → reading from ≤ u → IsReach reading (pos from) (pos u) (pos s) → IsReach reading (pos from) (pos (u + v)) (pos t)
+    → abs_diff t (s + v) ≤ grained_slip rho grain v

@@ -9,4 +9,6 @@ steady_reading grain t = grain * (t / grain)
 
 -- a clock of any grain, whatever its steps, reads the time
 abbrev pub ReadsTime : {C : Type 0} → (ℕ → C) → (C → ℕ → ℤ → C) → (C → ℕ → ℕ) → Type 0
-ReadsTime fresh after_step reading = (grain : ℕ) (steps : List RateStep) (t : ℕ) → reading_at after_step reading (fresh grain) steps t ≡ steady_reading grain t
+ReadsTime fresh after_step reading =
+    (grain : ℕ) (steps : List RateStep) (t : ℕ) → reading_at after_step reading (fresh grain) steps t ≡ steady_reading
+    grain t

@@ -38,7 +38,8 @@ order_kept events event in_order begun =
     not_before a b h = grind (arith, ints, h)
 
 -- while no event ended the run, the world has not ended
-pub not_ended : {C : Type 0} (fresh : ℕ → C) (after_step : C → ℕ → ℤ → C) (reading : C → ℕ → ℕ) (network : Network) (world : Progress C) (events : List Event) (notes : List Note) → IsOpen events → Stands fresh after_step reading network world events notes → world.ended ≡ false
+pub not_ended : {C : Type 0} (fresh : ℕ → C) (after_step : C → ℕ → ℤ → C) (reading : C → ℕ → ℕ) (network : Network) (world : Progress C) (events : List Event)
+    (notes : List Note) → IsOpen events → Stands fresh after_step reading network world events notes → world.ended ≡ false
 not_ended fresh after_step reading network world events notes open_yet s =
     elim (cases_Bool world.ended) [
       | inl over ↦ absurd (open_yet world.now ((s.ended world.now).1 (over, refl)))

@@ -22,12 +22,15 @@ use Rattle.tte_units.specs.declared.units.Units.{Units}
 
 -- ---- one event more
 
-step_last : {C : Type 0} (after_step : C → ℕ → ℤ → C) (clock : C) (o : Option RateStep) → value_after after_step clock (cons_option o []) ≡ option_map_or (λ s. after_step clock s.at s.rate) o clock
+step_last : {C : Type 0} (after_step : C → ℕ → ℤ → C) (clock : C) (o : Option RateStep) → value_after after_step clock (cons_option o []) ≡ option_map_or
+    (λ s. after_step clock s.at s.rate) o clock
 step_last after_step clock None = refl
 step_last after_step clock (Some s) = refl
 
 -- the clock after one event more
-pub clock_more : {C : Type 0} (after_step : C → ℕ → ℤ → C) (clock : C) (events : List Event) (e : Event) (device : DeviceId) → value_after after_step clock (rate_steps (events ++ e ∷ []) device) ≡ clock_after after_step device e.time e.what (value_after after_step clock (rate_steps events device))
+pub clock_more : {C : Type 0} (after_step : C → ℕ → ℤ → C) (clock : C) (events : List Event) (e : Event) (device : DeviceId)
+    → value_after after_step clock (rate_steps (events ++ e ∷ []) device) ≡ clock_after after_step device e.time e.what
+    (value_after after_step clock (rate_steps events device))
 clock_more {C} after_step clock events e device =
     let step : Event → Option RateStep = λ f. step_by device (amount f.time) f.what in
     ap (value_after after_step clock) (filter_map-append step events (e ∷ []))
@@ -47,7 +50,8 @@ step_at device time (Break other) s e = absurd cc
 step_at device time (Send link octets) s e = absurd cc
 step_at device time End s e = absurd cc
 
-with_step : (P : RateStep → Type 0) (o : Option RateStep) (steps : List RateStep) → ((s : RateStep) → o ≡ Some s → P s) → All P steps → All P (cons_option o steps)
+with_step : (P : RateStep → Type 0) (o : Option RateStep) (steps : List RateStep) → ((s : RateStep) → o ≡ Some s → P s) → All P steps
+    → All P (cons_option o steps)
 with_step P None steps own rest = rest
 with_step P (Some s) steps own rest = All-cons P s steps (own s refl) rest
 
@@ -61,7 +65,10 @@ steps_past now device (e ∷ events) past =
     (λ s same. omega (arith, step_at device (amount e.time) e.what s same)) rest
 
 -- from the last event on a device's clock reads what all its steps make of it
-pub reads_all : {C : Type 0} (after_step : C → ℕ → ℤ → C) (reading : C → ℕ → ℕ) (clock : C) (now : Units) (device : DeviceId) (events : List Event) → ArePast events now
-    → reading_at after_step reading clock (rate_steps events device) (amount now) ≡ reading (value_after after_step clock (rate_steps events device)) (amount now)
+pub reads_all : {C : Type 0} (after_step : C → ℕ → ℤ → C) (reading : C → ℕ → ℕ) (clock : C) (now : Units) (device : DeviceId) (events : List Event)
+    → ArePast events now
+    → reading_at after_step reading clock (rate_steps events device) (amount now) ≡ reading (value_after after_step clock (rate_steps events device))
+    (amount now)
 reads_all after_step reading clock now device events past =
-    ap (λ (steps : List RateStep). reading (value_after after_step clock steps) (amount now)) (up_to-all (amount now) (rate_steps events device) (steps_past now device events past))
+    ap (λ (steps : List RateStep). reading (value_after after_step clock steps) (amount now))
+    (up_to-all (amount now) (rate_steps events device) (steps_past now device events past))

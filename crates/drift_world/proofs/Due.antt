@@ -58,7 +58,8 @@ abbrev pub next_event : List Event → Units → List ℕ
 next_event events now = amount now ∷ 1 ∷ (length events + 1) ∷ []
 
 -- the records of events are before that of the next
-pub event_before : (events : List Event) (now time : Units) (line : ℕ) (what : What) → ArePast events now → IsEventRecord events time line what → IsBefore (amount time ∷ 1 ∷ line ∷ []) (next_event events now)
+pub event_before : (events : List Event) (now time : Units) (line : ℕ) (what : What) → ArePast events now → IsEventRecord events time line what
+    → IsBefore (amount time ∷ 1 ∷ line ∷ []) (next_event events now)
 event_before events now time line what past r =
     let own = all_at (λ e. IsWithin 0 (amount now) e.time) events r.before r.event past r.is in
     let small : amount r.event.time ≤ amount now = amount_within (amount now) r.event.time own.least own.most in
@@ -67,7 +68,8 @@ event_before events now time line what past r =
     by_time (amount time) (amount now) (1 ∷ line ∷ []) (1 ∷ (length events + 1) ∷ []) le (inr (refl, inl (omega (arith, r.line_is))))
 
 -- while the run is open, all that is due is before the record of the next event
-pub open_before : (network : Network) (reading : DeviceId → ℕ → ℕ) (events : List Event) (now time : Units) (body : NoteBody) → IsOpen events → ArePast events now → IsSilentlyCaused network reading events time body → IsBefore (amount time ∷ rank body ∷ key 0 body) (next_event events now)
+pub open_before : (network : Network) (reading : DeviceId → ℕ → ℕ) (events : List Event) (now time : Units) (body : NoteBody) → IsOpen events
+    → ArePast events now → IsSilentlyCaused network reading events time body → IsBefore (amount time ∷ rank body ∷ key 0 body) (next_event events now)
 open_before network reading events now time (Befalls line what) open_yet past cause = event_before events now time line what past cause
 open_before network reading events now time (Clock device shown adjustment state) open_yet past cause = absurd (open_yet time cause.ends)
 open_before network reading events now time other open_yet past cause = absurd cause
@@ -78,27 +80,43 @@ pub record IsClockPlace (network : Network) (now time : Units) (body : NoteBody)
   pub place : amount time ∷ rank body ∷ key 0 body ≡ amount now ∷ 14 ∷ device ∷ []
   pub there : device < length network.device
 
-pub ended_cases : (network : Network) (reading : DeviceId → ℕ → ℕ) (events : List Event) (now time : Units) (body : NoteBody) → ((t : Units) → EndsAt events t → t ≡ now) → ArePast events now → IsSilentlyCaused network reading events time body → IsBefore (amount time ∷ rank body ∷ key 0 body) (next_event events now) ⊎ IsClockPlace network now time body
+pub ended_cases : (network : Network) (reading : DeviceId → ℕ → ℕ) (events : List Event) (now time : Units) (body : NoteBody)
+    → ((t : Units) → EndsAt events t → t ≡ now) → ArePast events now → IsSilentlyCaused network reading events time body
+    → IsBefore (amount time ∷ rank body ∷ key 0 body) (next_event events now) ⊎ IsClockPlace network now time body
 ended_cases network reading events now time (Befalls line what) one past cause = inl (event_before events now time line what past cause)
 ended_cases network reading events now time (Clock device shown adjustment state) one past cause =
-    inr (record { device = device.0; place = ap (λ (t : Units). amount t ∷ 14 ∷ device.0 ∷ []) (one time cause.ends); there = slice_get_within network.device device.0 cause.is cause.there })
+    inr (record {
+      device = device.0;
+      place = ap (λ (t : Units). amount t ∷ 14 ∷ device.0 ∷ []) (one time cause.ends);
+      there = slice_get_within network.device
+          device.0 cause.is cause.there;
+    })
 ended_cases network reading events now time other one past cause = absurd cause
 
 -- ---- one event more
 
 -- an event's record is one under one event more
-more_caused : (network : Network) (reading later : DeviceId → ℕ → ℕ) (events : List Event) (e : Event) (time : Units) (body : NoteBody) → IsOpen events → IsSilentlyCaused network reading events time body → IsSilentlyCaused network later (events ++ e ∷ []) time body
+more_caused : (network : Network) (reading later : DeviceId → ℕ → ℕ) (events : List Event) (e : Event) (time : Units) (body : NoteBody) → IsOpen events
+    → IsSilentlyCaused network reading events time body → IsSilentlyCaused network later (events ++ e ∷ []) time body
 more_caused network reading later events e time (Befalls line what) open_yet r =
     record { event = r.event; before = r.before; line_is = r.line_is; is = get_old events r.before r.event e r.is; at = r.at; same = r.same }
 more_caused network reading later events e time (Clock device shown adjustment state) open_yet r = absurd (open_yet time r.ends)
 more_caused network reading later events e time other open_yet r = absurd r
 
-pub more_due : (network : Network) (reading later : DeviceId → ℕ → ℕ) (events : List Event) (e : Event) (ps : List Note) (y : Note) → IsOpen events → IsSilentlyDue network reading events ps y → IsSilentlyDue network later (events ++ e ∷ []) ps y
-more_due network reading later events e ps y open_yet d = record { number = d.number; begun = d.begun; cause = more_caused network reading later events e y.time y.body open_yet d.cause }
+pub more_due : (network : Network) (reading later : DeviceId → ℕ → ℕ) (events : List Event) (e : Event) (ps : List Note) (y : Note) → IsOpen events
+    → IsSilentlyDue network reading events ps y → IsSilentlyDue network later (events ++ e ∷ []) ps y
+more_due network reading later events e ps y open_yet d = record {
+  number = d.number;
+  begun = d.begun;
+  cause = more_caused network reading later events e y.time
+      y.body open_yet d.cause;
+}
 
 -- what is due under one event more was due, or is the record of that event, or of a clock at its time
-pub less_caused : (network : Network) (reading later : DeviceId → ℕ → ℕ) (events : List Event) (e : Event) (time : Units) (body : NoteBody) → IsOpen events → IsSilentlyCaused network later (events ++ e ∷ []) time body
-    → IsSilentlyCaused network reading events time body ⊎ ((amount time ∷ rank body ∷ key 0 body ≡ next_event events e.time) ⊎ ((amount time ≡ amount e.time) × (rank body ≡ 14)))
+pub less_caused : (network : Network) (reading later : DeviceId → ℕ → ℕ) (events : List Event) (e : Event) (time : Units) (body : NoteBody) → IsOpen events
+    → IsSilentlyCaused network later (events ++ e ∷ []) time body
+    → IsSilentlyCaused network reading events time body
+    ⊎ ((amount time ∷ rank body ∷ key 0 body ≡ next_event events e.time) ⊎ ((amount time ≡ amount e.time) × (rank body ≡ 14)))
 less_caused network reading later events e time (Befalls line what) open_yet r =
     elim (get_cases events r.before r.event e r.is) [
       | inl old ↦ inl (record { event = r.event; before = r.before; line_is = r.line_is; is = old; at = r.at; same = r.same })

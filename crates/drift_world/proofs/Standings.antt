@@ -32,7 +32,7 @@ use Rattle.run_law.specs.declared.note.Note.{Note}
 use Rattle.run_law.specs.declared.note.NoteBody.{NoteBody}
 use Rattle.run_law.specs.declared.note.NoteBody.TheVariants.{Event as Befalls, Clock}
 use Rattle.run_law.proofs.runs.Grow.{empty_run}
-use Rattle.trace_text.specs.Ranges.{IsOfNetwork}
+use Rattle.net_plan.specs.Belonging.{IsOfNetwork}
 use Rattle.tte_units.specs.Amount.{amount, units_of}
 use Rattle.tte_units.specs.declared.rates.Ppb.{Ppb}
 use Rattle.tte_units.specs.declared.units.Units.{Units}
@@ -47,7 +47,8 @@ pub record IsEndTest (what : What) (ended : Bool) : Type 0 where
   pub ends : ended ≡ true → what ≡ End
   pub is_end : what ≡ End → ended ≡ true
 
-ends_now : (events : List Event) (e : Event) (ended : Bool) → IsOpen events → IsEndTest e.what ended → (time : Units) → EndsAt (events ++ e ∷ []) time ↔ ((ended ≡ true) × (time ≡ e.time))
+ends_now : (events : List Event) (e : Event) (ended : Bool) → IsOpen events → IsEndTest e.what ended → (time : Units)
+    → EndsAt (events ++ e ∷ []) time ↔ ((ended ≡ true) × (time ≡ e.time))
 ends_now events e ended open_yet test time =
     let end : Event = record { time = time; what = End } in (
       λ there.
@@ -69,14 +70,18 @@ past_more events now e begun order past =
     let own_begun : pos 0 ≤ℤ e.time.0 = omega (arith, ints, begun, order) in
     let is = amount_is e.time own_begun in
     All-push (λ f. IsWithin 0 (amount e.time) f.time) events e
-    (All-weaker (λ f. IsWithin 0 (amount now) f.time) (λ f. IsWithin 0 (amount e.time) f.time) (λ f r. record { least = r.least; most = omega (arith, ints, r.most, le) }) events past)
+    (All-weaker (λ f. IsWithin 0 (amount now) f.time) (λ f. IsWithin 0 (amount e.time) f.time)
+    (λ f r. record { least = r.least; most = omega (arith, ints, r.most, le) }) events past)
     (record { least = own_begun; most = omega (arith, ints, is) })
 
-open_events : {C : Type 0} (fresh : ℕ → C) (after_step : C → ℕ → ℤ → C) (reading : C → ℕ → ℕ) (network : Network) (w : Progress C) (events : List Event) (notes : List Note) → Stands fresh after_step reading network w events notes → w.ended ≡ false → IsOpen events
-open_events fresh after_step reading network w events notes s closed time there = let t : w.ended ≡ true = ((s.ended time).0 there).0 in let no : true ≡ false = sym t ∙ closed in cc
+open_events : {C : Type 0} (fresh : ℕ → C) (after_step : C → ℕ → ℤ → C) (reading : C → ℕ → ℕ) (network : Network) (w : Progress C) (events : List Event)
+    (notes : List Note) → Stands fresh after_step reading network w events notes → w.ended ≡ false → IsOpen events
+open_events fresh after_step reading network w events notes s closed time there =
+    let t : w.ended ≡ true = ((s.ended time).0 there).0 in let no : true ≡ false = sym t ∙ closed in cc
 
 -- the event's record ends the run up to behind the events
-pub applied_run : {C : Type 0} (fresh : ℕ → C) (after_step : C → ℕ → ℤ → C) (reading : C → ℕ → ℕ) (network : Network) (w : Progress C) (events : List Event) (notes : List Note) (e : Event) (line : ℕ) (x : Note)
+pub applied_run : {C : Type 0} (fresh : ℕ → C) (after_step : C → ℕ → ℤ → C) (reading : C → ℕ → ℕ) (network : Network) (w : Progress C) (events : List Event)
+    (notes : List Note) (e : Event) (line : ℕ) (x : Note)
     → x ≡ event_note (w.given + 1) line e → line ≡ w.lines + 1 → w.ended ≡ false → pos 0 ≤ℤ w.now.0 → w.now.0 ≤ℤ e.time.0
     → Stands fresh after_step reading network w events notes
     → IsSilentRunOf network (reading_of fresh after_step reading network (events ++ e ∷ [])) (events ++ e ∷ []) (behind_events e.time) (notes ++ x ∷ [])
@@ -85,19 +90,26 @@ applied_run fresh after_step reading network w events notes e line x is next_lin
     let own_begun : pos 0 ≤ℤ e.time.0 = omega (arith, ints, begun, order) in
     let old : DeviceId → ℕ → ℕ = reading_of fresh after_step reading network events in
     let now : DeviceId → ℕ → ℕ = reading_of fresh after_step reading network later in
-    let was : IsSilentRunOf network old events (mark_of (record w { shown = 0 })) notes = subst (λ (n : ℕ). IsSilentRunOf network old events (mark_of (record w { shown = n })) notes) (s.none_shown closed) s.run in
-    let run = event_run network old now events w.now e notes (open_events fresh after_step reading network w events notes s closed) s.in_order begun order own_begun was in
+    let was : IsSilentRunOf network old events (mark_of (record w { shown = 0 })) notes = subst
+    (λ (n : ℕ). IsSilentRunOf network old events (mark_of (record w { shown = n })) notes) (s.none_shown closed) s.run in
+    let run = event_run network old now events w.now e notes (open_events fresh after_step reading network w events notes s closed) s.in_order begun order
+    own_begun was in
     let number : length notes + 1 ≡ w.given + 1 = omega (arith, s.given) in
     let line_is : length events + 1 ≡ line = omega (arith, next_line, s.lines) in
-    let same : event_note (length notes + 1) (length events + 1) e ≡ x = ap (λ (n : ℕ). event_note n (length events + 1) e) number ∙ ap (λ (l : ℕ). event_note (w.given + 1) l e) line_is ∙ sym is in
+    let same : event_note (length notes + 1) (length events + 1) e ≡ x = ap (λ (n : ℕ). event_note n (length events + 1) e) number
+    ∙ ap (λ (l : ℕ). event_note (w.given + 1) l e) line_is ∙ sym is in
     subst (λ (y : Note). IsSilentRunOf network now later (behind_events e.time) (notes ++ y ∷ [])) same run
 
 -- an event befalls a world that stands so
-pub applied : {C : Type 0} (fresh : ℕ → C) (after_step : C → ℕ → ℤ → C) (reading : C → ℕ → ℕ) (network : Network) (w : Progress C) (events : List Event) (notes : List Note) (e : Event) (clocks : List C) (line : ℕ) (ended : Bool) (x : Note)
+pub applied : {C : Type 0} (fresh : ℕ → C) (after_step : C → ℕ → ℤ → C) (reading : C → ℕ → ℕ) (network : Network) (w : Progress C) (events : List Event)
+    (notes : List Note) (e : Event) (clocks : List C) (line : ℕ) (ended : Bool) (x : Note)
     → x ≡ event_note (w.given + 1) line e → line ≡ w.lines + 1 → w.ended ≡ false → pos 0 ≤ℤ w.now.0 → w.now.0 ≤ℤ e.time.0 → IsEndTest e.what ended
-    → ((device : DeviceId) (clock : C) → slice_get w.clocks device.0 ≡ Some clock → slice_get clocks device.0 ≡ Some (clock_after after_step device e.time e.what clock))
+    → ((device : DeviceId) (clock : C) → slice_get w.clocks device.0 ≡ Some clock
+    → slice_get clocks device.0 ≡ Some (clock_after after_step device e.time e.what clock))
     → Stands fresh after_step reading network w events notes
-    → Stands fresh after_step reading network (record { network = w.network; clocks = clocks; lines = line; given = w.given + 1; now = e.time; ended = ended; shown = w.shown }) (events ++ e ∷ []) (notes ++ x ∷ [])
+    → Stands fresh after_step reading network
+    (record { network = w.network; clocks = clocks; lines = line; given = w.given + 1; now = e.time; ended = ended; shown = w.shown }) (events ++ e ∷ [])
+    (notes ++ x ∷ [])
 applied {C} fresh after_step reading network w events notes e clocks line ended x is next_line closed begun order test each s =
     let later : List Event = events ++ e ∷ [] in
     let none : w.shown ≡ 0 = s.none_shown closed in
@@ -120,12 +132,15 @@ applied {C} fresh after_step reading network w events notes e clocks line ended 
 
 -- ---- a clock's record
 
-one_end : {C : Type 0} (fresh : ℕ → C) (after_step : C → ℕ → ℤ → C) (reading : C → ℕ → ℕ) (network : Network) (w : Progress C) (events : List Event) (notes : List Note) → Stands fresh after_step reading network w events notes → (t : Units) → EndsAt events t → t ≡ w.now
+one_end : {C : Type 0} (fresh : ℕ → C) (after_step : C → ℕ → ℤ → C) (reading : C → ℕ → ℕ) (network : Network) (w : Progress C) (events : List Event)
+    (notes : List Note) → Stands fresh after_step reading network w events notes → (t : Units) → EndsAt events t → t ≡ w.now
 one_end fresh after_step reading network w events notes s t there = ((s.ended t).0 there).1
 
 -- the next clock has its record
-pub clock_shown : {C : Type 0} (fresh : ℕ → C) (after_step : C → ℕ → ℤ → C) (reading : C → ℕ → ℕ) (network : Network) (w : Progress C) (events : List Event) (notes : List Note) (device : DeviceId) (is : Device) (clock : C) (x : Note)
-    → w.ended ≡ true → pos 0 ≤ℤ w.now.0 → device.0 ≡ w.shown → device_at network device ≡ Some is → slice_get w.clocks device.0 ≡ Some clock → device.0 < length network.device → x ≡ record { number = w.given + 1; time = w.now; body = clock_body reading device is clock w.now }
+pub clock_shown : {C : Type 0} (fresh : ℕ → C) (after_step : C → ℕ → ℤ → C) (reading : C → ℕ → ℕ) (network : Network) (w : Progress C) (events : List Event)
+    (notes : List Note) (device : DeviceId) (is : Device) (clock : C) (x : Note)
+    → w.ended ≡ true → pos 0 ≤ℤ w.now.0 → device.0 ≡ w.shown → device_at network device ≡ Some is → slice_get w.clocks device.0 ≡ Some clock
+    → device.0 < length network.device → x ≡ record { number = w.given + 1; time = w.now; body = clock_body reading device is clock w.now }
     → Stands fresh after_step reading network w events notes
     → Stands fresh after_step reading network (record w { given = w.given + 1; shown = w.shown + 1 }) events (notes ++ x ∷ [])
 clock_shown {C} fresh after_step reading network w events notes device is clock y over begun place there got few same s =
@@ -140,8 +155,10 @@ clock_shown {C} fresh after_step reading network w events notes device is clock 
       begun = begun;
       cause = record { is = is; there = there; ends = (s.ended w.now).1 (over, refl); reads = ap units_of shown; adjusted = refl; synchronised = refl };
     } in
-    let run = clock_run network reads events w.now w.shown notes x (one_end fresh after_step reading network w events notes s) s.in_order (ap (λ (d : ℕ). amount w.now ∷ 14 ∷ d ∷ []) place) due s.run in
-    subst (λ (m : Note). Stands fresh after_step reading network (record w { given = w.given + 1; shown = w.shown + 1 }) events (notes ++ m ∷ [])) (sym same) (record {
+    let run = clock_run network reads events w.now w.shown notes x (one_end fresh after_step reading network w events notes s) s.in_order
+    (ap (λ (d : ℕ). amount w.now ∷ 14 ∷ d ∷ []) place) due s.run in
+    subst (λ (m : Note). Stands fresh after_step reading network (record w { given = w.given + 1; shown = w.shown + 1 }) events (notes ++ m ∷ [])) (sym same)
+    (record {
       same = s.same;
       run = run;
       lines = s.lines;
@@ -155,17 +172,24 @@ clock_shown {C} fresh after_step reading network w events notes device is clock 
 
 -- ---- nothing is due
 
-pub none_open : {C : Type 0} (fresh : ℕ → C) (after_step : C → ℕ → ℤ → C) (reading : C → ℕ → ℕ) (network : Network) (w : Progress C) (events : List Event) (notes : List Note) (until : Units) → w.ended ≡ false → pos 0 ≤ℤ w.now.0 → w.now.0 <ℤ until.0
-    → Stands fresh after_step reading network w events notes → IsSilentRunOf network (reading_of fresh after_step reading network events) events (amount until ∷ []) notes
+pub none_open : {C : Type 0} (fresh : ℕ → C) (after_step : C → ℕ → ℤ → C) (reading : C → ℕ → ℕ) (network : Network) (w : Progress C) (events : List Event)
+    (notes : List Note) (until : Units) → w.ended ≡ false → pos 0 ≤ℤ w.now.0 → w.now.0 <ℤ until.0
+    → Stands fresh after_step reading network w events notes → IsSilentRunOf network (reading_of fresh after_step reading network events) events
+    (amount until ∷ []) notes
 none_open fresh after_step reading network w events notes until closed begun lt s =
     let reads : DeviceId → ℕ → ℕ = reading_of fresh after_step reading network events in
-    let was : IsSilentRunOf network reads events (mark_of (record w { shown = 0 })) notes = subst (λ (n : ℕ). IsSilentRunOf network reads events (mark_of (record w { shown = n })) notes) (s.none_shown closed) s.run in
-    none_while_open network reads events w.now (amount until) notes (open_events fresh after_step reading network w events notes s closed) s.in_order (later_amount w.now until begun lt) was
+    let was : IsSilentRunOf network reads events (mark_of (record w { shown = 0 })) notes = subst
+    (λ (n : ℕ). IsSilentRunOf network reads events (mark_of (record w { shown = n })) notes) (s.none_shown closed) s.run in
+    none_while_open network reads events w.now (amount until) notes (open_events fresh after_step reading network w events notes s closed) s.in_order
+    (later_amount w.now until begun lt) was
 
-pub none_over : {C : Type 0} (fresh : ℕ → C) (after_step : C → ℕ → ℤ → C) (reading : C → ℕ → ℕ) (network : Network) (w : Progress C) (events : List Event) (notes : List Note) (until : Units) → length network.device ≤ w.shown → pos 0 ≤ℤ w.now.0 → w.now.0 <ℤ until.0
-    → Stands fresh after_step reading network w events notes → IsSilentRunOf network (reading_of fresh after_step reading network events) events (amount until ∷ []) notes
+pub none_over : {C : Type 0} (fresh : ℕ → C) (after_step : C → ℕ → ℤ → C) (reading : C → ℕ → ℕ) (network : Network) (w : Progress C) (events : List Event)
+    (notes : List Note) (until : Units) → length network.device ≤ w.shown → pos 0 ≤ℤ w.now.0 → w.now.0 <ℤ until.0
+    → Stands fresh after_step reading network w events notes → IsSilentRunOf network (reading_of fresh after_step reading network events) events
+    (amount until ∷ []) notes
 none_over fresh after_step reading network w events notes until all begun lt s =
-    none_at_end network (reading_of fresh after_step reading network events) events w.now w.shown (amount until) notes (one_end fresh after_step reading network w events notes s) s.in_order all (later_amount w.now until begun lt) s.run
+    none_at_end network (reading_of fresh after_step reading network events) events w.now w.shown (amount until) notes
+    (one_end fresh after_step reading network w events notes s) s.in_order all (later_amount w.now until begun lt) s.run
 
 -- ---- the beginning
 
@@ -178,8 +202,10 @@ none_caused network reading time (Clock device shown adjustment state) r = let t
 none_caused network reading time other r = absurd r
 
 -- a world begins so
-pub begun : {C : Type 0} (fresh : ℕ → C) (after_step : C → ℕ → ℤ → C) (reading : C → ℕ → ℕ) (network : Network) (clocks : List C) → clocks ≡ replicate (length network.device) (fresh (amount network.grain))
-    → Stands fresh after_step reading network (record { network = network; clocks = clocks; lines = 0; given = 0; now = units_of 0; ended = false; shown = 0 }) [] []
+pub begun : {C : Type 0} (fresh : ℕ → C) (after_step : C → ℕ → ℤ → C) (reading : C → ℕ → ℕ) (network : Network) (clocks : List C)
+    → clocks ≡ replicate (length network.device) (fresh (amount network.grain))
+    → Stands fresh after_step reading network (record { network = network; clocks = clocks; lines = 0; given = 0; now = units_of 0; ended = false; shown = 0 })
+    [] []
 begun {C} fresh after_step reading network clocks all =
     let reads : DeviceId → ℕ → ℕ = reading_of fresh after_step reading network [] in
     let w : Progress C = record { network = network; clocks = clocks; lines = 0; given = 0; now = units_of 0; ended = false; shown = 0 } in
@@ -192,17 +218,20 @@ begun {C} fresh after_step reading network clocks all =
       in_order = All-nil (λ e. IsWithin 0 0 e.time);
       ended = λ time. (λ there. absurd (omega (arith, there.1)), λ h. let no : false ≡ true = h.0 in absurd cc);
       none_shown = λ still. refl;
-      clocks = λ device there. ap (λ (cs : List C). slice_get cs device.0) all ∙ replicated (length network.device) device.0 (fresh (amount network.grain)) there;
+      clocks =
+          λ device there. ap (λ (cs : List C). slice_get cs device.0) all ∙ replicated (length network.device) device.0 (fresh (amount network.grain)) there;
     }
 
 -- ---- what the code asks
 
 -- the device whose rate is set is one of the network's
-pub has_clock : (network : Network) (what : What) (device : DeviceId) (rate : Ppb) → IsOfNetwork network what → what ≡ Rate device rate → device.0 < length network.device
+pub has_clock : (network : Network) (what : What) (device : DeviceId) (rate : Ppb) → IsOfNetwork network what → what ≡ Rate device rate
+    → device.0 < length network.device
 has_clock network what device rate own same = subst (IsOfNetwork network) same own
 
 -- a rate is slow enough for a clock
-pub is_slow : (network : Network) (event : Event) (device : DeviceId) (rate : Ppb) → network.rho ≤ 1000000 → (SetsFastRate network event → ⊥) → event.what ≡ Rate device rate → unsigned_abs rate.0 ≤ 1000000
+pub is_slow : (network : Network) (event : Event) (device : DeviceId) (rate : Ppb) → network.rho ≤ 1000000 → (SetsFastRate network event → ⊥)
+    → event.what ≡ Rate device rate → unsigned_abs rate.0 ≤ 1000000
 is_slow network event device rate rho slow same =
     elim (cases_lt network.rho (unsigned_abs rate.0)) [
       | inl fast ↦ absurd (slow (record { device = device; rate = rate; what = same; fast = fast }))

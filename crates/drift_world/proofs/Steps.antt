@@ -24,7 +24,8 @@ use Rattle.tte_units.specs.declared.units.Units.{Units}
 -- ---- an event
 
 -- the record of the next event is no earlier if this comes later
-not_later : (events : List Event) (now later : Units) (p : List ℕ) → amount now ≤ amount later → IsBefore p (next_event events now) → IsBefore p (next_event events later)
+not_later : (events : List Event) (now later : Units) (p : List ℕ) → amount now ≤ amount later → IsBefore p (next_event events now)
+    → IsBefore p (next_event events later)
 not_later events now later p le b =
     elim (cases_lt (amount now) (amount later)) [
       | inl lt ↦ chain p (next_event events now) (next_event events later) b (inl lt)
@@ -48,8 +49,10 @@ pub before_behind_events : (events : List Event) (now : Units) (p : List ℕ) �
 before_behind_events events now p b = chain p (next_event events now) (behind_events now) b (inr (refl, inl (omega arith)))
 
 -- the event's record is the next of the run
-pub event_run : (network : Network) (reading later : DeviceId → ℕ → ℕ) (events : List Event) (now : Units) (e : Event) (notes : List Note) → IsOpen events → ArePast events now → pos 0 ≤ℤ now.0 → now.0 ≤ℤ e.time.0 → pos 0 ≤ℤ e.time.0
-    → IsSilentRunOf network reading events (behind_events now) notes → IsSilentRunOf network later (events ++ e ∷ []) (behind_events e.time) (notes ++ event_note (length notes + 1) (length events + 1) e ∷ [])
+pub event_run : (network : Network) (reading later : DeviceId → ℕ → ℕ) (events : List Event) (now : Units) (e : Event) (notes : List Note) → IsOpen events
+    → ArePast events now → pos 0 ≤ℤ now.0 → now.0 ≤ℤ e.time.0 → pos 0 ≤ℤ e.time.0
+    → IsSilentRunOf network reading events (behind_events now) notes → IsSilentRunOf network later (events ++ e ∷ []) (behind_events e.time)
+    (notes ++ event_note (length notes + 1) (length events + 1) e ∷ [])
 event_run network reading later events now e notes open_yet past begun order own_begun run =
     let x : Note = event_note (length notes + 1) (length events + 1) e in
     let spot : List ℕ = next_event events now in
@@ -57,7 +60,8 @@ event_run network reading later events now e notes open_yet past begun order own
     let WasDue : List Note → Note → Type 0 = IsSilentlyDue network reading events in
     let NowDue : List Note → Note → Type 0 = IsSilentlyDue network later (events ++ e ∷ []) in
     let le : amount now ≤ amount e.time = amounts now e.time begun order in
-    let old : (ps : List Note) (y : Note) → WasDue ps y → IsBefore (silent_place y) spot = λ ps y d. open_before network reading events now y.time y.body open_yet past d.cause in
+    let old : (ps : List Note) (y : Note) → WasDue ps y → IsBefore (silent_place y) spot = λ ps y d. open_before network reading events now y.time y.body
+    open_yet past d.cause in
     let up : (p : List ℕ) → IsBefore p spot → IsBefore p here = λ p b. not_later events now e.time p le b in
     let at_spot : IsRun silent_place WasDue spot notes =
     move_mark silent_place WasDue (behind_events now) spot notes run
@@ -92,7 +96,8 @@ event_run network reading later events now e notes open_yet past begun order own
     (record {
       gap = λ ps qs y split b n d lt.
           elim (less_caused network reading later events e y.time y.body open_yet d.cause) [
-            | inl was ↦ chain (silent_place y) here (behind here) (up (silent_place y) (old ps y (record { number = d.number; begun = d.begun; cause = was }))) (before_behind here)
+            | inl was ↦ chain (silent_place y) here (behind here) (up (silent_place y) (old ps y (record { number = d.number; begun = d.begun; cause = was })))
+                (before_behind here)
             | inr (inl same) ↦ subst (λ (p : List ℕ). IsBefore p (behind here)) (sym same) (before_behind here)
             | inr (inr clock) ↦ absurd (no_clock_behind (amount y.time) (amount e.time) y.body clock.0 clock.1 lt)
           ];
@@ -141,7 +146,8 @@ clock_before t d n (inr (e, inr (f, inl lt))) = lt
 clock_before t d n (inr (e, inr (f, inr (g, b)))) = absurd b
 
 -- the clock's record is the next of the run
-pub clock_run : (network : Network) (reading : DeviceId → ℕ → ℕ) (events : List Event) (now : Units) (shown : ℕ) (notes : List Note) (x : Note) → ((t : Units) → EndsAt events t → t ≡ now) → ArePast events now
+pub clock_run : (network : Network) (reading : DeviceId → ℕ → ℕ) (events : List Event) (now : Units) (shown : ℕ) (notes : List Note) (x : Note)
+    → ((t : Units) → EndsAt events t → t ≡ now) → ArePast events now
     → silent_place x ≡ clock_spot now shown → IsSilentlyDue network reading events notes x
     → IsSilentRunOf network reading events (mark_at now shown) notes → IsSilentRunOf network reading events (mark_at now (shown + 1)) (notes ++ x ∷ [])
 clock_run network reading events now shown notes x one past spot due run =
@@ -150,8 +156,10 @@ clock_run network reading events now shown notes x one past spot due run =
     let Due : List Note → Note → Type 0 = IsSilentlyDue network reading events in
     let facts : IsMark now shown mark = marks now shown in
     let later : IsMark now (shown + 1) (mark_at now (shown + 1)) = marks now (shown + 1) in
-    let old : (y : Note) → IsBefore (silent_place y) (next_event events now) → IsBefore (silent_place y) mark = λ y b. facts.low (silent_place y) (before_behind_events events now (silent_place y) b) in
-    let before : AllBefore silent_place notes (silent_place x) = λ n i. subst (λ (p : List ℕ). IsBefore (silent_place n) p) (sym spot) (facts.high (silent_place n) (run.within n i)) in
+    let old : (y : Note) → IsBefore (silent_place y) (next_event events now) → IsBefore (silent_place y) mark = λ y b. facts.low (silent_place y)
+    (before_behind_events events now (silent_place y) b) in
+    let before : AllBefore silent_place notes (silent_place x) = λ n i. subst (λ (p : List ℕ). IsBefore (silent_place n) p) (sym spot)
+    (facts.high (silent_place n) (run.within n i)) in
     let grown : IsRun silent_place Due (behind (silent_place x)) (notes ++ x ∷ []) =
     grow silent_place Due mark notes x run before due
     (record {
@@ -160,16 +168,19 @@ clock_run network reading events now shown notes x one past spot due run =
             | inl event ↦ old y event
             | inr c ↦
                 let at = c.place in
-                let less : c.device < shown = clock_before (amount now) (c.device) shown (subst (λ (p : List ℕ). IsBefore p here) at (subst (λ (p : List ℕ). IsBefore (silent_place y) p) spot lt)) in
+                let less : c.device < shown = clock_before (amount now) (c.device) shown
+                (subst (λ (p : List ℕ). IsBefore p here) at (subst (λ (p : List ℕ). IsBefore (silent_place y) p) spot lt)) in
                 subst (λ (p : List ℕ). IsBefore p mark) (sym at) (facts.clocks (c.device) less)
           ];
     }) in
-    let up : (p : List ℕ) → IsBefore p here → IsBefore p (behind (silent_place x)) = λ p b. chain p (silent_place x) (behind (silent_place x)) (subst (λ (q : List ℕ). IsBefore p q) (sym spot) b) (before_behind (silent_place x)) in
+    let up : (p : List ℕ) → IsBefore p here → IsBefore p (behind (silent_place x)) = λ p b. chain p (silent_place x) (behind (silent_place x))
+    (subst (λ (q : List ℕ). IsBefore p q) (sym spot) b) (before_behind (silent_place x)) in
     move_mark silent_place Due (behind (silent_place x)) (mark_at now (shown + 1)) (notes ++ x ∷ []) grown
     (λ n i.
     elim (in_parts n notes (x ∷ []) i) [
       | inl l ↦ chain (silent_place n) here (mark_at now (shown + 1)) (facts.high (silent_place n) (run.within n l)) (later.clocks shown (omega arith))
-      | inr (inl e) ↦ subst (λ (m : Note). IsBefore (silent_place m) (mark_at now (shown + 1))) (sym e) (subst (λ (p : List ℕ). IsBefore p (mark_at now (shown + 1))) (sym spot) (later.clocks shown (omega arith)))
+      | inr (inl e) ↦ subst (λ (m : Note). IsBefore (silent_place m) (mark_at now (shown + 1))) (sym e)
+          (subst (λ (p : List ℕ). IsBefore p (mark_at now (shown + 1))) (sym spot) (later.clocks shown (omega arith)))
       | inr (inr none) ↦ absurd none
     ])
     (record {
@@ -178,12 +189,15 @@ clock_run network reading events now shown notes x one past spot due run =
             | inl event ↦ up (silent_place y) (facts.high (silent_place y) (old y event))
             | inr c ↦
                 let at = c.place in
-                let less : c.device < shown + 1 = clock_before (amount now) (c.device) (shown + 1) (subst (λ (p : List ℕ). IsBefore p (clock_spot now (shown + 1))) at (later.high (silent_place y) lt)) in
+                let less : c.device < shown + 1 = clock_before (amount now) (c.device) (shown + 1)
+                (subst (λ (p : List ℕ). IsBefore p (clock_spot now (shown + 1))) at (later.high (silent_place y) lt)) in
                 elim (cases_lt (c.device) shown) [
-                  | inl sooner ↦ subst (λ (p : List ℕ). IsBefore p (behind (silent_place x))) (sym at) (up (clock_spot now (c.device)) (inr (refl, inr (refl, inl sooner))))
+                  | inl sooner ↦ subst (λ (p : List ℕ). IsBefore p (behind (silent_place x))) (sym at)
+                      (up (clock_spot now (c.device)) (inr (refl, inr (refl, inl sooner))))
                   | inr ge ↦
                       let same : c.device ≡ shown = omega arith in
-                      subst (λ (p : List ℕ). IsBefore p (behind (silent_place x))) (spot ∙ ap (clock_spot now) (sym same) ∙ sym at) (before_behind (silent_place x))
+                      subst (λ (p : List ℕ). IsBefore p (behind (silent_place x))) (spot ∙ ap (clock_spot now) (sym same) ∙ sym at)
+                      (before_behind (silent_place x))
                 ]
           ];
     })
@@ -191,23 +205,28 @@ clock_run network reading events now shown notes x one past spot due run =
 -- ---- nothing is due
 
 -- where all that is due is before the mark, the run is that up to each later time
-up_to_time : (network : Network) (reading : DeviceId → ℕ → ℕ) (events : List Event) (mark later : List ℕ) (notes : List Note) → ((p : List ℕ) → IsBefore p mark → IsBefore p later) → ((ps : List Note) (y : Note) → IsSilentlyDue network reading events ps y → IsBefore (silent_place y) mark)
+up_to_time : (network : Network) (reading : DeviceId → ℕ → ℕ) (events : List Event) (mark later : List ℕ) (notes : List Note)
+    → ((p : List ℕ) → IsBefore p mark → IsBefore p later)
+    → ((ps : List Note) (y : Note) → IsSilentlyDue network reading events ps y → IsBefore (silent_place y) mark)
     → IsSilentRunOf network reading events mark notes → IsSilentRunOf network reading events later notes
 up_to_time network reading events mark later notes up all run =
-    move_mark silent_place (IsSilentlyDue network reading events) mark later notes run (λ n i. up (silent_place n) (run.within n i)) (record { gap = λ ps qs y split b n d lt. all ps y d })
+    move_mark silent_place (IsSilentlyDue network reading events) mark later notes run (λ n i. up (silent_place n) (run.within n i))
+    (record { gap = λ ps qs y split b n d lt. all ps y d })
 
 before_until : (now : Units) (shown until : ℕ) → amount now < until → (p : List ℕ) → IsBefore p (mark_at now shown) → IsBefore p (until ∷ [])
 before_until now shown until lt p b = chain p (clock_spot now shown) (until ∷ []) ((marks now shown).high p b) (inl lt)
 
 -- while the run is open, nothing is due behind the events
-pub none_while_open : (network : Network) (reading : DeviceId → ℕ → ℕ) (events : List Event) (now : Units) (until : ℕ) (notes : List Note) → IsOpen events → ArePast events now → amount now < until
+pub none_while_open : (network : Network) (reading : DeviceId → ℕ → ℕ) (events : List Event) (now : Units) (until : ℕ) (notes : List Note) → IsOpen events
+    → ArePast events now → amount now < until
     → IsSilentRunOf network reading events (mark_at now 0) notes → IsSilentRunOf network reading events (until ∷ []) notes
 none_while_open network reading events now until notes open_yet past lt run =
     up_to_time network reading events (behind_events now) (until ∷ []) notes (before_until now 0 until lt)
     (λ ps y d. before_behind_events events now (silent_place y) (open_before network reading events now y.time y.body open_yet past d.cause)) run
 
 -- once each clock has a record, nothing is due
-pub none_at_end : (network : Network) (reading : DeviceId → ℕ → ℕ) (events : List Event) (now : Units) (shown until : ℕ) (notes : List Note) → ((t : Units) → EndsAt events t → t ≡ now) → ArePast events now → length network.device ≤ shown → amount now < until
+pub none_at_end : (network : Network) (reading : DeviceId → ℕ → ℕ) (events : List Event) (now : Units) (shown until : ℕ) (notes : List Note)
+    → ((t : Units) → EndsAt events t → t ≡ now) → ArePast events now → length network.device ≤ shown → amount now < until
     → IsSilentRunOf network reading events (mark_at now shown) notes → IsSilentRunOf network reading events (until ∷ []) notes
 none_at_end network reading events now shown until notes one past all lt run =
     let facts : IsMark now shown (mark_at now shown) = marks now shown in

@@ -12,7 +12,8 @@ use Rattle.tte_units.specs.declared.units.Units.{Units}
 
 -- what the rates that the events set make of a device's clock
 abbrev pub clock_of : {C : Type 0} → (ℕ → C) → (C → ℕ → ℤ → C) → Network → List Event → DeviceId → C
-clock_of fresh after_step network events device = value_after after_step (fresh (amount network.grain)) (rate_steps events device)
+clock_of fresh after_step network events device =
+    value_after after_step (fresh (amount network.grain)) (rate_steps events device)
 
 -- what a device's clock reads at a time, under the rates that the events set
 abbrev pub reading_of : {C : Type 0} → (ℕ → C) → (C → ℕ → ℤ → C) → (C → ℕ → ℕ) → Network → List Event → DeviceId → ℕ → ℕ

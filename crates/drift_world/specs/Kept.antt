@@ -6,7 +6,8 @@ use Rattle.tte_units.specs.declared.units.Units.{Units}
 
 -- the network is in range; each device has a clock, which may be read from the time on; the time is
 -- from 0 to 2^60; and no more clocks have a record than there are
-pub record Keeps {C : Type 0} (last_step : C → ℕ) (network : Network) (clocks : List C) (time : Units) (shown : ℕ) : Type 0 where
+pub record Keeps {C : Type 0} (last_step : C → ℕ) (network : Network) (clocks : List C) (time : Units)
+    (shown : ℕ) : Type 0 where
   pub range : IsInRange network
   pub each : length clocks ≡ length network.device
   pub stepped : All (λ c. pos (last_step c) ≤ℤ time.0) clocks

@@ -32,7 +32,8 @@ mark_of world = if world.shown == 0 then behind_events world.now else amount wor
 
 -- the records given are the run of the network under the events applied, up to the mark, and the
 -- world's parts are as these events and records leave them
-pub record Stands {C : Type 0} (fresh : ℕ → C) (after_step : C → ℕ → ℤ → C) (reading : C → ℕ → ℕ) (network : Network) (world : Progress C) (events : List Event) (notes : List Note) : Type 0 where
+pub record Stands {C : Type 0} (fresh : ℕ → C) (after_step : C → ℕ → ℤ → C) (reading : C → ℕ → ℕ) (network : Network)
+    (world : Progress C) (events : List Event) (notes : List Note) : Type 0 where
   pub same : world.network ≡ network
   pub run : IsSilentRunOf network (reading_of fresh after_step reading network events) events (mark_of world) notes
   pub lines : world.lines ≡ length events
@@ -41,4 +42,5 @@ pub record Stands {C : Type 0} (fresh : ℕ → C) (after_step : C → ℕ → �
   pub in_order : All (λ e. IsWithin 0 (amount world.now) e.time) events
   pub ended : (time : Units) → EndsAt events time ↔ ((world.ended ≡ true) × (time ≡ world.now))
   pub none_shown : world.ended ≡ false → world.shown ≡ 0
-  pub clocks : (device : DeviceId) → device.0 < length network.device → slice_get world.clocks device.0 ≡ Some (clock_of fresh after_step network events device)
+  pub clocks : (device : DeviceId) → device.0 < length network.device
+      → slice_get world.clocks device.0 ≡ Some (clock_of fresh after_step network events device)

@@ -18,7 +18,8 @@ use tte_units::Units;
 /// A fresh clock for each device.
 pub fn fresh_clocks<C: Clock>(alloc: Global, network: &Network) -> Result<Vec<C>, OutOfMemory>
     requires { IsWithin 1 1048576 network.now.grain }
-    ensures { IfOk result (λ clocks. clocks.items ≡ replicate (length network.now.device) (C.fresh (amount network.now.grain))) }
+    ensures { IfOk result
+        (λ clocks. clocks.items ≡ replicate (length network.now.device) (C.fresh (amount network.now.grain))) }
 {
     let mut clocks = Vec::new(alloc);
     for _ in network.device.as_slice() {
@@ -31,11 +32,14 @@ pub fn fresh_clocks<C: Clock>(alloc: Global, network: &Network) -> Result<Vec<C>
 
 /// Sets the rate of a device's clock, where that is what befalls the network.
 pub fn set_rate<C: Clock>(clocks: &mut Vec<C>, time: Units, what: &What)
-    requires there { (device : DeviceId) (rate : Ppb) → what.now ≡ What.Rate device rate → device.0 < length clocks.old.items }
-    requires slow { (device : DeviceId) (rate : Ppb) → what.now ≡ What.Rate device rate → unsigned_abs rate.0 ≤ 1000000 }
+    requires there { (device : DeviceId) (rate : Ppb) → what.now ≡ What.Rate device rate
+        → device.0 < length clocks.old.items }
+    requires slow { (device : DeviceId) (rate : Ppb) → what.now ≡ What.Rate device rate
+        → unsigned_abs rate.0 ≤ 1000000 }
     requires stepped { All (λ c. pos (C.last_step c) ≤ℤ time.0) clocks.old.items }
     requires limit { time.0 ≤ℤ pos (2 ^ 60) }
-    ensures each { (device : DeviceId) (clock : C) → slice_get clocks.old.items device.0 ≡ Some clock → slice_get clocks.new.items device.0 ≡ Some (clock_after C.after_step device time what.now clock) }
+    ensures each { (device : DeviceId) (clock : C) → slice_get clocks.old.items device.0 ≡ Some clock
+        → slice_get clocks.new.items device.0 ≡ Some (clock_after C.after_step device time what.now clock) }
     ensures length { length clocks.new.items ≡ length clocks.old.items }
     ensures stepped { All (λ c. pos (C.last_step c) ≤ℤ time.0) clocks.new.items }
 {

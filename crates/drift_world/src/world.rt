@@ -8,7 +8,7 @@ ghost use Rattle.net_plan.specs.declared.network.Network.{Network};
 ghost use Rattle.run_law.specs.scenario.Hypothesis.{SetsFastRate};
 ghost use Rattle.run_law.specs.law.Silent.{IsSilentRunOf};
 ghost use Rattle.run_law.specs.declared.note.Note.{Note};
-ghost use Rattle.trace_text.specs.Ranges.{IsOfNetwork};
+ghost use Rattle.net_plan.specs.Belonging.{IsOfNetwork};
 ghost use Rattle.tte_units.specs.Amount.{amount};
 
 use crate::OutOfMemory;
@@ -46,7 +46,15 @@ impl<'a, C: Clock> Model for World<'a, C> {
 
     ghost Value = { Progress C };
 
-    ghost view = { λ w. record { network = w.accepted.now; clocks = w.clocks.items; lines = w.lines; given = w.given; now = w.now; ended = w.ended; shown = w.shown } };
+    ghost view = { λ w. record {
+      network = w.accepted.now;
+      clocks = w.clocks.items;
+      lines = w.lines;
+      given = w.given;
+      now = w.now;
+      ended = w.ended;
+      shown = w.shown;
+    } };
 
     ghost invariant = { λ w. Keeps C.last_step w.accepted.now w.clocks.items w.now w.shown };
 }
@@ -81,10 +89,15 @@ impl<'a, C: Clock> World<'a, C> {
         requires of_network { IsOfNetwork self.old.network event.now.what }
         requires rate { SetsFastRate self.old.network event.now → ⊥ }
         requires open { self.old.ended ≡ false }
-        ensures stands { (network : Network) (events : List Event) (notes : List Note) → Stands C.fresh C.after_step C.reading network self.old events notes
-            → IfOk result (λ note. Stands C.fresh C.after_step C.reading network self.new (events ++ event.now ∷ []) (notes ++ note ∷ [])) }
-        ensures run { (network : Network) (events : List Event) (notes : List Note) → Stands C.fresh C.after_step C.reading network self.old events notes
-            → IfOk result (λ note. IsSilentRunOf network (reading_of C.fresh C.after_step C.reading network (events ++ event.now ∷ [])) (events ++ event.now ∷ []) (behind_events event.now.time) (notes ++ note ∷ [])) }
+        ensures stands { (network : Network) (events : List Event) (notes : List Note)
+            → Stands C.fresh C.after_step C.reading network self.old events notes
+            → IfOk result (λ note. Stands C.fresh C.after_step C.reading network self.new (events ++ event.now ∷ [])
+            (notes ++ note ∷ [])) }
+        ensures run { (network : Network) (events : List Event) (notes : List Note)
+            → Stands C.fresh C.after_step C.reading network self.old events notes
+            → IfOk result (λ note. IsSilentRunOf network
+            (reading_of C.fresh C.after_step C.reading network (events ++ event.now ∷ []))
+            (events ++ event.now ∷ []) (behind_events event.now.time) (notes ++ note ∷ [])) }
         ensures note { IfOk result (λ note. note ≡ event_note (self.old.given + 1) line event.now) }
         ensures err { OnErr result (self.new ≡ self.old) }
     {
@@ -110,11 +123,16 @@ impl<'a, C: Clock> World<'a, C> {
     ///
     /// On an error nothing has changed.
     pub fn next(&mut self, until: Units) -> Result<Option<Note>, OutOfMemory>
-        ensures stands { (network : Network) (events : List Event) (notes : List Note) → Stands C.fresh C.after_step C.reading network self.old events notes
-            → IfOk result (λ next. IfSome next (λ note. Stands C.fresh C.after_step C.reading network self.new events (notes ++ note ∷ []))) }
-        ensures complete { (network : Network) (events : List Event) (notes : List Note) → Stands C.fresh C.after_step C.reading network self.old events notes
+        ensures stands { (network : Network) (events : List Event) (notes : List Note)
+            → Stands C.fresh C.after_step C.reading network self.old events notes
+            → IfOk result (λ next. IfSome next
+            (λ note. Stands C.fresh C.after_step C.reading network self.new events (notes ++ note ∷ []))) }
+        ensures complete { (network : Network) (events : List Event) (notes : List Note)
+            → Stands C.fresh C.after_step C.reading network self.old events notes
             → self.old.now.0 <ℤ until.0
-            → IfOk result (λ next. IfNone next (IsSilentRunOf network (reading_of C.fresh C.after_step C.reading network events) events (amount until ∷ []) notes)) }
+            → IfOk result (λ next. IfNone next
+            (IsSilentRunOf network (reading_of C.fresh C.after_step C.reading network events) events
+            (amount until ∷ []) notes)) }
         ensures before { IfOk result (λ next. IfSome next (λ note. note.time.0 <ℤ until.0)) }
         ensures fewer { IfOk result (λ next. IfSome next (λ _. left_of self.new < left_of self.old)) }
         ensures none { IfOk result (λ next. IfNone next (self.new ≡ self.old)) }

@@ -49,7 +49,8 @@ pub record StandsLast {X : Type 0} (xs : List X) (y : X) (before : List X) (x : 
   pub before_is : before ≡ xs
   pub same : x ≡ y
 
-pub stands_where : {X : Type 0} (xs : List X) (y : X) (before : List X) (x : X) (behind : List X) → xs ++ y ∷ [] ≡ before ++ x ∷ behind → StandsInFront xs y before x behind ⊎ StandsLast xs y before x
+pub stands_where : {X : Type 0} (xs : List X) (y : X) (before : List X) (x : X) (behind : List X) → xs ++ y ∷ [] ≡ before ++ x ∷ behind
+    → StandsInFront xs y before x behind ⊎ StandsLast xs y before x
 stands_where [] y [] x behind e = inr (record { before_is = refl; same = cc })
 stands_where [] y (b ∷ []) x behind e = absurd cc
 stands_where [] y (b ∷ c ∷ before) x behind e = absurd cc

@@ -16,7 +16,7 @@ use Rattle.pcf_values.specs.declared.channel.Channel.{Channel}
 use Rattle.run_law.specs.scenario.Faults.{Cuts, CutsOn, IsFaulty, IsFirstCutOn, IsLinkOf}
 use Rattle.schedule_tables.specs.Rules.{KeepsRules}
 use Rattle.schedule_tables.specs.declared.rule.Rule.TheVariants.{Joints, Masters}
-use Rattle.trace_text.specs.Ranges.{HasLink, IsOfNetwork}
+use Rattle.net_plan.specs.Belonging.{HasLink, IsOfNetwork}
 use Rattle.fault_hypothesis.specs.Watching.{AreOfNetwork}
 use Rattle.fault_hypothesis.proofs.Befalling.{any_behind, any_first, any_none, any_of, none_stands, stands_where}
 use Rattle.fault_hypothesis.proofs.Standing.{some_both, stands_at}
@@ -48,7 +48,8 @@ one_channel network link c d on_c on_d =
     let is_c = p.1 in let is_d = p.2 in cc
 
 -- where some event cuts a link, one is the first that does
-first_cut : (network : Network) (events : List Event) (link : LinkId) → KeepsRules network → AreOfNetwork network events → Any (Cuts link) events → (channel : Channel) × IsFirstCutOn network channel events
+first_cut : (network : Network) (events : List Event) (link : LinkId) → KeepsRules network → AreOfNetwork network events → Any (Cuts link) events
+    → (channel : Channel) × IsFirstCutOn network channel events
 first_cut network [] link rules of_network any = absurd (any_none (Cuts link) any)
 first_cut network (x ∷ xs) link rules of_network any =
     elim (cuts_or_not x.what) [
@@ -72,7 +73,8 @@ first_cut network (x ∷ xs) link rules of_network any =
     ]
 
 -- the first cut is one event
-same_cut : (before other : List Event) (cut first : Event) (behind rest : List Event) (l m : LinkId) → before ++ cut ∷ behind ≡ other ++ first ∷ rest → ((link : LinkId) → Any (Cuts link) before → ⊥) → ((link : LinkId) → Any (Cuts link) other → ⊥) → Cuts l cut → Cuts m first → cut ≡ first
+same_cut : (before other : List Event) (cut first : Event) (behind rest : List Event) (l m : LinkId) → before ++ cut ∷ behind ≡ other ++ first ∷ rest
+    → ((link : LinkId) → Any (Cuts link) before → ⊥) → ((link : LinkId) → Any (Cuts link) other → ⊥) → Cuts l cut → Cuts m first → cut ≡ first
 same_cut [] [] cut first behind rest l m e none bare on_l on_m = cc
 same_cut [] (b ∷ other) cut first behind rest l m e none bare on_l on_m =
     let same : cut ≡ b = cc in
@@ -95,14 +97,16 @@ one_faulty network events c d rules (inr first) (inl off) = absurd (first.0 d of
 one_faulty network events c d rules (inr first) (inr other) =
     let a = first.1 in
     let b = other.1 in
-    let cut = same_cut a.before b.before a.cut b.cut a.behind b.behind a.cuts.0 b.cuts.0 (sym a.order ∙ b.order) a.none_before b.none_before a.cuts.1 b.cuts.1 in
+    let cut = same_cut a.before b.before a.cut b.cut a.behind b.behind a.cuts.0 b.cuts.0 (sym a.order ∙ b.order) a.none_before b.none_before a.cuts.1 b.cuts.1
+    in
     let way_a = a.cuts.1.1 in
     let way_b = b.cuts.1.1 in
     let same : a.cuts.0 ≡ b.cuts.0 = cc in
     one_channel network b.cuts.0 c d (subst (IsLinkOf network c) same a.cuts.2) b.cuts.2
 
 -- a faulty channel stays so
-pub stays_faulty : (network : Network) (admitted : List Event) (event : Event) (c : Channel) → IsFaulty network admitted c → IsFaulty network (admitted ++ event ∷ []) c
+pub stays_faulty : (network : Network) (admitted : List Event) (event : Event) (c : Channel) → IsFaulty network admitted c
+    → IsFaulty network (admitted ++ event ∷ []) c
 stays_faulty network admitted event c (inl off) = inl off
 stays_faulty network admitted event c (inr first) =
     let f = first.1 in
@@ -119,7 +123,8 @@ stays_faulty network admitted event c (inr first) =
     )
 
 -- a channel that is faulty behind one more event was so, or that event is the first cut
-pub was_faulty : (network : Network) (admitted : List Event) (event : Event) (c : Channel) → IsFaulty network (admitted ++ event ∷ []) c → IsFaulty network admitted c ⊎ CutsOn network c event
+pub was_faulty : (network : Network) (admitted : List Event) (event : Event) (c : Channel) → IsFaulty network (admitted ++ event ∷ []) c
+    → IsFaulty network admitted c ⊎ CutsOn network c event
 was_faulty network admitted event c (inl off) = inl (inl off)
 was_faulty network admitted event c (inr first) =
     let f = first.1 in
@@ -133,7 +138,8 @@ abbrev pub KnowsFaulty : Network → List Event → Option Channel → Type 0
 KnowsFaulty network events faulty = (c : Channel) → (faulty ≡ Some c) ↔ IsFaulty network events c
 
 -- a faulty channel stays the one
-pub faulty_stays : (network : Network) (admitted : List Event) (event : Event) (faulty : Option Channel) → KeepsRules network → is_some faulty ≡ true → KnowsFaulty network admitted faulty → KnowsFaulty network (admitted ++ event ∷ []) faulty
+pub faulty_stays : (network : Network) (admitted : List Event) (event : Event) (faulty : Option Channel) → KeepsRules network → is_some faulty ≡ true
+    → KnowsFaulty network admitted faulty → KnowsFaulty network (admitted ++ event ∷ []) faulty
 faulty_stays network admitted event None rules some known = absurd cc
 faulty_stays network admitted event (Some f) rules some known = λ c.
     let now = stays_faulty network admitted event f ((known f).0 refl) in (
@@ -142,7 +148,8 @@ faulty_stays network admitted event (Some f) rules some known = λ c.
     )
 
 -- where the event cuts nothing, the faulty channel is as it was
-pub faulty_uncut : (network : Network) (admitted : List Event) (event : Event) (faulty : Option Channel) → ((link : LinkId) → Cuts link event → ⊥) → KnowsFaulty network admitted faulty → KnowsFaulty network (admitted ++ event ∷ []) faulty
+pub faulty_uncut : (network : Network) (admitted : List Event) (event : Event) (faulty : Option Channel) → ((link : LinkId) → Cuts link event → ⊥)
+    → KnowsFaulty network admitted faulty → KnowsFaulty network (admitted ++ event ∷ []) faulty
 faulty_uncut network admitted event faulty uncut known = λ c. (
   λ e. stays_faulty network admitted event c ((known c).0 e),
   λ h. elim (was_faulty network admitted event c h) [
@@ -152,7 +159,9 @@ faulty_uncut network admitted event faulty uncut known = λ c. (
 )
 
 -- the first cut makes its channel the faulty one
-pub faulty_cut : (network : Network) (admitted : List Event) (event : Event) (link : LinkId) (way : Way) (faulty found : Option Channel) → KeepsRules network → AreOfNetwork network admitted → event.what ≡ events.Cut link way → ((c : Channel) → (found ≡ Some c) ↔ IsLinkOf network c link) → is_some faulty ≡ false → KnowsFaulty network admitted faulty → KnowsFaulty network (admitted ++ event ∷ []) found
+pub faulty_cut : (network : Network) (admitted : List Event) (event : Event) (link : LinkId) (way : Way) (faulty found : Option Channel) → KeepsRules network
+    → AreOfNetwork network admitted → event.what ≡ events.Cut link way → ((c : Channel) → (found ≡ Some c) ↔ IsLinkOf network c link) → is_some faulty ≡ false
+    → KnowsFaulty network admitted faulty → KnowsFaulty network (admitted ++ event ∷ []) found
 faulty_cut network admitted event link way (Some f) found rules of_network what on unknown known = absurd cc
 faulty_cut network admitted event link way None found rules of_network what on unknown known =
     let none : (c : Channel) → IsFaulty network admitted c → ⊥ = λ c h. let e = (known c).1 h in absurd cc in
@@ -179,7 +188,8 @@ faulty_cut network admitted event link way None found rules of_network what on u
     )
 
 -- before any event the faulty channel is the one with a switch that begins off
-pub faulty_begins : (network : Network) (found : Option Channel) → KeepsRules network → MatchOption found ((c : Channel) → HasOffSwitch network c → ⊥) (HasOffSwitch network) → KnowsFaulty network [] found
+pub faulty_begins : (network : Network) (found : Option Channel) → KeepsRules network → MatchOption found ((c : Channel) → HasOffSwitch network c → ⊥)
+    (HasOffSwitch network) → KnowsFaulty network [] found
 faulty_begins network None rules none = λ c. (
   λ e. absurd cc,
   λ h. elim h [ inl off ↦ absurd (none c off) | inr first ↦ absurd (none_stands first.1.before first.1.cut first.1.behind first.1.order) ],

@@ -12,12 +12,13 @@ use Rattle.net_plan.specs.declared.network.Network.{Network}
 use Rattle.run_law.specs.scenario.Faults.{Breaks, IsBroken, IsTurnedOn, TurnsOn}
 use Rattle.run_law.specs.scenario.Hypothesis.{AreWithinHypothesis, IsWithinHypothesis}
 use Rattle.run_law.specs.declared.outside.Outside.TheVariants.{SecondBreak}
-use Rattle.trace_text.specs.Ranges.{HasDevice, IsOfNetwork}
+use Rattle.net_plan.specs.Belonging.{HasDevice, IsOfNetwork}
 use Rattle.fault_hypothesis.specs.Watching.{AreOfNetwork}
 use Rattle.fault_hypothesis.proofs.Befalling.{any_last, any_left, any_none, any_parts, stands_where}
 
 -- one more event of the network
-pub all_of_network : (network : Network) (admitted : List Event) (event : Event) → AreOfNetwork network admitted → IsOfNetwork network event.what → AreOfNetwork network (admitted ++ event ∷ [])
+pub all_of_network : (network : Network) (admitted : List Event) (event : Event) → AreOfNetwork network admitted → IsOfNetwork network event.what
+    → AreOfNetwork network (admitted ++ event ∷ [])
 all_of_network network [] event all here zero d within = here
 all_of_network network [] event all here (suc k) d within = absurd (omega (arith, within))
 all_of_network network (x ∷ xs) event all here zero d within = all zero d (omega arith)
@@ -25,7 +26,8 @@ all_of_network network (x ∷ xs) event all here (suc k) d within =
     all_of_network network xs event (λ i e lt. all (suc i) e (omega (arith, lt))) here k d (omega (arith, within))
 
 -- one more event within the hypothesis
-pub all_within : (network : Network) (admitted : List Event) (event : Event) → AreWithinHypothesis network admitted → IsWithinHypothesis network admitted event → AreWithinHypothesis network (admitted ++ event ∷ [])
+pub all_within : (network : Network) (admitted : List Event) (event : Event) → AreWithinHypothesis network admitted → IsWithinHypothesis network admitted event
+    → AreWithinHypothesis network (admitted ++ event ∷ [])
 all_within network admitted event all here before behind e order =
     elim (stands_where admitted event before e behind order) [
       | inl s ↦ all before s.rest e s.whole
@@ -37,14 +39,17 @@ abbrev pub KnowsBroken : List Event → Option DeviceId → Type 0
 KnowsBroken events broken = (d : DeviceId) → (broken ≡ Some d) ↔ IsBroken events d
 
 -- where the event breaks nothing, the broken device is as it was
-pub broken_stays : (admitted : List Event) (event : Event) (broken : Option DeviceId) → ((d : DeviceId) → Breaks d event → ⊥) → KnowsBroken admitted broken → KnowsBroken (admitted ++ event ∷ []) broken
+pub broken_stays : (admitted : List Event) (event : Event) (broken : Option DeviceId) → ((d : DeviceId) → Breaks d event → ⊥) → KnowsBroken admitted broken
+    → KnowsBroken (admitted ++ event ∷ []) broken
 broken_stays admitted event broken none known = λ d. (
   λ e. any_left (Breaks d) admitted event ((known d).0 e),
   λ h. elim (any_parts (Breaks d) admitted event h) [ inl a ↦ (known d).1 a | inr b ↦ absurd (none d b) ],
 )
 
 -- a break within the hypothesis is the first
-pub broken_breaks : (network : Network) (admitted : List Event) (event : Event) (device : DeviceId) (broken : Option DeviceId) → IsWithinHypothesis network admitted event → event.what ≡ events.Break device → KnowsBroken admitted broken → KnowsBroken (admitted ++ event ∷ []) (Some device)
+pub broken_breaks : (network : Network) (admitted : List Event) (event : Event) (device : DeviceId) (broken : Option DeviceId)
+    → IsWithinHypothesis network admitted event → event.what ≡ events.Break device → KnowsBroken admitted broken
+    → KnowsBroken (admitted ++ event ∷ []) (Some device)
 broken_breaks network admitted event device broken within what known = λ d. (
   λ e. any_last (Breaks d) admitted event (what ∙ ap (λ (o : DeviceId). events.Break o) cc),
   λ h. elim (any_parts (Breaks d) admitted event h) [
@@ -59,7 +64,8 @@ KnowsTurnedOn network events on =
     (d : DeviceId) → HasDevice network d → (slice_get on d.0 ≡ Some true) ↔ IsTurnedOn events d
 
 -- where the event turns nothing on, these devices are as they were
-pub on_stays : (network : Network) (admitted : List Event) (event : Event) (on : List Bool) → ((d : DeviceId) → TurnsOn d event → ⊥) → KnowsTurnedOn network admitted on → KnowsTurnedOn network (admitted ++ event ∷ []) on
+pub on_stays : (network : Network) (admitted : List Event) (event : Event) (on : List Bool) → ((d : DeviceId) → TurnsOn d event → ⊥)
+    → KnowsTurnedOn network admitted on → KnowsTurnedOn network (admitted ++ event ∷ []) on
 on_stays network admitted event on none known = λ d has. (
   λ e. any_left (TurnsOn d) admitted event ((known d has).0 e),
   λ h. elim (any_parts (TurnsOn d) admitted event h) [ inl a ↦ (known d has).1 a | inr b ↦ absurd (none d b) ],
@@ -81,7 +87,9 @@ same_id : (a b : DeviceId) → a.0 ≡ b.0 → a ≡ b
 same_id a b e = ap (λ n. let d : DeviceId = record { 0 = n } in d) e
 
 -- the event turns one more device on
-pub on_turns : (network : Network) (admitted : List Event) (event : Event) (device : DeviceId) (on : List Bool) → length network.device ≤ length on → HasDevice network device → event.what ≡ events.On device → KnowsTurnedOn network admitted on → KnowsTurnedOn network (admitted ++ event ∷ []) (slice_set on device.0 true)
+pub on_turns : (network : Network) (admitted : List Event) (event : Event) (device : DeviceId) (on : List Bool) → length network.device ≤ length on
+    → HasDevice network device → event.what ≡ events.On device → KnowsTurnedOn network admitted on
+    → KnowsTurnedOn network (admitted ++ event ∷ []) (slice_set on device.0 true)
 on_turns network admitted event device on room there what known = λ d has.
     let here : device.0 ≡ d.0 → IsTurnedOn (admitted ++ event ∷ []) d =
     λ same. any_last (TurnsOn d) admitted event (what ∙ ap (λ (o : DeviceId). events.On o) (same_id device d same)) in

@@ -69,7 +69,8 @@ number_of_place (suc (suc (suc (suc (suc (suc (suc (suc (suc (suc zero))))))))))
 number_of_place (suc (suc (suc (suc (suc (suc (suc (suc (suc (suc (suc place))))))))))) other within = absurd (omega (arith, within))
 
 -- a condition of a number up to that at a place has a lower one, or stands there
-pub up_to_place : (place : ℕ) (other earlier : Outside) → condition_number earlier ≤ place + 1 → (condition_number earlier ≤ place) ⊎ (slice_index_or conditions place other ≡ earlier)
+pub up_to_place : (place : ℕ) (other earlier : Outside) → condition_number earlier ≤ place + 1 → (condition_number earlier ≤ place)
+    ⊎ (slice_index_or conditions place other ≡ earlier)
 up_to_place place other earlier low =
     elim (cases_order (condition_number earlier) (place + 1)) [
       | inl same ↦

@@ -33,7 +33,8 @@ breaks_it place (events.Send link octets) h = absurd cc
 breaks_it place events.End h = absurd cc
 
 -- the events break the device at a place where it is the broken one
-broken_at : (admitted : List Event) (broken : Option DeviceId) → ((d : DeviceId) → (broken ≡ Some d) ↔ IsBroken admitted d) → (place : ℕ) → list_any (λ e. breaks_at place e.what) admitted ≡ option_map_or (λ b. b.0 == place) broken false
+broken_at : (admitted : List Event) (broken : Option DeviceId) → ((d : DeviceId) → (broken ≡ Some d) ↔ IsBroken admitted d) → (place : ℕ)
+    → list_any (λ e. breaks_at place e.what) admitted ≡ option_map_or (λ b. b.0 == place) broken false
 broken_at admitted broken known place =
     same_bool (list_any (λ e. breaks_at place e.what) admitted) (option_map_or (λ b. b.0 == place) broken false)
     (λ t.
@@ -41,7 +42,8 @@ broken_at admitted broken known place =
     let h = breaks_it place a.1.what a.4 in
     let e = (known h.0).1 (a.0, a.1, a.2, a.3, h.1) in
     rw e h.2)
-    (elim broken as (λ o. ((d : DeviceId) → (o ≡ Some d) ↔ IsBroken admitted d) → option_map_or (λ b. b.0 == place) o false ≡ true → list_any (λ e. breaks_at place e.what) admitted ≡ true) [
+    (elim broken as (λ o. ((d : DeviceId) → (o ≡ Some d) ↔ IsBroken admitted d) → option_map_or (λ b. b.0 == place) o false ≡ true
+    → list_any (λ e. breaks_at place e.what) admitted ≡ true) [
       | None ↦ λ knows t. absurd cc
       | Some b ↦ λ knows t.
           let a = (knows b).0 refl in
@@ -64,7 +66,9 @@ same_count p q same (x ∷ xs) =
     ∙ sym (sum_by-cons (λ x. cond (q x) 1 0) x xs)
 
 -- the masters that a break leaves are those that are neither broken nor the device
-pub left_by_break : (network : Network) (admitted : List Event) (event : Event) (device : DeviceId) (broken : Option DeviceId) → ((d : DeviceId) → (broken ≡ Some d) ↔ IsBroken admitted d) → event.what ≡ events.Break device → count_by (is_sound_beside broken device) (enumerate_from 0 network.device) ≡ sound_masters network (admitted ++ event ∷ [])
+pub left_by_break : (network : Network) (admitted : List Event) (event : Event) (device : DeviceId) (broken : Option DeviceId)
+    → ((d : DeviceId) → (broken ≡ Some d) ↔ IsBroken admitted d) → event.what ≡ events.Break device
+    → count_by (is_sound_beside broken device) (enumerate_from 0 network.device) ≡ sound_masters network (admitted ++ event ∷ [])
 left_by_break network admitted event device broken known what =
     same_count (is_sound_beside broken device) (is_sound_master (admitted ++ event ∷ []))
     (λ placed.

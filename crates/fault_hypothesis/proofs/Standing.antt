@@ -30,20 +30,3 @@ stands_at (x ∷ xs) (suc place) within = stands_at xs place (omega (arith, with
 pub some_both : {X : Type 0} (o : Option X) (P Q : X → Type 0) → IsSomeAnd o P → IsSomeAnd o Q → (x : X) × P x × Q x
 some_both None P Q p q = absurd p
 some_both (Some x) P Q p q = (x, p, q)
-
-some_at : {X : Type 0} (P : X → Type 0) (xs : List X) (place : ℕ) → place < length xs → HoldsAt P xs place → IsSomeAnd (slice_get xs place) P
-some_at P [] place within holds = absurd (omega (arith, within))
-some_at P (x ∷ xs) place within holds = rw (slice_get-get_or (x ∷ xs) place x within) (holds x)
-
-none_at : {X : Type 0} (P : X → Type 0) (xs : List X) (place : ℕ) → AllWithin (λ x. P x → ⊥) xs 0 (length xs) → IsSomeAnd (slice_get xs place) P → ⊥
-none_at P [] place none holds = absurd holds
-none_at P (x ∷ xs) zero none holds = none 0 x (omega arith) (omega arith) holds
-none_at P (x ∷ xs) (suc place) none holds =
-    none_at P xs place (λ k d low high. none (suc k) d (omega arith) (omega (arith, high))) holds
-
--- what a search among the devices tells of those of the network
-pub some_device : (network : Network) (P : Device → Type 0) (found : Bool) → MatchBool found ((k : ℕ) × (k < length network.device) × HoldsAt P network.device k) (AllWithin (λ d. P d → ⊥) network.device 0 (length network.device)) → IsTrue found ↔ ((device : DeviceId) × IsSomeAnd (device_at network device) P)
-some_device network P true h =
-    (λ _. (record { 0 = h.0 }, some_at P network.device h.0 h.1 h.2), λ _. refl)
-some_device network P false h =
-    (λ e. absurd cc, λ s. absurd (none_at P network.device s.0.0 h s.1))

@@ -8,7 +8,7 @@ use Rattle.net_plan.specs.declared.network.Network.{Network}
 use Rattle.pcf_values.specs.declared.channel.Channel.{Channel}
 use Rattle.run_law.specs.scenario.Faults.{IsBroken, IsFaulty, IsTurnedOn}
 use Rattle.run_law.specs.scenario.Hypothesis.{AreWithinHypothesis}
-use Rattle.trace_text.specs.Ranges.{HasDevice, IsOfNetwork}
+use Rattle.net_plan.specs.Belonging.{HasDevice, IsOfNetwork}
 use Rattle.tte_units.specs.declared.units.Units.{Units}
 
 -- the last of the events has this time, or there is none

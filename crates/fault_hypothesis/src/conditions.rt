@@ -8,7 +8,7 @@ ghost use Rattle.net_plan.specs.declared.event.Event.{Event as EventValue};
 ghost use Rattle.net_plan.specs.declared.network.Network.{Network as NetworkValue};
 ghost use Rattle.run_law.specs.scenario.Faults.{IsBroken, IsTurnedOn};
 ghost use Rattle.run_law.specs.scenario.Hypothesis.{Violates, ComesTooEarly, ComesTooLate, SetsFastRate, SetsOtherWire, SetsLongHold, CutsOtherChannel, BreaksNoMaster, BreaksSecond, LeavesTooFew, SendsUnbroken, TurnsOnAgain};
-ghost use Rattle.trace_text.specs.Ranges.{HasDevice, IsOfNetwork};
+ghost use Rattle.net_plan.specs.Belonging.{HasDevice, IsOfNetwork};
 
 use crate::places::{begins_on, channel_of, device_at, link_at};
 use crate::{Outside, Watch};

@@ -1,4 +1,4 @@
-ghost use Rattle.std.specs.Prelude.{◌≡◌, Some, ◌↔◌, IsTrue, IsNone, MatchOption};
+ghost use Rattle.std.specs.Prelude.{◌≡◌, ◌↔◌, IsTrue, MatchOption};
 ghost use Rattle.std.specs.Option.{option_copied};
 ghost use Rattle.net_plan.specs.Places.{device_at, link_at};
 ghost use Rattle.net_plan.specs.Rules.{HasOffSwitch};
@@ -47,27 +47,11 @@ pub(crate) fn off_channel(network: &Network) -> Option<Channel>
         ((channel : ChannelValue) → HasOffSwitch network.now channel → ⊥)
         (HasOffSwitch network.now) }
 {
-    if has_off_switch(network, Channel::A) {
+    if network.has_off_switch(Channel::A) {
         Some(Channel::A)
-    } else if has_off_switch(network, Channel::B) {
+    } else if network.has_off_switch(Channel::B) {
         Some(Channel::B)
     } else {
         None
     }
-}
-
-fn has_off_switch(network: &Network, channel: Channel) -> bool
-    ensures { IsTrue result ↔ HasOffSwitch network.now channel }
-{
-    network
-        .device
-        .as_slice()
-        .iter()
-        .any(|device| is_off_switch(device, channel))
-}
-
-fn is_off_switch(device: &Device, channel: Channel) -> bool
-    ensures { IsTrue result ↔ ((device.now.channel ≡ Some channel) × IsNone device.now.start) }
-{
-    device.channel == Some(channel) && device.start.is_none()
 }

@@ -6,7 +6,7 @@ ghost use Rattle.net_plan.specs.declared.network.Network.{Network};
 ghost use Rattle.pcf_values.specs.declared.channel.Channel.{Channel as ChannelValue};
 ghost use Rattle.run_law.specs.scenario.Faults.{IsBroken, IsFaulty};
 ghost use Rattle.run_law.specs.scenario.Hypothesis.{IsWithinHypothesis, IsOutsideBy};
-ghost use Rattle.trace_text.specs.Ranges.{IsOfNetwork};
+ghost use Rattle.net_plan.specs.Belonging.{IsOfNetwork};
 
 use crate::Outside;
 use crate::places::{channel_of, off_channel};

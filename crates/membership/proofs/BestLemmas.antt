@@ -49,7 +49,8 @@ no_better_trans x y z a b =
     no_better_chain (count_of x.members) (count_of y.members) (count_of z.members) x.point.0 y.point.0 z.point.0 a b
 
 -- a frame that did not come within on the channel leaves its best
-pub best_stays : (heard : List Hearing) (channel : Channel) (best : Option HeardFrame) (h : Hearing) → (IsWithinOn channel h → ⊥) → IsBestOf heard channel best → IsBestOf (heard ++ h ∷ []) channel best
+pub best_stays : (heard : List Hearing) (channel : Channel) (best : Option HeardFrame) (h : Hearing) → (IsWithinOn channel h → ⊥) → IsBestOf heard channel best
+    → IsBestOf (heard ++ h ∷ []) channel best
 best_stays heard channel None h other is = All-push (λ x. IsWithinOn channel x → ⊥) heard h is other
 best_stays heard channel (Some best) h other is = record {
   before = is.before;
@@ -62,16 +63,20 @@ best_stays heard channel (Some best) h other is = record {
 }
 
 -- all that was heard within is no better than the frame that takes the place of the best
-all_no_better : (heard : List Hearing) (channel : Channel) (best later : HeardFrame) → IsBest heard channel best → IsNoBetter best later → All (λ h. IsWithinOn channel h → IsNoBetter h.frame later) heard
+all_no_better : (heard : List Hearing) (channel : Channel) (best later : HeardFrame) → IsBest heard channel best → IsNoBetter best later
+    → All (λ h. IsWithinOn channel h → IsNoBetter h.frame later) heard
 all_no_better heard channel best later is step =
     let P : Hearing → Type 0 = λ h. IsWithinOn channel h → IsNoBetter h.frame later in
     let it : Hearing = within_on channel best in
-    let before : All P is.before = All-weaker (λ h. IsWithinOn channel h → IsNoBetter h.frame best) P (λ h f w. no_better_trans h.frame best later (f w) step) is.before is.earlier in
-    let after : All P is.after = All-weaker (λ h. IsWithinOn channel h → IsBehind h.frame best) P (λ h f w. no_better_trans h.frame best later (inl (f w)) step) is.after is.later in
+    let before : All P is.before = All-weaker (λ h. IsWithinOn channel h → IsNoBetter h.frame best) P (λ h f w. no_better_trans h.frame best later (f w) step)
+    is.before is.earlier in
+    let after : All P is.after = All-weaker (λ h. IsWithinOn channel h → IsBehind h.frame best) P (λ h f w. no_better_trans h.frame best later (inl (f w)) step)
+    is.after is.later in
     subst (All P) (sym is.is_heard) (All-append P is.before (it ∷ is.after) before (All-cons P it is.after (λ w. step) after))
 
 -- a frame within on the channel: the better of both is the best
-pub best_after : (heard : List Hearing) (channel : Channel) (best : Option HeardFrame) (later frame : HeardFrame) → IsBetterOf best later frame → IsBestOf heard channel best → IsBest (heard ++ within_on channel later ∷ []) channel frame
+pub best_after : (heard : List Hearing) (channel : Channel) (best : Option HeardFrame) (later frame : HeardFrame) → IsBetterOf best later frame
+    → IsBestOf heard channel best → IsBest (heard ++ within_on channel later ∷ []) channel frame
 best_after heard channel None later frame same is =
     subst (IsBest (heard ++ within_on channel later ∷ []) channel) (sym same) (record {
       before = heard;

@@ -20,7 +20,13 @@ count_agrees p q (x ∷ xs) same =
 count_shifted : (p : ℕ → Bool) (a k : ℕ) → count_by p (range_with_len (a + 1) k) ≡ count_by (λ i. p (i + 1)) (range_with_len a k)
 count_shifted p a zero = refl
 count_shifted p a (suc k) =
-    omega (arith, count_shifted p (a + 1) k, sum_by-cons (λ i. cond (p i) 1 0) (a + 1) (range_with_len (a + 1 + 1) k), sum_by-cons (λ i. cond (p (i + 1)) 1 0) a (range_with_len (a + 1) k))
+    omega (
+      arith,
+      count_shifted p (a + 1) k,
+      sum_by-cons (λ i. cond (p i) 1 0) (a + 1) (range_with_len (a + 1 + 1) k),
+      sum_by-cons (λ i. cond (p (i + 1)) 1 0) a
+          (range_with_len (a + 1) k),
+    )
 
 lowest : (n : ℕ) → cond (n / 2 ^ 0 % 2 == 1) 1 0 ≡ n % 2
 lowest n = grind (arith, nat_tests)

@@ -24,7 +24,8 @@ never_both m n p q (inr a) (inl (inr b)) = absurd (omega (arith, ints, a.1, b.1)
 never_both m n p q (inr a) (inr b) = absurd (omega (arith, ints, a.1, b.1))
 
 -- the best of one split stands among the earlier ones of the other
-before_other : (heard : List Hearing) (channel : Channel) (x y : HeardFrame) (a : IsBest heard channel x) (b : IsBest heard channel y) → length a.before < length b.before → ⊥
+before_other : (heard : List Hearing) (channel : Channel) (x y : HeardFrame) (a : IsBest heard channel x) (b : IsBest heard channel y)
+    → length a.before < length b.before → ⊥
 before_other heard channel x y a b lt =
     let hx : Hearing = within_on channel x in
     let hy : Hearing = within_on channel y in
@@ -41,8 +42,10 @@ before_other heard channel x y a b lt =
     ∙ ap (λ (t : List Hearing). get_or t (length a.before + suc j) hy) same
     ∙ get_or_at b.before hy b.after hy (length a.before + suc j) (omega arith) in
     let on : (ch : Channel) (f : HeardFrame) → IsWithinOn ch (within_on ch f) = λ ch f. record { channel_is = refl; within_is = refl } in
-    let x_first : IsNoBetter x y = subst (λ (h : Hearing). IsWithinOn channel h → IsNoBetter h.frame y) at_x (b.earlier (length a.before) hx lt) (on channel x) in
-    let y_behind : IsBehind y x = subst (λ (h : Hearing). IsWithinOn channel h → IsBehind h.frame x) at_y (a.later j hy (omega (arith, lengths))) (on channel y) in
+    let x_first : IsNoBetter x y = subst (λ (h : Hearing). IsWithinOn channel h → IsNoBetter h.frame y) at_x (b.earlier (length a.before) hx lt) (on channel x)
+    in
+    let y_behind : IsBehind y x = subst (λ (h : Hearing). IsWithinOn channel h → IsBehind h.frame x) at_y (a.later j hy (omega (arith, lengths))) (on channel y)
+    in
     never_both (count_of y.members) (count_of x.members) y.point.0 x.point.0 y_behind x_first
 
 pub one_best : (heard : List Hearing) (channel : Channel) (x y : HeardFrame) → IsBest heard channel x → IsBest heard channel y → x ≡ y

@@ -43,7 +43,8 @@ outside_stays heard members h within is i = (forth, back) where
   ]
 
 -- a frame outside adds its members
-pub outside_after : (heard : List Hearing) (members : Members) (h : Hearing) → h.within ≡ false → AreOutside heard members → AreOutside (heard ++ h ∷ []) (union members h.frame.members)
+pub outside_after : (heard : List Hearing) (members : Members) (h : Hearing) → h.within ≡ false → AreOutside heard members
+    → AreOutside (heard ++ h ∷ []) (union members h.frame.members)
 outside_after heard members h outside is i = (forth, back) where
   forth : IsMember i (union members h.frame.members) → Any (HasOutside i) (heard ++ h ∷ [])
   forth m = elim ((union-members members h.frame.members i).0 m) [

@@ -15,7 +15,8 @@ abbrev pub IsLevel : HeardFrame → HeardFrame → Type 0
 IsLevel frame other =
     (count_of frame.members ≡ count_of other.members) × (frame.point.0 ≡ other.point.0)
 
--- the frame was heard within on the channel; each other that was is behind it, or is level with it and was heard earlier
+-- the frame was heard within on the channel; each other that was is behind it, or is level with it and was heard
+-- earlier
 pub record IsBest (heard : List Hearing) (channel : Channel) (frame : HeardFrame) : Type 0 where
   pub before : List Hearing
   pub after : List Hearing

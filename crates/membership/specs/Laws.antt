@@ -8,7 +8,9 @@ use Rattle.membership.specs.Summary.{Summary, Summarizes}
 
 -- a set of masters with numbers below the width has as many as there are bits set below it
 abbrev pub CountIsOfMembers : Type 0
-CountIsOfMembers = (width : ℕ) (m : Members) → m.0 < 2 ^ width → count_of m ≡ count_by (λ i. bit_at m.0 i == 1) (range_with_len 0 width)
+CountIsOfMembers =
+    (width : ℕ) (m : Members) → m.0 < 2 ^ width
+    → count_of m ≡ count_by (λ i. bit_at m.0 i == 1) (range_with_len 0 width)
 
 -- a set has one master more, once one that is not in it joins it
 abbrev pub OneMoreMember : Type 0

@@ -24,13 +24,16 @@ best_on B s = s.best_b
 
 -- one more frame came within on the channel: the better of it and the best so far is the best
 abbrev pub HearsWithin : Summary → Channel → HeardFrame → Summary → Type 0
-HearsWithin old A frame new = (best : HeardFrame) × IsBetterOf old.best_a frame best × (new ≡ record old { best_a = Some best })
-HearsWithin old B frame new = (best : HeardFrame) × IsBetterOf old.best_b frame best × (new ≡ record old { best_b = Some best })
+HearsWithin old A frame new =
+    (best : HeardFrame) × IsBetterOf old.best_a frame best × (new ≡ record old { best_a = Some best })
+HearsWithin old B frame new =
+    (best : HeardFrame) × IsBetterOf old.best_b frame best × (new ≡ record old { best_b = Some best })
 
 -- one more frame came: within on its channel, or outside, where its members are added to the set
 abbrev pub Hears : Summary → Hearing → Summary → Type 0
 Hears old h new =
-    MatchBool h.within (HearsWithin old h.channel h.frame new) (new ≡ record old { outside = union old.outside h.frame.members })
+    MatchBool h.within (HearsWithin old h.channel h.frame new)
+    (new ≡ record old { outside = union old.outside h.frame.members })
 
 -- a master is in the set exactly where it is a member of a frame that was heard outside
 abbrev pub AreOutside : List Hearing → Members → Type 0

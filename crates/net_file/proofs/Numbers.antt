@@ -28,13 +28,17 @@ through true x o p = refl
 through false x o p = refl
 
 -- what is found after a new name is put in
-pub found_after : (eq : Bor (List ℕ) → Bor (List ℕ) → Bool) → ((a b : Bor (List ℕ)) → eq a b ≡ bytes_eq a.now b.now) → (es : Entries) (k : Bor (List ℕ)) (v : ℕ) (text : List ℕ) → lookup_text k.now es ≡ None → lookup_text text (insert_entry eq es k v) ≡ option_or (lookup_text text es) (cond (bytes_eq text k.now) (Some v) None)
+pub found_after : (eq : Bor (List ℕ) → Bor (List ℕ) → Bool) → ((a b : Bor (List ℕ)) → eq a b ≡ bytes_eq a.now b.now)
+    → (es : Entries) (k : Bor (List ℕ)) (v : ℕ) (text : List ℕ) → lookup_text k.now es ≡ None → lookup_text text (insert_entry eq es k v) ≡ option_or
+    (lookup_text text es) (cond (bytes_eq text k.now) (Some v) None)
 found_after eq same [] k v text h = refl
 found_after eq same (e ∷ es) k v text h =
     let m = missed (bytes_eq k.now e.0.now) e.1 (lookup_text k.now es) h in
-    rw (same k e.0, m.0, found_after eq same es k v text m.1) (through (bytes_eq text e.0.now) e.1 (lookup_text text es) (cond (bytes_eq text k.now) (Some v) None))
+    rw (same k e.0, m.0, found_after eq same es k v text m.1)
+    (through (bytes_eq text e.0.now) e.1 (lookup_text text es) (cond (bytes_eq text k.now) (Some v) None))
 
-position_last : (t : List ℕ → Bool) (s : ℕ) (xs : List (List ℕ)) (x : List ℕ) → position_from t s (xs ++ x ∷ []) ≡ option_or (position_from t s xs) (cond (t x) (Some (s + length xs)) None)
+position_last : (t : List ℕ → Bool) (s : ℕ) (xs : List (List ℕ)) (x : List ℕ) → position_from t s (xs ++ x ∷ []) ≡ option_or (position_from t s xs)
+    (cond (t x) (Some (s + length xs)) None)
 position_last t s [] x = let e : s + 0 ≡ s = omega arith in rw e refl
 position_last t s (y ∷ ys) x =
     let e : s + 1 + length ys ≡ s + length (y ∷ ys) = omega arith in
@@ -43,15 +47,18 @@ position_last t s (y ∷ ys) x =
 first_of_last : (names : List (List ℕ)) (name text : List ℕ) → first_of (names ++ name ∷ []) text ≡ with_name (first_of names) name (length names) text
 first_of_last names name text =
     let e : 0 + length names ≡ length names = omega arith in
-    subst (λ (n : ℕ). first_of (names ++ name ∷ []) text ≡ option_or (first_of names text) (cond (bytes_eq text name) (Some n) None)) e (position_last (bytes_eq text) 0 names name)
+    subst (λ (n : ℕ). first_of (names ++ name ∷ []) text ≡ option_or (first_of names text) (cond (bytes_eq text name) (Some n) None)) e
+    (position_last (bytes_eq text) 0 names name)
 
 -- the numbering of the names of some things and the next
-pub first_of_more : {X : Type 0} (f : X → List ℕ) (xs : List X) (i : ℕ) (d : X) → i < length xs → first_of (map f (take (i + 1) xs)) ≡ with_name (first_of (map f (take i xs))) (f (get_or xs i d)) i
+pub first_of_more : {X : Type 0} (f : X → List ℕ) (xs : List X) (i : ℕ) (d : X) → i < length xs
+    → first_of (map f (take (i + 1) xs)) ≡ with_name (first_of (map f (take i xs))) (f (get_or xs i d)) i
 first_of_more f xs i d h j text =
     let count : length (map f (take i xs)) ≡ i = omega (arith, h, length-map (take i xs) f, length-take i xs) in
     let step : first_of (map f (take (i + 1) xs)) text ≡ with_name (first_of (map f (take i xs))) (f (get_or xs i d)) i text =
     rw (take_more xs i d h, map-append f (take i xs) (get_or xs i d ∷ []))
-    (subst (λ (n : ℕ). first_of (map f (take i xs) ++ f (get_or xs i d) ∷ []) text ≡ with_name (first_of (map f (take i xs))) (f (get_or xs i d)) n text) count (first_of_last (map f (take i xs)) (f (get_or xs i d)) text)) in
+    (subst (λ (n : ℕ). first_of (map f (take i xs) ++ f (get_or xs i d) ∷ []) text ≡ with_name (first_of (map f (take i xs))) (f (get_or xs i d)) n text) count
+    (first_of_last (map f (take i xs)) (f (get_or xs i d)) text)) in
     step j
 
 below_case : (b : Bool) (s n : ℕ) (o : Option ℕ) → IfSome o (λ i. i < s + 1 + n) → IfSome (cond b (Some s) o) (λ i. i < s + suc n)
@@ -63,7 +70,9 @@ position_below t s [] = tt
 position_below t s (x ∷ xs) = below_case (t x) s (length xs) (position_from t (s + 1) xs) (position_below t (s + 1) xs)
 
 -- the numbers of the names of some things are below their count
-pub names_below : {X : Type 0} (f : X → List ℕ) (xs : List X) (count : ℕ) (numbers : Numbering) → numbers ≡ first_of (map f xs) → count ≡ length xs → IsBelow count numbers
+pub names_below : {X : Type 0} (f : X → List ℕ) (xs : List X) (count : ℕ) (numbers : Numbering) → numbers ≡ first_of (map f xs) → count ≡ length xs
+    → IsBelow count numbers
 names_below f xs count numbers same sized text =
     let e : 0 + length (map f xs) ≡ count = omega (arith, length-map xs f, sized) in
-    subst (λ (m : Numbering). IfSome (m text) (λ i. i < count)) (sym same) (subst (λ (n : ℕ). IfSome (first_of (map f xs) text) (λ i. i < n)) e (position_below (bytes_eq text) 0 (map f xs)))
+    subst (λ (m : Numbering). IfSome (m text) (λ i. i < count)) (sym same)
+    (subst (λ (n : ℕ). IfSome (first_of (map f xs) text) (λ i. i < n)) e (position_below (bytes_eq text) 0 (map f xs)))

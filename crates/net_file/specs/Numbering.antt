@@ -28,4 +28,6 @@ IsBelow bound numbering = (text : List ℕ) → IfSome (numbering text) (λ i. i
 
 -- the number of a text is the place of its first bearer, and a text that nothing bears has none
 abbrev pub MeansFirstBearer : Type 0
-MeansFirstBearer = (names : List (List ℕ)) (text : List ℕ) → MatchOption (first_of names text) (HasNoBearer names text) (IsFirstBearer names text)
+MeansFirstBearer =
+    (names : List (List ℕ)) (text : List ℕ) → MatchOption (first_of names text) (HasNoBearer names text)
+    (IsFirstBearer names text)

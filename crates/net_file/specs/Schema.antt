@@ -4,6 +4,7 @@ use Rattle.std.specs.Str.{is_utf8}
 use Rattle.std.specs.Option.{unwrap_or}
 use Rattle.toml.specs.Data.{Data, Items, no_items, item, Members, table}
 use Rattle.toml.specs.Parse.{parse_document}
+use Rattle.net_plan.specs.Bearers.{device_names, link_names, vl_names}
 use Rattle.net_plan.specs.Places.{is_end_system, is_master}
 use Rattle.net_plan.specs.declared.network.Network.{Network}
 use Rattle.net_plan.specs.declared.tables.Device.{Device}
@@ -30,7 +31,8 @@ document = record { table = places.Top; index = 0 }
 -- the keys of the top table
 abbrev pub document_keys : List KeyName
 document_keys =
-    keys.Version ∷ keys.Cycle ∷ keys.Rho ∷ keys.Grain ∷ keys.Dmax ∷ keys.Calc ∷ keys.Settled ∷ keys.Precision ∷ keys.Correction
+    keys.Version ∷ keys.Cycle ∷ keys.Rho ∷ keys.Grain ∷ keys.Dmax ∷ keys.Calc ∷ keys.Settled ∷ keys.Precision
+    ∷ keys.Correction
     ∷ keys.TtStart ∷ keys.SyncThreshold ∷ keys.Priority ∷ keys.Domain ∷ keys.PcfDestination ∷ keys.Marker
     ∷ keys.Device ∷ keys.Link ∷ keys.Vl ∷ keys.Row ∷ []
 
@@ -117,7 +119,15 @@ link_of devices index entries = do
   hold ← time 0 (2 ^ 40) (link_at index) keys.Hold entries
   speed ← number speed_of (link_at index) keys.Speed entries
   end ← nothing_else link_keys (link_at index) entries
-  Ok (record { name = name; child = record { 0 = child }; parent = record { 0 = parent }; wire = wire; jitter = jitter; hold = hold; speed = speed })
+  Ok (record {
+    name = name;
+    child = record { 0 = child };
+    parent = record { 0 = parent };
+    wire = wire;
+    jitter = jitter;
+    hold = hold;
+    speed = speed;
+  })
 
 -- the keys of a virtual link
 abbrev pub vl_keys : List KeyName
@@ -138,7 +148,15 @@ vl_of devices index entries = do
   period ← whole 1 64 (vl_at index) keys.Period entries
   phase ← whole 0 63 (vl_at index) keys.Phase entries
   end ← nothing_else vl_keys (vl_at index) entries
-  Ok (record { name = name; id = id; length = octets; ethertype = ethertype; sender = record { 0 = sender }; period = period; phase = phase })
+  Ok (record {
+    name = name;
+    id = id;
+    length = octets;
+    ethertype = ethertype;
+    sender = record { 0 = sender };
+    period = period;
+    phase = phase;
+  })
 
 -- the keys of a row
 abbrev pub row_keys : List KeyName
@@ -157,18 +175,6 @@ row_of vls links index entries = do
   offset ← time 0 (2 ^ 40) (row_at index) keys.Offset entries
   end ← nothing_else row_keys (row_at index) entries
   Ok (record { vl = record { 0 = vl }; link = record { 0 = link }; way = way; offset = offset })
-
--- the names of the devices, in their order
-abbrev pub device_names : List Device → List (List ℕ)
-device_names devices = map (λ d. d.name) devices
-
--- the names of the links, in their order
-abbrev pub link_names : List Link → List (List ℕ)
-link_names links = map (λ l. l.name) links
-
--- the names of the virtual links, in their order
-abbrev pub vl_names : List VirtualLink → List (List ℕ)
-vl_names vls = map (λ v. v.name) vls
 
 -- the things of an array's tables in their order, each read at its index, behind those read so far
 abbrev pub each : {A : Type 0} → (ℕ → Data → Read A) → List A → Items → Read (List A)
@@ -201,6 +207,7 @@ network_in (Some entries) = network_of (table entries)
 abbrev pub parsed : List ℕ → Option Members
 parsed text = if is_utf8 text then parse_document text else None
 
--- the network that a text means, or the first fault of the text
+-- the network that a text means, or the first fault of the text; this is the grammar of a network file:
+-- what the definitions of this file say, in their order, is what a file means, and nothing stands above it
 abbrev pub network_read : List ℕ → Read Network
 network_read text = network_in (parsed text)

@@ -45,7 +45,8 @@ fn device_keys(role: Role) -> &'static [KeyName]
 fn read_member(table: &Reader<'_>, role: Role) -> Result<Option<u32>, FileRefusal>
     ensures there { IfOk result (λ m. is_some m ≡ is_master role) }
     ensures least { IfOk result (λ m. IfSome m (λ n. n ≤ 31)) }
-    ensures value { result ≡ only_if (is_master role) (whole 0 31 table.now.place keys.Member (view table.now.table.now)) }
+    ensures value { result ≡ only_if (is_master role)
+        (whole 0 31 table.now.place keys.Member (view table.now.table.now)) }
 {
     match role {
         Role::Master => {
@@ -59,7 +60,8 @@ fn read_member(table: &Reader<'_>, role: Role) -> Result<Option<u32>, FileRefusa
 // The channel, which a switch has.
 fn read_channel(table: &Reader<'_>, role: Role) -> Result<Option<Channel>, FileRefusal>
     ensures there { IfOk result (λ c. is_some c ≡ not (is_end_system role)) }
-    ensures value { result ≡ only_if (not (is_end_system role)) (word channel_of table.now.place keys.Channel (view table.now.table.now)) }
+    ensures value { result ≡ only_if (not (is_end_system role))
+        (word channel_of table.now.place keys.Channel (view table.now.table.now)) }
 {
     match role {
         Role::Cm | Role::Relay => {

@@ -21,7 +21,8 @@ use toml::Value;
 
 #[tactic(auto, using(crate::proofs::Documents::not_parsed, crate::proofs::Documents::is_parsed))]
 fn parse(alloc: Global, text: &[u8]) -> Result<Value, FileRefusal>
-    ensures { MatchResult result (λ v. (ms : _) × (parsed text.now ≡ Some ms) × (view v ≡ table ms)) (λ e. (e ≡ OutOfMemory) ⊎ ((e ≡ NotToml) × (parsed text.now ≡ None))) }
+    ensures { MatchResult result (λ v. (ms : _) × (parsed text.now ≡ Some ms) × (view v ≡ table ms))
+        (λ e. (e ≡ OutOfMemory) ⊎ ((e ≡ NotToml) × (parsed text.now ≡ None))) }
 {
     let text = match std::str::from_utf8(text) {
         Ok(text) => text,
@@ -64,7 +65,8 @@ fn read_value(alloc: Global, value: &Value) -> Result<Network, FileRefusal>
 /// The text has at most 262,144 octets. It is read in this order: whether it is a TOML document;
 /// the keys of the whole document, and whether it has others; whether `device`, `link`, `vl` and
 /// `row` are arrays of tables; then each of their tables, the keys in their order, and whether it
-/// has others. A key is first looked for, then its kind is judged, then its value.
+/// has others. A key is first looked for, then its kind is judged, then its value. The grammar is
+/// `network_read` in `specs/Schema.antt`: what stands there, line by line, is what a file means.
 pub fn read_network(alloc: Global, text: &[u8]) -> Result<Network, FileRefusal>
     requires { length text.now ≤ 262144 }
     ensures in_range { IfOk result IsInRange }

@@ -4,7 +4,8 @@ ghost use Rattle.net_plan.specs.Ranges.{IsLinkInRange};
 ghost use Rattle.net_plan.specs.declared.network.Network.{Network};
 ghost use Rattle.toml.specs.View.{view, items_view};
 ghost use Rattle.net_file.specs.Numbering.{numbering, first_of, IsBelow};
-ghost use Rattle.net_file.specs.Schema.{link_of, each, device_names};
+ghost use Rattle.net_file.specs.Schema.{link_of, each};
+ghost use Rattle.net_plan.specs.Bearers.{device_names};
 ghost use Rattle.net_file.specs.Steps.{Gives};
 
 use crate::index::next_index;
@@ -29,7 +30,8 @@ const KEYS: [KeyName; 7] = [
 
 #[tactic(auto, unfolding(crate::specs::Schema::link_of))]
 fn read_link(devices: &Names<'_>, index: u32, table: &Value) -> Result<Link, FileRefusal>
-    ensures in_range { (network : Network) → IsBelow (length network.device) (numbering devices.now.numbers) → IfOk result (IsLinkInRange network) }
+    ensures in_range { (network : Network) → IsBelow (length network.device) (numbering devices.now.numbers)
+        → IfOk result (IsLinkInRange network) }
     ensures value { result ≡ link_of (numbering devices.now.numbers) index (view table.now) }
 {
     let table = Reader {
@@ -63,8 +65,10 @@ fn read_numbered(
     devices: &Names<'_>,
     tables: &[Value],
 ) -> Result<Vec<Link>, FileRefusal>
-    ensures value { Gives (λ v. v.items) (each (link_of (numbering devices.now.numbers)) [] (items_view tables.now)) result }
-    ensures in_range { (network : Network) → IsBelow (length network.device) (numbering devices.now.numbers) → IfOk result (λ v. All (IsLinkInRange network) v.items) }
+    ensures value { Gives (λ v. v.items) (each (link_of (numbering devices.now.numbers)) [] (items_view tables.now))
+        result }
+    ensures in_range { (network : Network) → IsBelow (length network.device) (numbering devices.now.numbers)
+        → IfOk result (λ v. All (IsLinkInRange network) v.items) }
     ensures few { IfOk result (λ v. length v.items < 2 ^ 32) }
 {
     let mut links = Vec::new(alloc);
@@ -90,8 +94,10 @@ pub(crate) fn read_links(
     devices: &[Device],
     tables: &[Value],
 ) -> Result<Vec<Link>, FileRefusal>
-    ensures value { Gives (λ v. v.items) (each (link_of (first_of (device_names devices.now))) [] (items_view tables.now)) result }
-    ensures in_range { (network : Network) → length network.device ≡ length devices.now → IfOk result (λ v. All (IsLinkInRange network) v.items) }
+    ensures value { Gives (λ v. v.items)
+        (each (link_of (first_of (device_names devices.now))) [] (items_view tables.now)) result }
+    ensures in_range { (network : Network) → length network.device ≡ length devices.now
+        → IfOk result (λ v. All (IsLinkInRange network) v.items) }
     ensures few { IfOk result (λ v. length v.items < 2 ^ 32) }
 {
     let devices = match Names::of_devices(alloc, devices) {

@@ -1,6 +1,6 @@
 ghost use Rattle.std.specs.Prelude.{◌≡◌, [], IfOk, OnOk, OnErr, IfErr, map, length};
 ghost use Rattle.net_file.specs.Numbering.{numbering, with_name, first_of};
-ghost use Rattle.net_file.specs.Schema.{device_names, link_names, vl_names};
+ghost use Rattle.net_plan.specs.Bearers.{device_names, link_names, vl_names};
 ghost use Rattle.net_file.specs.declared.refusal.FileRefusal.TheVariants.{OutOfMemory};
 
 use crate::FileRefusal;

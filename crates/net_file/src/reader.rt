@@ -55,7 +55,8 @@ impl<'a> Reader<'a> {
     // The value of a key, of whatever kind.
     #[tactic(auto, unfolding(crate::specs::Reading::value_of))]
     fn value(&self, key: KeyName) -> Result<&'a Value, FileRefusal>
-        ensures { MatchResult result (λ v. value_of self.now.place key (view self.now.table.now) ≡ Ok (view v.now)) (λ e. value_of self.now.place key (view self.now.table.now) ≡ Err e) }
+        ensures { MatchResult result (λ v. value_of self.now.place key (view self.now.table.now) ≡ Ok (view v.now))
+            (λ e. value_of self.now.place key (view self.now.table.now) ≡ Err e) }
     {
         match self.table.get(key.text()) {
             None => Err(FileRefusal::Missing(self.spot(key))),
@@ -136,7 +137,8 @@ impl<'a> Reader<'a> {
     // A text, whatever it says.
     #[tactic(auto, unfolding(crate::specs::Reading::text_of))]
     fn text(&self, key: KeyName) -> Result<&'a str, FileRefusal>
-        ensures { MatchResult result (λ t. text_of self.now.place key (view self.now.table.now) ≡ Ok t.now) (λ e. text_of self.now.place key (view self.now.table.now) ≡ Err e) }
+        ensures { MatchResult result (λ t. text_of self.now.place key (view self.now.table.now) ≡ Ok t.now)
+            (λ e. text_of self.now.place key (view self.now.table.now) ≡ Err e) }
     {
         let value = self.value(key)?;
         match value.as_str() {
@@ -227,7 +229,9 @@ impl<'a> Reader<'a> {
     /// The tables of an array, which is empty where it is absent.
     #[tactic(auto, unfolding(crate::specs::Reading::tables))]
     pub(crate) fn tables(&self, key: KeyName) -> Result<&'a [Value], FileRefusal>
-        ensures { MatchResult result (λ vs. tables self.now.place key (view self.now.table.now) ≡ Ok (items_view vs.now)) (λ e. tables self.now.place key (view self.now.table.now) ≡ Err e) }
+        ensures { MatchResult result
+            (λ vs. tables self.now.place key (view self.now.table.now) ≡ Ok (items_view vs.now))
+            (λ e. tables self.now.place key (view self.now.table.now) ≡ Err e) }
     {
         let value = match self.table.get(key.text()) {
             None => return Ok(&[]),

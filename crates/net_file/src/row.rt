@@ -4,7 +4,8 @@ ghost use Rattle.net_plan.specs.Ranges.{IsRowInRange};
 ghost use Rattle.net_plan.specs.declared.network.Network.{Network};
 ghost use Rattle.toml.specs.View.{view, items_view};
 ghost use Rattle.net_file.specs.Numbering.{numbering, first_of, IsBelow};
-ghost use Rattle.net_file.specs.Schema.{row_of, each, vl_names, link_names};
+ghost use Rattle.net_file.specs.Schema.{row_of, each};
+ghost use Rattle.net_plan.specs.Bearers.{vl_names, link_names};
 ghost use Rattle.net_file.specs.Steps.{Gives};
 
 use crate::index::next_index;
@@ -26,7 +27,8 @@ fn read_row(
     index: u32,
     table: &Value,
 ) -> Result<Row, FileRefusal>
-    ensures in_range { (network : Network) → IsBelow (length network.vl) (numbering vls.now.numbers) → IsBelow (length network.link) (numbering links.now.numbers) → IfOk result (IsRowInRange network) }
+    ensures in_range { (network : Network) → IsBelow (length network.vl) (numbering vls.now.numbers)
+        → IsBelow (length network.link) (numbering links.now.numbers) → IfOk result (IsRowInRange network) }
     ensures value { result ≡ row_of (numbering vls.now.numbers) (numbering links.now.numbers) index (view table.now) }
 {
     let table = Reader {
@@ -55,8 +57,11 @@ fn read_numbered(
     links: &Names<'_>,
     tables: &[Value],
 ) -> Result<Vec<Row>, FileRefusal>
-    ensures value { Gives (λ v. v.items) (each (row_of (numbering vls.now.numbers) (numbering links.now.numbers)) [] (items_view tables.now)) result }
-    ensures in_range { (network : Network) → IsBelow (length network.vl) (numbering vls.now.numbers) → IsBelow (length network.link) (numbering links.now.numbers) → IfOk result (λ v. All (IsRowInRange network) v.items) }
+    ensures value { Gives (λ v. v.items)
+        (each (row_of (numbering vls.now.numbers) (numbering links.now.numbers)) [] (items_view tables.now)) result }
+    ensures in_range { (network : Network) → IsBelow (length network.vl) (numbering vls.now.numbers)
+        → IsBelow (length network.link) (numbering links.now.numbers)
+        → IfOk result (λ v. All (IsRowInRange network) v.items) }
     ensures few { IfOk result (λ v. length v.items < 2 ^ 32) }
 {
     let mut rows = Vec::new(alloc);
@@ -83,8 +88,11 @@ pub(crate) fn read_rows(
     links: &[Link],
     tables: &[Value],
 ) -> Result<Vec<Row>, FileRefusal>
-    ensures value { Gives (λ v. v.items) (each (row_of (first_of (vl_names vls.now)) (first_of (link_names links.now))) [] (items_view tables.now)) result }
-    ensures in_range { (network : Network) → length network.vl ≡ length vls.now → length network.link ≡ length links.now → IfOk result (λ v. All (IsRowInRange network) v.items) }
+    ensures value { Gives (λ v. v.items)
+        (each (row_of (first_of (vl_names vls.now)) (first_of (link_names links.now))) [] (items_view tables.now))
+        result }
+    ensures in_range { (network : Network) → length network.vl ≡ length vls.now → length network.link ≡ length links.now
+        → IfOk result (λ v. All (IsRowInRange network) v.items) }
     ensures few { IfOk result (λ v. length v.items < 2 ^ 32) }
 {
     let vls = match Names::of_vls(alloc, vls) {

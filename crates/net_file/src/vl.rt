@@ -4,7 +4,8 @@ ghost use Rattle.net_plan.specs.Ranges.{IsVlInRange};
 ghost use Rattle.net_plan.specs.declared.network.Network.{Network};
 ghost use Rattle.toml.specs.View.{view, items_view};
 ghost use Rattle.net_file.specs.Numbering.{numbering, first_of, IsBelow};
-ghost use Rattle.net_file.specs.Schema.{vl_of, each, device_names};
+ghost use Rattle.net_file.specs.Schema.{vl_of, each};
+ghost use Rattle.net_plan.specs.Bearers.{device_names};
 ghost use Rattle.net_file.specs.Steps.{Gives};
 
 use crate::index::next_index;
@@ -28,7 +29,8 @@ const KEYS: [KeyName; 7] = [
 
 #[tactic(auto, unfolding(crate::specs::Schema::vl_of))]
 fn read_vl(devices: &Names<'_>, index: u32, table: &Value) -> Result<VirtualLink, FileRefusal>
-    ensures in_range { (network : Network) → IsBelow (length network.device) (numbering devices.now.numbers) → IfOk result (IsVlInRange network) }
+    ensures in_range { (network : Network) → IsBelow (length network.device) (numbering devices.now.numbers)
+        → IfOk result (IsVlInRange network) }
     ensures value { result ≡ vl_of (numbering devices.now.numbers) index (view table.now) }
 {
     let table = Reader {
@@ -62,8 +64,10 @@ fn read_numbered(
     devices: &Names<'_>,
     tables: &[Value],
 ) -> Result<Vec<VirtualLink>, FileRefusal>
-    ensures value { Gives (λ v. v.items) (each (vl_of (numbering devices.now.numbers)) [] (items_view tables.now)) result }
-    ensures in_range { (network : Network) → IsBelow (length network.device) (numbering devices.now.numbers) → IfOk result (λ v. All (IsVlInRange network) v.items) }
+    ensures value { Gives (λ v. v.items) (each (vl_of (numbering devices.now.numbers)) [] (items_view tables.now))
+        result }
+    ensures in_range { (network : Network) → IsBelow (length network.device) (numbering devices.now.numbers)
+        → IfOk result (λ v. All (IsVlInRange network) v.items) }
     ensures few { IfOk result (λ v. length v.items < 2 ^ 32) }
 {
     let mut vls = Vec::new(alloc);
@@ -89,8 +93,10 @@ pub(crate) fn read_vls(
     devices: &[Device],
     tables: &[Value],
 ) -> Result<Vec<VirtualLink>, FileRefusal>
-    ensures value { Gives (λ v. v.items) (each (vl_of (first_of (device_names devices.now))) [] (items_view tables.now)) result }
-    ensures in_range { (network : Network) → length network.device ≡ length devices.now → IfOk result (λ v. All (IsVlInRange network) v.items) }
+    ensures value { Gives (λ v. v.items) (each (vl_of (first_of (device_names devices.now))) [] (items_view tables.now))
+        result }
+    ensures in_range { (network : Network) → length network.device ≡ length devices.now
+        → IfOk result (λ v. All (IsVlInRange network) v.items) }
     ensures few { IfOk result (λ v. length v.items < 2 ^ 32) }
 {
     let devices = match Names::of_devices(alloc, devices) {

@@ -5,12 +5,14 @@ use Rattle.std.proofs.lemmas.Option.{slice_get-map, slice_get_within, slice_get-
 use Rattle.net_plan.specs.Bearers.{IsFirstBearer, HasNoBearer}
 
 -- the element behind an element of a mapped list
-pub behind : {X : Type 0} (f : X → List ℕ) (xs : List X) (k : ℕ) (y : List ℕ) → slice_get (map f xs) k ≡ Some y → (x : X) × (slice_get xs k ≡ Some x) × (f x ≡ y)
+pub behind : {X : Type 0} (f : X → List ℕ) (xs : List X) (k : ℕ) (y : List ℕ) → slice_get (map f xs) k ≡ Some y → (x : X) × (slice_get xs k ≡ Some x)
+    × (f x ≡ y)
 behind f [] k y e = search rules
 behind f (x ∷ xs) zero y e = (x, refl, search rules)
 behind f (x ∷ xs) (suc k) y e = behind f xs k y e
 
-not_named : {X : Type 0} (f : X → List ℕ) (xs : List X) (name : List ℕ) (high : ℕ) → AllWithin (λ x. f x ≢ name) xs 0 high → (k : ℕ) → k < high → slice_get (map f xs) k ≢ Some name
+not_named : {X : Type 0} (f : X → List ℕ) (xs : List X) (name : List ℕ) (high : ℕ) → AllWithin (λ x. f x ≢ name) xs 0 high → (k : ℕ) → k < high
+    → slice_get (map f xs) k ≢ Some name
 not_named f xs name high h k below e =
     let b = behind f xs k name e in
     h k b.0 (omega arith) below (ap f (get_or_from_slice_get xs k b.0 b.0 b.1) ∙ b.2)
@@ -20,9 +22,11 @@ within_map f xs name k e = let b = behind f xs k name e in slice_get_within xs k
 
 -- what `position` answers at a test of the name
 abbrev pub IsSearched : {X : Type 0} → (X → List ℕ) → List X → List ℕ → Option ℕ → Type 0
-IsSearched f xs name r = MatchOption r (AllWithin (λ x. f x ≢ name) xs 0 (length xs)) (λ i. (i < length xs) × HoldsAt (λ x. f x ≡ name) xs i × AllWithin (λ x. f x ≢ name) xs 0 i)
+IsSearched f xs name r =
+    MatchOption r (AllWithin (λ x. f x ≢ name) xs 0 (length xs)) (λ i. (i < length xs) × HoldsAt (λ x. f x ≡ name) xs i × AllWithin (λ x. f x ≢ name) xs 0 i)
 
-pub bearer_found : {X : Type 0} (f : X → List ℕ) (xs : List X) (name : List ℕ) (i : ℕ) → (i < length xs) × HoldsAt (λ x. f x ≡ name) xs i × AllWithin (λ x. f x ≢ name) xs 0 i → IsFirstBearer (map f xs) name i
+pub bearer_found : {X : Type 0} (f : X → List ℕ) (xs : List X) (name : List ℕ) (i : ℕ) → (i < length xs) × HoldsAt (λ x. f x ≡ name) xs i
+    × AllWithin (λ x. f x ≢ name) xs 0 i → IsFirstBearer (map f xs) name i
 bearer_found f [] name i h = absurd (omega (arith, h.0))
 bearer_found f (x ∷ xs) name i h = record {
   bears = slice_get-map f (x ∷ xs) i ∙ ap (Rattle.std.specs.Option.option_map f) (slice_get-get_or (x ∷ xs) i x h.0) ∙ ap (λ (n : List ℕ). Some n) (h.1 x);

@@ -29,16 +29,19 @@ either_role : (b : Bool) (o : Option Channel) (c : Channel) → ((b ≡ true) �
 either_role true o c = inl (inl refl)
 either_role false o c = ⊎_elim
     (λ (e : o ≡ Some c). let r : ((false ≡ true) ⊎ (o ≡ Some c)) ⊎ ((false ≡ true) ⊎ (o ≡ Some c) → ⊥) = inl (inr e) in r)
-    (λ (no : o ≡ Some c → ⊥). let r : ((false ≡ true) ⊎ (o ≡ Some c)) ⊎ ((false ≡ true) ⊎ (o ≡ Some c) → ⊥) = inr (λ h. ⊎_elim (λ (e : false ≡ true). let x : ⊥ = grind (arith, e) in x) no h) in r)
+    (λ (no : o ≡ Some c → ⊥). let r : ((false ≡ true) ⊎ (o ≡ Some c))
+    ⊎ ((false ≡ true) ⊎ (o ≡ Some c) → ⊥) = inr (λ h. ⊎_elim (λ (e : false ≡ true). let x : ⊥ = grind (arith, e) in x) no h) in r)
     (either_channel o c)
 
-either_device : (o : Option Device) (c : Channel) → IsSomeAnd o (λ d. (is_end_system d.role ≡ true) ⊎ (d.channel ≡ Some c)) ⊎ (IsSomeAnd o (λ d. (is_end_system d.role ≡ true) ⊎ (d.channel ≡ Some c)) → ⊥)
+either_device : (o : Option Device) (c : Channel) → IsSomeAnd o (λ d. (is_end_system d.role ≡ true) ⊎ (d.channel ≡ Some c))
+    ⊎ (IsSomeAnd o (λ d. (is_end_system d.role ≡ true) ⊎ (d.channel ≡ Some c)) → ⊥)
 either_device None c = inr (λ h. h)
 either_device (Some d) c = either_role (is_end_system d.role) d.channel c
 
 from_one : (n : Network) (c : Channel) (measure : List LinkId → ℕ) → IsTree n → (d : DeviceId) → (m : ℕ) × IsGreatest (IsOfPathFrom n c d measure) m
 from_one n c measure tree d = ⊎_elim
-    (λ (h : IsDeviceOf n c d). let p = tree.reach c d h in let r : (m : ℕ) × IsGreatest (IsOfPathFrom n c d measure) m = (measure p.0, greatest_from_path n c d measure p.0 (measure p.0) tree h p.2 refl) in r)
+    (λ (h : IsDeviceOf n c d). let p = tree.reach c d h in let r : (m : ℕ)
+    × IsGreatest (IsOfPathFrom n c d measure) m = (measure p.0, greatest_from_path n c d measure p.0 (measure p.0) tree h p.2 refl) in r)
     (λ (no : IsDeviceOf n c d → ⊥). let r : (m : ℕ) × IsGreatest (IsOfPathFrom n c d measure) m = (0, greatest_from_none n c d measure no) in r)
     (either_device (device_at n d) c)
 
@@ -47,8 +50,11 @@ from_first n c measure tree zero = (0, greatest_below_none n c measure)
 from_first n c measure tree (suc k) =
     let before = from_first n c measure tree k in
     let one = from_one n c measure tree (record { 0 = k }) in
-    let same : k + 1 ≡ suc k = omega arith in
-    (max before.0 one.0, subst (λ (p : ℕ). IsGreatest (IsOfPathBelow n c p measure) (max before.0 one.0)) same (greatest_below_more n c measure k before.0 one.0 before.1 one.1))
+    let same : k + 1 ≡ suc k = omega arith in (
+      max before.0 one.0,
+      subst (λ (p : ℕ). IsGreatest (IsOfPathBelow n c p measure) (max before.0 one.0)) same
+          (greatest_below_more n c measure k before.0 one.0 before.1 one.1),
+    )
 
 on_channel : (n : Network) (c : Channel) (measure : List LinkId → ℕ) → IsTree n → (m : ℕ) × IsGreatest (IsOfPathOn n c measure) m
 on_channel n c measure tree = let all = from_first n c measure tree (length n.device) in (all.0, greatest_below_all n c measure all.0 all.1)

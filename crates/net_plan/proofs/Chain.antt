@@ -41,7 +41,8 @@ of_two P x y zero h = inl (refl, h)
 of_two P x y (suc zero) h = inr (refl, h)
 of_two P x y (suc (suc i)) h = absurd h
 
-of_three : {X : Type 0} (P : X → Type 0) (x y z : X) (i : ℕ) → IsSomeAnd (slice_get (x ∷ y ∷ z ∷ []) i) P → ((i ≡ 0) × P x) ⊎ (((i ≡ 1) × P y) ⊎ ((i ≡ 2) × P z))
+of_three : {X : Type 0} (P : X → Type 0) (x y z : X) (i : ℕ) → IsSomeAnd (slice_get (x ∷ y ∷ z ∷ []) i) P → ((i ≡ 0) × P x)
+    ⊎ (((i ≡ 1) × P y) ⊎ ((i ≡ 2) × P z))
 of_three P x y z zero h = inl (refl, h)
 of_three P x y z (suc zero) h = inr (inl (refl, h))
 of_three P x y z (suc (suc zero)) h = inr (inr (refl, h))
@@ -52,8 +53,10 @@ same_number : (n : Network) (s : IsChain n) (c : Channel) (d : DeviceId) (link :
 same_number n s c d link u =
     let h = subst (λ (xs : List Link). IsSomeAnd (slice_get xs link.0) (λ (l : Link). (l.child ≡ d) × IsSwitchOf n c l.parent)) s.links u in
     ⊎_elim
-    (λ (f : (link.0 ≡ 0) × ((s.low.child ≡ d) × IsSwitchOf n c s.low.parent)). let e : s.low.child.0 ≡ d.0 = ap (λ (x : DeviceId). x.0) f.1.0 in let r : (link.0 ≡ d.0) × (link.0 ≤ 1) = (omega (arith, f.0, e, s.low_child), omega (arith, f.0)) in r)
-    (λ (f : (link.0 ≡ 1) × ((s.high.child ≡ d) × IsSwitchOf n c s.high.parent)). let e : s.high.child.0 ≡ d.0 = ap (λ (x : DeviceId). x.0) f.1.0 in let r : (link.0 ≡ d.0) × (link.0 ≤ 1) = (omega (arith, f.0, e, s.high_child), omega (arith, f.0)) in r)
+    (λ (f : (link.0 ≡ 0) × ((s.low.child ≡ d) × IsSwitchOf n c s.low.parent)). let e : s.low.child.0 ≡ d.0 = ap (λ (x : DeviceId). x.0)
+    f.1.0 in let r : (link.0 ≡ d.0) × (link.0 ≤ 1) = (omega (arith, f.0, e, s.low_child), omega (arith, f.0)) in r)
+    (λ (f : (link.0 ≡ 1) × ((s.high.child ≡ d) × IsSwitchOf n c s.high.parent)). let e : s.high.child.0 ≡ d.0 = ap (λ (x : DeviceId). x.0)
+    f.1.0 in let r : (link.0 ≡ d.0) × (link.0 ≤ 1) = (omega (arith, f.0, e, s.high_child), omega (arith, f.0)) in r)
     (of_two (λ (l : Link). (l.child ≡ d) × IsSwitchOf n c l.parent) s.low s.high link.0 h)
 
 no_cm : (r : Role) → r ≡ Relay → r ≡ Cm → ⊥
@@ -80,16 +83,20 @@ top n s = some_at (λ (x : Device). (x.role ≡ Cm) × (x.channel ≡ Some A)) n
 middle : (n : Network) (s : IsChain n) → IsPath n A (record { 0 = 1 }) (record { 0 = 1 } ∷ [])
 middle n s = some_at (λ (l : Link). (l.child ≡ record { 0 = 1 }) × IsSwitchOf n A l.parent × IsPath n A l.parent []) n.link (s.low ∷ s.high ∷ []) 1 s.links (
   ap (λ (i : ℕ). let d : DeviceId = record { 0 = i } in d) s.high_child,
-  subst (λ (i : ℕ). IsSwitchOf n A (record { 0 = i })) (sym s.high_parent) (some_at (λ (x : Device). x.channel ≡ Some A) n.device (s.one ∷ s.two ∷ s.cm ∷ []) 2 s.devices s.cm_channel),
+  subst (λ (i : ℕ). IsSwitchOf n A (record { 0 = i })) (sym s.high_parent) (some_at (λ (x : Device). x.channel ≡ Some A) n.device (s.one ∷ s.two ∷ s.cm ∷ []) 2
+      s.devices s.cm_channel),
   subst (λ (i : ℕ). IsPath n A (record { 0 = i }) []) (sym s.high_parent) (top n s),
 )
 
 bottom : (n : Network) (s : IsChain n) → IsPath n A (record { 0 = 0 }) (record { 0 = 0 } ∷ record { 0 = 1 } ∷ [])
-bottom n s = some_at (λ (l : Link). (l.child ≡ record { 0 = 0 }) × IsSwitchOf n A l.parent × IsPath n A l.parent (record { 0 = 1 } ∷ [])) n.link (s.low ∷ s.high ∷ []) 0 s.links (
-  ap (λ (i : ℕ). let d : DeviceId = record { 0 = i } in d) s.low_child,
-  subst (λ (i : ℕ). IsSwitchOf n A (record { 0 = i })) (sym s.low_parent) (some_at (λ (x : Device). x.channel ≡ Some A) n.device (s.one ∷ s.two ∷ s.cm ∷ []) 1 s.devices s.two_channel),
-  subst (λ (i : ℕ). IsPath n A (record { 0 = i }) (record { 0 = 1 } ∷ [])) (sym s.low_parent) (middle n s),
-)
+bottom n s =
+    some_at (λ (l : Link). (l.child ≡ record { 0 = 0 }) × IsSwitchOf n A l.parent × IsPath n A l.parent (record { 0 = 1 } ∷ [])) n.link (s.low ∷ s.high ∷ []) 0
+    s.links (
+      ap (λ (i : ℕ). let d : DeviceId = record { 0 = i } in d) s.low_child,
+      subst (λ (i : ℕ). IsSwitchOf n A (record { 0 = i })) (sym s.low_parent) (some_at (λ (x : Device). x.channel ≡ Some A) n.device (s.one ∷ s.two ∷ s.cm ∷ []) 1
+          s.devices s.two_channel),
+      subst (λ (i : ℕ). IsPath n A (record { 0 = i }) (record { 0 = 1 } ∷ [])) (sym s.low_parent) (middle n s),
+    )
 
 on_a : (x : Device) (c : Channel) → is_end_system x.role ≡ false → x.channel ≡ Some A → (is_end_system x.role ≡ true) ⊎ (x.channel ≡ Some c) → A ≡ c
 on_a x c switch at h = ⊎_elim
@@ -97,24 +104,31 @@ on_a x c switch at h = ⊎_elim
     (λ (e : x.channel ≡ Some c). ap (λ (o : Option Channel). Rattle.std.specs.Prelude.unwrap_or o A) (sym at ∙ e))
     h
 
-path_at : (n : Network) (c : Channel) (d : DeviceId) (i : ℕ) (links : List LinkId) → d.0 ≡ i → A ≡ c → length links ≤ 8 → IsPath n A (record { 0 = i }) links → HasPath n c d
-path_at n c d i links e a short path = (links, short, subst (λ (x : Channel). IsPath n x d links) a (subst (λ (k : ℕ). IsPath n A (record { 0 = k }) links) (sym e) path))
+path_at : (n : Network) (c : Channel) (d : DeviceId) (i : ℕ) (links : List LinkId) → d.0 ≡ i → A ≡ c → length links ≤ 8 → IsPath n A (record { 0 = i }) links
+    → HasPath n c d
+path_at n c d i links e a short path =
+    (links, short, subst (λ (x : Channel). IsPath n x d links) a (subst (λ (k : ℕ). IsPath n A (record { 0 = k }) links) (sym e) path))
 
 reach : (n : Network) (s : IsChain n) (c : Channel) (d : DeviceId) → IsDeviceOf n c d → HasPath n c d
 reach n s c d u =
     let h = subst (λ (xs : List Device). IsSomeAnd (slice_get xs d.0) (λ (x : Device). (is_end_system x.role ≡ true) ⊎ (x.channel ≡ Some c))) s.devices u in
     ⊎_elim
-    (λ (f : (d.0 ≡ 0) × ((is_end_system s.one.role ≡ true) ⊎ (s.one.channel ≡ Some c))). path_at n c d 0 (record { 0 = 0 } ∷ record { 0 = 1 } ∷ []) f.0 (on_a s.one c (ap is_end_system s.one_role) s.one_channel f.1) (omega arith) (bottom n s))
-    (λ (g : ((d.0 ≡ 1) × ((is_end_system s.two.role ≡ true) ⊎ (s.two.channel ≡ Some c))) ⊎ ((d.0 ≡ 2) × ((is_end_system s.cm.role ≡ true) ⊎ (s.cm.channel ≡ Some c)))). ⊎_elim
-    (λ (f : (d.0 ≡ 1) × ((is_end_system s.two.role ≡ true) ⊎ (s.two.channel ≡ Some c))). path_at n c d 1 (record { 0 = 1 } ∷ []) f.0 (on_a s.two c (ap is_end_system s.two_role) s.two_channel f.1) (omega arith) (middle n s))
-    (λ (f : (d.0 ≡ 2) × ((is_end_system s.cm.role ≡ true) ⊎ (s.cm.channel ≡ Some c))). path_at n c d 2 [] f.0 (on_a s.cm c (ap is_end_system s.cm_role) s.cm_channel f.1) (omega arith) (top n s))
+    (λ (f : (d.0 ≡ 0) × ((is_end_system s.one.role ≡ true) ⊎ (s.one.channel ≡ Some c))). path_at n c d 0 (record { 0 = 0 } ∷ record { 0 = 1 } ∷ []) f.0
+    (on_a s.one c (ap is_end_system s.one_role) s.one_channel f.1) (omega arith) (bottom n s))
+    (λ (g : ((d.0 ≡ 1) × ((is_end_system s.two.role ≡ true) ⊎ (s.two.channel ≡ Some c)))
+    ⊎ ((d.0 ≡ 2) × ((is_end_system s.cm.role ≡ true) ⊎ (s.cm.channel ≡ Some c)))). ⊎_elim
+    (λ (f : (d.0 ≡ 1) × ((is_end_system s.two.role ≡ true) ⊎ (s.two.channel ≡ Some c))). path_at n c d 1 (record { 0 = 1 } ∷ []) f.0
+    (on_a s.two c (ap is_end_system s.two_role) s.two_channel f.1) (omega arith) (middle n s))
+    (λ (f : (d.0 ≡ 2) × ((is_end_system s.cm.role ≡ true) ⊎ (s.cm.channel ≡ Some c))). path_at n c d 2 [] f.0
+    (on_a s.cm c (ap is_end_system s.cm_role) s.cm_channel f.1) (omega arith) (top n s))
     g)
     (of_three (λ (x : Device). (is_end_system x.role ≡ true) ⊎ (x.channel ≡ Some c)) s.one s.two s.cm d.0 h)
 
 pub chain_is_tree : (n : Network) → IsChain n → IsTree n
 chain_is_tree n s = record {
   root = λ c cm link h u. let a = same_number n s c cm link u in omega (arith, a.0, a.1, cm_number n s c cm h);
-  one_uplink = λ c d link other u v. ap (λ (i : ℕ). let l : LinkId = record { 0 = i } in l) ((same_number n s c d link u).0 ∙ sym (same_number n s c d other v).0);
+  one_uplink =
+      λ c d link other u v. ap (λ (i : ℕ). let l : LinkId = record { 0 = i } in l) ((same_number n s c d link u).0 ∙ sym (same_number n s c d other v).0);
   reach = reach n s;
 }
 

@@ -6,3 +6,4 @@ pub mod Greatest
 pub mod Shape
 pub mod Beta
 pub mod Chain
+pub mod Found

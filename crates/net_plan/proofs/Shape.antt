@@ -27,8 +27,11 @@ root n keeps c cm link h u =
     let j = keeps.joins link.0 l.0 l.1 in
     let d = opened (λ (x : Device). (x.role ≡ Cm) × (x.channel ≡ Some c)) (device_at n cm) h in
     ⊎_elim
-    (λ (e : IsEndSystem n l.0.child). cm_is_no_end d.0.role d.2.0 (at_known (λ (x : Device). is_end_system x.role ≡ true) (device_at n cm) d.0 d.1 (subst (λ (i : DeviceId). IsEndSystem n i) l.2.0 e)))
-    (λ (r : IsRoleOf n Relay j.0 l.0.child). cm_is_no_relay d.0.role d.2.0 (at_known (λ (x : Device). (x.role ≡ Relay) × (x.channel ≡ Some j.0)) (device_at n cm) d.0 d.1 (subst (λ (i : DeviceId). IsRoleOf n Relay j.0 i) l.2.0 r)).0)
+    (λ (e : IsEndSystem n l.0.child). cm_is_no_end d.0.role d.2.0
+    (at_known (λ (x : Device). is_end_system x.role ≡ true) (device_at n cm) d.0 d.1 (subst (λ (i : DeviceId). IsEndSystem n i) l.2.0 e)))
+    (λ (r : IsRoleOf n Relay j.0 l.0.child). cm_is_no_relay d.0.role d.2.0
+    (at_known (λ (x : Device). (x.role ≡ Relay) × (x.channel ≡ Some j.0)) (device_at n cm) d.0 d.1
+    (subst (λ (i : DeviceId). IsRoleOf n Relay j.0 i) l.2.0 r)).0)
     j.2
 
 child_of : (n : Network) (c : Channel) (d : DeviceId) (link : LinkId) → IsUplink n c d link → IsChildOf n d link
@@ -41,8 +44,10 @@ one_uplink n keeps c d link other u v =
     let l = opened (λ (x : Link). (x.child ≡ d) × IsSwitchOf n c x.parent) (link_at n link) u in
     let j = keeps.joins link.0 l.0 l.1 in
     ⊎_elim
-    (λ (e : IsEndSystem n l.0.child). let one = (keeps.connected d.0).ends (subst (λ (i : DeviceId). IsEndSystem n i) l.2.0 e) c in let r : link ≡ other = one.2 link u ∙ sym (one.2 other v) in r)
-    (λ (r : IsRoleOf n Relay j.0 l.0.child). let one = (keeps.connected d.0).relays j.0 (subst (λ (i : DeviceId). IsRoleOf n Relay j.0 i) l.2.0 r) in let r : link ≡ other = one.2 link (child_of n c d link u) ∙ sym (one.2 other (child_of n c d other v)) in r)
+    (λ (e : IsEndSystem n l.0.child). let one = (keeps.connected d.0).ends (subst (λ (i : DeviceId). IsEndSystem n i) l.2.0 e) c in let r : link ≡ other = one.2
+    link u ∙ sym (one.2 other v) in r)
+    (λ (r : IsRoleOf n Relay j.0 l.0.child). let one = (keeps.connected d.0).relays j.0 (subst (λ (i : DeviceId). IsRoleOf n Relay j.0 i) l.2.0 r) in let r :
+    link ≡ other = one.2 link (child_of n c d link u) ∙ sym (one.2 other (child_of n c d other v)) in r)
     j.2
 
 -- a path by the first uplinks is a path

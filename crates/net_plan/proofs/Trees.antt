@@ -27,7 +27,8 @@ uplink_of_path n c d link links h =
     closed (λ l. (l.child ≡ d) × IsSwitchOf n c l.parent) (link_at n link) k.0 k.1 (k.2.0, k.2.1)
 
 -- a path goes by each uplink that there is
-pub followed : (n : Network) (c : Channel) (d : DeviceId) (link : LinkId) (k : Link) (rest : List LinkId) → IsTree n → IsUplink n c d link → link_at n link ≡ Some k → IsPath n c d rest → (later : List LinkId) × (rest ≡ link ∷ later) × IsPath n c k.parent later
+pub followed : (n : Network) (c : Channel) (d : DeviceId) (link : LinkId) (k : Link) (rest : List LinkId) → IsTree n → IsUplink n c d link
+    → link_at n link ≡ Some k → IsPath n c d rest → (later : List LinkId) × (rest ≡ link ∷ later) × IsPath n c k.parent later
 followed n c d link k [] tree up at h = absurd (tree.root c d link h up)
 followed n c d link k (m ∷ ms) tree up at h =
     let same : m ≡ link = tree.one_uplink c d m link (uplink_of_path n c d m ms h) up in

@@ -1,5 +1,7 @@
 use Rattle.std.specs.Prelude.{◌≡◌, ◌≢◌, ℕ, ◌<◌, List, map, slice_get, Some}
-use Rattle.net_plan.specs.declared.network.Network.{Network}
+use Rattle.net_plan.specs.declared.tables.Device.{Device}
+use Rattle.net_plan.specs.declared.tables.Link.{Link}
+use Rattle.net_plan.specs.declared.tables.VirtualLink.{VirtualLink}
 
 -- the thing at place i has the name, and no thing before it has
 pub record IsFirstBearer (names : List (List ℕ)) (name : List ℕ) (i : ℕ) : Type 0 where
@@ -11,13 +13,13 @@ abbrev pub HasNoBearer : List (List ℕ) → List ℕ → Type 0
 HasNoBearer names name = (k : ℕ) → slice_get names k ≢ Some name
 
 -- the names of the devices, in their order
-abbrev pub device_names : Network → List (List ℕ)
-device_names network = map (λ d. d.name) network.device
+abbrev pub device_names : List Device → List (List ℕ)
+device_names devices = map (λ d. d.name) devices
 
 -- the names of the links, in their order
-abbrev pub link_names : Network → List (List ℕ)
-link_names network = map (λ l. l.name) network.link
+abbrev pub link_names : List Link → List (List ℕ)
+link_names links = map (λ l. l.name) links
 
 -- the names of the virtual links, in their order
-abbrev pub vl_names : Network → List (List ℕ)
-vl_names network = map (λ v. v.name) network.vl
+abbrev pub vl_names : List VirtualLink → List (List ℕ)
+vl_names vls = map (λ v. v.name) vls

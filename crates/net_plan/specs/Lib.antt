@@ -3,6 +3,7 @@ pub mod Padding
 pub mod Unpacking
 pub mod Bearers
 pub mod Places
+pub mod Belonging
 pub mod Paths
 pub mod Ranges
 pub mod Bounds

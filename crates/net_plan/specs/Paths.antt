@@ -43,9 +43,12 @@ LeadsToCm network channel device =
 -- each channel is a tree: its compression master is its root, no device has two uplinks, and each
 -- device of the channel has a path
 pub record IsTree (network : Network) : Type 0 where
-  pub root : (channel : Channel) (cm : DeviceId) (link : LinkId) → IsCmOf network channel cm → IsUplink network channel cm link → ⊥
-  pub one_uplink : (channel : Channel) (device : DeviceId) (link other : LinkId) → IsUplink network channel device link → IsUplink network channel device other → link ≡ other
-  pub reach : (channel : Channel) (device : DeviceId) → IsDeviceOf network channel device → HasPath network channel device
+  pub root : (channel : Channel) (cm : DeviceId) (link : LinkId) → IsCmOf network channel cm
+      → IsUplink network channel cm link → ⊥
+  pub one_uplink : (channel : Channel) (device : DeviceId) (link other : LinkId) → IsUplink network channel device link
+      → IsUplink network channel device other → link ≡ other
+  pub reach : (channel : Channel) (device : DeviceId) → IsDeviceOf network channel device
+      → HasPath network channel device
 
 -- a device has no two paths on a channel
 abbrev pub PathsAreUnique : Type 0

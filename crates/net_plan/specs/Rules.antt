@@ -58,9 +58,12 @@ IsChildOf network device link = IsSomeAnd (link_at network link) (λ l. l.child 
 -- from each device the first uplinks lead to the compression master of each of its channels over at
 -- most eight links
 pub record IsConnected (network : Network) (i : ℕ) : Type 0 where
-  pub ends : IsEndSystem network (record { 0 = i }) → (channel : Channel) → ExactlyOne (IsUplink network channel (record { 0 = i }))
-  pub relays : (channel : Channel) → IsRoleOf network Relay channel (record { 0 = i }) → ExactlyOne (IsChildOf network (record { 0 = i }))
-  pub paths : (channel : Channel) → IsDeviceOf network channel (record { 0 = i }) → LeadsToCm network channel (record { 0 = i })
+  pub ends : IsEndSystem network (record { 0 = i }) → (channel : Channel)
+      → ExactlyOne (IsUplink network channel (record { 0 = i }))
+  pub relays : (channel : Channel) → IsRoleOf network Relay channel (record { 0 = i })
+      → ExactlyOne (IsChildOf network (record { 0 = i }))
+  pub paths : (channel : Channel) → IsDeviceOf network channel (record { 0 = i })
+      → LeadsToCm network channel (record { 0 = i })
 
 -- the masters of the network
 abbrev pub masters : Network → List Device

@@ -21,8 +21,11 @@ pub writes : (p : Pcf) (destination source kind : ℕ) (b1 b2 b3 b4 b5 b6 : List
     → b3 ≡ big_bytes 2 pcf_type ++ drop 2 (mid_of 12 48 (put_mid 6 54 b1 b2))
     → b4 ≡ big_bytes 4 p.cycle ++ drop 4 (mid_of 14 46 (put_mid 12 48 (put_mid 6 54 b1 b2) b3))
     → b5 ≡ big_bytes 4 p.members.0 ++ drop 4 (mid_of 18 42 (put_mid 14 46 (put_mid 12 48 (put_mid 6 54 b1 b2) b3) b4))
-    → b6 ≡ big_bytes 8 p.clock ++ drop 8 (mid_of 34 26 (slice_set (slice_set (slice_set (put_mid 18 42 (put_mid 14 46 (put_mid 12 48 (put_mid 6 54 b1 b2) b3) b4) b5) 26 p.priority) 27 p.domain) 28 kind))
-    → put_mid 34 26 (slice_set (slice_set (slice_set (put_mid 18 42 (put_mid 14 46 (put_mid 12 48 (put_mid 6 54 b1 b2) b3) b4) b5) 26 p.priority) 27 p.domain) 28 kind) b6 ≡ encoded p
+    → b6 ≡ big_bytes 8 p.clock
+    ++ drop 8 (mid_of 34 26
+    (slice_set (slice_set (slice_set (put_mid 18 42 (put_mid 14 46 (put_mid 12 48 (put_mid 6 54 b1 b2) b3) b4) b5) 26 p.priority) 27 p.domain) 28 kind))
+    → put_mid 34 26 (slice_set (slice_set (slice_set (put_mid 18 42 (put_mid 14 46 (put_mid 12 48 (put_mid 6 54 b1 b2) b3) b4) b5) 26 p.priority) 27 p.domain)
+    28 kind) b6 ≡ encoded p
 writes p destination source kind b1 b2 b3 b4 b5 b6 d s k h1 h2 h3 h4 h5 h6 = rw (h6, h5, h4, h3, h2, h1, d, s, k) refl
 
 -- each field fits its octets

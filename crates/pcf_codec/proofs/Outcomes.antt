@@ -34,7 +34,8 @@ first_type octets size n = record { there = (size, n); least = least }
     least (Reserved i) (s, inr r, z) = omega arith
     least (Kind k) h = omega arith
 
-first_reserved : (octets : List ℕ) (j : ℕ) → IsTyped octets → 22 ≤ j → j < 26 → slice_index octets j ≢ 0 → AreZero 22 (j - 22) octets → IsFirstFault octets (Reserved j)
+first_reserved : (octets : List ℕ) (j : ℕ) → IsTyped octets → 22 ≤ j → j < 26 → slice_index octets j ≢ 0 → AreZero 22 (j - 22) octets
+    → IsFirstFault octets (Reserved j)
 first_reserved octets j t low high ne before = record { there = (t.size, inl (low, omega arith), ne); least = least }
   where
     least : (f : PcfRefusal) → HasFault octets f → j ≤ offset_of f
@@ -44,7 +45,8 @@ first_reserved octets j t low high ne before = record { there = (t.size, inl (lo
     least (Reserved i) (s, inr r, z) = omega arith
     least (Kind k) h = omega arith
 
-first_kind : (octets : List ℕ) (k : ℕ) → IsTyped octets → AreZero 22 4 octets → slice_index octets 28 ≡ k → ((c : PcfKind) → code_of c ≢ k) → IsFirstFault octets (Kind k)
+first_kind : (octets : List ℕ) (k : ℕ) → IsTyped octets → AreZero 22 4 octets → slice_index octets 28 ≡ k → ((c : PcfKind) → code_of c ≢ k)
+    → IsFirstFault octets (Kind k)
 first_kind octets k t before at no_code = record { there = (t.size, at, no_code); least = least }
   where
     least : (f : PcfRefusal) → HasFault octets f → 28 ≤ offset_of f
@@ -54,7 +56,8 @@ first_kind octets k t before at no_code = record { there = (t.size, at, no_code)
     least (Reserved i) (s, inr r, z) = omega arith
     least (Kind k') h = omega arith
 
-first_behind : (octets : List ℕ) (j : ℕ) (c : PcfKind) → IsTyped octets → AreZero 22 4 octets → slice_index octets 28 ≡ code_of c → 29 ≤ j → j < 34 → slice_index octets j ≢ 0 → AreZero 29 (j - 29) octets → IsFirstFault octets (Reserved j)
+first_behind : (octets : List ℕ) (j : ℕ) (c : PcfKind) → IsTyped octets → AreZero 22 4 octets → slice_index octets 28 ≡ code_of c → 29 ≤ j → j < 34
+    → slice_index octets j ≢ 0 → AreZero 29 (j - 29) octets → IsFirstFault octets (Reserved j)
 first_behind octets j c t before at low high ne between = record { there = (t.size, inr (low, omega arith), ne); least = least }
   where
     least : (f : PcfRefusal) → HasFault octets f → j ≤ offset_of f
@@ -68,7 +71,8 @@ reserved_zero : (octets : List ℕ) → AreZero 22 4 octets → AreZero 29 5 oct
 reserved_zero octets a b i (inl r) = a i r.0 (omega arith)
 reserved_zero octets a b i (inr r) = b i r.0 (omega arith)
 
-spelt_so : (octets : List ℕ) (c : PcfKind) → IsTyped octets → AreZero 22 4 octets → slice_index octets 28 ≡ code_of c → AreZero 29 5 octets → Spells octets (frame_in octets c)
+spelt_so : (octets : List ℕ) (c : PcfKind) → IsTyped octets → AreZero 22 4 octets → slice_index octets 28 ≡ code_of c → AreZero 29 5 octets
+    → Spells octets (frame_in octets c)
 spelt_so octets c t before at behind = record {
   size = t.size;
   destination = refl;
@@ -94,9 +98,11 @@ fields_told octets t =
     elim (zeros_told 22 4 octets) [
       | other j low high ne before r ↦ faulty (Reserved j) (first_reserved octets j t low high ne before) (fields ∙ fields_first octets (Reserved j) r)
       | zeros before z ↦ elim (kind_told (slice_index octets 28)) [
-        | none n r ↦ faulty (Kind (slice_index octets 28)) (first_kind octets (slice_index octets 28) t before refl n) (fields ∙ fields_kind octets (Kind (slice_index octets 28)) z r)
+        | none n r ↦ faulty (Kind (slice_index octets 28)) (first_kind octets (slice_index octets 28) t before refl n)
+            (fields ∙ fields_kind octets (Kind (slice_index octets 28)) z r)
         | kind c at h ↦ elim (zeros_told 29 5 octets) [
-          | other j low high ne between r ↦ faulty (Reserved j) (first_behind octets j c t before at low high ne between) (fields ∙ fields_second octets c (Reserved j) z h r)
+          | other j low high ne between r ↦ faulty (Reserved j) (first_behind octets j c t before at low high ne between)
+              (fields ∙ fields_second octets c (Reserved j) z h r)
           | zeros behind y ↦ spelt c (spelt_so octets c t before at behind) (fields ∙ fields_all octets c z h y)
         ]
       ]

@@ -25,7 +25,8 @@ spells_more front held (q ∷ ps) p (first, behind, cut, one, all) last =
     (first, behind ++ held, ap (λ (xs : List ℕ). xs ++ held) cut ∙ append_assoc first behind held, one, spells_more behind held ps p all last)
 
 -- an unfinished frame ends the longest front
-pub longest_before : (octets front rest : List ℕ) (ps : List Pcf) → octets ≡ front ++ rest → SpellsAll front ps → IsUnfinished rest → IsLongestFront octets ps rest
+pub longest_before : (octets front rest : List ℕ) (ps : List Pcf) → octets ≡ front ++ rest → SpellsAll front ps → IsUnfinished rest
+    → IsLongestFront octets ps rest
 longest_before octets front rest ps cut s short = record {
   front = front;
   cut = cut;
@@ -37,7 +38,8 @@ longest_before octets front rest ps cut s short = record {
 }
 
 -- the last of a sequence's frames stands behind the others
-last_spells : (front rest : List ℕ) (ps qs : List Pcf) → length front ≡ 60 * length ps → length rest ≡ 60 → length qs ≡ length ps + 1 → SpellsAll (front ++ rest) qs → (q : Pcf) × Spells rest q
+last_spells : (front rest : List ℕ) (ps qs : List Pcf) → length front ≡ 60 * length ps → length rest ≡ 60 → length qs ≡ length ps + 1
+    → SpellsAll (front ++ rest) qs → (q : Pcf) × Spells rest q
 last_spells front rest ps [] f r n s = absurd (omega arith)
 last_spells front rest [] (q ∷ qs) f r n (first, behind, cut, one, all) =
     let none : front ≡ [] = nil_from_length front (omega arith) in
@@ -48,10 +50,12 @@ last_spells front rest [] (q ∷ qs) f r n (first, behind, cut, one, all) =
 last_spells front rest (p ∷ ps) (q ∷ qs) f r n (first, behind, cut, one, all) =
     let seam : drop pcf_length (first ++ behind) ≡ behind = subst (λ (n : ℕ). drop n (first ++ behind) ≡ behind) one.size (drop-append_seam first behind) in
     let same : behind ≡ drop pcf_length front ++ rest = sym seam ∙ ap (drop pcf_length) (sym cut) ∙ drop-append-le pcf_length front rest (omega arith) in
-    last_spells (drop pcf_length front) rest ps qs (omega (arith, length-drop pcf_length front)) r (omega arith) (subst (λ (xs : List ℕ). SpellsAll xs qs) same all)
+    last_spells (drop pcf_length front) rest ps qs (omega (arith, length-drop pcf_length front)) r (omega arith)
+    (subst (λ (xs : List ℕ). SpellsAll xs qs) same all)
 
 -- a whole frame's octets that spell nothing end the longest front
-longest_refused : (octets front rest : List ℕ) (ps : List Pcf) (e : PcfRefusal) → octets ≡ front ++ rest → SpellsAll front ps → IsRefusedFrame rest e → IsLongestFront octets ps rest
+longest_refused : (octets front rest : List ℕ) (ps : List Pcf) (e : PcfRefusal) → octets ≡ front ++ rest → SpellsAll front ps → IsRefusedFrame rest e
+    → IsLongestFront octets ps rest
 longest_refused octets front rest ps e cut s (size, bad) = record {
   front = front;
   cut = cut;
@@ -59,7 +63,14 @@ longest_refused octets front rest ps e cut s (size, bad) = record {
   longest = λ other behind qs c o.
       let a = length-spelling front ps s in
       let b = length-spelling other qs o in
-      let sizes : 60 * length ps + 60 ≡ 60 * length qs + length behind = omega (arith, ap length cut, ap length c, length-append front rest, length-append other behind, size) in
+      let sizes : 60 * length ps + 60 ≡ 60 * length qs + length behind = omega (
+        arith,
+        ap length cut,
+        ap length c,
+        length-append front rest,
+        length-append other behind,
+        size,
+      ) in
       elim (cases_lt (length front) (length other)) [
         | inr le ↦ le
         | inl longer ↦
@@ -73,7 +84,8 @@ longest_refused octets front rest ps e cut s (size, bad) = record {
 }
 
 -- where a reader stands with the octets of a frame, behind the frames given
-judged : (stream front octets : List ℕ) (given : List Pcf) → stream ≡ front ++ octets → SpellsAll front given → length octets ≤ pcf_length → Reads (reading_of octets) stream given
+judged : (stream front octets : List ℕ) (given : List Pcf) → stream ≡ front ++ octets → SpellsAll front given → length octets ≤ pcf_length
+    → Reads (reading_of octets) stream given
 judged stream front octets given cut s most = elim (cases_lt (length octets) pcf_length) [
   | inl short ↦ rw (lt-ltb (length octets) pcf_length short) (longest_before stream front octets given cut s short, short)
   | inr long ↦ rw (le-ltb (length octets) pcf_length long) (told (decoded octets) refl (omega arith))

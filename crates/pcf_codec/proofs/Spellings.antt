@@ -80,10 +80,12 @@ pub fields_kind : (octets : List ℕ) (e : PcfRefusal) → zeros_read 22 4 octet
 unfolding fields_read
 fields_kind octets e z k = rw (z, k) refl
 
-pub fields_second : (octets : List ℕ) (k : PcfKind) (e : PcfRefusal) → zeros_read 22 4 octets ≡ Ok tt → kind_read (slice_index octets 28) ≡ Ok k → zeros_read 29 5 octets ≡ Err e → fields_read octets ≡ Err e
+pub fields_second : (octets : List ℕ) (k : PcfKind) (e : PcfRefusal) → zeros_read 22 4 octets ≡ Ok tt → kind_read (slice_index octets 28) ≡ Ok k
+    → zeros_read 29 5 octets ≡ Err e → fields_read octets ≡ Err e
 unfolding fields_read
 fields_second octets k e z h y = rw (z, h, y) refl
 
-pub fields_all : (octets : List ℕ) (k : PcfKind) → zeros_read 22 4 octets ≡ Ok tt → kind_read (slice_index octets 28) ≡ Ok k → zeros_read 29 5 octets ≡ Ok tt → fields_read octets ≡ Ok (frame_in octets k)
+pub fields_all : (octets : List ℕ) (k : PcfKind) → zeros_read 22 4 octets ≡ Ok tt → kind_read (slice_index octets 28) ≡ Ok k → zeros_read 29 5 octets ≡ Ok tt
+    → fields_read octets ≡ Ok (frame_in octets k)
 unfolding fields_read
 fields_all octets k z h y = rw (z, h, y) refl

@@ -12,11 +12,14 @@ use Rattle.pcf_codec.specs.Spelling.{pcf_length}
 -- the first of n octets from place i on that is not zero, as a fault
 unfoldable pub zeros_read : ℕ → ℕ → List ℕ → Result (Unit {0}) PcfRefusal
 zeros_read i zero octets = Ok tt
-zeros_read i (suc n) octets = if slice_index octets i == 0 then zeros_read (i + 1) n octets else Err (refusals.Reserved i)
+zeros_read i (suc n) octets =
+    if slice_index octets i == 0 then zeros_read (i + 1) n octets else Err (refusals.Reserved i)
 
 -- the kind of a type octet
 abbrev pub kind_read : ℕ → Result PcfKind PcfRefusal
-kind_read c = if c == 2 then Ok Integration else (if c == 4 then Ok ColdStart else (if c == 8 then Ok ColdStartAck else Err (refusals.Kind c)))
+kind_read c =
+    if c == 2 then Ok Integration
+    else (if c == 4 then Ok ColdStart else (if c == 8 then Ok ColdStartAck else Err (refusals.Kind c)))
 
 -- go on with what was read, or stop at the fault
 infixl 10 ◌>>=◌

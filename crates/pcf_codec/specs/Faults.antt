@@ -19,7 +19,8 @@ abbrev pub HasFault : List ℕ → PcfRefusal → Type 0
 HasFault octets (Length n) = (length octets ≡ n) × (n ≢ pcf_length)
 HasFault octets EtherType = (length octets ≡ pcf_length) × (field 12 2 octets ≢ pcf_type)
 HasFault octets (Reserved i) = (length octets ≡ pcf_length) × IsReserved i × (slice_index octets i ≢ 0)
-HasFault octets (Kind k) = (length octets ≡ pcf_length) × (slice_index octets 28 ≡ k) × ((kind : PcfKind) → code_of kind ≢ k)
+HasFault octets (Kind k) =
+    (length octets ≡ pcf_length) × (slice_index octets 28 ≡ k) × ((kind : PcfKind) → code_of kind ≢ k)
 
 -- the octets have this fault, and none at a lesser offset
 pub record IsFirstFault (octets : List ℕ) (e : PcfRefusal) : Type 0 where

@@ -8,14 +8,16 @@ use Rattle.pcf_codec.specs.Decoding.{decoded}
 -- the octets are the spellings of these frames, one after another
 abbrev pub SpellsAll : List ℕ → List Pcf → Type 0
 SpellsAll octets [] = octets ≡ []
-SpellsAll octets (p ∷ ps) = (front : List ℕ) × (behind : List ℕ) × (octets ≡ front ++ behind) × Spells front p × SpellsAll behind ps
+SpellsAll octets (p ∷ ps) =
+    (front : List ℕ) × (behind : List ℕ) × (octets ≡ front ++ behind) × Spells front p × SpellsAll behind ps
 
 -- the frames are those of the longest front that spells a sequence, and the rest stands behind it
 pub record IsLongestFront (octets : List ℕ) (ps : List Pcf) (rest : List ℕ) : Type 0 where
   pub front : List ℕ
   pub cut : octets ≡ front ++ rest
   pub spells : SpellsAll front ps
-  pub longest : (other behind : List ℕ) (qs : List Pcf) → octets ≡ other ++ behind → SpellsAll other qs → length other ≤ length front
+  pub longest : (other behind : List ℕ) (qs : List Pcf) → octets ≡ other ++ behind → SpellsAll other qs
+      → length other ≤ length front
 
 -- nothing, or the octets of a frame that is not whole
 abbrev pub IsUnfinished : List ℕ → Type 0

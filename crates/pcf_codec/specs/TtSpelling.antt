@@ -25,4 +25,5 @@ pub record SpellsHead (octets : List ℕ) (h : TtHead) : Type 0 where
 -- the octets have this fault; the length is judged first
 abbrev pub HasTtFault : List ℕ → TtRefusal → Type 0
 HasTtFault octets (Length n) = (length octets ≡ n) × ((n < 60) ⊎ (1514 < n))
-HasTtFault octets EtherType = IsFrameLength (length octets) × ((field 12 2 octets < least_type) ⊎ (field 12 2 octets ≡ pcf_type))
+HasTtFault octets EtherType =
+    IsFrameLength (length octets) × ((field 12 2 octets < least_type) ⊎ (field 12 2 octets ≡ pcf_type))

@@ -30,7 +30,8 @@ name_character : (c : ℕ) → is_name_character c ≡ true → is_visible c ≡
 name_character c h = grind (arith, nat_tests)
 
 pub name_visible : (text : List ℕ) → IsNameText text → IsVisible text
-name_visible text h = All-weaker (λ c. is_name_character c ≡ true) (λ c. is_visible c ≡ true) name_character text (AllPass-from_list_all is_name_character text h.plain)
+name_visible text h =
+    All-weaker (λ c. is_name_character c ≡ true) (λ c. is_visible c ≡ true) name_character text (AllPass-from_list_all is_name_character text h.plain)
 
 digit_character : (c : ℕ) → digit_value c < 10 → is_visible c ≡ true
 digit_character c h = grind (arith, nat_tests)

@@ -8,7 +8,8 @@ use Rattle.trace_text.specs.EventLine.{what_words, what_text}
 use Rattle.trace_text.specs.Steps.{space}
 
 -- an event's text stands behind the words before it
-pub event_joined : (word : List ℕ) (network : Network) (what : What) → join_with_byte space (word ∷ what_words network what) ≡ word ++ space ∷ what_text network what
+pub event_joined : (word : List ℕ) (network : Network) (what : What) → join_with_byte space (word ∷ what_words network what) ≡ word ++ space
+    ∷ what_text network what
 unfolding what_text
 event_joined word network (events.Rate d r) = refl
 event_joined word network (events.Wire l w u) = refl

@@ -8,7 +8,8 @@ use Rattle.run_law.specs.declared.note.NoteBody.{NoteBody}
 use Rattle.run_law.specs.declared.note.NoteBody.TheVariants as bodies
 use Rattle.trace_text.specs.Steps.{Words, words}
 use Rattle.report_text.specs.NoteLine.{passage_words, stream_words, body_words, body_text}
-use Rattle.report_text.specs.Ranges.{HasVl, HasPassage, IsCount, IsShortCount, IsBodyOf, IsBodyInRange}
+use Rattle.net_plan.specs.Belonging.{HasVl}
+use Rattle.report_text.specs.Ranges.{HasPassage, IsCount, IsShortCount, IsBodyOf, IsBodyInRange}
 use Rattle.report_text.proofs.SameWords.{IsNamedApart, word_at, differ, same_count, same_short, same_units, same_members, same_device, same_link, same_vl, same_state, same_judgement, same_why, same_reason, same_what}
 use Rattle.report_text.proofs.Texts.{words_of_line}
 use Rattle.report_text.proofs.Visible.{body_visible}
@@ -54,7 +55,8 @@ same_stream network vl vl' cycle cycle' apart h g n k same = record {
 abbrev behind_passage : Words → Words
 behind_passage ws = drop 4 ws
 
-same_words : (network : Network) (body other : NoteBody) → IsNamedApart network → IsPrintable network body → IsPrintable network other → body_words network body ≡ body_words network other → body ≡ other
+same_words : (network : Network) (body other : NoteBody) → IsNamedApart network → IsPrintable network body → IsPrintable network other
+    → body_words network body ≡ body_words network other → body ≡ other
 same_words network (bodies.Event line what) (bodies.Event line' what') apart h g same =
     let lines = same_count line line' h.in_range.0 g.in_range.0 (ap (word_at 1) same) in
     let events = same_what network what what' apart h.of_network h.in_range.1 g.of_network g.in_range.1 (ap (λ (ws : Words). drop 2 ws) same) in
@@ -100,15 +102,18 @@ same_words network (bodies.Lost d l cause) (bodies.Lost d' l' cause') apart h g 
     let passages = same_passage network d d' l l' cause cause' apart h.of_network g.of_network h.in_range g.in_range (ap passage_of same) in
     cc
 same_words network (bodies.TtSent d l cause vl cycle) (bodies.TtSent d' l' cause' vl' cycle') apart h g same =
-    let passages = same_passage network d d' l l' cause cause' apart (h.of_network.0, h.of_network.1) (g.of_network.0, g.of_network.1) h.in_range.0 g.in_range.0 (ap passage_of same) in
+    let passages = same_passage network d d' l l' cause cause' apart (h.of_network.0, h.of_network.1) (g.of_network.0, g.of_network.1) h.in_range.0 g.in_range.0
+    (ap passage_of same) in
     let streams = same_stream network vl vl' cycle cycle' apart h.of_network.2 g.of_network.2 h.in_range.1 g.in_range.1 (ap behind_passage same) in
     cc
 same_words network (bodies.Accepted d l cause vl cycle) (bodies.Accepted d' l' cause' vl' cycle') apart h g same =
-    let passages = same_passage network d d' l l' cause cause' apart (h.of_network.0, h.of_network.1) (g.of_network.0, g.of_network.1) h.in_range.0 g.in_range.0 (ap passage_of same) in
+    let passages = same_passage network d d' l l' cause cause' apart (h.of_network.0, h.of_network.1) (g.of_network.0, g.of_network.1) h.in_range.0 g.in_range.0
+    (ap passage_of same) in
     let streams = same_stream network vl vl' cycle cycle' apart h.of_network.2 g.of_network.2 h.in_range.1 g.in_range.1 (ap behind_passage same) in
     cc
 same_words network (bodies.Delivered d l cause vl cycle) (bodies.Delivered d' l' cause' vl' cycle') apart h g same =
-    let passages = same_passage network d d' l l' cause cause' apart (h.of_network.0, h.of_network.1) (g.of_network.0, g.of_network.1) h.in_range.0 g.in_range.0 (ap passage_of same) in
+    let passages = same_passage network d d' l l' cause cause' apart (h.of_network.0, h.of_network.1) (g.of_network.0, g.of_network.1) h.in_range.0 g.in_range.0
+    (ap passage_of same) in
     let streams = same_stream network vl vl' cycle cycle' apart h.of_network.2 g.of_network.2 h.in_range.1 g.in_range.1 (ap behind_passage same) in
     cc
 same_words network (bodies.Dropped d l cause reason) (bodies.Dropped d' l' cause' reason') apart h g same =
@@ -126,7 +131,8 @@ same_words network body other apart h g same =
     absurd (differ (word_at 0 (body_words network body)) (word_at 0 (body_words network other)) refl (ap (word_at 0) same))
 
 -- what two records say is one where its text is
-pub same_body : (network : Network) (body other : NoteBody) → IsNamedApart network → IsPrintable network body → IsPrintable network other → body_text network body ≡ body_text network other → body ≡ other
+pub same_body : (network : Network) (body other : NoteBody) → IsNamedApart network → IsPrintable network body → IsPrintable network other
+    → body_text network body ≡ body_text network other → body ≡ other
 unfolding body_text
 same_body network body other apart h g same =
     let here = words_of_line (body_words network body) (body_visible network body apart.in_range h.of_network h.in_range) in

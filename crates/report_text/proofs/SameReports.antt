@@ -44,8 +44,10 @@ pub note_unbroken : (network : Network) (note : Note) → IsInRange network → 
 note_unbroken network note n h =
     let number = decimal note.number in
     let time = signed_decimal note.time.0 in
-    let behind = unbroken_spaced time (body_text network note.body) (visible_unbroken time (units_visible note.time h.in_range.time)) (body_unbroken network note n h) in
-    let whole = unbroken_spaced number (time ++ space ∷ body_text network note.body) (visible_unbroken number (decimal_visible note.number h.in_range.number)) behind in
+    let behind = unbroken_spaced time (body_text network note.body) (visible_unbroken time (units_visible note.time h.in_range.time))
+    (body_unbroken network note n h) in
+    let whole = unbroken_spaced number (time ++ space ∷ body_text network note.body) (visible_unbroken number (decimal_visible note.number h.in_range.number))
+    behind in
     subst IsUnbroken (sym (note_parts number time (body_text network note.body))) whole
 
 -- two records of one text are one
@@ -57,11 +59,13 @@ split_word w v rest more h g same = split_once is_space space w rest v more refl
 made : ℕ → Units → NoteBody → Note
 made number time body = record { number = number; time = time; body = body }
 
-same_parts : (number number' : ℕ) (time time' : Units) (body body' : NoteBody) → number ≡ number' → time ≡ time' → body ≡ body' → made number time body ≡ made number' time' body'
+same_parts : (number number' : ℕ) (time time' : Units) (body body' : NoteBody) → number ≡ number' → time ≡ time' → body ≡ body'
+    → made number time body ≡ made number' time' body'
 same_parts number number' time time' body body' e f g =
     ap (λ n. made n time body) e ∙ ap (λ t. made number' t body) f ∙ ap (λ b. made number' time' b) g
 
-pub same_note : (network : Network) (note other : Note) → IsNamedApart network → IsWritable network note → IsWritable network other → note_text network note ≡ note_text network other → note ≡ other
+pub same_note : (network : Network) (note other : Note) → IsNamedApart network → IsWritable network note → IsWritable network other
+    → note_text network note ≡ note_text network other → note ≡ other
 unfolding made
 same_note network note other apart h g same =
     let number = decimal note.number in
@@ -71,7 +75,8 @@ same_note network note other apart h g same =
     let body = body_text network note.body in
     let body' = body_text network other.body in
     let parts = sym (note_parts number time body) ∙ same ∙ note_parts number' time' body' in
-    let first = split_word number number' (time ++ space ∷ body) (time' ++ space ∷ body') (decimal_visible note.number h.in_range.number) (decimal_visible other.number g.in_range.number) parts in
+    let first = split_word number number' (time ++ space ∷ body) (time' ++ space ∷ body') (decimal_visible note.number h.in_range.number)
+    (decimal_visible other.number g.in_range.number) parts in
     let second = split_word time time' body body' (units_visible note.time h.in_range.time) (units_visible other.time g.in_range.time) first.backs in
     same_parts note.number other.number note.time other.time note.body other.body
     (decimal_injective note.number other.number h.in_range.number g.in_range.number first.fronts)
@@ -84,10 +89,18 @@ pub is_some_text : (text rest : List ℕ) → text ++ codes "\n" ++ rest ≡ [] 
 is_some_text text rest e = omega (arith, ap length e, length-append (text ++ codes "\n") rest, length-append text (codes "\n"))
 
 pub head_of : (network : Network) (note : Note) (notes : List Note) → AreOfNetwork network (note ∷ notes) → IsWritable network note
-head_of network note notes h = record { of_network = All-head (IsNoteOf network) note notes h.of_network; in_range = All-head IsNoteInRange note notes h.in_range }
+head_of network note notes h = record {
+  of_network = All-head (IsNoteOf network) note notes h.of_network;
+  in_range = All-head IsNoteInRange note notes
+      h.in_range;
+}
 
 pub tail_of : (network : Network) (note : Note) (notes : List Note) → AreOfNetwork network (note ∷ notes) → AreOfNetwork network notes
-tail_of network note notes h = record { of_network = All-tail (IsNoteOf network) note notes h.of_network; in_range = All-tail IsNoteInRange note notes h.in_range }
+tail_of network note notes h = record {
+  of_network = All-tail (IsNoteOf network) note notes h.of_network;
+  in_range = All-tail IsNoteInRange note notes
+      h.in_range;
+}
 
 same_report : (network : Network) (notes others : List Note) → IsNamedApart network → AreOfNetwork network notes → AreOfNetwork network others
     → concat (report_of network notes) ≡ concat (report_of network others) → notes ≡ others
@@ -102,7 +115,8 @@ same_report network (note ∷ notes) (other ∷ others) apart h g same =
     let here = head_of network note notes h in
     let there = head_of network other others g in
     let lines = sym (append_assoc text (codes "\n") rest) ∙ same ∙ append_assoc text' (codes "\n") rest' in
-    let split = split_once is_lf lf text rest text' rest' refl (note_unbroken network note apart.in_range here) (note_unbroken network other apart.in_range there) lines in
+    let split = split_once is_lf lf text rest text' rest' refl (note_unbroken network note apart.in_range here)
+    (note_unbroken network other apart.in_range there) lines in
     let heads = same_note network note other apart here there split.fronts in
     let tails = same_report network notes others apart (tail_of network note notes h) (tail_of network other others g) split.backs in
     ap (λ n. n ∷ notes) heads ∙ ap (λ ns. other ∷ ns) tails

@@ -28,16 +28,17 @@ use Rattle.run_law.specs.declared.judgement.Why.TheVariants as whys
 use Rattle.schedule_tables.specs.Schedule.{VlNameIsNew}
 use Rattle.sync_state.specs.declared.state.State.{State}
 use Rattle.sync_state.specs.declared.state.State.TheVariants as states
-use Rattle.trace_text.specs.EventLine.{device_name, link_name, what_words, what_text, event_text}
+use Rattle.net_plan.specs.Belonging.{device_name, link_name, HasDevice, HasLink, IsOfNetwork, vl_name, HasVl}
+use Rattle.trace_text.specs.EventLine.{what_words, what_text, event_text}
 use Rattle.trace_text.specs.EventReading.{event_read}
-use Rattle.trace_text.specs.Ranges.{HasDevice, HasLink, IsOfNetwork, IsWhatInRange}
+use Rattle.trace_text.specs.Ranges.{IsWhatInRange}
 use Rattle.trace_text.specs.Steps.{Read, Words, space}
 use Rattle.trace_text.proofs.EventsBack.{reads_back}
 use Rattle.tte_units.specs.Amount.{units_of}
 use Rattle.tte_units.specs.declared.units.Units.{Units}
 use Rattle.hex.specs.Hex.{encode_lower}
-use Rattle.report_text.specs.NoteWords.{vl_name, members_text, state_text, judgement_text, why_text, reason_words}
-use Rattle.report_text.specs.Ranges.{HasVl, IsCount, IsShortCount, IsSignedUnits, IsReasonInRange}
+use Rattle.report_text.specs.NoteWords.{members_text, state_text, judgement_text, why_text, reason_words}
+use Rattle.report_text.specs.Ranges.{IsCount, IsShortCount, IsSignedUnits, IsReasonInRange}
 use Rattle.report_text.proofs.Characters.{octet_is_byte, word_is_bytes, same_octets}
 use Rattle.report_text.proofs.Visible.{units_mag}
 
@@ -103,12 +104,14 @@ same_place name xs i j new h g same =
     let not_behind : j < i → ⊥ = λ behind. new i j other.0 at.0 behind other.1 at.1 names in
     omega (arith, not_before, not_behind)
 
-pub same_device : (network : Network) (d e : DeviceId) → IsNamedApart network → HasDevice network d → HasDevice network e → device_name network d ≡ device_name network e → d ≡ e
+pub same_device : (network : Network) (d e : DeviceId) → IsNamedApart network → HasDevice network d → HasDevice network e
+    → device_name network d ≡ device_name network e → d ≡ e
 same_device network d e apart h g same =
     let new : AreNew (λ (x : Device). x.name) network.device = λ i k earlier thing before there here. (apart.devices i k earlier thing before there here).0 in
     ap (λ i. record { 0 = i }) (same_place (λ x. x.name) network.device d.0 e.0 new h g same)
 
-pub same_link : (network : Network) (l m : LinkId) → IsNamedApart network → HasLink network l → HasLink network m → link_name network l ≡ link_name network m → l ≡ m
+pub same_link : (network : Network) (l m : LinkId) → IsNamedApart network → HasLink network l → HasLink network m → link_name network l ≡ link_name network m
+    → l ≡ m
 same_link network l m apart h g same = ap (λ i. record { 0 = i }) (same_place (λ x. x.name) network.link l.0 m.0 apart.links h g same)
 
 pub same_vl : (network : Network) (v w : VlId) → IsNamedApart network → HasVl network v → HasVl network w → vl_name network v ≡ vl_name network w → v ≡ w
@@ -159,11 +162,13 @@ same_reason reasons.Length reasons.Length h g same = refl
 same_reason reasons.Early reasons.Early h g same = refl
 same_reason reasons.Late reasons.Late h g same = refl
 same_reason reasons.Repeat reasons.Repeat h g same = refl
-same_reason (reasons.RefusedLength length) (reasons.RefusedLength length') h g same = ap (λ n. reasons.RefusedLength n) (same_short length length' h g (ap (word_at 2) same))
+same_reason (reasons.RefusedLength length) (reasons.RefusedLength length') h g same =
+    ap (λ n. reasons.RefusedLength n) (same_short length length' h g (ap (word_at 2) same))
 same_reason reasons.RefusedEtherType reasons.RefusedEtherType h g same = refl
 same_reason (reasons.RefusedReserved offset) (reasons.RefusedReserved offset') h g same =
     ap (λ n. reasons.RefusedReserved n) (decimal_injective offset offset' (omega arith) (omega arith) (ap (word_at 2) same))
-same_reason (reasons.RefusedKind octet) (reasons.RefusedKind octet') h g same = ap (λ n. reasons.RefusedKind n) (same_octet octet octet' h g (ap (word_at 2) same))
+same_reason (reasons.RefusedKind octet) (reasons.RefusedKind octet') h g same =
+    ap (λ n. reasons.RefusedKind n) (same_octet octet octet' h g (ap (word_at 2) same))
 same_reason reason other h g same = absurd (differ (reason_front (reason_words reason)) (reason_front (reason_words other)) refl (ap reason_front same))
 
 -- ---- events
@@ -185,7 +190,11 @@ pub same_what : (network : Network) (what other : What) → IsNamedApart network
     → what_words network what ≡ what_words network other → what ≡ other
 unfolding at_begin what_text
 same_what network what other apart of_network in_range other_of_network other_in_range same =
-    let here = reads_back network (at_begin what) apart.in_range apart.devices apart.links of_network (record { time = record { least = omega (arith, ints); most = omega (arith, ints) }; what = in_range }) in
-    let there = reads_back network (at_begin other) apart.in_range apart.devices apart.links other_of_network (record { time = record { least = omega (arith, ints); most = omega (arith, ints) }; what = other_in_range }) in
-    let texts : event_text network (at_begin what) ≡ event_text network (at_begin other) = ap (λ (ws : Words). signed_decimal (units_of 0).0 ++ codes " " ++ join_with_byte space ws) same in
-    ap (λ (e : Event). e.what) (same_value (at_begin what) (at_begin other) (event_read network (event_text network (at_begin what))) here (ap (event_read network) texts ∙ there))
+    let here = reads_back network (at_begin what) apart.in_range apart.devices apart.links of_network
+    (record { time = record { least = omega (arith, ints); most = omega (arith, ints) }; what = in_range }) in
+    let there = reads_back network (at_begin other) apart.in_range apart.devices apart.links other_of_network
+    (record { time = record { least = omega (arith, ints); most = omega (arith, ints) }; what = other_in_range }) in
+    let texts : event_text network (at_begin what) ≡ event_text network (at_begin other) = ap (λ (ws : Words). signed_decimal (units_of 0).0 ++ codes " "
+    ++ join_with_byte space ws) same in
+    ap (λ (e : Event). e.what) (same_value (at_begin what) (at_begin other) (event_read network (event_text network (at_begin what))) here
+    (ap (event_read network) texts ∙ there))

@@ -24,15 +24,16 @@ use Rattle.run_law.specs.declared.note.NoteBody.{NoteBody}
 use Rattle.run_law.specs.declared.note.NoteBody.TheVariants as bodies
 use Rattle.sync_state.specs.declared.state.State.{State}
 use Rattle.sync_state.specs.declared.state.State.TheVariants as states
-use Rattle.trace_text.specs.EventLine.{device_name, link_name, what_words}
+use Rattle.net_plan.specs.Belonging.{device_name, link_name, HasDevice, HasLink, IsOfNetwork, vl_name, HasVl}
+use Rattle.trace_text.specs.EventLine.{what_words}
 use Rattle.trace_text.specs.EventWords.{way_text}
-use Rattle.trace_text.specs.Ranges.{HasDevice, HasLink, IsTime, IsRate, IsOfNetwork, IsWhatInRange}
+use Rattle.trace_text.specs.Ranges.{IsTime, IsRate, IsWhatInRange}
 use Rattle.trace_text.specs.Steps.{Words}
 use Rattle.trace_text.proofs.WordsBack.{in_list}
 use Rattle.report_text.proofs.Characters.{is_visible, IsVisible, visible_from_test, name_visible, decimal_visible, signed_visible, hex_visible, octet_is_byte, word_is_bytes}
 use Rattle.report_text.specs.NoteLine.{body_words}
-use Rattle.report_text.specs.NoteWords.{vl_name, state_text, judgement_text, why_text, reason_words}
-use Rattle.report_text.specs.Ranges.{HasVl, HasPassage, HasStream, IsCount, IsShortCount, IsSignedUnits, IsReasonInRange, IsBodyOf, IsBodyInRange}
+use Rattle.report_text.specs.NoteWords.{state_text, judgement_text, why_text, reason_words}
+use Rattle.report_text.specs.Ranges.{HasPassage, HasStream, IsCount, IsShortCount, IsSignedUnits, IsReasonInRange, IsBodyOf, IsBodyInRange}
 use Rattle.tte_units.specs.declared.rates.Ppb.{Ppb}
 use Rattle.tte_units.specs.declared.units.Units.{Units}
 use Rattle.report_text.proofs.Texts.{AreVisible, AreOfLine}
@@ -132,19 +133,23 @@ reason_visible reasons.Repeat h = one_visible (codes "repeat") refl
 reason_visible (reasons.RefusedLength length) h = (refused_visible, (visible_from_test (codes "length") refl, (short_visible length h, tt)))
 reason_visible reasons.RefusedEtherType h = (refused_visible, one_visible (codes "ethertype") refl)
 reason_visible (reasons.RefusedReserved offset) h = (refused_visible, (visible_from_test (codes "reserved") refl, (decimal_visible offset (omega arith), tt)))
-reason_visible (reasons.RefusedKind octet) h = (refused_visible, (visible_from_test (codes "type") refl, (hex_visible (octet ∷ []) (octet_is_byte octet h), tt)))
+reason_visible (reasons.RefusedKind octet) h =
+    (refused_visible, (visible_from_test (codes "type") refl, (hex_visible (octet ∷ []) (octet_is_byte octet h), tt)))
 
 -- ---- the words of events
 
 what_visible : (network : Network) (what : What) → IsInRange network → IsOfNetwork network what → IsWhatInRange what → AreVisible (what_words network what)
 what_visible network (events.Rate d r) n of_network h = (visible_from_test (codes "rate") refl, (device_visible network d n of_network, (rate_visible r h, tt)))
-what_visible network (events.Wire l w u) n of_network h = (visible_from_test (codes "wire") refl, (link_visible network l n of_network, (way_visible w, (time_visible u h, tt))))
-what_visible network (events.Hold l w u) n of_network h = (visible_from_test (codes "hold") refl, (link_visible network l n of_network, (way_visible w, (time_visible u h, tt))))
+what_visible network (events.Wire l w u) n of_network h =
+    (visible_from_test (codes "wire") refl, (link_visible network l n of_network, (way_visible w, (time_visible u h, tt))))
+what_visible network (events.Hold l w u) n of_network h =
+    (visible_from_test (codes "hold") refl, (link_visible network l n of_network, (way_visible w, (time_visible u h, tt))))
 what_visible network (events.Cut l w) n of_network h = (visible_from_test (codes "cut") refl, (link_visible network l n of_network, (way_visible w, tt)))
 what_visible network (events.Heal l w) n of_network h = (visible_from_test (codes "heal") refl, (link_visible network l n of_network, (way_visible w, tt)))
 what_visible network (events.On d) n of_network h = (visible_from_test (codes "on") refl, (device_visible network d n of_network, tt))
 what_visible network (events.Break d) n of_network h = (visible_from_test (codes "break") refl, (device_visible network d n of_network, tt))
-what_visible network (events.Send l o) n of_network h = (visible_from_test (codes "send") refl, (link_visible network l n of_network, (hex_visible o h.bytes, tt)))
+what_visible network (events.Send l o) n of_network h =
+    (visible_from_test (codes "send") refl, (link_visible network l n of_network, (hex_visible o h.bytes, tt)))
 what_visible network events.End n of_network h = one_visible (codes "end") refl
 
 -- ---- the words of records
@@ -162,7 +167,8 @@ passage_visible network d l cause more n of_network h hs =
     (device_visible network d n of_network.0, (link_visible network l n of_network.1, (decimal_visible cause h, hs)))
 
 -- the same with the virtual link and the cycle
-stream_visible : (network : Network) (d : DeviceId) (l : LinkId) (cause : ℕ) (vl : VlId) (cycle : ℕ) → IsInRange network → HasStream network d l vl → IsCount cause → IsShortCount cycle
+stream_visible : (network : Network) (d : DeviceId) (l : LinkId) (cause : ℕ) (vl : VlId) (cycle : ℕ) → IsInRange network → HasStream network d l vl
+    → IsCount cause → IsShortCount cycle
     → AreVisible (device_name network d ∷ link_name network l ∷ decimal cause ∷ codes "vl" ∷ vl_name network vl ∷ codes "cycle" ∷ decimal cycle ∷ [])
 stream_visible network d l cause vl cycle n of_network h g =
     passage_visible network d l cause (codes "vl" ∷ vl_name network vl ∷ codes "cycle" ∷ decimal cycle ∷ []) n (of_network.0, of_network.1) h
@@ -175,8 +181,11 @@ clock_visible clock h = (visible_from_test (codes "clock") refl, (decimal_visibl
 pub body_visible : (network : Network) (body : NoteBody) → IsInRange network → IsBodyOf network body → IsBodyInRange body → AreOfLine (body_words network body)
 body_visible network (bodies.Event line what) n of_network h =
     (visible_from_test (codes "event") refl, (decimal_visible line h.0, what_visible network what n of_network h.1))
-body_visible network (bodies.Arrived d l cause clock) n of_network h =
-    (visible_from_test (codes "arrived") refl, passage_visible network d l cause (codes "clock" ∷ decimal clock ∷ []) n of_network h.0 (clock_visible clock h.1))
+body_visible network (bodies.Arrived d l cause clock) n of_network h = (
+  visible_from_test (codes "arrived") refl,
+  passage_visible network d l cause (codes "clock" ∷ decimal clock ∷ []) n of_network h.0
+      (clock_visible clock h.1),
+)
 body_visible network (bodies.Permanent d l cause point verdict) n of_network h = (
   visible_from_test (codes "permanent") refl,
   passage_visible network d l cause (codes "point" ∷ signed_decimal point.0 ∷ judgement_text verdict ∷ []) n of_network h.0
@@ -227,9 +236,12 @@ body_visible network (bodies.State d state cause why) n of_network h =
 body_visible network (bodies.Left d l cause clock) n of_network h =
     (visible_from_test (codes "left") refl, passage_visible network d l cause (codes "clock" ∷ decimal clock ∷ []) n of_network h.0 (clock_visible clock h.1))
 body_visible network (bodies.Lost d l cause) n of_network h = (visible_from_test (codes "lost") refl, passage_visible network d l cause [] n of_network h tt)
-body_visible network (bodies.TtSent d l cause vl cycle) n of_network h = (visible_from_test (codes "ttsent") refl, stream_visible network d l cause vl cycle n of_network h.0 h.1)
-body_visible network (bodies.Accepted d l cause vl cycle) n of_network h = (visible_from_test (codes "accepted") refl, stream_visible network d l cause vl cycle n of_network h.0 h.1)
-body_visible network (bodies.Delivered d l cause vl cycle) n of_network h = (visible_from_test (codes "delivered") refl, stream_visible network d l cause vl cycle n of_network h.0 h.1)
+body_visible network (bodies.TtSent d l cause vl cycle) n of_network h =
+    (visible_from_test (codes "ttsent") refl, stream_visible network d l cause vl cycle n of_network h.0 h.1)
+body_visible network (bodies.Accepted d l cause vl cycle) n of_network h =
+    (visible_from_test (codes "accepted") refl, stream_visible network d l cause vl cycle n of_network h.0 h.1)
+body_visible network (bodies.Delivered d l cause vl cycle) n of_network h =
+    (visible_from_test (codes "delivered") refl, stream_visible network d l cause vl cycle n of_network h.0 h.1)
 body_visible network (bodies.Dropped d l cause reason) n of_network h =
     (visible_from_test (codes "dropped") refl, passage_visible network d l cause (reason_words reason) n of_network h.0 (reason_visible reason h.1))
 body_visible network (bodies.Clock d reading adjustment state) n of_network h = (

@@ -19,6 +19,7 @@ pub record AreOfNetwork (network : Network) (notes : List Note) : Type 0 where
 abbrev pub OneReport : Type 0
 OneReport =
     (network : Network) (notes others : List Note)
-    → IsInRange network → ((i : ℕ) → DeviceIsNew network i) → ((i : ℕ) → LinkIsNew network i) → ((i : ℕ) → VlNameIsNew network i)
+    → IsInRange network → ((i : ℕ) → DeviceIsNew network i) → ((i : ℕ) → LinkIsNew network i)
+    → ((i : ℕ) → VlNameIsNew network i)
     → AreOfNetwork network notes → AreOfNetwork network others
     → concat (report_of network notes) ≡ concat (report_of network others) → notes ≡ others

@@ -27,9 +27,10 @@ use Rattle.net_plan.specs.declared.network.Network.{Network}
 use Rattle.run_law.specs.declared.note.Note.{Note}
 use Rattle.run_law.specs.declared.note.NoteBody.{NoteBody}
 use Rattle.run_law.specs.declared.note.NoteBody.TheVariants.{Event, Arrived, Permanent, Compressed, Sent, Corrected, State, Left, Lost, TtSent, Accepted, Delivered, Dropped, Clock}
-use Rattle.trace_text.specs.EventLine.{device_name, link_name, what_words, longest_text}
+use Rattle.net_plan.specs.Belonging.{device_name, link_name, vl_name}
+use Rattle.trace_text.specs.EventLine.{what_words, longest_text}
 use Rattle.trace_text.specs.Steps.{Words, space}
-use Rattle.report_text.specs.NoteWords.{vl_name, members_text, state_text, judgement_text, why_text, reason_words}
+use Rattle.report_text.specs.NoteWords.{members_text, state_text, judgement_text, why_text, reason_words}
 
 -- where a frame is and what it comes from: the device, the link and the cause
 abbrev pub passage_words : Network → DeviceId → LinkId → ℕ → Words
@@ -42,22 +43,24 @@ stream_words network vl cycle = codes "vl" ∷ vl_name network vl ∷ codes "cyc
 -- what a record says, behind its number and its time; an event's words are those of its line without the time
 abbrev pub body_words : Network → NoteBody → Words
 body_words network (Event line what) = codes "event" ∷ decimal line ∷ what_words network what
-body_words network (Arrived device link cause clock) =
-    codes "arrived" ∷ (passage_words network device link cause ++ codes "clock" ∷ decimal clock ∷ [])
-body_words network (Permanent device link cause point verdict) =
-    codes "permanent" ∷ (passage_words network device link cause
-    ++ codes "point" ∷ signed_decimal point.0 ∷ judgement_text verdict ∷ [])
 body_words network (Compressed device opened at cycle members verdict) =
-    codes "compressed" ∷ device_name network device
-    ∷ codes "opened" ∷ signed_decimal opened.0 ∷ codes "at" ∷ signed_decimal at.0
+    codes "compressed" ∷ device_name network device ∷ codes "opened" ∷ signed_decimal opened.0
+    ∷ codes "at" ∷ signed_decimal at.0
     ∷ codes "cycle" ∷ decimal cycle ∷ codes "members" ∷ members_text members ∷ judgement_text verdict ∷ []
-body_words network (Sent device cycle) =
-    codes "sent" ∷ device_name network device ∷ codes "cycle" ∷ decimal cycle ∷ []
+body_words network (Sent device cycle) = codes "sent" ∷ device_name network device ∷ codes "cycle" ∷ decimal cycle ∷ []
 body_words network (Corrected device cycle by adjustment) =
     codes "corrected" ∷ device_name network device ∷ codes "cycle" ∷ decimal cycle
     ∷ codes "by" ∷ signed_decimal by.0 ∷ codes "adj" ∷ signed_decimal adjustment.0 ∷ []
 body_words network (State device state cause why) =
     codes "state" ∷ device_name network device ∷ state_text state ∷ decimal cause ∷ why_text why ∷ []
+body_words network (Clock device reading adjustment state) =
+    codes "clock" ∷ device_name network device ∷ codes "reading" ∷ signed_decimal reading.0
+    ∷ codes "adj" ∷ signed_decimal adjustment.0 ∷ codes "state" ∷ state_text state ∷ []
+body_words network (Arrived device link cause clock) =
+    codes "arrived" ∷ (passage_words network device link cause ++ codes "clock" ∷ decimal clock ∷ [])
+body_words network (Permanent device link cause point verdict) =
+    codes "permanent" ∷ (passage_words network device link cause
+    ++ codes "point" ∷ signed_decimal point.0 ∷ judgement_text verdict ∷ [])
 body_words network (Left device link cause clock) =
     codes "left" ∷ (passage_words network device link cause ++ codes "clock" ∷ decimal clock ∷ [])
 body_words network (Lost device link cause) = codes "lost" ∷ passage_words network device link cause
@@ -69,9 +72,6 @@ body_words network (Delivered device link cause vl cycle) =
     codes "delivered" ∷ (passage_words network device link cause ++ stream_words network vl cycle)
 body_words network (Dropped device link cause reason) =
     codes "dropped" ∷ (passage_words network device link cause ++ reason_words reason)
-body_words network (Clock device reading adjustment state) =
-    codes "clock" ∷ device_name network device ∷ codes "reading" ∷ signed_decimal reading.0
-    ∷ codes "adj" ∷ signed_decimal adjustment.0 ∷ codes "state" ∷ state_text state ∷ []
 
 -- its text
 unfoldable pub body_text : Network → NoteBody → List ℕ

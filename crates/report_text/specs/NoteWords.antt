@@ -16,10 +16,6 @@ use Rattle.sync_state.specs.declared.state.State.{State}
 use Rattle.sync_state.specs.declared.state.State.TheVariants.{Off, Integrating, Joining, Synchronised}
 use Rattle.trace_text.specs.Steps.{Words}
 
--- the name of a virtual link of the network
-abbrev pub vl_name : Network → VlId → List ℕ
-vl_name network vl = option_map_or (λ v. v.name) (slice_get network.vl vl.0) []
-
 -- a set of masters: its number, in eight hexadecimal digits
 abbrev pub members_text : Members → List ℕ
 members_text members = encode_lower (to_be_bytes w32 members.0)

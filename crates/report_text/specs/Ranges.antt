@@ -10,12 +10,9 @@ use Rattle.run_law.specs.declared.judgement.Reason.TheVariants.{RefusedLength, R
 use Rattle.run_law.specs.declared.note.Note.{Note}
 use Rattle.run_law.specs.declared.note.NoteBody.{NoteBody}
 use Rattle.run_law.specs.declared.note.NoteBody.TheVariants.{Event, Arrived, Permanent, Compressed, Sent, Corrected, State, Left, Lost, TtSent, Accepted, Delivered, Dropped, Clock}
-use Rattle.trace_text.specs.Ranges.{HasDevice, HasLink, IsOfNetwork, IsWhatInRange}
+use Rattle.net_plan.specs.Belonging.{HasDevice, HasLink, IsOfNetwork, HasVl}
+use Rattle.trace_text.specs.Ranges.{IsWhatInRange}
 use Rattle.tte_units.specs.declared.units.Units.{Units}
-
--- the virtual link is one of the network's
-abbrev pub HasVl : Network → VlId → Type 0
-HasVl network vl = vl.0 < length network.vl
 
 -- the device and the link are the network's
 abbrev pub HasPassage : Network → DeviceId → LinkId → Type 0
@@ -70,7 +67,8 @@ abbrev pub IsBodyInRange : NoteBody → Type 0
 IsBodyInRange (Event line what) = IsCount line × IsWhatInRange what
 IsBodyInRange (Arrived device link cause clock) = IsCount cause × IsCount clock
 IsBodyInRange (Permanent device link cause point verdict) = IsCount cause × IsSignedUnits point
-IsBodyInRange (Compressed device opened at cycle members verdict) = IsSignedUnits opened × IsSignedUnits at × IsShortCount cycle × IsShortCount members.0
+IsBodyInRange (Compressed device opened at cycle members verdict) =
+    IsSignedUnits opened × IsSignedUnits at × IsShortCount cycle × IsShortCount members.0
 IsBodyInRange (Sent device cycle) = IsShortCount cycle
 IsBodyInRange (Corrected device cycle by adjustment) = IsShortCount cycle × IsSignedUnits by × IsSignedUnits adjustment
 IsBodyInRange (State device state cause why) = IsCount cause

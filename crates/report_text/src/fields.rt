@@ -3,10 +3,8 @@ ghost use Rattle.std.specs.Fmt.{signed_decimal};
 ghost use Rattle.std.specs.List.{join_with_byte};
 ghost use Rattle.net_plan.specs.Ranges.{IsInRange};
 ghost use Rattle.report_text.specs.NoteLine.{passage_words, stream_words};
-ghost use Rattle.report_text.specs.NoteWords.{vl_name, members_text};
-ghost use Rattle.report_text.specs.Ranges.{HasVl};
-ghost use Rattle.trace_text.specs.EventLine.{device_name, link_name};
-ghost use Rattle.trace_text.specs.Ranges.{HasDevice, HasLink};
+ghost use Rattle.net_plan.specs.Belonging.{vl_name, HasVl, device_name, link_name, HasDevice, HasLink};
+ghost use Rattle.report_text.specs.NoteWords.{members_text};
 ghost use Rattle.trace_text.specs.Steps.{space};
 ghost use Rattle.tte_io.specs.Line.{line_limit};
 
@@ -14,33 +12,6 @@ use net_plan::{DeviceId, LinkId, Network, VlId};
 use pcf_values::Members;
 use tte_io::LineText;
 use tte_units::Units;
-
-fn device_name(network: &Network, device: DeviceId) -> &[u8]
-    requires in_range { IsInRange network.now }
-    requires of_network { HasDevice network.now device }
-    ensures text { result.now ≡ device_name network.now device }
-    ensures short { length result.now ≤ 16 }
-{
-    network.device.as_slice()[device.0 as usize].name.as_slice()
-}
-
-fn link_name(network: &Network, link: LinkId) -> &[u8]
-    requires in_range { IsInRange network.now }
-    requires of_network { HasLink network.now link }
-    ensures text { result.now ≡ link_name network.now link }
-    ensures short { length result.now ≤ 16 }
-{
-    network.link.as_slice()[link.0 as usize].name.as_slice()
-}
-
-fn vl_name(network: &Network, vl: VlId) -> &[u8]
-    requires in_range { IsInRange network.now }
-    requires of_network { HasVl network.now vl }
-    ensures text { result.now ≡ vl_name network.now vl }
-    ensures short { length result.now ≤ 16 }
-{
-    network.vl.as_slice()[vl.0 as usize].name.as_slice()
-}
 
 // Adds a number of units, which takes at most 21 octets.
 pub(crate) fn push_units(line: &mut LineText, units: Units)
@@ -73,7 +44,7 @@ pub(crate) fn push_device(line: &mut LineText, network: &Network, kind: &str, de
 {
     line.push(kind);
     line.push(" ");
-    line.append(device_name(network, device));
+    line.append(network.device_name(device));
 }
 
 // Adds the word of a record's kind, the device, the link and the cause: at most 55 octets behind the word.
@@ -94,7 +65,7 @@ pub(crate) fn push_passage(
 {
     push_device(line, network, kind, device);
     line.push(" ");
-    line.append(link_name(network, link));
+    line.append(network.link_name(link));
     line.push(" ");
     line.push_decimal(cause);
 }
@@ -108,7 +79,7 @@ pub(crate) fn push_stream(line: &mut LineText, network: &Network, vl: VlId, cycl
     ensures grows { length line.new ≤ length line.old + 47 }
 {
     line.push(" vl ");
-    line.append(vl_name(network, vl));
+    line.append(network.vl_name(vl));
     line.push(" cycle ");
     line.push_decimal(cycle.into());
 }

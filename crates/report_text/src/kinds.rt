@@ -2,12 +2,11 @@ ghost use Rattle.std.specs.Prelude.{◌≡◌, ◌≤◌, ◌+◌, ◌∷◌, �
 ghost use Rattle.std.specs.Fmt.{signed_decimal};
 ghost use Rattle.std.specs.List.{join_with_byte};
 ghost use Rattle.net_plan.specs.Ranges.{IsInRange};
-ghost use Rattle.report_text.specs.NoteLine.{passage_words, stream_words, body_words, body_text, longest_body};
+ghost use Rattle.report_text.specs.NoteLine.{body_text, body_words, longest_body, passage_words, stream_words};
 ghost use Rattle.report_text.specs.NoteWords.{members_text, judgement_text};
-ghost use Rattle.report_text.specs.Ranges.{HasVl, IsBodyOf};
+ghost use Rattle.report_text.specs.Ranges.{IsBodyOf};
 ghost use Rattle.run_law.specs.declared.note.NoteBody.TheVariants as bodies;
-ghost use Rattle.trace_text.specs.EventLine.{device_name};
-ghost use Rattle.trace_text.specs.Ranges.{HasDevice, HasLink, IsOfNetwork};
+ghost use Rattle.net_plan.specs.Belonging.{HasDevice, HasLink, HasVl, IsOfNetwork, device_name};
 ghost use Rattle.trace_text.specs.Steps.{space};
 ghost use Rattle.tte_io.specs.Line.{line_limit};
 
@@ -25,8 +24,7 @@ fn push_event(line: &mut LineText, network: &Network, of_trace: u64, what: &What
     requires in_range { IsInRange network.now }
     requires of_network { IsOfNetwork network.now what.now }
     requires room { length line.old + longest_body ≤ line_limit }
-    ensures text { line.new ≡ line.old ++ join_with_byte space
-        (body_words network.now (bodies.Event of_trace what.now)) }
+    ensures text { line.new ≡ line.old ++ join_with_byte space (body_words network.now (bodies.Event of_trace what.now)) }
     ensures grows { length line.new ≤ length line.old + longest_body }
 {
     line.push("event ");
@@ -47,7 +45,8 @@ fn push_collection(
     requires of_network { HasDevice network.now device }
     requires room { length line.old + 81 ≤ line_limit }
     ensures text { line.new ≡ line.old ++ join_with_byte space
-        (codes "compressed" ∷ device_name network.now device ∷ codes "opened" ∷ signed_decimal opened.0 ∷ codes "at" ∷ signed_decimal at.0 ∷ []) }
+        (codes "compressed" ∷ device_name network.now device ∷ codes "opened" ∷ signed_decimal opened.0 ∷ codes "at"
+        ∷ signed_decimal at.0 ∷ []) }
     ensures grows { length line.new ≤ length line.old + 81 }
 {
     push_device(line, network, "compressed", device);
@@ -76,8 +75,7 @@ fn push_sent(line: &mut LineText, network: &Network, device: DeviceId, cycle: u3
     requires in_range { IsInRange network.now }
     requires of_network { HasDevice network.now device }
     requires room { length line.old + 48 ≤ line_limit }
-    ensures text { line.new ≡ line.old ++ join_with_byte space
-        (body_words network.now (bodies.Sent device cycle)) }
+    ensures text { line.new ≡ line.old ++ join_with_byte space (body_words network.now (bodies.Sent device cycle)) }
     ensures grows { length line.new ≤ length line.old + 48 }
 {
     push_device(line, network, "sent", device);
@@ -96,8 +94,8 @@ fn push_corrected(
     requires in_range { IsInRange network.now }
     requires of_network { HasDevice network.now device }
     requires room { length line.old + 104 ≤ line_limit }
-    ensures text { line.new ≡ line.old ++ join_with_byte space
-        (body_words network.now (bodies.Corrected device cycle by adjustment)) }
+    ensures text { line.new ≡ line.old
+        ++ join_with_byte space (body_words network.now (bodies.Corrected device cycle by adjustment)) }
     ensures grows { length line.new ≤ length line.old + 104 }
 {
     push_device(line, network, "corrected", device);
@@ -120,8 +118,8 @@ fn push_state(
     requires in_range { IsInRange network.now }
     requires of_network { HasDevice network.now device }
     requires room { length line.old + 69 ≤ line_limit }
-    ensures text { line.new ≡ line.old ++ join_with_byte space
-        (body_words network.now (bodies.State device state cause why)) }
+    ensures text { line.new ≡ line.old
+        ++ join_with_byte space (body_words network.now (bodies.State device state cause why)) }
     ensures grows { length line.new ≤ length line.old + 69 }
 {
     push_device(line, network, "state", device);
@@ -144,8 +142,8 @@ fn push_clock(
     requires in_range { IsInRange network.now }
     requires of_network { HasDevice network.now device }
     requires room { length line.old + 97 ≤ line_limit }
-    ensures text { line.new ≡ line.old ++ join_with_byte space
-        (body_words network.now (bodies.Clock device reading adjustment state)) }
+    ensures text { line.new ≡ line.old
+        ++ join_with_byte space (body_words network.now (bodies.Clock device reading adjustment state)) }
     ensures grows { length line.new ≤ length line.old + 97 }
 {
     push_device(line, network, "clock", device);
@@ -157,7 +155,7 @@ fn push_clock(
     line.push(state_text(state));
 }
 
-// Adds what the record of a control frame with its transparent clock says: `kind` is its word.
+// Adds what the record of a control frame says that arrives or leaves, of this kind, with its clock.
 fn push_clocked(
     line: &mut LineText,
     network: &Network,
@@ -192,10 +190,10 @@ fn push_permanent(
     requires in_range { IsInRange network.now }
     requires device_of_network { HasDevice network.now device }
     requires link_of_network { HasLink network.now link }
-    requires room { length line.old + longest_body ≤ line_limit }
+    requires room { length line.old + 103 ≤ line_limit }
     ensures text { line.new ≡ line.old ++ join_with_byte space
         (body_words network.now (bodies.Permanent device link cause point verdict)) }
-    ensures grows { length line.new ≤ length line.old + longest_body }
+    ensures grows { length line.new ≤ length line.old + 103 }
 {
     push_passage(line, network, "permanent", device, link, cause);
     line.push(" point ");
@@ -204,8 +202,8 @@ fn push_permanent(
     line.push(judgement_text(verdict));
 }
 
-// Adds what the record of a time-triggered frame says: `kind` is its word.
-fn push_timed(
+// Adds what the record of a time-triggered frame says, of this kind.
+fn push_tt(
     line: &mut LineText,
     network: &Network,
     kind: &str,
@@ -299,12 +297,6 @@ pub(crate) fn push_body(line: &mut LineText, network: &Network, body: &NoteBody)
             cause,
             clock,
         } => push_clocked(line, network, "arrived", *device, *link, *cause, *clock),
-        NoteBody::Left {
-            device,
-            link,
-            cause,
-            clock,
-        } => push_clocked(line, network, "left", *device, *link, *cause, *clock),
         NoteBody::Permanent {
             device,
             link,
@@ -312,20 +304,31 @@ pub(crate) fn push_body(line: &mut LineText, network: &Network, body: &NoteBody)
             point,
             verdict,
         } => push_permanent(line, network, *device, *link, *cause, *point, *verdict),
+        NoteBody::Left {
+            device,
+            link,
+            cause,
+            clock,
+        } => push_clocked(line, network, "left", *device, *link, *cause, *clock),
+        NoteBody::Lost {
+            device,
+            link,
+            cause,
+        } => push_passage(line, network, "lost", *device, *link, *cause),
         NoteBody::TtSent {
             device,
             link,
             cause,
             vl,
             cycle,
-        } => push_timed(line, network, "ttsent", *device, *link, *cause, *vl, *cycle),
+        } => push_tt(line, network, "ttsent", *device, *link, *cause, *vl, *cycle),
         NoteBody::Accepted {
             device,
             link,
             cause,
             vl,
             cycle,
-        } => push_timed(
+        } => push_tt(
             line, network, "accepted", *device, *link, *cause, *vl, *cycle,
         ),
         NoteBody::Delivered {
@@ -334,7 +337,7 @@ pub(crate) fn push_body(line: &mut LineText, network: &Network, body: &NoteBody)
             cause,
             vl,
             cycle,
-        } => push_timed(
+        } => push_tt(
             line,
             network,
             "delivered",
@@ -344,11 +347,6 @@ pub(crate) fn push_body(line: &mut LineText, network: &Network, body: &NoteBody)
             *vl,
             *cycle,
         ),
-        NoteBody::Lost {
-            device,
-            link,
-            cause,
-        } => push_passage(line, network, "lost", *device, *link, *cause),
         NoteBody::Dropped {
             device,
             link,

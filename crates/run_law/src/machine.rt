@@ -52,12 +52,15 @@ pub trait Machine {
     /// What becomes of a frame for whose permanence the device has waited, at the first instant at which its reading
     /// is at least the point. The device is neither off nor broken.
     fn ripen(&mut self, moment: Moment, link: LinkId, frame: &Pcf, point: Units) -> Ripe
-        requires { StandsFor stands self.old (λ network device node. MayTake network device node moment link frame.now point) }
+        requires { StandsFor stands self.old
+            (λ network device node. MayTake network device node moment link frame.now point) }
         ensures { (network : Network) (device : DeviceId) (node : Node) → stands self.old network device node
             → MayCall network device node moment ripening → IsHearing network device node
             → MayRipen network device node moment link frame.now point
             → IsPermanenceOutcomeAt network device node frame.now point result
-            × stands self.new network device (called moment ripening (after_permanence node moment (channel_of_link network link) frame.now point result)) };
+            × stands self.new network device
+            (called moment ripening
+            (after_permanence node moment (channel_of_link network link) frame.now point result)) };
 
     /// An event turns the device on, which is off and not broken.
     fn turn_on(&mut self)

@@ -28,22 +28,27 @@ both n b d on_a on_b A = on_a
 both n b d on_a on_b B = on_b
 
 -- the rule of delays, from both channels and back
-pub delays_from_channels : (n : Network) (beta : Units) (b place : ℕ) → b ≡ amount beta → BetaIsUnique → IsBeta n beta.0 → DelaysFitOn n b A (record { 0 = place }) → DelaysFitOn n b B (record { 0 = place }) → DelaysFit n place
+pub delays_from_channels : (n : Network) (beta : Units) (b place : ℕ) → b ≡ amount beta → BetaIsUnique → IsBeta n beta.0
+    → DelaysFitOn n b A (record { 0 = place }) → DelaysFitOn n b B (record { 0 = place }) → DelaysFit n place
 delays_from_channels n beta b place e one h on_a on_b other channel links is member path =
     let fits : ℕ → Type 0 = λ x. (c : Channel) → DelaysFitOn n x c (record { 0 = place }) in
     at_beta fits n beta one h (subst fits e (both n b (record { 0 = place }) on_a on_b)) other is channel links member path
 
-pub delays_on_channel : (n : Network) (beta : Units) (b place : ℕ) → b ≡ amount beta → IsBeta n beta.0 → DelaysFit n place → (channel : Channel) → DelaysFitOn n b channel (record { 0 = place })
+pub delays_on_channel : (n : Network) (beta : Units) (b place : ℕ) → b ≡ amount beta → IsBeta n beta.0 → DelaysFit n place → (channel : Channel)
+    → DelaysFitOn n b channel (record { 0 = place })
 delays_on_channel n beta b place e h all =
     let fits : ℕ → Type 0 = λ x. (c : Channel) → DelaysFitOn n x c (record { 0 = place }) in
     subst fits (sym e) (of_beta fits n beta h (λ other is c links member path. all other c links is member path))
 
 -- the rule of the precision, from its errors at this beta and back
-pub precision_from_errors : (n : Network) (beta : Units) → BetaIsUnique → IsBeta n beta.0 → amount n.settled + 2 * errors_of n (amount beta) ≤ amount n.precision → amount n.calc ≤ amount n.precision → PrecisionFits n
+pub precision_from_errors : (n : Network) (beta : Units) → BetaIsUnique → IsBeta n beta.0 → amount n.settled + 2 * errors_of n (amount beta) ≤ amount
+    n.precision → amount n.calc ≤ amount n.precision → PrecisionFits n
 precision_from_errors n beta one h errors calc = record {
   errors = λ other is. omega (arith, at_beta (λ b. amount n.settled + 2 * errors_of n b ≤ amount n.precision) n beta one h errors other is);
   calc = calc;
 }
 
-pub errors_from_precision : (n : Network) (beta : Units) → IsBeta n beta.0 → PrecisionFits n → amount n.settled + 2 * errors_of n (amount beta) ≤ amount n.precision
-errors_from_precision n beta h fits = omega (arith, of_beta (λ b. amount n.settled + 16 * b + 24 * gamma_of n + 80 * amount n.grain ≤ amount n.precision) n beta h fits.errors)
+pub errors_from_precision : (n : Network) (beta : Units) → IsBeta n beta.0 → PrecisionFits n → amount n.settled + 2 * errors_of n (amount beta) ≤ amount
+    n.precision
+errors_from_precision n beta h fits =
+    omega (arith, of_beta (λ b. amount n.settled + 16 * b + 24 * gamma_of n + 80 * amount n.grain ≤ amount n.precision) n beta h fits.errors)

@@ -36,13 +36,19 @@ within P xs k h = some_within xs k (slice_get xs k) P refl h
 limits : (n : Network) → IsKeptWhereJudged Limits n → IsKept Limits n
 limits n h k =
     ⊎_elim (λ (l : k < 4). h k l)
-    (λ (g : 4 ≤ k). let r : IsKeptAt Limits n k = record { devices = λ e. absurd (omega (arith, e, g)); links = λ e. absurd (omega (arith, e, g)); vls = λ e. absurd (omega (arith, e, g)); rows = λ e. absurd (omega (arith, e, g)) } in r)
+    (λ (g : 4 ≤ k). let r : IsKeptAt Limits n k = record {
+      devices = λ e. absurd (omega (arith, e, g));
+      links = λ e. absurd (omega (arith, e, g));
+      vls = λ e. absurd (omega (arith, e, g));
+      rows = λ e. absurd (omega (arith, e, g));
+    } in r)
     (cases_lt k 4)
 
 cms : (n : Network) → IsKeptWhereJudged CompressionMasters n → IsKept CompressionMasters n
 cms n h k =
     ⊎_elim (λ (l : k < 2). h k l)
-    (λ (g : 2 ≤ k). let r : IsKeptAt CompressionMasters n k = record { on_a = λ e. absurd (omega (arith, e, g)); on_b = λ e. absurd (omega (arith, e, g)) } in r)
+    (λ (g : 2 ≤ k). let r : IsKeptAt CompressionMasters n k = record { on_a = λ e. absurd (omega (arith, e, g)); on_b = λ e. absurd (omega (arith, e, g)) } in
+    r)
     (cases_lt k 2)
 
 masters : (n : Network) → IsKeptWhereJudged Masters n → IsKept Masters n
@@ -118,7 +124,8 @@ rows_of_device : (n : Network) → IsInRange n → IsKeptWhereJudged RowsOfDevic
 rows_of_device n range h k =
     ⊎_elim (λ (l : k < length n.device). h k l)
     (λ (g : length n.device ≤ k).
-    let none : count_by (leaves n (record { 0 = k })) n.row ≡ 0 = none_counted (leaves n (record { 0 = k })) n.row (λ i d below. unleft n range k g (get_or n.row i d) (range.rows i d below)) in
+    let none : count_by (leaves n (record { 0 = k })) n.row ≡ 0 = none_counted (leaves n (record { 0 = k })) n.row
+    (λ i d below. unleft n range k g (get_or n.row i d) (range.rows i d below)) in
     let r : HasFewRows n k = omega (arith, none) in r)
     (cases_lt k (length n.device))
 

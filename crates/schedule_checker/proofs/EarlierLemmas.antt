@@ -24,7 +24,8 @@ one_value : {X : Type 0} (o : Option X) (x y : X) → o ≡ Some x → o ≡ Som
 one_value o x y p q = cc
 
 -- the answer decides whether the mark is new
-pub new_from_all : {X Y : Type 0} (mark : X → Y) (xs : List X) (place : ℕ) (x : X) (b : Bool) → slice_get xs place ≡ Some x → IsCompared mark xs place x b → (IsTrue b → IsNewAt mark xs place) × (IsNewAt mark xs place → IsTrue b)
+pub new_from_all : {X Y : Type 0} (mark : X → Y) (xs : List X) (place : ℕ) (x : X) (b : Bool) → slice_get xs place ≡ Some x → IsCompared mark xs place x b
+    → (IsTrue b → IsNewAt mark xs place) × (IsNewAt mark xs place → IsTrue b)
 new_from_all mark xs place x true at all = (
   λ t k e y below here there same.
       let within : k < length (take place xs) = omega (arith, length-take place xs, slice_get_within xs k e here) in

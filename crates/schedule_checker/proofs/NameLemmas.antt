@@ -19,5 +19,7 @@ one_text size xs ys same long =
 -- `==` decides whether names are equal
 pub decides_name : (size : ℕ) (xs ys : List ℕ) (r : Bool) → r ≡ same_padded size xs ys → Decides r (xs ≡ ys)
 decides_name size xs ys r e =
-    let parts = Decides-and (pointwise eqb (padded size xs) (padded size ys)) (eqb (length xs) (length ys)) (bytes_eq-Decides (padded size xs) (padded size ys)) (Decides-eqb (length xs) (length ys)) in
-    Decides-at r (same_padded size xs ys) e (Decides-like (same_padded size xs ys) (λ h. one_text size xs ys h.0 h.1) (λ h. (ap (padded size) h, ap length h)) parts)
+    let parts = Decides-and (pointwise eqb (padded size xs) (padded size ys)) (eqb (length xs) (length ys)) (bytes_eq-Decides (padded size xs) (padded size ys))
+    (Decides-eqb (length xs) (length ys)) in
+    Decides-at r (same_padded size xs ys) e (Decides-like (same_padded size xs ys) (λ h. one_text size xs ys h.0 h.1) (λ h. (ap (padded size) h, ap length h))
+    parts)

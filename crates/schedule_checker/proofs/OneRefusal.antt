@@ -43,7 +43,8 @@ numbered BothChannels = refl
 numbered Forwarding = refl
 numbered RowsOfDevice = refl
 
-same_rule : (r s : Rule) → number_of r ≡ number_of s → r ≡ s
+-- rules of one number are one
+pub same_rule : (r s : Rule) → number_of r ≡ number_of s → r ≡ s
 same_rule r s e = sym (numbered r) ∙ ap rule_of e ∙ numbered s
 
 abbrev told_of : ℕ → ℕ → RuleBroken

@@ -21,10 +21,12 @@ use Rattle.tte_units.specs.Amount.{amount}
 abbrev pub IsApartFrom : Network → Entry → Entry → Type 0
 IsApartFrom n e earlier = AreApart n earlier e
 
-pub stands_apart : (n : Network) (es front : List Entry) (place : ℕ) (e : Entry) (r : Bool) → AreEntries n es → EntryIsOne → IsEntry n place e → front ≡ take place es → Decides r (All (IsApartFrom n e) front) → Decides r (StandsApart n place)
+pub stands_apart : (n : Network) (es front : List Entry) (place : ℕ) (e : Entry) (r : Bool) → AreEntries n es → EntryIsOne → IsEntry n place e
+    → front ≡ take place es → Decides r (All (IsApartFrom n e) front) → Decides r (StandsApart n place)
 stands_apart n es front place e r are one at cut =
     Decides-like r
-    (λ all k earlier here below was is. subst (λ (x : Entry). AreApart n earlier x) (one n place e here at is) (earlier_of_all n es front place (IsApartFrom n e) are one cut all k earlier below was))
+    (λ all k earlier here below was is. subst (λ (x : Entry). AreApart n earlier x) (one n place e here at is)
+    (earlier_of_all n es front place (IsApartFrom n e) are one cut all k earlier below was))
     (λ kept. all_of_earlier n es front place (IsApartFrom n e) are cut (λ k earlier below was. kept k earlier e below was at))
 
 -- ---- rows that come in time
@@ -33,7 +35,8 @@ abbrev pub ComesBehindThis : Network → Entry → Entry → Type 0
 ComesBehindThis n e entering = ComesBehind n entering e
 
 -- a row of a sender
-pub in_time_of_sender : (n : Network) (place : ℕ) (e : Entry) (r : Bool) → EntryIsOne → IsEntry n place e → source_of e ≡ e.vl.sender → Decides r (amount n.tt_start ≤ amount e.row.offset) → Decides r (ComesInTime n place)
+pub in_time_of_sender : (n : Network) (place : ℕ) (e : Entry) (r : Bool) → EntryIsOne → IsEntry n place e → source_of e ≡ e.vl.sender
+    → Decides r (amount n.tt_start ≤ amount e.row.offset) → Decides r (ComesInTime n place)
 in_time_of_sender n place e r one at sender =
     Decides-like r
     (λ begun. record {
@@ -43,29 +46,37 @@ in_time_of_sender n place e r one at sender =
     (λ kept. kept.from_sender e at sender)
 
 -- a row of a switch
-pub in_time_of_switch : (n : Network) (es : List Entry) (place : ℕ) (e : Entry) (r : Bool) → AreEntries n es → EntryIsOne → IsEntry n place e → source_of e ≢ e.vl.sender → Decides r (All (ComesBehindThis n e) es) → Decides r (ComesInTime n place)
+pub in_time_of_switch : (n : Network) (es : List Entry) (place : ℕ) (e : Entry) (r : Bool) → AreEntries n es → EntryIsOne → IsEntry n place e
+    → source_of e ≢ e.vl.sender → Decides r (All (ComesBehindThis n e) es) → Decides r (ComesInTime n place)
 in_time_of_switch n es place e r are one at other =
     Decides-like r
     (λ all. record {
       from_sender = λ here is s. absurd (other (subst (λ (x : Entry). source_of x ≡ x.vl.sender) (sym (one n place e here at is)) s));
-      from_switch = λ k entering here was is same o. (subst (λ (x : Entry). ComesBehind n entering x) (one n place e here at is) (entries_of_all n es (ComesBehindThis n e) are one all k entering was)).behind same;
+      from_switch =
+          λ k entering here was is same o.
+          (subst (λ (x : Entry). ComesBehind n entering x) (one n place e here at is)
+          (entries_of_all n es (ComesBehindThis n e) are one all k entering was)).behind same;
     })
-    (λ kept. all_of_entries n es (ComesBehindThis n e) are (λ k entering was. record { behind = λ same meets. kept.from_switch k entering e was at same other meets }))
+    (λ kept. all_of_entries n es (ComesBehindThis n e) are
+    (λ k entering was. record { behind = λ same meets. kept.from_switch k entering e was at same other meets }))
 
 -- ---- rows of a device
 
 -- two lists whose elements pass two tests alike have as many that pass
-same_count : {X Y : Type 0} (p : X → Bool) (q : Y → Bool) (xs : List X) (ys : List Y) → length xs ≡ length ys → ((k : ℕ) (x : X) (y : Y) → slice_get xs k ≡ Some x → slice_get ys k ≡ Some y → p x ≡ q y) → count_by p xs ≡ count_by q ys
+same_count : {X Y : Type 0} (p : X → Bool) (q : Y → Bool) (xs : List X) (ys : List Y) → length xs ≡ length ys
+    → ((k : ℕ) (x : X) (y : Y) → slice_get xs k ≡ Some x → slice_get ys k ≡ Some y → p x ≡ q y) → count_by p xs ≡ count_by q ys
 same_count p q [] [] len same = refl
 same_count p q [] (y ∷ ys) len same = absurd (omega (arith, len))
 same_count p q (x ∷ xs) [] len same = absurd (omega (arith, len))
 same_count {X} {Y} p q (x ∷ xs) (y ∷ ys) len same =
     let here : p x ≡ q y = same 0 x y refl refl in
     let rest : count_by p xs ≡ count_by q ys = same_count p q xs ys (omega (arith, len)) (λ k a b at bt. same (suc k) a b at bt) in
-    sum_by-cons (λ (a : X). cond (p a) 1 0) x xs ∙ ap (λ (b : Bool). cond b 1 0 + count_by p xs) here ∙ ap (λ (m : ℕ). cond (q y) 1 0 + m) rest ∙ sym (sum_by-cons (λ (b : Y). cond (q b) 1 0) y ys)
+    sum_by-cons (λ (a : X). cond (p a) 1 0) x xs ∙ ap (λ (b : Bool). cond b 1 0 + count_by p xs) here ∙ ap (λ (m : ℕ). cond (q y) 1 0 + m) rest
+    ∙ sym (sum_by-cons (λ (b : Y). cond (q b) 1 0) y ys)
 
 -- as many rows as entries leave the device
-pub rows_leave : (n : Network) (es : List Entry) (device : DeviceId) → AreEntries n es → count_by (λ (e : Entry). (source_of e).0 == device.0) es ≡ count_by (leaves n device) n.row
+pub rows_leave : (n : Network) (es : List Entry) (device : DeviceId) → AreEntries n es → count_by (λ (e : Entry). (source_of e).0 == device.0) es ≡ count_by
+    (leaves n device) n.row
 rows_leave n es device are =
     same_count (λ (e : Entry). (source_of e).0 == device.0) (leaves n device) es n.row are.count (λ k e row at here.
     let is : IsEntry n k e = are.each k e at in

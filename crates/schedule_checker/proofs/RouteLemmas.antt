@@ -24,11 +24,14 @@ use Rattle.schedule_checker.proofs.EntryPlaces.{stands_at, earlier_of_all, all_o
 abbrev pub IsOtherThan : Row → Row → Type 0
 IsOtherThan row other = row.vl ≡ other.vl → row.link ≢ other.link
 
-pub goes_once : (n : Network) (place : ℕ) (front : List Row) (row : Row) (r : Bool) → slice_get n.row place ≡ Some row → front ≡ take place n.row → Decides r (All (IsOtherThan row) front) → Decides r (GoesOnceByLink n place)
+pub goes_once : (n : Network) (place : ℕ) (front : List Row) (row : Row) (r : Bool) → slice_get n.row place ≡ Some row → front ≡ take place n.row
+    → Decides r (All (IsOtherThan row) front) → Decides r (GoesOnceByLink n place)
 goes_once n place front row r at cut =
     Decides-like r
-    (λ all k earlier here below is was. let same : row ≡ here = cc in subst (λ (x : Row). IsOtherThan x earlier) same (below_of_all (IsOtherThan row) n.row place (subst (λ (xs : List Row). All (IsOtherThan row) xs) cut all) k earlier below is))
-    (λ kept. subst (λ (xs : List Row). All (IsOtherThan row) xs) (sym cut) (all_of_below (IsOtherThan row) n.row place (λ k earlier below is. kept k earlier row below is at)))
+    (λ all k earlier here below is was. let same : row ≡ here = cc in subst (λ (x : Row). IsOtherThan x earlier) same
+    (below_of_all (IsOtherThan row) n.row place (subst (λ (xs : List Row). All (IsOtherThan row) xs) cut all) k earlier below is))
+    (λ kept. subst (λ (xs : List Row). All (IsOtherThan row) xs) (sym cut)
+    (all_of_below (IsOtherThan row) n.row place (λ k earlier below is. kept k earlier row below is at)))
 
 -- ---- rows of a virtual link on a channel
 
@@ -44,30 +47,53 @@ Enters n vl channel device e = (e.row.vl ≡ vl) × (target_of e ≡ device) × 
 abbrev pub EntersEnd : Network → VlId → Entry → Type 0
 EntersEnd n vl e = (e.row.vl ≡ vl) × IsEndSystem n (target_of e) × (IsOnChannel n A e ⊎ IsOnChannel n B e)
 
-pub leaves_on : (n : Network) (es : List Entry) (vl : VlId) (channel : Channel) (device : DeviceId) (r : Bool) → AreEntries n es → EntryIsOne → Decides r (Holds (Leaves n vl channel device) es) → Decides r (LeavesOn n vl channel device)
+pub leaves_on : (n : Network) (es : List Entry) (vl : VlId) (channel : Channel) (device : DeviceId) (r : Bool) → AreEntries n es → EntryIsOne
+    → Decides r (Holds (Leaves n vl channel device) es) → Decides r (LeavesOn n vl channel device)
 leaves_on n es vl channel device r are one =
     Decides-like r
     (λ some. record { place = some.0; entry = some.1; is = are.each some.0 some.1 some.2; same_vl = some.3.0; on_channel = some.3.2; source = some.3.1 })
     (λ l. (l.place, l.entry, stands_at n es are one l.place l.entry l.is, (l.same_vl, l.source, l.on_channel)))
 
-pub enters_on : (n : Network) (es : List Entry) (vl : VlId) (channel : Channel) (device : DeviceId) (r : Bool) → AreEntries n es → EntryIsOne → Decides r (Holds (Enters n vl channel device) es) → Decides r (EntersOn n vl channel device)
+pub enters_on : (n : Network) (es : List Entry) (vl : VlId) (channel : Channel) (device : DeviceId) (r : Bool) → AreEntries n es → EntryIsOne
+    → Decides r (Holds (Enters n vl channel device) es) → Decides r (EntersOn n vl channel device)
 enters_on n es vl channel device r are one =
     Decides-like r
     (λ some. record { place = some.0; entry = some.1; is = are.each some.0 some.1 some.2; same_vl = some.3.0; on_channel = some.3.2; target = some.3.1 })
     (λ l. (l.place, l.entry, stands_at n es are one l.place l.entry l.is, (l.same_vl, l.target, l.on_channel)))
 
 on_some : (n : Network) (e : Entry) → IsOnChannel n A e ⊎ IsOnChannel n B e → (channel : Channel) × IsOnChannel n channel e
-on_some n e h = ⊎_elim (λ (a : IsOnChannel n A e). let r : (channel : Channel) × IsOnChannel n channel e = (A, a) in r) (λ (b : IsOnChannel n B e). let r : (channel : Channel) × IsOnChannel n channel e = (B, b) in r) h
+on_some n e h =
+    ⊎_elim (λ (a : IsOnChannel n A e). let r : (channel : Channel) × IsOnChannel n channel e = (A, a) in r)
+    (λ (b : IsOnChannel n B e). let r : (channel : Channel) × IsOnChannel n channel e = (B, b) in r) h
 
 on_either : (n : Network) (e : Entry) (channel : Channel) → IsOnChannel n channel e → IsOnChannel n A e ⊎ IsOnChannel n B e
 on_either n e A h = inl h
 on_either n e B h = inr h
 
-pub enters_end_system : (n : Network) (es : List Entry) (vl : VlId) (r : Bool) → AreEntries n es → EntryIsOne → Decides r (Holds (EntersEnd n vl) es) → Decides r (EntersEndSystem n vl)
+pub enters_end_system : (n : Network) (es : List Entry) (vl : VlId) (r : Bool) → AreEntries n es → EntryIsOne → Decides r (Holds (EntersEnd n vl) es)
+    → Decides r (EntersEndSystem n vl)
 enters_end_system n es vl r are one =
     Decides-like r
-    (λ some. let on = on_some n some.1 some.3.2 in (on.0, target_of some.1, some.3.1, record { place = some.0; entry = some.1; is = are.each some.0 some.1 some.2; same_vl = some.3.0; on_channel = on.1; target = refl }))
-    (λ h. let l : EntersOn n vl h.0 h.1 = h.3 in (l.place, l.entry, stands_at n es are one l.place l.entry l.is, (l.same_vl, subst (λ (d : DeviceId). IsEndSystem n d) (sym l.target) h.2, on_either n l.entry h.0 l.on_channel)))
+    (λ some. let on = on_some n some.1
+    some.3.2 in (
+      on.0,
+      target_of some.1,
+      some.3.1,
+      record {
+        place = some.0;
+        entry = some.1;
+        is = are.each some.0 some.1 some.2;
+        same_vl = some.3.0;
+        on_channel = on.1;
+        target = refl;
+      },
+    ))
+    (λ h. let l : EntersOn n vl h.0 h.1 = h.3 in (
+      l.place,
+      l.entry,
+      stands_at n es are one l.place l.entry l.is,
+      (l.same_vl, subst (λ (d : DeviceId). IsEndSystem n d) (sym l.target) h.2, on_either n l.entry h.0 l.on_channel),
+    ))
 
 -- ---- the same end systems on both channels
 
@@ -75,31 +101,41 @@ enters_end_system n es vl r are one =
 abbrev pub TargetIsAlike : Network → VlId → Entry → Type 0
 TargetIsAlike n vl e = e.row.vl ≡ vl → EntersAlike n vl (target_of e)
 
-pub enters_all_alike : (n : Network) (es : List Entry) (vl : VlId) (r : Bool) → AreEntries n es → EntryIsOne → Decides r (Each (TargetIsAlike n vl) es) → Decides r (EntersAllAlike n vl)
+pub enters_all_alike : (n : Network) (es : List Entry) (vl : VlId) (r : Bool) → AreEntries n es → EntryIsOne → Decides r (Each (TargetIsAlike n vl) es)
+    → Decides r (EntersAllAlike n vl)
 enters_all_alike n es vl r are one =
     Decides-like r
-    (λ each d. record { alike = λ channel other end enters. (subst (λ (x : DeviceId). EntersAlike n vl x) enters.target (each enters.place enters.entry (stands_at n es are one enters.place enters.entry enters.is) enters.same_vl)).alike channel other end enters })
+    (λ each d. record {
+      alike = λ channel other end enters.
+          (subst (λ (x : DeviceId). EntersAlike n vl x) enters.target (each enters.place enters.entry (stands_at n es are one enters.place enters.entry enters.is)
+          enters.same_vl)).alike channel other end enters;
+    })
     (λ all k e at same. all (target_of e))
 
 -- an end system is entered alike where it is entered on the one channel exactly if on the other
-over : (n : Network) (vl : VlId) (device : DeviceId) (a b : Bool) → Decides a (EntersOn n vl A device) → Decides b (EntersOn n vl B device) → a ≡ b → (channel other : Channel) → EntersOn n vl channel device → EntersOn n vl other device
+over : (n : Network) (vl : VlId) (device : DeviceId) (a b : Bool) → Decides a (EntersOn n vl A device) → Decides b (EntersOn n vl B device) → a ≡ b
+    → (channel other : Channel) → EntersOn n vl channel device → EntersOn n vl other device
 over n vl device a b on_a on_b same A A h = h
 over n vl device a b on_a on_b same A B h = on_b.0 (sym same ∙ on_a.1 h)
 over n vl device a b on_a on_b same B A h = on_a.0 (same ∙ on_b.1 h)
 over n vl device a b on_a on_b same B B h = h
 
-pub alike : (n : Network) (vl : VlId) (device : DeviceId) (a b : Bool) → Decides a (EntersOn n vl A device) → Decides b (EntersOn n vl B device) → a ≡ b → EntersAlike n vl device
+pub alike : (n : Network) (vl : VlId) (device : DeviceId) (a b : Bool) → Decides a (EntersOn n vl A device) → Decides b (EntersOn n vl B device) → a ≡ b
+    → EntersAlike n vl device
 alike n vl device a b on_a on_b same = record { alike = λ channel other end h. over n vl device a b on_a on_b same channel other h }
 
-pub alike_back : (n : Network) (vl : VlId) (device : DeviceId) (a b : Bool) → Decides a (EntersOn n vl A device) → Decides b (EntersOn n vl B device) → IsEndSystem n device → EntersAlike n vl device → a ≡ b
+pub alike_back : (n : Network) (vl : VlId) (device : DeviceId) (a b : Bool) → Decides a (EntersOn n vl A device) → Decides b (EntersOn n vl B device)
+    → IsEndSystem n device → EntersAlike n vl device → a ≡ b
 alike_back n vl device true true on_a on_b end h = refl
 alike_back n vl device true false on_a on_b end h = sym (on_b.1 (h.alike A B end (on_a.0 refl)))
 alike_back n vl device false true on_a on_b end h = on_a.1 (h.alike B A end (on_b.0 refl))
 alike_back n vl device false false on_a on_b end h = refl
 
-pub both_channels : (n : Network) (place : ℕ) (vl : VirtualLink) → slice_get n.vl place ≡ Some vl → LeavesOnBoth n (record { 0 = place }) vl.sender → EntersEndSystem n (record { 0 = place }) → EntersAllAlike n (record { 0 = place }) → GoesByBothChannels n place
+pub both_channels : (n : Network) (place : ℕ) (vl : VirtualLink) → slice_get n.vl place ≡ Some vl → LeavesOnBoth n (record { 0 = place }) vl.sender
+    → EntersEndSystem n (record { 0 = place }) → EntersAllAlike n (record { 0 = place }) → GoesByBothChannels n place
 both_channels n place vl at leaves enters alike = record {
-  leaves = λ here channel is. let same : vl ≡ here = cc in subst (λ (x : VirtualLink). LeavesOn n (record { 0 = place }) channel x.sender) same (leaves channel);
+  leaves =
+      λ here channel is. let same : vl ≡ here = cc in subst (λ (x : VirtualLink). LeavesOn n (record { 0 = place }) channel x.sender) same (leaves channel);
   enters = λ here is. enters;
   same = λ device. (alike device).alike;
 }
@@ -110,31 +146,60 @@ both_channels n place vl at leaves enters alike = record {
 abbrev pub EntersElsewhere : ℕ → Entry → ℕ × Entry → Type 0
 EntersElsewhere place e p = (p.0 ≢ place) × (p.1.row.vl ≡ e.row.vl) × (target_of p.1 ≡ source_of e)
 
-pub entered_elsewhere : (es : List Entry) (place : ℕ) (e : Entry) (r : Bool) → Decides r (Holds (EntersElsewhere place e) (enumerate_from 0 es)) → Decides r (IsEnteredElsewhere es place e)
+pub entered_elsewhere : (es : List Entry) (place : ℕ) (e : Entry) (r : Bool) → Decides r (Holds (EntersElsewhere place e) (enumerate_from 0 es))
+    → Decides r (IsEnteredElsewhere es place e)
 entered_elsewhere es place e r =
     Decides-like r
     (λ some. let found = from_enumerate es 0 some.0 some.1 some.2 in
-    record { at = some.1.0; other = some.1.1; there = subst (λ (i : ℕ). slice_get es i ≡ Some some.1.1) (omega (arith, found.0)) found.1; elsewhere = some.3.0; same_vl = some.3.1; target = some.3.2 })
-    (λ h. (h.at, (h.at, h.other), subst (λ (i : ℕ). slice_get (enumerate_from 0 es) h.at ≡ Some (i, h.other)) (omega arith) (into_enumerate es 0 h.at h.other h.there), (h.elsewhere, h.same_vl, h.target)))
+    record {
+      at = some.1.0;
+      other = some.1.1;
+      there = subst (λ (i : ℕ). slice_get es i ≡ Some some.1.1) (omega (arith, found.0)) found.1;
+      elsewhere = some.3.0;
+      same_vl = some.3.1;
+      target = some.3.2;
+    })
+    (λ h. (
+      h.at,
+      (h.at, h.other),
+      subst (λ (i : ℕ). slice_get (enumerate_from 0 es) h.at ≡ Some (i, h.other)) (omega arith)
+          (into_enumerate es 0 h.at h.other h.there),
+      (h.elsewhere, h.same_vl, h.target),
+    ))
 
 -- the entry's source, if it is no sender, is a switch that another entry of the virtual link enters
 abbrev pub IsFed : Network → List Entry → ℕ → Entry → Type 0
 IsFed n es place e = (source_of e ≡ e.vl.sender) ⊎ (IsSwitch n (source_of e) × IsEnteredElsewhere es place e)
 
-entered : (n : Network) (es : List Entry) (place : ℕ) (e : Entry) → AreEntries n es → IsEnteredElsewhere es place e → (k : ℕ) × (k ≢ place) × Schedule.Enters n k e.row.vl (source_of e)
+entered : (n : Network) (es : List Entry) (place : ℕ) (e : Entry) → AreEntries n es → IsEnteredElsewhere es place e → (k : ℕ) × (k ≢ place)
+    × Schedule.Enters n k e.row.vl (source_of e)
 entered n es place e are h = (h.at, h.elsewhere, record { entry = h.other; is = are.each h.at h.other h.there; same_vl = h.same_vl; target = h.target })
 
-entered_back : (n : Network) (es : List Entry) (place : ℕ) (e : Entry) → AreEntries n es → EntryIsOne → (k : ℕ) × (k ≢ place) × Schedule.Enters n k e.row.vl (source_of e) → IsEnteredElsewhere es place e
-entered_back n es place e are one h = let x : Schedule.Enters n h.0 e.row.vl (source_of e) = h.2 in record { at = h.0; other = x.entry; there = stands_at n es are one h.0 x.entry x.is; elsewhere = h.1; same_vl = x.same_vl; target = x.target }
+entered_back : (n : Network) (es : List Entry) (place : ℕ) (e : Entry) → AreEntries n es → EntryIsOne → (k : ℕ) × (k ≢ place)
+    × Schedule.Enters n k e.row.vl (source_of e) → IsEnteredElsewhere es place e
+entered_back n es place e are one h =
+    let x : Schedule.Enters n h.0 e.row.vl (source_of e) = h.2 in record {
+      at = h.0;
+      other = x.entry;
+      there = stands_at n es are one h.0 x.entry x.is;
+      elsewhere = h.1;
+      same_vl = x.same_vl;
+      target = x.target;
+    }
 
-pub has_source : (n : Network) (es : List Entry) (place : ℕ) (e : Entry) → AreEntries n es → EntryIsOne → IsEntry n place e → IsFed n es place e → HasSource n place
+pub has_source : (n : Network) (es : List Entry) (place : ℕ) (e : Entry) → AreEntries n es → EntryIsOne → IsEntry n place e → IsFed n es place e
+    → HasSource n place
 has_source n es place e are one at fed here is =
-    subst (λ (x : Entry). (source_of x ≡ x.vl.sender) ⊎ (IsSwitch n (source_of x) × ((k : ℕ) × (k ≢ place) × Schedule.Enters n k x.row.vl (source_of x)))) (one n place e here at is)
-    (⊎_elim (λ (s : source_of e ≡ e.vl.sender). inl s) (λ (s : IsSwitch n (source_of e) × IsEnteredElsewhere es place e). inr (s.0, entered n es place e are s.1)) fed)
+    subst (λ (x : Entry). (source_of x ≡ x.vl.sender) ⊎ (IsSwitch n (source_of x) × ((k : ℕ) × (k ≢ place) × Schedule.Enters n k x.row.vl (source_of x))))
+    (one n place e here at is)
+    (⊎_elim (λ (s : source_of e ≡ e.vl.sender). inl s)
+    (λ (s : IsSwitch n (source_of e) × IsEnteredElsewhere es place e). inr (s.0, entered n es place e are s.1)) fed)
 
-pub has_source_back : (n : Network) (es : List Entry) (place : ℕ) (e : Entry) → AreEntries n es → EntryIsOne → IsEntry n place e → HasSource n place → IsFed n es place e
+pub has_source_back : (n : Network) (es : List Entry) (place : ℕ) (e : Entry) → AreEntries n es → EntryIsOne → IsEntry n place e → HasSource n place
+    → IsFed n es place e
 has_source_back n es place e are one at kept =
-    ⊎_elim (λ (s : source_of e ≡ e.vl.sender). inl s) (λ (s : IsSwitch n (source_of e) × ((k : ℕ) × (k ≢ place) × Schedule.Enters n k e.row.vl (source_of e))). inr (s.0, entered_back n es place e are one s.1)) (kept e at)
+    ⊎_elim (λ (s : source_of e ≡ e.vl.sender). inl s) (λ (s : IsSwitch n (source_of e) × ((k : ℕ) × (k ≢ place) × Schedule.Enters n k e.row.vl (source_of e))).
+    inr (s.0, entered_back n es place e are one s.1)) (kept e at)
 
 -- ---- targets
 
@@ -142,21 +207,29 @@ has_source_back n es place e are one at kept =
 abbrev pub EntersNoneAgain : Network → Entry → Entry → Type 0
 EntersNoneAgain n e earlier = ¬ EntersAgain n earlier e
 
-pub enters_anew : (n : Network) (es front : List Entry) (place : ℕ) (e : Entry) → AreEntries n es → EntryIsOne → IsEntry n place e → front ≡ take place es → target_of e ≢ e.vl.sender → All (EntersNoneAgain n e) front → EntersAnew n place
+pub enters_anew : (n : Network) (es front : List Entry) (place : ℕ) (e : Entry) → AreEntries n es → EntryIsOne → IsEntry n place e → front ≡ take place es
+    → target_of e ≢ e.vl.sender → All (EntersNoneAgain n e) front → EntersAnew n place
 enters_anew n es front place e are one at cut sender all =
     let none = earlier_of_all n es front place (EntersNoneAgain n e) are one cut all in
     record {
       no_sender = λ here is. subst (λ (x : Entry). target_of x ≢ x.vl.sender) (one n place e here at is) sender;
-      switches = λ k earlier here below was is same switch meets. subst (λ (x : Entry). EntersNoneAgain n x earlier) (one n place e here at is) (none k earlier below was) (record { same_vl = same; same_target = meets; once = inl switch });
-      end_systems = λ k earlier here channel below was is same end on_earlier on_here meets. subst (λ (x : Entry). EntersNoneAgain n x earlier) (one n place e here at is) (none k earlier below was) (record { same_vl = same; same_target = meets; once = inr (end, (channel, on_earlier, on_here)) });
+      switches =
+          λ k earlier here below was is same switch meets. subst (λ (x : Entry). EntersNoneAgain n x earlier) (one n place e here at is)
+          (none k earlier below was) (record { same_vl = same; same_target = meets; once = inl switch });
+      end_systems =
+          λ k earlier here channel below was is same end on_earlier on_here meets. subst (λ (x : Entry). EntersNoneAgain n x earlier) (one n place e here at is)
+          (none k earlier below was) (record { same_vl = same; same_target = meets; once = inr (end, (channel, on_earlier, on_here)) });
     }
 
-none_again : (n : Network) (place : ℕ) (e : Entry) → IsEntry n place e → EntersAnew n place → (k : ℕ) (earlier : Entry) → k < place → IsEntry n k earlier → EntersAgain n earlier e → ⊥
+none_again : (n : Network) (place : ℕ) (e : Entry) → IsEntry n place e → EntersAnew n place → (k : ℕ) (earlier : Entry) → k < place → IsEntry n k earlier
+    → EntersAgain n earlier e → ⊥
 none_again n place e at kept k earlier below was h =
     ⊎_elim
     (λ (s : IsSwitch n (target_of e)). kept.switches k earlier e below was at h.same_vl s h.same_target)
-    (λ (s : IsEndSystem n (target_of e) × ShareChannel n earlier e). let c = s.1 in kept.end_systems k earlier e c.0 below was at h.same_vl s.0 c.1 c.2 h.same_target)
+    (λ (s : IsEndSystem n (target_of e) × ShareChannel n earlier e). let c = s.1 in kept.end_systems k earlier e c.0 below was at h.same_vl s.0 c.1 c.2
+    h.same_target)
     h.once
 
-pub enters_anew_back : (n : Network) (es front : List Entry) (place : ℕ) (e : Entry) → AreEntries n es → IsEntry n place e → front ≡ take place es → EntersAnew n place → All (EntersNoneAgain n e) front
+pub enters_anew_back : (n : Network) (es front : List Entry) (place : ℕ) (e : Entry) → AreEntries n es → IsEntry n place e → front ≡ take place es
+    → EntersAnew n place → All (EntersNoneAgain n e) front
 enters_anew_back n es front place e are at cut kept = all_of_earlier n es front place (EntersNoneAgain n e) are cut (none_again n place e at kept)

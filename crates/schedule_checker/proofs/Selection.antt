@@ -56,7 +56,8 @@ pub first_of_rest : {X : Type 0} (xs rest : List X) (n : ℕ) (x : X) → rest �
 first_of_rest {X} xs rest n x cut below is = head_of_rest xs rest n x cut below ∙ ap (λ (y : X). Some y) (sym is)
 
 -- an element of an enumeration is one of the list with its place, and back
-pub from_enumerate : {X : Type 0} (xs : List X) (from k : ℕ) (p : ℕ × X) → slice_get (enumerate_from from xs) k ≡ Some p → (p.0 ≡ from + k) × (slice_get xs k ≡ Some p.1)
+pub from_enumerate : {X : Type 0} (xs : List X) (from k : ℕ) (p : ℕ × X) → slice_get (enumerate_from from xs) k ≡ Some p → (p.0 ≡ from + k)
+    × (slice_get xs k ≡ Some p.1)
 from_enumerate [] from k p h = absurd (grind (arith, h))
 from_enumerate {X} (x ∷ xs) from zero p h =
     let same : (from, x) ≡ p = cc in
@@ -79,14 +80,16 @@ abbrev pub Holds : {X : Type 0} → (X → Type 0) → List X → Type 0
 Holds {X} P xs = (k : ℕ) × (x : X) × (slice_get xs k ≡ Some x) × P x
 
 -- what `all` answers decides what holds of each
-pub all_decides : {X : Type 0} (P : X → Type 0) (r : Bool) (xs : List X) → MatchBool r (AllWithin P xs 0 (length xs)) ((k : ℕ) × (k < length xs) × HoldsAt (λ x. ¬ P x) xs k) → Decides r (Each P xs)
+pub all_decides : {X : Type 0} (P : X → Type 0) (r : Bool) (xs : List X)
+    → MatchBool r (AllWithin P xs 0 (length xs)) ((k : ℕ) × (k < length xs) × HoldsAt (λ x. ¬ P x) xs k) → Decides r (Each P xs)
 all_decides P true xs h = (λ e. each_of_all P xs (λ k d below. h k d (omega arith) below), λ each. refl)
 all_decides P false xs h =
     let found = element_at xs h.0 h.1 in
     (λ e. absurd (false≢true e), λ each. absurd (h.2 found.0 (subst P (sym (get_or_from_slice_get xs h.0 found.0 found.0 found.1)) (each h.0 found.0 found.1))))
 
 -- what `any` answers decides what holds of some
-pub any_decides : {X : Type 0} (P : X → Type 0) (r : Bool) (xs : List X) → MatchBool r ((k : ℕ) × (k < length xs) × HoldsAt P xs k) (AllWithin (λ x. ¬ P x) xs 0 (length xs)) → Decides r (Holds P xs)
+pub any_decides : {X : Type 0} (P : X → Type 0) (r : Bool) (xs : List X) → MatchBool r ((k : ℕ) × (k < length xs) × HoldsAt P xs k)
+    (AllWithin (λ x. ¬ P x) xs 0 (length xs)) → Decides r (Holds P xs)
 any_decides P true xs h =
     let found = element_at xs h.0 h.1 in
     (λ e. (h.0, found.0, found.1, subst P (get_or_from_slice_get xs h.0 found.0 found.0 found.1) (h.2 found.0)), λ some. refl)

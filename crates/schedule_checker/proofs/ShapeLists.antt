@@ -9,51 +9,41 @@ use Rattle.std.proofs.lemmas.List.{get_or-take, length-take}
 use Rattle.std.proofs.lemmas.Option.{slice_get_within, slice_get-get_or, get_or_from_slice_get, same_Some}
 use Rattle.net_plan.specs.Rules.{ExactlyOne}
 
-some_at : {X : Type 0} (P : X → Type 0) (xs : List X) (k : ℕ) → k < length xs → HoldsAt P xs k → IsSomeAnd (slice_get xs k) P
-some_at P [] k below h = absurd (omega (arith, below))
-some_at P (x ∷ xs) k below h = subst (λ (o : Option _). IsSomeAnd o P) (sym (slice_get-get_or (x ∷ xs) k x below)) (h x)
-
-none_at : {X : Type 0} (P : X → Type 0) (xs : List X) (k : ℕ) → AllWithin (λ x. P x → ⊥) xs 0 (length xs) → IsSomeAnd (slice_get xs k) P → ⊥
-none_at P [] k none h = absurd h
-none_at P (x ∷ xs) zero none h = none 0 x (omega arith) (omega arith) h
-none_at P (x ∷ xs) (suc k) none h = none_at P xs k (λ j d low high. none (suc j) d (omega arith) (omega (arith, high))) h
-
 -- what `all` answers, at a test of P
-pub decides_all : {X : Type 0} (P Q : X → Type 0) (xs : List X) (r : Bool) → ((x : X) → P x → Q x → ⊥) → MatchBool r (AllWithin P xs 0 (length xs)) ((k : ℕ) × (k < length xs) × HoldsAt Q xs k) → Decides r (All P xs)
+pub decides_all : {X : Type 0} (P Q : X → Type 0) (xs : List X) (r : Bool) → ((x : X) → P x → Q x → ⊥)
+    → MatchBool r (AllWithin P xs 0 (length xs)) ((k : ℕ) × (k < length xs) × HoldsAt Q xs k) → Decides r (All P xs)
 decides_all P Q [] true apart h = (λ _ k d below. absurd (omega (arith, below)), λ _. refl)
 decides_all P Q [] false apart h = (λ e. absurd (false≢true e), λ _. absurd (omega (arith, h.1)))
 decides_all P Q (y ∷ ys) true apart h = (λ _ k d below. h k d (omega arith) below, λ _. refl)
 decides_all P Q (y ∷ ys) false apart h = (λ e. absurd (false≢true e), λ all. absurd (apart (get_or (y ∷ ys) h.0 y) (all h.0 y h.1) (h.2 y)))
-
--- what `any` answers, at a test of P
-pub decides_any : {X I : Type 0} (number : I → ℕ) (id : ℕ → I) → ((k : ℕ) → number (id k) ≡ k) → (P : X → Type 0) (xs : List X) (r : Bool)
-    → MatchBool r ((k : ℕ) × (k < length xs) × HoldsAt P xs k) (AllWithin (λ x. P x → ⊥) xs 0 (length xs)) → Decides r ((i : I) × IsSomeAnd (slice_get xs (number i)) P)
-decides_any number id forth P xs true h = (λ _. (id h.0, subst (λ (k : ℕ). IsSomeAnd (slice_get xs k) P) (sym (forth h.0)) (some_at P xs h.0 h.1 h.2)), λ _. refl)
-decides_any number id forth P xs false h = (λ e. absurd (false≢true e), λ s. absurd (none_at P xs (number s.0) h s.1))
 
 -- the element at the place differs from each before it
 abbrev pub IsNew : {X : Type 0} → (X → X → Type 0) → List X → ℕ → Type 0
 IsNew {X} Differ xs i =
     (k : ℕ) (earlier x : X) → k < i → slice_get xs k ≡ Some earlier → slice_get xs i ≡ Some x → Differ x earlier
 
-pub new_from_all : {X : Type 0} (Differ : X → X → Type 0) (xs : List X) (i : ℕ) (x : X) → slice_get xs i ≡ Some x → All (Differ x) (take i xs) → IsNew Differ xs i
+pub new_from_all : {X : Type 0} (Differ : X → X → Type 0) (xs : List X) (i : ℕ) (x : X) → slice_get xs i ≡ Some x → All (Differ x) (take i xs)
+    → IsNew Differ xs i
 new_from_all Differ xs i x at all k e y below ke ie =
     let within : k < length (take i xs) = omega (arith, length-take i xs, below, slice_get_within xs k e ke) in
     let same : get_or (take i xs) k e ≡ e = get_or-take i xs k e below ∙ get_or_from_slice_get xs k e e ke in
     let one : x ≡ y = same_Some x y (sym at ∙ ie) in
     subst (λ (z : _). Differ z e) one (subst (Differ x) same (all k e within))
 
-pub all_from_new : {X : Type 0} (Differ : X → X → Type 0) (xs : List X) (i : ℕ) (x : X) → slice_get xs i ≡ Some x → IsNew Differ xs i → All (Differ x) (take i xs)
+pub all_from_new : {X : Type 0} (Differ : X → X → Type 0) (xs : List X) (i : ℕ) (x : X) → slice_get xs i ≡ Some x → IsNew Differ xs i
+    → All (Differ x) (take i xs)
 all_from_new Differ xs i x at new k d within =
     let below : k < i = omega (arith, length-take i xs, within) in
     let inside : k < length xs = omega (arith, length-take i xs, within) in
     subst (Differ x) (sym (get_or-take i xs k d below)) (new k (get_or xs k d) x below (slice_get-get_or xs k d inside) at)
 
-pub decides_new : {X : Type 0} (Differ : X → X → Type 0) (xs : List X) (i : ℕ) (x : X) (r : Bool) → slice_get xs i ≡ Some x → Decides r (All (Differ x) (take i xs)) → Decides r (IsNew Differ xs i)
+pub decides_new : {X : Type 0} (Differ : X → X → Type 0) (xs : List X) (i : ℕ) (x : X) (r : Bool) → slice_get xs i ≡ Some x
+    → Decides r (All (Differ x) (take i xs)) → Decides r (IsNew Differ xs i)
 decides_new Differ xs i x r at h = (λ e. new_from_all Differ xs i x at (h.0 e), λ n. h.1 (all_from_new Differ xs i x at n))
 
 -- no element, and one, passes a test
-pub none_passes : {X : Type 0} (p : X → Bool) (P : X → Type 0) → ((x : X) → Decides (p x) (P x)) → (xs : List X) → length (filter p xs) ≡ 0 → (i : ℕ) → IsSomeAnd (slice_get xs i) P → ⊥
+pub none_passes : {X : Type 0} (p : X → Bool) (P : X → Type 0) → ((x : X) → Decides (p x) (P x)) → (xs : List X) → length (filter p xs) ≡ 0 → (i : ℕ)
+    → IsSomeAnd (slice_get xs i) P → ⊥
 none_passes p P test [] none i h = absurd h
 none_passes p P test (x ∷ xs) none zero h =
     let e = (test x).1 h in
@@ -64,7 +54,8 @@ none_passes p P test (x ∷ xs) none (suc i) h =
       | false ↦ λ e. none_passes p P test xs e i h
     ] none
 
-pub none_to_pass : {X : Type 0} (p : X → Bool) (P : X → Type 0) → ((x : X) → Decides (p x) (P x)) → (xs : List X) → ((i : ℕ) → IsSomeAnd (slice_get xs i) P → ⊥) → length (filter p xs) ≡ 0
+pub none_to_pass : {X : Type 0} (p : X → Bool) (P : X → Type 0) → ((x : X) → Decides (p x) (P x)) → (xs : List X) → ((i : ℕ) → IsSomeAnd (slice_get xs i) P → ⊥)
+    → length (filter p xs) ≡ 0
 none_to_pass p P test [] none = refl
 none_to_pass p P test (x ∷ xs) none =
     elim (p x) as (λ b. p x ≡ b → length (cond b (x ∷ filter p xs) (filter p xs)) ≡ 0) [
@@ -82,11 +73,13 @@ first_alone P x xs here none = (0, here, only) where
   only zero h = refl
   only (suc i) h = absurd (none i h)
 
-only_behind : {X : Type 0} (P : X → Type 0) (x : X) (xs : List X) (j : ℕ) → (P x → ⊥) → ((i : ℕ) → IsSomeAnd (slice_get xs i) P → i ≡ j) → (i : ℕ) → IsSomeAnd (slice_get (x ∷ xs) i) P → i ≡ suc j
+only_behind : {X : Type 0} (P : X → Type 0) (x : X) (xs : List X) (j : ℕ) → (P x → ⊥) → ((i : ℕ) → IsSomeAnd (slice_get xs i) P → i ≡ j) → (i : ℕ)
+    → IsSomeAnd (slice_get (x ∷ xs) i) P → i ≡ suc j
 only_behind P x xs j out only zero h = absurd (out h)
 only_behind P x xs j out only (suc i) h = ap suc (only i h)
 
-only_in_rest : {X : Type 0} (P : X → Type 0) (x : X) (xs : List X) (i : ℕ) → (P x → ⊥) → IsSomeAnd (slice_get (x ∷ xs) i) P → ((k : ℕ) → IsSomeAnd (slice_get (x ∷ xs) k) P → k ≡ i) → IsAtOne P xs
+only_in_rest : {X : Type 0} (P : X → Type 0) (x : X) (xs : List X) (i : ℕ) → (P x → ⊥) → IsSomeAnd (slice_get (x ∷ xs) i) P
+    → ((k : ℕ) → IsSomeAnd (slice_get (x ∷ xs) k) P → k ≡ i) → IsAtOne P xs
 only_in_rest P x xs zero out h only = absurd (out h)
 only_in_rest P x xs (suc i) out h only = (i, h, λ k g. omega (arith, only (suc k) g))
 
@@ -107,10 +100,12 @@ one_to_pass p P test (x ∷ xs) one =
     ] refl
 
 -- the same where places are ids
-pub one_id : {I : Type 0} (number : I → ℕ) (id : ℕ → I) → ((i : I) → id (number i) ≡ i) → ((k : ℕ) → number (id k) ≡ k) → (P : ℕ → Type 0) → ExactlyOne P → ExactlyOne (λ (i : I). P (number i))
+pub one_id : {I : Type 0} (number : I → ℕ) (id : ℕ → I) → ((i : I) → id (number i) ≡ i) → ((k : ℕ) → number (id k) ≡ k) → (P : ℕ → Type 0) → ExactlyOne P
+    → ExactlyOne (λ (i : I). P (number i))
 one_id number id back forth P one = (id one.0, subst P (sym (forth one.0)) one.1, λ i h. sym (back i) ∙ ap id (one.2 (number i) h))
 
-pub one_place : {I : Type 0} (number : I → ℕ) (id : ℕ → I) → ((i : I) → id (number i) ≡ i) → ((k : ℕ) → number (id k) ≡ k) → (P : ℕ → Type 0) → ExactlyOne (λ (i : I). P (number i)) → ExactlyOne P
+pub one_place : {I : Type 0} (number : I → ℕ) (id : ℕ → I) → ((i : I) → id (number i) ≡ i) → ((k : ℕ) → number (id k) ≡ k) → (P : ℕ → Type 0)
+    → ExactlyOne (λ (i : I). P (number i)) → ExactlyOne P
 one_place number id back forth P one = (number one.0, one.1, λ k h. sym (forth k) ∙ ap number (one.2 (id k) (subst P (sym (forth k)) h)))
 
 -- what a count of what passes answers

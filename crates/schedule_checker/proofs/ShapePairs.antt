@@ -19,14 +19,16 @@ PairsBelow {X} p R xs n =
 abbrev pub Before : {X : Type 0} → (X → Bool) → (X → X → Type 0) → X → X → Type 0
 Before p R y x = p x ≡ true → R x y
 
-pub before_from_pairs : {X : Type 0} (p : X → Bool) (R : X → X → Type 0) (xs : List X) (n i : ℕ) (y : X) → PairsBelow p R xs n → i < n → slice_get xs i ≡ Some y → p y ≡ true → All (Before p R y) (take i xs)
+pub before_from_pairs : {X : Type 0} (p : X → Bool) (R : X → X → Type 0) (xs : List X) (n i : ℕ) (y : X) → PairsBelow p R xs n → i < n → slice_get xs i ≡ Some y
+    → p y ≡ true → All (Before p R y) (take i xs)
 before_from_pairs p R xs n i y pairs below at passes k d within =
     let front : k < i = omega (arith, length-take i xs, within) in
     let inside : k < length xs = omega (arith, length-take i xs, within) in
     let same = get_or-take i xs k d front in
     subst (Before p R y) (sym same) (λ h. pairs k i (get_or xs k d) y front below (slice_get-get_or xs k d inside) at h passes)
 
-pub pairs_more : {X : Type 0} (p : X → Bool) (R : X → X → Type 0) (xs : List X) (n : ℕ) (z : X) → slice_get xs n ≡ Some z → PairsBelow p R xs n → (p z ≡ true → All (Before p R z) (take n xs)) → PairsBelow p R xs (n + 1)
+pub pairs_more : {X : Type 0} (p : X → Bool) (R : X → X → Type 0) (xs : List X) (n : ℕ) (z : X) → slice_get xs n ≡ Some z → PairsBelow p R xs n
+    → (p z ≡ true → All (Before p R z) (take n xs)) → PairsBelow p R xs (n + 1)
 pairs_more p R xs n z at pairs here j k x y lt below jx ky px py =
     ⊎_elim
     (λ (l : k < n). pairs j k x y lt l jx ky px py)
@@ -43,7 +45,8 @@ pairs_more p R xs n z at pairs here j k x y lt below jx ky px py =
 abbrev Passes : {X : Type 0} → (X → Bool) → List X → X → Type 0
 Passes p xs y = (k : ℕ) × (slice_get xs k ≡ Some y) × (p y ≡ true)
 
-kept_first : {X : Type 0} (p : X → Bool) (x : X) (xs ys : List X) (i : ℕ) (y : X) → p x ≡ true → ((k : ℕ) → slice_get ys k ≡ Some y → Passes p xs y) → slice_get (x ∷ ys) i ≡ Some y → Passes p (x ∷ xs) y
+kept_first : {X : Type 0} (p : X → Bool) (x : X) (xs ys : List X) (i : ℕ) (y : X) → p x ≡ true → ((k : ℕ) → slice_get ys k ≡ Some y → Passes p xs y)
+    → slice_get (x ∷ ys) i ≡ Some y → Passes p (x ∷ xs) y
 kept_first p x xs ys zero y e rest h = (0, h, ap p (sym (same_Some x y h)) ∙ e)
 kept_first p x xs ys (suc i) y e rest h = let r = rest i h in (suc r.0, r.1, r.2)
 

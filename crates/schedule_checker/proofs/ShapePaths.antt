@@ -39,26 +39,31 @@ one_first n c d link other f g =
     (cases_lt other.0 link.0))
     (cases_lt link.0 other.0)
 
-pub leads_by : (n : Network) (c : Channel) (d : DeviceId) (link : LinkId) (l : Link) (most : ℕ) → most ≢ 0 → IsFirstUplink n c d link → link_at n link ≡ Some l → LeadsToCmWithin n c l.parent (most - 1) → LeadsToCmWithin n c d most
+pub leads_by : (n : Network) (c : Channel) (d : DeviceId) (link : LinkId) (l : Link) (most : ℕ) → most ≢ 0 → IsFirstUplink n c d link → link_at n link ≡ Some l
+    → LeadsToCmWithin n c l.parent (most - 1) → LeadsToCmWithin n c d most
 leads_by n c d link l most some first at h =
     (link ∷ h.0, omega (arith, some, h.1), (first, closed (λ x. IsFirstPath n c x.parent h.0) (link_at n link) l at h.2))
 
-walked : (n : Network) (c : Channel) (d : DeviceId) (link : LinkId) (l : Link) (links : List LinkId) (most : ℕ) → (IsCmOf n c d → ⊥) → IsFirstUplink n c d link → link_at n link ≡ Some l → length links ≤ most → IsFirstPath n c d links → LeadsToCmWithin n c l.parent (most - 1)
+walked : (n : Network) (c : Channel) (d : DeviceId) (link : LinkId) (l : Link) (links : List LinkId) (most : ℕ) → (IsCmOf n c d → ⊥) → IsFirstUplink n c d link
+    → link_at n link ≡ Some l → length links ≤ most → IsFirstPath n c d links → LeadsToCmWithin n c l.parent (most - 1)
 walked n c d link l [] most bare first at short path = absurd (bare path)
 walked n c d link l (m ∷ ms) most bare first at short path =
     let same : m ≡ link = ap (λ (k : ℕ). let i : LinkId = record { 0 = k } in i) (one_first n c d m link path.0 first) in
     let known : link_at n m ≡ Some l = ap (λ (i : LinkId). link_at n i) same ∙ at in
     (ms, omega (arith, short), at_known (λ x. IsFirstPath n c x.parent ms) (link_at n m) l known path.1)
 
-pub leads_on : (n : Network) (c : Channel) (d : DeviceId) (link : LinkId) (l : Link) (most : ℕ) → (IsCmOf n c d → ⊥) → IsFirstUplink n c d link → link_at n link ≡ Some l → LeadsToCmWithin n c d most → LeadsToCmWithin n c l.parent (most - 1)
+pub leads_on : (n : Network) (c : Channel) (d : DeviceId) (link : LinkId) (l : Link) (most : ℕ) → (IsCmOf n c d → ⊥) → IsFirstUplink n c d link
+    → link_at n link ≡ Some l → LeadsToCmWithin n c d most → LeadsToCmWithin n c l.parent (most - 1)
 leads_on n c d link l most bare first at h = walked n c d link l h.0 most bare first at h.1 h.2
 
-stuck : (n : Network) (c : Channel) (d : DeviceId) (links : List LinkId) → (IsCmOf n c d → ⊥) → ((link : LinkId) → IsUplink n c d link → ⊥) → IsFirstPath n c d links → ⊥
+stuck : (n : Network) (c : Channel) (d : DeviceId) (links : List LinkId) → (IsCmOf n c d → ⊥) → ((link : LinkId) → IsUplink n c d link → ⊥)
+    → IsFirstPath n c d links → ⊥
 stuck n c d [] bare none path = bare path
 stuck n c d (m ∷ ms) bare none path = none m path.0.leads
 
 -- a device with no uplink leads to no compression master but itself
-pub leads_nowhere : (n : Network) (c : Channel) (d : DeviceId) (most : ℕ) → (IsCmOf n c d → ⊥) → ((link : LinkId) → IsUplink n c d link → ⊥) → LeadsToCmWithin n c d most → ⊥
+pub leads_nowhere : (n : Network) (c : Channel) (d : DeviceId) (most : ℕ) → (IsCmOf n c d → ⊥) → ((link : LinkId) → IsUplink n c d link → ⊥)
+    → LeadsToCmWithin n c d most → ⊥
 leads_nowhere n c d most bare none h = stuck n c d h.0 bare none h.2
 
 -- connected on each channel is connected

@@ -63,7 +63,9 @@ child_test d l = eqb l.child.0 d.0
 
 pub decides_child : (d : DeviceId) (l : Link) → Decides (child_test d l) (l.child ≡ d)
 unfolding child_test
-decides_child d l = Decides-like (eqb l.child.0 d.0) (λ h. ap (λ k. let i : DeviceId = record { 0 = k } in i) h) (λ (h : l.child ≡ d). ap (λ (i : DeviceId). i.0) h) (Decides-eqb l.child.0 d.0)
+decides_child d l =
+    Decides-like (eqb l.child.0 d.0) (λ h. ap (λ k. let i : DeviceId = record { 0 = k } in i) h) (λ (h : l.child ≡ d). ap (λ (i : DeviceId). i.0) h)
+    (Decides-eqb l.child.0 d.0)
 
 switch_test : Channel → Option Device → Bool
 switch_test c None = false

@@ -1,12 +1,15 @@
 -- Where the rules are judged.
-use Rattle.std.specs.Prelude.{ℕ, ◌<◌, ◌≤◌, length}
+use Rattle.std.specs.Prelude.{ℕ, ◌<◌, length}
 use Rattle.net_plan.specs.Bounds.{IsBeta}
 use Rattle.net_plan.specs.Paths.{IsTree}
 use Rattle.net_plan.specs.Ranges.{IsInRange}
 use Rattle.net_plan.specs.declared.network.Network.{Network}
 use Rattle.schedule_checker.specs.declared.judge.Plan.{Plan}
+use Rattle.schedule_checker.specs.declared.parts.PlanRule.{PlanRule}
+use Rattle.schedule_checker.specs.declared.parts.PlanRule.TheVariants as plans
+use Rattle.schedule_checker.specs.declared.parts.ShapeRule.{ShapeRule}
+use Rattle.schedule_checker.specs.declared.parts.ShapeRule.TheVariants as shapes
 use Rattle.schedule_tables.specs.Entries.{AreEntries}
-use Rattle.schedule_tables.specs.Numbers.{number_of}
 use Rattle.schedule_tables.specs.Rules.{IsKeptAt}
 use Rattle.schedule_tables.specs.declared.rule.Rule.{Rule}
 use Rattle.schedule_tables.specs.declared.rule.Rule.TheVariants.{Limits, DevicesDiffer, LinksDiffer, CompressionMasters, Joints, Connections, Masters, Delays, Settling, Precision, Correction, ScheduleStart, WindowEnds, VlNamesDiffer, VlIdsDiffer, Periods, Senders, LinksOnce, Sources, Targets, Spacing, BothChannels, Forwarding, RowsOfDevice}
@@ -39,9 +42,35 @@ places_of BothChannels network = length network.vl
 places_of Forwarding network = length network.row
 places_of RowsOfDevice network = length network.device
 
--- a rule of the network's shape: one of those on devices and links, which beta and the paths suppose
-abbrev pub IsShapeRule : Rule → Type 0
-IsShapeRule rule = number_of rule ≤ 7
+-- the rule that a rule of the network's shape is: one of those on devices and links
+abbrev pub shape_rule : ShapeRule → Rule
+shape_rule shapes.Limits = Limits
+shape_rule shapes.DevicesDiffer = DevicesDiffer
+shape_rule shapes.LinksDiffer = LinksDiffer
+shape_rule shapes.CompressionMasters = CompressionMasters
+shape_rule shapes.Joints = Joints
+shape_rule shapes.Connections = Connections
+shape_rule shapes.Masters = Masters
+
+-- the rule that one behind those of the shape is
+abbrev pub plan_rule : PlanRule → Rule
+plan_rule plans.Delays = Delays
+plan_rule plans.Settling = Settling
+plan_rule plans.Precision = Precision
+plan_rule plans.Correction = Correction
+plan_rule plans.ScheduleStart = ScheduleStart
+plan_rule plans.WindowEnds = WindowEnds
+plan_rule plans.VlNamesDiffer = VlNamesDiffer
+plan_rule plans.VlIdsDiffer = VlIdsDiffer
+plan_rule plans.Periods = Periods
+plan_rule plans.Senders = Senders
+plan_rule plans.LinksOnce = LinksOnce
+plan_rule plans.Sources = Sources
+plan_rule plans.Targets = Targets
+plan_rule plans.Spacing = Spacing
+plan_rule plans.BothChannels = BothChannels
+plan_rule plans.Forwarding = Forwarding
+plan_rule plans.RowsOfDevice = RowsOfDevice
 
 -- the rule is kept at each place below this one, and not at it
 pub record BreaksAt (network : Network) (rule : Rule) (place : ℕ) : Type 0 where

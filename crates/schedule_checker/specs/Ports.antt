@@ -15,4 +15,5 @@ AreApart network earlier entry =
 
 -- if the first entry enters the source of the other, of one virtual link, the other comes behind its window
 pub record ComesBehind (network : Network) (entering entry : Entry) : Type 0 where
-  pub behind : entry.row.vl ≡ entering.row.vl → target_of entering ≡ source_of entry → window_end network entering < amount entry.row.offset
+  pub behind : entry.row.vl ≡ entering.row.vl → target_of entering ≡ source_of entry
+      → window_end network entering < amount entry.row.offset

@@ -21,4 +21,6 @@ IsUnfitBy network OutOfMemory = Unit {0}
 
 -- a network has one first broken rule, and one first place
 abbrev pub RefusalIsOne : Type 0
-RefusalIsOne = (network : Network) (told other : RuleBroken) → TellsFirstBroken network told → TellsFirstBroken network other → told ≡ other
+RefusalIsOne =
+    (network : Network) (told other : RuleBroken) → TellsFirstBroken network told → TellsFirstBroken network other
+    → told ≡ other

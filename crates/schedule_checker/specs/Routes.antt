@@ -28,7 +28,8 @@ ShareChannel network earlier entry =
 pub record EntersAgain (network : Network) (earlier entry : Entry) : Type 0 where
   pub same_vl : entry.row.vl ≡ earlier.row.vl
   pub same_target : target_of entry ≡ target_of earlier
-  pub once : IsSwitch network (target_of entry) ⊎ (IsEndSystem network (target_of entry) × ShareChannel network earlier entry)
+  pub once : IsSwitch network (target_of entry)
+      ⊎ (IsEndSystem network (target_of entry) × ShareChannel network earlier entry)
 
 -- the virtual link leaves the device on each channel
 abbrev pub LeavesOnBoth : Network → VlId → DeviceId → Type 0
@@ -41,7 +42,8 @@ EntersEndSystem network vl =
 
 -- the virtual link enters the device, if it is an end system, on both channels or on neither
 pub record EntersAlike (network : Network) (vl : VlId) (device : DeviceId) : Type 0 where
-  pub alike : (channel other : Channel) → IsEndSystem network device → EntersOn network vl channel device → EntersOn network vl other device
+  pub alike : (channel other : Channel) → IsEndSystem network device → EntersOn network vl channel device
+      → EntersOn network vl other device
 
 -- the virtual link enters the same end systems on both channels
 abbrev pub EntersAllAlike : Network → VlId → Type 0

@@ -1,10 +1,11 @@
 ghost use Rattle.std.specs.Prelude.{◌≡◌, IfErr, IfOk, OnOk};
 ghost use Rattle.net_plan.specs.Ranges.{IsInRange};
 ghost use Rattle.schedule_checker.specs.Refusals.{IsUnfitBy};
+ghost use Rattle.schedule_tables.specs.Numbers.{number_of};
 ghost use Rattle.schedule_tables.specs.Rules.{KeepsRules};
 
-use crate::Unfit;
-use crate::judge::{Plan, judge_plan, judge_shape};
+use crate::judge::{Broken, Plan, judge_plan, judge_shape};
+use crate::{RuleBroken, Unfit};
 use net_plan::{Network, rules_give_trees};
 use schedule_tables::{Accepted, entries_of};
 use std::alloc::Global;
@@ -32,7 +33,7 @@ fn judge(alloc: Global, network: &Network) -> Result<(), Unfit>
 {
     match judge_shape(network) {
         Ok(()) => (),
-        Err(told) => return Err(Unfit::Rule(told)),
+        Err(broken) => return Err(Unfit::Rule(told_of(broken))),
     }
     rules_give_trees();
     let entries = match entries_of(alloc, network) {
@@ -46,6 +47,17 @@ fn judge(alloc: Global, network: &Network) -> Result<(), Unfit>
     };
     match judge_plan(&plan) {
         Ok(()) => Ok(()),
-        Err(told) => Err(Unfit::Rule(told)),
+        Err(broken) => Err(Unfit::Rule(told_of(broken))),
+    }
+}
+
+/// What is told of a rule that is broken: its number and the place.
+fn told_of(broken: Broken) -> RuleBroken
+    ensures number { result.number ≡ number_of broken.rule }
+    ensures index { result.index ≡ broken.place }
+{
+    RuleBroken {
+        number: broken.rule.number(),
+        index: broken.place,
     }
 }

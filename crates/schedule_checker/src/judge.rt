@@ -1,19 +1,21 @@
 ghost use Rattle.std.specs.Prelude.{◌≡◌, ◌≢◌, ◌≤◌, ◌<◌, ◌↔◌, OnOk, IfErr, IfNone, IfSome, IsTrue};
 ghost use Rattle.net_plan.specs.Ranges.{IsInRange};
-ghost use Rattle.schedule_checker.specs.Judging.{BreaksAt, IsPlan, IsShapeRule, places_of};
-ghost use Rattle.schedule_checker.specs.Refusals.{TellsFirstBroken};
-ghost use Rattle.schedule_tables.specs.Numbers.{number_of};
-ghost use Rattle.schedule_tables.specs.Rules.{IsKept, IsKeptAt, KeepsBelow, KeepsRules};
+ghost use Rattle.schedule_checker.specs.Judging.{BreaksAt, IsPlan, places_of, plan_rule, shape_rule};
+ghost use Rattle.schedule_tables.specs.Rules.{IsFirstBroken, IsKept, IsKeptAt, KeepsBelow, KeepsRules};
 
-use crate::RuleBroken;
 use crate::kept::{keeps_plan_rule, keeps_shape_rule};
+use crate::parts::{PlanRule, ShapeRule};
 use crate::places::places_of;
 use net_plan::Network;
 use schedule_tables::{Entry, Rule};
 use tte_units::Units;
 
-/// How many rules are of the network's shape. They come first.
-const SHAPE_RULES: usize = 7;
+/// A rule that the network breaks, and the first place at which it does.
+#[derive(Clone, Copy)]
+pub(crate) struct Broken {
+    pub(crate) rule: Rule,
+    pub(crate) place: u32,
+}
 
 /// A network that keeps the rules of its shape, with what the other rules speak of.
 #[derive(Drop)]
@@ -24,17 +26,17 @@ pub(crate) struct Plan<'a> {
 }
 
 /// Judges the rules of the network's shape, in their order.
-pub(crate) fn judge_shape(network: &Network) -> Result<(), RuleBroken>
+pub(crate) fn judge_shape(network: &Network) -> Result<(), Broken>
     requires { IsInRange network.now }
     ensures kept { OnOk result (KeepsBelow 8 network.now) }
-    ensures told { IfErr result (TellsFirstBroken network.now) }
+    ensures told { IfErr result (λ broken. IsFirstBroken network.now broken.rule broken.place) }
 {
-    'rules: for rule in &Rule::ALL[..SHAPE_RULES] {
+    'rules: for rule in &ShapeRule::ALL {
         match broken_shape(*rule, network) {
             None => (),
-            Some(index) => return Err(RuleBroken {
-                number: rule.number(),
-                index,
+            Some(place) => return Err(Broken {
+                rule: rule.rule(),
+                place,
             }),
         }
     }
@@ -42,13 +44,12 @@ pub(crate) fn judge_shape(network: &Network) -> Result<(), RuleBroken>
 }
 
 /// The first place at which the network breaks the rule of its shape.
-fn broken_shape(rule: Rule, network: &Network) -> Option<u32>
-    requires range { IsInRange network.now }
-    requires shape { IsShapeRule rule }
-    ensures none { IfNone result (IsKept rule network.now) }
-    ensures some { IfSome result (BreaksAt network.now rule) }
+fn broken_shape(rule: ShapeRule, network: &Network) -> Option<u32>
+    requires { IsInRange network.now }
+    ensures none { IfNone result (IsKept (shape_rule rule) network.now) }
+    ensures some { IfSome result (BreaksAt network.now (shape_rule rule)) }
 {
-    'places: for place in 0..places_of(rule, network) {
+    'places: for place in 0..places_of(rule.rule(), network) {
         if !keeps_shape_rule(rule, network, place) {
             return Some(place);
         }
@@ -57,18 +58,18 @@ fn broken_shape(rule: Rule, network: &Network) -> Option<u32>
 }
 
 /// Judges the rules behind those of the shape, in their order.
-pub(crate) fn judge_plan(plan: &Plan<'_>) -> Result<(), RuleBroken>
+pub(crate) fn judge_plan(plan: &Plan<'_>) -> Result<(), Broken>
     requires plan { IsPlan plan.now }
     requires shape { KeepsBelow 8 plan.now.network.now }
     ensures kept { OnOk result (KeepsRules plan.now.network.now) }
-    ensures told { IfErr result (TellsFirstBroken plan.now.network.now) }
+    ensures told { IfErr result (λ broken. IsFirstBroken plan.now.network.now broken.rule broken.place) }
 {
-    'rules: for rule in &Rule::ALL[SHAPE_RULES..] {
+    'rules: for rule in &PlanRule::ALL {
         match broken_plan(*rule, plan) {
             None => (),
-            Some(index) => return Err(RuleBroken {
-                number: rule.number(),
-                index,
+            Some(place) => return Err(Broken {
+                rule: rule.rule(),
+                place,
             }),
         }
     }
@@ -76,13 +77,12 @@ pub(crate) fn judge_plan(plan: &Plan<'_>) -> Result<(), RuleBroken>
 }
 
 /// The first place at which the network breaks the rule, which is none of its shape.
-fn broken_plan(rule: Rule, plan: &Plan<'_>) -> Option<u32>
-    requires plan { IsPlan plan.now }
-    requires behind { 8 ≤ number_of rule }
-    ensures none { IfNone result (IsKept rule plan.now.network.now) }
-    ensures some { IfSome result (BreaksAt plan.now.network.now rule) }
+fn broken_plan(rule: PlanRule, plan: &Plan<'_>) -> Option<u32>
+    requires { IsPlan plan.now }
+    ensures none { IfNone result (IsKept (plan_rule rule) plan.now.network.now) }
+    ensures some { IfSome result (BreaksAt plan.now.network.now (plan_rule rule)) }
 {
-    'places: for place in 0..places_of(rule, plan.network) {
+    'places: for place in 0..places_of(rule.rule(), plan.network) {
         if !keeps_plan_rule(rule, plan, place) {
             return Some(place);
         }

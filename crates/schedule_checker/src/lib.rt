@@ -6,6 +6,7 @@ mod checker;
 mod judge;
 mod kept;
 mod laws;
+mod parts;
 mod places;
 mod ports;
 mod refusal;

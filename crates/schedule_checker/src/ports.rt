@@ -48,7 +48,8 @@ fn are_apart(gamma: u64, earlier: &Entry, entry: &Entry) -> bool
     requires other_octets { entry.now.vl.length ≤ 1514 }
     requires period { 1 ≤ earlier.now.vl.period }
     requires other_period { 1 ≤ entry.now.vl.period }
-    ensures { (network : NetworkValue) → gamma ≡ gamma_of network → IsTrue result ↔ AreApart network earlier.now entry.now }
+    ensures { (network : NetworkValue) → gamma ≡ gamma_of network
+        → IsTrue result ↔ AreApart network earlier.now entry.now }
 {
     earlier.row.link != entry.row.link
         || earlier.row.way != entry.row.way

@@ -94,7 +94,8 @@ shape_rules n keeps = record {
 }
 
 -- the last control frame on a link, with the schedule's begin
-last_frame : (n : Network) → CorrectionFits n → ScheduleFits n → All (λ link. amount n.correction + amount n.dmax + 8 * amount n.precision + pcf_port_time link ≤ amount n.cycle) n.link
+last_frame : (n : Network) → CorrectionFits n → ScheduleFits n
+    → All (λ link. amount n.correction + amount n.dmax + 8 * amount n.precision + pcf_port_time link ≤ amount n.cycle) n.link
 last_frame n correction schedule =
     All-weaker
     (λ link. amount n.correction + amount n.dmax + 4 * amount n.precision + pcf_port_time link ≤ amount n.tt_start)
@@ -140,13 +141,16 @@ some_link : (n : Network) → KeepsRules n → (place : ℕ) × (link : Link) ×
 some_link n keeps =
     let four = (keeps Masters 0).least refl in
     let m = kept (λ (d : Device). is_master d.role) n.device (omega (arith, four)) in
-    let end : IsEndSystem n (record { 0 = m.0 }) = closed (λ (d : Device). is_end_system d.role ≡ true) (slice_get n.device m.0) m.1 m.2 (master_ends m.1.role m.3) in
+    let end : IsEndSystem n (record { 0 = m.0 }) = closed (λ (d : Device). is_end_system d.role ≡ true) (slice_get n.device m.0) m.1 m.2
+    (master_ends m.1.role m.3) in
     let up = (keeps Connections m.0).ends end A in
     let l = opened (λ (l : Link). (l.child ≡ record { 0 = m.0 }) × IsSwitchOf n A l.parent) (link_at n up.0) up.1 in
     (up.0.0, l.0, l.1)
 
 -- dmax has room for the delays of a device's uplink, with which its path begins
-first_link : (n : Network) (beta : ℕ) → IsTree n → KeepsRules n → IsBeta n (pos beta) → (c : Channel) (d : DeviceId) (place : ℕ) (link : Link) → slice_get n.link place ≡ Some link → IsUplink n c d (record { 0 = place }) → IsDeviceOf n c d → (links : List LinkId) → IsPath n c d links → beta + delay_by link ≤ amount n.dmax
+first_link : (n : Network) (beta : ℕ) → IsTree n → KeepsRules n → IsBeta n (pos beta) → (c : Channel) (d : DeviceId) (place : ℕ) (link : Link)
+    → slice_get n.link place ≡ Some link → IsUplink n c d (record { 0 = place }) → IsDeviceOf n c d → (links : List LinkId) → IsPath n c d links
+    → beta + delay_by link ≤ amount n.dmax
 first_link n beta tree keeps is c d place link at up member [] path = absurd (tree.root c d (record { 0 = place }) path up)
 first_link n beta tree keeps is c d place link at up member (l ∷ ls) path =
     let k = opened (λ (x : Link). (x.child ≡ d) × IsSwitchOf n c x.parent × IsPath n c x.parent ls) (link_at n l) path in
@@ -157,16 +161,20 @@ first_link n beta tree keeps is c d place link at up member (l ∷ ls) path =
     omega (arith, all, here, sum_by-cons (delay_of n) l ls)
 
 -- dmax has room for the delays of each link, which begins the path of its child
-link_room : (n : Network) (beta : ℕ) → IsTree n → KeepsRules n → IsBeta n (pos beta) → (place : ℕ) (link : Link) → slice_get n.link place ≡ Some link → beta + delay_by link ≤ amount n.dmax
+link_room : (n : Network) (beta : ℕ) → IsTree n → KeepsRules n → IsBeta n (pos beta) → (place : ℕ) (link : Link) → slice_get n.link place ≡ Some link
+    → beta + delay_by link ≤ amount n.dmax
 link_room n beta tree keeps is place link at =
     let joint = keeps Joints place link at in
-    let up : IsUplink n joint.0 link.child (record { 0 = place }) = closed (λ (l : Link). (l.child ≡ link.child) × IsSwitchOf n joint.0 l.parent) (slice_get n.link place) link at (refl, joint.1) in
+    let up : IsUplink n joint.0 link.child (record { 0 = place }) = closed (λ (l : Link). (l.child ≡ link.child) × IsSwitchOf n joint.0 l.parent)
+    (slice_get n.link place) link at (refl, joint.1) in
     let member : IsDeviceOf n joint.0 link.child =
     ⊎_elim
     (λ (e : IsEndSystem n link.child). let d = opened (λ (d : Device). is_end_system d.role ≡ true) (device_at n link.child) e in
-    let r : IsDeviceOf n joint.0 link.child = closed (λ (x : Device). (is_end_system x.role ≡ true) ⊎ (x.channel ≡ Some joint.0)) (device_at n link.child) d.0 d.1 (inl d.2) in r)
+    let r : IsDeviceOf n joint.0 link.child = closed (λ (x : Device). (is_end_system x.role ≡ true) ⊎ (x.channel ≡ Some joint.0)) (device_at n link.child) d.0
+    d.1 (inl d.2) in r)
     (λ (e : IsRoleOf n Relay joint.0 link.child). let d = opened (λ (d : Device). (d.role ≡ Relay) × (d.channel ≡ Some joint.0)) (device_at n link.child) e in
-    let r : IsDeviceOf n joint.0 link.child = closed (λ (x : Device). (is_end_system x.role ≡ true) ⊎ (x.channel ≡ Some joint.0)) (device_at n link.child) d.0 d.1 (inr d.2.1) in r)
+    let r : IsDeviceOf n joint.0 link.child = closed (λ (x : Device). (is_end_system x.role ≡ true) ⊎ (x.channel ≡ Some joint.0)) (device_at n link.child) d.0
+    d.1 (inr d.2.1) in r)
     joint.2 in
     let path = tree.reach joint.0 link.child member in
     first_link n beta tree keeps is joint.0 link.child place link at up member path.0 path.2
@@ -177,7 +185,8 @@ margins trees n beta range keeps is =
     let drift = drift_room n range in
     let precision = precision_room n beta range drift (keeps Precision 0) is in
     let one = some_link n keeps in
-    let begins = all_at (λ link. amount n.correction + amount n.dmax + 4 * amount n.precision + pcf_port_time link ≤ amount n.tt_start) n.link one.0 one.1 (keeps ScheduleStart 0).begins one.2 in
+    let begins = all_at (λ link. amount n.correction + amount n.dmax + 4 * amount n.precision + pcf_port_time link ≤ amount n.tt_start) n.link one.0 one.1
+    (keeps ScheduleStart 0).begins one.2 in
     record {
       drift = drift;
       precision = precision;

@@ -48,19 +48,22 @@ IsPlaceOfRow n (Some row) (Some place) = dispatch_order n row ≡ numbers_of pla
 pub no_place : (n : Network) (after : Option RowId) (place : Option Place) → after ≡ None → place ≡ None → IsPlaceOfRow n after place
 no_place n after place none nowhere = rw (none, nowhere) tt
 
-pub some_place : (n : Network) (rows : List TimedRow) (after : Option RowId) (place : Option Place) (row : RowId) (timed : TimedRow) → AreTimedRows n (length n.row) rows → after ≡ Some row → place ≡ Some timed.place
+pub some_place : (n : Network) (rows : List TimedRow) (after : Option RowId) (place : Option Place) (row : RowId) (timed : TimedRow)
+    → AreTimedRows n (length n.row) rows → after ≡ Some row → place ≡ Some timed.place
     → row.0 < length rows → timed ≡ get_or rows row.0 timed → IsPlaceOfRow n after place
 some_place n rows after place row timed are some there within found =
     let t = are.each row.0 timed (slice_get_read rows (length rows) row.0 timed refl within found) in
     rw (some, there) (place_is n row t.entry t.is ∙ ap numbers_of (sym t.place_is))
 
 -- places that are behind are those of rows behind
-comes_behind : (n : Network) (after : Option RowId) (place : Option Place) (it : Place) (row : RowId) → IsPlaceOfRow n after place → dispatch_order n row ≡ numbers_of it → IsBehind place it → ComesBehind n after row
+comes_behind : (n : Network) (after : Option RowId) (place : Option Place) (it : Place) (row : RowId) → IsPlaceOfRow n after place
+    → dispatch_order n row ≡ numbers_of it → IsBehind place it → ComesBehind n after row
 comes_behind n None place it row of at behind = tt
 comes_behind n (Some other) None it row of at behind = absurd of
 comes_behind n (Some other) (Some place) it row of at behind = rw (of, at) behind
 
-is_behind : (n : Network) (after : Option RowId) (place : Option Place) (it : Place) (row : RowId) → IsPlaceOfRow n after place → dispatch_order n row ≡ numbers_of it → ComesBehind n after row → IsBehind place it
+is_behind : (n : Network) (after : Option RowId) (place : Option Place) (it : Place) (row : RowId) → IsPlaceOfRow n after place
+    → dispatch_order n row ≡ numbers_of it → ComesBehind n after row → IsBehind place it
 is_behind n None None it row of at behind = tt
 is_behind n None (Some place) it row of at behind = absurd of
 is_behind n (Some other) None it row of at behind = absurd of
@@ -77,7 +80,8 @@ last_same h = cc
 abbrev slot_of : (n : Network) (device : DeviceId) (cycle : ℕ) (row : RowId) → IsDispatched n device cycle row → Slot
 slot_of n device cycle row is = record { device = device; residue = cycle % 64; place = place_by is.entry row }
 
-is_slot : (n : Network) (device : DeviceId) (cycle : ℕ) (row : RowId) (is : IsDispatched n device cycle row) → ((k : ℕ) → HasPeriod n k) → IsSlotOf n (slot_of n device cycle row is)
+is_slot : (n : Network) (device : DeviceId) (cycle : ℕ) (row : RowId) (is : IsDispatched n device cycle row) → ((k : ℕ) → HasPeriod n k)
+    → IsSlotOf n (slot_of n device cycle row is)
 is_slot n device cycle row is periods = record {
   entry = is.entry;
   is = is.is;
@@ -87,7 +91,8 @@ is_slot n device cycle row is periods = record {
   in_phase = period_divides cycle is.entry.vl.period (periods is.entry.row.vl.0 is.entry.vl is.is.vl).0 ∙ is.occurs.in_phase;
 }
 
-follows : (n : Network) (device : DeviceId) (cycle : ℕ) (after : Option RowId) (place : Option Place) (row : RowId) (is : IsDispatched n device cycle row) → IsPlaceOfRow n after place → ComesBehind n after row
+follows : (n : Network) (device : DeviceId) (cycle : ℕ) (after : Option RowId) (place : Option Place) (row : RowId) (is : IsDispatched n device cycle row)
+    → IsPlaceOfRow n after place → ComesBehind n after row
     → Follows device (cycle % 64) place (slot_of n device cycle row is)
 follows n device cycle after place row is of behind = record {
   same_device = refl;
@@ -96,7 +101,8 @@ follows n device cycle after place row is of behind = record {
 }
 
 -- the next slot is that of the next row
-pub is_next_row : (n : Network) (device : DeviceId) (cycle : ℕ) (after : Option RowId) (place : Option Place) (slots : List Slot) (s : Slot) → 1 ≤ cycle → AreSlotsOf n slots → ((k : ℕ) → HasPeriod n k)
+pub is_next_row : (n : Network) (device : DeviceId) (cycle : ℕ) (after : Option RowId) (place : Option Place) (slots : List Slot) (s : Slot) → 1 ≤ cycle
+    → AreSlotsOf n slots → ((k : ℕ) → HasPeriod n k)
     → IsPlaceOfRow n after place → IsNextSlot slots device (cycle % 64) place s → IsNextRow n device cycle after s.place.row
 is_next_row n device cycle after place slots s begun are periods of next =
     let is = All-contains (IsSlotOf n) slots s are.sound next.there in
@@ -108,7 +114,9 @@ is_next_row n device cycle after place slots s begun are periods of next =
         source = is.source ∙ next.follows.same_device;
         occurs = record {
           begun = begun;
-          in_phase = sym (period_divides cycle is.entry.vl.period (periods is.entry.row.vl.0 is.entry.vl is.is.vl).0) ∙ ap (λ (x : ℕ). x % is.entry.vl.period) (sym next.follows.same_residue) ∙ is.in_phase;
+          in_phase =
+              sym (period_divides cycle is.entry.vl.period (periods is.entry.row.vl.0 is.entry.vl is.is.vl).0)
+              ∙ ap (λ (x : ℕ). x % is.entry.vl.period) (sym next.follows.same_residue) ∙ is.in_phase;
         };
       };
       behind = comes_behind n after place s.place s.place.row of place_of_s next.follows.behind;
@@ -124,7 +132,8 @@ is_next_row n device cycle after place slots s begun are periods of next =
     }
 
 -- where there is no next slot, there is no next row
-pub has_no_next_row : (n : Network) (device : DeviceId) (cycle : ℕ) (after : Option RowId) (place : Option Place) (slots : List Slot) → AreSlotsOf n slots → ((k : ℕ) → HasPeriod n k)
+pub has_no_next_row : (n : Network) (device : DeviceId) (cycle : ℕ) (after : Option RowId) (place : Option Place) (slots : List Slot) → AreSlotsOf n slots
+    → ((k : ℕ) → HasPeriod n k)
     → IsPlaceOfRow n after place → HasNoNextSlot slots device (cycle % 64) place → HasNoNextRow n device cycle after
 has_no_next_row n device cycle after place slots are periods of none row is behind =
     let t = slot_of n device cycle row is in

@@ -11,7 +11,8 @@ use Rattle.schedule_tables.specs.declared.entry.Entry.{Entry}
 use Rattle.schedule_tables.specs.declared.tables.TimedRow.{TimedRow}
 
 -- one more row
-pub rows_more : (n : Network) (count : ℕ) (rows : List TimedRow) (row : TimedRow) → AreTimedRows n count rows → IsTimedRow n count row → AreTimedRows n (count + 1) (rows ++ row ∷ [])
+pub rows_more : (n : Network) (count : ℕ) (rows : List TimedRow) (row : TimedRow) → AreTimedRows n count rows → IsTimedRow n count row
+    → AreTimedRows n (count + 1) (rows ++ row ∷ [])
 rows_more n count rows row are is = record {
   count_is = omega (arith, length-append rows (row ∷ []), are.count_is);
   each = λ place other h. ⊎_elim
@@ -22,7 +23,8 @@ rows_more n count rows row are is = record {
 }
 
 -- the window of a row by its entry
-pub window_at : (n : Network) (count : ℕ) (rows : List TimedRow) (place : ℕ) (row : TimedRow) (entry : Entry) → AreTimedRows n count rows → place < length rows → row ≡ get_or rows place row → IsEntry n place entry
+pub window_at : (n : Network) (count : ℕ) (rows : List TimedRow) (place : ℕ) (row : TimedRow) (entry : Entry) → AreTimedRows n count rows → place < length rows
+    → row ≡ get_or rows place row → IsEntry n place entry
     → row.window ≡ window_of n entry
 window_at n count rows place row entry are within found at =
     let is = are.each place row (slice_get_read rows (length rows) place row refl within found) in

@@ -20,7 +20,8 @@ stands_behind device residue None s f =
 stands_behind device residue (Some place) s f = inr (ap (λ (d : DeviceId). d.0) (sym f.same_device), inr (sym f.same_residue, f.behind))
 
 -- a slot of the device and residue that stands behind follows
-is_behind : (device : DeviceId) (residue : ℕ) (place : Option Place) (s : Slot) → s.device ≡ device → s.residue ≡ residue → StandsBehind device residue place s → IsBehind place s.place
+is_behind : (device : DeviceId) (residue : ℕ) (place : Option Place) (s : Slot) → s.device ≡ device → s.residue ≡ residue → StandsBehind device residue place s
+    → IsBehind place s.place
 is_behind device residue None s d r behind = tt
 is_behind device residue (Some place) s d r behind =
     let e = ap (λ (d : DeviceId). d.0) d in
@@ -34,7 +35,8 @@ is_behind device residue (Some place) s d r behind =
     behind
 
 -- a slot between those of a device and residue is one of them
-same_residue : (device : DeviceId) (residue : ℕ) (place : Option Place) (s t : Slot) → StandsBehind device residue place s → t.device.0 ≡ device.0 → t.residue ≡ residue
+same_residue : (device : DeviceId) (residue : ℕ) (place : Option Place) (s t : Slot) → StandsBehind device residue place s → t.device.0 ≡ device.0
+    → t.residue ≡ residue
     → (IsBelow (key_of t) (key_of s) → ⊥) → (s.device.0 ≡ device.0) × (s.residue ≡ residue)
 same_residue device residue None s t behind d r out =
     let a : s.device.0 < device.0 → ⊥ = λ l. behind (inl l) in
@@ -70,7 +72,8 @@ pub record Ends (slots : List Slot) (device : DeviceId) (residue : ℕ) (place :
   pub parts : IsPartitionPoint (λ slot. passed device residue place slot ≡ true) (λ slot. passed device residue place slot ≡ false) slots start
 
 pub search_ends : (slots : List Slot) (device : DeviceId) (residue : ℕ) (place : Option Place) (start : ℕ) → AreInOrder slots
-    → (IsPartitionedBy (passed device residue place) slots → IsPartitionPoint (λ slot. passed device residue place slot ≡ true) (λ slot. passed device residue place slot ≡ false) slots start)
+    → (IsPartitionedBy (passed device residue place) slots → IsPartitionPoint (λ slot. passed device residue place slot ≡ true)
+    (λ slot. passed device residue place slot ≡ false) slots start)
     → Ends slots device residue place start
 search_ends slots device residue place start order clause = record { order = order; parts = clause (passed_first device residue place slots order) }
 
@@ -79,7 +82,8 @@ not_before : (slots : List Slot) (device : DeviceId) (residue : ℕ) (place : Op
     → (t : Slot) (has : Contains slots t) → Follows device residue place t → start ≤ has.0
 not_before slots device residue place start ends t has f =
     ⊎_elim
-    (λ (l : has.0 < start). absurd (passed_true device residue place t (ap (passed device residue place) (sym has.2) ∙ ends.parts.0 has.0 t (omega arith) l) (stands_behind device residue place t f)))
+    (λ (l : has.0 < start). absurd (passed_true device residue place t (ap (passed device residue place) (sym has.2) ∙ ends.parts.0 has.0 t (omega arith) l)
+    (stands_behind device residue place t f)))
     (λ (l : start ≤ has.0). l)
     (before_or_not has.0 start)
 
@@ -107,22 +111,27 @@ is_next_slot slots device residue place start ends s within found same_device r 
       follows = record {
         same_device = d;
         same_residue = r;
-        behind = is_behind device residue place s d r (passed_false device residue place s (ap (passed device residue place) (sym first) ∙ ends.parts.1 start s (omega arith) within));
+        behind =
+            is_behind device residue place s d r
+            (passed_false device residue place s (ap (passed device residue place) (sym first) ∙ ends.parts.1 start s (omega arith) within));
       };
       first = least slots device residue place start ends s at;
     }
 
 -- where the search ends with the slots, there is none
-pub none_left : (slots : List Slot) (device : DeviceId) (residue : ℕ) (place : Option Place) (start : ℕ) → Ends slots device residue place start → length slots ≤ start → HasNoNextSlot slots device residue place
+pub none_left : (slots : List Slot) (device : DeviceId) (residue : ℕ) (place : Option Place) (start : ℕ) → Ends slots device residue place start
+    → length slots ≤ start → HasNoNextSlot slots device residue place
 none_left slots device residue place start ends past t has f =
     let after = not_before slots device residue place start ends t has f in
     omega (arith, has.1)
 
 -- where the slot at the end is not one of the device's in the residue, there is none
 pub none_there : (slots : List Slot) (device : DeviceId) (residue : ℕ) (place : Option Place) (start : ℕ) → Ends slots device residue place start
-    → (s : Slot) → start < length slots → s ≡ get_or slots start s → (s.device.0 ≡ device.0 → s.residue ≡ residue → ⊥) → HasNoNextSlot slots device residue place
+    → (s : Slot) → start < length slots → s ≡ get_or slots start s → (s.device.0 ≡ device.0 → s.residue ≡ residue → ⊥)
+    → HasNoNextSlot slots device residue place
 none_there slots device residue place start ends s within found none t has f =
     let at = slice_get_read slots (length slots) start s refl within found in
     let behind = passed_false device residue place s (ap (passed device residue place) found ∙ ends.parts.1 start s (omega arith) within) in
-    let same = same_residue device residue place s t behind (ap (λ (d : DeviceId). d.0) f.same_device) f.same_residue (least slots device residue place start ends s at t has f) in
+    let same = same_residue device residue place s t behind (ap (λ (d : DeviceId). d.0) f.same_device) f.same_residue
+    (least slots device residue place start ends s at t has f) in
     none same.0 same.1

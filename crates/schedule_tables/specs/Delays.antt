@@ -44,7 +44,8 @@ ErrorsSettle network =
 
 -- the precision has room for the spread of the starts with twice these errors, and for a compression
 pub record PrecisionFits (network : Network) : Type 0 where
-  pub errors : (beta : ℕ) → IsBeta network (pos beta) → amount network.settled + 16 * beta + 24 * gamma_of network + 80 * amount network.grain ≤ amount network.precision
+  pub errors : (beta : ℕ) → IsBeta network (pos beta) → amount network.settled + 16 * beta + 24 * gamma_of
+      network + 80 * amount network.grain ≤ amount network.precision
   pub calc : amount network.calc ≤ amount network.precision
 
 -- when the clocks are corrected, each frame of the cycle has been heard
@@ -55,5 +56,7 @@ CorrectionFits network =
 -- the schedule begins behind the correction and the last protocol control frame on any link, and
 -- before the cycle's end
 pub record ScheduleFits (network : Network) : Type 0 where
-  pub begins : All (λ link. amount network.correction + amount network.dmax + 4 * amount network.precision + pcf_port_time link ≤ amount network.tt_start) network.link
+  pub begins : All
+      (λ link. amount network.correction + amount network.dmax + 4 * amount network.precision + pcf_port_time
+      link ≤ amount network.tt_start) network.link
   pub ends : amount network.tt_start + 4 * amount network.precision ≤ amount network.cycle

@@ -17,7 +17,8 @@ IsBelow (x ∷ xs) (y ∷ ys) = (x < y) ⊎ ((x ≡ y) × IsBelow xs ys)
 
 -- a row's place in the order of dispatch: by its offset, then by its link, then by the row
 abbrev pub dispatch_order : Network → RowId → List ℕ
-dispatch_order network row = option_map_or (λ r. amount r.offset ∷ r.link.0 ∷ row.0 ∷ []) (slice_get network.row row.0) []
+dispatch_order network row =
+    option_map_or (λ r. amount r.offset ∷ r.link.0 ∷ row.0 ∷ []) (slice_get network.row row.0) []
 
 -- the row comes behind the other in the order of dispatch, if there is another
 abbrev pub ComesBehind : Network → Option RowId → RowId → Type 0
@@ -32,7 +33,8 @@ pub record IsDispatched (network : Network) (device : DeviceId) (cycle : ℕ) (r
   pub occurs : OccursIn entry.vl cycle
 
 -- the row is the device's first in the cycle behind the other
-pub record IsNextRow (network : Network) (device : DeviceId) (cycle : ℕ) (other : Option RowId) (row : RowId) : Type 0 where
+pub record IsNextRow (network : Network) (device : DeviceId) (cycle : ℕ) (other : Option RowId)
+    (row : RowId) : Type 0 where
   pub dispatched : IsDispatched network device cycle row
   pub behind : ComesBehind network other row
   pub first : (later : RowId) → IsDispatched network device cycle later → ComesBehind network other later

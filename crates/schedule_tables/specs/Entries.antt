@@ -51,8 +51,12 @@ IsOnChannel network channel entry = IsSwitchOf network channel entry.link.parent
 
 -- the entry of a row is in range, in a network that is
 abbrev pub EntriesAreInRange : Type 0
-EntriesAreInRange = (network : Network) (place : ℕ) (entry : Entry) → IsInRange network → IsEntry network place entry → IsEntryInRange network entry
+EntriesAreInRange =
+    (network : Network) (place : ℕ) (entry : Entry) → IsInRange network → IsEntry network place entry
+    → IsEntryInRange network entry
 
 -- a row has one entry
 abbrev pub EntryIsOne : Type 0
-EntryIsOne = (network : Network) (place : ℕ) (entry other : Entry) → IsEntry network place entry → IsEntry network place other → entry ≡ other
+EntryIsOne =
+    (network : Network) (place : ℕ) (entry other : Entry) → IsEntry network place entry → IsEntry network place other
+    → entry ≡ other

@@ -59,18 +59,22 @@ pub record PrecisionHasRoom (network : Network) (beta : ℕ) : Type 0 where
 -- precision between them
 pub record CycleHasRoom (network : Network) (beta : ℕ) : Type 0 where
   pub correction : expected_offset network + 8 * amount network.precision ≤ amount network.correction
-  pub last_frame : All (λ link. amount network.correction + amount network.dmax + 8 * amount network.precision + pcf_port_time link ≤ amount network.cycle) network.link
+  pub last_frame : All
+      (λ link. amount network.correction + amount network.dmax + 8 * amount network.precision + pcf_port_time
+      link ≤ amount network.cycle) network.link
   pub eighteen_precisions : 18 * amount network.precision + 3 * amount network.dmax ≤ amount network.cycle
   pub many_errors : 144 * reach_error network beta ≤ amount network.cycle
   pub eighteen_starts : 18 * amount network.settled ≤ amount network.cycle
-  pub next_correction : amount network.correction + dispatch_spread network + 2 * reach_error network beta ≤ amount network.cycle
+  pub next_correction : amount network.correction + dispatch_spread network + 2 * reach_error network beta ≤ amount
+      network.cycle
 
 -- dmax holds beta and the delays of each link and of each path
 pub record DmaxHasRoom (network : Network) (beta : ℕ) : Type 0 where
   pub path : beta ≤ amount network.dmax
   pub links : All (λ link. beta + delay_by link ≤ amount network.dmax) network.link
   pub paths : (channel : Channel) (device : DeviceId) (links : List LinkId)
-      → IsDeviceOf network channel device → IsPath network channel device links → beta + delay_on network links ≤ amount network.dmax
+      → IsDeviceOf network channel device → IsPath network channel device links
+      → beta + delay_on network links ≤ amount network.dmax
 
 -- the spread of the starts holds the errors of one resynchronisation, and that of the dispatches holds
 -- the starts
@@ -86,7 +90,8 @@ pub record ErrorsAreSmall (network : Network) (beta : ℕ) : Type 0 where
   pub readings : 2 * amount network.grain ≤ reach_error network beta
   pub bases : base_error network beta ≤ reach_error network beta
   pub clocks : clock_error network beta ≤ reach_error network beta
-  pub two_clocks : 2 * clock_error network beta + 2 * drift_of network + 4 * amount network.grain ≡ 2 * reach_error network beta
+  pub two_clocks : 2 * clock_error network beta + 2 * drift_of network + 4 * amount network.grain ≡ 2 * reach_error
+      network beta
 
 -- all of these
 pub record HasMargins (network : Network) (beta : ℕ) : Type 0 where

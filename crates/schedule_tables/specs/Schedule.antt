@@ -123,14 +123,18 @@ pub record EntersOn (network : Network) (vl : VlId) (channel : Channel) (device 
 -- the virtual link leaves its sender on both channels, enters an end system, and enters the same end
 -- systems on both
 pub record GoesByBothChannels (network : Network) (place : ℕ) : Type 0 where
-  pub leaves : (vl : VirtualLink) (channel : Channel) → slice_get network.vl place ≡ Some vl → LeavesOn network (record { 0 = place }) channel vl.sender
-  pub enters : (vl : VirtualLink) → slice_get network.vl place ≡ Some vl → (channel : Channel) × (device : DeviceId) × IsEndSystem network device × EntersOn network (record { 0 = place }) channel device
-  pub same : (device : DeviceId) (channel other : Channel) → IsEndSystem network device → EntersOn network (record { 0 = place }) channel device → EntersOn network (record { 0 = place }) other device
+  pub leaves : (vl : VirtualLink) (channel : Channel) → slice_get network.vl place ≡ Some vl
+      → LeavesOn network (record { 0 = place }) channel vl.sender
+  pub enters : (vl : VirtualLink) → slice_get network.vl place ≡ Some vl → (channel : Channel) × (device : DeviceId)
+      × IsEndSystem network device × EntersOn network (record { 0 = place }) channel device
+  pub same : (device : DeviceId) (channel other : Channel) → IsEndSystem network device
+      → EntersOn network (record { 0 = place }) channel device → EntersOn network (record { 0 = place }) other device
 
 -- a row that leaves its sender comes when the schedule has begun; any other comes behind the window of
 -- its virtual link's row that enters its source
 pub record ComesInTime (network : Network) (place : ℕ) : Type 0 where
-  pub from_sender : (entry : Entry) → IsEntry network place entry → source_of entry ≡ entry.vl.sender → amount network.tt_start ≤ amount entry.row.offset
+  pub from_sender : (entry : Entry) → IsEntry network place entry → source_of entry ≡ entry.vl.sender
+      → amount network.tt_start ≤ amount entry.row.offset
   pub from_switch : (k : ℕ) (entering entry : Entry)
       → IsEntry network k entering → IsEntry network place entry → entry.row.vl ≡ entering.row.vl
       → source_of entry ≢ entry.vl.sender → target_of entering ≡ source_of entry
@@ -138,7 +142,8 @@ pub record ComesInTime (network : Network) (place : ℕ) : Type 0 where
 
 -- does the row leave the device?
 abbrev pub leaves : Network → DeviceId → Row → Bool
-leaves network device row = option_map_or (λ link. (source_by row.way link).0 == device.0) (link_at network row.link) false
+leaves network device row =
+    option_map_or (λ link. (source_by row.way link).0 == device.0) (link_at network row.link) false
 
 -- at most 256 rows leave the device
 abbrev pub HasFewRows : Network → ℕ → Type 0

@@ -49,7 +49,8 @@ fn relay(name: &str, channel: Channel) -> Device
 // A link with the worked network's numbers.
 fn link(name: &str, child: DeviceId, parent: DeviceId) -> Link
     requires { IsNameText name.now }
-    ensures { (network : Network) → child.0 < length network.device → parent.0 < length network.device → IsLinkInRange network result }
+    ensures { (network : Network) → child.0 < length network.device → parent.0 < length network.device
+        → IsLinkInRange network result }
 {
     Link {
         name: Name::new(name),
@@ -83,7 +84,8 @@ fn virtual_link(name: &str, period: u32, phase: u32) -> VirtualLink
 
 fn row(vl: VlId, link: LinkId, way: Way, offset: Units) -> Row
     requires { IsWithin 0 (2 ^ 40) offset }
-    ensures { (network : Network) → vl.0 < length network.vl → link.0 < length network.link → IsRowInRange network result }
+    ensures { (network : Network) → vl.0 < length network.vl → link.0 < length network.link
+        → IsRowInRange network result }
 {
     Row {
         vl,
@@ -130,7 +132,8 @@ fn virtual_links(alloc: Global) -> Result<VirtualLinks, AllocError>
 // The rows of the worked network, and two more of one offset, that with the greater link first.
 fn rows(alloc: Global) -> Result<Rows, AllocError>
     ensures count { IfOk result (λ rows. length rows ≡ 6) }
-    ensures range { (network : Network) → length network.vl ≡ 2 → length network.link ≡ 4 → IfOk result (All (IsRowInRange network)) }
+    ensures range { (network : Network) → length network.vl ≡ 2 → length network.link ≡ 4
+        → IfOk result (All (IsRowInRange network)) }
 {
     let mut rows = Vec::new(alloc);
     rows.push(row(VlId(0), LinkId(0), Way::Up, Units(26_542_080_000)))?;

@@ -32,7 +32,8 @@ made plan state adjustment number integrated = record {
 }
 
 -- where a device stands after one more call
-after_all-push : (plan : SyncPlan) (start : Option Units) (calls : List Call) (call : Call) → after (after_all plan start calls) call ≡ after_all plan start (calls ++ call ∷ [])
+after_all-push : (plan : SyncPlan) (start : Option Units) (calls : List Call) (call : Call) → after (after_all plan start calls) call ≡ after_all plan start
+    (calls ++ call ∷ [])
 after_all-push plan start calls call =
     let now : Standing = after (after_all plan start calls) call in
     let later : List Call = calls ++ call ∷ [] in
@@ -43,7 +44,8 @@ after_all-push plan start calls call =
     ap (λ (x : State). made plan x now.adjustment now.number now.integrated) s
     ∙ ap (λ (x : Units). made plan (fold next_state (state_at_start start) later) x now.number now.integrated) a
     ∙ ap (λ (x : ℕ). made plan (fold next_state (state_at_start start) later) (fold next_adjustment (adjustment_at_start start) later) x now.integrated) n
-    ∙ ap (λ (x : Option ℕ). made plan (fold next_state (state_at_start start) later) (fold next_adjustment (adjustment_at_start start) later) (fold next_number 1 later) x) i
+    ∙ ap (λ (x : Option ℕ). made plan (fold next_state (state_at_start start) later) (fold next_adjustment (adjustment_at_start start) later)
+    (fold next_number 1 later) x) i
 
 pub stands_at_start : (plan : SyncPlan) (start : Option Units) → StandsAfter plan start [] (after_all plan start [])
 stands_at_start plan start = record {
@@ -54,12 +56,14 @@ stands_at_start plan start = record {
   no_split [] x qs same = cc
   no_split (p ∷ ps) x qs same = cc
 
-pub one_more : (plan : SyncPlan) (start : Option Units) (calls : List Call) (s t : Standing) (call : Call) → IsAnswered s call → t ≡ after s call → StandsAfter plan start calls s → StandsAfter plan start (calls ++ call ∷ []) t
+pub one_more : (plan : SyncPlan) (start : Option Units) (calls : List Call) (s t : Standing) (call : Call) → IsAnswered s call → t ≡ after s call
+    → StandsAfter plan start calls s → StandsAfter plan start (calls ++ call ∷ []) t
 one_more plan start calls s t call answered step is = record {
   stands = step ∙ ap (λ (u : Standing). after u call) is.stands ∙ after_all-push plan start calls call;
   answered = λ earlier later x same.
       elim (push_split calls call earlier x later same) [
         | inl front ↦ is.answered earlier front.0 x front.1
-        | inr last ↦ subst (λ (cs : List Call). IsAnswered (after_all plan start cs) x) last.0 (subst (λ (y : Call). IsAnswered (after_all plan start calls) y) last.1 (subst (λ (u : Standing). IsAnswered u call) is.stands answered))
+        | inr last ↦ subst (λ (cs : List Call). IsAnswered (after_all plan start cs) x) last.0
+            (subst (λ (y : Call). IsAnswered (after_all plan start calls) y) last.1 (subst (λ (u : Standing). IsAnswered u call) is.stands answered))
       ];
 }

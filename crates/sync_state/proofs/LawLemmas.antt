@@ -41,7 +41,8 @@ more k u = record { 0 = u.0 +ℤ k }
 same_mean : (a b k m n : ℤ) → IsMean a b m → IsMean (a +ℤ k) (b +ℤ k) n → n ≡ m +ℤ k
 same_mean a b k m n before after = omega (arith, ints, before.least, before.most, after.least, after.most)
 
-correction-more : (k : ℤ) (a b : Option Units) (by : Units) → correction_of a b ≡ Some by → correction_of (option_map (more k) a) (option_map (more k) b) ≡ Some (more k by)
+correction-more : (k : ℤ) (a b : Option Units) (by : Units) → correction_of a b ≡ Some by
+    → correction_of (option_map (more k) a) (option_map (more k) b) ≡ Some (more k by)
 correction-more k (Some a) (Some b) by same =
     let value : mean_of (a.0 +ℤ k) (b.0 +ℤ k) ≡ mean_of a.0 b.0 +ℤ k =
     same_mean a.0 b.0 k (mean_of a.0 b.0) (mean_of (a.0 +ℤ k) (b.0 +ℤ k)) (mean_of-floor a.0 b.0) (mean_of-floor (a.0 +ℤ k) (b.0 +ℤ k)) in
@@ -55,14 +56,18 @@ back e p x y = omega (arith, ints)
 
 -- the deviation from another adjustment
 deviation-other : (s : Standing) (other : Units) (best : Option HeardFrame)
-    → option_and_then (λ frame. if nat_le s.plan.threshold (count_of frame.members) then Some (deviation_by (record s { adjustment = other }) frame) else None) best
-    ≡ option_map (more (s.adjustment.0 -ℤ other.0)) (option_and_then (λ frame. if nat_le s.plan.threshold (count_of frame.members) then Some (deviation_by s frame) else None) best)
+    → option_and_then (λ frame. if nat_le s.plan.threshold (count_of frame.members) then Some (deviation_by (record s { adjustment = other }) frame) else None)
+    best
+    ≡ option_map (more (s.adjustment.0 -ℤ other.0))
+    (option_and_then (λ frame. if nat_le s.plan.threshold (count_of frame.members) then Some (deviation_by s frame) else None) best)
 deviation-other s other None = refl
 deviation-other s other (Some frame) =
     let k : ℤ = s.adjustment.0 -ℤ other.0 in
     let at : deviation_by (record s { adjustment = other }) frame ≡ more k (deviation_by s frame) =
     ap (λ (z : ℤ). record { 0 = z }) (back (expected_at s.plan s.number) frame.point.0 s.adjustment.0 other.0) in
-    elim (nat_le s.plan.threshold (count_of frame.members)) as (λ (b : Bool). (if b then Some (deviation_by (record s { adjustment = other }) frame) else None) ≡ option_map (more k) (if b then Some (deviation_by s frame) else None)) [
+    elim (nat_le s.plan.threshold (count_of frame.members)) as
+    (λ (b : Bool). (if b then Some (deviation_by (record s { adjustment = other }) frame) else None) ≡ option_map (more k)
+    (if b then Some (deviation_by s frame) else None)) [
       | true ↦ ap Some at
       | false ↦ refl
     ]
@@ -70,7 +75,8 @@ deviation-other s other (Some frame) =
 sum_is : (x b y : ℤ) → b +ℤ (x -ℤ y) ≡ (x +ℤ b) -ℤ y
 sum_is x b y = omega (arith, ints)
 
-pub by_points : (s : Standing) (heard : Summary) (by other : Units) → HasVerdict s heard (Corrected by) → HasVerdict (record s { adjustment = other }) heard (Corrected (record { 0 = (s.adjustment.0 +ℤ by.0) -ℤ other.0 }))
+pub by_points : (s : Standing) (heard : Summary) (by other : Units) → HasVerdict s heard (Corrected by) → HasVerdict (record s { adjustment = other }) heard
+    (Corrected (record { 0 = (s.adjustment.0 +ℤ by.0) -ℤ other.0 }))
 by_points s heard by other is =
     let k : ℤ = s.adjustment.0 -ℤ other.0 in
     let a = deviation-other s other heard.best_a in

@@ -20,22 +20,35 @@ use Rattle.sync_state.specs.Standing.{Standing}
 use Rattle.sync_state.specs.Verdicts.{IsNear, IsOutnumbered, IfCorrected, deviation_by, deviation_on, members_of_best}
 use Rattle.sync_state.specs.Calls.{adjustment_by}
 
-best_within : (best : Option HeardFrame) (n : ℕ) → (unwrap_or (option_map (λ frame. count_of frame.members) best) 0 ≤ n) ↔ IfSome best (λ frame. count_of frame.members ≤ n)
+best_within : (best : Option HeardFrame) (n : ℕ) → (unwrap_or (option_map (λ frame. count_of frame.members) best) 0 ≤ n) ↔ IfSome best
+    (λ frame. count_of frame.members ≤ n)
 best_within None n = (λ _. tt, λ _. omega arith)
 best_within (Some frame) n = (λ h. h, λ h. h)
 
 -- the test of the most members against the count of those outside
-pub outnumbered : (heard : Summary) (a b most outside : ℕ) → a ≡ members_of_best heard A → b ≡ members_of_best heard B → most ≡ max a b → outside ≡ count_of heard.outside → IsTrue (leb most outside) ↔ IsOutnumbered heard
+pub outnumbered : (heard : Summary) (a b most outside : ℕ) → a ≡ members_of_best heard A → b ≡ members_of_best heard B → most ≡ max a b
+    → outside ≡ count_of heard.outside → IsTrue (leb most outside) ↔ IsOutnumbered heard
 outnumbered heard a b most outside is_a is_b is_most is_outside = (forth, back) where
   forth : IsTrue (leb most outside) → IsOutnumbered heard
   forth test A = (best_within heard.best_a (count_of heard.outside)).0 (omega (arith, leb-true most outside test, is_a, is_most, is_outside))
   forth test B = (best_within heard.best_b (count_of heard.outside)).0 (omega (arith, leb-true most outside test, is_b, is_most, is_outside))
 
   back : IsOutnumbered heard → IsTrue (leb most outside)
-  back all = le-leb most outside (omega (arith, (best_within heard.best_a (count_of heard.outside)).1 (all A), (best_within heard.best_b (count_of heard.outside)).1 (all B), is_a, is_b, is_most, is_outside))
+  back all =
+      le-leb most outside
+      (omega (
+        arith,
+        (best_within heard.best_a (count_of heard.outside)).1 (all A),
+        (best_within heard.best_b (count_of heard.outside)).1 (all B),
+        is_a,
+        is_b,
+        is_most,
+        is_outside,
+      ))
 
 -- a correction added to the adjustment is small, where the verdict says so
-pub small_after : (adjustment later : Units) (verdict : Verdict) → later ≡ adjustment_by adjustment verdict → IfCorrected verdict (λ by. IsSmall (adjustment.0 +ℤ by.0)) → IfCorrected verdict (λ _. IsSmall later.0)
+pub small_after : (adjustment later : Units) (verdict : Verdict) → later ≡ adjustment_by adjustment verdict
+    → IfCorrected verdict (λ by. IsSmall (adjustment.0 +ℤ by.0)) → IfCorrected verdict (λ _. IsSmall later.0)
 small_after adjustment later (Corrected by) same small = subst (λ (u : Units). IsSmall u.0) (sym same) small
 small_after adjustment later SyncClique same small = tt
 small_after adjustment later AsyncClique same small = tt
@@ -52,7 +65,8 @@ mean_small : (x a b m : ℤ) → IsMean a b m → IsSmall (x +ℤ a) → IsSmall
 mean_small x a b m mean small_a small_b =
     (omega (arith, ints, mean.most, small_a.0, small_b.0), omega (arith, ints, mean.least, small_a.1, small_b.1))
 
-deviation_small : (s : Standing) (best : Option HeardFrame) → IfSome best (IsNear s) → SmallWith s.adjustment.0 (option_and_then (λ frame. if nat_le s.plan.threshold (count_of frame.members) then Some (deviation_by s frame) else None) best)
+deviation_small : (s : Standing) (best : Option HeardFrame) → IfSome best (IsNear s)
+    → SmallWith s.adjustment.0 (option_and_then (λ frame. if nat_le s.plan.threshold (count_of frame.members) then Some (deviation_by s frame) else None) best)
 deviation_small s None near = tt
 deviation_small s (Some frame) near =
     elim (nat_le s.plan.threshold (count_of frame.members)) as (λ (b : Bool). SmallWith s.adjustment.0 (if b then Some (deviation_by s frame) else None)) [
@@ -61,18 +75,22 @@ deviation_small s (Some frame) near =
     ]
 
 -- what is added is small, where each of both is
-correction_small : (adjustment : ℤ) (a b : Option Units) (by : Units) → SmallWith adjustment a → SmallWith adjustment b → correction_of a b ≡ Some by → IsSmall (adjustment +ℤ by.0)
+correction_small : (adjustment : ℤ) (a b : Option Units) (by : Units) → SmallWith adjustment a → SmallWith adjustment b → correction_of a b ≡ Some by
+    → IsSmall (adjustment +ℤ by.0)
 correction_small adjustment (Some a) (Some b) by small_a small_b same =
-    subst (λ (u : Units). IsSmall (adjustment +ℤ u.0)) (same_Some _ _ same) (mean_small adjustment a.0 b.0 (mean_of a.0 b.0) (mean_of-floor a.0 b.0) small_a small_b)
+    subst (λ (u : Units). IsSmall (adjustment +ℤ u.0)) (same_Some _ _ same)
+    (mean_small adjustment a.0 b.0 (mean_of a.0 b.0) (mean_of-floor a.0 b.0) small_a small_b)
 correction_small adjustment (Some a) None by small_a small_b same =
     subst (λ (u : Units). IsSmall (adjustment +ℤ u.0)) (same_Some _ _ same) small_a
 correction_small adjustment None (Some b) by small_a small_b same =
     subst (λ (u : Units). IsSmall (adjustment +ℤ u.0)) (same_Some _ _ same) small_b
 correction_small adjustment None None by small_a small_b same = absurd (cc)
 
-pub corrected_small : (s : Standing) (heard : Summary) (by : Units) → IfSome heard.best_a (IsNear s) → IfSome heard.best_b (IsNear s) → correction_of (deviation_on s heard A) (deviation_on s heard B) ≡ Some by → IsSmall (s.adjustment.0 +ℤ by.0)
+pub corrected_small : (s : Standing) (heard : Summary) (by : Units) → IfSome heard.best_a (IsNear s) → IfSome heard.best_b (IsNear s)
+    → correction_of (deviation_on s heard A) (deviation_on s heard B) ≡ Some by → IsSmall (s.adjustment.0 +ℤ by.0)
 corrected_small s heard by near_a near_b same =
-    correction_small s.adjustment.0 (deviation_on s heard A) (deviation_on s heard B) by (deviation_small s heard.best_a near_a) (deviation_small s heard.best_b near_b) same
+    correction_small s.adjustment.0 (deviation_on s heard A) (deviation_on s heard B) by (deviation_small s heard.best_a near_a)
+    (deviation_small s heard.best_b near_b) same
 
 pub some_there : {A : Type 0} (o : Option A) (P : A → Type 0) → IsSomeAnd o P → IsSome o
 some_there None P h = absurd h

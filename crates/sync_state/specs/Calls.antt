@@ -90,10 +90,12 @@ IsAnswered s turned_on = s.state ≡ Off
 IsAnswered s (heard_frame frame point answer) = SomeIff answer (Integrates s frame) (joined_by s.plan frame point)
 IsAnswered s (reached_point heard verdict) = IsSome (next_point s) × HasVerdict s heard verdict
 
--- the device stands where its calls have brought it, and each of them is answered by where the earlier ones had brought it
+-- the device stands where its calls have brought it, and each of them is answered by where the earlier ones had brought
+-- it
 pub record StandsAfter (plan : SyncPlan) (start : Option Units) (calls : List Call) (s : Standing) : Type 0 where
   pub stands : s ≡ after_all plan start calls
-  pub answered : (earlier later : List Call) (call : Call) → calls ≡ earlier ++ call ∷ later → IsAnswered (after_all plan start earlier) call
+  pub answered : (earlier later : List Call) (call : Call) → calls ≡ earlier ++ call ∷ later
+      → IsAnswered (after_all plan start earlier) call
 
 -- the device stands where one more call brings it, after each list of calls that brought it to where it stood
 abbrev pub CarriesOn : Standing → Call → Standing → Type 0

@@ -3,6 +3,7 @@ use Rattle.tte_units.specs.declared.units.Units.{Units}
 use Rattle.pcf_values.specs.declared.pcf.Pcf.{Pcf}
 use Rattle.membership.specs.Members.{count_of}
 use Rattle.sync_state.specs.declared.answers.Joined.{Joined}
+use Rattle.sync_state.specs.declared.sync.TheConstants.{LAST_CYCLE}
 use Rattle.sync_state.specs.declared.plan.SyncPlan.{SyncPlan}
 use Rattle.sync_state.specs.declared.state.State.TheVariants.{Integrating}
 use Rattle.sync_state.specs.Plan.{expected_at}
@@ -12,7 +13,7 @@ use Rattle.sync_state.specs.Standing.{Standing}
 pub record Integrates (s : Standing) (frame : Pcf) : Type 0 where
   pub integrating : s.state ≡ Integrating
   pub enough : s.plan.threshold ≤ count_of frame.members
-  pub in_time : frame.cycle ≤ 2 ^ 20 + 2 ^ 17
+  pub in_time : frame.cycle ≤ LAST_CYCLE
 
 -- the device takes the frame's cycle, and the adjustment by which its clock shows at the point what is expected there
 abbrev pub joined_by : SyncPlan → Pcf → Units → Joined

@@ -14,4 +14,5 @@ VerdictIsOne = (s : Standing) (heard : Summary) (v w : Verdict) → HasVerdict s
 abbrev pub CorrectedByPoints : Type 0
 CorrectedByPoints =
     (s : Standing) (heard : Summary) (by other : Units) → HasVerdict s heard (Corrected by)
-    → HasVerdict (record s { adjustment = other }) heard (Corrected (record { 0 = (s.adjustment.0 +ℤ by.0) -ℤ other.0 }))
+    → HasVerdict (record s { adjustment = other }) heard
+    (Corrected (record { 0 = (s.adjustment.0 +ℤ by.0) -ℤ other.0 }))

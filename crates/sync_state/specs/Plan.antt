@@ -1,12 +1,13 @@
 use Rattle.std.specs.Prelude.{ℕ, ℤ, pos, neg_ℤ, ◌+◌, ◌^◌, ◌+ℤ◌, ◌*ℤ◌, ◌≤ℤ◌}
+use Rattle.tte_units.specs.Reading.{least_reading, greatest_reading}
 use Rattle.sync_state.specs.declared.plan.SyncPlan.{SyncPlan}
 
 -- the cycle's length and the expected offset are within their ranges
 pub record IsPlan (plan : SyncPlan) : Type 0 where
   pub shortest : pos (2 ^ 32) ≤ℤ plan.cycle_length.0
   pub longest : plan.cycle_length.0 ≤ℤ pos (2 ^ 40)
-  pub earliest : neg_ℤ (pos (2 ^ 61 + 2 ^ 58)) ≤ℤ plan.expected.0
-  pub latest : plan.expected.0 ≤ℤ pos (2 ^ 61 + 2 ^ 58)
+  pub earliest : least_reading ≤ℤ plan.expected.0
+  pub latest : plan.expected.0 ≤ℤ greatest_reading
 
 -- the local value at which the frame of cycle n is expected
 abbrev pub expected_at : SyncPlan → ℕ → ℤ

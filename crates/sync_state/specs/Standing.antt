@@ -4,7 +4,8 @@ use Rattle.sync_state.specs.declared.plan.SyncPlan.{SyncPlan}
 use Rattle.sync_state.specs.declared.state.State.{State}
 use Rattle.sync_state.specs.declared.state.State.TheVariants.{Off, Integrating, Joining, Synchronised}
 
--- where a device stands: its state, its adjustment, the cycle of its next correction point, and the cycle by whose frame it joined last
+-- where a device stands: its state, its adjustment, the cycle of its next correction point, and the cycle by whose
+-- frame it joined last
 pub record Standing : Type 0 where
   pub plan : SyncPlan
   pub state : State

@@ -20,7 +20,8 @@ deviation_by s frame = record { 0 = deviation_of (expected_at s.plan s.number) f
 -- the deviation that the channel shows: that of its best frame, where the channel qualifies
 abbrev pub deviation_on : Standing → Summary → Channel → Option Units
 deviation_on s heard channel =
-    option_and_then (λ frame. if nat_le s.plan.threshold (count_of frame.members) then Some (deviation_by s frame) else None) (best_on channel heard)
+    option_and_then (λ frame. if nat_le s.plan.threshold (count_of frame.members) then Some (deviation_by s frame)
+    else None) (best_on channel heard)
 
 -- the frame is near enough for whole numbers of 64 bits
 pub record IsNear (s : Standing) (frame : HeardFrame) : Type 0 where

@@ -1,4 +1,5 @@
 ghost use Rattle.std.specs.Prelude.{◌≡◌, ◌↔◌, ◌≤◌, ◌≤ℤ◌, ◌+◌, ◌+ℤ◌, ◌^◌, ℕ, pos, neg_ℤ, [], ◌∷◌, ◌++◌, List, IsTrue, IfSome, IfNone, IsSomeAnd, SomeIff, Option};
+ghost use Rattle.tte_units.specs.Reading.{least_reading, greatest_reading};
 ghost use Rattle.tte_units.specs.declared.units.Units.{Units};
 ghost use Rattle.sync_state.specs.Plan.{IsPlan};
 ghost use Rattle.sync_state.specs.Standing.{begun, next_point, IsAtIntegration};
@@ -16,7 +17,7 @@ use std::marker::Model;
 use tte_units::Units;
 
 /// A frame of a later cycle integrates no device.
-const LAST_CYCLE: u32 = (1 << 20) + (1 << 17);
+pub const LAST_CYCLE: u32 = (1 << 20) + (1 << 17);
 
 /// The synchronisation of one device: its state, its adjustment, and the cycle of its next
 /// correction point.
@@ -118,8 +119,8 @@ impl Sync {
     ///
     /// `point` lies from -(2^61 + 2^58) to 2^61 + 2^58.
     pub fn integrate(&mut self, frame: &Pcf, point: Units) -> Option<Joined>
-        requires low { neg_ℤ (pos (2 ^ 61 + 2 ^ 58)) ≤ℤ point.0 }
-        requires high { point.0 ≤ℤ pos (2 ^ 61 + 2 ^ 58) }
+        requires low { least_reading ≤ℤ point.0 }
+        requires high { point.0 ≤ℤ greatest_reading }
         ensures joined { SomeIff result (Integrates self.old frame.now)
             (joined_by self.old.plan frame.now point) }
         ensures none { IfNone result (self.new ≡ self.old) }
@@ -155,8 +156,8 @@ impl Sync {
 
     /// How the frame integrates the device, if it does.
     fn joined_by(&self, frame: &Pcf, point: Units) -> Option<Joined>
-        requires low { neg_ℤ (pos (2 ^ 61 + 2 ^ 58)) ≤ℤ point.0 }
-        requires high { point.0 ≤ℤ pos (2 ^ 61 + 2 ^ 58) }
+        requires low { least_reading ≤ℤ point.0 }
+        requires high { point.0 ≤ℤ greatest_reading }
         ensures { SomeIff result (Integrates self.now frame.now)
             (joined_by self.now.plan frame.now point) }
     {

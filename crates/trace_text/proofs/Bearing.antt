@@ -34,7 +34,8 @@ found_from s (name ∷ names) text zero h =
     rw here (ap (λ (k : ℕ). Some k) (omega arith))
 found_from s (name ∷ names) text (suc i) h =
     let there : bytes_eq text name ≡ false = other text name (λ e. h.first 0 (omega arith) (ap (λ (n : List ℕ). Some n) e)) in
-    let later : position_from (bytes_eq text) (s + 1) names ≡ Some (s + 1 + i) = found_from (s + 1) names text i (record { bears = h.bears; first = λ k lt. h.first (suc k) (omega arith) }) in
+    let later : position_from (bytes_eq text) (s + 1) names ≡ Some (s + 1 + i) = found_from (s + 1) names text i
+    (record { bears = h.bears; first = λ k lt. h.first (suc k) (omega arith) }) in
     rw there (later ∙ ap (λ (k : ℕ). Some k) (omega arith))
 
 pub place_found : (names : List (List ℕ)) (text : List ℕ) (i : ℕ) → IsFirstBearer names text i → first_place names text ≡ Some i
@@ -54,7 +55,9 @@ ascii_character c h = grind (arith, nat_tests)
 
 pub name_is_utf8 : (text : List ℕ) → IsNameText text → IsUtf8 text
 name_is_utf8 text h =
-    IsUtf8-from_ascii text (IsAscii-from_all text (All-weaker (λ c. is_name_character c ≡ true) (λ c. c < 128) ascii_character text (AllPass-from_list_all is_name_character text h.plain)))
+    IsUtf8-from_ascii text
+    (IsAscii-from_all text
+    (All-weaker (λ c. is_name_character c ≡ true) (λ c. c < 128) ascii_character text (AllPass-from_list_all is_name_character text h.plain)))
 
 -- nothing has a name that is not in UTF-8
 pub bears_utf8 : {X : Type 0} (f : X → List ℕ) (xs : List X) (text : List ℕ) → All (λ x. IsNameText (f x)) xs → ¬ (IsUtf8 text) → HasNoBearer (map f xs) text
@@ -72,10 +75,12 @@ pub record IsNamed {I : Type 0} (number : I → ℕ) (names : List (List ℕ)) (
   pub first : IfSome found (λ i. IsFirstBearer names text (number i))
   pub none : IfNone found (HasNoBearer names text)
 
-pub named_place : {I : Type 0} (id : ℕ → I) (number : I → ℕ) → ((i : I) → id (number i) ≡ i) → (names : List (List ℕ)) (text : List ℕ) (found : Option I) → IsNamed number names text found → found ≡ option_map id (first_place names text)
+pub named_place : {I : Type 0} (id : ℕ → I) (number : I → ℕ) → ((i : I) → id (number i) ≡ i) → (names : List (List ℕ)) (text : List ℕ) (found : Option I)
+    → IsNamed number names text found → found ≡ option_map id (first_place names text)
 named_place id number same names text None h = sym (ap (option_map id) (place_absent names text h.none))
 named_place id number same names text (Some i) h = ap Some (sym (same i)) ∙ sym (ap (option_map id) (place_found names text (number i) h.first))
 
-pub named_within : {I X : Type 0} (number : I → ℕ) (f : X → List ℕ) (xs : List X) (text : List ℕ) (found : Option I) → IsNamed number (map f xs) text found → IfSome found (λ i. number i < length xs)
+pub named_within : {I X : Type 0} (number : I → ℕ) (f : X → List ℕ) (xs : List X) (text : List ℕ) (found : Option I) → IsNamed number (map f xs) text found
+    → IfSome found (λ i. number i < length xs)
 named_within number f xs text None h = tt
 named_within number f xs text (Some i) h = bearer_within f xs text (number i) h.first

@@ -26,7 +26,8 @@ number_yes most text h =
     let within : nat_le n most ≡ true = grind (arith, nat_tests, h.within) in
     rw (same, within) refl
 
-no_number : (most : ℕ) (text : List ℕ) (b : Bool) → (bytes_eq text (decimal (digits_value 10 text)) && nat_le (digits_value 10 text) most) ≡ b → ¬ (IsDecimal most text) → cond b (Some (digits_value 10 text)) None ≡ None
+no_number : (most : ℕ) (text : List ℕ) (b : Bool) → (bytes_eq text (decimal (digits_value 10 text)) && nat_le (digits_value 10 text) most) ≡ b
+    → ¬ (IsDecimal most text) → cond b (Some (digits_value 10 text)) None ≡ None
 no_number most text false e differs = refl
 no_number most text true e differs =
     let parts = and_parts (bytes_eq text (decimal (digits_value 10 text))) (nat_le (digits_value 10 text) most) e in

@@ -10,11 +10,12 @@ use Rattle.net_plan.specs.declared.event.Event.{Event}
 use Rattle.net_plan.specs.declared.event.What.{What}
 use Rattle.net_plan.specs.declared.event.What.TheVariants as events
 use Rattle.net_plan.specs.declared.network.Network.{Network}
-use Rattle.trace_text.specs.EventLine.{device_name, link_name, what_words, what_text, event_text}
+use Rattle.net_plan.specs.Belonging.{device_name, link_name, IsOfNetwork}
+use Rattle.trace_text.specs.EventLine.{what_words, what_text, event_text}
 use Rattle.trace_text.specs.EventReading.{what_behind, what_reader, event_reader, event_read}
 use Rattle.trace_text.specs.EventWords.{event_word_text, way_text}
 use Rattle.trace_text.specs.Laws.{ReadsBack}
-use Rattle.trace_text.specs.Ranges.{IsOfNetwork, IsWhatInRange, IsEventInRange}
+use Rattle.trace_text.specs.Ranges.{IsWhatInRange, IsEventInRange}
 use Rattle.trace_text.specs.Steps.{Words, space, words, outcome, line_end}
 use Rattle.trace_text.specs.declared.event_word.EventWord.{EventWord}
 use Rattle.trace_text.specs.declared.event_word.EventWord.TheVariants.{Rate, Wire, Hold, Cut, Heal, On, Break, Send, End}
@@ -74,11 +75,14 @@ record IsNamedApart (network : Network) : Type 0 where
   devices : (i : ℕ) → DeviceIsNew network i
   links : (i : ℕ) → LinkIsNew network i
 
-what_back : (network : Network) (what : What) → IsNamedApart network → IsOfNetwork network what → IsWhatInRange what → what_behind network (kind what) (behind_kind network what) ≡ Ok (what, [])
+what_back : (network : Network) (what : What) → IsNamedApart network → IsOfNetwork network what → IsWhatInRange what
+    → what_behind network (kind what) (behind_kind network what) ≡ Ok (what, [])
 unfolding kind behind_kind what_behind
 what_back network (events.Rate d r) apart of_network h = rw (device_back network d (signed_decimal r.0 ∷ []) apart.devices of_network, rate_back r [] h) refl
-what_back network (events.Wire l w u) apart of_network h = rw (link_back network l (way_text w ∷ signed_decimal u.0 ∷ []) apart.links of_network, way_back w (signed_decimal u.0 ∷ []), units_back u [] h) refl
-what_back network (events.Hold l w u) apart of_network h = rw (link_back network l (way_text w ∷ signed_decimal u.0 ∷ []) apart.links of_network, way_back w (signed_decimal u.0 ∷ []), units_back u [] h) refl
+what_back network (events.Wire l w u) apart of_network h =
+    rw (link_back network l (way_text w ∷ signed_decimal u.0 ∷ []) apart.links of_network, way_back w (signed_decimal u.0 ∷ []), units_back u [] h) refl
+what_back network (events.Hold l w u) apart of_network h =
+    rw (link_back network l (way_text w ∷ signed_decimal u.0 ∷ []) apart.links of_network, way_back w (signed_decimal u.0 ∷ []), units_back u [] h) refl
 what_back network (events.Cut l w) apart of_network h = rw (link_back network l (way_text w ∷ []) apart.links of_network, way_back w []) refl
 what_back network (events.Heal l w) apart of_network h = rw (link_back network l (way_text w ∷ []) apart.links of_network, way_back w []) refl
 what_back network (events.On d) apart of_network h = rw (device_back network d [] apart.devices of_network) refl
@@ -90,38 +94,54 @@ end_back : line_end [] ≡ Ok (tt, [])
 unfolding line_end
 end_back = refl
 
-event_back : (network : Network) (event : Event) → IsNamedApart network → IsOfNetwork network event.what → IsEventInRange event → event_reader network (signed_decimal event.time.0 ∷ event_word_text (kind event.what) ∷ behind_kind network event.what) ≡ Ok (event, [])
+event_back : (network : Network) (event : Event) → IsNamedApart network → IsOfNetwork network event.what → IsEventInRange event
+    → event_reader network (signed_decimal event.time.0 ∷ event_word_text (kind event.what) ∷ behind_kind network event.what) ≡ Ok (event, [])
 unfolding event_reader
 event_back network event apart of_network h =
     let behind = behind_kind network event.what in
-    rw (units_back event.time (event_word_text (kind event.what) ∷ behind) h.time, event_word_back (kind event.what) behind, what_back network event.what apart of_network h.what, end_back) refl
+    rw (
+      units_back event.time (event_word_text (kind event.what) ∷ behind) h.time,
+      event_word_back (kind event.what) behind,
+      what_back network event.what apart
+          of_network h.what,
+      end_back,
+    ) refl
 
 -- what befalls the network reads back by its words
-pub words_back : (network : Network) (what : What) → ((i : ℕ) → DeviceIsNew network i) → ((i : ℕ) → LinkIsNew network i) → IsOfNetwork network what → IsWhatInRange what → what_reader network (what_words network what) ≡ Ok (what, [])
+pub words_back : (network : Network) (what : What) → ((i : ℕ) → DeviceIsNew network i) → ((i : ℕ) → LinkIsNew network i) → IsOfNetwork network what
+    → IsWhatInRange what → what_reader network (what_words network what) ≡ Ok (what, [])
 unfolding what_reader
 words_back network what devices links of_network h =
     let behind = behind_kind network what in
-    rw (what_words_are network what, event_word_back (kind what) behind, what_back network what (record { devices = devices; links = links }) of_network h, end_back) refl
+    rw (
+      what_words_are network what,
+      event_word_back (kind what) behind,
+      what_back network what (record { devices = devices; links = links }) of_network h,
+      end_back,
+    ) refl
 
 -- a text and more words
 joined : (time w : List ℕ) (ws : Words) → time ++ codes " " ++ join_with_byte space (w ∷ ws) ≡ join_with_byte space (time ∷ w ∷ ws)
 joined time w ws = append_assoc time (codes " ") (join_with_byte space (w ∷ ws))
 
-pub text_joined : (network : Network) (event : Event) → event_text network event ≡ join_with_byte space (signed_decimal event.time.0 ∷ what_words network event.what)
+pub text_joined : (network : Network) (event : Event)
+    → event_text network event ≡ join_with_byte space (signed_decimal event.time.0 ∷ what_words network event.what)
 unfolding what_text
 text_joined network event =
     let time = signed_decimal event.time.0 in
     subst (λ (ws : Words). time ++ codes " " ++ join_with_byte space ws ≡ join_with_byte space (time ∷ ws)) (sym (what_words_are network event.what))
     (joined time (event_word_text (kind event.what)) (behind_kind network event.what))
 
-event_words_are : (network : Network) (event : Event) → IsInRange network → IsOfNetwork network event.what → IsEventInRange event → words (event_text network event) ≡ signed_decimal event.time.0 ∷ event_word_text (kind event.what) ∷ behind_kind network event.what
+event_words_are : (network : Network) (event : Event) → IsInRange network → IsOfNetwork network event.what → IsEventInRange event
+    → words (event_text network event) ≡ signed_decimal event.time.0 ∷ event_word_text (kind event.what) ∷ behind_kind network event.what
 event_words_are network event n of_network h =
     let time = signed_decimal event.time.0 in
     let word = event_word_text (kind event.what) in
     let behind = behind_kind network event.what in
     ap words (text_joined network event)
     ∙ ap (λ (ws : Words). words (join_with_byte space (time ∷ ws))) (what_words_are network event.what)
-    ∙ words_joined time (word ∷ behind) (time_is_word event.time h.time) (event_word_is_word (kind event.what), are_words network event.what n of_network h.what)
+    ∙ words_joined time (word ∷ behind) (time_is_word event.time h.time)
+    (event_word_is_word (kind event.what), are_words network event.what n of_network h.what)
 
 pub reads_back : ReadsBack
 unfolding event_read

@@ -29,7 +29,8 @@ AreWords (w ∷ ws) = IsWord w × AreWords ws
 
 pub words_joined : (w : List ℕ) (ws : Words) → IsWord w → AreWords ws → words (join_with_byte space (w ∷ ws)) ≡ w ∷ ws
 words_joined w [] h hs = slice_split_none is_space w h
-words_joined w (v ∷ vs) h hs = slice_split_at is_space w space (join_with_byte space (v ∷ vs)) h refl ∙ ap (λ (rest : Words). w ∷ rest) (words_joined v vs hs.0 hs.1)
+words_joined w (v ∷ vs) h hs =
+    slice_split_at is_space w space (join_with_byte space (v ∷ vs)) h refl ∙ ap (λ (rest : Words). w ∷ rest) (words_joined v vs hs.0 hs.1)
 
 abbrev pub no_space : List ℕ → Bool
 no_space text = list_all (λ c. not (is_space c)) text
@@ -39,7 +40,9 @@ not_true true h = absurd (cc h)
 not_true false h = refl
 
 pub word_from_test : (text : List ℕ) → no_space text ≡ true → IsWord text
-word_from_test text h = All-weaker (λ c. not (is_space c) ≡ true) (λ c. is_space c ≡ false) (λ c q. not_true (is_space c) q) text (AllPass-from_list_all (λ c. not (is_space c)) text h)
+word_from_test text h =
+    All-weaker (λ c. not (is_space c) ≡ true) (λ c. is_space c ≡ false) (λ c q. not_true (is_space c) q) text
+    (AllPass-from_list_all (λ c. not (is_space c)) text h)
 
 pub event_word_is_word : (word : EventWord) → IsWord (event_word_text word)
 event_word_is_word Rate = word_from_test (event_word_text Rate) refl
@@ -60,7 +63,8 @@ name_character : (c : ℕ) → is_name_character c ≡ true → is_space c ≡ f
 name_character c h = grind (arith, nat_tests)
 
 pub name_is_word : (text : List ℕ) → IsNameText text → IsWord text
-name_is_word text h = All-weaker (λ c. is_name_character c ≡ true) (λ c. is_space c ≡ false) name_character text (AllPass-from_list_all is_name_character text h.plain)
+name_is_word text h =
+    All-weaker (λ c. is_name_character c ≡ true) (λ c. is_space c ≡ false) name_character text (AllPass-from_list_all is_name_character text h.plain)
 
 digit_character : (c : ℕ) → digit_value c < 10 → is_space c ≡ false
 digit_character c h = grind (arith, nat_tests)

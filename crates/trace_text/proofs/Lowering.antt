@@ -28,7 +28,7 @@ use Rattle.net_plan.specs.declared.tables.Device.{Device}
 use Rattle.net_plan.specs.declared.tables.Link.{Link}
 use Rattle.net_plan.specs.declared.tables.Way.{Way}
 use Rattle.net_plan.specs.declared.tables.Way.TheVariants.{Up, Down}
-use Rattle.trace_text.specs.EventLine.{device_name, link_name}
+use Rattle.net_plan.specs.Belonging.{device_name, link_name}
 use Rattle.trace_text.specs.EventWords.{event_word_text, event_word_spelled, event_words, way_text, way_spelled}
 use Rattle.trace_text.specs.Names.{first_place, device_id, link_id, device_spelled, link_spelled}
 use Rattle.trace_text.specs.Numbers.{number_up_to, units_spelled, latest, rate_spelled, fastest, minus, ppb_of}
@@ -108,7 +108,8 @@ mapped f None y e = absurd (cc e)
 
 -- numbers
 
-number_case : (n : ℕ) (text : List ℕ) (most k : ℕ) (b : Bool) → (bytes_eq text (decimal n) && nat_le n most) ≡ b → cond b (Some n) None ≡ Some k → (k ≡ n) × (text ≡ decimal n) × (n ≤ most)
+number_case : (n : ℕ) (text : List ℕ) (most k : ℕ) (b : Bool) → (bytes_eq text (decimal n) && nat_le n most) ≡ b → cond b (Some n) None ≡ Some k → (k ≡ n)
+    × (text ≡ decimal n) × (n ≤ most)
 number_case n text most k true test e =
     let parts = and_parts (bytes_eq text (decimal n)) (nat_le n most) test in
     (cc e, (bytes_decides text (decimal n)).0 parts.0, grind (arith, nat_tests, parts.1))
@@ -155,16 +156,20 @@ rate_spells (first ∷ rest) r e = rate_case first rest r (first == 45) refl e
 
 pub rate_forth : (ws : Words) (r : Ppb) (left : Words) → rate ws ≡ Ok (r, left) → lower_words ws ≡ signed_decimal r.0 ∷ lower_words left
 unfolding rate
-rate_forth ws r left e = word_forth (λ text. ok_or (rate_spelled text) Number) (λ p. signed_decimal p.0) (λ text p q. rate_spells text p (meant (rate_spelled text) Number p q)) ws r left e
+rate_forth ws r left e =
+    word_forth (λ text. ok_or (rate_spelled text) Number) (λ p. signed_decimal p.0) (λ text p q. rate_spells text p (meant (rate_spelled text) Number p q)) ws r
+    left e
 
 -- names
 
-place_case : (text name : List ℕ) (names : List (List ℕ)) (s i : ℕ) (b : Bool) → bytes_eq text name ≡ b → cond b (Some s) (position_from (bytes_eq text) (s + 1) names) ≡ Some i
+place_case : (text name : List ℕ) (names : List (List ℕ)) (s i : ℕ) (b : Bool) → bytes_eq text name ≡ b
+    → cond b (Some s) (position_from (bytes_eq text) (s + 1) names) ≡ Some i
     → ((i ≡ s) × (text ≡ name)) ⊎ (position_from (bytes_eq text) (s + 1) names ≡ Some i)
 place_case text name names s i true test e = inl (cc e, (bytes_decides text name).0 test)
 place_case text name names s i false test e = inr e
 
-found_at : (s : ℕ) (names : List (List ℕ)) (text : List ℕ) (i : ℕ) → position_from (bytes_eq text) s names ≡ Some i → (k : ℕ) × (i ≡ s + k) × (slice_get names k ≡ Some text)
+found_at : (s : ℕ) (names : List (List ℕ)) (text : List ℕ) (i : ℕ) → position_from (bytes_eq text) s names ≡ Some i → (k : ℕ) × (i ≡ s + k)
+    × (slice_get names k ≡ Some text)
 found_at s [] text i e = absurd (cc e)
 found_at s (name ∷ names) text i e =
     elim (place_case text name names s i (bytes_eq text name) refl e) [
@@ -178,29 +183,38 @@ place_bears names text i e =
     let same : f.0 ≡ i = omega (arith, f.1) in
     subst (λ (k : ℕ). slice_get names k ≡ Some text) same f.2
 
-device_spells : (network : Network) → IsInRange network → (text : List ℕ) (d : DeviceId) → device_spelled network text ≡ Some d → device_name network d ≡ lower text
+device_spells : (network : Network) → IsInRange network → (text : List ℕ) (d : DeviceId) → device_spelled network text ≡ Some d
+    → device_name network d ≡ lower text
 unfolding device_spelled
 device_spells network n text d e =
-    let m = mapped device_id (first_place (device_names network) text) d e in
-    let b = behind (λ (x : Device). x.name) network.device m.0 text (place_bears (device_names network) text m.0 m.1) in
+    let m = mapped device_id (first_place (device_names network.device) text) d e in
+    let b = behind (λ (x : Device). x.name) network.device m.0 text (place_bears (device_names network.device) text m.0 m.1) in
     let name : IsNameText b.0.name = (in_list IsDeviceInRange network.device m.0 b.0 b.1 n.devices).name in
-    ap (device_name network) (sym m.2) ∙ ap (λ (o : Option Device). option_map_or (λ (x : Device). x.name) o []) b.1 ∙ sym (name_is_lower b.0.name name) ∙ ap lower b.2
+    ap (device_name network) (sym m.2) ∙ ap (λ (o : Option Device). option_map_or (λ (x : Device). x.name) o []) b.1 ∙ sym (name_is_lower b.0.name name)
+    ∙ ap lower b.2
 
-pub device_forth : (network : Network) → IsInRange network → (ws : Words) (d : DeviceId) (left : Words) → device network ws ≡ Ok (d, left) → lower_words ws ≡ device_name network d ∷ lower_words left
+pub device_forth : (network : Network) → IsInRange network → (ws : Words) (d : DeviceId) (left : Words) → device network ws ≡ Ok (d, left)
+    → lower_words ws ≡ device_name network d ∷ lower_words left
 unfolding device
-device_forth network n ws d left e = word_forth (λ text. ok_or (device_spelled network text) Name) (device_name network) (λ text x q. device_spells network n text x (meant (device_spelled network text) Name x q)) ws d left e
+device_forth network n ws d left e =
+    word_forth (λ text. ok_or (device_spelled network text) Name) (device_name network)
+    (λ text x q. device_spells network n text x (meant (device_spelled network text) Name x q)) ws d left e
 
 link_spells : (network : Network) → IsInRange network → (text : List ℕ) (l : LinkId) → link_spelled network text ≡ Some l → link_name network l ≡ lower text
 unfolding link_spelled
 link_spells network n text l e =
-    let m = mapped link_id (first_place (link_names network) text) l e in
-    let b = behind (λ (x : Link). x.name) network.link m.0 text (place_bears (link_names network) text m.0 m.1) in
+    let m = mapped link_id (first_place (link_names network.link) text) l e in
+    let b = behind (λ (x : Link). x.name) network.link m.0 text (place_bears (link_names network.link) text m.0 m.1) in
     let name : IsNameText b.0.name = (in_list (IsLinkInRange network) network.link m.0 b.0 b.1 n.links).name in
-    ap (link_name network) (sym m.2) ∙ ap (λ (o : Option Link). option_map_or (λ (x : Link). x.name) o []) b.1 ∙ sym (name_is_lower b.0.name name) ∙ ap lower b.2
+    ap (link_name network) (sym m.2) ∙ ap (λ (o : Option Link). option_map_or (λ (x : Link). x.name) o []) b.1 ∙ sym (name_is_lower b.0.name name)
+    ∙ ap lower b.2
 
-pub link_forth : (network : Network) → IsInRange network → (ws : Words) (l : LinkId) (left : Words) → link network ws ≡ Ok (l, left) → lower_words ws ≡ link_name network l ∷ lower_words left
+pub link_forth : (network : Network) → IsInRange network → (ws : Words) (l : LinkId) (left : Words) → link network ws ≡ Ok (l, left)
+    → lower_words ws ≡ link_name network l ∷ lower_words left
 unfolding link
-link_forth network n ws l left e = word_forth (λ text. ok_or (link_spelled network text) Name) (link_name network) (λ text x q. link_spells network n text x (meant (link_spelled network text) Name x q)) ws l left e
+link_forth network n ws l left e =
+    word_forth (λ text. ok_or (link_spelled network text) Name) (link_name network)
+    (λ text x q. link_spells network n text x (meant (link_spelled network text) Name x q)) ws l left e
 
 -- the words of ways and events
 
@@ -228,7 +242,8 @@ way_spells text w e =
 
 pub way_forth : (ws : Words) (w : Way) (left : Words) → way ws ≡ Ok (w, left) → lower_words ws ≡ way_text w ∷ lower_words left
 unfolding way
-way_forth ws w left e = word_forth (λ text. ok_or (way_spelled text) Form) way_text (λ text x q. way_spells text x (meant (way_spelled text) Form x q)) ws w left e
+way_forth ws w left e =
+    word_forth (λ text. ok_or (way_spelled text) Form) way_text (λ text x q. way_spells text x (meant (way_spelled text) Form x q)) ws w left e
 
 event_word_is_lower : (w : EventWord) → IsLower (event_word_text w)
 event_word_is_lower Rate = refl
@@ -244,12 +259,15 @@ event_word_is_lower End = refl
 event_word_spells : (text : List ℕ) (w : EventWord) → event_word_spelled text ≡ Some w → event_word_text w ≡ lower text
 unfolding event_word_spelled
 event_word_spells text w e =
-    let same : event_word_text w ≡ text = (bytes_decides (event_word_text w) text).0 (found_passes (λ (v : EventWord). bytes_eq (event_word_text v) text) event_words w e) in
+    let same : event_word_text w ≡ text = (bytes_decides (event_word_text w) text).0
+    (found_passes (λ (v : EventWord). bytes_eq (event_word_text v) text) event_words w e) in
     sym (event_word_is_lower w) ∙ ap lower same
 
 pub event_word_forth : (ws : Words) (w : EventWord) (left : Words) → event_word ws ≡ Ok (w, left) → lower_words ws ≡ event_word_text w ∷ lower_words left
 unfolding event_word
-event_word_forth ws w left e = word_forth (λ text. ok_or (event_word_spelled text) Form) event_word_text (λ text x q. event_word_spells text x (meant (event_word_spelled text) Form x q)) ws w left e
+event_word_forth ws w left e =
+    word_forth (λ text. ok_or (event_word_spelled text) Form) event_word_text (λ text x q. event_word_spells text x (meant (event_word_spelled text) Form x q))
+    ws w left e
 
 -- the octets of a frame
 
@@ -288,7 +306,8 @@ hex_bound : {A B : Type 0} (r : Result A FromHexError) (f : A → Result B FromH
 hex_bound (Ok x) f y h = (x, refl, h)
 hex_bound (Err e) f y h = absurd (cc h)
 
-pair_spells : (high low i byte : ℕ) → pair_value high low i ≡ Ok byte → (slice_index lower_digits (byte / 16) ≡ to_ascii_lowercase high) × (slice_index lower_digits (byte % 16) ≡ to_ascii_lowercase low)
+pair_spells : (high low i byte : ℕ) → pair_value high low i ≡ Ok byte → (slice_index lower_digits (byte / 16) ≡ to_ascii_lowercase high)
+    × (slice_index lower_digits (byte % 16) ≡ to_ascii_lowercase low)
 pair_spells high low i byte e =
     let h = hex_bound (value_at high i) _ byte e in
     let l = hex_bound (value_at low (i + 1)) _ byte h.2 in

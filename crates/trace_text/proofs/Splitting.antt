@@ -12,7 +12,8 @@ use Rattle.trace_text.specs.Steps.{is_space, words}
 abbrev PartedAt : (ℕ → Bool) → List ℕ → Option ℕ → Type 0
 PartedAt p xs found = MatchOption found (slice_split p xs ≡ xs ∷ []) (λ i. slice_split p xs ≡ take i xs ∷ slice_split p (drop (i + 1) xs))
 
-parted_case : (p : ℕ → Bool) (xs : List ℕ) (b : Bool) → nat_lt (position_or_len p xs) (length xs) ≡ b → PartedAt p xs (cond b (Some (position_or_len p xs)) None)
+parted_case : (p : ℕ → Bool) (xs : List ℕ) (b : Bool) → nat_lt (position_or_len p xs) (length xs) ≡ b
+    → PartedAt p xs (cond b (Some (position_or_len p xs)) None)
 parted_case p xs true e = slice_split_first p xs 0 (grind (arith, nat_tests))
 parted_case p xs false e =
     let none : length xs ≤ position_or_len p xs = grind (arith, nat_tests) in

@@ -15,7 +15,8 @@ use Rattle.net_plan.specs.declared.ids.DeviceId.{DeviceId}
 use Rattle.net_plan.specs.declared.ids.LinkId.{LinkId}
 use Rattle.net_plan.specs.declared.network.Network.{Network}
 use Rattle.net_plan.specs.declared.tables.Way.{Way}
-use Rattle.trace_text.specs.EventLine.{device_name, link_name, what_words}
+use Rattle.net_plan.specs.Belonging.{device_name, link_name}
+use Rattle.trace_text.specs.EventLine.{what_words}
 use Rattle.trace_text.specs.EventReading.{what_behind, event_reader, event_read}
 use Rattle.trace_text.specs.EventWords.{event_word_text, way_text}
 use Rattle.trace_text.specs.Laws.{PrintsBack}
@@ -49,28 +50,36 @@ abbrev Spelled : Network → EventWord → Words → What → Words → Type 0
 Spelled network word ws what left = event_word_text word ∷ lower_words ws ≡ what_words network what ++ lower_words left
 
 -- one name
-device_spelled_forth : (network : Network) (word : EventWord) (make : DeviceId → What) → ((d : DeviceId) → what_words network (make d) ≡ event_word_text word ∷ device_name network d ∷ [])
-    → IsInRange network → (ws : Words) (what : What) (left : Words) → and_then (device network ws) (λ d. give (make d)) ≡ Ok (what, left) → Spelled network word ws what left
+device_spelled_forth : (network : Network) (word : EventWord) (make : DeviceId → What)
+    → ((d : DeviceId) → what_words network (make d) ≡ event_word_text word ∷ device_name network d ∷ [])
+    → IsInRange network → (ws : Words) (what : What) (left : Words) → and_then (device network ws) (λ d. give (make d)) ≡ Ok (what, left)
+    → Spelled network word ws what left
 device_spelled_forth network word make spells n ws what left e =
     let s = steps (device network ws) (λ d. give (make d)) what left e in
     let g = given (make s.x) what s.between left s.behind in
-    ap (λ (t : Words). event_word_text word ∷ t) (device_forth network n ws s.x s.between s.first ∙ ap (λ (t : Words). device_name network s.x ∷ lower_words t) g.1)
+    ap (λ (t : Words). event_word_text word ∷ t) (device_forth network n ws s.x s.between s.first ∙ ap (λ (t : Words). device_name network s.x ∷ lower_words t)
+    g.1)
     ∙ ap (λ (t : Words). t ++ lower_words left) (sym (spells s.x) ∙ ap (what_words network) g.0)
 
 -- a name and a way
-way_spelled_forth : (network : Network) (word : EventWord) (make : LinkId → Way → What) → ((l : LinkId) (w : Way) → what_words network (make l w) ≡ event_word_text word ∷ link_name network l ∷ way_text w ∷ [])
-    → IsInRange network → (ws : Words) (what : What) (left : Words) → and_then (link network ws) (λ l. way >>= λ w. give (make l w)) ≡ Ok (what, left) → Spelled network word ws what left
+way_spelled_forth : (network : Network) (word : EventWord) (make : LinkId → Way → What)
+    → ((l : LinkId) (w : Way) → what_words network (make l w) ≡ event_word_text word ∷ link_name network l ∷ way_text w ∷ [])
+    → IsInRange network → (ws : Words) (what : What) (left : Words) → and_then (link network ws) (λ l. way >>= λ w. give (make l w)) ≡ Ok (what, left)
+    → Spelled network word ws what left
 way_spelled_forth network word make spells n ws what left e =
     let s = steps (link network ws) (λ l. way >>= λ w. give (make l w)) what left e in
     let t = steps (way s.between) (λ w. give (make s.x w)) what left s.behind in
     let g = given (make s.x t.x) what t.between left t.behind in
     ap (λ (ws : Words). event_word_text word ∷ ws)
-    (link_forth network n ws s.x s.between s.first ∙ ap (λ (ws : Words). link_name network s.x ∷ ws) (way_forth s.between t.x t.between t.first ∙ ap (λ (ws : Words). way_text t.x ∷ lower_words ws) g.1))
+    (link_forth network n ws s.x s.between s.first ∙ ap (λ (ws : Words). link_name network s.x ∷ ws) (way_forth s.between t.x t.between t.first
+    ∙ ap (λ (ws : Words). way_text t.x ∷ lower_words ws) g.1))
     ∙ ap (λ (ws : Words). ws ++ lower_words left) (sym (spells s.x t.x) ∙ ap (what_words network) g.0)
 
 -- a name, a way and a time
-delay_spelled_forth : (network : Network) (word : EventWord) (make : LinkId → Way → Units → What) → ((l : LinkId) (w : Way) (u : Units) → what_words network (make l w u) ≡ event_word_text word ∷ link_name network l ∷ way_text w ∷ signed_decimal u.0 ∷ [])
-    → IsInRange network → (ws : Words) (what : What) (left : Words) → and_then (link network ws) (λ l. way >>= λ w. units >>= λ u. give (make l w u)) ≡ Ok (what, left) → Spelled network word ws what left
+delay_spelled_forth : (network : Network) (word : EventWord) (make : LinkId → Way → Units → What)
+    → ((l : LinkId) (w : Way) (u : Units) → what_words network (make l w u) ≡ event_word_text word ∷ link_name network l ∷ way_text w ∷ signed_decimal u.0 ∷ [])
+    → IsInRange network → (ws : Words) (what : What) (left : Words) → and_then (link network ws) (λ l. way >>= λ w. units >>= λ u. give (make l w u)) ≡ Ok
+    (what, left) → Spelled network word ws what left
 delay_spelled_forth network word make spells n ws what left e =
     let s = steps (link network ws) (λ l. way >>= λ w. units >>= λ u. give (make l w u)) what left e in
     let t = steps (way s.between) (λ w. units >>= λ u. give (make s.x w u)) what left s.behind in
@@ -79,17 +88,20 @@ delay_spelled_forth network word make spells n ws what left e =
     ap (λ (ws : Words). event_word_text word ∷ ws)
     (link_forth network n ws s.x s.between s.first
     ∙ ap (λ (ws : Words). link_name network s.x ∷ ws)
-    (way_forth s.between t.x t.between t.first ∙ ap (λ (ws : Words). way_text t.x ∷ ws) (units_forth t.between v.x v.between v.first ∙ ap (λ (ws : Words). signed_decimal v.x.0 ∷ lower_words ws) g.1)))
+    (way_forth s.between t.x t.between t.first ∙ ap (λ (ws : Words). way_text t.x ∷ ws) (units_forth t.between v.x v.between v.first
+    ∙ ap (λ (ws : Words). signed_decimal v.x.0 ∷ lower_words ws) g.1)))
     ∙ ap (λ (ws : Words). ws ++ lower_words left) (sym (spells s.x t.x v.x) ∙ ap (what_words network) g.0)
 
-what_forth : (network : Network) → IsInRange network → (word : EventWord) (ws : Words) (what : What) (left : Words) → what_behind network word ws ≡ Ok (what, left) → Spelled network word ws what left
+what_forth : (network : Network) → IsInRange network → (word : EventWord) (ws : Words) (what : What) (left : Words)
+    → what_behind network word ws ≡ Ok (what, left) → Spelled network word ws what left
 unfolding what_behind
 what_forth network n Rate ws what left e =
     let s = steps (device network ws) (λ d. rate >>= λ r. give (events.Rate d r)) what left e in
     let t = steps (rate s.between) (λ r. give (events.Rate s.x r)) what left s.behind in
     let g = given (events.Rate s.x t.x) what t.between left t.behind in
     ap (λ (ws : Words). event_word_text Rate ∷ ws)
-    (device_forth network n ws s.x s.between s.first ∙ ap (λ (ws : Words). device_name network s.x ∷ ws) (rate_forth s.between t.x t.between t.first ∙ ap (λ (ws : Words). signed_decimal t.x.0 ∷ lower_words ws) g.1))
+    (device_forth network n ws s.x s.between s.first ∙ ap (λ (ws : Words). device_name network s.x ∷ ws) (rate_forth s.between t.x t.between t.first
+    ∙ ap (λ (ws : Words). signed_decimal t.x.0 ∷ lower_words ws) g.1))
     ∙ ap (λ (x : What). what_words network x ++ lower_words left) g.0
 what_forth network n Wire ws what left e = delay_spelled_forth network Wire events.Wire (λ l w u. refl) n ws what left e
 what_forth network n Hold ws what left e = delay_spelled_forth network Hold events.Hold (λ l w u. refl) n ws what left e
@@ -102,7 +114,8 @@ what_forth network n Send ws what left e =
     let t = steps (octets s.between) (λ o. give (events.Send s.x o)) what left s.behind in
     let g = given (events.Send s.x t.x) what t.between left t.behind in
     ap (λ (ws : Words). event_word_text Send ∷ ws)
-    (link_forth network n ws s.x s.between s.first ∙ ap (λ (ws : Words). link_name network s.x ∷ ws) (octets_forth s.between t.x t.between t.first ∙ ap (λ (ws : Words). encode_lower t.x ∷ lower_words ws) g.1))
+    (link_forth network n ws s.x s.between s.first ∙ ap (λ (ws : Words). link_name network s.x ∷ ws) (octets_forth s.between t.x t.between t.first
+    ∙ ap (λ (ws : Words). encode_lower t.x ∷ lower_words ws) g.1))
     ∙ ap (λ (x : What). what_words network x ++ lower_words left) g.0
 what_forth network n End ws what left e =
     let g = given events.End what ws left e in
@@ -117,10 +130,12 @@ ended (w ∷ ws) u left e = absurd (cc e)
 abbrev event_made : Units → What → Event
 event_made time what = record { time = time; what = what }
 
-event_forth : (network : Network) → IsInRange network → (ws : Words) (event : Event) (left : Words) → event_reader network ws ≡ Ok (event, left) → lower_words ws ≡ signed_decimal event.time.0 ∷ what_words network event.what
+event_forth : (network : Network) → IsInRange network → (ws : Words) (event : Event) (left : Words) → event_reader network ws ≡ Ok (event, left)
+    → lower_words ws ≡ signed_decimal event.time.0 ∷ what_words network event.what
 unfolding event_reader
 event_forth network n ws event left e =
-    let s = steps (units ws) (λ time. event_word >>= λ word. what_behind network word >>= λ what. line_end >>= λ end. give (event_made time what)) event left e in
+    let s = steps (units ws) (λ time. event_word >>= λ word. what_behind network word >>= λ what. line_end >>= λ end. give (event_made time what)) event left e
+    in
     let t = steps (event_word s.between) (λ word. what_behind network word >>= λ what. line_end >>= λ end. give (event_made s.x what)) event left s.behind in
     let v = steps (what_behind network t.x t.between) (λ what. line_end >>= λ end. give (event_made s.x what)) event left t.behind in
     let z = steps (line_end v.between) (λ end. give (event_made s.x v.x)) event left v.behind in
@@ -129,13 +144,15 @@ event_forth network n ws event left e =
     let time = signed_decimal s.x.0 in
     let what = what_words network v.x in
     units_forth ws s.x s.between s.first
-    ∙ ap (λ (ws : Words). time ∷ ws) (event_word_forth s.between t.x t.between t.first ∙ what_forth network n t.x t.between v.x v.between v.first ∙ ap (λ (ws : Words). what ++ lower_words ws) none ∙ append-nil what)
+    ∙ ap (λ (ws : Words). time ∷ ws) (event_word_forth s.between t.x t.between t.first ∙ what_forth network n t.x t.between v.x v.between v.first
+    ∙ ap (λ (ws : Words). what ++ lower_words ws) none ∙ append-nil what)
     ∙ ap (λ (x : Event). signed_decimal x.time.0 ∷ what_words network x.what) g.0
 
 lower_joined : (ws : Words) → lower (join_with_byte space ws) ≡ join_with_byte space (lower_words ws)
 lower_joined [] = refl
 lower_joined (w ∷ []) = refl
-lower_joined (w ∷ v ∷ vs) = map-append to_ascii_lowercase w (space ∷ join_with_byte space (v ∷ vs)) ∙ ap (λ (t : List ℕ). lower w ++ space ∷ t) (lower_joined (v ∷ vs))
+lower_joined (w ∷ v ∷ vs) =
+    map-append to_ascii_lowercase w (space ∷ join_with_byte space (v ∷ vs)) ∙ ap (λ (t : List ℕ). lower w ++ space ∷ t) (lower_joined (v ∷ vs))
 
 read_case : (r : Read (Event × Words)) (event : Event) → outcome r ≡ Ok event → (left : Words) × (r ≡ Ok (event, left))
 read_case (Ok step) event e = (step.1, ap (λ (x : Event). Ok (x, step.1)) (ap (λ (r : Read Event). result_unwrap_or r step.0) e))

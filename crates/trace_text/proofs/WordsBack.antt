@@ -22,11 +22,11 @@ use Rattle.net_plan.specs.declared.tables.Device.{Device}
 use Rattle.net_plan.specs.declared.tables.Link.{Link}
 use Rattle.net_plan.specs.declared.tables.Way.{Way}
 use Rattle.net_plan.specs.declared.tables.Way.TheVariants.{Up, Down}
-use Rattle.trace_text.specs.EventLine.{device_name, link_name}
+use Rattle.net_plan.specs.Belonging.{device_name, link_name, HasDevice, HasLink}
 use Rattle.trace_text.specs.EventWords.{event_word_text, event_word_spelled, way_text, way_spelled}
 use Rattle.trace_text.specs.Names.{device_spelled, link_spelled, device_id, link_id}
 use Rattle.trace_text.specs.Numbers.{latest, fastest, number_up_to, units_spelled, rate_spelled, minus, ppb_of}
-use Rattle.trace_text.specs.Ranges.{HasDevice, HasLink, IsTime, IsRate, IsFrame}
+use Rattle.trace_text.specs.Ranges.{IsTime, IsRate, IsFrame}
 use Rattle.trace_text.specs.Steps.{Read, Words, with_rest}
 use Rattle.trace_text.specs.WordReading.{event_word, units, rate, device, link, way, octets, octets_spelled, frame_of}
 use Rattle.trace_text.specs.declared.event_word.EventWord.{EventWord}
@@ -78,7 +78,8 @@ minus_some n =
 rate_read : (z : ℤ) → neg_ℤ (pos fastest) ≤ℤ z → z ≤ℤ pos fastest → rate_spelled (signed_decimal z) ≡ Some (ppb_of z)
 rate_read (pos n) least most =
     let numeral = (decimal_is_IsNumeral n (omega (arith, ints, most))).0 in
-    rate_of_digits (decimal n) numeral.1 numeral.0 ∙ ap (option_map (λ m. ppb_of (pos m))) (number_of_decimal fastest n (omega arith) (omega (arith, ints, most)))
+    rate_of_digits (decimal n) numeral.1 numeral.0
+    ∙ ap (option_map (λ m. ppb_of (pos m))) (number_of_decimal fastest n (omega arith) (omega (arith, ints, most)))
 rate_read (negsuc n) least most = ap (option_and_then minus) (number_of_decimal fastest (suc n) (omega arith) (omega (arith, ints, least))) ∙ minus_some n
 
 pub rate_back : (r : Ppb) (left : Words) → IsRate r → rate (signed_decimal r.0 ∷ left) ≡ Ok (r, left)
@@ -104,7 +105,8 @@ first_bearer f xs i x here new = record {
   first = λ k lt e. let b = behind f xs k (f x) e in new k b.0 x lt b.1 here (sym b.2);
 }
 
-pub device_read : (network : Network) (d : DeviceId) → ((i : ℕ) → DeviceIsNew network i) → HasDevice network d → device_spelled network (device_name network d) ≡ Some d
+pub device_read : (network : Network) (d : DeviceId) → ((i : ℕ) → DeviceIsNew network i) → HasDevice network d
+    → device_spelled network (device_name network d) ≡ Some d
 unfolding device_spelled
 device_read network d new of_network =
     let f = λ (x : Device). x.name in
@@ -112,7 +114,8 @@ device_read network d new of_network =
     let first = first_bearer f network.device d.0 at.0 at.1 (λ k earlier thing lt e here. (new d.0 k earlier thing lt e here).0) in
     rw at.1 (ap (option_map device_id) (place_found (map f network.device) at.0.name d.0 first))
 
-pub device_back : (network : Network) (d : DeviceId) (left : Words) → ((i : ℕ) → DeviceIsNew network i) → HasDevice network d → device network (device_name network d ∷ left) ≡ Ok (d, left)
+pub device_back : (network : Network) (d : DeviceId) (left : Words) → ((i : ℕ) → DeviceIsNew network i) → HasDevice network d
+    → device network (device_name network d ∷ left) ≡ Ok (d, left)
 unfolding device
 device_back network d left new of_network = ap (λ (o : Option DeviceId). with_rest left (ok_or o Name)) (device_read network d new of_network)
 
@@ -124,7 +127,8 @@ link_read network l new of_network =
     let first = first_bearer f network.link l.0 at.0 at.1 (λ k earlier thing lt e here. new l.0 k earlier thing lt e here) in
     rw at.1 (ap (option_map link_id) (place_found (map f network.link) at.0.name l.0 first))
 
-pub link_back : (network : Network) (l : LinkId) (left : Words) → ((i : ℕ) → LinkIsNew network i) → HasLink network l → link network (link_name network l ∷ left) ≡ Ok (l, left)
+pub link_back : (network : Network) (l : LinkId) (left : Words) → ((i : ℕ) → LinkIsNew network i) → HasLink network l
+    → link network (link_name network l ∷ left) ≡ Ok (l, left)
 unfolding link
 link_back network l left new of_network = ap (λ (o : Option LinkId). with_rest left (ok_or o Name)) (link_read network l new of_network)
 

@@ -14,20 +14,15 @@ use Rattle.net_plan.specs.declared.network.Network.{Network}
 use Rattle.trace_text.specs.EventWords.{event_word_text, way_text}
 use Rattle.trace_text.specs.Steps.{Words, space}
 use Rattle.trace_text.specs.declared.event_word.EventWord.TheVariants.{Rate, Wire, Hold, Cut, Heal, On, Break, Send, End}
-
--- the name of a device of the network
-abbrev pub device_name : Network → DeviceId → List ℕ
-device_name network device = option_map_or (λ d. d.name) (device_at network device) []
-
--- the name of a link of the network
-abbrev pub link_name : Network → LinkId → List ℕ
-link_name network link = option_map_or (λ l. l.name) (link_at network link) []
+use Rattle.net_plan.specs.Belonging.{device_name, link_name}
 
 -- the words of an event behind its time
 abbrev pub what_words : Network → What → Words
 what_words network (events.Rate d r) = event_word_text Rate ∷ device_name network d ∷ signed_decimal r.0 ∷ []
-what_words network (events.Wire l w u) = event_word_text Wire ∷ link_name network l ∷ way_text w ∷ signed_decimal u.0 ∷ []
-what_words network (events.Hold l w u) = event_word_text Hold ∷ link_name network l ∷ way_text w ∷ signed_decimal u.0 ∷ []
+what_words network (events.Wire l w u) =
+    event_word_text Wire ∷ link_name network l ∷ way_text w ∷ signed_decimal u.0 ∷ []
+what_words network (events.Hold l w u) =
+    event_word_text Hold ∷ link_name network l ∷ way_text w ∷ signed_decimal u.0 ∷ []
 what_words network (events.Cut l w) = event_word_text Cut ∷ link_name network l ∷ way_text w ∷ []
 what_words network (events.Heal l w) = event_word_text Heal ∷ link_name network l ∷ way_text w ∷ []
 what_words network (events.On d) = event_word_text On ∷ device_name network d ∷ []

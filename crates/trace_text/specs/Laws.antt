@@ -6,7 +6,8 @@ use Rattle.net_plan.specs.declared.event.Event.{Event}
 use Rattle.net_plan.specs.declared.network.Network.{Network}
 use Rattle.trace_text.specs.EventLine.{event_text}
 use Rattle.trace_text.specs.EventReading.{event_read}
-use Rattle.trace_text.specs.Ranges.{IsOfNetwork, IsEventInRange}
+use Rattle.net_plan.specs.Belonging.{IsOfNetwork}
+use Rattle.trace_text.specs.Ranges.{IsEventInRange}
 
 -- where no two devices and no two links have one name, the text of an event reads back as that event
 abbrev pub ReadsBack : Type 0

@@ -21,8 +21,8 @@ link_id i = record { 0 = i }
 
 -- the first device of this name
 unfoldable pub device_spelled : Network → List ℕ → Option DeviceId
-device_spelled network text = option_map device_id (first_place (device_names network) text)
+device_spelled network text = option_map device_id (first_place (device_names network.device) text)
 
 -- the first link of this name
 unfoldable pub link_spelled : Network → List ℕ → Option LinkId
-link_spelled network text = option_map link_id (first_place (link_names network) text)
+link_spelled network text = option_map link_id (first_place (link_names network.link) text)

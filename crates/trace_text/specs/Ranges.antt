@@ -12,26 +12,6 @@ use Rattle.trace_text.specs.Numbers.{latest, fastest}
 use Rattle.tte_units.specs.declared.rates.Ppb.{Ppb}
 use Rattle.tte_units.specs.declared.units.Units.{Units}
 
--- the device is one of the network's
-abbrev pub HasDevice : Network → DeviceId → Type 0
-HasDevice network device = device.0 < length network.device
-
--- the link is one of the network's
-abbrev pub HasLink : Network → LinkId → Type 0
-HasLink network link = link.0 < length network.link
-
--- the device and the link of the event are the network's
-abbrev pub IsOfNetwork : Network → What → Type 0
-IsOfNetwork network (Rate device rate) = HasDevice network device
-IsOfNetwork network (Wire link way delay) = HasLink network link
-IsOfNetwork network (Hold link way delay) = HasLink network link
-IsOfNetwork network (Cut link way) = HasLink network link
-IsOfNetwork network (Heal link way) = HasLink network link
-IsOfNetwork network (On device) = HasDevice network device
-IsOfNetwork network (Break device) = HasDevice network device
-IsOfNetwork network (Send link octets) = HasLink network link
-IsOfNetwork network End = ⊤
-
 -- a time of a trace, in units
 abbrev pub IsTime : Units → Type 0
 IsTime units = IsWithin 0 latest units

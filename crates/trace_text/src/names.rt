@@ -1,7 +1,7 @@
 ghost use Rattle.std.specs.Prelude.{◌≡◌, IfSome};
 ghost use Rattle.net_plan.specs.Ranges.{IsInRange};
 ghost use Rattle.trace_text.specs.Names.{device_spelled, link_spelled};
-ghost use Rattle.trace_text.specs.Ranges.{HasDevice, HasLink};
+ghost use Rattle.net_plan.specs.Belonging.{HasDevice, HasLink};
 
 use net_plan::{DeviceId, LinkId, Network};
 

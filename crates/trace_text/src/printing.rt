@@ -5,9 +5,9 @@ ghost use Rattle.net_plan.specs.Ranges.{IsInRange};
 ghost use Rattle.tte_io.specs.Faults.{Rose, next_count};
 ghost use Rattle.tte_io.specs.Line.{line_limit};
 ghost use Rattle.tte_io.specs.Told.{AppendsFront};
-ghost use Rattle.trace_text.specs.EventLine.{device_name, link_name, what_text, longest_text, event_line};
+ghost use Rattle.net_plan.specs.Belonging.{device_name, link_name, HasDevice, HasLink, IsOfNetwork};
+ghost use Rattle.trace_text.specs.EventLine.{what_text, longest_text, event_line};
 ghost use Rattle.trace_text.specs.EventWords.{event_word_text, way_text};
-ghost use Rattle.trace_text.specs.Ranges.{HasDevice, HasLink, IsOfNetwork};
 ghost use Rattle.trace_text.specs.Steps.{space};
 
 use crate::event_word::{EventWord, way_text};
@@ -42,24 +42,6 @@ impl EventText {
     }
 }
 
-fn device_name(network: &Network, device: DeviceId) -> &[u8]
-    requires in_range { IsInRange network.now }
-    requires of_network { HasDevice network.now device }
-    ensures text { result.now ≡ device_name network.now device }
-    ensures short { length result.now ≤ 16 }
-{
-    network.device.as_slice()[device.0 as usize].name.as_slice()
-}
-
-fn link_name(network: &Network, link: LinkId) -> &[u8]
-    requires in_range { IsInRange network.now }
-    requires of_network { HasLink network.now link }
-    ensures text { result.now ≡ link_name network.now link }
-    ensures short { length result.now ≤ 16 }
-{
-    network.link.as_slice()[link.0 as usize].name.as_slice()
-}
-
 fn push_number(line: &mut LineText, number: i64)
     requires { length line.old + 21 ≤ line_limit }
     ensures text { line.new ≡ line.old ++ signed_decimal number }
@@ -80,7 +62,7 @@ fn push_of_device(line: &mut LineText, word: EventWord, network: &Network, devic
 {
     line.push(word.text());
     line.push(" ");
-    line.append(device_name(network, device));
+    line.append(network.device_name(device));
 }
 
 fn push_of_link(line: &mut LineText, word: EventWord, network: &Network, link: LinkId)
@@ -92,14 +74,15 @@ fn push_of_link(line: &mut LineText, word: EventWord, network: &Network, link: L
 {
     line.push(word.text());
     line.push(" ");
-    line.append(link_name(network, link));
+    line.append(network.link_name(link));
 }
 
 fn push_of_way(line: &mut LineText, word: EventWord, network: &Network, link: LinkId, way: Way)
     requires in_range { IsInRange network.now }
     requires of_network { HasLink network.now link }
     requires room { length line.old + 27 ≤ line_limit }
-    ensures text { line.new ≡ line.old ++ (event_word_text word ++ space ∷ (link_name network.now link ++ space ∷ way_text way)) }
+    ensures text { line.new ≡ line.old
+        ++ (event_word_text word ++ space ∷ (link_name network.now link ++ space ∷ way_text way)) }
     ensures grows { length line.new ≤ length line.old + 27 }
 {
     push_of_link(line, word, network, link);
@@ -179,7 +162,8 @@ pub fn print<K: Sink>(network: &Network, event: &Event, out: &mut K) -> Result<(
     requires of_network { IsOfNetwork network.now event.now.what }
 
     ensures all { OnOk result (Appends (K.written out.old) (K.written out.new) (event_line network.now event.now)) }
-    ensures front { OnErr result (AppendsFront (K.written out.old) (K.written out.new) (event_line network.now event.now)) }
+    ensures front { OnErr result
+        (AppendsFront (K.written out.old) (K.written out.new) (event_line network.now event.now)) }
     ensures counted { K.puts out.new ≡ next_count (K.puts out.old) }
 
     ensures never_falls { K.faults out.old ≤ K.faults out.new }

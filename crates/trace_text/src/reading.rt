@@ -1,7 +1,8 @@
 ghost use Rattle.std.specs.Prelude.{◌≡◌, IfOk};
 ghost use Rattle.net_plan.specs.Ranges.{IsInRange};
 ghost use Rattle.trace_text.specs.EventReading.{what_behind, what_reader, event_read};
-ghost use Rattle.trace_text.specs.Ranges.{IsOfNetwork, IsWhatInRange, IsEventInRange};
+ghost use Rattle.net_plan.specs.Belonging.{IsOfNetwork};
+ghost use Rattle.trace_text.specs.Ranges.{IsWhatInRange, IsEventInRange};
 ghost use Rattle.trace_text.specs.Steps.{Reads};
 
 use crate::LineRefusal;

@@ -1,6 +1,7 @@
 ghost use Rattle.std.specs.Prelude.{◌≡◌, [], ◌∷◌, ◌<◌, MatchOption, MatchResult, IfOk, IfSome, length, position};
 ghost use Rattle.net_plan.specs.Ranges.{IsInRange};
-ghost use Rattle.trace_text.specs.Ranges.{HasDevice, HasLink, IsTime, IsRate, IsFrame};
+ghost use Rattle.net_plan.specs.Belonging.{HasDevice, HasLink};
+ghost use Rattle.trace_text.specs.Ranges.{IsTime, IsRate, IsFrame};
 ghost use Rattle.trace_text.specs.Steps.{is_space, words, Reads, line_end};
 ghost use Rattle.trace_text.specs.WordReading.{event_word, units, rate, device, link, way, octets};
 ghost use Rattle.trace_text.specs.declared.refusal.LineRefusal.TheVariants.{Form};
@@ -64,7 +65,8 @@ impl<'a> Words<'a> {
     }
 
     fn word(&mut self) -> Result<&'a [u8], LineRefusal>
-        ensures { MatchResult result (λ word. self.old ≡ word.now ∷ self.new) (λ e. (self.old ≡ []) × (self.new ≡ []) × (e ≡ Form)) }
+        ensures { MatchResult result (λ word. self.old ≡ word.now ∷ self.new) (λ e. (self.old ≡ []) × (self.new ≡ [])
+            × (e ≡ Form)) }
     {
         match self.next_word() {
             Some(word) => Ok(word),

@@ -23,7 +23,18 @@ rest : (P : Hop → Type 0) (h : Hop) (hops : List Hop) → All P (h ∷ hops) �
 rest P h hops all k d lt = all (suc k) d (omega arith)
 
 totals : (rho e : ℕ) (hops : List Hop) → All (IsHop rho e) hops → Totals rho e (length hops) hops
-totals rho e [] all = record { hold = 0; measured = 0; wire = 0; delay = 0; takes = refl; grows = refl; low = omega arith; high = omega arith; least = omega arith; most = omega arith }
+totals rho e [] all = record {
+  hold = 0;
+  measured = 0;
+  wire = 0;
+  delay = 0;
+  takes = refl;
+  grows = refl;
+  low = omega arith;
+  high = omega arith;
+  least = omega arith;
+  most = omega arith;
+}
 totals rho e (x ∷ hops) all =
     let t = totals rho e hops (rest (IsHop rho e) x hops all) in
     let q : IsHop rho e x = all 0 x (omega arith) in
@@ -61,5 +72,7 @@ close rho e n dmax a x h m w d j small one few low high least most from to below
 pub permanent_in_time : PermanentInTime
 permanent_in_time rho e dmax s t q a hops small one few all enough arrives after waits =
     let sums = totals rho e hops all in
-    let r = close rho e (length hops) dmax a (q - t) sums.hold sums.measured sums.wire sums.delay (sum_by (λ h. h.jitter) hops) small one few sums.low sums.high sums.least sums.most (omega (arith, waits.least, sums.grows)) (omega (arith, waits.most, sums.grows)) (omega (arith, waits.measures)) (omega (arith, waits.measures)) in
+    let r = close rho e (length hops) dmax a (q - t) sums.hold sums.measured sums.wire sums.delay (sum_by (λ h. h.jitter) hops) small one few sums.low sums.high
+    sums.least sums.most (omega (arith, waits.least, sums.grows)) (omega (arith, waits.most, sums.grows)) (omega (arith, waits.measures))
+    (omega (arith, waits.measures)) in
     omega (arith, r.0, r.1, sums.takes)

@@ -12,7 +12,8 @@ pub record Hop : Type 0 where
   pub jitter : ℕ
   pub delay : ℕ
 
--- the hold is measured but for rho and a rounding of e at each end, and the delay is that of the wire but for its jitter
+-- the hold is measured but for rho and a rounding of e at each end, and the delay is that of the wire but for its
+-- jitter
 pub record IsHop (rho e : ℕ) (h : Hop) : Type 0 where
   pub measures : Measures rho e h.hold h.measured
   pub least : h.wire ≤ h.delay
@@ -30,6 +31,10 @@ growth hops = sum_by (λ h. h.measured + h.wire) hops
 abbrev pub path_error : ℕ → ℕ → ℕ → List Hop → ℕ
 path_error rho e dmax hops = sum_by (λ h. h.jitter) hops + 4 * rho * dmax / 10 ^ 9 + 8 * e * (length hops + 2)
 
--- a frame that is given at s with clock 0, arrives at t over at most eight hops and is permanent at q, is so dmax after s, up to the path error
+-- a frame that is given at s with clock 0, arrives at t over at most eight hops and is permanent at q, is so dmax after
+-- s, up to the path error
 abbrev pub PermanentInTime : Type 0
-PermanentInTime = (rho e dmax s t q a : ℕ) (hops : List Hop) → rho ≤ 1000000 → 1 ≤ e → length hops ≤ 8 → All (IsHop rho e) hops → growth hops ≤ dmax → t ≡ s + travel hops → t ≤ q → Waits rho e (dmax - growth hops) (q - t) a → abs_diff q (s + dmax) ≤ path_error rho e dmax hops
+PermanentInTime =
+    (rho e dmax s t q a : ℕ) (hops : List Hop) → rho ≤ 1000000 → 1 ≤ e → length hops ≤ 8 → All (IsHop rho e) hops
+    → growth hops ≤ dmax → t ≡ s + travel hops → t ≤ q → Waits rho e (dmax - growth hops) (q - t) a
+    → abs_diff q (s + dmax) ≤ path_error rho e dmax hops

@@ -7,7 +7,8 @@ use Rattle.drift_clock.specs.Reach.{IsReach}
 abbrev pub point_of : ℤ → ℕ → ℤ → ℤ
 point_of reading clock dmax = reading +ℤ (dmax -ℤ pos clock)
 
--- a frame that arrives at t with this clock is permanent at q: the first time at which the reading is at least its point
+-- a frame that arrives at t with this clock is permanent at q: the first time at which the reading is at least its
+-- point
 abbrev pub IsPermanent : (ℕ → ℕ) → ℕ → ℕ → ℕ → ℕ → Type 0
 IsPermanent reading dmax clock t q = IsReach reading (pos t) (point_of (pos (reading t)) clock (pos dmax)) (pos q)
 
@@ -19,4 +20,6 @@ pub record Waits (rho e lacking wait advance : ℕ) : Type 0 where
 
 -- by a clock that keeps the clock laws a frame waits for what its own clock lacks of dmax
 abbrev pub WaitsForPoint : Type 0
-WaitsForPoint = (rho grain dmax clock t q : ℕ) (reading : ℕ → ℕ) → rho ≤ 1000000 → KeepsClockLaws rho grain reading → clock ≤ dmax → IsPermanent reading dmax clock t q → (t ≤ q) × Waits rho grain (dmax - clock) (q - t) (reading q - reading t)
+WaitsForPoint =
+    (rho grain dmax clock t q : ℕ) (reading : ℕ → ℕ) → rho ≤ 1000000 → KeepsClockLaws rho grain reading → clock ≤ dmax
+    → IsPermanent reading dmax clock t q → (t ≤ q) × Waits rho grain (dmax - clock) (q - t) (reading q - reading t)

@@ -1,4 +1,5 @@
 ghost use Rattle.std.specs.Prelude.{◌≡◌, ◌+◌, ◌^◌, pos, neg_ℤ, ◌≤ℤ◌};
+ghost use Rattle.tte_units.specs.Reading.{least_reading, greatest_reading};
 ghost use Rattle.transparent_clock.specs.Points.{point_of};
 
 use tte_units::Units;
@@ -9,8 +10,8 @@ use tte_units::Units;
 /// `reading` is the device's reading at arrival, from -(2^61 + 2^58) to 2^61 + 2^58; `clock` is the
 /// frame's grown clock and at most `dmax`, which is at most 2^40.
 pub fn permanence(reading: Units, clock: u64, dmax: Units) -> Units
-    requires low { neg_ℤ (pos (2 ^ 61 + 2 ^ 58)) ≤ℤ reading.0 }
-    requires high { reading.0 ≤ℤ pos (2 ^ 61 + 2 ^ 58) }
+    requires low { least_reading ≤ℤ reading.0 }
+    requires high { reading.0 ≤ℤ greatest_reading }
     requires limit { dmax.0 ≤ℤ pos (2 ^ 40) }
     requires young { pos clock ≤ℤ dmax.0 }
     ensures { result.0 ≡ point_of reading.0 clock dmax.0 }

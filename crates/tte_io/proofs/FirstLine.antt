@@ -9,19 +9,22 @@ pub first_line-append : (text rest : List ℕ) → IsUnbroken text → first_lin
 first_line-append [] rest unbroken = refl
 first_line-append (x ∷ xs) rest unbroken =
     let other = ne_eqb x lf (All-head (λ (octet : ℕ). octet ≡ lf → ⊥) x xs unbroken) in
-    ap (λ (b : Bool). cond b [] (x ∷ first_line (xs ++ rest))) other ∙ ap (λ (t : List ℕ). x ∷ t) (first_line-append xs rest (All-tail (λ (octet : ℕ). octet ≡ lf → ⊥) x xs unbroken))
+    ap (λ (b : Bool). cond b [] (x ∷ first_line (xs ++ rest))) other
+    ∙ ap (λ (t : List ℕ). x ∷ t) (first_line-append xs rest (All-tail (λ (octet : ℕ). octet ≡ lf → ⊥) x xs unbroken))
 
 pub behind_line-append : (text rest : List ℕ) → IsUnbroken text → behind_line (text ++ rest) ≡ behind_line rest
 behind_line-append [] rest unbroken = refl
 behind_line-append (x ∷ xs) rest unbroken =
     let other = ne_eqb x lf (All-head (λ (octet : ℕ). octet ≡ lf → ⊥) x xs unbroken) in
-    ap (λ (b : Bool). cond b (xs ++ rest) (behind_line (xs ++ rest))) other ∙ behind_line-append xs rest (All-tail (λ (octet : ℕ). octet ≡ lf → ⊥) x xs unbroken)
+    ap (λ (b : Bool). cond b (xs ++ rest) (behind_line (xs ++ rest))) other
+    ∙ behind_line-append xs rest (All-tail (λ (octet : ℕ). octet ≡ lf → ⊥) x xs unbroken)
 
 -- octets that begin with too many for a line have a first line that is too long
 pub first_line-too_long : (octets rest : List ℕ) → IsTooLong octets → line_limit < length (first_line (octets ++ rest))
 first_line-too_long octets rest long =
     let front = take (line_limit + 1) octets in
     let behind = drop (line_limit + 1) octets ++ rest in
-    let split : octets ++ rest ≡ front ++ behind = ap (λ (t : List ℕ). t ++ rest) (sym (take-append-drop (line_limit + 1) octets)) ∙ append_assoc front (drop (line_limit + 1) octets) rest in
+    let split : octets ++ rest ≡ front ++ behind = ap (λ (t : List ℕ). t ++ rest) (sym (take-append-drop (line_limit + 1) octets))
+    ∙ append_assoc front (drop (line_limit + 1) octets) rest in
     let value : first_line (octets ++ rest) ≡ front ++ first_line behind = ap first_line split ∙ first_line-append front behind long.unbroken in
     omega (arith, ap length value, length-append front (first_line behind), length-take (line_limit + 1) octets, long.more)

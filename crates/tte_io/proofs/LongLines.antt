@@ -5,13 +5,16 @@ use Rattle.std.proofs.lemmas.List.Elements.{All-append, All-take}
 use Rattle.tte_io.specs.Line.{lf, line_limit, IsUnbroken, IsTooLong}
 
 -- a line and octets without an LF behind it that pass its limit
-pub too_long_behind : (line octets : List ℕ) (count : ℕ) → IsUnbroken line → IsUnbroken (take count octets) → count ≤ length octets → line_limit < length line + count → IsTooLong (line ++ octets)
+pub too_long_behind : (line octets : List ℕ) (count : ℕ) → IsUnbroken line → IsUnbroken (take count octets) → count ≤ length octets
+    → line_limit < length line + count → IsTooLong (line ++ octets)
 too_long_behind line octets count unbroken front within past =
     let P = λ (octet : ℕ). octet ≢ lf in
     let size = length-take count octets in
-    let joined : (line ++ take count octets) ++ drop count octets ≡ line ++ octets = append_assoc line (take count octets) (drop count octets) ∙ ap (λ (t : List ℕ). line ++ t) (take-append-drop count octets) in
+    let joined : (line ++ take count octets) ++ drop count octets ≡ line ++ octets = append_assoc line (take count octets) (drop count octets)
+    ∙ ap (λ (t : List ℕ). line ++ t) (take-append-drop count octets) in
     let same : take (line_limit + 1) (line ++ octets) ≡ take (line_limit + 1) (line ++ take count octets) =
-    sym (ap (take (line_limit + 1)) joined) ∙ take-append-le (line_limit + 1) (line ++ take count octets) (drop count octets) (omega (arith, length-append line (take count octets), size)) in
+    sym (ap (take (line_limit + 1)) joined) ∙ take-append-le (line_limit + 1) (line ++ take count octets) (drop count octets)
+    (omega (arith, length-append line (take count octets), size)) in
     record {
       more = omega (arith, length-append line octets);
       unbroken = subst IsUnbroken (sym same) (All-take P (line_limit + 1) (line ++ take count octets) (All-append P line (take count octets) unbroken front));

@@ -33,12 +33,16 @@ making_begun line ahead left is_line = record {
 }
 
 -- nothing was read, or a read came behind the others
-making_more : (before : List ℕ) (left_before : Option (List ℕ)) (line ahead : List ℕ) (left : Option (List ℕ)) (read ahead_after : List ℕ) (left_after : Option (List ℕ)) → Making before left_before line ahead left
-    → Consumes left left_after read → length read ≤ ahead_limit → ahead_after ≡ ahead ++ read → (read ≢ [] → ahead ≡ []) → Making before left_before line ahead_after left_after
+making_more : (before : List ℕ) (left_before : Option (List ℕ)) (line ahead : List ℕ) (left : Option (List ℕ)) (read ahead_after : List ℕ)
+    (left_after : Option (List ℕ)) → Making before left_before line ahead left
+    → Consumes left left_after read → length read ≤ ahead_limit → ahead_after ≡ ahead ++ read → (read ≢ [] → ahead ≡ [])
+    → Making before left_before line ahead_after left_after
 making_more before left_before line ahead left [] ahead_after left_after m consumed size added needed = record {
   earlier = m.earlier;
   last = m.last;
-  consumed = subst (Consumes left_before left_after) (append-nil (m.earlier ++ m.last)) (Consumes-trans left_before left left_after (m.earlier ++ m.last) [] m.consumed consumed);
+  consumed =
+      subst (Consumes left_before left_after) (append-nil (m.earlier ++ m.last))
+      (Consumes-trans left_before left left_after (m.earlier ++ m.last) [] m.consumed consumed);
   last_size = m.last_size;
   needed = m.needed;
   same = m.same ∙ ap (λ (t : List ℕ). line ++ t) (sym (append-nil ahead) ∙ sym added);
@@ -53,16 +57,20 @@ making_more before left_before line ahead left (x ∷ xs) ahead_after left_after
       consumed = Consumes-trans left_before left left_after (m.earlier ++ m.last) (x ∷ xs) m.consumed consumed;
       last_size = size;
       needed = λ _. subst IsLine (sym whole) m.is_line;
-      same = sym (append_assoc before (m.earlier ++ m.last) (x ∷ xs)) ∙ ap (λ (t : List ℕ). t ++ x ∷ xs) whole ∙ ap (λ (t : List ℕ). line ++ t) (ap (λ (t : List ℕ). t ++ x ∷ xs) (sym none) ∙ sym added);
+      same =
+          sym (append_assoc before (m.earlier ++ m.last) (x ∷ xs)) ∙ ap (λ (t : List ℕ). t ++ x ∷ xs) whole
+          ∙ ap (λ (t : List ℕ). line ++ t) (ap (λ (t : List ℕ). t ++ x ∷ xs) (sym none) ∙ sym added);
       is_line = m.is_line;
     }
 
-pub making_filled : (before : List ℕ) (left_before : Option (List ℕ)) (line ahead : List ℕ) (left : Option (List ℕ)) (ahead_after : List ℕ) (left_after : Option (List ℕ)) → Making before left_before line ahead left
+pub making_filled : (before : List ℕ) (left_before : Option (List ℕ)) (line ahead : List ℕ) (left : Option (List ℕ)) (ahead_after : List ℕ)
+    (left_after : Option (List ℕ)) → Making before left_before line ahead left
     → Fills ahead left ahead_after left_after → Making before left_before line ahead_after left_after
 making_filled before left_before line ahead left ahead_after left_after m f =
     making_more before left_before line ahead left f.read ahead_after left_after m f.consumed f.size f.added f.needed
 
-pub making_advanced : (before : List ℕ) (left_before : Option (List ℕ)) (line ahead : List ℕ) (left : Option (List ℕ)) (line_after ahead_after : List ℕ) → Making before left_before line ahead left
+pub making_advanced : (before : List ℕ) (left_before : Option (List ℕ)) (line ahead : List ℕ) (left : Option (List ℕ)) (line_after ahead_after : List ℕ)
+    → Making before left_before line ahead left
     → Advances line ahead step.Unfinished line_after ahead_after → Making before left_before line_after ahead_after left
 making_advanced before left_before line ahead left line_after ahead_after m a = record {
   earlier = m.earlier;
@@ -75,8 +83,10 @@ making_advanced before left_before line ahead left line_after ahead_after m a = 
 }
 
 -- the line's LF came
-pub taken_at_lf : {E : Type 0} (before : List ℕ) (left_before : Option (List ℕ)) (line ahead : List ℕ) (left : Option (List ℕ)) (line_after ahead_after : List ℕ) → Making before left_before line ahead left
-    → Advances line ahead step.Ended line_after ahead_after → NextLine {E = E} before left_before (reader_state (progress_after {E = E} (Ok Whole)) line_after ahead_after) left (Ok Whole)
+pub taken_at_lf : {E : Type 0} (before : List ℕ) (left_before : Option (List ℕ)) (line ahead : List ℕ) (left : Option (List ℕ))
+    (line_after ahead_after : List ℕ) → Making before left_before line ahead left
+    → Advances line ahead step.Ended line_after ahead_after
+    → NextLine {E = E} before left_before (reader_state (progress_after {E = E} (Ok Whole)) line_after ahead_after) left (Ok Whole)
 taken_at_lf before left_before line ahead left line_after ahead_after m a = record {
   earlier = m.earlier;
   last = m.last;
@@ -89,8 +99,10 @@ taken_at_lf before left_before line ahead left line_after ahead_after m a = reco
 }
 
 -- it has passed its limit
-pub found_too_long : {E : Type 0} (before : List ℕ) (left_before : Option (List ℕ)) (line ahead : List ℕ) (left : Option (List ℕ)) (line_after ahead_after : List ℕ) → Making before left_before line ahead left
-    → Advances line ahead step.TooLong line_after ahead_after → NextLine {E = E} before left_before (reader_state (progress_after {E = E} (Ok Long)) line_after ahead_after) left (Ok Long)
+pub found_too_long : {E : Type 0} (before : List ℕ) (left_before : Option (List ℕ)) (line ahead : List ℕ) (left : Option (List ℕ))
+    (line_after ahead_after : List ℕ) → Making before left_before line ahead left
+    → Advances line ahead step.TooLong line_after ahead_after
+    → NextLine {E = E} before left_before (reader_state (progress_after {E = E} (Ok Long)) line_after ahead_after) left (Ok Long)
 found_too_long before left_before line ahead left line_after ahead_after m a =
     let stays : line_after ++ ahead_after ≡ line ++ ahead = cc in
     record {
@@ -105,8 +117,10 @@ found_too_long before left_before line ahead left line_after ahead_after m a =
     }
 
 -- the source has ended
-pub taken_at_end : {E : Type 0} (before : List ℕ) (left_before : Option (List ℕ)) (line ahead : List ℕ) (left : Option (List ℕ)) (taken : LineTaken) → Making before left_before line ahead left → ahead ≡ [] → IsAtEnd left
-    → ((taken ≡ End) × (line ≡ [])) ⊎ ((taken ≡ Whole) × (line ≢ [])) → NextLine {E = E} before left_before (reader_state (progress_after {E = E} (Ok taken)) line ahead) left (Ok taken)
+pub taken_at_end : {E : Type 0} (before : List ℕ) (left_before : Option (List ℕ)) (line ahead : List ℕ) (left : Option (List ℕ)) (taken : LineTaken)
+    → Making before left_before line ahead left → ahead ≡ [] → IsAtEnd left
+    → ((taken ≡ End) × (line ≡ [])) ⊎ ((taken ≡ Whole) × (line ≢ []))
+    → NextLine {E = E} before left_before (reader_state (progress_after {E = E} (Ok taken)) line ahead) left (Ok taken)
 taken_at_end {E} before left_before line ahead left taken m none end (inl h) =
     let P = λ (t : LineTaken). NextLine {E = E} before left_before (reader_state (progress_after {E = E} (Ok t)) line ahead) left (Ok t) in
     subst P (sym h.0) (record {
@@ -133,7 +147,8 @@ taken_at_end {E} before left_before line ahead left taken m none end (inr h) =
     })
 
 -- a read failed
-pub kept_after_failure : {E : Type 0} (before : List ℕ) (left_before : Option (List ℕ)) (line ahead : List ℕ) (left : Option (List ℕ)) (e : E) → Making before left_before line ahead left → ahead ≡ []
+pub kept_after_failure : {E : Type 0} (before : List ℕ) (left_before : Option (List ℕ)) (line ahead : List ℕ) (left : Option (List ℕ)) (e : E)
+    → Making before left_before line ahead left → ahead ≡ []
     → NextLine before left_before (reader_state (progress_after (Err e)) line ahead) left (Err e)
 kept_after_failure before left_before line ahead left e m none = record {
   earlier = m.earlier;
@@ -147,7 +162,8 @@ kept_after_failure before left_before line ahead left e m none = record {
 }
 
 -- a line that was too long stays too long, and nothing is read
-pub still_too_long : {E : Type 0} (line ahead : List ℕ) (left : Option (List ℕ)) → IsTooLong (line ++ ahead) → NextLine {E = E} (line ++ ahead) left (reader_state TooLong line ahead) left (Ok Long)
+pub still_too_long : {E : Type 0} (line ahead : List ℕ) (left : Option (List ℕ)) → IsTooLong (line ++ ahead)
+    → NextLine {E = E} (line ++ ahead) left (reader_state TooLong line ahead) left (Ok Long)
 still_too_long line ahead left long = record {
   earlier = [];
   last = [];

@@ -39,7 +39,8 @@ Answers (Ok taken.Long) given after left = FindsTooLong given after
 Answers (Err _) given after left = KeepsLine given after
 
 -- one call, from what is pending and what is left before it to the reader and what is left after it
-pub record NextLine {E : Type 0} (before : List ℕ) (left_before : Option (List ℕ)) (after : LineReaderState) (left_after : Option (List ℕ)) (result : Result LineTaken E) : Type 0 where
+pub record NextLine {E : Type 0} (before : List ℕ) (left_before : Option (List ℕ)) (after : LineReaderState)
+    (left_after : Option (List ℕ)) (result : Result LineTaken E) : Type 0 where
   -- what the last read of the call gave, and what those before it gave
   pub earlier : List ℕ
   pub last : List ℕ

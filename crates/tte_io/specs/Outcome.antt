@@ -7,13 +7,16 @@ use Rattle.tte_io.specs.ReaderState.{LineReaderState, pending}
 
 -- what comes of the octets to come: from those before the call, by its answer, to those after it
 abbrev pub Outcome : {E : Type 0} → List ℕ → Result LineTaken E → LineReaderState → List ℕ → Type 0
-Outcome octets (Ok taken.Whole) after rest = (octets ≢ []) × (length (first_line octets) ≤ line_limit) × (after.text ≡ Some (first_line octets)) × (rest ≡ behind_line octets)
+Outcome octets (Ok taken.Whole) after rest =
+    (octets ≢ []) × (length (first_line octets) ≤ line_limit) × (after.text ≡ Some (first_line octets))
+    × (rest ≡ behind_line octets)
 Outcome octets (Ok taken.End) after rest = (octets ≡ []) × (rest ≡ [])
 Outcome octets (Ok taken.Long) after rest = (line_limit < length (first_line octets)) × (rest ≡ octets)
 Outcome octets (Err _) after rest = rest ≡ octets
 
 -- where the source tells its octets, those to come are the pending ones and then those that are left
-abbrev pub TellsOutcome : {E : Type 0} → List ℕ → Option (List ℕ) → LineReaderState → Option (List ℕ) → Result LineTaken E → Type 0
+abbrev pub TellsOutcome : {E : Type 0} → List ℕ → Option (List ℕ) → LineReaderState → Option (List ℕ)
+    → Result LineTaken E → Type 0
 TellsOutcome before None after left_after result = ⊤
 TellsOutcome before (Some left) after None result = ⊥
 TellsOutcome before (Some left) after (Some rest) result = Outcome (before ++ left) result after (pending after ++ rest)

@@ -10,7 +10,8 @@ use Rattle.net_plan.specs.declared.event.What.TheVariants.{End}
 use Rattle.net_plan.specs.declared.network.Network.{Network}
 use Rattle.schedule_tables.specs.declared.accepted.Accepted.{Accepted}
 use Rattle.trace_text.specs.EventReading.{event_read}
-use Rattle.trace_text.specs.Ranges.{IsEventInRange, IsOfNetwork}
+use Rattle.net_plan.specs.Belonging.{IsOfNetwork}
+use Rattle.trace_text.specs.Ranges.{IsEventInRange}
 use Rattle.trace_text.specs.Steps.{Read}
 use Rattle.tte_io.proofs.FirstLine.{first_line-append, behind_line-append, first_line-too_long}
 use Rattle.tte_io.specs.Line.{lf, line_limit, ahead_limit, IsUnbroken, first_line, behind_line}

@@ -9,7 +9,7 @@ use Rattle.net_plan.specs.declared.network.Network.{Network}
 use Rattle.report_text.specs.NoteLine.{note_line, report_of}
 use Rattle.run_law.specs.scenario.Hypothesis.{SetsFastRate}
 use Rattle.run_law.specs.declared.note.Note.{Note}
-use Rattle.trace_text.specs.Ranges.{IsOfNetwork}
+use Rattle.net_plan.specs.Belonging.{IsOfNetwork}
 use Rattle.tte_io.specs.Faults.{next_count}
 use Rattle.tte_io.specs.Told.{AppendsFront}
 use Rattle.tte_run.specs.PutRecords.{AreSilentBefore, PutsEvent, PutsUntil, StandsExact}

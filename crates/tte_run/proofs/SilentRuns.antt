@@ -25,7 +25,7 @@ use Rattle.run_law.specs.declared.note.Note.{Note}
 use Rattle.run_law.specs.declared.outside.Outside.TheVariants as conditions
 use Rattle.schedule_tables.specs.Rules.{KeepsRules}
 use Rattle.trace_text.proofs.ReadOfNetwork.{read_of_network}
-use Rattle.trace_text.specs.Ranges.{IsOfNetwork}
+use Rattle.net_plan.specs.Belonging.{IsOfNetwork}
 use Rattle.tte_io.specs.Line.{first_line}
 use Rattle.tte_run.proofs.Admitted.{admitted_in_order}
 use Rattle.tte_run.proofs.BuiltNetworks.{begins_on}

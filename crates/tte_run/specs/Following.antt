@@ -4,7 +4,8 @@ use Rattle.fault_hypothesis.specs.Watching.{Watches}
 use Rattle.net_plan.specs.declared.event.Event.{Event}
 use Rattle.net_plan.specs.declared.network.Network.{Network}
 use Rattle.run_law.specs.scenario.Hypothesis.{IsWithinHypothesis}
-use Rattle.trace_text.specs.Ranges.{IsEventInRange, IsOfNetwork}
+use Rattle.net_plan.specs.Belonging.{IsOfNetwork}
+use Rattle.trace_text.specs.Ranges.{IsEventInRange}
 use Rattle.tte_io.specs.Line.{line_limit, ahead_limit, IsUnbroken, first_line}
 use Rattle.tte_io.specs.ReaderState.{LineReaderState, pending}
 use Rattle.tte_io.specs.declared.lines.LineTaken.{LineTaken}

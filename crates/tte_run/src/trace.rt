@@ -2,7 +2,8 @@ ghost use Rattle.std.specs.Prelude.{◌≡◌, ◌≢◌, ◌↔◌, ◌<◌, �
 ghost use Rattle.net_plan.specs.Ranges.{IsInRange};
 ghost use Rattle.net_plan.specs.declared.event.Event.{Event as EventValue};
 ghost use Rattle.net_plan.specs.declared.network.Network.{Network as NetworkValue};
-ghost use Rattle.trace_text.specs.Ranges.{IsEventInRange, IsOfNetwork};
+ghost use Rattle.net_plan.specs.Belonging.{IsOfNetwork};
+ghost use Rattle.trace_text.specs.Ranges.{IsEventInRange};
 ghost use Rattle.tte_io.specs.Faults.{Rose};
 ghost use Rattle.tte_run.specs.Following.{Follows, GoesOn, IsFound, Judges, Reads, ReadsOn, TakesFew};
 ghost use Rattle.tte_run.specs.Tracing.{HasEvent, IsAdmitted, IsEarly, IsFault, IsOpen};

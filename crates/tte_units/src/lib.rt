@@ -7,7 +7,7 @@ mod units;
 
 pub use rates::{Ppb, slip};
 pub use speed::{Speed, octets};
-pub use units::{Units, mean};
+pub use units::{READING_LIMIT, Units, mean};
 
 #[cfg(test)]
 mod tests;

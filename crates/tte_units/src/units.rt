@@ -6,6 +6,10 @@ ghost use Rattle.tte_units.specs.Mean.{mean_of, IsMean};
 #[derive(Clone, Copy, Debug, PartialEq, Eq, Hash, PartialOrd, Ord)]
 pub struct Units(pub i64);
 
+/// The greatest reading, point, adjustment, expected value or local value, in units. The least is its
+/// negative.
+pub const READING_LIMIT: u64 = (1 << 61) + (1 << 58);
+
 impl Units {
     /// So many units: fewer than 2^63.
     pub fn from_amount(n: u64) -> Units

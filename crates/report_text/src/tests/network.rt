@@ -101,7 +101,8 @@ fn cm(name: &str, channel: Channel) -> Device
 
 fn link(name: &str, child: DeviceId, parent: DeviceId) -> Link
     requires { IsNameText name.now }
-    ensures { (network : Network) → child.0 < length network.device → parent.0 < length network.device → IsLinkInRange network result }
+    ensures { (network : Network) → child.0 < length network.device → parent.0 < length network.device
+        → IsLinkInRange network result }
 {
     Link {
         name: Name::new(name),

@@ -1,4 +1,4 @@
-ghost use Rattle.std.specs.Prelude.{◌≡◌, ◌≢◌, ◌≤◌, ◌↔◌, ◌≤ℤ◌, ◌+◌, true, IsTrue, IsNone, IfSome, Some, is_some, length};
+ghost use Rattle.std.specs.Prelude.{◌≡◌, ◌≢◌, ◌≤◌, ◌↔◌, ◌≤ℤ◌, ◌+◌, true, IsTrue, IfSome, is_some, length};
 ghost use Rattle.std.specs.List.{All, count_by};
 ghost use Rattle.net_plan.specs.Places.{is_master};
 ghost use Rattle.net_plan.specs.Rules.{HasOffSwitch, MastersSuffice, MembersDiffer, masters, most_masters};
@@ -59,7 +59,8 @@ fn most_masters_of(version: u32) -> usize
 
 /// Are there enough masters, and not too many?
 fn masters_are_in_number(network: &Network) -> bool
-    ensures { IsTrue result ↔ ((4 ≤ length (masters network.now)) × (length (masters network.now) ≤ most_masters network.now.version)) }
+    ensures { IsTrue result ↔ ((4 ≤ length (masters network.now))
+        × (length (masters network.now) ≤ most_masters network.now.version)) }
 {
     let count = count_of_masters(network);
     LEAST_MASTERS <= count && count <= most_masters_of(network.version)
@@ -87,7 +88,8 @@ fn member_is_new(earlier: &[Device], device: &Device) -> bool
 
 /// Is the threshold of members at least three, and less than the count of masters?
 fn threshold_is_met(network: &Network) -> bool
-    ensures { IsTrue result ↔ ((3 ≤ network.now.sync_threshold) × (network.now.sync_threshold + 1 ≤ length (masters network.now))) }
+    ensures { IsTrue result ↔ ((3 ≤ network.now.sync_threshold)
+        × (network.now.sync_threshold + 1 ≤ length (masters network.now))) }
 {
     LEAST_THRESHOLD <= network.sync_threshold
         && (network.sync_threshold as usize) < count_of_masters(network)
@@ -125,23 +127,5 @@ fn starts_are_settled(network: &Network) -> bool
 fn one_channel_begins_off(network: &Network) -> bool
     ensures { IsTrue result ↔ ((c e : ChannelValue) → HasOffSwitch network.now c → HasOffSwitch network.now e → c ≡ e) }
 {
-    !has_off_switch(network, Channel::A) || !has_off_switch(network, Channel::B)
-}
-
-/// Does some switch of the channel begin off?
-fn has_off_switch(network: &Network, channel: Channel) -> bool
-    ensures { IsTrue result ↔ HasOffSwitch network.now channel }
-{
-    network
-        .device
-        .as_slice()
-        .iter()
-        .any(|device| is_off_switch(device, channel))
-}
-
-/// Is the device a switch of the channel that begins off?
-fn is_off_switch(device: &Device, channel: Channel) -> bool
-    ensures { IsTrue result ↔ ((device.now.channel ≡ Some channel) × IsNone device.now.start) }
-{
-    device.channel == Some(channel) && device.start.is_none()
+    !network.has_off_switch(Channel::A) || !network.has_off_switch(Channel::B)
 }

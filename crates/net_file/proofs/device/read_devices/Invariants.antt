@@ -7,4 +7,5 @@ use Rattle.net_file.proofs.device.read_devices.Given as goal
 
 abbrev pub invariant-tables : goal.invariant-tables
 invariant-tables l =
-    (each device_of l.devices.items (items_view (drop l.table-index l.tables)) ≡ each device_of [] (items_view l.tables)) × (length l.devices.items < 2 ^ 32) × All IsDeviceInRange l.devices.items
+    (each device_of l.devices.items (items_view (drop l.table-index l.tables)) ≡ each device_of [] (items_view l.tables)) × (length l.devices.items < 2 ^ 32)
+    × All IsDeviceInRange l.devices.items

@@ -5,11 +5,47 @@ use Rattle.net_file.proofs.document.read_document.Goals as goal
 
 pub returns-in_err-nothing_else-clause-value : goal.returns-in_err-nothing_else-clause-value
 unfolding document_of
-returns-in_err-nothing_else-clause-value c = rw (← c.in_ok-version.ensures.value, ← c.in_ok-cycle.ensures.value, ← c.in_ok-rho.ensures.value, ← c.in_ok-grain.ensures.value, ← c.in_ok-dmax.ensures.value, ← c.in_ok-calc.ensures.value, ← c.in_ok-settled.ensures.value, ← c.in_ok-precision.ensures.value, ← c.in_ok-correction.ensures.value, ← c.in_ok-tt_start.ensures.value, ← c.in_ok-sync_threshold.ensures.value, ← c.in_ok-priority.ensures.value, ← c.in_ok-domain.ensures.value, ← c.in_ok-pcf_destination.ensures, ← c.in_ok-marker.ensures, ← c.nothing_else.ensures) (search rules)
+returns-in_err-nothing_else-clause-value c =
+    rw (
+      ← c.in_ok-version.ensures.value,
+      ← c.in_ok-cycle.ensures.value,
+      ← c.in_ok-rho.ensures.value,
+      ← c.in_ok-grain.ensures.value,
+      ← c.in_ok-dmax.ensures.value,
+      ← c.in_ok-calc.ensures.value,
+      ← c.in_ok-settled.ensures.value,
+      ← c.in_ok-precision.ensures.value,
+      ← c.in_ok-correction.ensures.value,
+      ← c.in_ok-tt_start.ensures.value,
+      ← c.in_ok-sync_threshold.ensures.value,
+      ← c.in_ok-priority.ensures.value,
+      ← c.in_ok-domain.ensures.value,
+      ← c.in_ok-pcf_destination.ensures,
+      ← c.in_ok-marker.ensures,
+      ← c.nothing_else.ensures,
+    ) (search rules)
 
 pub returns-clause-value : goal.returns-clause-value
 unfolding document_of
-returns-clause-value c = rw (← c.in_ok-version.ensures.value, ← c.in_ok-cycle.ensures.value, ← c.in_ok-rho.ensures.value, ← c.in_ok-grain.ensures.value, ← c.in_ok-dmax.ensures.value, ← c.in_ok-calc.ensures.value, ← c.in_ok-settled.ensures.value, ← c.in_ok-precision.ensures.value, ← c.in_ok-correction.ensures.value, ← c.in_ok-tt_start.ensures.value, ← c.in_ok-sync_threshold.ensures.value, ← c.in_ok-priority.ensures.value, ← c.in_ok-domain.ensures.value, ← c.in_ok-pcf_destination.ensures, ← c.in_ok-marker.ensures, ← c.in_ok-nothing_else.ensures) (search rules)
+returns-clause-value c =
+    rw (
+      ← c.in_ok-version.ensures.value,
+      ← c.in_ok-cycle.ensures.value,
+      ← c.in_ok-rho.ensures.value,
+      ← c.in_ok-grain.ensures.value,
+      ← c.in_ok-dmax.ensures.value,
+      ← c.in_ok-calc.ensures.value,
+      ← c.in_ok-settled.ensures.value,
+      ← c.in_ok-precision.ensures.value,
+      ← c.in_ok-correction.ensures.value,
+      ← c.in_ok-tt_start.ensures.value,
+      ← c.in_ok-sync_threshold.ensures.value,
+      ← c.in_ok-priority.ensures.value,
+      ← c.in_ok-domain.ensures.value,
+      ← c.in_ok-pcf_destination.ensures,
+      ← c.in_ok-marker.ensures,
+      ← c.in_ok-nothing_else.ensures,
+    ) (search rules)
 
 pub returns-clause-in_range : goal.returns-clause-in_range
 returns-clause-in_range c = record {

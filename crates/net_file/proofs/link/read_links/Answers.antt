@@ -5,4 +5,6 @@ use Rattle.net_file.proofs.Numbers.{names_below}
 use Rattle.net_file.proofs.link.read_links.Goals as goal
 
 pub returns-clause-in_range : goal.returns-clause-in_range
-returns-clause-in_range c network same0 = c.read_numbered.ensures.in_range network (names_below (λ (x : Device). x.name) c.args.devices.now (length network.device) (numbering c.in-Ok.names.numbers) c.in-Ok.ensures.ok same0)
+returns-clause-in_range c network same0 =
+    c.read_numbered.ensures.in_range network (names_below (λ (x : Device). x.name) c.args.devices.now (length network.device) (numbering c.in-Ok.names.numbers)
+    c.in-Ok.ensures.ok same0)

@@ -9,5 +9,9 @@ tables-preserved c =
     let so_far = c.tables.links.items in
     let thing = c.in-Ok-read_link.link in
     let old = c.tables.invariant in
-    let grown : c.push.new.self.items ≡ so_far ++ thing ∷ [] = search rules in
-    (first_of (grind (arith, common_steps), search rules), first_of (grind (arith, common_steps), search rules), λ network below0. All-same (IsLinkInRange network) c.push.new.self.items (so_far ++ thing ∷ []) grown (All-push (IsLinkInRange network) so_far thing (old.2 network below0) (c.in-Ok-read_link.ensures.in_range network below0)))
+    let grown : c.push.new.self.items ≡ so_far ++ thing ∷ [] = search rules in (
+      first_of (grind (arith, common_steps), search rules),
+      first_of (grind (arith, common_steps), search rules),
+      λ network below0. All-same (IsLinkInRange network) c.push.new.self.items (so_far ++ thing ∷ []) grown
+          (All-push (IsLinkInRange network) so_far thing (old.2 network below0) (c.in-Ok-read_link.ensures.in_range network below0)),
+    )

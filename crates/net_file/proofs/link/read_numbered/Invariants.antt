@@ -9,5 +9,6 @@ use Rattle.net_file.proofs.link.read_numbered.Given as goal
 
 abbrev pub invariant-tables : goal.invariant-tables
 invariant-tables l =
-    (each (link_of (numbering l.devices.numbers)) l.links.items (items_view (drop l.table-index l.tables)) ≡ each (link_of (numbering l.devices.numbers)) [] (items_view l.tables)) × (length l.links.items < 2 ^ 32)
+    (each (link_of (numbering l.devices.numbers)) l.links.items (items_view (drop l.table-index l.tables)) ≡ each (link_of (numbering l.devices.numbers)) []
+    (items_view l.tables)) × (length l.links.items < 2 ^ 32)
     × ((network : Network) → IsBelow (length network.device) (numbering l.devices.numbers) → All (IsLinkInRange network) l.links.items)

@@ -9,5 +9,10 @@ tables-preserved c =
     let so_far = c.tables.rows.items in
     let thing = c.in-Ok-read_row.row in
     let old = c.tables.invariant in
-    let grown : c.push.new.self.items ≡ so_far ++ thing ∷ [] = search rules in
-    (first_of (grind (arith, common_steps), search rules), first_of (grind (arith, common_steps), search rules), λ network below0 below1. All-same (IsRowInRange network) c.push.new.self.items (so_far ++ thing ∷ []) grown (All-push (IsRowInRange network) so_far thing (old.2 network below0 below1) (c.in-Ok-read_row.ensures.in_range network below0 below1)))
+    let grown : c.push.new.self.items ≡ so_far ++ thing ∷ [] = search rules in (
+      first_of (grind (arith, common_steps), search rules),
+      first_of (grind (arith, common_steps), search rules),
+      λ network below0 below1. All-same
+          (IsRowInRange network) c.push.new.self.items (so_far ++ thing ∷ []) grown
+          (All-push (IsRowInRange network) so_far thing (old.2 network below0 below1) (c.in-Ok-read_row.ensures.in_range network below0 below1)),
+    )

@@ -9,5 +9,6 @@ use Rattle.net_file.proofs.vl.read_numbered.Given as goal
 
 abbrev pub invariant-tables : goal.invariant-tables
 invariant-tables l =
-    (each (vl_of (numbering l.devices.numbers)) l.vls.items (items_view (drop l.table-index l.tables)) ≡ each (vl_of (numbering l.devices.numbers)) [] (items_view l.tables)) × (length l.vls.items < 2 ^ 32)
+    (each (vl_of (numbering l.devices.numbers)) l.vls.items (items_view (drop l.table-index l.tables)) ≡ each (vl_of (numbering l.devices.numbers)) []
+    (items_view l.tables)) × (length l.vls.items < 2 ^ 32)
     × ((network : Network) → IsBelow (length network.device) (numbering l.devices.numbers) → All (IsVlInRange network) l.vls.items)

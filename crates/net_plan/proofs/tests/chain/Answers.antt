@@ -43,10 +43,25 @@ returns-clause-range c =
       few_links = omega (arith, pair);
       few_vls = r.few_vls;
       few_rows = r.few_rows;
-      devices = subst (All IsDeviceInRange) (sym d3) (all_three IsDeviceInRange one two cm c.switch.ensures.range c.switch-2.ensures.range c.switch-3.ensures.range);
+      devices =
+          subst (All IsDeviceInRange) (sym d3) (all_three IsDeviceInRange one two cm c.switch.ensures.range c.switch-2.ensures.range c.switch-3.ensures.range);
       links = subst (All (IsLinkInRange _)) (sym l2) (all_two (IsLinkInRange _) low high
-          record { name = c.link.ensures.name; child = omega (arith, three, low_child); parent = omega (arith, three, low_parent); wire = c.link.ensures.wire; jitter = c.link.ensures.jitter; hold = c.link.ensures.hold }
-          record { name = c.link-2.ensures.name; child = omega (arith, three, high_child); parent = omega (arith, three, high_parent); wire = c.link-2.ensures.wire; jitter = c.link-2.ensures.jitter; hold = c.link-2.ensures.hold });
+          record {
+            name = c.link.ensures.name;
+            child = omega (arith, three, low_child);
+            parent = omega (arith, three, low_parent);
+            wire = c.link.ensures.wire;
+            jitter = c.link.ensures.jitter;
+            hold = c.link.ensures.hold;
+          }
+          record {
+            name = c.link-2.ensures.name;
+            child = omega (arith, three, high_child);
+            parent = omega (arith, three, high_parent);
+            wire = c.link-2.ensures.wire;
+            jitter = c.link-2.ensures.jitter;
+            hold = c.link-2.ensures.hold;
+          });
       vls = subst (All (IsVlInRange _)) (sym c.bare.ensures.vls) (λ k d h. absurd (omega (arith, h)));
       rows = subst (All (IsRowInRange _)) (sym c.bare.ensures.rows) (λ k d h. absurd (omega (arith, h)));
     }

@@ -10,5 +10,6 @@ returns c =
     let n = c.args.network.now in
     let es = c.args.entries.now in
     let P = Enters n c.args.vl c.args.channel c.args.device in
-    let run = cases_from_any _ _ c.any.result P (λ (e : Entry). ¬ P e) c.any.ensures.ran (YieldsList-from_slice es cc) (λ x q k. search (rules, tests)) (λ x q k. search (rules, tests)) in
+    let run = cases_from_any _ _ c.any.result P (λ (e : Entry). ¬ P e) c.any.ensures.ran (YieldsList-from_slice es cc) (λ x q k. search (rules, tests))
+    (λ x q k. search (rules, tests)) in
     enters_on n es c.args.vl c.args.channel c.args.device c.any.result c.requires c.entries_law.ensures.one (any_decides P c.any.result es run)

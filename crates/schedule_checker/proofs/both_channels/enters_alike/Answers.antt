@@ -11,4 +11,5 @@ returns-else-not-is_end_system c =
     let a = c.enters.result in
     let b = c.enters-else-not-is_end_system.result in
     let end : IsEndSystem n c.args.device = search rules in
-    Decides-like _ (alike n c.args.vl c.args.device a b c.enters.ensures c.enters-else-not-is_end_system.ensures) (alike_back n c.args.vl c.args.device a b c.enters.ensures c.enters-else-not-is_end_system.ensures end) (booleans_Decides a b)
+    Decides-like _ (alike n c.args.vl c.args.device a b c.enters.ensures c.enters-else-not-is_end_system.ensures)
+    (alike_back n c.args.vl c.args.device a b c.enters.ensures c.enters-else-not-is_end_system.ensures end) (booleans_Decides a b)

@@ -10,5 +10,6 @@ returns c =
     let n = c.args.network.now in
     let es = c.args.entries.now in
     let P = TargetIsAlike n c.args.vl in
-    let run = cases_from_all _ _ c.all.result P (λ (e : Entry). ¬ P e) c.all.ensures.ran (YieldsList-from_slice es cc) (λ x q k. search (rules, tests)) (λ x q k. search (rules, tests)) in
+    let run = cases_from_all _ _ c.all.result P (λ (e : Entry). ¬ P e) c.all.ensures.ran (YieldsList-from_slice es cc) (λ x q k. search (rules, tests))
+    (λ x q k. search (rules, tests)) in
     enters_all_alike n es c.args.vl c.all.result c.requires c.entries_law.ensures.one (all_decides P c.all.result es run)

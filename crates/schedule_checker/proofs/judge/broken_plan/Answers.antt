@@ -1,4 +1,5 @@
-use Rattle.std.proofs.Common.{below_more, refl, arith}
+use Rattle.std.proofs.Common.{ap, below_more, refl, arith}
+use Rattle.schedule_checker.specs.Judging.{places_of, plan_rule}
 use Rattle.schedule_checker.proofs.Beyond.{kept_beyond}
 use Rattle.schedule_checker.proofs.judge.broken_plan.Goals as goal
 
@@ -6,4 +7,7 @@ pub places-preserved : goal.places-preserved
 places-preserved c = below_more _ _ c.places.invariant (c.if-not-keeps_plan_rule.ensures.0 refl)
 
 pub returns-clause-none : goal.returns-clause-none
-returns-clause-none c = kept_beyond c.args.rule c.args.plan.now.network.now c.requires.plan.range (λ k below. c.places.invariant k (omega (arith, below, c.places_of-place-end.ensures, c.places-test.false)))
+returns-clause-none c =
+    let many = ap (λ r. places_of r c.args.plan.now.network.now) c.rule.ensures in
+    kept_beyond (plan_rule c.args.rule) c.args.plan.now.network.now c.requires.range
+    (λ k below. c.places.invariant k (omega (arith, below, many, c.places_of-place-end.ensures, c.places-test.false)))

@@ -1,6 +1,7 @@
 use Rattle.std.proofs.Common.{ℕ, ◌<◌}
 use Rattle.schedule_tables.specs.Rules.{IsKeptAt}
+use Rattle.schedule_checker.specs.Judging.{shape_rule}
 use Rattle.schedule_checker.proofs.judge.broken_shape.Given as goal
 
 abbrev pub invariant-places : goal.invariant-places
-invariant-places l = (k : ℕ) → k < l.place → IsKeptAt l.rule l.network k
+invariant-places l = (k : ℕ) → k < l.place → IsKeptAt (shape_rule l.rule) l.network k

@@ -13,7 +13,8 @@ pub comes_behind_all-requires-clause-entry : goal.comes_behind_all-requires-clau
 comes_behind_all-requires-clause-entry c =
     let n = c.args.network.now in
     let e = c.index-entries-place.result in
-    c.entries_law.ensures.range n c.args.place e c.requires.range (entry_read n c.args.entries.now c.args.place e c.requires.entries c.requires.place c.index-entries-place.is)
+    c.entries_law.ensures.range n c.args.place e c.requires.range (entry_read n c.args.entries.now c.args.place e c.requires.entries c.requires.place
+    c.index-entries-place.is)
 
 pub returns-then-eq : goal.returns-then-eq
 returns-then-eq c =

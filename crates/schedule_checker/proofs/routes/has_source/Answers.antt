@@ -24,7 +24,9 @@ returns-then-is_switch c =
     let other : source_of e ≢ e.vl.sender = search rules in
     let switch : IsSwitch n (source_of e) = search rules in (
       λ yes. has_source n es c.args.place e c.requires.entries c.entries_law.ensures.one at (inr (switch, c.is_entered_elsewhere.ensures.0 yes)),
-      λ kept. c.is_entered_elsewhere.ensures.1 (⊎_elim (λ (s : source_of e ≡ e.vl.sender). absurd (other s)) (λ (s : IsSwitch n (source_of e) × IsEnteredElsewhere es c.args.place e). s.1) (has_source_back n es c.args.place e c.requires.entries c.entries_law.ensures.one at kept)),
+      λ kept. c.is_entered_elsewhere.ensures.1
+          (⊎_elim (λ (s : source_of e ≡ e.vl.sender). absurd (other s)) (λ (s : IsSwitch n (source_of e) × IsEnteredElsewhere es c.args.place e). s.1)
+          (has_source_back n es c.args.place e c.requires.entries c.entries_law.ensures.one at kept)),
     )
 
 pub returns-else-is_switch : goal.returns-else-is_switch
@@ -36,5 +38,6 @@ returns-else-is_switch c =
     let other : source_of e ≢ e.vl.sender = search rules in
     let no_switch : ¬ IsSwitch n (source_of e) = search rules in (
       λ yes. absurd (grind (arith, yes, c.if-is_switch.false)),
-      λ kept. absurd (⊎_elim (λ (s : source_of e ≡ e.vl.sender). other s) (λ (s : IsSwitch n (source_of e) × IsEnteredElsewhere es c.args.place e). no_switch s.0) (has_source_back n es c.args.place e c.requires.entries c.entries_law.ensures.one at kept)),
+      λ kept. absurd (⊎_elim (λ (s : source_of e ≡ e.vl.sender). other s) (λ (s : IsSwitch n (source_of e) × IsEnteredElsewhere es c.args.place e). no_switch
+          s.0) (has_source_back n es c.args.place e c.requires.entries c.entries_law.ensures.one at kept)),
     )

@@ -10,7 +10,8 @@ pub window_of-window-requires-clause-entry : goal.window_of-window-requires-clau
 window_of-window-requires-clause-entry c =
     let n = c.args.network.now in
     let entry = c.index-entries-place.result in
-    c.entries_law.ensures.range n c.args.place entry c.requires.range (entry_read n c.args.entries.now c.args.place entry c.requires.entries c.requires.place c.index-entries-place.is)
+    c.entries_law.ensures.range n c.args.place entry c.requires.range (entry_read n c.args.entries.now c.args.place entry c.requires.entries c.requires.place
+    c.index-entries-place.is)
 
 pub returns : goal.returns
 returns c =

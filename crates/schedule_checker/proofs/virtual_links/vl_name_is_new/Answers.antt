@@ -10,4 +10,5 @@ returns c =
     let place = c.args.place in
     let vl = c.vl_at-vl.result.now in
     new_from_all (λ (v : VirtualLink). v.name) xs place vl c.all.result c.vl_at-vl.ensures
-    (cases_from_all _ _ c.all.result (λ e. e.name ≢ vl.name) (λ e. e.name ≡ vl.name) c.all.ensures.ran (YieldsList-from_take place (YieldsList-from_slice xs cc) cc) (λ x q k. search (rules, tests)) (λ x q k. search (rules, tests)))
+    (cases_from_all _ _ c.all.result (λ e. e.name ≢ vl.name) (λ e. e.name ≡ vl.name) c.all.ensures.ran
+    (YieldsList-from_take place (YieldsList-from_slice xs cc) cc) (λ x q k. search (rules, tests)) (λ x q k. search (rules, tests)))

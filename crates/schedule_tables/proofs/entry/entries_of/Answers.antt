@@ -5,6 +5,14 @@ use Rattle.schedule_tables.proofs.entry.entries_of.Goals as goal
 
 pub loop-place-preserved : goal.loop-place-preserved
 loop-place-preserved c = record {
-  count = omega (arith, ap (length {A = Entry}) c.in-Ok.ensures.items, length-append c.loop-place.entries.items (c.entry_of.result ∷ []), c.loop-place.invariant.count);
-  each = rw c.in-Ok.ensures.items (entry_pushed c.args.network.now c.loop-place.entries.items c.entry_of.result c.loop-place.place c.loop-place.invariant.count c.entry_of.ensures.is c.loop-place.invariant.each);
+  count =
+      omega (
+        arith,
+        ap (length {A = Entry}) c.in-Ok.ensures.items,
+        length-append c.loop-place.entries.items (c.entry_of.result ∷ []),
+        c.loop-place.invariant.count,
+      );
+  each =
+      rw c.in-Ok.ensures.items (entry_pushed c.args.network.now c.loop-place.entries.items c.entry_of.result c.loop-place.place c.loop-place.invariant.count
+      c.entry_of.ensures.is c.loop-place.invariant.each);
 }

@@ -2,4 +2,6 @@ use Rattle.schedule_tables.proofs.RowLemmas.{rows_more}
 use Rattle.schedule_tables.proofs.tables.timed_rows.Goals as goal
 
 pub loop-place-preserved : goal.loop-place-preserved
-loop-place-preserved c = rw c.in_ok-push.ensures.items (rows_more c.args.network.now c.loop-place.place c.loop-place.rows.items c.timed_row-row.result c.loop-place.invariant c.timed_row-row.ensures)
+loop-place-preserved c =
+    rw c.in_ok-push.ensures.items (rows_more c.args.network.now c.loop-place.place c.loop-place.rows.items c.timed_row-row.result c.loop-place.invariant
+    c.timed_row-row.ensures)

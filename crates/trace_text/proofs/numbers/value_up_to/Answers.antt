@@ -7,7 +7,8 @@ use Rattle.trace_text.proofs.numbers.value_up_to.Goals as goal
 
 pub returns-then-not-is_ascii_digit : goal.returns-then-not-is_ascii_digit
 returns-then-not-is_ascii_digit c all =
-    let passes : is_ascii_digit (get_or c.args.text.now c.digits.digit-index 0) ≡ true = digits_pass c.args.text.now c.digits.digit-index all.0 c.digits-test.true in
+    let passes : is_ascii_digit (get_or c.args.text.now c.digits.digit-index 0) ≡ true = digits_pass c.args.text.now c.digits.digit-index all.0
+    c.digits-test.true in
     cc
 
 pub returns-then-number-most : goal.returns-then-number-most

@@ -34,9 +34,18 @@ returns c =
       few_links = omega (arith, one);
       few_vls = r.few_vls;
       few_rows = r.few_rows;
-      devices = subst (All IsDeviceInRange) (sym d2) (All-cons IsDeviceInRange m (relay ∷ []) c.master.ensures (All-cons IsDeviceInRange relay [] c.relay.ensures (All-nil IsDeviceInRange)));
+      devices =
+          subst (All IsDeviceInRange) (sym d2)
+          (All-cons IsDeviceInRange m (relay ∷ []) c.master.ensures (All-cons IsDeviceInRange relay [] c.relay.ensures (All-nil IsDeviceInRange)));
       links = subst (All (IsLinkInRange _)) (sym l1) (All-cons (IsLinkInRange _) l []
-          (record { name = c.link.ensures.name; child = omega (arith, two, c.link.ensures.child); parent = omega (arith, two, c.link.ensures.parent); wire = c.link.ensures.wire; jitter = c.link.ensures.jitter; hold = c.link.ensures.hold })
+          (record {
+            name = c.link.ensures.name;
+            child = omega (arith, two, c.link.ensures.child);
+            parent = omega (arith, two, c.link.ensures.parent);
+            wire = c.link.ensures.wire;
+            jitter = c.link.ensures.jitter;
+            hold = c.link.ensures.hold;
+          })
           (All-nil (IsLinkInRange _)));
       vls = subst (All (IsVlInRange _)) (sym c.bare.ensures.vls) (All-nil (IsVlInRange _));
       rows = subst (All (IsRowInRange _)) (sym c.bare.ensures.rows) (All-nil (IsRowInRange _));

@@ -8,8 +8,11 @@ use Rattle.tte_io.proofs.whole.read_all.Goals as goal
 pub returns-then-count-limit-clause-too_long : goal.returns-then-count-limit-clause-too_long
 returns-then-count-limit-clause-too_long g c _ =
     let before = c.pieces.octets.items in
-    let piece = take c.in-Ok.count c.read.new.buf in
-    (before ++ piece, omega (arith, length-append before piece, length-take c.in-Ok.count c.read.new.buf, c.in-Ok.ensures.bound, c.pieces.octets.ok.0), Consumes-trans _ _ _ _ _ c.pieces.invariant.taken c.in-Ok.ensures.octets.0)
+    let piece = take c.in-Ok.count c.read.new.buf in (
+      before ++ piece,
+      omega (arith, length-append before piece, length-take c.in-Ok.count c.read.new.buf, c.in-Ok.ensures.bound, c.pieces.octets.ok.0),
+      Consumes-trans _ _ _ _ _ c.pieces.invariant.taken c.in-Ok.ensures.octets.0,
+    )
 
 pub returns-then-count-limit-clause-too_long_left : goal.returns-then-count-limit-clause-too_long_left
 returns-then-count-limit-clause-too_long_left g c is =

@@ -9,24 +9,30 @@ use Rattle.compression.proofs.collector.Collector.emit.Goals as goal
 
 pub invariant_of-self : goal.invariant_of-self
 invariant_of-self c =
-    let v : Collecting = record { ow = c.self.inside.ow.0; calc = c.self.inside.calc.0; earliest = c.self.inside.earliest.0; waiting = c.self.inside.waiting } in
+    let v : Collecting = record { ow = c.self.inside.ow.0; calc = c.self.inside.calc.0; earliest = c.self.inside.earliest.0; waiting = c.self.inside.waiting }
+    in
     let later = to_z w64 (of_z w64 c.max.result) in
     let le : c.self.inside.earliest.0 ≤ℤ later = omega (arith, ints, c.max.ensures.self_bound) in
     IsSound-emitted v c.remove_first-first.result c.remove_first-first.new.self later c.self.invariant c.remove_first-first.ensures le
 
 pub returns-clause-due : goal.returns-clause-due
 returns-clause-due c =
-    let v : Collecting = record { ow = c.self.inside.ow.0; calc = c.self.inside.calc.0; earliest = c.self.inside.earliest.0; waiting = c.self.inside.waiting } in
-    let at : c.compressed-compressed.result.at.0 ≡ emission v.ow v.calc c.remove_first-first.result = ap (λ (k : Compressed). k.at.0) c.compressed-compressed.ensures in
+    let v : Collecting = record { ow = c.self.inside.ow.0; calc = c.self.inside.calc.0; earliest = c.self.inside.earliest.0; waiting = c.self.inside.waiting }
+    in
+    let at : c.compressed-compressed.result.at.0 ≡ emission v.ow v.calc c.remove_first-first.result = ap (λ (k : Compressed). k.at.0)
+    c.compressed-compressed.ensures in
     rw (← c.self.view_is, at) (IsLeast-first v c.remove_first-first.result c.remove_first-first.new.self c.self.invariant c.remove_first-first.ensures)
 
 pub returns-clause-stands : goal.returns-clause-stands
 returns-clause-stands c =
-    let v : Collecting = record { ow = c.self.inside.ow.0; calc = c.self.inside.calc.0; earliest = c.self.inside.earliest.0; waiting = c.self.inside.waiting } in
+    let v : Collecting = record { ow = c.self.inside.ow.0; calc = c.self.inside.calc.0; earliest = c.self.inside.earliest.0; waiting = c.self.inside.waiting }
+    in
     let later = to_z w64 (of_z w64 c.max.result) in
-    let at : c.compressed-compressed.result.at.0 ≡ emission v.ow v.calc c.remove_first-first.result = ap (λ (k : Compressed). k.at.0) c.compressed-compressed.ensures in
+    let at : c.compressed-compressed.result.at.0 ≡ emission v.ow v.calc c.remove_first-first.result = ap (λ (k : Compressed). k.at.0)
+    c.compressed-compressed.ensures in
     let le : c.self.inside.earliest.0 ≤ℤ later = omega (arith, ints, c.max.ensures.self_bound) in
     let past : emission v.ow v.calc c.remove_first-first.result ≤ℤ later = omega (arith, ints, c.max.ensures.other_bound, at) in
     λ points emitted s.
     rw c.compressed-compressed.ensures
-    (Stands-emitted v points emitted c.remove_first-first.result c.remove_first-first.new.self later c.self.invariant c.remove_first-first.ensures le past (subst (λ (u : Collecting). StandsForPoints u points emitted) (sym c.self.view_is) s))
+    (Stands-emitted v points emitted c.remove_first-first.result c.remove_first-first.new.self later c.self.invariant c.remove_first-first.ensures le past
+    (subst (λ (u : Collecting). StandsForPoints u points emitted) (sym c.self.view_is) s))

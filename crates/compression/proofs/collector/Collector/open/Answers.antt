@@ -1,8 +1,8 @@
-use Rattle.std.proofs.Common.{◌≡◌, ◌∙◌, List, [], ◌∷◌, ◌++◌, ap, sym, subst}
+use Rattle.std.proofs.Common.{◌≡◌, ◌∙◌, List, [], ◌∷◌, ◌++◌, length, ap, sym, subst, arith}
 use Rattle.compression.specs.Clusters.{Point, Cluster}
 use Rattle.compression.specs.Collecting.{Collecting, with_opened}
 use Rattle.compression.specs.Row.{IsSound}
-use Rattle.compression.proofs.Sound.{IsSound-opened, room_to_open}
+use Rattle.compression.proofs.Sound.{IsSound-opened, length-push, room_to_open}
 use Rattle.compression.proofs.collector.Collector.open.Goals as goal
 
 pub push-requires : goal.push-requires
@@ -13,8 +13,20 @@ push-requires c =
 pub invariant_of-self : goal.invariant_of-self
 invariant_of-self c =
     let p : Point = record { reading = c.args.reading.0; master = c.args.master; cycle = c.args.cycle } in
-    let v : Collecting = record { ow = c.self.inside.ow.0; calc = c.self.inside.calc.0; earliest = c.self.inside.earliest.0; waiting = c.self.inside.waiting } in
+    let v : Collecting = record { ow = c.self.inside.ow.0; calc = c.self.inside.calc.0; earliest = c.self.inside.earliest.0; waiting = c.self.inside.waiting }
+    in
     let order = rw (← c.self.view_is) at c.requires.order in
     let none = rw (← c.self.view_is) at c.requires.none in
-    let waiting : c.push.new.self ≡ (with_opened v p).waiting = c.push.ensures ∙ ap (λ (k : Cluster). c.self.inside.waiting ++ k ∷ []) c.open-collection.ensures in
-    subst (λ (ws : List Cluster). IsSound (record v { earliest = c.args.reading.0; waiting = ws })) (sym waiting) (IsSound-opened v p c.self.invariant order c.requires.high none)
+    let due = rw (← c.self.view_is) at c.requires.due in
+    let room = room_to_open v c.args.reading.0 c.self.invariant order due none in
+    let waiting : c.push.new.self ≡ (with_opened v p).waiting = c.push.ensures ∙ ap (λ (k : Cluster). c.self.inside.waiting ++ k ∷ []) c.open-collection.ensures
+    in
+    subst (λ (ws : List Cluster). IsSound (record v { earliest = c.args.reading.0; waiting = ws })) (sym waiting)
+    (IsSound-opened v p c.self.invariant order c.requires.high none room)
+
+pub returns-clause-few : goal.returns-clause-few
+returns-clause-few c =
+    let sound : IsSound c.args.self.now = subst IsSound c.self.view_is c.self.invariant in
+    let room = room_to_open c.args.self.now c.args.reading.0 sound c.requires.order c.requires.due c.requires.none in
+    let same = ap (λ (v : Collecting). length v.waiting) c.self.view_is in
+    omega (arith, room, same, ap length c.push.ensures, length-push c.self.inside.waiting c.open-collection.result)

@@ -17,7 +17,8 @@ offer-taken-requires-clause-last c =
 pub invariant_of-self-in-Joined : goal.invariant_of-self-in-Joined
 invariant_of-self-in-Joined c =
     let p : Point = point_at c.args.reading.0 c.args.master c.args.cycle in
-    let v : Collecting = record { ow = c.self.inside.ow.0; calc = c.self.inside.calc.0; earliest = c.self.inside.earliest.0; waiting = c.self.inside.waiting } in
+    let v : Collecting = record { ow = c.self.inside.ow.0; calc = c.self.inside.calc.0; earliest = c.self.inside.earliest.0; waiting = c.self.inside.waiting }
+    in
     let order = rw (← c.self.view_is) at c.requires.order in
     IsSound-takes v p c.offer-taken.new.self c.self.invariant order (sym c.in-Joined.ensures.role) (c.in-Joined.ensures.joined refl)
 
@@ -25,19 +26,22 @@ pub returns-in-Opened-clause-role : goal.returns-in-Opened-clause-role
 returns-in-Opened-clause-role c =
     let p : Point = point_at c.args.reading.0 c.args.master c.args.cycle in
     λ points emitted clusters s are.
-    c.offer-taken.ensures.role ∙ ap (λ (v : Collecting). role v.waiting p) c.self.view_is ∙ role-whole c.args.self.now p c.requires.order points emitted clusters s are
+    c.offer-taken.ensures.role ∙ ap (λ (v : Collecting). role v.waiting p) c.self.view_is ∙ role-whole c.args.self.now p c.requires.order points emitted
+    clusters s are
 
 pub returns-in-Joined-clause-role : goal.returns-in-Joined-clause-role
 returns-in-Joined-clause-role c =
     let p : Point = point_at c.args.reading.0 c.args.master c.args.cycle in
     λ points emitted clusters s are.
-    c.offer-taken.ensures.role ∙ ap (λ (v : Collecting). role v.waiting p) c.self.view_is ∙ role-whole c.args.self.now p c.requires.order points emitted clusters s are
+    c.offer-taken.ensures.role ∙ ap (λ (v : Collecting). role v.waiting p) c.self.view_is ∙ role-whole c.args.self.now p c.requires.order points emitted
+    clusters s are
 
 pub returns-in-Repeat-clause-role : goal.returns-in-Repeat-clause-role
 returns-in-Repeat-clause-role c =
     let p : Point = point_at c.args.reading.0 c.args.master c.args.cycle in
     λ points emitted clusters s are.
-    c.offer-taken.ensures.role ∙ ap (λ (v : Collecting). role v.waiting p) c.self.view_is ∙ role-whole c.args.self.now p c.requires.order points emitted clusters s are
+    c.offer-taken.ensures.role ∙ ap (λ (v : Collecting). role v.waiting p) c.self.view_is ∙ role-whole c.args.self.now p c.requires.order points emitted
+    clusters s are
 
 pub returns-in-Opened-clause-stands : goal.returns-in-Opened-clause-stands
 returns-in-Opened-clause-stands c =
@@ -50,7 +54,8 @@ returns-in-Opened-clause-stands c =
 pub returns-in-Joined-clause-stands : goal.returns-in-Joined-clause-stands
 returns-in-Joined-clause-stands c =
     let p : Point = point_at c.args.reading.0 c.args.master c.args.cycle in
-    let v : Collecting = record { ow = c.self.inside.ow.0; calc = c.self.inside.calc.0; earliest = c.self.inside.earliest.0; waiting = c.self.inside.waiting } in
+    let v : Collecting = record { ow = c.self.inside.ow.0; calc = c.self.inside.calc.0; earliest = c.self.inside.earliest.0; waiting = c.self.inside.waiting }
+    in
     let w : Collecting = record { ow = c.self.inside.ow.0; calc = c.self.inside.calc.0; earliest = c.args.reading.0; waiting = c.offer-taken.new.self } in
     let order = rw (← c.self.view_is) at c.requires.order in
     λ points emitted s.
@@ -65,18 +70,35 @@ not_joined t (inr e) j = cc
 pub returns-in-Joined-clause-joins : goal.returns-in-Joined-clause-joins
 returns-in-Joined-clause-joins c =
     let p : Point = point_at c.args.reading.0 c.args.master c.args.cycle in
-    let v : Collecting = record { ow = c.self.inside.ow.0; calc = c.self.inside.calc.0; earliest = c.self.inside.earliest.0; waiting = c.self.inside.waiting } in
+    let v : Collecting = record { ow = c.self.inside.ow.0; calc = c.self.inside.calc.0; earliest = c.self.inside.earliest.0; waiting = c.self.inside.waiting }
+    in
     let last = last_is_joined v p c.offer-taken.new.self c.in-Joined.ensures.role (c.in-Joined.ensures.joined refl) in
     λ _. ap (λ (ws : List Cluster). record v { earliest = p.reading; waiting = ws }) last ∙ ap (λ (u : Collecting). with_joined u p) c.self.view_is
 
 pub returns-in-Repeat-clause-stands : goal.returns-in-Repeat-clause-stands
 returns-in-Repeat-clause-stands c =
     let p : Point = point_at c.args.reading.0 c.args.master c.args.cycle in
-    let v : Collecting = record { ow = c.self.inside.ow.0; calc = c.self.inside.calc.0; earliest = c.self.inside.earliest.0; waiting = c.self.inside.waiting } in
+    let v : Collecting = record { ow = c.self.inside.ow.0; calc = c.self.inside.calc.0; earliest = c.self.inside.earliest.0; waiting = c.self.inside.waiting }
+    in
     let w : Collecting = record v { waiting = c.offer-taken.new.self } in
     let order = rw (← c.self.view_is) at c.requires.order in
     let same : w ≡ v = ap (λ (ws : List Cluster). record v { waiting = ws }) (c.offer-taken.ensures.ignored (not_joined c.offer-taken.result c.in-Repeat.is)) in
     let is : (role v.waiting p ≡ Repeat) ⊎ (role v.waiting p ≡ OtherCycle) =
     elim c.in-Repeat.is [ inl e ↦ inl (sym c.offer-taken.ensures.role ∙ e) | inr e ↦ inr (sym c.offer-taken.ensures.role ∙ e) ] in
     λ points emitted s.
-    Stands-role_ignored v w p c.self.invariant order is same points emitted (subst (λ (u : Collecting). StandsForPoints u points emitted) (sym c.self.view_is) s)
+    Stands-role_ignored v w p c.self.invariant order is same points emitted
+    (subst (λ (u : Collecting). StandsForPoints u points emitted) (sym c.self.view_is) s)
+
+pub returns-in-Joined-clause-few : goal.returns-in-Joined-clause-few
+returns-in-Joined-clause-few c =
+    let p : Point = point_at c.args.reading.0 c.args.master c.args.cycle in
+    let inside = c.self.inside in
+    let v : Collecting = record { ow = inside.ow.0; calc = inside.calc.0; earliest = inside.earliest.0; waiting = inside.waiting } in
+    let order = rw (← c.self.view_is) at c.requires.order in
+    let joins = c.in-Joined.ensures.joined refl in
+    (IsSound-takes v p c.offer-taken.new.self c.self.invariant order (sym c.in-Joined.ensures.role) joins).few
+
+pub returns-in-Repeat-clause-few : goal.returns-in-Repeat-clause-few
+returns-in-Repeat-clause-few c =
+    let same = c.offer-taken.ensures.ignored (not_joined c.offer-taken.result c.in-Repeat.is) in
+    rw same c.self.invariant.few

@@ -9,7 +9,8 @@ overflow_sub-result c =
     let point : FitsSigned w64 (slice_index_or c.deref-2.result.now c.args.i (pos 0)) = search rules in
     let first : FitsSigned w64 (slice_index_or c.deref.result.now 0 (pos 0)) = search rules in
     let up : IsAscending c.args.self.now = subst IsAscending c.self.view_is c.self.invariant.1 in
-    rw (to_z-of_z, to_z-of_z, c.deref.ensures.0, c.deref-2.ensures.0, c.self.view_is) (offset_fits c.args.self.now c.args.i up c.requires.inside c.requires.near)
+    rw (to_z-of_z, to_z-of_z, c.deref.ensures.0, c.deref-2.ensures.0, c.self.view_is)
+    (offset_fits c.args.self.now c.args.i up c.requires.inside c.requires.near)
 
 pub returns-clause-value : goal.returns-clause-value
 returns-clause-value c =

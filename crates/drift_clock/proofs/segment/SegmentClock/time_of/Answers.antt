@@ -16,8 +16,10 @@ is_counted c =
     let ahead : i.count ≤ 10 ^ 9 * c.args.goal = omega (arith, ap (λ (x : Segment). x.count) is, c.requires.ahead) in
     let missing : c.from.result * 1000000000 - i.count ≡ 10 ^ 9 * c.args.goal - i.count = omega (arith, c.from.ensures) in
     let by : c.from-2.result ≡ gain i.rate.0 = c.from-2.ensures ∙ c.gain_of.ensures in
-    let steps : c.div_ceil-steps.result ≡ div_ceil (10 ^ 9 * c.args.goal - i.count) (gain i.rate.0) = c.div_ceil-steps.ensures ∙ ap (λ n. div_ceil n c.from-2.result) missing ∙ ap (div_ceil (10 ^ 9 * c.args.goal - i.count)) by in
-    subst (λ (x : Segment). IsCounted x c.args.goal (i.at + c.div_ceil-steps.result)) is (segment_counts_up s c.args.goal c.div_ceil-steps.result (omega (arith, near.0)) ahead steps)
+    let steps : c.div_ceil-steps.result ≡ div_ceil (10 ^ 9 * c.args.goal - i.count) (gain i.rate.0) = c.div_ceil-steps.ensures
+    ∙ ap (λ n. div_ceil n c.from-2.result) missing ∙ ap (div_ceil (10 ^ 9 * c.args.goal - i.count)) by in
+    subst (λ (x : Segment). IsCounted x c.args.goal (i.at + c.div_ceil-steps.result)) is
+    (segment_counts_up s c.args.goal c.div_ceil-steps.result (omega (arith, near.0)) ahead steps)
 
 pub returns-clause-counted : goal.returns-clause-counted
 returns-clause-counted c = (is_counted c).counted

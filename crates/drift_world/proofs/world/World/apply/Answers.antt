@@ -7,7 +7,7 @@ use Rattle.net_plan.specs.declared.event.What.{What}
 use Rattle.run_law.specs.scenario.Hypothesis.{SetsFastRate}
 use Rattle.run_law.specs.declared.note.Note.{Note}
 use Rattle.run_law.specs.declared.note.NoteBody.TheVariants.{Event as Befalls}
-use Rattle.trace_text.specs.Ranges.{IsOfNetwork}
+use Rattle.net_plan.specs.Belonging.{IsOfNetwork}
 use Rattle.drift_world.proofs.world.World.apply.Goals as goal
 use Rattle.drift_world.proofs.world.World.apply.Goals.{in-End, in_default-matches}
 
@@ -30,7 +30,15 @@ pub returns-clause-stands : goal.returns-clause-stands
 returns-clause-stands g c = λ network events notes s.
     let w = c.self.inside in
     let K = g.C.Clock in
-    let v : Progress _ = record { network = w.accepted.now; clocks = w.clocks.items; lines = w.lines; given = w.given; now = w.now; ended = w.ended; shown = w.shown } in
+    let v : Progress _ = record {
+      network = w.accepted.now;
+      clocks = w.clocks.items;
+      lines = w.lines;
+      given = w.given;
+      now = w.now;
+      ended = w.ended;
+      shown = w.shown;
+    } in
     let x : What → Note = λ what. record { number = w.given + 1; time = c.args.event.now.time; body = Befalls c.args.line what } in
     let test : IsEndTest c.args.event.now.what c.match-matches.self =
     elim c.match-matches.branch [
@@ -40,7 +48,8 @@ returns-clause-stands g c = λ network events notes s.
         is_end = λ is. absurd (t.in_default-matches.not-End is);
       }
     ] in
-    applied K.fresh K.after_step K.reading network v events notes c.args.event.now c.set_rate.new.clocks.items c.args.line c.match-matches.self (x c.in-Ok.what) (ap x c.in-Ok.ensures)
+    applied K.fresh K.after_step K.reading network v events notes c.args.event.now c.set_rate.new.clocks.items c.args.line c.match-matches.self (x c.in-Ok.what)
+    (ap x c.in-Ok.ensures)
     (c.requires.line ∙ ap (λ (p : Progress _). p.lines + 1) (sym c.self.view_is))
     (ap (λ (p : Progress _). p.ended) c.self.view_is ∙ c.requires.open)
     c.self.invariant.begun
@@ -52,7 +61,15 @@ pub returns-clause-run : goal.returns-clause-run
 returns-clause-run g c = λ network events notes s.
     let w = c.self.inside in
     let K = g.C.Clock in
-    let v : Progress _ = record { network = w.accepted.now; clocks = w.clocks.items; lines = w.lines; given = w.given; now = w.now; ended = w.ended; shown = w.shown } in
+    let v : Progress _ = record {
+      network = w.accepted.now;
+      clocks = w.clocks.items;
+      lines = w.lines;
+      given = w.given;
+      now = w.now;
+      ended = w.ended;
+      shown = w.shown;
+    } in
     let x : What → Note = λ what. record { number = w.given + 1; time = c.args.event.now.time; body = Befalls c.args.line what } in
     applied_run K.fresh K.after_step K.reading network v events notes c.args.event.now c.args.line (x c.in-Ok.what) (ap x c.in-Ok.ensures)
     (c.requires.line ∙ ap (λ (p : Progress _). p.lines + 1) (sym c.self.view_is))

@@ -4,7 +4,7 @@ use Rattle.net_plan.specs.declared.event.Event.{Event}
 use Rattle.net_plan.specs.declared.network.Network.{Network}
 use Rattle.run_law.specs.scenario.Hypothesis.{Violates, condition_number}
 use Rattle.run_law.specs.declared.outside.Outside.{Outside}
-use Rattle.trace_text.specs.Ranges.{IsOfNetwork}
+use Rattle.net_plan.specs.Belonging.{IsOfNetwork}
 use Rattle.fault_hypothesis.proofs.watch.Watch.judge.Given as goal
 
 -- the event breaks none of the conditions so far

@@ -4,7 +4,7 @@ use Rattle.pcf_values.specs.declared.channel.Channel.{Channel}
 use Rattle.run_law.specs.scenario.Faults.{IsLinkOf}
 use Rattle.schedule_tables.specs.Rules.{KeepsRules}
 use Rattle.schedule_tables.specs.declared.rule.Rule.TheVariants.{Limits}
-use Rattle.trace_text.specs.Ranges.{IsOfNetwork}
+use Rattle.net_plan.specs.Belonging.{IsOfNetwork}
 use Rattle.fault_hypothesis.proofs.Cuts.{faulty_cut, faulty_stays, faulty_uncut}
 use Rattle.fault_hypothesis.proofs.Keeping.{all_of_network, all_within, broken_breaks, broken_stays, on_stays, on_turns}
 use Rattle.fault_hypothesis.proofs.watch.Watch.keep.Goals as goal
@@ -13,14 +13,17 @@ use Rattle.fault_hypothesis.proofs.watch.Watch.keep.Goals as goal
 pub returns-then-is_none : goal.returns-then-is_none
 returns-then-is_none c = λ network admitted w of_network within.
     let rules = subst KeepsRules w.over c.network-network.ensures.rules in
-    let on = subst (λ (n : Network). (channel : Channel) → (c.channel_of-self.result ≡ Some channel) ↔ IsLinkOf n channel c.in-Cut.link) (c.network-network.ensures.value ∙ w.over) c.channel_of-self.ensures in
+    let on = subst (λ (n : Network). (channel : Channel) → (c.channel_of-self.result ≡ Some channel) ↔ IsLinkOf n channel c.in-Cut.link)
+    (c.network-network.ensures.value ∙ w.over) c.channel_of-self.ensures in
     record {
       over = w.over;
       of_network = all_of_network network admitted c.args.event.now w.of_network of_network;
       within = all_within network admitted c.args.event.now w.within within;
       last = (admitted, c.args.event.now, refl, refl);
       broken = broken_stays admitted c.args.event.now c.args.self.now.broken (λ d b. let what = c.in-Cut.is in absurd cc) w.broken;
-      faulty = faulty_cut network admitted c.args.event.now c.in-Cut.link c.in-Cut.field-1 c.args.self.now.faulty c.channel_of-self.result rules w.of_network c.in-Cut.is on c.if-is_none.ensures w.faulty;
+      faulty =
+          faulty_cut network admitted c.args.event.now c.in-Cut.link c.in-Cut.field-1 c.args.self.now.faulty c.channel_of-self.result rules w.of_network
+          c.in-Cut.is on c.if-is_none.ensures w.faulty;
       turned_on = on_stays network admitted c.args.event.now c.args.self.now.turned_on (λ d b. let what = c.in-Cut.is in absurd cc) w.turned_on;
     }
 
@@ -42,7 +45,8 @@ pub returns-in-On : goal.returns-in-On
 returns-in-On c = λ network admitted w of_network within.
     let rules = subst KeepsRules w.over c.network-network.ensures.rules in
     let few = (rules Limits 0).devices refl in
-    let room : length c.args.self.now.turned_on ≡ 64 = sym (length-set c.args.self.now.turned_on c.in-On.device.0 true) ∙ ap length (sym c.turn_on.ensures) ∙ c.turn_on.array_long in
+    let room : length c.args.self.now.turned_on ≡ 64 = sym (length-set c.args.self.now.turned_on c.in-On.device.0 true) ∙ ap length (sym c.turn_on.ensures)
+    ∙ c.turn_on.array_long in
     record {
       over = w.over;
       of_network = all_of_network network admitted c.args.event.now w.of_network of_network;
@@ -50,7 +54,9 @@ returns-in-On c = λ network admitted w of_network within.
       last = (admitted, c.args.event.now, refl, refl);
       broken = broken_stays admitted c.args.event.now c.args.self.now.broken (λ d b. let what = c.in-On.is in absurd cc) w.broken;
       faulty = faulty_uncut network admitted c.args.event.now c.args.self.now.faulty (λ l b. let what = c.in-On.is in let cut = b.1 in absurd cc) w.faulty;
-      turned_on = rw c.turn_on.ensures (on_turns network admitted c.args.event.now c.in-On.device c.args.self.now.turned_on (omega (arith, room)) (subst (IsOfNetwork network) c.in-On.is of_network) c.in-On.is w.turned_on);
+      turned_on =
+          rw c.turn_on.ensures (on_turns network admitted c.args.event.now c.in-On.device c.args.self.now.turned_on (omega (arith, room))
+          (subst (IsOfNetwork network) c.in-On.is of_network) c.in-On.is w.turned_on);
     }
 
 pub returns-in-Break : goal.returns-in-Break

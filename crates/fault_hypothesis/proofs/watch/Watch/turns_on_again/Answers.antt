@@ -1,7 +1,7 @@
 use Rattle.std.proofs.Common.{◌≡◌, ◌∙◌, inl, inr, subst, sym}
 use Rattle.net_plan.specs.declared.network.Network.{Network}
 use Rattle.run_law.specs.scenario.Faults.{BeginsOn, IsBroken, IsTurnedOn}
-use Rattle.trace_text.specs.Ranges.{IsOfNetwork}
+use Rattle.net_plan.specs.Belonging.{IsOfNetwork}
 use Rattle.fault_hypothesis.proofs.watch.Watch.turns_on_again.Goals as goal
 use Rattle.fault_hypothesis.proofs.watch.Watch.turns_on_again.Goals.{then-begins_on, else-begins_on}
 

@@ -2,7 +2,7 @@ use Rattle.std.proofs.Common.{◌≡◌, ◌+◌, get_or, take, sym, subst, ap, 
 use Rattle.std.proofs.lemmas.Grind.{common_steps}
 use Rattle.net_plan.specs.declared.tables.VirtualLink.{VirtualLink}
 use Rattle.net_file.specs.Numbering.{Numbering, numbering, with_name, first_of}
-use Rattle.net_file.specs.Schema.{vl_names}
+use Rattle.net_plan.specs.Bearers.{vl_names}
 use Rattle.net_file.proofs.Numbers.{first_of_more}
 use Rattle.net_file.proofs.names.Names.of_vls.Goals as goal
 
@@ -13,5 +13,6 @@ vls-preserved c =
     let d = c.index-vls-index.result in
     let added : numbering c.add.new.self.numbers ≡ with_name (numbering c.vls.names.numbers) d.name i = grind (arith, common_steps) in
     let here : get_or xs i d ≡ d = grind (arith, common_steps) in
-    let grown = subst (λ (x : VirtualLink). first_of (vl_names (take (i + 1) xs)) ≡ with_name (first_of (vl_names (take i xs))) x.name i) here (first_of_more (λ (x : VirtualLink). x.name) xs i d c.vls-test.true) in
+    let grown = subst (λ (x : VirtualLink). first_of (vl_names (take (i + 1) xs)) ≡ with_name (first_of (vl_names (take i xs))) x.name i) here
+    (first_of_more (λ (x : VirtualLink). x.name) xs i d c.vls-test.true) in
     added ∙ ap (λ (n : Numbering). with_name n d.name i) c.vls.invariant ∙ sym grown

@@ -14,8 +14,12 @@ loop-place-preserved c =
     let one = c.extent_from.ensures in
     let both = c.max-extent.ensures in
     record {
-      jitter = subst (IsGreatest (IsOfPathBelow n ch (at + 1) (jitter_on n))) (sym both.jitter) (greatest_below_more n ch (jitter_on n) at _ _ inv.jitter one.jitter);
-      links = subst (IsGreatest (IsOfPathBelow n ch (at + 1) (length {A = LinkId}))) (sym both.links) (greatest_below_more n ch (length {A = LinkId}) at _ _ inv.links one.links);
+      jitter =
+          subst (IsGreatest (IsOfPathBelow n ch (at + 1) (jitter_on n))) (sym both.jitter)
+          (greatest_below_more n ch (jitter_on n) at _ _ inv.jitter one.jitter);
+      links =
+          subst (IsGreatest (IsOfPathBelow n ch (at + 1) (length {A = LinkId}))) (sym both.links)
+          (greatest_below_more n ch (length {A = LinkId}) at _ _ inv.links one.links);
       jitter_bound = omega (arith, both.jitter, inv.jitter_bound, one.jitter_bound);
       links_bound = omega (arith, both.links, inv.links_bound, one.links_bound);
     }
@@ -25,11 +29,13 @@ returns-clause-jitter c =
     let n = c.args.self.now in
     let same : length c.as_slice-place-end.result.now ≡ length n.device = ap (λ (xs : _). length {A = Device} xs) c.as_slice-place-end.ensures in
     let all : c.loop-place.place ≡ length n.device = omega (arith, same, c.loop-place.auto.place-end, c.loop-place-test.false) in
-    greatest_below_all n c.args.channel (jitter_on n) _ (subst (λ (k : ℕ). IsGreatest (IsOfPathBelow n c.args.channel k (jitter_on n)) c.loop-place.extent.jitter) all c.loop-place.invariant.jitter)
+    greatest_below_all n c.args.channel (jitter_on n) _
+    (subst (λ (k : ℕ). IsGreatest (IsOfPathBelow n c.args.channel k (jitter_on n)) c.loop-place.extent.jitter) all c.loop-place.invariant.jitter)
 
 pub returns-clause-links : goal.returns-clause-links
 returns-clause-links c =
     let n = c.args.self.now in
     let same : length c.as_slice-place-end.result.now ≡ length n.device = ap (λ (xs : _). length {A = Device} xs) c.as_slice-place-end.ensures in
     let all : c.loop-place.place ≡ length n.device = omega (arith, same, c.loop-place.auto.place-end, c.loop-place-test.false) in
-    greatest_below_all n c.args.channel (length {A = LinkId}) _ (subst (λ (k : ℕ). IsGreatest (IsOfPathBelow n c.args.channel k (length {A = LinkId})) c.loop-place.extent.links) all c.loop-place.invariant.links)
+    greatest_below_all n c.args.channel (length {A = LinkId}) _
+    (subst (λ (k : ℕ). IsGreatest (IsOfPathBelow n c.args.channel k (length {A = LinkId})) c.loop-place.extent.links) all c.loop-place.invariant.links)

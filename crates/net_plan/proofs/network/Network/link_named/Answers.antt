@@ -8,7 +8,8 @@ pub returns-in_err-place-clause-none : goal.returns-in_err-place-clause-none
 returns-in_err-place-clause-none c =
     let xs = c.args.self.now.link in
     let name = c.args.name.now in
-    let found = IsFirst-from_position _ _ c.position.result (λ x. x.name ≡ name) (λ x. x.name ≢ name) c.position.ensures.ran (YieldsList-from_slice xs cc) (λ x q k. search (rules, tests)) (λ x q k. search (rules, tests)) in
+    let found = IsFirst-from_position _ _ c.position.result (λ x. x.name ≡ name) (λ x. x.name ≢ name) c.position.ensures.ran (YieldsList-from_slice xs cc)
+    (λ x q k. search (rules, tests)) (λ x q k. search (rules, tests)) in
     let absent = subst (IsSearched (λ (x : Link). x.name) xs name) c.in_err-place.was found in
     rw c.from_residual.ensures (no_bearer (λ (x : Link). x.name) xs name absent)
 
@@ -16,5 +17,6 @@ pub returns-clause-first : goal.returns-clause-first
 returns-clause-first c =
     let xs = c.args.self.now.link in
     let name = c.args.name.now in
-    let found = IsFirst-from_position _ _ c.position.result (λ x. x.name ≡ name) (λ x. x.name ≢ name) c.position.ensures.ran (YieldsList-from_slice xs cc) (λ x q k. search (rules, tests)) (λ x q k. search (rules, tests)) in
+    let found = IsFirst-from_position _ _ c.position.result (λ x. x.name ≡ name) (λ x. x.name ≢ name) c.position.ensures.ran (YieldsList-from_slice xs cc)
+    (λ x q k. search (rules, tests)) (λ x q k. search (rules, tests)) in
     bearer_found (λ (x : Link). x.name) xs name c.in_ok-place.place (subst (IsSearched (λ (x : Link). x.name) xs name) c.in_ok-place.was found)

@@ -20,10 +20,13 @@ returns-then-not-member_is_new c =
     let devices = c.as_slice-devices.result.now in
     let place = c.loop-place.place in
     let device = c.index-devices-place.result in
-    let at : slice_get devices place ≡ Some device = slice_get_read devices (length devices) place device refl c.loop-place-test.true c.index-devices-place.is in
+    let at : slice_get devices place ≡ Some device = slice_get_read devices (length devices) place device refl c.loop-place-test.true c.index-devices-place.is
+    in
     let passes : master device ≡ _ = sym c.is_master_device.ensures ∙ c.if-is_master_device.true in
-    let broken = λ (m : MembersDiffer c.args.network.now). let pairs = pairs_from_filter master Differ devices (length devices) (subst (λ (xs : List Device). AtPairs Differ (filter master xs)) (sym c.as_slice-devices.ensures) m) in
-    false≢true (sym c.if-not-member_is_new.true ∙ c.member_is_new.ensures.1 (before_from_pairs master Differ devices (length devices) place device pairs c.loop-place-test.true at passes)) in
+    let broken = λ (m : MembersDiffer c.args.network.now). let pairs = pairs_from_filter master Differ devices (length devices)
+    (subst (λ (xs : List Device). AtPairs Differ (filter master xs)) (sym c.as_slice-devices.ensures) m) in
+    false≢true (sym c.if-not-member_is_new.true
+    ∙ c.member_is_new.ensures.1 (before_from_pairs master Differ devices (length devices) place device pairs c.loop-place-test.true at passes)) in
     (λ h. absurd (false≢true h), λ m. absurd (broken m))
 
 pub loop-place-preserved : goal.loop-place-preserved
@@ -31,10 +34,13 @@ loop-place-preserved c =
     let devices = c.as_slice-devices.result.now in
     let place = c.loop-place.place in
     let device = c.index-devices-place.result in
-    let at : slice_get devices place ≡ Some device = slice_get_read devices (length devices) place device refl c.loop-place-test.true c.index-devices-place.is in
+    let at : slice_get devices place ≡ Some device = slice_get_read devices (length devices) place device refl c.loop-place-test.true c.index-devices-place.is
+    in
     elim c.else-is_master_device.branch [
-      | else-is_master_device-via-then-is_master_device+else-not-member_is_new w ↦ pairs_more master Differ devices place device at c.loop-place.invariant (λ _. w.member_is_new.ensures.0 w.if-not-member_is_new.false)
-      | else-is_master_device-via-else-is_master_device w ↦ pairs_more master Differ devices place device at c.loop-place.invariant (λ e. absurd (false≢true (sym w.if-is_master_device.false ∙ c.is_master_device.ensures ∙ e)))
+      | else-is_master_device-via-then-is_master_device+else-not-member_is_new w ↦ pairs_more master Differ devices place device at c.loop-place.invariant
+          (λ _. w.member_is_new.ensures.0 w.if-not-member_is_new.false)
+      | else-is_master_device-via-else-is_master_device w ↦ pairs_more master Differ devices place device at c.loop-place.invariant
+          (λ e. absurd (false≢true (sym w.if-is_master_device.false ∙ c.is_master_device.ensures ∙ e)))
     ]
 
 pub returns : goal.returns

@@ -16,5 +16,8 @@ returns c =
     let device = c.index-devices-place.result in
     let is : device ≡ get_or devices place device = c.index-devices-place.is ∙ ap (λ (xs : List Device). get_or xs place device) c.as_slice-devices.ensures in
     let at : slice_get devices place ≡ Some device = slice_get-get_or devices place device c.requires ∙ ap (λ (d : Device). Some d) (sym is) in
-    let cases = cases_from_all _ _ c.all.result (Differ device) (λ (e : Device). Differ device e → ⊥) c.all.ensures.ran (YieldsList-from_take place (YieldsList-from_slice devices cc) c.take.ensures.count) (λ x q k. search (rules, tests)) (λ x q k. search (rules, tests)) in
-    decides_new Differ devices place device c.all.result at (decides_all (Differ device) (λ (e : Device). Differ device e → ⊥) (take place devices) c.all.result (λ e h g. g h) cases)
+    let cases = cases_from_all _ _ c.all.result (Differ device) (λ (e : Device). Differ device e → ⊥) c.all.ensures.ran
+    (YieldsList-from_take place (YieldsList-from_slice devices cc) c.take.ensures.count) (λ x q k. search (rules, tests))
+    (λ x q k. search (rules, tests)) in
+    decides_new Differ devices place device c.all.result at (decides_all (Differ device) (λ (e : Device). Differ device e → ⊥) (take place devices) c.all.result
+    (λ e h g. g h) cases)

@@ -19,5 +19,7 @@ returns c =
     let link = c.index-links-place.result in
     let is : link ≡ get_or links place link = c.index-links-place.is ∙ ap (λ (xs : List Link). get_or xs place link) c.as_slice-links.ensures in
     let at : slice_get links place ≡ Some link = slice_get-get_or links place link c.requires ∙ ap (λ (l : Link). Some l) (sym is) in
-    let cases = cases_from_all _ _ c.all.result (Differ link) (Agree link) c.all.ensures.ran (YieldsList-from_take place (YieldsList-from_slice links cc) c.take.ensures.count) (λ x q k. search (rules, tests)) (λ x q k. search (rules, tests)) in
+    let cases = cases_from_all _ _ c.all.result (Differ link) (Agree link) c.all.ensures.ran
+    (YieldsList-from_take place (YieldsList-from_slice links cc) c.take.ensures.count) (λ x q k. search (rules, tests)) (λ x q k. search (rules, tests))
+    in
     decides_new Differ links place link c.all.result at (decides_all (Differ link) (Agree link) (take place links) c.all.result (λ e h g. h g) cases)

@@ -13,5 +13,8 @@ pub returns : goal.returns
 returns c =
     let devices = c.args.network.now.device in
     let channel = c.args.channel in
-    let count = count_from_yields_List c.filter.result c.count.result c.count.ensures.ran (YieldsList-from_filter _ (cm_test channel) (YieldsList-from_slice devices cc) c.filter.ensures.closure (λ x b q k. (search rules, same_from_decides b (cm_test channel x.now) (search (rules, tests)) (decides_cm channel x.now)))) in
-    decides_one (λ (d : DeviceId). d.0) (λ (k : ℕ). let d : DeviceId = record { 0 = k } in d) (λ d. refl) (λ k. refl) (cm_test channel) (λ (d : Device). (d.role ≡ Cm) × (d.channel ≡ Some channel)) (decides_cm channel) devices c.count.result count
+    let count = count_from_yields_List c.filter.result c.count.result c.count.ensures.ran
+    (YieldsList-from_filter _ (cm_test channel) (YieldsList-from_slice devices cc) c.filter.ensures.closure
+    (λ x b q k. (search rules, same_from_decides b (cm_test channel x.now) (search (rules, tests)) (decides_cm channel x.now)))) in
+    decides_one (λ (d : DeviceId). d.0) (λ (k : ℕ). let d : DeviceId = record { 0 = k } in d) (λ d. refl) (λ k. refl) (cm_test channel)
+    (λ (d : Device). (d.role ≡ Cm) × (d.channel ≡ Some channel)) (decides_cm channel) devices c.count.result count

@@ -15,5 +15,8 @@ returns c =
     let channel = c.args.channel in
     let device = c.args.device in
     let test = uplink_test n channel device in
-    let count = count_from_yields_List c.filter.result c.count.result c.count.ensures.ran (YieldsList-from_filter _ test (YieldsList-from_slice n.link cc) c.filter.ensures.closure (λ x b q k. (search rules, same_from_decides b (test x.now) (search (rules, tests)) (decides_uplink n channel device x.now)))) in
-    decides_one (λ (l : LinkId). l.0) (λ (k : ℕ). let l : LinkId = record { 0 = k } in l) (λ l. refl) (λ k. refl) test (λ (l : Link). (l.child ≡ device) × IsSwitchOf n channel l.parent) (decides_uplink n channel device) n.link c.count.result count
+    let count = count_from_yields_List c.filter.result c.count.result c.count.ensures.ran
+    (YieldsList-from_filter _ test (YieldsList-from_slice n.link cc) c.filter.ensures.closure
+    (λ x b q k. (search rules, same_from_decides b (test x.now) (search (rules, tests)) (decides_uplink n channel device x.now)))) in
+    decides_one (λ (l : LinkId). l.0) (λ (k : ℕ). let l : LinkId = record { 0 = k } in l) (λ l. refl) (λ k. refl) test (λ (l : Link). (l.child ≡ device)
+    × IsSwitchOf n channel l.parent) (decides_uplink n channel device) n.link c.count.result count

@@ -13,5 +13,8 @@ returns c =
     let links = c.args.network.now.link in
     let device = c.args.device in
     let test = child_test device in
-    let count = count_from_yields_List c.filter.result c.count.result c.count.ensures.ran (YieldsList-from_filter _ test (YieldsList-from_slice links cc) c.filter.ensures.closure (λ x b q k. (search rules, same_from_decides b (test x.now) (search (rules, tests)) (decides_child device x.now)))) in
-    decides_one (λ (l : LinkId). l.0) (λ (k : ℕ). let l : LinkId = record { 0 = k } in l) (λ l. refl) (λ k. refl) test (λ (l : Link). l.child ≡ device) (decides_child device) links c.count.result count
+    let count = count_from_yields_List c.filter.result c.count.result c.count.ensures.ran
+    (YieldsList-from_filter _ test (YieldsList-from_slice links cc) c.filter.ensures.closure
+    (λ x b q k. (search rules, same_from_decides b (test x.now) (search (rules, tests)) (decides_child device x.now)))) in
+    decides_one (λ (l : LinkId). l.0) (λ (k : ℕ). let l : LinkId = record { 0 = k } in l) (λ l. refl) (λ k. refl) test (λ (l : Link). l.child ≡ device)
+    (decides_child device) links c.count.result count

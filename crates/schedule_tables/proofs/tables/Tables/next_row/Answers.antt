@@ -18,7 +18,8 @@ returns-clause-next c n tables =
       | in-None w ↦ no_place n after place w.in-None.is w.place-is
     ] in
     let slots : AreSlotsOf n c.deref-2.result.now = rw c.deref-2.ensures.value tables.slots in
-    is_next_row n c.args.device c.args.cycle after place c.deref-2.result.now c.in_ok-next.next (omega arith) slots tables.periods of (c.in_ok-next.ensures.next slots.order)
+    is_next_row n c.args.device c.args.cycle after place c.deref-2.result.now c.in_ok-next.next (omega arith) slots tables.periods of
+    (c.in_ok-next.ensures.next slots.order)
 
 pub returns-in_err-next-clause-none : goal.returns-in_err-next-clause-none
 returns-in_err-next-clause-none c n tables =
@@ -33,4 +34,5 @@ returns-in_err-next-clause-none c n tables =
       | in-None w ↦ no_place n after place w.in-None.is w.place-is
     ] in
     let slots : AreSlotsOf n c.deref-2.result.now = rw c.deref-2.ensures.value tables.slots in
-    rw c.from_residual-in_err-next.ensures (has_no_next_row n c.args.device c.args.cycle after place c.deref-2.result.now slots tables.periods of (c.in_err-next.ensures.none slots.order))
+    rw c.from_residual-in_err-next.ensures (has_no_next_row n c.args.device c.args.cycle after place c.deref-2.result.now slots tables.periods of
+    (c.in_err-next.ensures.none slots.order))

@@ -2,7 +2,7 @@ use Rattle.std.proofs.Common.{Ok, Err, length, subst}
 use Rattle.std.specs.Prelude.{IfSome}
 use Rattle.net_plan.specs.declared.network.Network.{Network}
 use Rattle.net_plan.specs.declared.event.Event.{Event}
-use Rattle.trace_text.specs.Ranges.{IsOfNetwork}
+use Rattle.net_plan.specs.Belonging.{IsOfNetwork}
 use Rattle.tte_io.specs.ReaderState.{pending}
 use Rattle.tte_run.proofs.Following.{followed_with, goes_on, reads_fault, reads_on, reads_same, some_found, takes_few}
 use Rattle.tte_run.proofs.trace.Trace.next_event.Goals as goal

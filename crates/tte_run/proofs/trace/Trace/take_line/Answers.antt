@@ -3,7 +3,7 @@ use Rattle.fault_hypothesis.specs.Watching.{Watches}
 use Rattle.fault_hypothesis.specs.declared.watch.Watch.{Watch}
 use Rattle.net_plan.specs.declared.network.Network.{Network}
 use Rattle.net_plan.specs.declared.event.What.TheVariants.{End}
-use Rattle.trace_text.specs.Ranges.{IsOfNetwork}
+use Rattle.net_plan.specs.Belonging.{IsOfNetwork}
 use Rattle.tte_run.proofs.Following.{more_followed}
 use Rattle.tte_run.proofs.trace.Trace.take_line.Goals as goal
 use Rattle.tte_run.proofs.trace.Trace.take_line.Goals.{in-End, in_default}
