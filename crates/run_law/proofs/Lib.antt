@@ -2,4 +2,3 @@ pub mod scenario
 pub mod runs
 pub mod silent
 pub mod law
-pub mod machines

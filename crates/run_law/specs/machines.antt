@@ -4,4 +4,3 @@ pub mod Nodes
 pub mod Tasks
 pub mod Calls
 pub mod Answers
-pub mod LoneMasters

@@ -4,3 +4,4 @@ pub mod Judging
 pub mod Shape
 pub mod Timing
 pub mod Routes
+pub mod Parts

@@ -6,13 +6,15 @@ use Rattle.tte_run.specs.declared.status.Status.{Status}
 use Rattle.tte_run.specs.declared.status.Status.TheVariants.{ReadFault, OutOfMemory}
 
 -- the one answer with the property was given
-pub one_given : (Is : Answer → Type 0) (a : Answer) (status : Status) (old new : Shown) → Is a → ((b : Answer) → Is b → b ≡ a) → Gives a status old new → GivesOne Is status old new
+pub one_given : (Is : Answer → Type 0) (a : Answer) (status : Status) (old new : Shown) → Is a → ((b : Answer) → Is b → b ≡ a) → Gives a status old new
+    → GivesOne Is status old new
 one_given Is a status old new is one (inl g) = inl (a, is, g.0, g.1)
 one_given Is a status old new is one (inr (inl g)) = inr (inl (g.0, λ b h. subst (λ (x : Answer). PutFails x.lines old new) (sym (one b h)) g.1))
 one_given Is a status old new is one (inr (inr g)) = inr (inr (g.0, λ b h. subst (λ (x : Answer). PutsSome x.lines old new) (sym (one b h)) g.1))
 
 -- an answer with a property has a wider one, and no others have that
-pub widened : (Is Wide : Answer → Type 0) (status : Status) (old new : Shown) → ((a : Answer) → Is a → Wide a) → ((a : Answer) → Wide a → Is a) → GivesOne Is status old new → GivesOne Wide status old new
+pub widened : (Is Wide : Answer → Type 0) (status : Status) (old new : Shown) → ((a : Answer) → Is a → Wide a) → ((a : Answer) → Wide a → Is a)
+    → GivesOne Is status old new → GivesOne Wide status old new
 widened Is Wide status old new into back (inl g) = inl (g.0, into g.0 g.1, g.2, g.3)
 widened Is Wide status old new into back (inr (inl g)) = inr (inl (g.0, λ b h. g.1 b (back b h)))
 widened Is Wide status old new into back (inr (inr g)) = inr (inr (g.0, λ b h. g.1 b (back b h)))
@@ -32,12 +34,17 @@ not_behind xs y ys e = omega (arith, ap length e, length-append xs (y ∷ ys))
 pub puts_nothing : (a : Answer) (status : Status) (old new : Shown) → a.lines ≡ [] → Gives a status old new → PutsLines [] old new
 puts_nothing a status old new e (inl g) = subst (λ (ls : List (List ℕ)). PutsLines ls old new) e g.1
 puts_nothing a status old new e (inr (inl g)) = absurd (not_behind g.1.done g.1.line g.1.left (sym e ∙ g.1.order))
-puts_nothing a status old new e (inr (inr g)) = let none = nothing g.1.done g.1.left (sym e ∙ g.1.order) in subst (λ (ls : List (List ℕ)). PutsLines ls old new) none g.1.puts
+puts_nothing a status old new e (inr (inr g)) =
+    let none = nothing g.1.done g.1.left (sym e ∙ g.1.order) in subst (λ (ls : List (List ℕ)). PutsLines ls old new) none g.1.puts
 
 -- where a read failed or memory ran out before any put, a front of any answer was given
 pub cut_given : (Is : Answer → Type 0) (a : Answer) (status : Status) (old new : Shown) → a.lines ≡ [] → (a.status ≡ ReadFault) ⊎ (a.status ≡ OutOfMemory)
     → Gives a status old new → GivesOne Is status old new
 cut_given Is a status old new e cause (inl g) =
-    inr (inr (⊎_elim (λ (r : a.status ≡ ReadFault). inl (g.0 ∙ r)) (λ (m : a.status ≡ OutOfMemory). inr (g.0 ∙ m)) cause, λ b h. none_put b.lines old new (puts_nothing a status old new e (inl g))))
+    inr (inr (
+      ⊎_elim (λ (r : a.status ≡ ReadFault). inl (g.0 ∙ r)) (λ (m : a.status ≡ OutOfMemory). inr (g.0 ∙ m)) cause,
+      λ b h. none_put b.lines old new
+          (puts_nothing a status old new e (inl g)),
+    ))
 cut_given Is a status old new e cause (inr (inl g)) = absurd (not_behind g.1.done g.1.line g.1.left (sym e ∙ g.1.order))
 cut_given Is a status old new e cause (inr (inr g)) = inr (inr (g.0, λ b h. none_put b.lines old new (puts_nothing a status old new e (inr (inr g)))))

@@ -12,21 +12,25 @@ use Rattle.tte_run.specs.Putting.{Shown, puts_after, PutsLines, PutsSome, PutFai
 pub PutsLines-none : (s : Shown) → PutsLines [] s s
 PutsLines-none s = record { written = Appends-nil s.written; counted = refl }
 
-puts_after-more : (lines : List (List ℕ)) (line : List ℕ) (puts : ℕ) → puts_after (length (lines ++ line ∷ [])) puts ≡ next_count (puts_after (length lines) puts)
+puts_after-more : (lines : List (List ℕ)) (line : List ℕ) (puts : ℕ)
+    → puts_after (length (lines ++ line ∷ [])) puts ≡ next_count (puts_after (length lines) puts)
 puts_after-more [] line puts = refl
 puts_after-more (x ∷ lines) line puts = puts_after-more lines line (next_count puts)
 
 -- one more line
-pub PutsLines-more : (lines : List (List ℕ)) (line : List ℕ) (a b c : Shown) → PutsLines lines a b → Appends b.written c.written line → c.puts ≡ next_count b.puts → PutsLines (lines ++ line ∷ []) a c
+pub PutsLines-more : (lines : List (List ℕ)) (line : List ℕ) (a b c : Shown) → PutsLines lines a b → Appends b.written c.written line
+    → c.puts ≡ next_count b.puts → PutsLines (lines ++ line ∷ []) a c
 PutsLines-more lines line a b c p w n = record {
   written =
-      let joined : concat (lines ++ line ∷ []) ≡ concat lines ++ line = concat-append lines (line ∷ []) ∙ ap (λ (t : List ℕ). concat lines ++ t) (append-nil line) in
+      let joined : concat (lines ++ line ∷ []) ≡ concat lines ++ line =
+      concat-append lines (line ∷ []) ∙ ap (λ (t : List ℕ). concat lines ++ t) (append-nil line) in
       rw joined (Appends-trans a.written b.written c.written (concat lines) line p.written w);
   counted = n ∙ ap next_count p.counted ∙ sym (puts_after-more lines line a.puts);
 }
 
 -- the put of the next line failed
-pub PutsLines-fails : (lines : List (List ℕ)) (line : List ℕ) (left : List (List ℕ)) (a b c : Shown) → PutsLines lines a b → AppendsFront b.written c.written line → c.puts ≡ next_count b.puts → PutFails (lines ++ line ∷ left) a c
+pub PutsLines-fails : (lines : List (List ℕ)) (line : List ℕ) (left : List (List ℕ)) (a b c : Shown) → PutsLines lines a b
+    → AppendsFront b.written c.written line → c.puts ≡ next_count b.puts → PutFails (lines ++ line ∷ left) a c
 PutsLines-fails lines line left a b c p w n = record { done = lines; line = line; left = left; order = refl; before = b; puts = p; front = w; counted = n }
 
 puts_after-append : (xs ys : List (List ℕ)) (puts : ℕ) → puts_after (length (xs ++ ys)) puts ≡ puts_after (length ys) (puts_after (length xs) puts)

@@ -1,5 +1,5 @@
 -- What the program owes: an answer, whole or cut short.
-use Rattle.std.specs.Prelude.{◌≡◌, ◌⊎◌, ℕ, List, ◌∷◌, Option, Some, None}
+use Rattle.std.specs.Prelude.{◌≡◌, ◌⊎◌, ℕ, List, [], ◌∷◌, Option, Some, None}
 use Rattle.tte_run.specs.Putting.{Shown, PutsLines, PutsSome, PutFails}
 use Rattle.tte_run.specs.declared.status.Status.{Status}
 use Rattle.tte_run.specs.declared.status.Status.TheVariants.{Done, ReadFault, WriteFault, OutOfMemory}
@@ -8,6 +8,10 @@ use Rattle.tte_run.specs.declared.status.Status.TheVariants.{Done, ReadFault, Wr
 pub record Answer : Type 0 where
   pub status : Status
   pub lines : List (List ℕ)
+
+-- a status and one line
+abbrev pub line_answer : Status → List ℕ → Answer
+line_answer status line = record { status = status; lines = line ∷ [] }
 
 -- the same answer with one more line in front
 abbrev pub with_line : List ℕ → Answer → Answer

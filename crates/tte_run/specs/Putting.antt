@@ -4,6 +4,7 @@ use Rattle.std.specs.List.{concat}
 use Rattle.std.specs.Io.KnownBytes.{Appends}
 use Rattle.tte_io.specs.Faults.{next_count}
 use Rattle.tte_io.specs.Told.{AppendsFront}
+use Rattle.tte_io.specs.declared.ends.Sink.{Ghosts}
 
 -- the octets written, where they are told, and the count of puts
 pub record Shown : Type 0 where
@@ -11,8 +12,12 @@ pub record Shown : Type 0 where
   pub puts : ℕ
 
 -- what a sink shows
-abbrev pub shown_by : {K : Type 0} → (K → Option (List ℕ)) → (K → ℕ) → K → Shown
-shown_by written puts out = record { written = written out; puts = puts out }
+abbrev pub shown_by : {K : Type 0} → Ghosts K → K → Shown
+shown_by sink out = record { written = sink.written out; puts = sink.puts out }
+
+-- from what a sink showed before a call to what it shows after it
+abbrev pub Over : {K : Type 0} → Ghosts K → K → K → (Shown → Shown → Type 0) → Type 0
+Over sink old new Leads = Leads (shown_by sink old) (shown_by sink new)
 
 -- the count of puts after n more
 abbrev pub puts_after : ℕ → ℕ → ℕ

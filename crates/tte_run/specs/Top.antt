@@ -1,17 +1,17 @@
 -- What the program answers.
-use Rattle.std.specs.Prelude.{◌≡◌, ◌≢◌, ◌⊎◌, IfSome, ℕ, ◌≤◌, List, [], ◌∷◌, length, codes, Option, Some, None}
+use Rattle.std.specs.Prelude.{◌≡◌, ◌≢◌, ◌⊎◌, IfSome, ℕ, ◌≤◌, List, [], length, codes, Option, Some, None}
 use Rattle.pcf_values.specs.declared.pcf.Pcf.{Pcf}
 use Rattle.pcf_codec.specs.Sequence.{SpellsAll}
 use Rattle.tte_run.specs.Putting.{Shown}
 use Rattle.net_plan.specs.declared.event.Event.{Event}
 use Rattle.net_plan.specs.declared.network.Network.{Network}
-use Rattle.tte_run.specs.Accepting.{IsNetworkAnswer, MeansAccepted}
-use Rattle.tte_run.specs.Answering.{Answer, ForOctets, Gives, GivesOne, IsDone}
-use Rattle.tte_run.specs.Checking.{IsCheckAnswer}
-use Rattle.tte_run.specs.Running.{IsRunAnswer, IsUnbuilt}
-use Rattle.tte_run.specs.Showing.{show_answer, file_limit}
+use Rattle.tte_run.specs.networks.Accepting.{IsNetworkAnswer, MeansAccepted}
+use Rattle.tte_run.specs.Answering.{Answer, ForOctets, Gives, GivesOne, IsDone, line_answer}
+use Rattle.tte_run.specs.networks.Checking.{IsCheckAnswer}
+use Rattle.tte_run.specs.traces.Answer.{IsRunAnswer, IsUnbuilt}
+use Rattle.tte_run.specs.frames.Answer.{show_answer, file_limit}
 use Rattle.tte_run.specs.Forms.{form_of}
-use Rattle.tte_run.specs.Tracing.{AreAdmitted, HaveEnded, behind_lines}
+use Rattle.tte_run.specs.traces.Lines.{AreAdmitted, HaveEnded, behind_lines}
 use Rattle.tte_run.specs.declared.form.Form.{Form}
 use Rattle.tte_run.specs.declared.form.Form.TheVariants.{Show, Check, Run}
 use Rattle.tte_run.specs.declared.status.Status.{Status}
@@ -23,7 +23,7 @@ usage_line = codes "usage: tte show FILE | check NETWORK | run NETWORK TRACE | s
 
 -- the answer for words of no form: the usage line
 abbrev pub usage_answer : Answer
-usage_answer = record { status = Usage; lines = usage_line ∷ [] }
+usage_answer = line_answer Usage usage_line
 
 -- an answer for a form and the octets of its files; only `run` has a second
 abbrev pub IsFormAnswer : Option Form → List ℕ → List ℕ → Answer → Type 0
@@ -39,7 +39,8 @@ IsAnswer words octets trace a = IsFormAnswer (form_of words) octets trace a
 -- the words and the octets of the files have one answer
 abbrev pub AnswerIsOne : Type 0
 AnswerIsOne =
-    (words : List (List ℕ)) (octets trace : List ℕ) (a b : Answer) → IsAnswer words octets trace a → IsAnswer words octets trace b → a ≡ b
+    (words : List (List ℕ)) (octets trace : List ℕ) (a b : Answer)
+    → IsAnswer words octets trace a → IsAnswer words octets trace b → a ≡ b
 
 -- the fact holds for the octets of the second file, which `run` alone reads; where its source does not tell
 -- them, nothing is claimed of a run
@@ -52,7 +53,8 @@ ForSecond (Some Run) left P = IfSome left P
 -- the answer for the words was given, for the octets of both files
 abbrev pub AnswersWords : Option Form → Option (List ℕ) → Option (List ℕ) → Status → Shown → Shown → Type 0
 AnswersWords form first second status old new =
-    ForOctets first (λ octets. ForSecond form second (λ trace. GivesOne (IsFormAnswer form octets trace) status old new))
+    ForOctets first (λ octets.
+    ForSecond form second (λ trace. GivesOne (IsFormAnswer form octets trace) status old new))
 
 -- usage is answered exactly where the words are of no form
 abbrev pub AnswersUsage : Option Form → Status → Shown → Shown → Type 0
@@ -77,13 +79,21 @@ RunsWhole octets trace status =
 abbrev pub Completes : Option Form → Option (List ℕ) → Option (List ℕ) → Type 0 → Type 0 → Status → Type 0
 Completes None first second SourceRose SinkRose status = Unit {0}
 Completes (Some form) None second SourceRose SinkRose status = Unit {0}
-Completes (Some Show) (Some octets) second SourceRose SinkRose status = (SourceRose → ⊥) → (SinkRose → ⊥) → ShowsWhole octets status
-Completes (Some Check) (Some octets) second SourceRose SinkRose status = (SourceRose → ⊥) → (SinkRose → ⊥) → ChecksWhole octets status
+Completes (Some Show) (Some octets) second SourceRose SinkRose status =
+    (SourceRose → ⊥) → (SinkRose → ⊥) → ShowsWhole octets status
+Completes (Some Check) (Some octets) second SourceRose SinkRose status =
+    (SourceRose → ⊥) → (SinkRose → ⊥) → ChecksWhole octets status
 Completes (Some Run) (Some octets) None SourceRose SinkRose status = Unit {0}
-Completes (Some Run) (Some octets) (Some trace) SourceRose SinkRose status = (SourceRose → ⊥) → (SinkRose → ⊥) → RunsWhole octets trace status
+Completes (Some Run) (Some octets) (Some trace) SourceRose SinkRose status =
+    (SourceRose → ⊥) → (SinkRose → ⊥) → RunsWhole octets trace status
 
 -- a read failed: of the first file, and then nothing was put and the second was not read; or, for `run`, of the
 -- second, and then what was put stops behind the lines that were taken
 abbrev pub FailsToRead : Option Form → Type 0 → Type 0 → Type 0 → Type 0 → Type 0
 FailsToRead (Some Run) First Second Untouched Stops = (First × Untouched) ⊎ (Second × Stops)
 FailsToRead form First Second Untouched Stops = First × Untouched
+
+-- the second file is read by `run` alone, and by that little more of it than what was put is of
+abbrev pub TakesSecond : Option Form → Type 0 → Type 0 → Type 0
+TakesSecond (Some Run) Unread Little = Unread ⊎ Little
+TakesSecond form Unread Little = Unread

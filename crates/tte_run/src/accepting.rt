@@ -1,15 +1,17 @@
 ghost use Rattle.std.specs.Prelude.{◌≡◌, ◌≢◌, ◌≤◌, length, Err, IfErr, IfOk};
-ghost use Rattle.tte_io.specs.Faults.{Rose};
-ghost use Rattle.tte_run.specs.Accepting.{MeansAccepted};
+ghost use Rattle.tte_run.specs.networks.Accepting.{MeansAccepted};
 ghost use Rattle.tte_run.specs.Answering.{ForOctets, Gives};
-ghost use Rattle.tte_run.specs.NoNetworks.{IsNoNetwork, no_network_answer};
-ghost use Rattle.tte_run.specs.Putting.{shown_by};
-ghost use Rattle.tte_run.specs.Showing.{file_limit};
+ghost use Rattle.tte_run.specs.networks.NoNetworks.{IsNoNetwork, no_network_answer};
+ghost use Rattle.tte_run.specs.Faults.{PutFailed, ReadFailed};
+ghost use Rattle.tte_run.specs.Putting.{Over};
+ghost use Rattle.tte_run.specs.frames.Answer.{file_limit};
+
+pub(crate) mod network_line;
 
 use crate::Status;
-use crate::network_line::{make_file_line, make_rule_line};
 use crate::put_line::put_last;
 use net_file::{FileRefusal, read_network};
+use network_line::{make_file_line, make_rule_line};
 use schedule_checker::{RuleBroken, Unfit, check};
 use schedule_tables::Accepted;
 use std::alloc::Global;
@@ -37,7 +39,7 @@ pub(crate) enum NoNetwork {
 pub(crate) fn accept<A: Source>(alloc: Global, source: &mut A) -> Result<Accepted, NoNetwork>
     ensures accepted { IfOk result (λ network. ForOctets (A.left source.old) (λ octets. MeansAccepted octets network)) }
     ensures none { IfErr result (λ cause. ForOctets (A.left source.old) (λ octets. IsNoNetwork octets cause)) }
-    ensures read { result ≡ Err NoNetwork.ReadFault → Rose (A.faults source.old) (A.faults source.new) }
+    ensures read { result ≡ Err NoNetwork.ReadFault → ReadFailed A.Source source.old source.new }
 {
     match read_all(alloc, source, LIMIT) {
         Ok(octets) => accept_text(alloc, octets.as_slice()),
@@ -67,11 +69,10 @@ fn accept_text(alloc: Global, text: &[u8]) -> Result<Accepted, NoNetwork>
 
 /// Answers that there is no accepted network.
 pub(crate) fn put_no_network<K: Sink>(cause: NoNetwork, out: &mut K) -> Status
-    ensures gives { Gives (no_network_answer cause) result
-        (shown_by K.written K.puts out.old) (shown_by K.written K.puts out.new) }
+    ensures gives { Over K.Sink out.old out.new (Gives (no_network_answer cause) result) }
     ensures read { result ≡ Status.ReadFault → cause ≡ NoNetwork.ReadFault }
     ensures unread { result ≡ Status.ReadFault → out.new ≡ out.old }
-    ensures write { result ≡ Status.WriteFault → Rose (K.faults out.old) (K.faults out.new) }
+    ensures write { result ≡ Status.WriteFault → PutFailed K.Sink out.old out.new }
 {
     let mut line = LineText::new();
     match cause {

@@ -1,12 +1,12 @@
-ghost use Rattle.std.specs.Prelude.{◌≡◌, ◌⊎◌};
-ghost use Rattle.tte_io.specs.Faults.{Rose};
+ghost use Rattle.std.specs.Prelude.{◌≡◌};
 ghost use Rattle.tte_run.specs.Answering.{AnswersOne, GivesOne};
-ghost use Rattle.tte_run.specs.Checking.{IsAcceptance, IsCheckAnswer, IsCheckStatus};
-ghost use Rattle.tte_run.specs.Putting.{shown_by};
+ghost use Rattle.tte_run.specs.networks.Checking.{IsAcceptance, IsCheckAnswer, IsCheckStatus};
+ghost use Rattle.tte_run.specs.Faults.{IsWanted, PutFailed, ReadFailed};
+ghost use Rattle.tte_run.specs.Putting.{Over};
 
 use crate::Status;
+use crate::accepting::network_line::make_acceptance_line;
 use crate::accepting::{accept, put_no_network};
-use crate::network_line::make_acceptance_line;
 use crate::put_line::put_last;
 use net_plan::beta_is_unique;
 use schedule_checker::refusal_is_one;
@@ -17,12 +17,11 @@ use tte_io::{LineText, Sink, Source};
 /// Judges the network of a file: it is accepted, with its beta and its gamma, or refused, with the
 /// first fault of the file, or with the first rule that it breaks and where.
 pub fn check_network<A: Source, K: Sink>(alloc: Global, source: &mut A, out: &mut K) -> Status
-    ensures general { AnswersOne IsCheckAnswer (A.left source.old) result
-        (shown_by K.written K.puts out.old) (shown_by K.written K.puts out.new) }
+    ensures general { Over K.Sink out.old out.new (AnswersOne IsCheckAnswer (A.left source.old) result) }
     ensures statuses { IsCheckStatus result }
-    ensures read { result ≡ Status.ReadFault → Rose (A.faults source.old) (A.faults source.new) }
+    ensures read { result ≡ Status.ReadFault → ReadFailed A.Source source.old source.new }
     ensures unread { result ≡ Status.ReadFault → out.new ≡ out.old }
-    ensures write { result ≡ Status.WriteFault → Rose (K.faults out.old) (K.faults out.new) }
+    ensures write { result ≡ Status.WriteFault → PutFailed K.Sink out.old out.new }
 {
     refusal_is_one();
     match accept(alloc, source) {
@@ -32,9 +31,8 @@ pub fn check_network<A: Source, K: Sink>(alloc: Global, source: &mut A, out: &mu
 }
 
 fn put_acceptance<K: Sink>(accepted: &Accepted, out: &mut K) -> Status
-    ensures gives { GivesOne (IsAcceptance accepted.now) result
-        (shown_by K.written K.puts out.old) (shown_by K.written K.puts out.new) }
-    ensures status { (result ≡ Status.Done) ⊎ ((result ≡ Status.WriteFault) × Rose (K.faults out.old) (K.faults out.new)) }
+    ensures gives { Over K.Sink out.old out.new (GivesOne (IsAcceptance accepted.now) result) }
+    ensures status { IsWanted Status.Done result (PutFailed K.Sink out.old out.new) }
 {
     beta_is_unique();
     let network = accepted.network();

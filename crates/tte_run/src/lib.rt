@@ -3,19 +3,13 @@
 
 mod accepting;
 mod checking;
-mod fault;
 mod form;
-mod frame_line;
-mod network_line;
 mod put_line;
-mod put_records;
-mod refusing;
 mod running;
 mod showing;
 mod status;
 mod top;
 mod trace;
-mod trace_line;
 mod words;
 
 pub use checking::check_network;

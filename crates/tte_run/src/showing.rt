@@ -1,15 +1,17 @@
 ghost use Rattle.std.specs.Prelude.{◌≡◌, ◌≢◌, ◌<◌, ◌≤◌, ◌*◌, ◌^◌, length};
 ghost use Rattle.pcf_codec.specs.Spelling.{pcf_length};
-ghost use Rattle.tte_io.specs.Faults.{Rose};
-ghost use Rattle.tte_run.specs.Putting.{shown_by};
+ghost use Rattle.tte_run.specs.Faults.{PutFailed, ReadFailed};
+ghost use Rattle.tte_run.specs.Putting.{Over};
 ghost use Rattle.tte_run.specs.Answering.{Gives, Answers};
-ghost use Rattle.tte_run.specs.Showing.{frame_at, frame_count, frames_answer, show_answer, file_limit, IsShowStatus};
-ghost use Rattle.tte_run.specs.ShowLaw.{ShowsFrames};
+ghost use Rattle.tte_run.specs.frames.Answer.{frame_at, frame_count, frames_answer, show_answer, file_limit, IsShowStatus};
+ghost use Rattle.tte_run.specs.frames.Law.{ShowsFrames};
+
+mod frame_line;
 
 use crate::Status;
 use crate::accepting::LIMIT;
-use crate::frame_line::{make_frame_line, make_refusal_line};
 use crate::put_line::put_last;
+use frame_line::{make_frame_line, make_refusal_line};
 use pcf_codec::{PCF_LENGTH, decode};
 use std::alloc::Global;
 use tte_io::{LineText, ReadAll, Sink, Source, read_all};
@@ -19,12 +21,11 @@ use tte_io::{LineText, ReadAll, Sink, Source, read_all};
 ///
 /// `show_law` says which frames these are.
 pub fn show<A: Source, K: Sink>(alloc: Global, source: &mut A, out: &mut K) -> Status
-    ensures general { Answers show_answer (A.left source.old) result
-        (shown_by K.written K.puts out.old) (shown_by K.written K.puts out.new) }
+    ensures general { Over K.Sink out.old out.new (Answers show_answer (A.left source.old) result) }
     ensures statuses { IsShowStatus result }
-    ensures read { result ≡ Status.ReadFault → Rose (A.faults source.old) (A.faults source.new) }
+    ensures read { result ≡ Status.ReadFault → ReadFailed A.Source source.old source.new }
     ensures unread { result ≡ Status.ReadFault → out.new ≡ out.old }
-    ensures write { result ≡ Status.WriteFault → Rose (K.faults out.old) (K.faults out.new) }
+    ensures write { result ≡ Status.WriteFault → PutFailed K.Sink out.old out.new }
 {
     match read_all(alloc, source, LIMIT) {
         Ok(octets) => show_frames(octets.as_slice(), out),
@@ -36,11 +37,10 @@ pub fn show<A: Source, K: Sink>(alloc: Global, source: &mut A, out: &mut K) -> S
 
 fn show_frames<K: Sink>(octets: &[u8], out: &mut K) -> Status
     requires { length octets.now ≤ file_limit }
-    ensures gives { Gives (frames_answer 0 (frame_count octets.now) octets.now) result
-        (shown_by K.written K.puts out.old) (shown_by K.written K.puts out.new) }
+    ensures gives { Over K.Sink out.old out.new (Gives (frames_answer 0 (frame_count octets.now) octets.now) result) }
     ensures statuses { IsShowStatus result }
     ensures read { result ≢ Status.ReadFault }
-    ensures write { result ≡ Status.WriteFault → Rose (K.faults out.old) (K.faults out.new) }
+    ensures write { result ≡ Status.WriteFault → PutFailed K.Sink out.old out.new }
 {
     let mut line = LineText::new();
     'frames: for k in 0..octets.len().div_ceil(PCF_LENGTH) {

@@ -1,10 +1,10 @@
-ghost use Rattle.std.specs.Prelude.{◌≡◌, ◌≢◌, ◌⊎◌, Some};
-ghost use Rattle.tte_io.specs.Faults.{Rose};
-ghost use Rattle.tte_run.specs.Putting.{shown_by};
+ghost use Rattle.std.specs.Prelude.{◌≡◌, ◌⊎◌};
 ghost use Rattle.tte_run.specs.Answering.{Gives};
+ghost use Rattle.tte_run.specs.Faults.{HasCause, IsWanted, PutFailed, ReadFailed};
 ghost use Rattle.tte_run.specs.Forms.{form_of};
-ghost use Rattle.tte_run.specs.Streaming.{ForAccepted, ForTrace, StopsBehindLines, TakesLittle};
-ghost use Rattle.tte_run.specs.Top.{AnswerIsOne, AnswersUsage, AnswersWords, Completes, FailsToRead, usage_answer};
+ghost use Rattle.tte_run.specs.Putting.{Over};
+ghost use Rattle.tte_run.specs.traces.Streaming.{RunStops, RunTakesLittle};
+ghost use Rattle.tte_run.specs.Top.{AnswerIsOne, AnswersUsage, AnswersWords, Completes, FailsToRead, TakesSecond, usage_answer};
 
 use crate::form::{Form, read_form};
 use crate::put_line::put_last;
@@ -26,57 +26,22 @@ pub fn tte<A: Source, B: Source, K: Sink>(
     second: &mut B,
     out: &mut K,
 ) -> Status
-    ensures general { AnswersWords (form_of words.now) (A.left first.old) (B.left second.old) result
-        (shown_by K.written K.puts out.old) (shown_by K.written K.puts out.new) }
-    ensures usage { AnswersUsage (form_of words.now) result
-        (shown_by K.written K.puts out.old) (shown_by K.written K.puts out.new) }
-    ensures read { result ≡ Status.ReadFault → FailsToRead (form_of words.now)
-        (Rose (A.faults first.old) (A.faults first.new)) (Rose (B.faults second.old) (B.faults second.new))
+    ensures general { Over K.Sink out.old out.new
+        (AnswersWords (form_of words.now) (A.left first.old) (B.left second.old) result) }
+    ensures usage { Over K.Sink out.old out.new (AnswersUsage (form_of words.now) result) }
+    ensures faults { HasCause result
+        (FailsToRead (form_of words.now)
+        (ReadFailed A.Source first.old first.new) (ReadFailed B.Source second.old second.new)
         ((out.new ≡ out.old) × (second.new ≡ second.old))
-        (ForAccepted (A.left first.old) (λ network. ForTrace (B.left second.old) (B.left second.new) (λ trace left.
-        StopsBehindLines network trace left
-        (shown_by K.written K.puts out.old) (shown_by K.written K.puts out.new)))) }
-    ensures write { result ≡ Status.WriteFault → Rose (K.faults out.old) (K.faults out.new) }
-    ensures little { (second.new ≡ second.old)
-        ⊎ ForAccepted (A.left first.old) (λ network. ForTrace (B.left second.old) (B.left second.new) (λ trace left.
-        TakesLittle network trace left (shown_by K.written K.puts out.old) (shown_by K.written K.puts out.new))) }
+        (Over K.Sink out.old out.new (RunStops (A.left first.old) (B.left second.old) (B.left second.new))))
+        (PutFailed K.Sink out.old out.new) }
+    ensures second { TakesSecond (form_of words.now) (second.new ≡ second.old)
+        (Over K.Sink out.old out.new (RunTakesLittle (A.left first.old) (B.left second.old) (B.left second.new))) }
     ensures complete { Completes (form_of words.now) (A.left first.old) (B.left second.old)
-        (Rose (A.faults first.old) (A.faults first.new) ⊎ Rose (B.faults second.old) (B.faults second.new))
-        (Rose (K.faults out.old) (K.faults out.new)) result }
-    ensures second_unread { form_of words.now ≢ Some Form.Run → second.new ≡ second.old }
+        (ReadFailed A.Source first.old first.new ⊎ ReadFailed B.Source second.old second.new)
+        (PutFailed K.Sink out.old out.new) result }
 {
-    let form = read_form(words);
-    answer_form(alloc, form, first, second, out)
-}
-
-/// Answers words of this form, or of none.
-fn answer_form<A: Source, B: Source, K: Sink>(
-    alloc: Global,
-    form: Option<Form>,
-    first: &mut A,
-    second: &mut B,
-    out: &mut K,
-) -> Status
-    ensures general { AnswersWords form (A.left first.old) (B.left second.old) result
-        (shown_by K.written K.puts out.old) (shown_by K.written K.puts out.new) }
-    ensures usage { AnswersUsage form result
-        (shown_by K.written K.puts out.old) (shown_by K.written K.puts out.new) }
-    ensures read { result ≡ Status.ReadFault → FailsToRead form
-        (Rose (A.faults first.old) (A.faults first.new)) (Rose (B.faults second.old) (B.faults second.new))
-        ((out.new ≡ out.old) × (second.new ≡ second.old))
-        (ForAccepted (A.left first.old) (λ network. ForTrace (B.left second.old) (B.left second.new) (λ trace left.
-        StopsBehindLines network trace left
-        (shown_by K.written K.puts out.old) (shown_by K.written K.puts out.new)))) }
-    ensures write { result ≡ Status.WriteFault → Rose (K.faults out.old) (K.faults out.new) }
-    ensures little { (second.new ≡ second.old)
-        ⊎ ForAccepted (A.left first.old) (λ network. ForTrace (B.left second.old) (B.left second.new) (λ trace left.
-        TakesLittle network trace left (shown_by K.written K.puts out.old) (shown_by K.written K.puts out.new))) }
-    ensures complete { Completes form (A.left first.old) (B.left second.old)
-        (Rose (A.faults first.old) (A.faults first.new) ⊎ Rose (B.faults second.old) (B.faults second.new))
-        (Rose (K.faults out.old) (K.faults out.new)) result }
-    ensures second_unread { form ≢ Some Form.Run → second.new ≡ second.old }
-{
-    match form {
+    match read_form(words) {
         Some(Form::Show) => show(alloc, first, out),
         Some(Form::Check) => check_network(alloc, first, out),
         Some(Form::Run) => run_trace(alloc, first, second, out),
@@ -85,8 +50,8 @@ fn answer_form<A: Source, B: Source, K: Sink>(
 }
 
 fn put_usage<K: Sink>(out: &mut K) -> Status
-    ensures gives { Gives usage_answer result (shown_by K.written K.puts out.old) (shown_by K.written K.puts out.new) }
-    ensures status { (result ≡ Status.Usage) ⊎ ((result ≡ Status.WriteFault) × Rose (K.faults out.old) (K.faults out.new)) }
+    ensures gives { Over K.Sink out.old out.new (Gives usage_answer result) }
+    ensures status { IsWanted Status.Usage result (PutFailed K.Sink out.old out.new) }
 {
     put_last(USAGE.as_bytes(), Status::Usage, out)
 }

@@ -1,8 +1,9 @@
-ghost use Rattle.std.specs.Prelude.{◌≡◌, ◌≢◌, ◌≤◌, ◌↔◌, ◌≤ℤ◌, ◌+◌, true, IsTrue, IfSome, is_some, length};
+ghost use Rattle.std.specs.Prelude.{◌≡◌, ◌≢◌, ◌≤◌, ◌↔◌, ◌≤ℤ◌, ◌+◌, true, IsTrue, IfNone, IfSome, is_some, length};
 ghost use Rattle.std.specs.List.{All, count_by};
 ghost use Rattle.net_plan.specs.Places.{is_master};
 ghost use Rattle.net_plan.specs.Rules.{HasOffSwitch, MastersSuffice, MembersDiffer, masters, most_masters};
 ghost use Rattle.pcf_values.specs.declared.channel.Channel.{Channel as ChannelValue};
+ghost use Rattle.schedule_checker.specs.Parts.{part_of_demand};
 
 use net_plan::{Device, Network, Role};
 use pcf_values::Channel;
@@ -13,6 +14,35 @@ const LEAST_MASTERS: usize = 4;
 /// The least threshold of members.
 const LEAST_THRESHOLD: u32 = 3;
 
+/// The parts of the rule: what the masters of a network are to be.
+#[derive(Clone, Copy, Debug, PartialEq, Eq)]
+enum Demand {
+    Count,
+    Members,
+    Threshold,
+    BeginOn,
+    Starts,
+    OneChannelOff,
+}
+
+impl Demand {
+    /// The part of this number.
+    fn of_part(part: u32) -> Option<Demand>
+        ensures none { IfNone result (6 ≤ part) }
+        ensures some { IfSome result (λ demand. part ≡ part_of_demand demand) }
+    {
+        match part {
+            0 => Some(Demand::Count),
+            1 => Some(Demand::Members),
+            2 => Some(Demand::Threshold),
+            3 => Some(Demand::BeginOn),
+            4 => Some(Demand::Starts),
+            5 => Some(Demand::OneChannelOff),
+            _ => None,
+        }
+    }
+}
+
 /// Do the masters suffice?
 ///
 /// Part 0 is their count, 1 that their numbers differ, 2 the threshold of members, 3 that so many
@@ -20,14 +50,14 @@ const LEAST_THRESHOLD: u32 = 3;
 pub(crate) fn masters_suffice(network: &Network, part: u32) -> bool
     ensures { IsTrue result ↔ MastersSuffice network.now part }
 {
-    match part {
-        0 => masters_are_in_number(network),
-        1 => members_differ(network),
-        2 => threshold_is_met(network),
-        3 => enough_begin_on(network),
-        4 => starts_are_settled(network),
-        5 => one_channel_begins_off(network),
-        _ => true,
+    match Demand::of_part(part) {
+        Some(Demand::Count) => masters_are_in_number(network),
+        Some(Demand::Members) => members_differ(network),
+        Some(Demand::Threshold) => threshold_is_met(network),
+        Some(Demand::BeginOn) => enough_begin_on(network),
+        Some(Demand::Starts) => starts_are_settled(network),
+        Some(Demand::OneChannelOff) => one_channel_begins_off(network),
+        None => true,
     }
 }
 

@@ -1,8 +1,9 @@
-ghost use Rattle.std.specs.Prelude.{◌≡◌, ◌<◌, ◌↔◌, IsTrue, Some, length};
+ghost use Rattle.std.specs.Prelude.{◌≡◌, ◌<◌, ◌≤◌, ◌↔◌, IfNone, IfSome, IsTrue, Some, length};
 ghost use Rattle.net_plan.specs.Paths.{IsUplink};
 ghost use Rattle.net_plan.specs.Places.{IsCmOf, IsRoleOf, IsSwitchOf};
 ghost use Rattle.net_plan.specs.Ranges.{IsInRange};
 ghost use Rattle.net_plan.specs.Rules.{ExactlyOne, HasOneCm, IsChildOf, IsConnected, JoinsChildToSwitch};
+ghost use Rattle.schedule_checker.specs.Parts.{part_of_channel};
 ghost use Rattle.schedule_checker.specs.Shape.{IsConnectedOn, JoinsOn, LeadsToCmWithin};
 
 use crate::roles::is_end_system;
@@ -12,14 +13,25 @@ use pcf_values::Channel;
 /// The most links from a device to its compression master.
 const LONGEST_PATH: u32 = 8;
 
+/// The channel of which the part of the rule speaks.
+fn channel_of_part(part: u32) -> Option<Channel>
+    ensures none { IfNone result (2 ≤ part) }
+    ensures some { IfSome result (λ channel. part ≡ part_of_channel channel) }
+{
+    match part {
+        0 => Some(Channel::A),
+        1 => Some(Channel::B),
+        _ => None,
+    }
+}
+
 /// Has channel a (part 0), and channel b (part 1), exactly one compression master?
 pub(crate) fn has_one_cm(network: &Network, part: u32) -> bool
     ensures { IsTrue result ↔ HasOneCm network.now part }
 {
-    match part {
-        0 => has_one_cm_of(network, Channel::A),
-        1 => has_one_cm_of(network, Channel::B),
-        _ => true,
+    match channel_of_part(part) {
+        Some(channel) => has_one_cm_of(network, channel),
+        None => true,
     }
 }
 

@@ -1,7 +1,7 @@
 use super::worked::{WORKED, with_edits};
 use crate::accepting::{NoNetwork, accept};
-use crate::fault::{TraceFault, TraceStop};
-use crate::trace::Trace;
+use crate::trace::fault::{TraceFault, TraceStop};
+use crate::trace::lines::Trace;
 use run_law::Outside;
 use schedule_tables::Accepted;
 use std::alloc::Global;

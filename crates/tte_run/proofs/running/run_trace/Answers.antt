@@ -1,15 +1,17 @@
 use Rattle.tte_run.specs.Putting.{shown_by}
-use Rattle.tte_run.proofs.RunSources.{run_accepted, run_refused}
+use Rattle.tte_run.proofs.traces.Sources.{run_accepted, run_refused}
 use Rattle.tte_run.proofs.running.run_trace.Goals as goal
 
 pub returns-in-Ok-clause-general : goal.returns-in-Ok-clause-general
 returns-in-Ok-clause-general g c =
-    let shown = shown_by g.K.Sink.written g.K.Sink.puts in
-    run_accepted (g.A.Source.left c.args.first.now) (g.B.Source.left c.args.second.now) c.in-Ok.accepted c.run_network.result (shown c.args.out.now) (shown c.run_network.new.out)
-    c.in-Ok.ensures.accepted c.run_network.ensures.general
+    let shown = shown_by g.K.Sink in
+    run_accepted (g.A.Source.left c.args.first.now) (g.B.Source.left c.args.second.now) c.in-Ok.accepted c.run_network.result (shown c.args.out.now)
+    (shown c.run_network.new.out)
+    c.in-Ok.ensures.accepted c.run_network.ensures.ends.general
 
 pub returns-in-Err-clause-general : goal.returns-in-Err-clause-general
 returns-in-Err-clause-general g c =
-    let shown = shown_by g.K.Sink.written g.K.Sink.puts in
-    run_refused c.refusal_is_one.ensures (g.A.Source.left c.args.first.now) (g.B.Source.left c.args.second.now) c.in-Err.cause c.put_no_network.result (shown c.args.out.now) (shown c.put_no_network.new.out)
+    let shown = shown_by g.K.Sink in
+    run_refused c.refusal_is_one.ensures (g.A.Source.left c.args.first.now) (g.B.Source.left c.args.second.now) c.in-Err.cause c.put_no_network.result
+    (shown c.args.out.now) (shown c.put_no_network.new.out)
     c.in-Err.ensures.none c.put_no_network.ensures.gives

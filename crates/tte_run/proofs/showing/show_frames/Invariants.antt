@@ -1,11 +1,11 @@
 use Rattle.std.proofs.Common.{◌≡◌}
 use Rattle.tte_run.specs.Putting.{shown_by}
-use Rattle.tte_run.specs.Showing.{frame_count}
-use Rattle.tte_run.proofs.Frames.{IsShown}
+use Rattle.tte_run.specs.frames.Answer.{frame_count}
+use Rattle.tte_run.proofs.frames.Frames.{IsShown}
 use Rattle.tte_run.proofs.showing.show_frames.Given as goal
 
 abbrev pub invariant-frames : goal.invariant-frames
 invariant-frames g l = record {
-  shown : IsShown (frame_count l.octets) l.k l.octets (shown_by g.K.Sink.written g.K.Sink.puts l.fn.out) (shown_by g.K.Sink.written g.K.Sink.puts l.out);
+  shown : IsShown (frame_count l.octets) l.k l.octets (shown_by g.K.Sink l.fn.out) (shown_by g.K.Sink l.out);
   quiet : g.K.Sink.faults l.out ≡ g.K.Sink.faults l.fn.out;
 }

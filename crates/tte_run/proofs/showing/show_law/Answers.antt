@@ -1,4 +1,4 @@
-use Rattle.tte_run.proofs.ShowAnswers.{shows_frames}
+use Rattle.tte_run.proofs.frames.Answers.{shows_frames}
 use Rattle.tte_run.proofs.showing.show_law.Goals as goal
 
 pub returns : goal.returns

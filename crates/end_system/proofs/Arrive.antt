@@ -1,0 +1,222 @@
+-- Control frames that arrive at an end system.
+use Rattle.std.proofs.Common.{◌≡◌, ℕ, ◌+◌, ◌≤◌, ℤ, pos, negsuc, ◌≤ℤ◌, Bool, true, false, not, ◌&&◌, ◌==◌, nat_lt, if◌then◌else◌, List, [], ◌∷◌, Option, Some, None, Result, Ok, Err, unsigned_abs, refl, sym, ap, subst, ◌∙◌, eq-eqb, eqb→eq, T, length, IsTrue, ◌↔◌, arith}
+use Rattle.std.proofs.lemmas.Int.{ints}
+use Rattle.std.specs.Option.{option_map_or}
+use Rattle.end_system.specs.Controls.{arrival_of, frame_arrival_of, waits_with}
+use Rattle.end_system.specs.Owns.{IsOwnOf, IsLinkOf, wire_by}
+use Rattle.end_system.specs.Standing.{StandsAsEnd}
+use Rattle.end_system.specs.declared.end_system.EndSystem.{EndSystem}
+use Rattle.end_system.specs.declared.own.Own.{Own}
+use Rattle.net_plan.specs.Places.{link_at}
+use Rattle.net_plan.specs.declared.ids.DeviceId.{DeviceId}
+use Rattle.net_plan.specs.declared.ids.LinkId.{LinkId}
+use Rattle.net_plan.specs.declared.network.Network.{Network}
+use Rattle.net_plan.specs.declared.tables.Link.{Link}
+use Rattle.pcf_codec.specs.Decoding.{decoded}
+use Rattle.pcf_codec.specs.EtherType.{HasPcfType, pcf_type}
+use Rattle.pcf_codec.specs.Fields.{field}
+use Rattle.pcf_codec.specs.declared.refusal.PcfRefusal.{PcfRefusal}
+use Rattle.pcf_values.specs.declared.pcf.Pcf.{Pcf}
+use Rattle.run_law.specs.control.Arrivals.{are_others, clock_on_arrival, control_arrival, frame_or_fault, frame_taken, is_cold_start, is_gate_shut, is_of_other_domain, is_of_other_member, point_on_arrival, refused}
+use Rattle.run_law.specs.control.Wires.{Signal, control, timed, signal_of}
+use Rattle.run_law.specs.declared.judgement.Reason.TheVariants.{Off, ColdStart, Domain, Member, Old, Gate}
+use Rattle.run_law.specs.declared.judgement.Reason.{Reason}
+use Rattle.run_law.specs.declared.steps.Arrival.TheVariants.{Dropped, Waits}
+use Rattle.run_law.specs.declared.steps.Arrival.{Arrival}
+use Rattle.run_law.specs.declared.steps.Moment.{Moment}
+use Rattle.run_law.specs.device.Standpoints.{Standpoint, first_reason}
+use Rattle.run_law.specs.device.States.{is_off}
+use Rattle.run_law.specs.machines.Answers.{after_arrival, arrival_at}
+use Rattle.run_law.specs.machines.Nodes.{Node, last_taken_by, standpoint_at}
+use Rattle.run_law.specs.records.Happenings.{with_clock}
+use Rattle.run_law.specs.scenario.Devices.{is_end, is_parent_of, is_relay, member_of}
+use Rattle.run_law.specs.timed.Arrivals.{timed_arrival}
+use Rattle.sync_state.specs.Standing.{Standing}
+use Rattle.transparent_clock.specs.Points.{point_of}
+use Rattle.tte_units.specs.Amount.{amount}
+use Rattle.tte_units.specs.declared.units.Units.{Units}
+
+-- ---- a device that takes no part
+
+off_signal : (network : Network) (device : DeviceId) (node : Node) (moment : Moment) (link : LinkId) (signal : Signal) → is_off node.standing.state ≡ true
+    → Dropped Off ≡ arrival_at network device node moment link signal
+off_signal network device node moment link (control (Ok frame)) off =
+    subst (λ (b : Bool). Dropped Off ≡ control_arrival network device link
+    (record {
+      takes_part = not b && not node.broken;
+      state = node.standing.state;
+      reading = amount moment.reading;
+      adjustment = node.standing.adjustment.0;
+    }) (Ok frame)) (sym off) refl
+off_signal network device node moment link (control (Err refusal)) off =
+    subst (λ (b : Bool). Dropped Off ≡ control_arrival network device link
+    (record {
+      takes_part = not b && not node.broken;
+      state = node.standing.state;
+      reading = amount moment.reading;
+      adjustment = node.standing.adjustment.0;
+    }) (Err refusal)) (sym off) refl
+off_signal network device node moment link (timed octets) off =
+    subst (λ (b : Bool). Dropped Off ≡ timed_arrival network device link
+    (record {
+      takes_part = not b && not node.broken;
+      state = node.standing.state;
+      reading = amount moment.reading;
+      adjustment = node.standing.adjustment.0;
+    }) octets (last_taken_by node)) (sym off) refl
+
+pub off_arrival : (network : Network) (device : DeviceId) (node : Node) (e : EndSystem) (moment : Moment) (link : LinkId) (signal : Signal)
+    → StandsAsEnd e network device node → is_off e.sync.state ≡ true → Dropped Off ≡ arrival_at network device node moment link signal
+off_arrival network device node e moment link signal stands off =
+    off_signal network device node moment link signal (subst (λ (s : Standing). is_off s.state ≡ true) (sym stands.standing) off)
+
+-- ---- a device that takes part
+
+takes_by : (off broken : Bool) → off ≡ false → broken ≡ false → (not off && not broken) ≡ true
+takes_by off broken a b = ap (λ (x : Bool). not x && not broken) a ∙ ap (λ (x : Bool). not x) b
+
+member_in : (network : Network) (device : DeviceId) (frame : Pcf) (o : Option Link) → option_map_or (λ (l : Link). l.parent.0 == device.0) o false ≡ false
+    → option_map_or (λ (l : Link). l.parent.0 == device.0 && is_end network l.child && are_others (member_of network l.child) frame.members) o false ≡ false
+member_in network device frame None up = refl
+member_in network device frame (Some l) up = ap (λ (b : Bool). b && is_end network l.child && are_others (member_of network l.child) frame.members) up
+
+-- no frame comes to an end system from below
+no_other_member : (network : Network) (device : DeviceId) (link : LinkId) (frame : Pcf) → is_parent_of network device link ≡ false
+    → is_of_other_member network device link frame.members ≡ false
+no_other_member network device link frame up = member_in network device frame (link_at network link) up
+
+gate_in : (b c d : Bool) → b ≡ false → (b && c && d) ≡ false
+gate_in b c d e = ap (λ (x : Bool). x && c && d) e
+
+waits_in : (b : Bool) (x y : Arrival) → b ≡ false → y ≡ (if b then x else y)
+waits_in true x y e = absurd cc
+waits_in false x y e = refl
+
+no_gate : (network : Network) (device : DeviceId) (at : Standpoint) → is_relay network device ≡ false → is_gate_shut network device at ≡ false
+no_gate network device at e = gate_in (is_relay network device) _ _ e
+
+-- the faults that are left
+by_faults : (or : Option Reason → Arrival) (t c d m o g : Bool) → ((r : Reason) → or (Some r) ≡ Dropped r) → t ≡ true → m ≡ false → g ≡ false
+    → (if c then Dropped ColdStart else (if d then Dropped Domain else (if o then Dropped Old else or None))) ≡ or
+    (first_reason ((not t, Off) ∷ (c, ColdStart) ∷ (d, Domain) ∷ (m, Member) ∷ (o, Old) ∷ (g, Gate) ∷ []))
+by_faults or false c d m o g drop te me ge = absurd cc
+by_faults or true c d true o g drop te me ge = absurd cc
+by_faults or true c d false o true drop te me ge = absurd cc
+by_faults or true true d false o false drop te me ge = sym (drop ColdStart)
+by_faults or true false true false o false drop te me ge = sym (drop Domain)
+by_faults or true false false false true false drop te me ge = sym (drop Old)
+by_faults or true false false false false false drop te me ge = refl
+
+taken_waits : (network : Network) (device : DeviceId) (link : LinkId) (frame : Pcf) (point : Units) → is_relay network device ≡ false
+    → Waits frame point ≡ frame_taken network device link frame point
+taken_waits network device link frame point e = waits_in (is_relay network device) _ (Waits frame point) e
+
+-- the same tests, with what the network says in place of what the device knows
+same_parts : (network : Network) (device : DeviceId) (own : Own) (link : LinkId) (at : Standpoint) (reading : Units) (frame : Pcf) → IsOwnOf network device own
+    → IsLinkOf network device own link → reading.0 ≡ pos at.reading
+    → frame_arrival_of own reading link frame
+    ≡ (if is_cold_start frame.kind then Dropped ColdStart
+    else (if is_of_other_domain network frame then Dropped Domain
+    else (if nat_lt (amount network.dmax) (clock_on_arrival network link frame) then Dropped Old else frame_or_fault network device link at frame None)))
+same_parts network device own link at reading frame is of read =
+    ap (λ (f : Pcf). if is_cold_start frame.kind then Dropped ColdStart
+    else (if not (frame.priority == f.priority && frame.domain == f.domain) then Dropped Domain
+    else waits_with own reading frame (frame.clock + amount (wire_by own link)))) is.frame
+    ∙ ap (λ (w : ℕ). if is_cold_start frame.kind then Dropped ColdStart
+    else (if is_of_other_domain network frame then Dropped Domain else waits_with own reading frame (frame.clock + w))) (sym of.wire)
+    ∙ ap (λ (u : Units). if is_cold_start frame.kind then Dropped ColdStart
+    else (if is_of_other_domain network frame then Dropped Domain
+    else (if nat_lt (amount u) (clock_on_arrival network link frame) then Dropped Old else Waits (with_clock (clock_on_arrival network link frame) frame)
+    (record { 0 = point_of reading.0 (clock_on_arrival network link frame) u.0 })))) is.dmax
+    ∙ ap (λ (z : ℤ). if is_cold_start frame.kind then Dropped ColdStart
+    else (if is_of_other_domain network frame then Dropped Domain
+    else (if nat_lt (amount network.dmax) (clock_on_arrival network link frame) then Dropped Old
+    else Waits (with_clock (clock_on_arrival network link frame) frame) (record { 0 = point_of z (clock_on_arrival network link frame) network.dmax.0 }))))
+    read
+    ∙ ap (λ (a : Arrival). if is_cold_start frame.kind then Dropped ColdStart
+    else (if is_of_other_domain network frame then Dropped Domain
+    else (if nat_lt (amount network.dmax) (clock_on_arrival network link frame) then Dropped Old else a)))
+    (taken_waits network device link (with_clock (clock_on_arrival network link frame) frame)
+    (point_on_arrival network at (clock_on_arrival network link frame)) is.no_relay)
+
+-- a control frame is judged as an end system judges it
+pub judged : (network : Network) (device : DeviceId) (own : Own) (link : LinkId) (at : Standpoint) (reading : Units) (frame : Pcf) → IsOwnOf network device own
+    → IsLinkOf network device own link → at.takes_part ≡ true → reading.0 ≡ pos at.reading
+    → frame_arrival_of own reading link frame ≡ control_arrival network device link at (Ok frame)
+judged network device own link at reading frame is of takes read =
+    same_parts network device own link at reading frame is of read
+    ∙ by_faults (frame_or_fault network device link at frame) at.takes_part (is_cold_start frame.kind) (is_of_other_domain network frame)
+    (is_of_other_member network device link frame.members) (nat_lt (amount network.dmax) (clock_on_arrival network link frame))
+    (is_gate_shut network device at)
+    (λ r. refl) takes (no_other_member network device link frame of.up) (no_gate network device at is.no_relay)
+
+-- what a refusal comes to
+refused_at : (at : Standpoint) (refusal : PcfRefusal) → at.takes_part ≡ true
+    → Dropped (refused refusal) ≡ Dropped (if at.takes_part then refused refusal else Off)
+refused_at at refusal takes = ap (λ (b : Bool). Dropped (if b then refused refusal else Off)) (sym takes)
+
+pub control_judged : (network : Network) (device : DeviceId) (own : Own) (link : LinkId) (at : Standpoint) (reading : Units) (decoded : Result Pcf PcfRefusal)
+    → IsOwnOf network device own → IsLinkOf network device own link → at.takes_part ≡ true → reading.0 ≡ pos at.reading
+    → arrival_of own reading link decoded ≡ control_arrival network device link at decoded
+control_judged network device own link at reading (Ok frame) is of takes read = judged network device own link at reading frame is of takes read
+control_judged network device own link at reading (Err refusal) is of takes read = refused_at at refusal takes
+
+whole : (z : ℤ) → pos 0 ≤ℤ z → z ≡ pos (unsigned_abs z)
+whole (pos n) h = refl
+whole (negsuc n) h = absurd (omega (arith, ints))
+
+pub control_at : (network : Network) (device : DeviceId) (node : Node) (e : EndSystem) (moment : Moment) (link : LinkId) (octets : List ℕ)
+    → StandsAsEnd e network device node → IsLinkOf network device e.own link → is_off node.standing.state ≡ false → pos 0 ≤ℤ moment.reading.0
+    → arrival_of e.own moment.reading link (decoded octets) ≡ arrival_at network device node moment link (control (decoded octets))
+control_at network device node e moment link octets stands of on begun =
+    control_judged network device e.own link (standpoint_at node moment) moment.reading (decoded octets) stands.own of
+    (takes_by (is_off node.standing.state) node.broken on stands.sound) (whole moment.reading.0 begun)
+
+-- a control frame that arrives changes nothing yet
+still_waits : (own : Own) (reading : Units) (frame : Pcf) (clock : ℕ) (node : Node) (moment : Moment) (b : Bool) (x : Units) (f : Pcf)
+    → after_arrival node moment (if b then Dropped Old else Waits f x) ≡ node
+still_waits own reading frame clock node moment true x f = refl
+still_waits own reading frame clock node moment false x f = refl
+
+still_domain : (node : Node) (moment : Moment) (b : Bool) (r : Reason) (a : Arrival) → after_arrival node moment a ≡ node
+    → after_arrival node moment (if b then Dropped r else a) ≡ node
+still_domain node moment true r a e = refl
+still_domain node moment false r a e = e
+
+pub control_still : (own : Own) (reading : Units) (link : LinkId) (node : Node) (moment : Moment) (decoded : Result Pcf PcfRefusal)
+    → after_arrival node moment (arrival_of own reading link decoded) ≡ node
+control_still own reading link node moment (Err refusal) = refl
+control_still own reading link node moment (Ok frame) =
+    still_domain node moment (is_cold_start frame.kind) ColdStart _
+    (still_domain node moment (not (frame.priority == own.frame.priority && frame.domain == own.frame.domain)) Domain _
+    (still_waits own reading frame 0 node moment (nat_lt (amount own.dmax) (frame.clock + amount (wire_by own link))) _ _))
+
+-- ---- what is on the wire
+
+signal_in : (b : Bool) (x y : Signal) → b ≡ true → (if b then x else y) ≡ x
+signal_in true x y e = refl
+signal_in false x y e = absurd cc
+
+signal_out : (b : Bool) (x y : Signal) → b ≡ false → (if b then x else y) ≡ y
+signal_out true x y e = absurd cc
+signal_out false x y e = refl
+
+pub is_control : (octets : List ℕ) → HasPcfType octets → signal_of octets ≡ control (decoded octets)
+is_control octets h = signal_in (field 12 2 octets == pcf_type) _ _ (eq-eqb (field 12 2 octets) pcf_type h.1)
+
+test_false : (m n : ℕ) → (m ≡ n → ⊥) → (m == n) ≡ false
+test_false m n out = elim (m == n) as (λ (b : Bool). (m == n) ≡ b → b ≡ false) [
+  | true ↦ λ e. absurd (out (eqb→eq m n (subst T (sym e) tt)))
+  | false ↦ λ e. refl
+] refl
+
+long_enough : (n : ℕ) → 60 ≤ n → 14 ≤ n
+long_enough n h = omega arith
+
+false_not : (b : Bool) → b ≡ false → b ≡ true → ⊥
+false_not b f t = cc
+
+pub is_timed : (octets : List ℕ) (b : Bool) → 60 ≤ length octets → b ≡ false → IsTrue b ↔ HasPcfType octets → signal_of octets ≡ timed octets
+is_timed octets b long other iff =
+    signal_out (field 12 2 octets == pcf_type) _ _
+    (test_false (field 12 2 octets) pcf_type (λ e. false_not b other (iff.1 (long_enough (length octets) long, e))))

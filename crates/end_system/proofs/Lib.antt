@@ -1,0 +1,16 @@
+pub mod Tasks
+pub mod Advance
+pub mod Heard
+pub mod Correct
+pub mod Ripe
+pub mod Values
+pub mod Arrive
+pub mod TimedFrames
+pub mod KeyOrder
+pub mod Search
+pub mod SlotLemmas
+pub mod RowSearch
+pub mod RowNext
+pub mod OwnLemmas
+pub mod EnteringLemmas
+pub mod Takings

@@ -1,0 +1,297 @@
+-- What an end system knows of an accepted network.
+use Rattle.std.proofs.Common.{◌≡◌, inl, inr, ⊎_elim, ℕ, ◌+◌, ◌*◌, ◌≤◌, ◌^◌, ◌==◌, ℤ, pos, ◌+ℤ◌, ◌*ℤ◌, ◌<ℤ◌, ◌≤ℤ◌, Bool, true, false, not, Option, Some, None, IsSomeAnd, is_some, refl, ap, sym, ◌∙◌, subst, arith, if◌then◌else◌}
+use Rattle.std.proofs.lemmas.Bool.{eqb-true, cases_Bool, false≢true}
+use Rattle.std.proofs.lemmas.Int.{ints}
+use Rattle.std.specs.Option.{option_map_or}
+use Rattle.std.specs.Prelude.{option_and_then}
+use Rattle.end_system.proofs.Values.{amount_whole, at_least, at_most}
+use Rattle.end_system.specs.Owns.{IsLinkOf, IsOwnOf, IsUplinkOf, channel_by, end_plan, wire_by}
+use Rattle.end_system.specs.declared.own.Own.{Own}
+use Rattle.net_plan.specs.Paths.{IsUplink}
+use Rattle.net_plan.specs.Places.{IsEndSystem, IsSwitchOf, device_at, is_end_system, is_master, link_at}
+use Rattle.net_plan.specs.Ranges.{IsDeviceInRange, IsInRange, IsWithin}
+use Rattle.net_plan.specs.Rules.{IsChildOf}
+use Rattle.net_plan.specs.declared.ids.DeviceId.{DeviceId}
+use Rattle.net_plan.specs.declared.ids.LinkId.{LinkId}
+use Rattle.net_plan.specs.declared.ids.RowId.{RowId}
+use Rattle.net_plan.specs.declared.network.Network.{Network}
+use Rattle.net_plan.specs.declared.tables.Device.{Device}
+use Rattle.net_plan.specs.declared.tables.Link.{Link}
+use Rattle.net_plan.specs.declared.tables.Role.TheVariants.{Master, Client, Cm, Relay}
+use Rattle.net_plan.specs.declared.tables.Role.{Role}
+use Rattle.net_plan.specs.declared.tables.Row.{Row}
+use Rattle.pcf_values.specs.declared.channel.Channel.TheVariants.{A, B}
+use Rattle.pcf_values.specs.declared.channel.Channel.{Channel}
+use Rattle.run_law.specs.machines.Calls.{IsLinkAt}
+use Rattle.run_law.specs.records.Frames.{dispatched_frame}
+use Rattle.run_law.specs.scenario.Devices.{IsParentOf, channel_of, has_role, is_cm, is_cm_role, is_end, is_relay, is_relay_role, plan_of}
+use Rattle.run_law.specs.scenario.Ways.{wire_of}
+use Rattle.schedule_tables.proofs.EntryLemmas.{all_at}
+use Rattle.schedule_tables.specs.Margins.{expected_offset}
+use Rattle.schedule_tables.specs.Rules.{KeepsRules}
+use Rattle.schedule_tables.specs.declared.rule.Rule.TheVariants as rules
+use Rattle.sync_state.specs.declared.plan.SyncPlan.{SyncPlan}
+use Rattle.tte_units.specs.Amount.{amount, units_of}
+use Rattle.tte_units.specs.declared.units.Units.{Units}
+
+pub some_of : {X : Type 0} (o : Option X) (P : X → Type 0) → IsSomeAnd o P → (x : X) × (o ≡ Some x) × P x
+some_of None P h = absurd h
+some_of (Some x) P h = (x, refl, h)
+
+of_some : {X : Type 0} (o : Option X) (P : X → Type 0) (x : X) → o ≡ Some x → P x → IsSomeAnd o P
+of_some o P x e h = subst (λ (p : Option _). IsSomeAnd p P) (sym e) h
+
+pub one_some : {X : Type 0} (o : Option X) (x y : X) → o ≡ Some x → o ≡ Some y → x ≡ y
+one_some o x y p q = cc
+
+-- ---- roles
+
+role_is : (kind : Role → Bool) (o : Option Device) (b : Bool) → IsSomeAnd o (λ d. kind d.role ≡ b) → option_map_or (λ d. kind d.role) o false ≡ b
+role_is kind None b h = absurd h
+role_is kind (Some d) b h = h
+
+never_cm : (r : Role) → is_end_system r ≡ true → is_cm_role r ≡ false
+never_cm Master e = refl
+never_cm Client e = refl
+never_cm Cm e = absurd cc
+never_cm Relay e = absurd cc
+
+never_relay : (r : Role) → is_end_system r ≡ true → is_relay_role r ≡ false
+never_relay Master e = refl
+never_relay Client e = refl
+never_relay Cm e = absurd cc
+never_relay Relay e = absurd cc
+
+some_such : (o : Option Device) (P Q : Device → Type 0) → ((d : Device) → P d → Q d) → IsSomeAnd o P → IsSomeAnd o Q
+some_such None P Q f h = h
+some_such (Some d) P Q f h = f d h
+
+end_is : (network : Network) (device : DeviceId) → IsEndSystem network device → is_end network device ≡ true
+end_is network device end = role_is is_end_system (device_at network device) true end
+
+pub cm_not : (network : Network) (device : DeviceId) → IsEndSystem network device → is_cm network device ≡ false
+cm_not network device end =
+    role_is is_cm_role (device_at network device) false
+    (some_such (device_at network device) (λ d. is_end_system d.role ≡ true) (λ d. is_cm_role d.role ≡ false) (λ d h. never_cm d.role h) end)
+
+relay_not : (network : Network) (device : DeviceId) → IsEndSystem network device → is_relay network device ≡ false
+relay_not network device end =
+    role_is is_relay_role (device_at network device) false
+    (some_such (device_at network device) (λ d. is_end_system d.role ≡ true) (λ d. is_relay_role d.role ≡ false) (λ d h. never_relay d.role h) end)
+
+-- an end system is no switch
+never_switch : (o : Option Device) (channel : Channel) → ((d : Device) → o ≡ Some d → is_some d.channel ≡ not (is_end_system d.role))
+    → IsSomeAnd o (λ d. is_end_system d.role ≡ true) → IsSomeAnd o (λ d. d.channel ≡ Some channel) → ⊥
+never_switch None channel range h k = h
+never_switch (Some d) channel range h k =
+    let e : is_some d.channel ≡ false = range d refl ∙ ap not h in
+    let f : is_some d.channel ≡ true = ap (λ (o : Option Channel). is_some o) k in
+    false≢true (sym e ∙ f)
+
+no_switch : (network : Network) (device : DeviceId) (channel : Channel) → IsInRange network → IsEndSystem network device → IsSwitchOf network channel device → ⊥
+no_switch network device channel range end switch =
+    never_switch (device_at network device) channel (λ d at. (all_at IsDeviceInRange network.device device.0 d range.devices at).switches) end switch
+
+-- ---- plans
+
+plan_by : (network : Network) (b : Bool) (m n : ℕ) → b ≡ false → units_of (if b then m else n) ≡ units_of n
+plan_by network false m n e = refl
+plan_by network true m n e = absurd cc
+
+abbrev plan : Units → Units → ℕ → SyncPlan
+plan cycle_length expected threshold = record { cycle_length = cycle_length; expected = expected; threshold = threshold }
+
+plan_same : (network : Network) (device : DeviceId) → IsEndSystem network device → plan_of network device ≡ end_plan network
+plan_same network device end =
+    ap (λ (u : Units). plan network.cycle u network.sync_threshold)
+    (plan_by network (is_cm network device) _ (expected_offset network) (cm_not network device end))
+
+expected_most : (n d p q : ℕ) → n ≡ 2 * d + (2 * p + q) → d ≤ 2 ^ 40 → p ≤ 2 ^ 40 → q ≤ 2 ^ 40 → pos n ≤ℤ pos (2 ^ 43)
+expected_most n d p q e a b c = omega (arith, ints, e, a, b, c)
+
+from_zero : (n : ℕ) → pos 0 ≤ℤ pos n
+from_zero n = omega (arith, ints)
+
+margin_by : (n d p q k r : ℕ) (P R K : ℤ) → n ≡ 2 * d + (2 * p + q) → P ≡ pos p → R ≡ pos r → K ≡ pos k → 2 * d + q + 10 * p ≤ k → 2 ^ 32 ≤ r
+    → (pos n +ℤ (pos 3 *ℤ P)) <ℤ (R +ℤ K)
+margin_by n d p q k r P R K e a b c f g = rw (a, b, c) (omega (arith, ints, e, f, g))
+
+-- ---- links
+
+-- the other end of a link
+link_facts : (network : Network) (device : DeviceId) (link : LinkId) → IsInRange network → KeepsRules network → IsEndSystem network device
+    → IsParentOf network device link → ⊥
+link_facts network device link range keeps end parent =
+    let l = some_of (link_at network link) (λ l. l.parent ≡ device) parent in
+    let joint = keeps rules.Joints link.0 l.0 l.1 in
+    no_switch network device joint.0 range end (subst (λ (d : DeviceId). IsSwitchOf network joint.0 d) l.2 joint.1)
+
+abbrev device_id : ℕ → DeviceId
+device_id n = record { 0 = n }
+
+abbrev link_id : ℕ → LinkId
+link_id n = record { 0 = n }
+
+device_id_of : (d e : DeviceId) → d.0 ≡ e.0 → d ≡ e
+device_id_of d e h = ap device_id h
+
+parent_by : (o : Option Link) (l : Link) (device : DeviceId) → o ≡ Some l → (l.parent ≡ device → ⊥)
+    → option_map_or (λ l. l.parent.0 == device.0) o false ≡ false
+parent_by o l device e out =
+    ap (λ (p : Option Link). option_map_or (λ (l : Link). l.parent.0 == device.0) p false) e
+    ∙ ⊎_elim
+    (λ (h : (l.parent.0 == device.0) ≡ true). absurd (out (device_id_of l.parent device (eqb-true l.parent.0 device.0 h))))
+    (λ (h : (l.parent.0 == device.0) ≡ false). h)
+    (cases_Bool (l.parent.0 == device.0))
+
+link_id_of : (a b : LinkId) → a.0 ≡ b.0 → a ≡ b
+link_id_of a b h = ap link_id h
+
+same_number : (n : ℕ) → (n == n) ≡ true
+same_number n = grind arith
+
+-- the choice between the two links
+is_first : {X : Type 0} (link a : LinkId) (x y : X) → link ≡ a → (if link.0 == a.0 then x else y) ≡ x
+is_first link a x y e = chosen (link.0 == a.0) x y (subst (λ (l : LinkId). (link.0 == l.0) ≡ true) e (same_number link.0))
+  where
+    chosen : {X : Type 0} (b : Bool) (x y : X) → b ≡ true → (if b then x else y) ≡ x
+    chosen true x y e = refl
+    chosen false x y e = absurd cc
+
+is_second : {X : Type 0} (link a : LinkId) (x y : X) → (link ≡ a → ⊥) → (if link.0 == a.0 then x else y) ≡ y
+is_second link a x y out = ⊎_elim
+    (λ (h : (link.0 == a.0) ≡ true). absurd (out (link_id_of link a (eqb-true link.0 a.0 h))))
+    (λ (h : (link.0 == a.0) ≡ false). chosen (link.0 == a.0) x y h)
+    (cases_Bool (link.0 == a.0))
+  where
+    chosen : {X : Type 0} (b : Bool) (x y : X) → b ≡ false → (if b then x else y) ≡ y
+    chosen false x y e = refl
+    chosen true x y e = absurd cc
+
+-- the two uplinks differ
+apart : (network : Network) (device : DeviceId) (link : LinkId) → IsUplink network A device link → IsUplink network B device link → ⊥
+apart network device link a b =
+    let l = some_of (link_at network link) (λ l. (l.child ≡ device) × IsSwitchOf network A l.parent) a in
+    let m = some_of (link_at network link) (λ l. (l.child ≡ device) × IsSwitchOf network B l.parent) b in
+    let same = one_some (link_at network link) l.0 m.0 l.1 m.1 in
+    let d = some_of (device_at network l.0.parent) (λ d. d.channel ≡ Some A) l.2.1 in
+    let e = some_of (device_at network l.0.parent) (λ d. d.channel ≡ Some B) (subst (λ (x : Link). IsSwitchOf network B x.parent) (sym same) m.2.1) in
+    let one = one_some (device_at network l.0.parent) d.0 e.0 d.1 e.1 in
+    let h : Some A ≡ Some B = sym d.2 ∙ (ap (λ (x : Device). x.channel) one ∙ e.2) in
+    absurd cc
+
+channel_by_parent : (o : Option Link) (network : Network) (channel : Channel) (l : Link) → o ≡ Some l → IsSwitchOf network channel l.parent
+    → option_and_then (λ l. channel_of network l.parent) o ≡ Some channel
+channel_by_parent o network channel l e switch =
+    let d = some_of (device_at network l.parent) (λ d. d.channel ≡ Some channel) switch in
+    ap (λ (p : Option Link). option_and_then (λ (l : Link). channel_of network l.parent) p) e
+    ∙ (ap (λ (p : Option Device). option_and_then (λ (d : Device). d.channel) p) d.1 ∙ d.2)
+
+wire_is : (network : Network) (link : LinkId) (wire : Units) → IsSomeAnd (link_at network link) (λ l. l.wire ≡ wire) → wire_of network link ≡ amount wire
+wire_is network link wire h =
+    let l = some_of (link_at network link) (λ l. l.wire ≡ wire) h in
+    ap (λ (p : Option Link). option_map_or (λ (l : Link). amount l.wire) p 0) l.1 ∙ ap (λ (u : Units). amount u) l.2
+
+uplink_is : (network : Network) (channel : Channel) (device : DeviceId) (link other : LinkId) → KeepsRules network → IsEndSystem network device
+    → IsUplink network channel device link → IsUplink network channel device other → link ≡ other
+uplink_is network channel device link other keeps end h k =
+    let one = (keeps rules.Connections device.0).ends end channel in
+    one.2 link h ∙ sym (one.2 other k)
+
+-- a link of an end system is one of its two
+link_of_channel : (network : Network) (device : DeviceId) (own : Own) (channel : Channel) (link : LinkId) → KeepsRules network → IsEndSystem network device
+    → IsUplinkOf network A device own.a → IsUplinkOf network B device own.b → IsUplink network channel device link
+    → (channel ≡ channel_by own link) × (wire_of network link ≡ amount (wire_by own link))
+link_of_channel network device own A link keeps end a b up =
+    let same : link ≡ own.a.link = uplink_is network A device link own.a.link keeps end up a.leads in (
+      sym (is_first link own.a.link A B same),
+      ap (wire_of network) same
+          ∙ (wire_is network own.a.link own.a.wire a.wire ∙ ap (λ (u : Units). amount u) (sym (is_first link own.a.link own.a.wire own.b.wire same))),
+    )
+link_of_channel network device own B link keeps end a b up =
+    let same : link ≡ own.b.link = uplink_is network B device link own.b.link keeps end up b.leads in
+    let out : link ≡ own.a.link → ⊥ = λ e. apart network device link (subst (λ (l : LinkId). IsUplink network A device l) (sym e) a.leads) up in (
+      sym (is_second link own.a.link A B out),
+      ap (wire_of network) same
+          ∙ (wire_is network own.b.link own.b.wire b.wire ∙ ap (λ (u : Units). amount u) (sym (is_second link own.a.link own.a.wire own.b.wire out))),
+    )
+
+link_is : (network : Network) (device : DeviceId) (own : Own) (link : LinkId) → IsInRange network → KeepsRules network → IsEndSystem network device
+    → IsUplinkOf network A device own.a → IsUplinkOf network B device own.b → IsLinkAt network device link → IsLinkOf network device own link
+link_is network device own link range keeps end a b (inr parent) = absurd (link_facts network device link range keeps end parent)
+link_is network device own link range keeps end a b (inl child) =
+    let l = some_of (link_at network link) (λ l. l.child ≡ device) child in
+    let joint = keeps rules.Joints link.0 l.0 l.1 in
+    let up : IsUplink network joint.0 device link = of_some (link_at network link) (λ l. (l.child ≡ device) × IsSwitchOf network joint.0 l.parent) l.0 l.1
+    (l.2, joint.1) in
+    let of = link_of_channel network device own joint.0 link keeps end a b up in
+    record {
+      child = child;
+      up =
+          parent_by (link_at network link) l.0 device l.1
+          (λ e. no_switch network device joint.0 range end (subst (λ (d : DeviceId). IsSwitchOf network joint.0 d) e joint.1));
+      channel = channel_by_parent (link_at network link) network joint.0 l.0 l.1 joint.1 ∙ ap (λ (c : Channel). Some c) of.0;
+      wire = of.1;
+    }
+
+child_of : (network : Network) (channel : Channel) (device : DeviceId) (link : LinkId) → IsUplink network channel device link → IsChildOf network device link
+child_of network channel device link up =
+    let l = some_of (link_at network link) (λ l. (l.child ≡ device) × IsSwitchOf network channel l.parent) up in
+    of_some (link_at network link) (λ l. l.child ≡ device) l.0 l.1 l.2.0
+
+early_by : (offset time wire jitter t p c : ℕ) → offset + time + wire + jitter + t + 4 * p ≤ c → offset + 4 * p ≤ c
+early_by offset time wire jitter t p c h = omega (arith, h)
+
+offset_by : (network : Network) (row : RowId) (r : Row) → (slice_at : Option Row) → slice_at ≡ Some r → option_map_or (λ (r : Row). amount r.offset) slice_at
+    0 ≡ amount r.offset
+offset_by network row r o e = ap (λ (p : Option Row). option_map_or (λ (r : Row). amount r.offset) p 0) e
+
+-- a device that was made so knows its network
+pub is_own : (network : Network) (device : DeviceId) (own : Own) → IsInRange network → KeepsRules network → IsEndSystem network device
+    → own.plan ≡ end_plan network → own.precision ≡ network.precision → own.correction ≡ network.correction → own.dmax ≡ network.dmax
+    → own.marker ≡ network.marker
+    → own.frame ≡ dispatched_frame network device 0 → own.is_master ≡ has_role network is_master device → IsUplinkOf network A device own.a
+    → IsUplinkOf network B device own.b → IsOwnOf network device own
+is_own network device own range keeps end plan_is precision correction dmax marker frame master a b =
+    let within : (low high : ℕ) (u v : Units) → v ≡ u → IsWithin low high u
+    → IsWithin low high v = λ low high u v e h. subst (λ (x : Units). IsWithin low high x) (sym e) h in
+    record {
+      in_range = range;
+      end = end_is network device end;
+      no_cm = cm_not network device end;
+      no_relay = relay_not network device end;
+      plan_is = plan_same network device end;
+      plan = plan_is;
+      precision = precision;
+      correction = correction;
+      dmax = dmax;
+      marker = marker;
+      frame = frame;
+      master = master;
+      linked = (own.a.link, inl (child_of network A device own.a.link a.leads));
+      links = λ link at. link_is network device own link range keeps end a b at;
+      range = record {
+        cycle = within _ _ network.cycle own.plan.cycle_length (ap (λ (p : SyncPlan). p.cycle_length) plan_is) range.cycle;
+        expected = within 0 (2 ^ 43) (units_of (expected_offset network)) own.plan.expected (ap (λ (p : SyncPlan). p.expected) plan_is)
+            (record {
+              least = from_zero (expected_offset network);
+              most = expected_most (expected_offset network) (amount network.dmax)
+                  (amount network.precision) (amount network.calc) refl (at_most _ _ _ range.dmax) (at_most _ _ _ range.precision) (at_most _ _ _ range.calc);
+            });
+        precision = within _ _ network.precision own.precision precision range.precision;
+        correction = within _ _ network.correction own.correction correction range.correction;
+        dmax = within _ _ network.dmax own.dmax dmax range.dmax;
+        wire_a = a.range;
+        wire_b = b.range;
+        margin = rw (plan_is, precision, correction)
+            (margin_by (expected_offset network) (amount network.dmax) (amount network.precision) (amount network.calc) (amount network.correction)
+            (amount network.cycle) network.precision.0 network.cycle.0 network.correction.0 refl
+            (amount_whole _ _ _ range.precision) (amount_whole _ _ _ range.cycle) (amount_whole _ _ _ range.correction) (keeps rules.Correction 0)
+            (at_least _ _ _ range.cycle));
+      };
+      periods = λ vl. keeps rules.Periods vl;
+      early = λ row cycle h.
+          let ends = keeps rules.WindowEnds row.0 h.entry h.is in
+          subst (λ (n : ℕ). n + 4 * amount network.precision ≤ amount network.cycle) (sym (offset_by network row h.entry.row _ h.is.row))
+          (early_by _ _ _ _ _ (amount network.precision) (amount network.cycle) ends);
+    }

@@ -1,0 +1,531 @@
+-- Frames that are permanent at an end system.
+use Rattle.std.proofs.Common.{◌≡◌, ◌⊎◌, ℕ, ◌+◌, ◌*◌, ◌^◌, ◌<◌, ◌≤◌, ℤ, pos, negsuc, neg_ℤ, ◌+ℤ◌, ◌-ℤ◌, ◌<ℤ◌, ◌≤ℤ◌, Bool, true, false, ◌&&◌, nat_le, int_le, List, [], ◌∷◌, ◌++◌, Option, Some, None, IfSome, SomeIff, MatchBool, unsigned_abs, inl, inr, refl, sym, ap, subst, ◌∙◌, arith}
+use Rattle.std.proofs.lemmas.Bool.{and_parts, both_ways, leb-true}
+use Rattle.std.proofs.lemmas.Int.{ints}
+use Rattle.std.proofs.Math.Nat.{mul-le-mul_left, mul-le-mul_right}
+use Rattle.clock_correction.specs.Deviation.{IsSmall}
+use Rattle.compression.proofs.Held.{int_le-false}
+use Rattle.end_system.proofs.Advance.{not_fallen, number_stays}
+use Rattle.end_system.proofs.Heard.{expected_is, has_numbers}
+use Rattle.end_system.specs.Agendas.{IsAgenda, IsCorrection, IsDispatch, IsSending}
+use Rattle.end_system.specs.Controls.{heard_by}
+use Rattle.end_system.specs.Owns.{IsOwnOf, channel_by, end_plan}
+use Rattle.end_system.specs.Ripening.{IsTold, heard_so}
+use Rattle.end_system.specs.RowSlots.{AreRowsOf, IsAtSlot}
+use Rattle.end_system.specs.Standing.{AreHeardSo, HasNumber, IsAtEnd, IsHeardSo, StandsAsEnd}
+use Rattle.end_system.specs.declared.agenda.Agenda.{Agenda}
+use Rattle.end_system.specs.declared.agenda.Appointment.{Appointment}
+use Rattle.end_system.specs.declared.end_system.EndSystem.{EndSystem}
+use Rattle.end_system.specs.declared.own.Own.{Own}
+use Rattle.end_system.specs.declared.rows.Dispatch.{Dispatch}
+use Rattle.membership.specs.BestFrame.{IsBetterOf}
+use Rattle.membership.specs.Hearing.{Hearing}
+use Rattle.membership.specs.Members.{count_of}
+use Rattle.membership.specs.Summary.{Hears, Summary, Summarizes, silence}
+use Rattle.membership.specs.declared.frame.HeardFrame.{HeardFrame}
+use Rattle.net_plan.specs.declared.ids.DeviceId.{DeviceId}
+use Rattle.net_plan.specs.declared.ids.LinkId.{LinkId}
+use Rattle.net_plan.specs.declared.network.Network.{Network}
+use Rattle.pcf_values.specs.declared.channel.Channel.TheVariants.{A, B}
+use Rattle.pcf_values.specs.declared.channel.Channel.{Channel}
+use Rattle.pcf_values.specs.declared.members.Members.{Members}
+use Rattle.pcf_values.specs.declared.pcf.Pcf.{Pcf}
+use Rattle.run_law.specs.control.Collections.{observation_window}
+use Rattle.run_law.specs.control.Corrections.{correction_value}
+use Rattle.run_law.specs.control.Hearing.{heard_as, heard_enough, heard_by_schedule, is_in_schedule, last_cycle}
+use Rattle.run_law.specs.control.Permanence.{ripe_as}
+use Rattle.run_law.specs.declared.steps.Moment.{Moment}
+use Rattle.run_law.specs.declared.steps.Ripe.TheVariants.{Within, Outside, Integrates, Ignored}
+use Rattle.run_law.specs.declared.steps.Ripe.{Ripe}
+use Rattle.run_law.specs.device.States.{is_off}
+use Rattle.run_law.specs.machines.Answers.{IsPermanenceOutcomeAt, called, hearings, node_turned_on, with_heard, with_joined}
+use Rattle.run_law.specs.machines.Calls.{IsLaterMoment, MayCall, MayRipen}
+use Rattle.run_law.specs.machines.Nodes.{ClockTask, Node, Phase, ripening}
+use Rattle.run_law.specs.scenario.Devices.{channel_of_link, is_cm, plan_of}
+use Rattle.schedule_tables.specs.Margins.{expected_offset}
+use Rattle.sync_state.specs.Calls.{after, heard_frame, turned_on}
+use Rattle.sync_state.specs.Integration.{Integrates as DoesIntegrate, joined_by}
+use Rattle.sync_state.specs.Plan.{expected_at}
+use Rattle.sync_state.specs.Standing.{Standing, next_point, point_in}
+use Rattle.sync_state.specs.declared.answers.Joined.{Joined}
+use Rattle.sync_state.specs.declared.plan.SyncPlan.{SyncPlan}
+use Rattle.sync_state.specs.declared.state.State.TheVariants.{Off, Integrating, Joining, Synchronised}
+use Rattle.sync_state.specs.declared.state.State.{State}
+use Rattle.tte_units.specs.Amount.{amount}
+use Rattle.tte_units.specs.declared.units.Units.{Units}
+
+whole : (low : ℕ) (z : ℤ) → pos low ≤ℤ z → z ≡ pos (unsigned_abs z)
+whole low (pos n) h = refl
+whole low (negsuc n) h = absurd (omega (arith, ints))
+
+cases_int : (a b : ℤ) → (a <ℤ b) ⊎ (b ≤ℤ a)
+cases_int a b = grind (arith, ints)
+
+at_most_is : (a b : ℤ) → int_le a b ≡ true → a ≤ℤ b
+at_most_is a b e = elim (cases_int b a) [ inl lt ↦ absurd (both_ways _ (int_le-false a b lt) e) | inr ge ↦ ge ]
+
+-- ---- the range of points
+
+low_point : (r q p : ℤ) (n : ℕ) → p ≡ pos n → n ≤ 2 ^ 40 → pos 0 ≤ℤ r → r <ℤ (q +ℤ p) → neg_ℤ (pos (2 ^ 40)) ≤ℤ q
+low_point r q p n e most begun h = omega (arith, ints)
+
+high_point : (r q : ℤ) → q ≤ℤ r → r ≤ℤ pos (2 ^ 60 + 2 ^ 51) → q ≤ℤ pos (2 ^ 60 + 2 ^ 51)
+high_point r q h low = omega (arith, ints)
+
+pub point_low : (network : Network) (device : DeviceId) (node : Node) (own : Own) (moment : Moment) (link : LinkId) (frame : Pcf) (point : Units)
+    → IsOwnOf network device own → pos 0 ≤ℤ node.last.reading.0 → MayCall network device node moment ripening
+    → MayRipen network device node moment link frame point → neg_ℤ (pos (2 ^ 40)) ≤ℤ point.0
+point_low network device node own moment link frame point is begun may ripens =
+    low_point moment.reading.0 point.0 network.precision.0 (amount network.precision) (whole _ network.precision.0 is.in_range.precision.least)
+    (has_numbers network device own is).precision_most (not_fallen node.last.reading.0 moment.reading.0 begun may.later.reading) ripens.in_time
+
+pub point_high : (network : Network) (device : DeviceId) (node : Node) (moment : Moment) (link : LinkId) (frame : Pcf) (point : Units)
+    → MayCall network device node moment ripening → MayRipen network device node moment link frame point → point.0 ≤ℤ pos (2 ^ 60 + 2 ^ 51)
+point_high network device node moment link frame point may ripens = high_point moment.reading.0 point.0 ripens.reached may.later.low_enough
+
+-- ---- a frame within its time
+
+not_within : (r : Ripe) → r ≡ Within → r ≡ Outside → ⊥
+not_within r a b = cc
+
+in_time_by : (b : Bool) → ripe_as (heard_by_schedule b) ≡ Within → b ≡ true
+in_time_by true e = refl
+in_time_by false e = absurd cc
+
+ignored_not : Ignored ≡ Within → ⊥
+ignored_not e = cc
+
+enough_not : (b : Bool) → ripe_as (heard_enough b) ≡ Within → ⊥
+enough_not true e = cc
+enough_not false e = cc
+
+within_in : (own : Own) (state : State) (adjustment point : ℤ) (cycle : ℕ) (members : Members) (p : ℤ)
+    → ripe_as (heard_as own.plan p state adjustment point cycle members) ≡ Within
+    → (nat_le cycle last_cycle && is_in_schedule own.plan p cycle (point +ℤ adjustment)) ≡ true
+within_in own Off adjustment point cycle members p e = absurd (ignored_not e)
+within_in own Integrating adjustment point cycle members p e = absurd (enough_not _ e)
+within_in own Joining adjustment point cycle members p e = in_time_by _ e
+within_in own Synchronised adjustment point cycle members p e = in_time_by _ e
+
+-- the frame as it is heard
+abbrev pub heard_frame_of : Pcf → Units → HeardFrame
+heard_frame_of frame point = record { cycle = frame.cycle; members = frame.members; point = point }
+
+pub is_heard_so : (network : Network) (device : DeviceId) (own : Own) (s : Standing) (frame : Pcf) (point : Units) → IsOwnOf network device own
+    → s.plan ≡ end_plan network → neg_ℤ (pos (2 ^ 40)) ≤ℤ point.0 → point.0 ≤ℤ pos (2 ^ 60 + 2 ^ 51) → heard_by own s frame point ≡ Within
+    → IsHeardSo network s (heard_frame_of frame point)
+is_heard_so network device own s frame point is plan low high e =
+    let test = and_parts (nat_le frame.cycle last_cycle) _ (within_in own s.state s.adjustment.0 point.0 frame.cycle frame.members (pos (amount own.precision))
+    e) in
+    let times = and_parts (int_le (expected_at own.plan frame.cycle -ℤ pos (amount own.precision)) (point.0 +ℤ s.adjustment.0)) _ test.1 in
+    let same : own.precision ≡ network.precision = is.precision in
+    let plan_same = is.plan ∙ sym plan in
+    record {
+      cycle = leb-true frame.cycle last_cycle test.0;
+      from =
+          subst (λ (u : Units). (expected_at s.plan frame.cycle -ℤ pos (amount u)) ≤ℤ (point.0 +ℤ s.adjustment.0)) same
+          (subst (λ (p : _). (expected_at p frame.cycle -ℤ pos (amount own.precision)) ≤ℤ (point.0 +ℤ s.adjustment.0)) plan_same (at_most_is _ _ times.0));
+      to =
+          subst (λ (u : Units). (point.0 +ℤ s.adjustment.0) ≤ℤ (expected_at s.plan frame.cycle +ℤ pos (amount u))) same
+          (subst (λ (p : _). (point.0 +ℤ s.adjustment.0) ≤ℤ (expected_at p frame.cycle +ℤ pos (amount own.precision))) plan_same (at_most_is _ _ times.1));
+      low = low;
+      high = high;
+    }
+
+-- no frame is within its time at the end of all
+too_late : (f c d e p : ℕ) (v ef r x q a w : ℤ) → f ≤ 2 ^ 20 + 2 ^ 17 → v ≡ pos ((2 ^ 20 + 2 ^ 17 + 1) * c + d) → ef ≡ pos (f * c + e) → v ≤ℤ ((x +ℤ a) +ℤ w)
+    → w ≡ pos p → x ≤ℤ r → r <ℤ (q +ℤ w) → (q +ℤ a) ≤ℤ (ef +ℤ pos p) → e + 3 * p < c + d → ⊥
+too_late f c d e p v ef r x q a w bound isv isf passed isw later soon to margin =
+    let more : f * c ≤ (2 ^ 20 + 2 ^ 17) * c = mul-le-mul_right c bound in omega (arith, ints, more)
+
+pub not_the_end : (network : Network) (device : DeviceId) (own : Own) (s : Standing) (heard : Summary) (frame : HeardFrame) (before reading : ℤ)
+    → IsOwnOf network device own → s.plan ≡ end_plan network → IsHeardSo network s frame → IsAtEnd network s heard before → before ≤ℤ reading
+    → reading <ℤ (frame.point.0 +ℤ network.precision.0) → ⊥
+not_the_end network device own s heard frame before reading is plan h end later soon =
+    let r = has_numbers network device own is in
+    too_late frame.cycle (amount network.cycle) (amount network.correction) (expected_offset network) (amount network.precision)
+    (correction_value network (2 ^ 20 + 2 ^ 17 + 1)) (expected_at s.plan frame.cycle) reading before frame.point.0 s.adjustment.0 network.precision.0
+    h.cycle refl (expected_is network device own s.plan frame.cycle is plan) end.passed (whole _ network.precision.0 is.in_range.precision.least) later soon
+    h.to r.margin
+
+better_so : (network : Network) (s : Standing) (o : Option HeardFrame) (later best : HeardFrame) → IsBetterOf o later best → IfSome o (IsHeardSo network s)
+    → IsHeardSo network s later → IsHeardSo network s best
+better_so network s None later best e was now = subst (IsHeardSo network s) (sym e) now
+better_so network s (Some old) later best (inl h) was now = subst (IsHeardSo network s) (sym h.1) was
+better_so network s (Some old) later best (inr h) was now = subst (IsHeardSo network s) (sym h.1) now
+
+within_near : (network : Network) (s : Standing) (old new : Summary) (channel : Channel) (frame : HeardFrame)
+    → Hears old (record { channel = channel; frame = frame; within = true }) new → AreHeardSo network s old → IsHeardSo network s frame
+    → AreHeardSo network s new
+within_near network s old new A frame h was now =
+    subst (AreHeardSo network s) (sym h.2) (record { a = better_so network s old.best_a frame h.0 h.1 was.a now; b = was.b })
+within_near network s old new B frame h was now =
+    subst (AreHeardSo network s) (sym h.2) (record { a = was.a; b = better_so network s old.best_b frame h.0 h.1 was.b now })
+
+outside_near : (network : Network) (s : Standing) (old new : Summary) (channel : Channel) (frame : HeardFrame)
+    → Hears old (record { channel = channel; frame = frame; within = false }) new → AreHeardSo network s old → AreHeardSo network s new
+outside_near network s old new channel frame h was = subst (AreHeardSo network s) (sym h) (record { a = was.a; b = was.b })
+
+outside_number : (network : Network) (s : Standing) (old new : Summary) (channel : Channel) (frame : HeardFrame) (x y : ℤ) (o : Option ℕ)
+    → Hears old (record { channel = channel; frame = frame; within = false }) new → x ≤ℤ y → IfSome o (HasNumber network s old x)
+    → IfSome o (HasNumber network s new y)
+outside_number network s old new channel frame x y None h le was = tt
+outside_number network s old new channel frame x y (Some n) h le was =
+    subst (λ (m : Summary). HasNumber network s m y n) (sym h)
+    (let later = number_stays network s old x y (Some n) le was in
+    record { bound = later.bound; at_end = λ e. let end = later.at_end e in record { none_a = end.none_a; none_b = end.none_b; passed = end.passed } })
+
+within_number : (network : Network) (device : DeviceId) (own : Own) (s : Standing) (old new : Summary) (frame : HeardFrame) (x y : ℤ) (o : Option ℕ)
+    → IsOwnOf network device own → s.plan ≡ end_plan network → IsHeardSo network s frame → x ≤ℤ y → y <ℤ (frame.point.0 +ℤ network.precision.0)
+    → IfSome o (HasNumber network s old x) → IfSome o (HasNumber network s new y)
+within_number network device own s old new frame x y None is plan now le soon was = tt
+within_number network device own s old new frame x y (Some n) is plan now le soon was =
+    record { bound = was.bound; at_end = λ e. absurd (not_the_end network device own s old frame x y is plan now (was.at_end e) le soon) }
+
+-- ---- it keeps a frame
+
+summary_of : (heard : Summary) (before : List Hearing) (o : Option Channel) (channel : Channel) (frame : Pcf) (point : Units) (within : Bool) → o ≡ Some channel
+    → Summarizes heard (before ++ record { channel = channel; frame = heard_frame_of frame point; within = within } ∷ [])
+    → Summarizes heard (before ++ hearings o frame.cycle frame.members point within)
+summary_of heard before o channel frame point within e h =
+    subst (λ (x : Option Channel). Summarizes heard (before ++ hearings x frame.cycle frame.members point within)) (sym e) h
+
+pub keeps : (network : Network) (device : DeviceId) (node : Node) (e : EndSystem) (heard : Summary) (moment : Moment) (link : LinkId) (frame : Pcf)
+    (point : Units) (within : Bool) → StandsAsEnd e network device node → MayCall network device node moment ripening
+    → MayRipen network device node moment link frame point → heard_by e.own e.sync frame point ≡ heard_so within
+    → Hears e.heard (record { channel = channel_by e.own link; frame = heard_frame_of frame point; within = within }) heard
+    → ((before : List Hearing) → Summarizes e.heard before
+    → Summarizes heard (before ++ record { channel = channel_by e.own link; frame = heard_frame_of frame point; within = within } ∷ []))
+    → StandsAsEnd (record { own = e.own; sync = e.sync; heard = heard; agenda = e.agenda; rows = e.rows; entering = e.entering; last = moment }) network device
+    (called moment ripening (with_heard node (channel_of_link network link) frame point within))
+keeps network device node e heard moment link frame point true stands may ripens as_heard hears summary =
+    let plan = stands.plan ∙ stands.own.plan_is in
+    let now = is_heard_so network device e.own node.standing frame point stands.own plan
+    (point_low network device node e.own moment link frame point stands.own stands.begun may ripens)
+    (point_high network device node moment link frame point may ripens)
+    (subst (λ (s : Standing). heard_by e.own s frame point ≡ Within) (sym stands.standing) as_heard) in
+    record {
+      own = stands.own;
+      sound = stands.sound;
+      standing = stands.standing;
+      plan = stands.plan;
+      last = refl;
+      begun = not_fallen node.last.reading.0 moment.reading.0 stands.begun may.later.reading;
+      small = stands.small;
+      heard = summary_of heard node.heard _ _ frame point true (stands.own.links link ripens.at).channel (summary node.heard stands.heard);
+      near = within_near network node.standing e.heard heard (channel_by e.own link) (heard_frame_of frame point) hears stands.near now;
+      joined = stands.joined;
+      number =
+          within_number network device e.own node.standing e.heard heard (heard_frame_of frame point) node.last.reading.0 moment.reading.0
+          (next_point node.standing) stands.own plan now may.later.reading ripens.in_time stands.number;
+      rows = stands.rows;
+      entering = stands.entering;
+      slot = stands.slot;
+      agenda = stands.agenda;
+    }
+keeps network device node e heard moment link frame point false stands may ripens as_heard hears summary =
+    record {
+      own = stands.own;
+      sound = stands.sound;
+      standing = stands.standing;
+      plan = stands.plan;
+      last = refl;
+      begun = not_fallen node.last.reading.0 moment.reading.0 stands.begun may.later.reading;
+      small = stands.small;
+      heard = summary_of heard node.heard _ _ frame point false (stands.own.links link ripens.at).channel (summary node.heard stands.heard);
+      near = outside_near network node.standing e.heard heard (channel_by e.own link) (heard_frame_of frame point) hears stands.near;
+      joined = stands.joined;
+      number =
+          outside_number network node.standing e.heard heard (channel_by e.own link) (heard_frame_of frame point) node.last.reading.0 moment.reading.0
+          (next_point node.standing) hears may.later.reading stands.number;
+      rows = stands.rows;
+      entering = stands.entering;
+      slot = stands.slot;
+      agenda = stands.agenda;
+    }
+
+-- ---- it takes the time from a frame
+
+tells_by : (b : Bool) → ripe_as (heard_enough b) ≡ Integrates → b ≡ true
+tells_by true e = refl
+tells_by false e = absurd cc
+
+in_time_not : (b : Bool) → ripe_as (heard_by_schedule b) ≡ Integrates → ⊥
+in_time_not true e = cc
+in_time_not false e = cc
+
+ignored_tells_not : Ignored ≡ Integrates → ⊥
+ignored_tells_not e = cc
+
+-- the state and the test of a frame that tells the time
+told_in : (own : Own) (state : State) (adjustment point : ℤ) (cycle : ℕ) (members : Members) (p : ℤ)
+    → ripe_as (heard_as own.plan p state adjustment point cycle members) ≡ Integrates → (state ≡ Integrating)
+    × ((nat_le own.plan.threshold (count_of members) && nat_le cycle last_cycle) ≡ true)
+told_in own Off adjustment point cycle members p e = absurd (ignored_tells_not e)
+told_in own Integrating adjustment point cycle members p e = (refl, tells_by _ e)
+told_in own Joining adjustment point cycle members p e = absurd (in_time_not _ e)
+told_in own Synchronised adjustment point cycle members p e = absurd (in_time_not _ e)
+
+pub tells : (network : Network) (device : DeviceId) (own : Own) (s : Standing) (frame : Pcf) (point : Units) → IsOwnOf network device own
+    → s.plan ≡ end_plan network → heard_by own s frame point ≡ Integrates → DoesIntegrate s frame
+tells network device own s frame point is plan e =
+    let t = told_in own s.state s.adjustment.0 point.0 frame.cycle frame.members (pos (amount own.precision)) e in
+    let parts = and_parts (nat_le own.plan.threshold (count_of frame.members)) _ t.1 in
+    record {
+      integrating = t.0;
+      enough =
+          subst (λ (p : SyncPlan). p.threshold ≤ count_of frame.members) (is.plan ∙ sym plan) (leb-true own.plan.threshold (count_of frame.members) parts.0);
+      in_time = leb-true frame.cycle last_cycle parts.1;
+    }
+
+small_joined : (f c e : ℕ) (ef q : ℤ) → f ≤ 2 ^ 20 + 2 ^ 17 → c ≤ 2 ^ 40 → e ≤ 2 ^ 43 → ef ≡ pos (f * c + e) → neg_ℤ (pos (2 ^ 40)) ≤ℤ q
+    → q ≤ℤ pos (2 ^ 60 + 2 ^ 51) → IsSmall (ef -ℤ q)
+small_joined f c e ef q bf bc be isf low high = let mf : f * c ≤ f * 2 ^ 40 = mul-le-mul_left f bc in (omega (arith, ints, mf), omega (arith, ints, mf))
+
+pub joined_small : (network : Network) (device : DeviceId) (own : Own) (plan : SyncPlan) (frame : Pcf) (point : Units) → IsOwnOf network device own
+    → plan ≡ end_plan network → frame.cycle ≤ 2 ^ 20 + 2 ^ 17 → neg_ℤ (pos (2 ^ 40)) ≤ℤ point.0 → point.0 ≤ℤ pos (2 ^ 60 + 2 ^ 51)
+    → IsSmall (joined_by plan frame point).adjustment.0
+joined_small network device own plan frame point is same early low high =
+    let r = has_numbers network device own is in
+    small_joined frame.cycle (amount network.cycle) (expected_offset network) (expected_at plan frame.cycle) point.0 early r.cycle_most r.offset_most
+    (expected_is network device own plan frame.cycle is same) low high
+
+-- where the synchronisation stands then
+abbrev pub joined_standing : Standing → Pcf → Units → Standing
+joined_standing s frame point = after s (heard_frame frame point (Some (joined_by s.plan frame point)))
+
+early_number : (n : ℕ) → n ≤ 2 ^ 20 + 2 ^ 17 → n ≤ 2 ^ 20 + 2 ^ 17 + 2
+early_number n h = omega arith
+
+not_last : (n : ℕ) → n ≤ 2 ^ 20 + 2 ^ 17 → n ≡ 2 ^ 20 + 2 ^ 17 + 2 → ⊥
+not_last n h e = omega arith
+
+pub early_enough : (n : ℕ) → n ≤ 2 ^ 20 + 2 ^ 17 → n ≤ 2 ^ 21 + 2 ^ 18
+early_enough n h = omega arith
+
+heard_nothing : (network : Network) (s : Standing) (heard : Summary) → heard ≡ silence → AreHeardSo network s heard
+heard_nothing network s heard e = subst (AreHeardSo network s) (sym e) (record { a = tt; b = tt })
+
+pub joins : (network : Network) (device : DeviceId) (node : Node) (e : EndSystem) (sync : Standing) (heard : Summary) (agenda : Agenda) (moment : Moment)
+    (link : LinkId) (frame : Pcf) (point : Units) → StandsAsEnd e network device node → IsTold e network device node moment link frame point
+    → sync ≡ joined_standing e.sync frame point → heard ≡ silence → Summarizes heard [] → IfSome agenda.dispatch (IsAtSlot e.rows)
+    → ((network : Network) (device : DeviceId) → IsOwnOf network device e.own → AreRowsOf network device e.rows
+    → IsAgenda network device sync (moment.reading.0 +ℤ sync.adjustment.0) [] agenda)
+    → StandsAsEnd (record { own = e.own; sync = sync; heard = heard; agenda = agenda; rows = e.rows; entering = e.entering; last = moment }) network device
+    (called moment ripening (with_joined node moment frame point))
+joins network device node e sync heard agenda moment link frame point stands told value none nothing slot plan =
+    let value_is : joined_standing node.standing frame point ≡ sync = ap (λ (s : Standing). joined_standing s frame point) stands.standing ∙ sym value in
+    let plan_is = stands.plan ∙ stands.own.plan_is in
+    let may = told.call in
+    let does = tells network device e.own node.standing frame point stands.own plan_is
+    (subst (λ (s : Standing). heard_by e.own s frame point ≡ Integrates) (sym stands.standing) told.integrates) in
+    record {
+      own = stands.own;
+      sound = stands.sound;
+      standing = value_is;
+      plan = stands.plan;
+      last = refl;
+      begun = not_fallen node.last.reading.0 moment.reading.0 stands.begun may.later.reading;
+      small =
+          joined_small network device e.own node.standing.plan frame point stands.own plan_is does.in_time
+          (point_low network device node e.own moment link frame point stands.own stands.begun may told.ripens)
+          (point_high network device node moment link frame point may told.ripens);
+      heard = nothing;
+      near = heard_nothing network (joined_standing node.standing frame point) heard none;
+      joined = does.in_time;
+      number = record { bound = early_number frame.cycle does.in_time; at_end = λ e. absurd (not_last frame.cycle does.in_time e) };
+      rows = stands.rows;
+      entering = stands.entering;
+      slot = slot;
+      agenda =
+          subst (λ (s : Standing). IsAgenda network device s (moment.reading.0 +ℤ s.adjustment.0) [] agenda) (sym value_is)
+          (plan network device stands.own stands.rows);
+    }
+
+some_iff : {X : Type 0} (o : Option X) (P : Type 0) (v : X) → SomeIff o P v → P → o ≡ Some v
+some_iff None P v h p = absurd (h p)
+some_iff (Some x) P v h p = ap Some h.1
+
+pub joined_value : (s new : Standing) (frame : Pcf) (point : Units) (o : Option Joined) → SomeIff o (DoesIntegrate s frame) (joined_by s.plan frame point)
+    → DoesIntegrate s frame → new ≡ after s (heard_frame frame point o) → new ≡ joined_standing s frame point
+joined_value s new frame point o iff does value =
+    value ∙ ap (λ (x : Option Joined). after s (heard_frame frame point x)) (some_iff o _ (joined_by s.plan frame point) iff does)
+
+-- what the frame does, where it tells the time
+pub does_tell : (network : Network) (device : DeviceId) (node : Node) (e : EndSystem) (moment : Moment) (link : LinkId) (frame : Pcf) (point : Units)
+    → StandsAsEnd e network device node → IsTold e network device node moment link frame point → DoesIntegrate e.sync frame
+does_tell network device node e moment link frame point stands told =
+    tells network device e.own e.sync frame point stands.own
+    (subst (λ (s : Standing). s.plan ≡ end_plan network) stands.standing (stands.plan ∙ stands.own.plan_is)) told.integrates
+
+pub joined_number : (s new : Standing) (frame : Pcf) (point : Units) → new ≡ joined_standing s frame point → DoesIntegrate s frame
+    → IfSome (next_point new) (λ n. n ≤ 2 ^ 21 + 2 ^ 18)
+joined_number s new frame point value does =
+    subst (λ (x : Standing). IfSome (next_point x) (λ n. n ≤ 2 ^ 21 + 2 ^ 18)) (sym value) (early_enough frame.cycle does.in_time)
+
+pub joined_small_by : (network : Network) (device : DeviceId) (node : Node) (e : EndSystem) (new : Standing) (moment : Moment) (link : LinkId) (frame : Pcf)
+    (point : Units) → StandsAsEnd e network device node → IsTold e network device node moment link frame point → new ≡ joined_standing e.sync frame point
+    → IsSmall new.adjustment.0
+joined_small_by network device node e new moment link frame point stands told value =
+    subst (λ (x : Standing). IsSmall x.adjustment.0) (sym value)
+    (joined_small network device e.own e.sync.plan frame point stands.own
+    (subst (λ (s : Standing). s.plan ≡ end_plan network) stands.standing (stands.plan ∙ stands.own.plan_is))
+    (does_tell network device node e moment link frame point stands told).in_time
+    (point_low network device node e.own moment link frame point stands.own stands.begun told.call told.ripens)
+    (point_high network device node moment link frame point told.call told.ripens))
+
+abbrev pub wide_low : ℤ → Type 0
+wide_low z = neg_ℤ (pos (2 ^ 61 + 2 ^ 58)) ≤ℤ z
+
+pub wide_range : (z : ℤ) → neg_ℤ (pos (2 ^ 40)) ≤ℤ z → z ≤ℤ pos (2 ^ 60 + 2 ^ 51) → (neg_ℤ (pos (2 ^ 61 + 2 ^ 58)) ≤ℤ z) × (z ≤ℤ pos (2 ^ 61 + 2 ^ 58))
+wide_range z low high = (omega (arith, ints), omega (arith, ints))
+
+-- ---- what becomes of a frame
+
+match_false : (b : Bool) (X Y : Type 0) → b ≡ false → Y → MatchBool b X Y
+match_false true X Y e y = absurd cc
+match_false false X Y e y = y
+
+pub ripe_at : (network : Network) (device : DeviceId) (node : Node) (e : EndSystem) (frame : Pcf) (point : Units) (is : Ripe)
+    → StandsAsEnd e network device node → is ≡ heard_by e.own e.sync frame point → IsPermanenceOutcomeAt network device node frame point is
+ripe_at network device node e frame point is stands r =
+    match_false (is_cm network device) _ _ stands.own.no_cm
+    (r ∙ ap (λ (s : Standing). heard_by e.own s frame point) (sym stands.standing)
+    ∙ ap (λ (p : SyncPlan). ripe_as (heard_as p (pos (amount e.own.precision)) node.standing.state node.standing.adjustment.0 point.0 frame.cycle
+    frame.members)) (stands.own.plan ∙ sym stands.own.plan_is)
+    ∙ ap (λ (u : Units). ripe_as (heard_as (plan_of network device) (pos (amount u)) node.standing.state node.standing.adjustment.0 point.0 frame.cycle
+    frame.members)) stands.own.precision)
+
+ignored_time : (b : Bool) → (ripe_as (heard_by_schedule b) ≡ Within → ⊥) → (ripe_as (heard_by_schedule b) ≡ Outside → ⊥)
+    → ripe_as (heard_by_schedule b) ≡ Ignored
+ignored_time true w o = absurd (w refl)
+ignored_time false w o = absurd (o refl)
+
+ignored_enough : (b : Bool) → (ripe_as (heard_enough b) ≡ Integrates → ⊥) → ripe_as (heard_enough b) ≡ Ignored
+ignored_enough true i = absurd (i refl)
+ignored_enough false i = refl
+
+ignored_in : (own : Own) (state : State) (adjustment point : ℤ) (cycle : ℕ) (members : Members) (p : ℤ) (r : Ripe)
+    → r ≡ ripe_as (heard_as own.plan p state adjustment point cycle members) → (r ≡ Within → ⊥) → (r ≡ Outside → ⊥) → (r ≡ Integrates → ⊥) → r ≡ Ignored
+ignored_in own Off adjustment point cycle members p r e w o i = e
+ignored_in own Integrating adjustment point cycle members p r e w o i = e ∙ ignored_enough _ (λ k. i (e ∙ k))
+ignored_in own Joining adjustment point cycle members p r e w o i = e ∙ ignored_time _ (λ k. w (e ∙ k)) (λ k. o (e ∙ k))
+ignored_in own Synchronised adjustment point cycle members p r e w o i = e ∙ ignored_time _ (λ k. w (e ∙ k)) (λ k. o (e ∙ k))
+
+pub is_ignored : (own : Own) (s : Standing) (frame : Pcf) (point : Units) (r : Ripe) → r ≡ heard_by own s frame point → (r ≡ Within → ⊥) → (r ≡ Outside → ⊥)
+    → (r ≡ Integrates → ⊥) → r ≡ Ignored
+is_ignored own s frame point r e w o i = ignored_in own s.state s.adjustment.0 point.0 frame.cycle frame.members (pos (amount own.precision)) r e w o i
+
+-- a device that ignores a frame stands as before, but later
+pub stands_later : (network : Network) (device : DeviceId) (node : Node) (e : EndSystem) (moment : Moment) (phase : Phase) → StandsAsEnd e network device node
+    → IsLaterMoment node.last moment
+    → StandsAsEnd (record { own = e.own; sync = e.sync; heard = e.heard; agenda = e.agenda; rows = e.rows; entering = e.entering; last = moment }) network
+    device (called moment phase node)
+stands_later network device node e moment phase stands later =
+    record {
+      own = stands.own;
+      sound = stands.sound;
+      standing = stands.standing;
+      plan = stands.plan;
+      last = refl;
+      begun = not_fallen node.last.reading.0 moment.reading.0 stands.begun later.reading;
+      small = stands.small;
+      heard = stands.heard;
+      near = stands.near;
+      joined = stands.joined;
+      number = number_stays network node.standing e.heard node.last.reading.0 moment.reading.0 (next_point node.standing) later.reading stands.number;
+      rows = stands.rows;
+      entering = stands.entering;
+      slot = stands.slot;
+      agenda = stands.agenda;
+    }
+
+-- it is on
+pub is_on : (network : Network) (device : DeviceId) (node : Node) (e : EndSystem) → StandsAsEnd e network device node → is_off e.sync.state ≡ false
+    → is_off node.standing.state ≡ false
+is_on network device node e stands on = subst (λ (s : Standing). is_off s.state ≡ false) (sym stands.standing) on
+
+pub is_not_on : (network : Network) (device : DeviceId) (node : Node) (e : EndSystem) → StandsAsEnd e network device node → is_off e.sync.state ≡ true
+    → is_off node.standing.state ≡ false → ⊥
+is_not_on network device node e stands off on = both_ways _ (subst (λ (s : Standing). is_off s.state ≡ false) stands.standing on) off
+
+pub small_now : (network : Network) (device : DeviceId) (node : Node) (e : EndSystem) → StandsAsEnd e network device node → IsSmall e.sync.adjustment.0
+small_now network device node e stands = subst (λ (s : Standing). IsSmall s.adjustment.0) stands.standing stands.small
+
+-- ---- it is turned on
+
+off_not : (state : State) → state ≡ Off → state ≡ Synchronised → ⊥
+off_not state a b = cc
+
+off_point : (state : State) (n k : ℕ) → state ≡ Off → point_in state n ≡ Some k → ⊥
+off_point state n k e p = let h : point_in Off n ≡ Some k = subst (λ (x : State). point_in x n ≡ Some k) e p in cc
+
+integrating_not : Integrating ≡ Synchronised → ⊥
+integrating_not e = cc
+
+integrating_point : (n k : ℕ) → point_in Integrating n ≡ Some k → ⊥
+integrating_point n k e = cc
+
+on_sending : (network : Network) (device : DeviceId) (s : Standing) (changed : ℤ) (done : List ClockTask) (o : Option Appointment) → s.state ≡ Off
+    → IsSending network device s changed done o → IsSending network device (after s turned_on) changed done o
+on_sending network device s changed done None off is = λ master st. integrating_not st
+on_sending network device s changed done (Some next) off is = absurd (off_not s.state off is.1)
+
+on_correction : (network : Network) (s : Standing) (changed : ℤ) (done : List ClockTask) (o : Option Appointment) → s.state ≡ Off
+    → IsCorrection network s changed done o → IsCorrection network (after s turned_on) changed done o
+on_correction network s changed done None off is = λ cycle e. absurd (integrating_point s.number cycle e)
+on_correction network s changed done (Some next) off is = absurd (off_point s.state s.number next.cycle off is.0.point)
+
+on_dispatch : (network : Network) (device : DeviceId) (s : Standing) (changed : ℤ) (done : List ClockTask) (o : Option Dispatch) → s.state ≡ Off
+    → IsDispatch network device s changed done o → IsDispatch network device (after s turned_on) changed done o
+on_dispatch network device s changed done None off is = λ st. absurd (integrating_not st)
+on_dispatch network device s changed done (Some next) off is = absurd (off_not s.state off is.0)
+
+frame_still : (network : Network) (s t : Standing) (frame : HeardFrame) → s.plan ≡ t.plan → s.adjustment ≡ t.adjustment → IsHeardSo network s frame
+    → IsHeardSo network t frame
+frame_still network s t frame p a h = record {
+  cycle = h.cycle;
+  from =
+      subst (λ (x : SyncPlan). (expected_at x frame.cycle -ℤ observation_window network) ≤ℤ (frame.point.0 +ℤ t.adjustment.0)) p
+      (subst (λ (u : Units). (expected_at s.plan frame.cycle -ℤ observation_window network) ≤ℤ (frame.point.0 +ℤ u.0)) a h.from);
+  to =
+      subst (λ (x : SyncPlan). (frame.point.0 +ℤ t.adjustment.0) ≤ℤ (expected_at x frame.cycle +ℤ observation_window network)) p
+      (subst (λ (u : Units). (frame.point.0 +ℤ u.0) ≤ℤ (expected_at s.plan frame.cycle +ℤ observation_window network)) a h.to);
+  low = h.low;
+  high = h.high;
+}
+
+heard_still : (network : Network) (s t : Standing) (o : Option HeardFrame) → s.plan ≡ t.plan → s.adjustment ≡ t.adjustment → IfSome o (IsHeardSo network s)
+    → IfSome o (IsHeardSo network t)
+heard_still network s t None p a h = tt
+heard_still network s t (Some frame) p a h = frame_still network s t frame p a h
+
+pub turns_on : (network : Network) (device : DeviceId) (node : Node) (e : EndSystem) (sync : Standing) → StandsAsEnd e network device node
+    → node.standing.state ≡ Off → sync ≡ after e.sync turned_on
+    → StandsAsEnd (record { own = e.own; sync = sync; heard = e.heard; agenda = e.agenda; rows = e.rows; entering = e.entering; last = e.last }) network device
+    (node_turned_on node)
+turns_on network device node e sync stands off value =
+    record {
+      own = stands.own;
+      sound = stands.sound;
+      standing = ap (λ (s : Standing). after s turned_on) stands.standing ∙ sym value;
+      plan = stands.plan;
+      last = stands.last;
+      begun = stands.begun;
+      small = stands.small;
+      heard = stands.heard;
+      near = record {
+        a = heard_still network node.standing (after node.standing turned_on) e.heard.best_a refl refl stands.near.a;
+        b = heard_still network node.standing (after node.standing turned_on) e.heard.best_b refl refl stands.near.b;
+      };
+      joined = stands.joined;
+      number = tt;
+      rows = stands.rows;
+      entering = stands.entering;
+      slot = stands.slot;
+      agenda = record {
+        sending = on_sending network device node.standing node.changed node.done e.agenda.sending off stands.agenda.sending;
+        correction = on_correction network node.standing node.changed node.done e.agenda.correction off stands.agenda.correction;
+        dispatch = on_dispatch network device node.standing node.changed node.done e.agenda.dispatch off stands.agenda.dispatch;
+      };
+    }

@@ -1,0 +1,408 @@
+-- The dispatch that comes next, among the slots of a device.
+use Rattle.std.proofs.Common.{◌≡◌, ◌⊎◌, inl, inr, ℕ, zero, suc, ◌+◌, ◌-◌, ◌*◌, ◌/◌, ◌%◌, ◌<◌, ◌≤◌, ◌^◌, ℤ, pos, ◌-ℤ◌, ◌<ℤ◌, ◌≤ℤ◌, List, [], ◌∷◌, ◌++◌, get_or, Option, Some, None, refl, ap, sym, ◌∙◌, subst, arith}
+use Rattle.std.proofs.lemmas.Int.{ints}
+use Rattle.std.proofs.lemmas.List.Elements.{All-contains}
+use Rattle.std.proofs.lemmas.Option.{slice_get_within}
+use Rattle.std.proofs.Math.Nat.{div-add-mod, mod-lt, mul-le-mul_right}
+use Rattle.std.specs.List.{Contains}
+use Rattle.std.specs.Option.{option_map_or}
+use Rattle.end_system.proofs.Advance.{done_now, done_still, none_there, was_done}
+use Rattle.end_system.proofs.Tasks.{later_value}
+use Rattle.end_system.proofs.Values.{at_least}
+use Rattle.end_system.specs.Agendas.{IsDispatch}
+use Rattle.end_system.specs.Deeds.{IsSooner, Leaves}
+use Rattle.end_system.specs.Owns.{IsOwnOf}
+use Rattle.end_system.specs.RowSlots.{AreRowsOf, IsAtSlot, IsFirstFrom, IsNextFrom, IsSlotIn, IsSlotOf, key_of, numbers_of}
+use Rattle.end_system.specs.declared.own.Own.{Own}
+use Rattle.end_system.specs.declared.rows.Dispatch.{Dispatch}
+use Rattle.end_system.specs.declared.rows.Rows.{Rows}
+use Rattle.end_system.specs.declared.rows.Slot.{Slot}
+use Rattle.net_plan.specs.Ranges.{IsInRange}
+use Rattle.net_plan.specs.declared.ids.DeviceId.{DeviceId}
+use Rattle.net_plan.specs.declared.ids.LinkId.{LinkId}
+use Rattle.net_plan.specs.declared.ids.RowId.{RowId}
+use Rattle.net_plan.specs.declared.network.Network.{Network}
+use Rattle.net_plan.specs.declared.tables.Row.{Row}
+use Rattle.run_law.specs.machines.Nodes.{ClockTask, dispatching}
+use Rattle.run_law.specs.machines.Tasks.{offset_of, value_of}
+use Rattle.schedule_tables.proofs.OrderLemmas.{below_one_way, same_or_below}
+use Rattle.schedule_tables.specs.Dispatches.{IsBelow, dispatch_order}
+use Rattle.sync_state.specs.Standing.{Standing}
+use Rattle.sync_state.specs.declared.plan.SyncPlan.{SyncPlan}
+use Rattle.sync_state.specs.declared.state.State.TheVariants.{Synchronised}
+use Rattle.tte_units.specs.Amount.{amount}
+use Rattle.tte_units.specs.declared.units.Units.{Units}
+
+-- each period divides 64
+period_divides : (n p : ℕ) → Contains (1 ∷ 2 ∷ 4 ∷ 8 ∷ 16 ∷ 32 ∷ 64 ∷ []) p → n % 64 % p ≡ n % p
+period_divides n p has = at_place n p has.0 has.1 has.2
+  where
+    at_place : (n p k : ℕ) → k < 7 → get_or (1 ∷ 2 ∷ 4 ∷ 8 ∷ 16 ∷ 32 ∷ 64 ∷ []) k p ≡ p → n % 64 % p ≡ n % p
+    at_place n p zero within at = rw (← at) (omega arith)
+    at_place n p (suc zero) within at = rw (← at) (omega arith)
+    at_place n p (suc (suc zero)) within at = rw (← at) (omega arith)
+    at_place n p (suc (suc (suc zero))) within at = rw (← at) (omega arith)
+    at_place n p (suc (suc (suc (suc zero)))) within at = rw (← at) (omega arith)
+    at_place n p (suc (suc (suc (suc (suc zero))))) within at = rw (← at) (omega arith)
+    at_place n p (suc (suc (suc (suc (suc (suc zero)))))) within at = rw (← at) (omega arith)
+    at_place n p (suc (suc (suc (suc (suc (suc (suc k))))))) within at = absurd (omega arith)
+
+-- ---- slots, and rows that leave in a cycle
+
+-- the slot of a row that leaves in the cycle
+abbrev slot_of : (network : Network) (device : DeviceId) (row : RowId) (cycle : ℕ) → Leaves network device row cycle → Slot
+slot_of network device row cycle h = record { residue = cycle % 64; offset = amount h.entry.row.offset; link = h.entry.row.link; row = row }
+
+residue_small : (cycle : ℕ) → cycle % 64 < 64
+residue_small cycle = omega arith
+
+is_slot : (network : Network) (device : DeviceId) (own : Own) (row : RowId) (cycle : ℕ) → IsOwnOf network device own → (h : Leaves network device row cycle)
+    → IsSlotOf network device (slot_of network device row cycle h)
+is_slot network device own row cycle is h = record {
+  entry = h.entry;
+  is = h.is;
+  offset = refl;
+  link = refl;
+  leaves = h.leaves;
+  sender = h.sender;
+  residue = residue_small cycle;
+  in_phase = period_divides cycle h.entry.vl.period (is.periods h.entry.row.vl.0 h.entry.vl h.is.vl).0 ∙ h.occurs.in_phase;
+}
+
+-- it is among the slots
+slot_in : (network : Network) (device : DeviceId) (own : Own) (rows : Rows) (row : RowId) (cycle : ℕ) → IsOwnOf network device own
+    → AreRowsOf network device rows → (h : Leaves network device row cycle) → IsSlotIn rows (slot_of network device row cycle h) cycle
+slot_in network device own rows row cycle is are h =
+    record { there = are.complete (slot_of network device row cycle h) (is_slot network device own row cycle is h); residue = refl }
+
+-- the slot's row leaves in each cycle of its residue
+leaves : (network : Network) (device : DeviceId) (own : Own) (slot : Slot) (cycle : ℕ) → IsOwnOf network device own → IsSlotOf network device slot
+    → slot.residue ≡ cycle % 64 → 1 ≤ cycle → Leaves network device slot.row cycle
+leaves network device own slot cycle is of residue begun = record {
+  entry = of.entry;
+  is = of.is;
+  leaves = of.leaves;
+  occurs = record {
+    begun = begun;
+    in_phase =
+        sym (period_divides cycle of.entry.vl.period (is.periods of.entry.row.vl.0 of.entry.vl of.is.vl).0)
+        ∙ (ap (λ (n : ℕ). n % of.entry.vl.period) (sym residue) ∙ of.in_phase);
+  };
+  sender = of.sender;
+}
+
+-- the row's place is that of its slot
+place_is : (network : Network) (device : DeviceId) (slot : Slot) → IsSlotOf network device slot → dispatch_order network slot.row ≡ numbers_of slot
+place_is network device slot of =
+    ap (λ (o : Option Row). option_map_or (λ (r : Row). amount r.offset ∷ r.link.0 ∷ slot.row.0 ∷ []) o []) of.is.row
+    ∙ (ap (λ (n : ℕ). n ∷ of.entry.row.link.0 ∷ slot.row.0 ∷ []) (sym of.offset) ∙ ap (λ (l : LinkId). slot.offset ∷ l.0 ∷ slot.row.0 ∷ []) (sym of.link))
+
+offset_is : (network : Network) (device : DeviceId) (slot : Slot) → IsSlotOf network device slot → offset_of network slot.row ≡ slot.offset
+offset_is network device slot of = ap (λ (o : Option Row). option_map_or (λ (r : Row). amount r.offset) o 0) of.is.row ∙ sym of.offset
+
+length_is : (network : Network) (device : DeviceId) (own : Own) → IsOwnOf network device own → amount own.plan.cycle_length ≡ amount network.cycle
+length_is network device own is = ap (λ (p : SyncPlan). amount p.cycle_length) is.plan
+
+-- the slot's place lies well before the cycle's end
+short : (network : Network) (device : DeviceId) (own : Own) (slot : Slot) → IsOwnOf network device own → IsSlotOf network device slot
+    → slot.offset + 4 * amount network.precision ≤ amount own.plan.cycle_length
+short network device own slot is of =
+    let h = is.early slot.row (slot.residue + 64) (leaves network device own slot (slot.residue + 64) is of (again slot.residue of.residue)
+    (later slot.residue)) in
+    omega (arith, h, offset_is network device slot of, length_is network device own is)
+  where
+    again : (r : ℕ) → r < 64 → r ≡ (r + 64) % 64
+    again r small = omega (arith, small)
+
+    later : (r : ℕ) → 1 ≤ r + 64
+    later r = omega arith
+
+-- where the dispatch is one of the slots', at the reading of the search
+is_at : (network : Network) (device : DeviceId) (own : Own) (rows : Rows) (s : Standing) (adjustment : Units) (first : ℕ) (bound : Slot) (next : Dispatch)
+    → IsOwnOf network device own → IsSlotOf network device next.slot → s.adjustment ≡ adjustment
+    → IsNextFrom own rows adjustment.0 first bound next → next.at.0 ≡ (value_of network (dispatching next.slot.row next.cycle) -ℤ s.adjustment.0)
+is_at network device own rows s adjustment first bound next is of same found =
+    found.at
+    ∙ (ap (λ (n : ℕ). pos (next.cycle * n + next.slot.offset) -ℤ adjustment.0) (length_is network device own is)
+    ∙ (ap (λ (n : ℕ). pos (next.cycle * amount network.cycle + n) -ℤ adjustment.0) (sym (offset_is network device next.slot of))
+    ∙ ap (λ (u : Units). value_of network (dispatching next.slot.row next.cycle) -ℤ u.0) (sym same)))
+
+-- ---- the first behind a local value
+
+cases_of : (a b : ℕ) → (a < b) ⊎ ((a ≡ b) ⊎ (b < a))
+cases_of a b = grind arith
+
+same_block : (first cycle n : ℕ) → first ≡ cycle - cycle % 64 → first ≤ n → n < cycle → (n < first + 64) × (n % 64 < cycle % 64)
+same_block first cycle n e a b = (omega arith, omega arith)
+
+-- what is not below the bound lies behind the value
+ahead_of : (value c first cycle n offset link row : ℕ) → 0 < c → cycle ≡ value / c → first ≡ cycle - cycle % 64 → first ≤ n
+    → (n < first + 64 → IsBelow (n % 64 ∷ offset ∷ link ∷ row ∷ []) (cycle % 64 ∷ (value % c + 1) ∷ 0 ∷ 0 ∷ []) → ⊥) → value < n * c + offset
+ahead_of value c first cycle n offset link row some is from reached behind =
+    let whole : c * (value / c) + value % c ≡ value = div-add-mod value c in
+    let rest : value % c < c = mod-lt value some in
+    elim (cases_of n cycle) [
+      | inl less ↦ let b = same_block first cycle n from reached less in absurd (behind b.0 (inl b.1))
+      | inr (inl same) ↦
+          elim (cases_of offset (value % c + 1)) [
+            | inl low ↦ absurd (behind (omega (arith, same, from)) (inr (ap (λ (k : ℕ). k % 64) same, inl low)))
+            | inr (inl there) ↦ let e : n * c ≡ (value / c) * c = ap (λ (k : ℕ). k * c) (same ∙ is) in omega (arith, whole, there, e)
+            | inr (inr high) ↦ let e : n * c ≡ (value / c) * c = ap (λ (k : ℕ). k * c) (same ∙ is) in omega (arith, whole, high, e)
+          ]
+      | inr (inr more) ↦ let e : (value / c + 1) * c ≤ n * c = mul-le-mul_right c (omega (arith, more, is)) in omega (arith, whole, rest, e)
+    ]
+
+-- what lies behind the value is not below the bound
+from_value : (value c first cycle n offset link row : ℕ) → 0 < c → cycle ≡ value / c → first ≡ cycle - cycle % 64 → value < n * c + offset → offset < c
+    → (first ≤ n) × (n < first + 64 → IsBelow (n % 64 ∷ offset ∷ link ∷ row ∷ []) (cycle % 64 ∷ (value % c + 1) ∷ 0 ∷ 0 ∷ []) → ⊥)
+from_value value c first cycle n offset link row some is from ahead low =
+    let whole : c * (value / c) + value % c ≡ value = div-add-mod value c in
+    let reached : cycle ≤ n = elim (cases_of n cycle) [
+      | inl less ↦ let e : (n + 1) * c ≤ (value / c) * c = mul-le-mul_right c (omega (arith, less, is)) in absurd (omega (arith, whole, e, ahead, low))
+      | inr (inl same) ↦ omega (arith, same)
+      | inr (inr more) ↦ omega (arith, more)
+    ] in (
+      omega (arith, reached, from),
+      λ within below. elim below [
+        | inl less ↦ omega (arith, less, within, from, reached)
+        | inr (residue, inl less) ↦
+            let same : n ≡ cycle = omega (arith, residue, within, from, reached) in
+            let e : n * c ≡ (value / c) * c = ap (λ (k : ℕ). k * c) (same ∙ is) in
+            omega (arith, whole, e, less, ahead)
+        | inr (residue, inr (offset, inl less)) ↦ omega (arith, less)
+        | inr (residue, inr (offset, inr (link, inl less))) ↦ omega (arith, less)
+        | inr (residue, inr (offset, inr (link, inr (row, more)))) ↦ more
+      ],
+    )
+
+-- the first cycle with rows is cycle 1
+begun : (value c n offset p : ℕ) → c ≤ value + 1 → value < n * c + offset → offset + 4 * p ≤ c → 1 ≤ p → 1 ≤ n
+begun value c zero offset p a b d e = absurd (omega (arith, a, b, d, e))
+begun value c (suc n) offset p a b d e = omega arith
+
+below_offset : (offset p c : ℕ) → offset + 4 * p ≤ c → 1 ≤ p → offset < c
+below_offset offset p c a b = omega (arith, a, b)
+
+up_to_value : (x : ℤ) (value n : ℕ) → x ≤ℤ pos value → value < n → x <ℤ pos n
+up_to_value x value n a b = omega (arith, ints, a, b)
+
+-- the value from which a device dispatches, and the bound of the search
+pub record IsBehind (own : Own) (local : ℤ) (value first : ℕ) (bound : Slot) : Type 0 where
+  pub some : 0 < amount own.plan.cycle_length
+  pub silent : amount own.plan.cycle_length ≤ value + 1
+  pub least : local ≤ℤ pos value
+  pub next : (n : ℕ) → amount own.plan.cycle_length ≤ n → local <ℤ pos n → value < n
+  pub first_is : first ≡ value / amount own.plan.cycle_length - value / amount own.plan.cycle_length % 64
+  pub bound_is : key_of bound ≡ (value / amount own.plan.cycle_length % 64) ∷ (value % amount own.plan.cycle_length + 1) ∷ 0 ∷ 0 ∷ []
+
+at_least_one : (n c : ℕ) → 1 ≤ n → c ≤ n * c
+at_least_one n c h = let e : 1 * c ≤ n * c = mul-le-mul_right c h in omega (arith, e)
+
+same_key : (a b : ℕ) (xs ys : List ℕ) → a ≡ b → IsBelow (b ∷ xs) ys → IsBelow (a ∷ xs) ys
+same_key a b xs ys e h = subst (λ (k : ℕ). IsBelow (k ∷ xs) ys) (sym e) h
+
+pub first_is_next : (network : Network) (device : DeviceId) (own : Own) (rows : Rows) (s : Standing) (adjustment : Units) (local : ℤ) (value first : ℕ)
+    (bound : Slot) (next : Dispatch) → IsOwnOf network device own → AreRowsOf network device rows → s.adjustment ≡ adjustment → s.state ≡ Synchronised
+    → 1 ≤ amount network.precision → IsBehind own local value first bound → IsNextFrom own rows adjustment.0 first bound next
+    → IsDispatch network device s local [] (Some next)
+first_is_next network device own rows s adjustment local value first bound next is are same synchronised some behind found =
+    let c = amount own.plan.cycle_length in
+    let of : IsSlotOf network device next.slot = All-contains (IsSlotOf network device) rows.slots.items next.slot are.sound found.slot.there in
+    let close = short network device own next.slot is of in
+    let ahead : value < next.cycle * c + next.slot.offset =
+    ahead_of value c first (value / c) next.cycle next.slot.offset next.slot.link.0 next.slot.row.0 behind.some refl behind.first_is found.from.reached
+    (λ within below. found.from.behind within
+    (subst (λ (k : List ℕ). IsBelow (key_of next.slot) k) (sym behind.bound_is)
+    (same_key next.slot.residue (next.cycle % 64) (numbers_of next.slot) ((value / c % 64) ∷ (value % c + 1) ∷ 0 ∷ 0 ∷ []) found.slot.residue below))) in
+    let start : 1 ≤ next.cycle = begun value c next.cycle next.slot.offset (amount network.precision) behind.silent ahead close some in (
+      synchronised,
+      record {
+        leaves = leaves network device own next.slot next.cycle is of found.slot.residue start;
+        ahead = subst (λ (n : ℕ). local <ℤ pos (next.cycle * n + offset_of network next.slot.row)) (length_is network device own is)
+            (subst (λ (n : ℕ). local <ℤ pos (next.cycle * c + n)) (sym (offset_is network device next.slot of)) (up_to_value local value _ behind.least ahead));
+        done_before = λ other n there. absurd (none_there (dispatching other n) there);
+        rest = λ other n h later sooner.
+            let slot = slot_of network device other n h in
+            let one = is_slot network device own other n is h in
+            let low = below_offset slot.offset (amount network.precision) c (short network device own slot is one) some in
+            let there : value < n * c + slot.offset = behind.next _ (most n c slot.offset h.occurs.begun)
+            (subst (λ (k : ℕ). local <ℤ pos (n * k + slot.offset)) (sym (length_is network device own is))
+            (subst (λ (k : ℕ). local <ℤ pos (n * amount network.cycle + k)) (offset_is network device slot one) later)) in
+            let from = from_value value c first (value / c) n slot.offset slot.link.0 slot.row.0 behind.some refl behind.first_is there low in
+            absurd (found.least slot n (slot_in network device own rows other n is are h)
+            (record { reached = from.0; behind = λ within below. from.1 within (subst (λ (k : List ℕ). IsBelow (key_of slot) k) behind.bound_is below) })
+            (subst (λ (xs : List ℕ). IsBelow (n ∷ xs) (next.cycle ∷ numbers_of next.slot)) (place_is network device slot one)
+            (subst (λ (xs : List ℕ). IsBelow (n ∷ dispatch_order network other) (next.cycle ∷ xs)) (place_is network device next.slot of) sooner)));
+      },
+      is_at network device own rows s adjustment first bound next is of same found,
+    )
+  where
+    most : (n c offset : ℕ) → 1 ≤ n → c ≤ n * c + offset
+    most n c offset h = let e = at_least_one n c h in omega (arith, e)
+
+-- ---- the one after another
+
+-- three numbers below three of which the last is one more
+below_more : (a b c x y z : ℕ) → IsBelow (a ∷ b ∷ c ∷ []) (x ∷ y ∷ (z + 1) ∷ []) → IsBelow (x ∷ y ∷ z ∷ []) (a ∷ b ∷ c ∷ []) → ⊥
+below_more a b c x y z h k = grind (arith, h, k)
+
+not_below_more : (a b c x y z : ℕ) → (IsBelow (a ∷ b ∷ c ∷ []) (x ∷ y ∷ (z + 1) ∷ []) → ⊥) → IsBelow (x ∷ y ∷ z ∷ []) (a ∷ b ∷ c ∷ [])
+not_below_more a b c x y z h = grind (arith, h)
+
+-- what comes after a slot in a cycle is not below the slot with the next row, and what is not comes after it
+after_from : (first m n r q a b c x y z : ℕ) → first ≡ m - m % 64 → q ≡ m % 64 → r ≡ n % 64 → IsBelow (m ∷ x ∷ y ∷ z ∷ []) (n ∷ a ∷ b ∷ c ∷ [])
+    → (first ≤ n) × (n < first + 64 → IsBelow (r ∷ a ∷ b ∷ c ∷ []) (q ∷ x ∷ y ∷ (z + 1) ∷ []) → ⊥)
+after_from first m n r q a b c x y z from is at (inl less) = (
+  omega (arith, less, from),
+  λ within below. elim below [
+    | inl low ↦ omega (arith, low, less, from, is, at, within)
+    | inr (same, more) ↦ omega (arith, same, less, from, is, at, within)
+  ],
+)
+after_from first m n r q a b c x y z from is at (inr (same, above)) = (
+  omega (arith, same, from),
+  λ within below. elim below [
+    | inl low ↦ omega (arith, low, same, is, at)
+    | inr (equal, more) ↦ below_more a b c x y z more above
+  ],
+)
+
+from_after : (first m n r q a b c x y z : ℕ) → first ≡ m - m % 64 → q ≡ m % 64 → r ≡ n % 64 → first ≤ n
+    → (n < first + 64 → IsBelow (r ∷ a ∷ b ∷ c ∷ []) (q ∷ x ∷ y ∷ (z + 1) ∷ []) → ⊥)
+    → IsBelow (m ∷ x ∷ y ∷ z ∷ []) (n ∷ a ∷ b ∷ c ∷ [])
+from_after first m n r q a b c x y z from is at reached behind =
+    elim (cases_of m n) [
+      | inl less ↦ inl less
+      | inr (inl same) ↦ inr (same, not_below_more a b c x y z (λ below. behind (omega (arith, same, from)) (inr (omega (arith, same, is, at), below))))
+      | inr (inr more) ↦
+          let b = same_block first m n from reached more in
+          absurd (behind b.0 (inl (omega (arith, b.1, is, at))))
+    ]
+
+-- lists compared through one between
+trans_below : (xs ys zs : List ℕ) → IsBelow xs ys → IsBelow ys zs → IsBelow xs zs
+trans_below [] ys zs h k = absurd h
+trans_below (x ∷ xs) [] zs h k = absurd h
+trans_below (x ∷ xs) (y ∷ ys) [] h k = absurd k
+trans_below (x ∷ xs) (y ∷ ys) (z ∷ zs) h k =
+    elim h [
+      | inl a ↦ elim k [ inl b ↦ inl (omega (arith, a, b)) | inr (b, more) ↦ inl (omega (arith, a, b)) ]
+      | inr (a, low) ↦ elim k [ inl b ↦ inl (omega (arith, a, b)) | inr (b, more) ↦ inr (a ∙ b, trans_below xs ys zs low more) ]
+    ]
+
+-- the bound behind a dispatch
+pub record IsAfter (last : Dispatch) (first : ℕ) (bound : Slot) : Type 0 where
+  pub first_is : first ≡ last.cycle - last.cycle % 64
+  pub bound_is : key_of bound ≡ last.slot.residue ∷ last.slot.offset ∷ last.slot.link.0 ∷ (last.slot.row.0 + 1) ∷ []
+
+later_cycle : (m n : ℕ) (xs ys : List ℕ) → 1 ≤ m → IsBelow (m ∷ xs) (n ∷ ys) → 1 ≤ n
+later_cycle m n xs ys some (inl less) = omega (arith, less, some)
+later_cycle m n xs ys some (inr (same, more)) = omega (arith, same, some)
+
+same_four : {a b c d e f g h : ℕ} → a ∷ b ∷ c ∷ d ∷ [] ≡ e ∷ f ∷ g ∷ h ∷ [] → (a ≡ e) × (d ≡ h)
+same_four h = (cc, cc)
+
+below_through : (x : ℤ) (m n : ℕ) → x <ℤ pos m → m ≤ n → x <ℤ pos n
+below_through x m n a b = omega (arith, ints, a, b)
+
+abbrev row_id : ℕ → RowId
+row_id n = record { 0 = n }
+
+sooner_by : (network : Network) (other : RowId) (n : ℕ) (row : RowId) (m : ℕ) (next : RowId) (k : ℕ) → dispatching other n ≡ dispatching row m
+    → IsSooner network row m next k → IsSooner network other n next k
+sooner_by network other n row m next k e h =
+    let rows : row ≡ other = cc in
+    let cycles : m ≡ n = cc in
+    subst (λ (r : RowId). IsSooner network r n next k) rows (subst (λ (c : ℕ). IsSooner network row c next k) cycles h)
+
+done_same : (done : List ClockTask) (other : RowId) (n : ℕ) (row : RowId) (m : ℕ) → other.0 ≡ row.0 → n ≡ m
+    → Contains (done ++ dispatching row m ∷ []) (dispatching other n)
+done_same done other n row m rows cycles =
+    subst (λ (r : RowId). Contains (done ++ dispatching row m ∷ []) (dispatching r n)) (sym (ap row_id rows))
+    (subst (λ (c : ℕ). Contains (done ++ dispatching row m ∷ []) (dispatching row c)) (sym cycles) (done_now done (dispatching row m)))
+
+pub next_is_next : (network : Network) (device : DeviceId) (own : Own) (rows : Rows) (s : Standing) (changed : ℤ) (done : List ClockTask) (adjustment : Units)
+    (last : Dispatch) (first : ℕ) (bound : Slot) (next : Dispatch) → IsOwnOf network device own → AreRowsOf network device rows
+    → s.adjustment ≡ adjustment → IsAtSlot rows last → IsDispatch network device s changed done (Some last) → IsAfter last first bound
+    → IsNextFrom own rows adjustment.0 first bound next
+    → IsDispatch network device s changed (done ++ dispatching last.slot.row last.cycle ∷ []) (Some next)
+next_is_next network device own rows s changed done adjustment last first bound next is are same at was after found =
+    let deed = dispatching last.slot.row last.cycle in
+    let of : IsSlotOf network device next.slot = All-contains (IsSlotOf network device) rows.slots.items next.slot are.sound found.slot.there in
+    let before : IsSlotOf network device last.slot = All-contains (IsSlotOf network device) rows.slots.items last.slot are.sound at.there in
+    let above : IsBelow (last.cycle ∷ numbers_of last.slot) (next.cycle ∷ numbers_of next.slot) =
+    from_after first last.cycle next.cycle next.slot.residue last.slot.residue _ _ _ _ _ last.slot.row.0 after.first_is at.residue found.slot.residue
+    found.from.reached
+    (λ within below. found.from.behind within (subst (λ (k : List ℕ). IsBelow (key_of next.slot) k) (sym after.bound_is) below)) in
+    let start : 1 ≤ next.cycle = later_cycle last.cycle next.cycle (numbers_of last.slot) (numbers_of next.slot) was.1.leaves.occurs.begun above in
+    let it = leaves network device own next.slot next.cycle is of found.slot.residue start in
+    let sooner : IsSooner network last.slot.row last.cycle next.slot.row next.cycle =
+    subst (λ (xs : List ℕ). IsBelow (last.cycle ∷ xs) (next.cycle ∷ dispatch_order network next.slot.row)) (sym (place_is network device last.slot before))
+    (subst (λ (xs : List ℕ). IsBelow (last.cycle ∷ numbers_of last.slot) (next.cycle ∷ xs)) (sym (place_is network device next.slot of)) above) in (
+      was.0,
+      record {
+        leaves = it;
+        ahead =
+            below_through changed _ _ was.1.ahead (later_value network device own next.slot.row last.slot.row next.cycle last.cycle is it was.1.leaves
+            (λ back. below_one_way (last.cycle ∷ dispatch_order network last.slot.row) (next.cycle ∷ dispatch_order network next.slot.row) sooner back));
+        done_before = λ other n there. elim (was_done done deed (dispatching other n) there) [
+          | inl earlier ↦ trans_below (n ∷ dispatch_order network other) (last.cycle ∷ dispatch_order network last.slot.row)
+              (next.cycle ∷ dispatch_order network next.slot.row) (was.1.done_before other n earlier) sooner
+          | inr now ↦ sooner_by network other n last.slot.row last.cycle next.slot.row next.cycle now sooner
+        ];
+        rest = λ other n h later lt.
+            let slot = slot_of network device other n h in
+            let one = is_slot network device own other n is h in
+            let low : IsBelow (n ∷ numbers_of slot) (next.cycle ∷ numbers_of next.slot) =
+            subst (λ (xs : List ℕ). IsBelow (n ∷ xs) (next.cycle ∷ numbers_of next.slot)) (place_is network device slot one)
+            (subst (λ (xs : List ℕ). IsBelow (n ∷ dispatch_order network other) (next.cycle ∷ xs)) (place_is network device next.slot of) lt) in
+            let not_after : IsBelow (last.cycle ∷ numbers_of last.slot) (n ∷ numbers_of slot) → ⊥ = λ behind.
+            let from = after_from first last.cycle n slot.residue last.slot.residue _ _ _ _ _ last.slot.row.0 after.first_is at.residue refl behind in
+            found.least slot n (slot_in network device own rows other n is are h)
+            (record { reached = from.0; behind = λ within below. from.1 within (subst (λ (k : List ℕ). IsBelow (key_of slot) k) after.bound_is below) }) low
+            in
+            elim (same_or_below (n ∷ numbers_of slot) (last.cycle ∷ numbers_of last.slot) refl not_after) [
+              | inl equal ↦ let e = same_four equal in done_same done other n last.slot.row last.cycle e.1 e.0
+              | inr less ↦ done_still done deed (dispatching other n) (was.1.rest other n h later
+                  (subst (λ (xs : List ℕ). IsBelow (n ∷ xs) (last.cycle ∷ dispatch_order network last.slot.row)) (sym (place_is network device slot one))
+                  (subst (λ (xs : List ℕ). IsBelow (n ∷ numbers_of slot) (last.cycle ∷ xs)) (sym (place_is network device last.slot before)) less)))
+            ];
+      },
+      is_at network device own rows s adjustment first bound next is of same found,
+    )
+
+-- ---- an answer of the search
+
+no_rows : (network : Network) (device : DeviceId) (own : Own) (rows : Rows) → IsOwnOf network device own → AreRowsOf network device rows → rows.slots.items ≡ []
+    → (row : RowId) (cycle : ℕ) → Leaves network device row cycle → ⊥
+no_rows network device own rows is are none row cycle h =
+    let there = (slot_in network device own rows row cycle is are h).there in
+    none_there (slot_of network device row cycle h) (subst (λ (xs : List Slot). Contains xs (slot_of network device row cycle h)) none there)
+
+pub first_next : (network : Network) (device : DeviceId) (own : Own) (rows : Rows) (s : Standing) (adjustment : Units) (local : ℤ) (value first : ℕ)
+    (bound : Slot) (o : Option Dispatch) → IsOwnOf network device own → AreRowsOf network device rows → s.adjustment ≡ adjustment → s.state ≡ Synchronised
+    → IsBehind own local value first bound → IsFirstFrom own rows adjustment.0 first bound o → IsDispatch network device s local [] o
+first_next network device own rows s adjustment local value first bound None is are same synchronised behind found =
+    λ sync row cycle h. no_rows network device own rows is are found row cycle h
+first_next network device own rows s adjustment local value first bound (Some next) is are same synchronised behind found =
+    first_is_next network device own rows s adjustment local value first bound next is are same synchronised
+    (at_least 1 (2 ^ 40) network.precision is.in_range.precision) behind found
+
+pub next_next : (network : Network) (device : DeviceId) (own : Own) (rows : Rows) (s : Standing) (changed : ℤ) (done : List ClockTask) (adjustment : Units)
+    (last : Dispatch) (first : ℕ) (bound : Slot) (o : Option Dispatch) → IsOwnOf network device own → AreRowsOf network device rows
+    → s.adjustment ≡ adjustment → IsAtSlot rows last → IsDispatch network device s changed done (Some last) → IsAfter last first bound
+    → IsFirstFrom own rows adjustment.0 first bound o
+    → IsDispatch network device s changed (done ++ dispatching last.slot.row last.cycle ∷ []) o
+next_next network device own rows s changed done adjustment last first bound None is are same at was after found =
+    λ sync row cycle h. no_rows network device own rows is are found row cycle h
+next_next network device own rows s changed done adjustment last first bound (Some next) is are same at was after found =
+    next_is_next network device own rows s changed done adjustment last first bound next is are same at was after found
+
+-- a row's number is not the last of numbers
+pub row_before : (network : Network) (device : DeviceId) (rows : Rows) (slot : Slot) → IsInRange network → AreRowsOf network device rows
+    → Contains rows.slots.items slot → slot.row.0 + 1 < 2 ^ 32
+row_before network device rows slot range are there =
+    let of : IsSlotOf network device slot = All-contains (IsSlotOf network device) rows.slots.items slot are.sound there in
+    let within = slice_get_within network.row slot.row.0 of.entry.row of.is.row in
+    let few = range.few_rows in
+    omega (arith, within, few)

@@ -1,0 +1,77 @@
+-- A search among things in order, each with its numbers.
+use Rattle.std.proofs.Common.{◌≡◌, ◌⊎◌, ⊎_elim, true, false, ℕ, ◌<◌, ◌≤◌, List, length, get_or, Some, ap, sym, ◌∙◌, subst, arith, is_lt}
+use Rattle.std.specs.Prelude.{slice_get}
+use Rattle.std.specs.List.{AllPairs, Contains}
+use Rattle.std.specs.List.Sorted.{IsPartitionPoint, IsPartitionedBy}
+use Rattle.std.specs.declared.cmp.Ordering.{Ordering}
+use Rattle.std.proofs.lemmas.Bool.{cases_Bool}
+use Rattle.std.proofs.lemmas.Option.{get_or_from_slice_get, slice_get_within}
+use Rattle.end_system.proofs.KeyOrder.{Compares, lt_false, lt_true}
+use Rattle.schedule_tables.proofs.OrderLemmas.{below_itself, below_mono}
+use Rattle.schedule_tables.specs.Dispatches.{IsBelow}
+
+-- the comparison is that of the numbers, of which each thing has as many
+pub record IsOrder {X : Type 0} (numbers : X → List ℕ) (cmp : X → X → Ordering) : Type 0 where
+  pub compares : (x y : X) → Compares (cmp x y) (numbers x) (numbers y)
+  pub as_many : (x y : X) → length (numbers x) ≡ length (numbers y)
+
+-- nothing is below what stands before it
+abbrev pub Ascends : {X : Type 0} → (X → List ℕ) → List X → Type 0
+Ascends numbers xs = AllPairs (λ x later. IsBelow (numbers later) (numbers x) → ⊥) xs
+
+-- where the search for a bound ends
+abbrev pub Ends : {X : Type 0} → (X → X → Ordering) → List X → X → ℕ → Type 0
+Ends cmp xs bound place = IsPartitionPoint (λ x. is_lt (cmp x bound) ≡ true) (λ x. is_lt (cmp x bound) ≡ false) xs place
+
+above_or_same : (i j : ℕ) → i ≤ j → (i < j) ⊎ (i ≡ j)
+above_or_same i j h = grind arith
+
+before_or_not : (i j : ℕ) → (i < j) ⊎ (j ≤ i)
+before_or_not i j = grind arith
+
+-- what is below a bound stands first
+pub parted : {X : Type 0} (numbers : X → List ℕ) (cmp : X → X → Ordering) → IsOrder numbers cmp → (bound : X) (xs : List X) → Ascends numbers xs
+    → IsPartitionedBy (λ x. is_lt (cmp x bound)) xs
+parted numbers cmp laws bound xs order i j d le within last =
+    ⊎_elim
+    (λ (e : is_lt (cmp (get_or xs i d) bound) ≡ true). e)
+    (λ (e : is_lt (cmp (get_or xs i d) bound) ≡ false).
+    ⊎_elim
+    (λ (l : i < j).
+    let low = lt_true _ (numbers (get_or xs j d)) (numbers bound) (laws.compares (get_or xs j d) bound) last in
+    let high = lt_false _ (numbers (get_or xs i d)) (numbers bound) (laws.compares (get_or xs i d) bound) e in
+    absurd (order i j d l within (below_mono (numbers (get_or xs j d)) (numbers bound) (numbers (get_or xs i d)) (laws.as_many (get_or xs i d) bound) low
+    high)))
+    (λ (s : i ≡ j). rw s last)
+    (above_or_same i j le))
+    (cases_Bool (is_lt (cmp (get_or xs i d) bound)))
+
+-- what is not below the bound stands no earlier
+pub not_before : {X : Type 0} (numbers : X → List ℕ) (cmp : X → X → Ordering) → IsOrder numbers cmp → (xs : List X) (bound : X) (place : ℕ)
+    → Ends cmp xs bound place → (x : X) (has : Contains xs x) → (IsBelow (numbers x) (numbers bound) → ⊥) → place ≤ has.0
+not_before numbers cmp laws xs bound place ends x has out =
+    ⊎_elim
+    (λ (l : has.0 < place).
+    absurd (out
+    (lt_true _ (numbers x) (numbers bound) (laws.compares x bound) (ap (λ y. is_lt (cmp y bound)) (sym has.2) ∙ ends.0 has.0 x (omega arith) l))))
+    (λ (l : place ≤ has.0). l)
+    (before_or_not has.0 place)
+
+-- what stands there is not below it
+pub not_below : {X : Type 0} (numbers : X → List ℕ) (cmp : X → X → Ordering) → IsOrder numbers cmp → (xs : List X) (bound : X) (place : ℕ)
+    → Ends cmp xs bound place → (x : X) → slice_get xs place ≡ Some x → IsBelow (numbers x) (numbers bound) → ⊥
+not_below numbers cmp laws xs bound place ends x at =
+    lt_false _ (numbers x) (numbers bound) (laws.compares x bound) (ap (λ y. is_lt (cmp y bound)) (sym (get_or_from_slice_get xs place x x at))
+    ∙ ends.1 place x (omega arith) (slice_get_within xs place x at))
+
+-- nothing that stands no earlier than another is below it
+pub no_earlier : {X : Type 0} (numbers : X → List ℕ) (xs : List X) → Ascends numbers xs → (place : ℕ) (x : X) → slice_get xs place ≡ Some x
+    → (y : X) (has : Contains xs y) → place ≤ has.0 → IsBelow (numbers y) (numbers x) → ⊥
+no_earlier numbers xs order place x at y has le below =
+    let found = get_or_from_slice_get xs place x y at in
+    ⊎_elim
+    (λ (l : place < has.0). order place has.0 y l has.1 (rw (found, has.2) below))
+    (λ (e : place ≡ has.0).
+    let same : y ≡ x = sym has.2 ∙ ap (λ k. get_or xs k y) (sym e) ∙ found in
+    below_itself (numbers x) (subst (λ z. IsBelow (numbers z) (numbers x)) same below))
+    (above_or_same place has.0 le)

@@ -1,0 +1,43 @@
+use Rattle.std.proofs.Common.{ap, arith, subst, sym, ◌∙◌, Result}
+use Rattle.end_system.proofs.Advance.{not_fallen}
+use Rattle.end_system.proofs.Arrive.{control_at, control_still}
+use Rattle.end_system.proofs.Ripe.{stands_later}
+use Rattle.end_system.proofs.end_system.EndSystem.hear_control.Goals as goal
+use Rattle.end_system.specs.Controls.{arrival_of}
+use Rattle.end_system.specs.Standing.{StandsAsEnd}
+use Rattle.pcf_codec.specs.Decoding.{decoded}
+use Rattle.pcf_codec.specs.declared.refusal.PcfRefusal.{PcfRefusal}
+use Rattle.pcf_values.specs.declared.pcf.Pcf.{Pcf}
+use Rattle.run_law.specs.machines.Answers.{after_arrival, called}
+use Rattle.run_law.specs.machines.Nodes.{Node, arriving}
+
+pub decode-requires : goal.decode-requires
+decode-requires c = omega (arith, c.requires.4.1.most)
+
+pub arrival-requires : goal.arrival-requires
+arrival-requires c = record {
+  range = c.requires.3.own.range;
+  low = not_fallen c.requires.2.last.reading.0 c.args.moment.reading.0 c.requires.3.begun c.requires.4.0.later.reading;
+  high = c.requires.4.0.later.low_enough;
+}
+
+pub returns : goal.returns
+returns c = λ network device node stands may arrives on.
+    let is = c.arrival.ensures ∙ ap (λ (d : Result Pcf PcfRefusal). arrival_of c.args.self.now.own c.args.moment.reading c.args.link d) c.decode.ensures in
+    let still = ap (λ a. after_arrival node c.args.moment a) is ∙ control_still c.args.self.now.own c.args.moment.reading c.args.link node c.args.moment
+    (decoded c.args.octets.now) in (
+      is ∙ control_at network device node c.args.self.now c.args.moment c.args.link c.args.octets.now stands (stands.own.links c.args.link arrives.at) on
+          (not_fallen node.last.reading.0 c.args.moment.reading.0 stands.begun may.later.reading),
+      subst (λ (n : Node). StandsAsEnd
+          (record {
+            own = c.args.self.now.own;
+            sync = c.args.self.now.sync;
+            heard = c.args.self.now.heard;
+            agenda = c.args.self.now.agenda;
+            rows = c.args.self.now.rows;
+            entering = c.args.self.now.entering;
+            last = c.args.moment;
+          }) network device (called c.args.moment arriving n))
+          (sym still)
+          (stands_later network device node c.args.self.now c.args.moment arriving stands may.later),
+    )

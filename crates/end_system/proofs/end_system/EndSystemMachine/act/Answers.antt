@@ -1,0 +1,30 @@
+use Rattle.std.proofs.Common.{Some, ap, subst, ◌∙◌}
+use Rattle.end_system.proofs.Tasks.{none_is_due}
+use Rattle.end_system.proofs.end_system.EndSystemMachine.act.Goals as goal
+use Rattle.end_system.specs.Agendas.{IsFirstDue}
+
+pub send-requires : goal.send-requires
+send-requires c = (
+  (c.requires.0, c.requires.1, c.requires.2, c.requires.3, c.requires.4.call),
+  subst (IsFirstDue c.args.self.now.agenda c.args.moment.reading.0)
+      (c.in-Some-Sending.is ∙ ap Some c.in-Some-Sending.field-0-is) c.due.ensures,
+)
+
+pub correct-requires : goal.correct-requires
+correct-requires c = (
+  (c.requires.0, c.requires.1, c.requires.2, c.requires.3, c.requires.4.call),
+  subst (IsFirstDue c.args.self.now.agenda c.args.moment.reading.0)
+      (c.in-Some-Correction.is ∙ ap Some c.in-Some-Correction.field-0-is) c.due.ensures,
+)
+
+pub dispatch-requires : goal.dispatch-requires
+dispatch-requires c = (
+  (c.requires.0, c.requires.1, c.requires.2, c.requires.3, c.requires.4.call),
+  subst (IsFirstDue c.args.self.now.agenda c.args.moment.reading.0)
+      (c.in-Some-Dispatch.is ∙ ap Some c.in-Some-Dispatch.field-0-is) c.due.ensures,
+)
+
+pub returns-in-None : goal.returns-in-None
+returns-in-None c = λ network device node stands may due.
+    absurd (none_is_due network device _ node _ c.args.moment.reading.0 due.0 stands.own stands.agenda
+    (subst (IsFirstDue c.args.self.now.agenda c.args.moment.reading.0) c.in-None.is c.due.ensures) due.1 due.2)

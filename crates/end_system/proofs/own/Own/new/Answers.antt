@@ -1,0 +1,16 @@
+use Rattle.std.proofs.Common.{refl}
+use Rattle.end_system.proofs.OwnLemmas.{is_own}
+use Rattle.end_system.proofs.own.Own.new.Goals as goal
+use Rattle.pcf_values.specs.declared.channel.Channel.TheVariants.{A, B}
+use Rattle.schedule_tables.specs.declared.rule.Rule.TheVariants.{Connections}
+
+pub uplink_of-requires-clause-one : goal.uplink_of-requires-clause-one
+uplink_of-requires-clause-one c = let one = (c.requires.rules Connections c.args.device.0).ends c.requires.end A in (one.0, one.1)
+
+pub uplink_of-requires-2-clause-one : goal.uplink_of-requires-2-clause-one
+uplink_of-requires-2-clause-one c = let one = (c.requires.rules Connections c.args.device.0).ends c.requires.end B in (one.0, one.1)
+
+pub returns : goal.returns
+returns c =
+    is_own c.args.network.now c.args.device _ c.requires.range c.requires.rules c.requires.end c.plan_of.ensures refl refl refl refl c.first_frame.ensures
+    c.is_master.ensures c.uplink_of.ensures c.uplink_of-2.ensures

@@ -1,0 +1,8 @@
+use Rattle.std.proofs.Common.{refl}
+use Rattle.end_system.proofs.RowNext.{next_next}
+use Rattle.end_system.proofs.rows.Rows.next_behind.Goals as goal
+
+pub returns-clause-next : goal.returns-clause-next
+returns-clause-next c = λ network device s changed done is are same was.
+    next_next network device c.args.own.now c.args.self.now s changed done c.args.adjustment c.args.last _ _ c.first_from.result is are same c.requires.slot was
+    (record { first_is = refl; bound_is = refl }) c.first_from.ensures

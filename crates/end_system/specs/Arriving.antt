@@ -1,0 +1,38 @@
+-- What an end system does with a frame that arrives.
+use Rattle.std.specs.Prelude.{◌≡◌, ℕ, false, List}
+use Rattle.end_system.specs.Standing.{StandsAsEnd}
+use Rattle.end_system.specs.declared.end_system.EndSystem.{EndSystem}
+use Rattle.net_plan.specs.declared.ids.DeviceId.{DeviceId}
+use Rattle.net_plan.specs.declared.ids.LinkId.{LinkId}
+use Rattle.net_plan.specs.declared.network.Network.{Network}
+use Rattle.pcf_codec.specs.Decoding.{decoded}
+use Rattle.run_law.specs.control.Wires.{Signal, control, timed}
+use Rattle.run_law.specs.declared.steps.Arrival.{Arrival}
+use Rattle.run_law.specs.declared.steps.Moment.{Moment}
+use Rattle.run_law.specs.device.States.{is_off}
+use Rattle.run_law.specs.machines.Answers.{after_arrival, arrival_at, called}
+use Rattle.run_law.specs.machines.Calls.{MayArrive, MayCall, StandsFor}
+use Rattle.run_law.specs.machines.Nodes.{Node, arriving}
+
+-- a frame of these octets may come to it by the link
+abbrev pub MayHearNow : EndSystem → Moment → LinkId → List ℕ → Type 0
+MayHearNow e moment link octets =
+    StandsFor StandsAsEnd e (λ network device node. MayCall network device node moment arriving
+    × MayArrive network device link octets)
+
+-- it takes part, and has judged what came
+abbrev pub HearsSo : EndSystem → Moment → LinkId → List ℕ → Signal → Arrival → EndSystem → Type 0
+HearsSo old moment link octets signal result new =
+    (network : Network) (device : DeviceId) (node : Node) → StandsAsEnd old network device node
+    → MayCall network device node moment arriving → MayArrive network device link octets
+    → is_off node.standing.state ≡ false
+    → (result ≡ arrival_at network device node moment link signal)
+    × StandsAsEnd new network device (called moment arriving (after_arrival node moment result))
+
+-- the same of octets that count as a control frame
+abbrev pub HearsControl : EndSystem → Moment → LinkId → List ℕ → Arrival → EndSystem → Type 0
+HearsControl old moment link octets result new = HearsSo old moment link octets (control (decoded octets)) result new
+
+-- the same of octets that are no control frame
+abbrev pub HearsTimed : EndSystem → Moment → LinkId → List ℕ → Arrival → EndSystem → Type 0
+HearsTimed old moment link octets result new = HearsSo old moment link octets (timed octets) result new

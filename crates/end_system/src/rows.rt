@@ -1,0 +1,201 @@
+ghost use Rattle.std.specs.Prelude.{◌≡◌, ◌<◌, ◌≤◌, ◌^◌, ◌+◌, ◌*◌, ◌%◌, pos, ◌-ℤ◌, ◌≤ℤ◌, ◌<ℤ◌, [], ◌∷◌, ◌++◌, ℕ, ℤ, List, length, IfOk, IfSome, OnOk, Some};
+ghost use Rattle.clock_correction.specs.Deviation.{IsSmall};
+ghost use Rattle.end_system.specs.Agendas.{IsDispatch, IsLocal};
+ghost use Rattle.end_system.specs.Owns.{HasOwnRange, IsOwnOf};
+ghost use Rattle.end_system.specs.RowSlots.{AreRowsOf, AreSlotsBelow, AreSomeRows, IsAtSlot, IsFirstFrom, is_sent_by};
+ghost use Rattle.net_plan.specs.Ranges.{IsInRange, IsWithin};
+ghost use Rattle.net_plan.specs.declared.ids.DeviceId.{DeviceId as DeviceIdValue};
+ghost use Rattle.net_plan.specs.declared.network.Network.{Network as NetworkValue};
+ghost use Rattle.run_law.specs.machines.Nodes.{ClockTask, dispatching};
+ghost use Rattle.sync_state.specs.Standing.{Standing};
+ghost use Rattle.sync_state.specs.declared.state.State.TheVariants.{Synchronised};
+ghost use Rattle.tte_units.specs.Amount.{amount};
+
+use crate::OutOfMemory;
+use crate::agenda::reading_at;
+use crate::own::Own;
+use net_plan::{DeviceId, LinkId, Network, RowId};
+use schedule_tables::{Entry, entry_of};
+use std::alloc::{AllocError, Global};
+use tte_units::Units;
+
+/// The greatest period of a virtual link. Each period divides it, so that a cycle's residue, its remainder by this
+/// number, tells which virtual links occur in the cycle.
+const RESIDUES: u32 = 64;
+
+/// The dispatch of a row in the cycles of a residue, in order of residue, offset, link and row.
+#[derive(Clone, Copy, PartialEq, Eq, PartialOrd, Ord)]
+pub struct Slot {
+    pub residue: u32,
+    /// The row's place in the cycle, up to 2^40 units of 2^-16 ns.
+    pub offset: u64,
+    pub link: LinkId,
+    pub row: RowId,
+}
+
+/// The rows that a device dispatches.
+#[derive(Drop)]
+pub struct Rows {
+    /// A slot for each row and residue in which the row's virtual link occurs, in ascending order.
+    slots: Vec<Slot>,
+}
+
+/// A dispatch to come.
+#[derive(Clone, Copy)]
+pub struct Dispatch {
+    pub slot: Slot,
+    pub cycle: u32,
+    /// The reading at which it comes.
+    pub at: Units,
+}
+
+impl Rows {
+    /// The rows of which the device is the sender.
+    pub fn new(alloc: Global, network: &Network, device: DeviceId) -> Result<Rows, OutOfMemory>
+        requires { IsInRange network.now }
+        ensures { IfOk result (AreRowsOf network.now device) }
+    {
+        let mut slots = Vec::new(alloc);
+        for place in 0..network.row.as_slice().len() {
+            push_slots(&mut slots, network, device, RowId(place as u32))?;
+        }
+        slots.sort()?;
+        Ok(Rows { slots })
+    }
+
+    /// The first dispatch at a local value behind this one.
+    pub fn first_behind(&self, own: &Own, adjustment: Units, local: Units) -> Option<Dispatch>
+        requires range { HasOwnRange own.now }
+        requires rows { AreSomeRows self.now }
+        requires small { IsSmall adjustment.0 }
+        requires local { IsLocal local }
+        ensures slot { IfSome result (IsAtSlot self.now) }
+        ensures next { (network : NetworkValue) (device : DeviceIdValue) (s : Standing)
+            → IsOwnOf network device own.now → AreRowsOf network device self.now
+            → s.adjustment ≡ adjustment → s.state ≡ Synchronised → IsDispatch network device s local.0 [] result }
+    {
+        let length = own.plan.cycle_length.amount();
+        let value = value_behind(own, local);
+        let cycle = (value / length) as u32;
+        let bound = Slot {
+            residue: cycle % RESIDUES,
+            offset: value % length + 1,
+            link: LinkId(0),
+            row: RowId(0),
+        };
+        self.first_from(own, adjustment, cycle - cycle % RESIDUES, bound)
+    }
+
+    /// The dispatch that comes next after this one.
+    pub fn next_behind(&self, own: &Own, adjustment: Units, last: Dispatch) -> Option<Dispatch>
+        requires range { HasOwnRange own.now }
+        requires rows { AreSomeRows self.now }
+        requires small { IsSmall adjustment.0 }
+        requires cycle { last.cycle * amount own.now.plan.cycle_length ≤ 2 ^ 62 }
+        requires slot { IsAtSlot self.now last }
+        ensures slot { IfSome result (IsAtSlot self.now) }
+        ensures next { (network : NetworkValue) (device : DeviceIdValue) (s : Standing) (changed : ℤ)
+            (done : List ClockTask) → IsOwnOf network device own.now → AreRowsOf network device self.now
+            → s.adjustment ≡ adjustment → IsDispatch network device s changed done (Some last)
+            → IsDispatch network device s changed (done ++ dispatching last.slot.row last.cycle ∷ []) result }
+    {
+        let mut bound = last.slot;
+        bound.row = RowId(last.slot.row.0 + 1);
+        self.first_from(own, adjustment, last.cycle - last.cycle % RESIDUES, bound)
+    }
+
+    /// The dispatch of the first slot that is not below the bound in the 64 cycles from `first` on, or of the first
+    /// slot in the next 64 cycles.
+    fn first_from(&self, own: &Own, adjustment: Units, first: u32, bound: Slot) -> Option<Dispatch>
+        requires range { HasOwnRange own.now }
+        requires rows { AreSomeRows self.now }
+        requires small { IsSmall adjustment.0 }
+        requires whole { first % 64 ≡ 0 }
+        requires first { first * amount own.now.plan.cycle_length ≤ 2 ^ 62 }
+        ensures { IsFirstFrom own.now self.now adjustment.0 first bound result }
+    {
+        let place = self.slots.partition_point(|slot| *slot < bound);
+        match self.slots.get(place) {
+            Some(slot) => Some(dispatch_of(own, adjustment, first, *slot)),
+            None => {
+                let slot = self.slots.get(0)?;
+                Some(dispatch_of(own, adjustment, first + RESIDUES, *slot))
+            }
+        }
+    }
+}
+
+/// The dispatch of a slot in the 64 cycles from `first` on.
+fn dispatch_of(own: &Own, adjustment: Units, first: u32, slot: Slot) -> Dispatch
+    requires range { HasOwnRange own.now }
+    requires small { IsSmall adjustment.0 }
+    requires residue { slot.residue < 64 }
+    requires offset { slot.offset ≤ 2 ^ 40 }
+    requires first { first * amount own.now.plan.cycle_length ≤ 2 ^ 62 + 2 ^ 46 }
+    ensures slot { result.slot ≡ slot }
+    ensures cycle { result.cycle ≡ first + result.slot.residue }
+    ensures at { result.at.0 ≡ (pos (result.cycle * amount own.now.plan.cycle_length + result.slot.offset)
+        -ℤ adjustment.0) }
+{
+    let cycle = first + slot.residue;
+    let value = u64::from(cycle) * own.plan.cycle_length.amount() + slot.offset;
+    Dispatch {
+        slot,
+        cycle,
+        at: reading_at(value, adjustment),
+    }
+}
+
+/// The local value, or the last of cycle 0, in which nothing is dispatched.
+fn value_behind(own: &Own, local: Units) -> u64
+    requires range { HasOwnRange own.now }
+    requires local { IsLocal local }
+    ensures begun { amount own.now.plan.cycle_length ≤ result + 1 }
+    ensures least { local.0 ≤ℤ pos result }
+    ensures fits { result < 2 ^ 62 }
+    ensures next { (value : ℕ) → amount own.now.plan.cycle_length ≤ value → local.0 <ℤ pos value → result < value }
+{
+    let last = own.plan.cycle_length.amount() - 1;
+    if local.0 < last as i64 {
+        last
+    } else {
+        local.amount()
+    }
+}
+
+/// Adds the slots of a row, if the device sends its frames.
+fn push_slots(
+    slots: &mut Vec<Slot>,
+    network: &Network,
+    device: DeviceId,
+    row: RowId,
+) -> Result<(), AllocError>
+    requires range { IsInRange network.now }
+    requires there { row.0 < length network.now.row }
+    requires before { AreSlotsBelow network.now device (row.0 * 64) slots.old.items }
+    ensures { OnOk result (AreSlotsBelow network.now device (row.0 * 64 + 64) slots.new.items) }
+{
+    let entry = entry_of(network, row);
+    if !is_sent_by(&entry, device) {
+        return Ok(());
+    }
+    for residue in 0..RESIDUES {
+        if residue % entry.vl.period == entry.vl.phase {
+            let slot = Slot {
+                residue,
+                offset: entry.row.offset.amount(),
+                link: entry.row.link,
+                row,
+            };
+            slots.push(slot)?;
+        }
+    }
+    Ok(())
+}
+
+/// Whether the entry's frames leave the device that sends them first.
+fn is_sent_by(entry: &Entry, device: DeviceId) -> bool
+    ensures { result ≡ is_sent_by entry.now device }
+{
+    entry.source() == device && entry.vl.sender == device
+}

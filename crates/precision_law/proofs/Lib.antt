@@ -1,0 +1,11 @@
+pub mod sizes
+pub mod clocks
+pub mod records
+pub mod faults
+pub mod trips
+pub mod compression
+pub mod hearing
+pub mod block
+pub mod emission
+pub mod verdict
+pub mod law

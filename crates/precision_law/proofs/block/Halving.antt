@@ -1,0 +1,319 @@
+-- The dispatches of a cycle come half as far apart as those of the cycle before, but for the starts.
+use Rattle.std.proofs.Common.{◌≡◌, ◌⊎◌, ℕ, zero, suc, ◌+◌, ◌*◌, ◌<◌, ◌≤◌, ℤ, pos, negsuc, ◌+ℤ◌, ◌-ℤ◌, ◌<ℤ◌, ◌≤ℤ◌, true, false, List, [], ◌∷◌, filter, Option, Some, None, inl, inr, refl, sym, ap, subst, ◌∙◌, arith, option_and_then}
+use Rattle.std.proofs.lemmas.Int.{by_lt_z, clamps, ints}
+use Rattle.std.specs.Option.{option_map_or}
+use Rattle.std.specs.Int.{int_min, int_max}
+use Rattle.net_plan.specs.Places.{is_master, is_end_system, device_at}
+use Rattle.net_plan.specs.declared.ids.DeviceId.{DeviceId}
+use Rattle.net_plan.specs.declared.tables.Device.{Device}
+use Rattle.precision_law.proofs.block.Hulls.{tested, over}
+use Rattle.precision_law.proofs.block.Starts.{none_at_start, has_start, start_is}
+use Rattle.precision_law.proofs.clocks.Anchored.{anchored_clocks_reach, anchored_clocks_show, shared_clocks_halve, starts_stay_together}
+use Rattle.precision_law.proofs.clocks.Epochs.{state_stays, time_stays, adjustment_stays, adjustment_is_last, clocks_reach_sharply}
+use Rattle.precision_law.proofs.faults.Masters.{master_ends}
+use Rattle.precision_law.proofs.law.Cover.{behind_of, later_end}
+use Rattle.precision_law.proofs.law.Precision.{not_integrating}
+use Rattle.precision_law.proofs.law.Together.{before_narrow, block_ends, follows_before}
+use Rattle.precision_law.proofs.records.Points.{before_of, reaches_whole, within_run, earlier_before}
+use Rattle.precision_law.proofs.records.Times.{passes}
+use Rattle.precision_law.proofs.records.Views.{room, steady}
+use Rattle.precision_law.proofs.sizes.Instants.{corrections_come_first, frames_come_first}
+use Rattle.precision_law.specs.Anchors.{IsAnchored}
+use Rattle.precision_law.specs.BlockLaws.{BlocksGoSo, HullsAreNarrow}
+use Rattle.precision_law.specs.Blocks.{IsInBlock, IsOldAt, Stands, adjustment_left, state_left, AreShared}
+use Rattle.precision_law.specs.EpochLaws.{set_adjustment}
+use Rattle.precision_law.specs.Epochs.{epoch_time, has_time, last_setting}
+use Rattle.precision_law.specs.Hulls.{Hull, IsOverBefore, first_dispatch, hull_of, hull_over, last_correction, last_dispatch, start_hull, widened, is_dispatch}
+use Rattle.precision_law.specs.Sizes.{Sizes}
+use Rattle.precision_law.specs.Standings.{IsReachedNear, IsNearHull}
+use Rattle.precision_law.specs.Views.{IsDispatch, IsView, View, IsGood}
+use Rattle.run_law.proofs.law.FirstPlaces.{founded_at, in_filter}
+use Rattle.run_law.proofs.runs.SameSteps.{same_some}
+use Rattle.run_law.specs.declared.note.NoteBody.TheVariants as notes
+use Rattle.run_law.specs.device.States.{is_synchronised, state_after}
+use Rattle.run_law.specs.records.Happenings.{Happening, earlier, time_of}
+use Rattle.run_law.specs.records.Order.{IsIn}
+use Rattle.run_law.specs.runs.DueRecords.{IsCaused}
+use Rattle.run_law.specs.scenario.Devices.{has_role, is_end, start_of}
+use Rattle.run_law.specs.scenario.Scenarios.{is_turned_on_at}
+use Rattle.sync_state.specs.Standing.{state_at_start, adjustment_at_start}
+use Rattle.sync_state.specs.declared.state.State.TheVariants.{Off, Integrating, Joining, Synchronised}
+use Rattle.sync_state.specs.declared.state.State.{State}
+use Rattle.tte_units.specs.Amount.{amount}
+use Rattle.tte_units.specs.declared.units.Units.{Units}
+
+-- ---- the ends of a hull
+
+-- the ends of a hull are those of the one that was given, or times of the records
+pub record HasEnds (o : Option Hull) (hs : List Happening) (w : Hull) : Type 0 where
+  pub least : ((h : Happening) × IsIn h hs × (w.least ≡ pos (time_of h))) ⊎ ((old : Hull) × (o ≡ Some old) × (w.least ≡ old.least))
+  pub greatest : ((h : Happening) × IsIn h hs × (w.greatest ≡ pos (time_of h))) ⊎ ((old : Hull) × (o ≡ Some old) × (w.greatest ≡ old.greatest))
+
+-- of the hull widened by a record
+widened_ends : (o : Option Hull) (g : Happening) (hs : List Happening) (w : Hull) → HasEnds (widened o (pos (time_of g))) hs w → HasEnds o (g ∷ hs) w
+widened_ends None g hs w ends = record {
+  least = elim ends.least [
+    | inl at ↦ inl (at.0, inr at.1, at.2)
+    | inr old ↦ (let same : pos (time_of g) ≡ old.0.least = ap (λ (x : Hull). x.least)
+        (same_some (widened None (pos (time_of g))) (record { least = pos (time_of g); greatest = pos (time_of g) }) old.0 refl old.1) in inl
+        (g, inl refl, old.2 ∙ sym same))
+  ];
+  greatest = elim ends.greatest [
+    | inl at ↦ inl (at.0, inr at.1, at.2)
+    | inr old ↦ (let same : pos (time_of g) ≡ old.0.greatest = ap (λ (x : Hull). x.greatest)
+        (same_some (widened None (pos (time_of g))) (record { least = pos (time_of g); greatest = pos (time_of g) }) old.0 refl old.1) in inl
+        (g, inl refl, old.2 ∙ sym same))
+  ];
+}
+widened_ends (Some x) g hs w ends = record {
+  least = elim ends.least [
+    | inl at ↦ inl (at.0, inr at.1, at.2)
+    | inr old ↦
+        let same : int_min x.least (pos (time_of g)) ≡ old.0.least = ap (λ (y : Hull). y.least)
+        (same_some (widened (Some x) (pos (time_of g)))
+        (record { least = int_min x.least (pos (time_of g)); greatest = int_max x.greatest (pos (time_of g)) }) old.0 refl old.1) in
+        by_lt_z {P = _} x.least (pos (time_of g))
+        (λ lt. inr (x, refl, (let e : int_min x.least (pos (time_of g)) ≡ x.least = omega (arith, ints, clamps, lt) in old.2 ∙ sym same ∙ e)))
+        (λ ge. inl (g, inl refl, (let e : int_min x.least (pos (time_of g)) ≡ pos (time_of g) = omega (arith, ints, clamps, ge) in old.2 ∙ sym same ∙ e)))
+  ];
+  greatest = elim ends.greatest [
+    | inl at ↦ inl (at.0, inr at.1, at.2)
+    | inr old ↦
+        let same : int_max x.greatest (pos (time_of g)) ≡ old.0.greatest = ap (λ (y : Hull). y.greatest)
+        (same_some (widened (Some x) (pos (time_of g)))
+        (record { least = int_min x.least (pos (time_of g)); greatest = int_max x.greatest (pos (time_of g)) }) old.0 refl old.1) in
+        by_lt_z {P = _} x.greatest (pos (time_of g))
+        (λ lt. inl (g, inl refl, (let e : int_max x.greatest (pos (time_of g)) ≡ pos (time_of g) = omega (arith, ints, clamps, lt) in old.2 ∙ sym same ∙ e)))
+        (λ ge. inr (x, refl, (let e : int_max x.greatest (pos (time_of g)) ≡ x.greatest = omega (arith, ints, clamps, ge) in old.2 ∙ sym same ∙ e)))
+  ];
+}
+
+pub ends_of : (o : Option Hull) (hs : List Happening) (w : Hull) → over o hs ≡ Some w → HasEnds o hs w
+ends_of o [] w e = record { least = inr (w, e, refl); greatest = inr (w, e, refl) }
+ends_of o (g ∷ hs) w e = widened_ends o g hs w (ends_of (widened o (pos (time_of g))) hs w e)
+
+-- ---- the clocks of masters at a dispatch
+
+-- what makes a time one of the block behind
+pub record IsInNext (v : View) (n : ℕ) (before : Stands v n) (w : ℕ) : Type 0 where
+  pub next : ℕ
+  pub is_over : IsOverBefore v (suc n) next
+  pub from : before.next ≤ w
+  pub to : w < next
+  pub in_run : w ≤ v.until
+
+-- the time in its block
+abbrev pub block_of : (v : View) (n : ℕ) (before : Stands v n) (w : ℕ) → IsInNext v n before w → IsInBlock v n w
+block_of v n before w at = record { before = before; next = at.next; is_over = at.is_over; from = at.from; to = at.to; in_run = at.in_run }
+
+-- a dispatch lies in the block of its cycle
+pub in_next : (v : View) (n : ℕ) (before : Stands v n) (w : ℕ) → IsView v → first_dispatch v.sizes before.hull ≤ℤ pos w
+    → pos w ≤ℤ last_dispatch v.sizes before.hull → w ≤ v.until → IsInNext v n before w
+in_next v n before w is low high in_run =
+    let later = later_end v n before is in
+    let next = behind_of (last_correction v.sizes before.hull) before.next later in
+    let space = room v is in
+    let first = frames_come_first v.sizes before.hull space (before_narrow v n before) in
+    record {
+      next = next.0;
+      is_over = (before.hull, before.is_hull, next.1.behind);
+      from = from_next v n before w is low;
+      to = omega (arith, ints, high, next.1.behind, first, before_narrow v n before, space.eight_errors);
+      in_run = in_run;
+    }
+  where
+    from_next : (v : View) (n : ℕ) (before : Stands v n) (w : ℕ) → IsView v → first_dispatch v.sizes before.hull ≤ℤ pos w → before.next ≤ w
+    from_next v zero before w is low = (let zero_next : before.next ≡ 0 = before.is_over in omega (arith, zero_next))
+    from_next v (suc c) before w is low =
+        let one = before.narrow c (omega arith) in
+        let at = block_ends v c before.next one.0 one.1 before.is_over in
+        let follows = follows_before v c one.0 before.hull is one.1 before.is_hull in
+        let later = corrections_come_first v.sizes one.0 before.hull (room v is) one.2 follows in
+        omega (arith, ints, at, later, low)
+
+ends_of_role : (o : Option Device) → option_map_or (λ d. is_master d.role) o false ≡ true → option_map_or (λ d. is_end_system d.role) o false ≡ true
+ends_of_role None e = e
+ends_of_role (Some d) e = master_ends d.role e
+
+pub master_is_end : (v : View) (device : DeviceId) → has_role v.scenario.network is_master device ≡ true → is_end v.scenario.network device ≡ true
+master_is_end v device e = ends_of_role (device_at v.scenario.network device) e
+
+pub synchronised_is : (state : State) → is_synchronised state ≡ true → state ≡ Synchronised
+synchronised_is Off e = absurd cc
+synchronised_is Integrating e = absurd cc
+synchronised_is Joining e = absurd cc
+synchronised_is Synchronised e = refl
+
+-- what a dispatch says of the master's clock
+pub record HasDispatched (v : View) (device : DeviceId) (cycle w : ℕ) : Type 0 where
+  pub begun : 1 ≤ cycle
+  pub end : is_end v.scenario.network device ≡ true
+  pub synchronised : is_synchronised (state_left v device w) ≡ true
+  pub least : pos (cycle * v.sizes.cycle) ≤ℤ (pos (v.scenario.reading device w) +ℤ adjustment_left v device w)
+  pub most : (pos (v.scenario.reading device w) +ℤ adjustment_left v device w) ≤ℤ (pos (cycle * v.sizes.cycle) +ℤ pos (2 * v.sizes.grain))
+
+pub has_dispatched : (v : View) (h : Happening) (device : DeviceId) (cycle : ℕ) → IsView v → IsDispatch v h device cycle
+    → HasDispatched v device cycle (time_of h)
+has_dispatched v h device cycle is dispatch =
+    let found = founded_at v.scenario v.records h is.run.founded dispatch.there in
+    let sends : IsCaused v.scenario found.front h.note.time (notes.Sent device cycle) = subst (IsCaused v.scenario found.front h.note.time) dispatch.is
+    found.due.cause in
+    let split = before_of v h is found in
+    let state = not_integrating (is_turned_on_at v.scenario device (time_of h)) (state_after v.scenario (earlier (time_of h) found.front) device)
+    sends.up.synchronised in
+    let left : state_left v device (time_of h) ≡ Synchronised = subst (λ (hs : List Happening). state_after v.scenario hs device ≡ Synchronised)
+    (earlier_before v (time_of h) found.front split) state in
+    let reaches = reaches_whole v device (pos (cycle * amount v.scenario.network.cycle)) (time_of h) found.front split sends.reached in
+    let sharp = clocks_reach_sharply v device (pos (cycle * amount v.scenario.network.cycle)) (time_of h) is reaches in
+    let size : v.sizes.cycle ≡ amount v.scenario.network.cycle = ap (λ (s : Sizes). s.cycle) is.sizes in
+    let same : cycle * v.sizes.cycle ≡ cycle * amount v.scenario.network.cycle = ap (λ (x : ℕ). cycle * x) size in
+    record {
+      begun = sends.begun;
+      end = master_is_end v device sends.master;
+      synchronised = ap is_synchronised left;
+      least = omega (arith, ints, same, sharp.least);
+      most = omega (arith, ints, same, sharp.most);
+    }
+
+-- ---- the first cycle
+
+-- a clock that was not set before a dispatch stands as at the start
+unset : (o : Option Happening) → option_map_or (λ h. pos (time_of h)) o (negsuc 0) <ℤ pos 0 → o ≡ None
+unset None early = refl
+unset (Some h) early = absurd (omega (arith, ints, early))
+
+-- the sizes of the first cycle
+pub start_near : (v : View) (device : DeviceId) (w : ℕ) → IsView v → IsGood v device → HasDispatched v device 1 w
+    → epoch_time (earlier w v.records) device <ℤ pos 0 → pos w ≤ℤ last_dispatch v.sizes (start_hull v.sizes)
+    → IsReachedNear v.sizes (pos 0 -ℤ pos (2 * v.sizes.settled)) (pos 0) v.sizes.cycle w
+start_near v device w is good has early late =
+    let reading = v.scenario.reading device in
+    let none = unset (last_setting (earlier w v.records) device) early in
+    let timed : has_time (state_left v device 0) ≡ true = time_stays v device 0 w is (omega arith) early (timed_by (state_left v device w) has.synchronised) in
+    let at_start : has_time (state_at_start (start_of v.scenario.network device)) ≡ true = subst
+    (λ (hs : List Happening). has_time (state_after v.scenario hs device) ≡ true) (none_at_start v.records) timed in
+    let start = has_start (start_of v.scenario.network device) at_start in
+    let known = start_is v device start.0 is start.1 in
+    let same : adjustment_left v device w ≡ start.0.0 =
+    ap (λ (a : Units). a.0) (adjustment_is_last v.scenario (earlier w v.records) device ∙ ap (set_adjustment v.scenario device) none
+    ∙ ap adjustment_at_start start.1) in
+    let space = room v is in
+    let zero_reading = (steady v is device).begins in
+    let shows = anchored_clocks_show v.sizes reading (adjustment_left v device w) 0 (pos 0 -ℤ pos (2 * v.sizes.settled)) (pos 0) 0 w (steady v is device)
+    (omega arith)
+    (omega (arith, ints, late, space.many_errors))
+    (record { least = omega (arith, ints, zero_reading, same, known.least); most = omega (arith, ints, zero_reading, same, known.most) }) in
+    anchored_clocks_reach v.sizes (pos (reading w) +ℤ adjustment_left v device w) 0 (pos 0 -ℤ pos (2 * v.sizes.settled)) (pos 0) v.sizes.cycle w shows
+    (omega (arith, ints, has.least)) (omega (arith, ints, has.most))
+  where
+    timed_by : (state : State) → is_synchronised state ≡ true → has_time state ≡ true
+    timed_by Off e = absurd cc
+    timed_by Integrating e = absurd cc
+    timed_by Joining e = absurd cc
+    timed_by Synchronised e = refl
+
+-- ---- later cycles
+
+-- when the clock of a master that shares a frame reaches the next cycle
+abbrev pub low_by : Sizes → ℤ → ℤ → ℤ
+low_by n shared other = (shared +ℤ other) -ℤ pos (2 * n.path + 4 * n.grain + n.drift)
+
+abbrev pub high_by : Sizes → ℤ → ℤ → ℤ
+high_by n shared other = (shared +ℤ other) +ℤ pos (2 * n.path + n.drift + 1)
+
+pub record IsReachedBy (v : View) (n w : ℕ) (hull : Hull) (shared : ℤ) : Type 0 where
+  pub other : ℤ
+  pub near : IsNearHull v.sizes hull other
+  pub reached : IsReachedNear v.sizes (low_by v.sizes shared other) (high_by v.sizes shared other) v.sizes.cycle w
+
+pub shared_near : (v : View) (n w : ℕ) (before : Stands v n) (device : DeviceId) (share : AreShared v n before.hull before.next) → IsView v → IsGood v device
+    → HasDispatched v device (suc n) w → before.next ≤ w → IsOldAt v before.next device w → pos w ≤ℤ last_dispatch v.sizes before.hull
+    → IsReachedBy v n w before.hull share.shared
+shared_near v n w before device share is good has from old late =
+    let reading = v.scenario.reading device in
+    let still = state_stays is_synchronised refl v device before.next w is from old has.synchronised in
+    let by = share.each device (record { end = has.end; good = good }) (synchronised_is (state_left v device before.next) still) in
+    let same : adjustment_left v device before.next ≡ adjustment_left v device w = ap (λ (a : Units). a.0) (adjustment_stays v device before.next w is from old)
+    in
+    let low = low_by v.sizes share.shared by.other in
+    let high = high_by v.sizes share.shared by.other in
+    let anchored = subst (λ (a : ℤ). IsAnchored v.sizes (pos (reading by.set_at) +ℤ a) n low high by.set_at) same by.anchored in
+    let space = room v is in
+    let shows = anchored_clocks_show v.sizes reading (adjustment_left v device w) n low high by.set_at w (steady v is device)
+    (omega (arith, by.not_behind, from))
+    (omega (arith, ints, late, by.not_before, before_narrow v n before, space.eight_errors, space.cycles)) anchored in
+    let product : suc n * v.sizes.cycle ≡ n * v.sizes.cycle + v.sizes.cycle = omega arith in
+    record {
+      other = by.other;
+      near = by.near;
+      reached = anchored_clocks_reach v.sizes (pos (reading w) +ℤ adjustment_left v device w) n low high v.sizes.cycle w shows
+          (omega (arith, ints, has.least, product)) (omega (arith, ints, has.most, product));
+    }
+
+-- ---- the hull
+
+-- a record at an end of the hull
+record IsEnd (v : View) (n : ℕ) (before : Stands v n) (h : Happening) : Type 0 where
+  pub device : DeviceId
+  pub dispatch : IsDispatch v h device (suc n)
+  pub low : first_dispatch v.sizes before.hull ≤ℤ pos (time_of h)
+  pub high : pos (time_of h) ≤ℤ last_dispatch v.sizes before.hull
+
+end_is : (v : View) (n : ℕ) (before : Stands v n) (h : Happening) → IsIn h (filter (λ g. is_dispatch v before.hull (suc n) g g.note.body) v.records)
+    → IsEnd v n before h
+end_is v n before h i =
+    let test = λ (g : Happening). is_dispatch v before.hull (suc n) g g.note.body in
+    let t = tested v before.hull (suc n) h h.note.body (passes test v.records h i) in
+    record { device = t.device; dispatch = record { there = in_filter test v.records h i; is = t.is; good = t.good }; low = t.low; high = t.high }
+
+-- the two ends of the hull come near
+ends_near : BlocksGoSo → (v : View) (n : ℕ) (before : Stands v n) (g h : Happening) → IsView v → IsEnd v n before g → IsEnd v n before h
+    → time_of g ≤ time_of h + v.sizes.spread
+ends_near goes v zero before g h is one other =
+    let at_g = in_next v zero before (time_of g) is one.low one.high (within_run v is g one.dispatch.there) in
+    let at_h = in_next v zero before (time_of h) is other.low other.high (within_run v is h other.dispatch.there) in
+    let so_g = (goes v zero (time_of g) (block_of v zero before (time_of g) at_g) is).dispatches g one.device 1 one.dispatch refl in
+    let so_h = (goes v zero (time_of h) (block_of v zero before (time_of h) at_h) is).dispatches h other.device 1 other.dispatch refl in
+    let zero_next : before.next ≡ 0 = before.is_over in
+    let same : before.hull ≡ start_hull v.sizes = same_some (hull_of v zero) before.hull (start_hull v.sizes) before.is_hull refl in
+    let old_g = subst (λ (x : ℕ). epoch_time (earlier (time_of g) v.records) one.device <ℤ pos x) zero_next so_g.old in
+    let old_h = subst (λ (x : ℕ). epoch_time (earlier (time_of h) v.records) other.device <ℤ pos x) zero_next so_h.old in
+    let late_g = subst (λ (w : Hull). pos (time_of g) ≤ℤ last_dispatch v.sizes w) same one.high in
+    let late_h = subst (λ (w : Hull). pos (time_of h) ≤ℤ last_dispatch v.sizes w) same other.high in
+    starts_stay_together v.sizes (time_of g) (time_of h) (room v is)
+    (start_near v one.device (time_of g) is one.dispatch.good (has_dispatched v g one.device 1 is one.dispatch) old_g late_g)
+    (start_near v other.device (time_of h) is other.dispatch.good (has_dispatched v h other.device 1 is other.dispatch) old_h late_h)
+ends_near goes v (suc c) before g h is one other =
+    let n = suc c in
+    let at_g = in_next v n before (time_of g) is one.low one.high (within_run v is g one.dispatch.there) in
+    let at_h = in_next v n before (time_of h) is other.low other.high (within_run v is h other.dispatch.there) in
+    let so_g = (goes v n (time_of g) (block_of v n before (time_of g) at_g) is).dispatches g one.device (suc n) one.dispatch refl in
+    let so_h = (goes v n (time_of h) (block_of v n before (time_of h) at_h) is).dispatches h other.device (suc n) other.dispatch refl in
+    let share = before.shared (omega arith) in
+    let x = shared_near v n (time_of g) before one.device share is one.dispatch.good (has_dispatched v g one.device (suc n) is one.dispatch) at_g.from so_g.old
+    one.high in
+    let y = shared_near v n (time_of h) before other.device share is other.dispatch.good (has_dispatched v h other.device (suc n) is other.dispatch) at_h.from
+    so_h.old other.high in
+    let half = shared_clocks_halve v.sizes before.hull share.shared x.other y.other (time_of g) (time_of h) (room v is) x.near y.near x.reached y.reached in
+    let space = room v is in
+    omega (arith, ints, half, before_narrow v n before, space.errors.spread_is)
+
+pub hulls_are_narrow : BlocksGoSo → HullsAreNarrow
+hulls_are_narrow goes v n before hull is is_hull =
+    let test = λ (g : Happening). is_dispatch v before.hull (suc n) g g.note.body in
+    let over_is : over None (filter test v.records) ≡ Some hull = subst
+    (λ (o : Option Hull). option_and_then (λ w. hull_over (filter (λ h. is_dispatch v w (suc n) h h.note.body) v.records)) o ≡ Some hull) before.is_hull
+    is_hull in
+    let ends = ends_of None (filter test v.records) hull over_is in
+    elim ends.greatest [
+      | inr none ↦ absurd (never_some none.0 none.1)
+      | inl top ↦ elim ends.least [
+        | inr none ↦ absurd (never_some none.0 none.1)
+        | inl low ↦
+            let near = ends_near goes v n before top.0 low.0 is (end_is v n before top.0 top.1) (end_is v n before low.0 low.1) in
+            omega (arith, ints, near, top.2, low.2)
+      ]
+    ]
+  where
+    never_some : (w : Hull) → None ≡ Some w → ⊥
+    never_some w e = cc

@@ -1,0 +1,105 @@
+-- At the beginning the network stands as it should.
+use Rattle.std.proofs.Common.{◌≡◌, ℕ, zero, suc, ◌≤◌, pos, ◌≤ℤ◌, true, List, [], Option, Some, None, refl, sym, ap, subst, ◌∙◌, arith, ◌^◌}
+use Rattle.std.proofs.lemmas.Bool.{le-ltb}
+use Rattle.std.proofs.lemmas.Int.{ints}
+use Rattle.std.specs.Prelude.{IfSome, nat_lt, option_and_then}
+use Rattle.net_plan.specs.Places.{device_at}
+use Rattle.net_plan.specs.Ranges.{IsDeviceInRange, IsWithin}
+use Rattle.net_plan.specs.declared.ids.DeviceId.{DeviceId}
+use Rattle.net_plan.specs.declared.tables.Device.{Device}
+use Rattle.precision_law.proofs.clocks.Anchored.{starts_are_set}
+use Rattle.precision_law.proofs.records.Views.{room, steady}
+use Rattle.precision_law.specs.Anchors.{IsAnchoredIn}
+use Rattle.precision_law.specs.BlockLaws.{StandsAtStart}
+use Rattle.precision_law.specs.Blocks.{HasTimeAt, IsSetFor}
+use Rattle.precision_law.specs.Epochs.{epoch_cycle, has_time}
+use Rattle.precision_law.specs.Hulls.{hull_of, start_hull, Hull, IsNarrow}
+use Rattle.precision_law.specs.Sizes.{Sizes}
+use Rattle.precision_law.specs.Views.{IsView, View}
+use Rattle.run_law.proofs.law.FirstPlaces.{none_kept}
+use Rattle.run_law.specs.device.States.{adjustment_after, adjustment_before, state_after}
+use Rattle.run_law.specs.records.Happenings.{Happening, earlier, time_of}
+use Rattle.run_law.specs.scenario.Devices.{start_of}
+use Rattle.schedule_tables.proofs.EntryLemmas.{all_at}
+use Rattle.schedule_tables.specs.declared.rule.Rule.TheVariants.{Masters}
+use Rattle.sync_state.specs.Standing.{adjustment_at_start, state_at_start}
+use Rattle.tte_units.specs.Amount.{amount}
+use Rattle.tte_units.specs.declared.units.Units.{Units}
+
+-- before time 0 there is no record
+pub none_at_start : (hs : List Happening) → earlier 0 hs ≡ []
+none_at_start hs = none_kept (λ h. nat_lt (time_of h) 0) hs (λ h i. le-ltb (time_of h) 0 (omega arith))
+
+-- ---- starts
+
+-- a device whose state is timed at the start begins with a start
+pub has_start : (start : Option Units) → has_time (state_at_start start) ≡ true → (u : Units) × (start ≡ Some u)
+has_start None e = absurd cc
+has_start (Some u) e = (u, refl)
+
+-- what a start is of
+start_from : (o : Option Device) (u : Units) → option_and_then (λ d. d.start) o ≡ Some u → (d : Device) × (o ≡ Some d) × (d.start ≡ Some u)
+start_from None u e = absurd cc
+start_from (Some d) u e = (d, refl, e)
+
+if_some : {X : Type 0} (P : X → Type 0) (o : Option X) (x : X) → o ≡ Some x → IfSome o P → P x
+if_some {X} P o x e h = subst (λ (s : Option X). IfSome s P) e h
+
+-- a start is from 0 to settled
+pub record IsStart (v : View) (u : Units) : Type 0 where
+  pub least : pos 0 ≤ℤ u.0
+  pub most : u.0 ≤ℤ pos v.sizes.settled
+
+pub start_is : (v : View) (device : DeviceId) (u : Units) → IsView v → start_of v.scenario.network device ≡ Some u → IsStart v u
+start_is v device u is e =
+    let n = v.scenario.network in
+    let from = start_from (device_at n device) u e in
+    let known : IsDeviceInRange from.0 = all_at IsDeviceInRange n.device device.0 from.0 is.lawful.range.devices from.1 in
+    let within : IsWithin 0 (2 ^ 40) u = if_some (IsWithin 0 (2 ^ 40)) from.0.start u from.2 known.start in
+    let settled = all_at (λ d. IfSome d.start (λ start. start.0 ≤ℤ n.settled.0)) n.device device.0 from.0 ((is.lawful.rules Masters 4).starts refl) from.1 in
+    let small : u.0 ≤ℤ n.settled.0 = if_some (λ start. start.0 ≤ℤ n.settled.0) from.0.start u from.2 settled in
+    let size : v.sizes.settled ≡ amount n.settled = ap (λ (s : Sizes). s.settled) is.sizes in
+    record { least = within.least; most = omega (arith, ints, small, size, within.least) }
+
+-- ---- the beginning
+
+set_at_start : (v : View) (device : DeviceId) → IsView v → HasTimeAt v device 0 → IsSetFor v 0 (start_hull v.sizes) 0 device
+set_at_start v device is has =
+    let none = none_at_start v.records in
+    let timed : has_time (state_at_start (start_of v.scenario.network device)) ≡ true = subst
+    (λ (hs : List Happening). has_time (state_after v.scenario hs device) ≡ true) none has.timed in
+    let start = has_start (start_of v.scenario.network device) timed in
+    let known = start_is v device start.0 is start.1 in
+    let same : adjustment_before v.scenario v.records device 0 ≡ start.0 =
+    ap (λ (hs : List Happening). adjustment_after v.scenario hs device) none ∙ ap adjustment_at_start start.1 in
+    let anchored = starts_are_set v.sizes (v.scenario.reading device) start.0.0 (room v is) (steady v is device) known.least known.most in
+    record {
+      index = ap (λ (hs : List Happening). epoch_cycle hs device) none;
+      set_at = 0;
+      not_before = omega (arith, ints);
+      not_behind = omega arith;
+      since = omega arith;
+      anchored = subst (λ (a : Units). IsAnchoredIn v.sizes (v.scenario.reading device) a.0 0 (start_hull v.sizes) 0) (sym same) anchored;
+    }
+
+pub stands_at_start : StandsAtStart
+stands_at_start v is =
+    let space = room v is in
+    record {
+      next = 0;
+      is_over = refl;
+      in_run = omega arith;
+      hull = start_hull v.sizes;
+      is_hull = refl;
+      narrow = λ c le. first_narrow v is c le;
+      dispatches = λ h device cycle dispatch lt. absurd (omega (arith, lt));
+      clocks = λ device has. set_at_start v device is has;
+      points = λ before c e. absurd (omega (arith, e));
+      shared = λ le. absurd (omega (arith, le));
+      joined = λ h device i joined good lt. absurd (omega (arith, lt));
+      kept = λ h device state cause why i lt. absurd (omega (arith, lt));
+    }
+  where
+    first_narrow : (v : View) → IsView v → (c : ℕ) → c ≤ 0 → (hull : Hull) × (hull_of v c ≡ Some hull) × IsNarrow v.sizes hull
+    first_narrow v is zero le = (start_hull v.sizes, refl, (let space = room v is in omega (arith, ints, space.errors.spread_is)))
+    first_narrow v is (suc c) le = absurd (omega (arith, le))

@@ -1,0 +1,7 @@
+-- How clocks read, how they are set and what they show then, and what the last setting fixes.
+pub mod Readings
+pub mod Anchored
+pub mod Epochs
+pub mod Numbers
+pub mod Joiners
+pub mod Unchanged

@@ -1,0 +1,182 @@
+-- Anchored clocks: how they are set, what they show, and when they reach a value.
+use Rattle.std.proofs.Common.{◌≡◌, ℕ, suc, ◌+◌, ◌*◌, ℤ, pos, negsuc, ◌+ℤ◌, ◌-ℤ◌, ◌*ℤ◌, ◌≤ℤ◌, refl, arith, unsigned_abs}
+use Rattle.std.proofs.lemmas.Int.{ints}
+use Rattle.precision_law.specs.Anchors.{high_of, low_of}
+use Rattle.precision_law.specs.Standings.{AnchoredClocksReach, AnchoredClocksShow, AnchorsWiden, ClocksOfOneCycle, ClocksOfTwoCycles, OneFrameAnchors, OneFrameSets, SetClocksHaveReached, SetClocksReach, SetClocksShow, SharedClocksHalve, StartsAreSet, StartsStayTogether, TwoFramesAnchor, TwoFramesSet, setting}
+use Rattle.tte_units.proofs.Means.{mean_of-floor}
+use Rattle.tte_units.specs.Mean.{mean_of}
+
+-- ---- setting a clock
+
+pub one_frame_anchors : OneFrameAnchors
+one_frame_anchors n reading base q point expected cycle timely = record {
+  least = omega (arith, ints, timely.not_early, timely.not_late, timely.least, timely.most);
+  most = omega (arith, ints, timely.not_early, timely.not_late, timely.least, timely.most);
+}
+
+pub two_frames_anchor : TwoFramesAnchor
+two_frames_anchor n reading first second q u p r expected cycle steady le within one other =
+    let fast = steady.fast q u le within in
+    let slow = steady.slow q u le within in
+    let mean = mean_of-floor (setting n cycle expected p) (setting n cycle expected r) in
+    record {
+      least =
+          omega (
+            arith,
+            ints,
+            mean.least,
+            mean.most,
+            fast,
+            slow,
+            one.not_early,
+            one.not_late,
+            one.least,
+            one.most,
+            other.not_early,
+            other.not_late,
+            other.least,
+            other.most,
+          );
+      most =
+          omega (
+            arith,
+            ints,
+            mean.least,
+            mean.most,
+            fast,
+            slow,
+            one.not_early,
+            one.not_late,
+            one.least,
+            one.most,
+            other.not_early,
+            other.not_late,
+            other.least,
+            other.most,
+          );
+    }
+
+pub anchors_widen : AnchorsWiden
+anchors_widen n shown cycle low high lower higher r down up anchored = record {
+  least = omega (arith, ints, up, anchored.least);
+  most = omega (arith, ints, down, anchored.most);
+}
+
+pub one_frame_sets : OneFrameSets
+one_frame_sets n reading hull base q point expected cycle room near timely =
+    anchors_widen n (pos (reading q) +ℤ setting n cycle expected point) cycle
+    ((pos 2 *ℤ base) -ℤ pos (2 * n.path + 4 * n.grain)) ((pos 2 *ℤ base) +ℤ pos (2 * n.path))
+    (low_of n hull) (high_of n hull) q
+    (omega (arith, ints, near.least, near.most, room.errors.base_is, room.errors.clock_is))
+    (omega (arith, ints, near.least, near.most, room.errors.base_is, room.errors.clock_is))
+    (one_frame_anchors n reading base q point expected cycle timely)
+
+pub two_frames_set : TwoFramesSet
+two_frames_set n reading hull first second q u p r expected cycle room steady le within near far one other =
+    anchors_widen n (pos (reading u) +ℤ mean_of (setting n cycle expected p) (setting n cycle expected r)) cycle
+    ((first +ℤ second) -ℤ pos (2 * n.path + 4 * n.grain + n.drift)) ((first +ℤ second) +ℤ pos (2 * n.path + n.drift + 1))
+    (low_of n hull) (high_of n hull) u
+    (omega (arith, ints, near.least, near.most, far.least, far.most, room.errors.base_is, room.errors.clock_is))
+    (omega (arith, ints, near.least, near.most, far.least, far.most, room.errors.base_is, room.errors.clock_is))
+    (two_frames_anchor n reading first second q u p r expected cycle steady le within one other)
+
+pub starts_are_set : StartsAreSet
+starts_are_set n reading start room steady least most =
+    let zero : reading 0 ≡ 0 = steady.begins in
+    record {
+      least = omega (arith, ints, zero, least, most);
+      most = omega (arith, ints, zero, least, most, room.errors.clock_is);
+    }
+
+-- ---- reading an anchored clock
+
+pub anchored_clocks_show : AnchoredClocksShow
+anchored_clocks_show n reading adjustment cycle low high r t steady le within anchored =
+    let fast = steady.fast r t le within in
+    let slow = steady.slow r t le within in
+    record {
+      least = omega (arith, ints, fast, slow, anchored.least);
+      most = omega (arith, ints, fast, slow, anchored.most);
+    }
+
+pub anchored_clocks_reach : AnchoredClocksReach
+anchored_clocks_reach n shown cycle low high v t shows least most = record {
+  not_early = omega (arith, ints, shows.least, shows.most, least, most);
+  not_late = omega (arith, ints, shows.least, shows.most, least, most);
+}
+
+pub set_clocks_reach : SetClocksReach
+set_clocks_reach n reading adjustment cycle hull r v t room steady le within anchored least most =
+    let shows = anchored_clocks_show n reading adjustment cycle (low_of n hull) (high_of n hull) r t steady le within anchored in
+    record {
+      not_early = omega (arith, ints, shows.least, shows.most, least, most, room.errors.clock_is, room.errors.reach_is);
+      not_late = omega (arith, ints, shows.least, shows.most, least, most, room.errors.clock_is, room.errors.reach_is);
+    }
+
+pub set_clocks_have_reached : SetClocksHaveReached
+set_clocks_have_reached n reading adjustment cycle hull r v t room steady le within anchored late =
+    let shows = anchored_clocks_show n reading adjustment cycle (low_of n hull) (high_of n hull) r t steady le within anchored in
+    omega (arith, ints, shows.least, late, room.errors.reach_is)
+
+pub set_clocks_show : SetClocksShow
+set_clocks_show n reading adjustment cycle hull r t steady le within anchored =
+    let shows = anchored_clocks_show n reading adjustment cycle (low_of n hull) (high_of n hull) r t steady le within anchored in
+    record {
+      least = omega (arith, ints, shows.least);
+      most = omega (arith, ints, shows.most);
+    }
+
+-- ---- two clocks
+
+pub clocks_of_one_cycle : ClocksOfOneCycle
+clocks_of_one_cycle n x y cycle hull t room narrow one other = record {
+  one = omega (arith, ints, narrow, one.least, one.most, other.least, other.most, room.eight_errors, room.errors.reach_is);
+  other = omega (arith, ints, narrow, one.least, one.most, other.least, other.most, room.eight_errors, room.errors.reach_is);
+}
+
+-- a whole number from a natural number on is one
+pub natural_of : (z : ℤ) (least : ℕ) → pos least ≤ℤ z → (m : ℕ) × (z ≡ pos m)
+natural_of (pos m) least le = (m, refl)
+natural_of (negsuc m) least le = absurd (omega (arith, ints, le))
+
+-- one that is not below 0 is its own amount
+pub natural : (z : ℤ) → pos 0 ≤ℤ z → z ≡ pos (unsigned_abs z)
+natural (pos m) begun = refl
+natural (negsuc m) begun = absurd (omega (arith, ints, begun))
+
+-- one more cycle is as long as a cycle
+pub one_more : (cycle length : ℕ) → suc cycle * length ≡ cycle * length + length
+one_more cycle length = omega arith
+
+pub clocks_of_two_cycles : ClocksOfTwoCycles
+clocks_of_two_cycles n x y cycle before hull t room narrow follows one other =
+    let more = one_more cycle n.cycle in
+    record {
+      one =
+          omega (arith, ints, more, narrow, follows.least, follows.most, one.least, one.most, other.least, other.most, room.eight_errors, room.errors.reach_is);
+      other =
+          omega (arith, ints, more, narrow, follows.least, follows.most, one.least, one.most, other.least, other.most, room.eight_errors, room.errors.reach_is);
+    }
+
+-- ---- halving
+
+pub shared_clocks_halve : SharedClocksHalve
+shared_clocks_halve n hull shared x y t u room near far one other =
+    omega (
+      arith,
+      ints,
+      near.least,
+      near.most,
+      far.least,
+      far.most,
+      one.not_early,
+      one.not_late,
+      other.not_early,
+      other.not_late,
+      room.settling,
+      room.errors.base_is,
+    )
+
+pub starts_stay_together : StartsStayTogether
+starts_stay_together n t u room one other =
+    omega (arith, ints, one.not_early, one.not_late, other.not_early, other.not_late, room.errors.spread_is, room.two_drifts, room.two_readings)

@@ -1,0 +1,279 @@
+-- What a device's clock was last set to fixes since then.
+use Rattle.std.proofs.Common.{◌≡◌, ℕ, ◌+◌, ◌<◌, ◌≤◌, ℤ, pos, negsuc, ◌-ℤ◌, ◌<ℤ◌, Bool, true, false, List, [], ◌∷◌, ◌++◌, filter, fold, Option, Some, None, inl, inr, refl, sym, ap, subst, ◌∙◌, arith}
+use Rattle.std.proofs.lemmas.Bool.{both_ways, eq-eqb, eqb-true, false_from_ne_true}
+use Rattle.std.proofs.lemmas.Int.{ints}
+use Rattle.std.proofs.lemmas.List.{append-nil}
+use Rattle.std.proofs.lemmas.List.Elements.{filter-append}
+use Rattle.std.proofs.lemmas.List.Sums.{fold-append}
+use Rattle.std.specs.List.{last_or}
+use Rattle.std.specs.Option.{option_map_or}
+use Rattle.std.specs.Prelude.{◌==◌, if◌then◌else◌}
+use Rattle.net_plan.specs.declared.ids.DeviceId.{DeviceId}
+use Rattle.precision_law.proofs.clocks.Readings.{reach_is_sharp, reach_is_there}
+use Rattle.precision_law.proofs.records.Times.{between, earlier_parts, in_between, in_kept, is_between, last_append, last_some}
+use Rattle.precision_law.proofs.records.Views.{in_order, steady}
+use Rattle.precision_law.specs.Blocks.{adjustment_left, state_left}
+use Rattle.precision_law.specs.EpochLaws.{AdjustmentIsLast, ClocksHaveReached, ClocksReachSharply, NextCycleIsOfLast, SettingsStay, TimeStays, next_of}
+use Rattle.precision_law.specs.Epochs.{cycle_set, epoch_time, has_time, is_correction, last_setting}
+use Rattle.precision_law.specs.Views.{IsView, View}
+use Rattle.run_law.proofs.law.FirstPlaces.{founded_at, in_filter, numbered_in}
+use Rattle.run_law.proofs.runs.Places.{in_left}
+use Rattle.run_law.specs.control.Corrections.{cycle_after}
+use Rattle.run_law.specs.declared.judgement.Judgement.TheVariants.{Integrates}
+use Rattle.run_law.specs.declared.judgement.Why.TheVariants as whys
+use Rattle.run_law.specs.declared.judgement.Why.{Why}
+use Rattle.run_law.specs.declared.note.NoteBody.TheVariants as notes
+use Rattle.run_law.specs.declared.note.NoteBody.{NoteBody}
+use Rattle.run_law.specs.device.LocalClocks.{changed_at, changes_adjustment}
+use Rattle.run_law.specs.device.StateChanges.{ChangesState}
+use Rattle.run_law.specs.device.States.{adjustment_before, adjustment_with, cycle_in, is_joined_by, state_after, state_with}
+use Rattle.run_law.specs.records.Happenings.{Happening, earlier, time_of}
+use Rattle.run_law.specs.records.Order.{IsIn}
+use Rattle.run_law.specs.runs.DueRecords.{IsCaused}
+use Rattle.run_law.specs.scenario.Devices.{start_of}
+use Rattle.run_law.specs.scenario.Scenarios.{Scenario}
+use Rattle.sync_state.specs.Standing.{adjustment_at_start, state_at_start}
+use Rattle.sync_state.specs.declared.state.State.TheVariants.{Integrating}
+use Rattle.sync_state.specs.declared.state.State.{State}
+use Rattle.tte_units.specs.Amount.{amount}
+use Rattle.tte_units.specs.declared.units.Units.{Units}
+
+-- ---- the last of what is tested
+
+-- where each element that passes the test sets a value and no other does, the last such element sets it
+pub fold_last : {X V : Type 0} (f : V → X → V) (g : X → V) (test : X → Bool) (o : Option X) (initial : V) (xs : List X)
+    → ((v : V) (x : X) → test x ≡ true → f v x ≡ g x) → ((v : V) (x : X) → test x ≡ false → f v x ≡ v) → fold f (option_map_or g o initial) xs ≡ option_map_or g
+    (last_or o (filter test xs)) initial
+fold_last f g test o initial [] hit miss = refl
+fold_last {X} {V} f g test o initial (x ∷ xs) hit miss =
+    elim (test x) as
+    (λ b. test x ≡ b → fold f (f (option_map_or g o initial) x) xs ≡ option_map_or g (last_or o (if b then x ∷ filter test xs else filter test xs)) initial) [
+      | true ↦ λ e. ap (λ (v : V). fold f v xs) (hit (option_map_or g o initial) x e) ∙ fold_last f g test (Some x) initial xs hit miss
+      | false ↦ λ e. ap (λ (v : V). fold f v xs) (miss (option_map_or g o initial) x e) ∙ fold_last f g test o initial xs hit miss
+    ] refl
+
+-- ---- adjustments
+
+-- what a record that changes the adjustment makes of it does not depend on what it was
+pub adjustment_set : (s : Scenario) (device : DeviceId) (cycle : ℕ) (old other : Units) (body : NoteBody) → changes_adjustment device body ≡ true
+    → adjustment_with s device cycle old body ≡ adjustment_with s device cycle other body
+adjustment_set s device cycle old other (notes.Corrected d number by adjustment) e = rw e refl
+adjustment_set s device cycle old other (notes.Permanent d link cause point Integrates) e = rw e refl
+adjustment_set s device cycle old other (notes.Compressed d opened own of_cycle members Integrates) e = rw e refl
+adjustment_set s device cycle old other body e = absurd cc
+
+-- other records leave it
+adjustment_kept : (s : Scenario) (device : DeviceId) (cycle : ℕ) (old : Units) (body : NoteBody) → changes_adjustment device body ≡ false
+    → adjustment_with s device cycle old body ≡ old
+adjustment_kept s device cycle old (notes.Corrected d number by adjustment) e = rw e refl
+adjustment_kept s device cycle old (notes.Permanent d link cause point Integrates) e = rw e refl
+adjustment_kept s device cycle old (notes.Compressed d opened own of_cycle members Integrates) e = rw e refl
+adjustment_kept s device cycle old body e = refl
+
+pub adjustment_is_last : AdjustmentIsLast
+adjustment_is_last s hs device =
+    fold_last (λ (a : Units) (h : Happening). adjustment_with s device (cycle_in h) a h.note.body)
+    (λ (h : Happening). adjustment_with s device (cycle_in h) (adjustment_at_start (start_of s.network device)) h.note.body)
+    (λ (h : Happening). changes_adjustment device h.note.body) None (adjustment_at_start (start_of s.network device)) hs
+    (λ a h e. adjustment_set s device (cycle_in h) a (adjustment_at_start (start_of s.network device)) h.note.body e)
+    (λ a h e. adjustment_kept s device (cycle_in h) a h.note.body e)
+
+-- ---- numbers
+
+-- the number behind a record
+abbrev number_by : Happening → ℕ
+number_by h = if is_correction h.note.body then cycle_set h h.note.body + 1 else cycle_set h h.note.body
+
+number_set : (device : DeviceId) (old : ℕ) (h : Happening) (body : NoteBody) → changes_adjustment device body ≡ true
+    → cycle_after device old h body ≡ (if is_correction body then cycle_set h body + 1 else cycle_set h body)
+number_set device old h (notes.Corrected d number by adjustment) e = rw e refl
+number_set device old h (notes.Permanent d link cause point Integrates) e = rw e refl
+number_set device old h (notes.Compressed d opened own of_cycle members Integrates) e = rw e refl
+number_set device old h body e = absurd cc
+
+number_kept : (device : DeviceId) (old : ℕ) (h : Happening) (body : NoteBody) → changes_adjustment device body ≡ false → cycle_after device old h body ≡ old
+number_kept device old h (notes.Corrected d number by adjustment) e = rw e refl
+number_kept device old h (notes.Permanent d link cause point Integrates) e = rw e refl
+number_kept device old h (notes.Compressed d opened own of_cycle members Integrates) e = rw e refl
+number_kept device old h body e = refl
+
+next_of_option : (o : Option Happening) → option_map_or number_by o 1 ≡ next_of o
+next_of_option None = refl
+next_of_option (Some h) = refl
+
+pub next_cycle_is_of_last : NextCycleIsOfLast
+next_cycle_is_of_last hs device =
+    fold_last (λ (n : ℕ) (h : Happening). cycle_after device n h h.note.body) number_by
+    (λ (h : Happening). changes_adjustment device h.note.body) None 1 hs
+    (λ n h e. number_set device n h h.note.body e)
+    (λ n h e. number_kept device n h h.note.body e)
+    ∙ next_of_option (last_setting hs device)
+
+-- ---- settings stay
+
+-- the time of the last of some records
+abbrev time_of_last : Option Happening → ℤ
+time_of_last o = option_map_or (λ h. pos (time_of h)) o (negsuc 0)
+
+-- what is behind the last setting sets nothing
+no_setting : (u : ℕ) (device : DeviceId) (xs ys : List Happening) → ((h : Happening) → IsIn h ys → u ≤ time_of h)
+    → time_of_last (last_or None (xs ++ ys)) <ℤ pos u → ys ≡ []
+no_setting u device xs [] late early = refl
+no_setting u device xs (y ∷ ys) late early =
+    let last = last_some (last_or None xs) y ys in
+    let same : last_or None (xs ++ y ∷ ys) ≡ Some last.0 = last_append None xs (y ∷ ys) ∙ last.1 in
+    let time : time_of_last (last_or None (xs ++ y ∷ ys)) ≡ pos (time_of last.0) = ap time_of_last same in
+    let up = late last.0 last.2 in
+    absurd (omega (arith, ints, time, up, early))
+
+-- the records between the last setting and t set nothing
+pub none_between : (v : View) (device : DeviceId) (u t : ℕ) → IsView v → u ≤ t → epoch_time (earlier t v.records) device <ℤ pos u
+    → filter (λ h. changes_adjustment device h.note.body) (between u t v.records) ≡ []
+none_between v device u t is le early =
+    let sets = λ (h : Happening). changes_adjustment device h.note.body in
+    let parts = earlier_parts u t v.records (in_order v is) le in
+    let moved = ap (filter sets) parts ∙ filter-append sets (earlier u v.records) (between u t v.records) in
+    no_setting u device (filter sets (earlier u v.records)) (filter sets (between u t v.records))
+    (λ h i. (in_between u t v.records h (in_filter sets (between u t v.records) h i)).1)
+    (subst (λ (hs : List Happening). time_of_last (last_or None hs) <ℤ pos u) moved early)
+
+pub settings_stay : SettingsStay
+settings_stay v device u t is le early =
+    let sets = λ (h : Happening). changes_adjustment device h.note.body in
+    let parts = earlier_parts u t v.records (in_order v is) le in
+    let none = none_between v device u t is le early in
+    let same : filter sets (earlier t v.records) ≡ filter sets (earlier u v.records) =
+    ap (filter sets) parts ∙ filter-append sets (earlier u v.records) (between u t v.records)
+    ∙ ap (λ (hs : List Happening). filter sets (earlier u v.records) ++ hs) none ∙ append-nil (filter sets (earlier u v.records)) in
+    ap (last_or None) (sym same)
+
+-- so does the adjustment
+pub adjustment_stays : (v : View) (device : DeviceId) (u t : ℕ) → IsView v → u ≤ t → epoch_time (earlier t v.records) device <ℤ pos u
+    → adjustment_before v.scenario v.records device u ≡ adjustment_before v.scenario v.records device t
+adjustment_stays v device u t is le early =
+    adjustment_is_last v.scenario (earlier u v.records) device
+    ∙ ap (λ (o : Option Happening). option_map_or
+    (λ h. adjustment_with v.scenario device (cycle_in h) (adjustment_at_start (start_of v.scenario.network device)) h.note.body) o
+    (adjustment_at_start (start_of v.scenario.network device))) (settings_stay v device u t is le early)
+    ∙ sym (adjustment_is_last v.scenario (earlier t v.records) device)
+
+-- ---- the common time stays
+
+-- the record leaves no device in a state that passes the test which was not in one
+abbrev pub Keeps : (State → Bool) → DeviceId → NoteBody → Type 0
+Keeps p device body = (old : State) → p (state_with device old body) ≡ true → p old ≡ true
+
+-- where each of them does so, a device that passes behind them passed before
+pub kept_by_all : (p : State → Bool) (device : DeviceId) (hs : List Happening) → ((h : Happening) → IsIn h hs → Keeps p device h.note.body) → (old : State)
+    → p (fold (λ state h. state_with device state h.note.body) old hs) ≡ true → p old ≡ true
+kept_by_all p device [] each old e = e
+kept_by_all p device (h ∷ hs) each old e =
+    each h (inl refl) old (kept_by_all p device hs (λ g i. each g (inr i)) (state_with device old h.note.body) e)
+
+-- a state that is another device's leaves this one's
+pub kept_if : (p : State → Bool) (b : Bool) (state old : State) → (b ≡ true → p state ≡ true → ⊥) → p (if b then state else old) ≡ true → p old ≡ true
+kept_if p true state old never e = absurd (never refl e)
+kept_if p false state old never e = e
+
+-- the id of a device
+pub same_device : (d e : DeviceId) → (d.0 == e.0) ≡ true → e ≡ d
+same_device d e same = ap (λ (n : ℕ). let x : DeviceId = record { 0 = n } in x) (sym (eqb-true d.0 e.0 same))
+
+-- a frame that tells the device the time changes its adjustment
+pub joined_changes : (device : DeviceId) (body : NoteBody) → is_joined_by device body ≡ true → changes_adjustment device body ≡ true
+joined_changes device (notes.Corrected d number by adjustment) e = absurd cc
+joined_changes device body e = e
+
+-- where nothing sets the device's clock at a time, its state changes to integrating alone
+no_change : (p : State → Bool) → p Integrating ≡ false → (s : Scenario) (ps : List Happening) (t : ℕ) (device : DeviceId) (state : State) (cause : ℕ)
+    (why : Why) → ((h : Happening) → IsIn h ps → time_of h ≡ t → changes_adjustment device h.note.body ≡ false) → ChangesState s ps device t state cause why
+    → p state ≡ true → ⊥
+no_change p out s ps t device state cause whys.On none c e = both_ways (p state) (ap p c.0 ∙ out) e
+no_change p out s ps t device state cause whys.Frame none c e =
+    let h = c.1.0 in
+    let i = numbered_in ps cause h c.1.1.there in
+    both_ways (changes_adjustment device h.note.body) (none h i c.1.1.same_time) (joined_changes device h.note.body c.1.2)
+no_change p out s ps t device state cause whys.Correction none c e =
+    let h = c.2.3 in
+    let i = numbered_in ps cause h c.2.4.there in
+    let is = c.2.5 in
+    let self : changes_adjustment device (notes.Corrected device c.2.0 c.2.1 c.2.2) ≡ true = eq-eqb device.0 device.0 refl in
+    both_ways (changes_adjustment device h.note.body) (none h i c.2.4.same_time) (ap (changes_adjustment device) is ∙ self)
+no_change p out s ps t device state cause whys.SyncClique none c e = both_ways (p state) (ap p c.0 ∙ out) e
+no_change p out s ps t device state cause whys.AsyncClique none c e = both_ways (p state) (ap p c.0 ∙ out) e
+
+-- nor does any other record
+pub keeps : (p : State → Bool) → p Integrating ≡ false → (s : Scenario) (ps : List Happening) (time : Units) (device : DeviceId) (body : NoteBody)
+    → changes_adjustment device body ≡ false → ((h : Happening) → IsIn h ps → time_of h ≡ amount time → changes_adjustment device h.note.body ≡ false)
+    → IsCaused s ps time body → Keeps p device body
+keeps p out s ps time device (notes.State other state cause why) e none c old timed =
+    kept_if p (device.0 == other.0) state old (λ same is.
+    let here : ChangesState s ps device (amount time) state cause why = subst (λ (d : DeviceId). ChangesState s ps d (amount time) state cause why)
+    (same_device device other same) c in
+    no_change p out s ps (amount time) device state cause why none here is) timed
+keeps p out s ps time device (notes.Permanent other link cause point Integrates) e none c old timed = (let at = rw e at timed in at)
+keeps p out s ps time device (notes.Compressed other opened own cycle members Integrates) e none c old timed = (let at = rw e at timed in at)
+keeps p out s ps time device body e none c old timed = timed
+
+-- a device whose state passes the test has passed it since its clock was last set
+pub state_stays : (p : State → Bool) → p Integrating ≡ false → (v : View) (device : DeviceId) (u t : ℕ) → IsView v → u ≤ t
+    → epoch_time (earlier t v.records) device <ℤ pos u → p (state_left v device t) ≡ true → p (state_left v device u) ≡ true
+state_stays p out v device u t is le early timed =
+    let sets = λ (h : Happening). changes_adjustment device h.note.body in
+    let none = none_between v device u t is le early in
+    let parts = earlier_parts u t v.records (in_order v is) le in
+    let unset : (h : Happening) → IsIn h (between u t v.records) → sets h ≡ false = λ h i. unset_in sets (between u t v.records) h i none in
+    let state_of = λ (hs : List Happening). state_after v.scenario hs device in
+    let whole : p (state_after v.scenario (earlier u v.records ++ between u t v.records) device) ≡ true = subst
+    (λ (hs : List Happening). p (state_after v.scenario hs device) ≡ true) parts timed in
+    let apart = fold-append (λ (state : State) (h : Happening). state_with device state h.note.body) (state_at_start (start_of v.scenario.network device))
+    (earlier u v.records) (between u t v.records) in
+    kept_by_all p device (between u t v.records) (λ h i.
+    let there = in_between u t v.records h i in
+    let at = founded_at v.scenario v.records h is.run.founded there.0 in
+    keeps p out v.scenario at.front h.note.time device h.note.body (unset h i) (λ g j same.
+    let in_all : IsIn g v.records = subst (IsIn g) (sym at.whole) (in_left g at.front (h ∷ at.rest) j) in
+    unset g (in_middle v u t g in_all (omega (arith, same, there.1)) (omega (arith, same, there.2)))) at.due.cause)
+    (state_after v.scenario (earlier u v.records) device) (subst (λ (x : State). p x ≡ true) apart whole)
+  where
+    unset_in : {X : Type 0} (p : X → Bool) (xs : List X) (h : X) → IsIn h xs → filter p xs ≡ [] → p h ≡ false
+    unset_in p xs h i none = false_from_ne_true (p h) (λ hit. (let wrong : IsIn h [] = subst (IsIn h) none (in_kept p xs h i hit) in wrong))
+
+    in_middle : (v : View) (u t : ℕ) (g : Happening) → IsIn g v.records → u ≤ time_of g → time_of g < t → IsIn g (between u t v.records)
+    in_middle v u t g i late early = is_between u t v.records g i late early
+
+pub time_stays : TimeStays
+time_stays v device u t is le early timed = state_stays has_time refl v device u t is le early timed
+
+-- ---- reaching
+
+-- when the clock was set last, by its time and as an instant
+time_and_instant : (o : Option Happening) (x : ℕ) → option_map_or time_of o 0 ≤ x → time_of_last o <ℤ pos (x + 1)
+time_and_instant None x le = omega (arith, ints)
+time_and_instant (Some h) x le = omega (arith, ints, le)
+
+pub clocks_reach_sharply : ClocksReachSharply
+clocks_reach_sharply v device value t is reaches =
+    reach_is_sharp v.sizes (v.scenario.reading device) (changed_at v.records device t) (value -ℤ adjustment_left v device t) t (steady v is device)
+    (omega (arith, ints, reaches.below)) reaches.reach
+
+pub clocks_have_reached : ClocksHaveReached
+clocks_have_reached v device value x t is le lt below above =
+    let reading = v.scenario.reading device in
+    let r = reach_is_there v.sizes reading (changed_at v.records device t) x (value -ℤ adjustment_left v device t) t (steady v is device) le lt
+    (omega (arith, ints, below)) (omega (arith, ints, above)) in
+    let u = r.0 in
+    let early : epoch_time (earlier t v.records) device <ℤ pos u =
+    (let one = time_and_instant (last_setting (earlier t v.records) device) x le in omega (arith, ints, one, r.1)) in
+    let same_last = settings_stay v device u t is r.2 early in
+    let same_time : changed_at v.records device u ≡ changed_at v.records device t = ap (λ (o : Option Happening). option_map_or time_of o 0) same_last in
+    let same_adjustment : adjustment_left v device u ≡ adjustment_left v device t = ap (λ (a : Units). a.0) (adjustment_stays v device u t is r.2 early) in
+    let low = (steady v is device).never_falls (changed_at v.records device t) x le in (
+      u,
+      r.1,
+      r.2,
+      record {
+        below = rw (same_time, same_adjustment) (omega (arith, ints, low, below));
+        reach = rw (same_time, same_adjustment) r.3;
+      },
+    )

@@ -1,0 +1,168 @@
+-- A device whose clock was last set by a frame that told it the time is still joining.
+use Rattle.std.proofs.Common.{◌≡◌, ℕ, ◌+◌, ◌<◌, pos, Bool, true, false, List, [], ◌∷◌, ◌++◌, filter, fold, Option, Some, None, inl, inr, refl, sym, ap, subst, ◌∙◌, arith, negsuc, eq-eqb, append_assoc}
+use Rattle.std.proofs.lemmas.Bool.{both_ways, false_from_ne_true, lt-ltb}
+use Rattle.std.proofs.lemmas.Int.{ints}
+use Rattle.std.proofs.lemmas.List.Elements.{filter-append}
+use Rattle.std.proofs.lemmas.List.Sums.{fold-append}
+use Rattle.std.specs.Prelude.{◌==◌, nat_lt, if◌then◌else◌}
+use Rattle.std.specs.Option.{option_map_or}
+use Rattle.std.specs.List.{last_or}
+use Rattle.net_plan.specs.declared.ids.DeviceId.{DeviceId}
+use Rattle.precision_law.proofs.clocks.Epochs.{Keeps, kept_by_all, kept_if, same_device, state_stays}
+use Rattle.precision_law.proofs.records.Points.{setting_is, sorted_parts}
+use Rattle.precision_law.proofs.records.Times.{in_earlier, in_kept, last_append, last_some, AreSorted, is_earlier}
+use Rattle.precision_law.proofs.records.Views.{in_order}
+use Rattle.precision_law.specs.Blocks.{state_left}
+use Rattle.precision_law.specs.Epochs.{epoch_time, last_setting}
+use Rattle.precision_law.specs.Views.{IsView, View}
+use Rattle.run_law.proofs.law.FirstPlaces.{founded_at, in_filter, numbered_in}
+use Rattle.run_law.proofs.runs.Lacking.{behind_first}
+use Rattle.run_law.proofs.runs.Places.{in_left, in_parts, in_right, never_self}
+use Rattle.run_law.proofs.runs.SameSteps.{same_some}
+use Rattle.run_law.specs.declared.judgement.Judgement.TheVariants.{Integrates}
+use Rattle.run_law.specs.declared.judgement.Why.TheVariants as whys
+use Rattle.run_law.specs.declared.judgement.Why.{Why}
+use Rattle.run_law.specs.declared.note.NoteBody.TheVariants as notes
+use Rattle.run_law.specs.declared.note.NoteBody.{NoteBody}
+use Rattle.run_law.specs.device.LocalClocks.{changes_adjustment}
+use Rattle.run_law.specs.device.StateChanges.{ChangesState}
+use Rattle.run_law.specs.device.States.{is_joined_by, is_synchronised, state_after, state_with}
+use Rattle.run_law.specs.records.Happenings.{Happening, earlier, time_of}
+use Rattle.run_law.specs.records.Order.{IsBefore, IsIn}
+use Rattle.run_law.specs.records.Ranks.{key, members_in, place_of, rank}
+use Rattle.run_law.specs.runs.DueRecords.{IsCaused, IsDue}
+use Rattle.run_law.specs.runs.Runs.{IsFounded}
+use Rattle.run_law.specs.scenario.Devices.{start_of}
+use Rattle.run_law.specs.scenario.Scenarios.{Scenario}
+use Rattle.sync_state.specs.Standing.{state_at_start}
+use Rattle.sync_state.specs.declared.state.State.TheVariants.{Joining}
+use Rattle.sync_state.specs.declared.state.State.{State}
+use Rattle.tte_units.specs.Amount.{amount}
+use Rattle.tte_units.specs.declared.units.Units.{Units}
+
+-- where no correction of the device comes at a time, no change of state synchronises it
+no_correction : (s : Scenario) (ps : List Happening) (t : ℕ) (device : DeviceId) (state : State) (cause : ℕ) (why : Why)
+    → ((h : Happening) (cycle : ℕ) (by adjustment : Units) → IsIn h ps → time_of h ≡ t → h.note.body ≡ notes.Corrected device cycle by adjustment → ⊥)
+    → ChangesState s ps device t state cause why → is_synchronised state ≡ true → ⊥
+no_correction s ps t device state cause whys.On none c e = both_ways (is_synchronised state) (ap is_synchronised c.0) e
+no_correction s ps t device state cause whys.Frame none c e = both_ways (is_synchronised state) (ap is_synchronised c.0) e
+no_correction s ps t device state cause whys.Correction none c e = none c.2.3 c.2.0 c.2.1 c.2.2 (numbered_in ps cause c.2.3 c.2.4.there) c.2.4.same_time c.2.5
+no_correction s ps t device state cause whys.SyncClique none c e = both_ways (is_synchronised state) (ap is_synchronised c.0) e
+no_correction s ps t device state cause whys.AsyncClique none c e = both_ways (is_synchronised state) (ap is_synchronised c.0) e
+
+-- nor does any other record
+keeps_unsynchronised : (s : Scenario) (ps : List Happening) (time : Units) (device : DeviceId) (body : NoteBody)
+    → ((h : Happening) (cycle : ℕ) (by adjustment : Units) → IsIn h ps → time_of h ≡ amount time → h.note.body ≡ notes.Corrected device cycle by adjustment → ⊥)
+    → IsCaused s ps time body → Keeps is_synchronised device body
+keeps_unsynchronised s ps time device (notes.State other state cause why) none c old e =
+    kept_if is_synchronised (device.0 == other.0) state old (λ same at.
+    let here : ChangesState s ps device (amount time) state cause why = subst (λ (d : DeviceId). ChangesState s ps d (amount time) state cause why)
+    (same_device device other same) c in
+    no_correction s ps (amount time) device state cause why none here at) e
+keeps_unsynchronised s ps time device (notes.Permanent other link cause point Integrates) none c old e =
+    kept_if is_synchronised (device.0 == other.0) Joining old (λ same at. both_ways (is_synchronised Joining) refl at) e
+keeps_unsynchronised s ps time device (notes.Compressed other opened own cycle members Integrates) none c old e =
+    kept_if is_synchronised (device.0 == other.0) Joining old (λ same at. both_ways (is_synchronised Joining) refl at) e
+keeps_unsynchronised s ps time device body none c old e = e
+
+-- the rank of a joining is below that of a correction
+joining_rank : (device : DeviceId) (body : NoteBody) → is_joined_by device body ≡ true → rank body < 6
+joining_rank device (notes.Permanent other link cause point Integrates) e = omega arith
+joining_rank device (notes.Compressed other opened own cycle members Integrates) e = omega arith
+joining_rank device body e = absurd cc
+
+-- a joining leaves the device joining
+joins_state : (device : DeviceId) (old : State) (body : NoteBody) → is_joined_by device body ≡ true → state_with device old body ≡ Joining
+joins_state device old (notes.Permanent other link cause point Integrates) e = rw e refl
+joins_state device old (notes.Compressed other opened own cycle members Integrates) e = rw e refl
+joins_state device old body e = absurd cc
+
+-- what is before a place of its time has no higher rank
+lower_rank : (t u a b : ℕ) (xs ys : List ℕ) → t ≡ u → b < a → IsBefore (t ∷ a ∷ xs) (u ∷ b ∷ ys) → ⊥
+lower_rank t u a b xs ys same less (inl lt) = absurd (omega (arith, same))
+lower_rank t u a b xs ys same less (inr (e, inl lt)) = absurd (omega (arith, less, lt))
+lower_rank t u a b xs ys same less (inr (e, inr more)) = absurd (omega (arith, less, more.0))
+
+-- behind the last setting before a time nothing sets the clock before it
+none_behind : (v : View) (device : DeviceId) (t : ℕ) (front rest : List Happening) (h x : Happening) → IsView v
+    → last_setting (earlier t v.records) device ≡ Some h → v.records ≡ front ++ h ∷ rest → IsIn x rest → time_of x < t
+    → changes_adjustment device x.note.body ≡ true → ⊥
+none_behind v device t front rest h x is e whole i early changes =
+    let sets = λ (g : Happening). changes_adjustment device g.note.body in
+    let before = earlier t (front ++ h ∷ []) in
+    let split : v.records ≡ (front ++ h ∷ []) ++ rest = whole ∙ sym (append_assoc front (h ∷ []) rest) in
+    let parts : filter sets (earlier t v.records) ≡ filter sets before ++ filter sets (earlier t rest) =
+    ap (λ (hs : List Happening). filter sets (earlier t hs)) split ∙ ap (filter sets) (filter-append (λ g. nat_lt (time_of g) t) (front ++ h ∷ []) rest)
+    ∙ filter-append sets before (earlier t rest) in
+    by (filter sets before) (filter sets (earlier t rest)) (in_kept sets (earlier t rest) x (is_earlier t rest x i early) changes)
+    (sym (ap (last_or None) parts) ∙ e)
+    (λ y j. in_earlier t rest y (in_filter sets (earlier t rest) y j))
+  where
+    by : (us bs : List Happening) → IsIn x bs → last_or None (us ++ bs) ≡ Some h → ((y : Happening) → IsIn y bs → IsIn y rest × (time_of y < t)) → ⊥
+    by us [] j last back = absurd j
+    by us (b ∷ bs) j last back =
+        let found = last_some (last_or None us) b bs in
+        let same : found.0 ≡ h = same_some (last_or None (us ++ b ∷ bs)) found.0 h (last_append None us (b ∷ bs) ∙ found.1) last in
+        let there : IsIn h rest = subst (λ (y : Happening). IsIn y rest) same (back found.0 found.2).0 in
+        never_self (place_of h) (behind_first place_of (IsDue v.scenario) front rest h h (subst (IsFounded place_of (IsDue v.scenario)) whole is.run.founded)
+        there)
+
+-- no correction of the device comes at the time of a joining that is the last setting
+no_correction_then : (v : View) (device : DeviceId) (t : ℕ) (front rest : List Happening) (h x : Happening) (cycle : ℕ) (by adjustment : Units) → IsView v
+    → last_setting (earlier t v.records) device ≡ Some h → time_of h < t → is_joined_by device h.note.body ≡ true → v.records ≡ front ++ h ∷ rest
+    → IsIn x v.records → time_of x ≡ time_of h → x.note.body ≡ notes.Corrected device cycle by adjustment → ⊥
+no_correction_then v device t front rest h x cycle by adjustment is e early joined whole i same body =
+    let self : changes_adjustment device (notes.Corrected device cycle by adjustment) ≡ true = eq-eqb device.0 device.0 refl in
+    let changes : changes_adjustment device x.note.body ≡ true = ap (changes_adjustment device) body ∙ self in
+    elim (in_parts x front (h ∷ rest) (subst (IsIn x) whole i)) [
+      | inl before ↦
+          let order = (is.run.founded front rest h whole).0 x before in
+          let six : rank x.note.body ≡ 6 = ap rank body in
+          lower_rank (time_of x) (time_of h) (rank x.note.body) (rank h.note.body) (key (members_in x) x.note.body) (key (members_in h) h.note.body) same
+          (omega (arith, six, joining_rank device h.note.body joined)) order
+      | inr (inl one) ↦ (let wrong : is_joined_by device h.note.body ≡ false = ap (λ (g : Happening). is_joined_by device g.note.body) (sym one)
+          ∙ ap (is_joined_by device) body in both_ways (is_joined_by device h.note.body) wrong joined)
+      | inr (inr later) ↦ none_behind v device t front rest h x is e whole later (omega (arith, same, early)) changes
+    ]
+
+-- a device that a joining set last is not synchronised
+pub joiner_waits : (v : View) (device : DeviceId) (t : ℕ) (h : Happening) → IsView v → last_setting (earlier t v.records) device ≡ Some h
+    → is_joined_by device h.note.body ≡ true → is_synchronised (state_left v device t) ≡ false
+joiner_waits v device t h is e joined =
+    false_from_ne_true (is_synchronised (state_left v device t)) (λ at. contradiction at)
+  where
+    contradiction : is_synchronised (state_left v device t) ≡ true → ⊥
+    contradiction at =
+        let setting = setting_is v device t h e in
+        let w = time_of h in
+        let time : epoch_time (earlier t v.records) device ≡ pos w = ap (λ (o : Option Happening). option_map_or (λ g. pos (time_of g)) o (negsuc 0)) e in
+        let still = state_stays is_synchronised refl v device (w + 1) t is (omega (arith, setting.early)) (omega (arith, ints, time)) at in
+        let found = founded_at v.scenario v.records h is.run.founded setting.there in
+        let test = λ (g : Happening). nat_lt (time_of g) (w + 1) in
+        let here : test h ≡ true = lt-ltb w (w + 1) (omega arith) in
+        let parts : earlier (w + 1) v.records ≡ earlier (w + 1) found.front ++ h ∷ earlier (w + 1) found.rest =
+        ap (earlier (w + 1)) found.whole ∙ filter-append test found.front (h ∷ found.rest)
+        ∙ ap (λ (b : Bool). earlier (w + 1) found.front ++ (if b then h ∷ earlier (w + 1) found.rest else earlier (w + 1) found.rest)) here in
+        let step = λ (state : State) (g : Happening). state_with device state g.note.body in
+        let whole = subst (λ (hs : List Happening). is_synchronised (state_after v.scenario hs device) ≡ true) parts still in
+        let apart = fold-append step (state_at_start (start_of v.scenario.network device)) (earlier (w + 1) found.front) (h ∷ earlier (w + 1) found.rest) in
+        let behind : is_synchronised (fold step (step (state_after v.scenario (earlier (w + 1) found.front) device) h) (earlier (w + 1) found.rest)) ≡ true =
+        subst (λ (x : State). is_synchronised x ≡ true) apart whole in
+        let now = kept_by_all is_synchronised device (earlier (w + 1) found.rest) (λ g i. each g i)
+        (step (state_after v.scenario (earlier (w + 1) found.front) device) h) behind in
+        let joining = joins_state device (state_after v.scenario (earlier (w + 1) found.front) device) h.note.body joined in
+        both_ways (is_synchronised (step (state_after v.scenario (earlier (w + 1) found.front) device) h)) (ap is_synchronised joining) now
+      where
+        each : (g : Happening) → IsIn g (earlier (time_of h + 1) (founded_at v.scenario v.records h is.run.founded (setting_is v device t h e).there).rest)
+            → Keeps is_synchronised device g.note.body
+        each g i =
+            let setting = setting_is v device t h e in
+            let at_h = founded_at v.scenario v.records h is.run.founded setting.there in
+            let back = in_earlier (time_of h + 1) at_h.rest g i in
+            let in_all : IsIn g v.records = subst (IsIn g) (sym at_h.whole) (in_right g at_h.front (h ∷ at_h.rest) (inr back.0)) in
+            let at_g = founded_at v.scenario v.records g is.run.founded in_all in
+            let order = sorted_parts at_h.front at_h.rest h (subst AreSorted at_h.whole (in_order v is)) in
+            let same : time_of g ≡ time_of h = (let up = order.1 g back.0 in omega (arith, up, back.1)) in
+            keeps_unsynchronised v.scenario at_g.front g.note.time device g.note.body (λ x cycle by adjustment j at body.
+            no_correction_then v device t at_h.front at_h.rest h x cycle by adjustment is e setting.early joined at_h.whole
+            (subst (IsIn x) (sym at_g.whole) (in_left x at_g.front (g ∷ at_g.rest) j)) (omega (arith, at, same)) body) at_g.due.cause

@@ -1,0 +1,248 @@
+-- The next correction point of a device whose clock was set before a block.
+use Rattle.std.proofs.Common.{◌≡◌, ℕ, zero, suc, ◌+◌, ◌-◌, ◌<◌, ◌≤◌, ℤ, pos, negsuc, ◌+ℤ◌, ◌<ℤ◌, Bool, true, false, List, [], ◌∷◌, filter, Option, Some, None, inl, inr, refl, sym, ap, subst, ◌∙◌, arith}
+use Rattle.std.proofs.lemmas.Bool.{and_from, and_parts, both_ways, eq-eqb, eqb-true, cases_lt}
+use Rattle.std.proofs.lemmas.Int.{ints}
+use Rattle.std.specs.List.{last_or}
+use Rattle.std.specs.Option.{option_map_or}
+use Rattle.std.specs.Prelude.{◌==◌, if◌then◌else◌, int_le, int_lt}
+use Rattle.compression.proofs.Held.{int_le-true}
+use Rattle.net_plan.specs.declared.ids.DeviceId.{DeviceId}
+use Rattle.precision_law.proofs.block.Hulls.{int_le-is}
+use Rattle.precision_law.proofs.clocks.Epochs.{adjustment_stays, fold_last, joined_changes, next_cycle_is_of_last, settings_stay, time_stays, none_between}
+use Rattle.precision_law.proofs.records.Points.{setting_is}
+use Rattle.precision_law.proofs.records.Times.{in_earlier, in_kept, last_some, passes, between, is_between}
+use Rattle.precision_law.proofs.records.Views.{steady}
+use Rattle.precision_law.specs.Blocks.{HasTimeAt, IsOldAt, Stands, state_left}
+use Rattle.precision_law.specs.EpochLaws.{next_of}
+use Rattle.precision_law.specs.Epochs.{cycle_set, epoch_time, has_time, is_corrected, is_correction, last_setting}
+use Rattle.precision_law.specs.Views.{IsView, View}
+use Rattle.run_law.proofs.law.FirstPlaces.{in_filter}
+use Rattle.run_law.specs.control.Corrections.{correction_value, has_cleared, integration_cycle, is_integration_cycle, next_cycle, recorded_cycle}
+use Rattle.run_law.specs.declared.note.NoteBody.TheVariants as notes
+use Rattle.run_law.specs.declared.note.NoteBody.{NoteBody}
+use Rattle.run_law.specs.device.LocalClocks.{changed_at, changes_adjustment, had_come, local_at_change}
+use Rattle.run_law.specs.device.States.{adjustment_before, cycle_in, is_joined_by}
+use Rattle.run_law.specs.records.Happenings.{Happening, earlier, time_of}
+use Rattle.run_law.specs.records.Order.{IsIn}
+use Rattle.tte_units.specs.declared.units.Units.{Units}
+
+-- ---- the last joining
+
+-- where the last of one kind is also of a narrower one, it is the last of this
+last_of_both : {X : Type 0} (p q : X → Bool) (o r : Option X) (xs : List X) (h : X) → ((x : X) → p x ≡ true → q x ≡ true) → p h ≡ true
+    → (o ≡ Some h → r ≡ Some h) → last_or o (filter q xs) ≡ Some h → last_or r (filter p xs) ≡ Some h
+last_of_both p q o r [] h up at both e = both e
+last_of_both {X} p q o r (x ∷ xs) h up at both e =
+    kept_or_not p q o r x xs h up at both (last_of_both p q (Some x) (Some x) xs h up at (λ s. s)) (λ miss. last_of_both p q (Some x) r xs h up at miss)
+    (last_of_both p q o r xs h up at both) (p x) (q x) refl refl e
+  where
+    kept_or_not : {X : Type 0} (p q : X → Bool) (o r : Option X) (x : X) (xs : List X) (h : X) → ((x : X) → p x ≡ true → q x ≡ true) → p h ≡ true
+        → (o ≡ Some h → r ≡ Some h)
+        → (last_or (Some x) (filter q xs) ≡ Some h → last_or (Some x) (filter p xs) ≡ Some h)
+        → ((Some x ≡ Some h → r ≡ Some h) → last_or (Some x) (filter q xs) ≡ Some h → last_or r (filter p xs) ≡ Some h)
+        → (last_or o (filter q xs) ≡ Some h → last_or r (filter p xs) ≡ Some h)
+        → (a b : Bool) → p x ≡ a → q x ≡ b → last_or o (if b then x ∷ filter q xs else filter q xs) ≡ Some h
+        → last_or r (if a then x ∷ filter p xs else filter p xs) ≡ Some h
+    kept_or_not p q o r x xs h up at both taken missed dropped true true pa qb e = taken e
+    kept_or_not p q o r x xs h up at both taken missed dropped true false pa qb e = absurd (both_ways (q x) qb (up x pa))
+    kept_or_not {X} p q o r x xs h up at both taken missed dropped false true pa qb e =
+        missed (λ s. (let same : h ≡ x = cc in let wrong : p h ≡ false = ap p same ∙ pa in absurd (both_ways (p h) wrong at))) e
+    kept_or_not p q o r x xs h up at both taken missed dropped false false pa qb e = dropped e
+
+-- the cycle of the last joining
+joining_is_last : (hs : List Happening) (device : DeviceId) → integration_cycle hs device ≡ option_map_or (λ h. Some (cycle_in h))
+    (last_or None (filter (λ h. is_joined_by device h.note.body) hs)) None
+joining_is_last hs device =
+    fold_last (λ (last : Option ℕ) (h : Happening). if is_joined_by device h.note.body then Some (cycle_in h) else last) (λ (h : Happening). Some (cycle_in h))
+    (λ (h : Happening). is_joined_by device h.note.body) None None hs
+    (λ last h e. rw e refl) (λ last h e. rw e refl)
+
+-- a joining of the device, of this cycle
+pub record IsJoining (hs : List Happening) (device : DeviceId) (cycle : ℕ) : Type 0 where
+  pub h : Happening
+  pub there : IsIn h hs
+  pub joins : is_joined_by device h.note.body ≡ true
+  pub of_cycle : cycle_in h ≡ cycle
+
+joining_by : (hs : List Happening) (device : DeviceId) (cycle : ℕ) (xs : List Happening) → xs ≡ filter (λ h. is_joined_by device h.note.body) hs
+    → option_map_or (λ h. Some (cycle_in h)) (last_or None xs) None ≡ Some cycle → IsJoining hs device cycle
+joining_by hs device cycle [] same e = absurd cc
+joining_by hs device cycle (x ∷ xs) same e =
+    let joins = λ (h : Happening). is_joined_by device h.note.body in
+    let last = last_some None x xs in
+    let shown : Some (cycle_in last.0) ≡ Some cycle = ap (λ (o : Option Happening). option_map_or (λ h. Some (cycle_in h)) o None) (sym last.1) ∙ e in
+    let i : IsIn last.0 (filter joins hs) = subst (IsIn last.0) same last.2 in
+    record { h = last.0; there = in_filter joins hs last.0 i; joins = passes joins hs last.0 i; of_cycle = cc }
+
+pub joining_from : (hs : List Happening) (device : DeviceId) (cycle : ℕ) → integration_cycle hs device ≡ Some cycle → IsJoining hs device cycle
+joining_from hs device cycle e = joining_by hs device cycle (filter (λ h. is_joined_by device h.note.body) hs) refl (sym (joining_is_last hs device) ∙ e)
+
+-- ---- integration cycles
+
+-- what is tested to be the integration cycle
+integration_by : (recorded : ℕ) (o : Option ℕ) → option_map_or (λ cycle. recorded == cycle) o false ≡ true → o ≡ Some recorded
+integration_by recorded None e = absurd cc
+integration_by recorded (Some c) e = ap (λ (x : ℕ). Some x) (sym (eqb-true recorded c e))
+
+pub integration_is : (hs : List Happening) (device : DeviceId) → is_integration_cycle hs device ≡ true → IsJoining hs device (recorded_cycle hs device)
+integration_is hs device e = joining_from hs device (recorded_cycle hs device) (integration_by (recorded_cycle hs device) (integration_cycle hs device) e)
+
+-- what is read off a setting by a joining
+correction_not_joining : (device : DeviceId) (body : NoteBody) → is_correction body ≡ true → is_joined_by device body ≡ false
+correction_not_joining device (notes.Corrected d cycle by adjustment) e = refl
+correction_not_joining device body e = absurd cc
+
+pub joining_of_setting : (device : DeviceId) (body : NoteBody) → changes_adjustment device body ≡ true → is_correction body ≡ false
+    → is_joined_by device body ≡ true
+joining_of_setting device (notes.Corrected d cycle by adjustment) e other = absurd cc
+joining_of_setting device body e other = e
+
+pub set_by_joining : (h : Happening) (body : NoteBody) → is_correction body ≡ false → cycle_set h body ≡ cycle_in h
+set_by_joining h (notes.Corrected d cycle by adjustment) e = absurd cc
+set_by_joining h body e = refl
+
+-- a device that a joining set last is at its integration cycle
+pub joiner_integrates : (hs : List Happening) (device : DeviceId) (h : Happening) → last_setting hs device ≡ Some h
+    → changes_adjustment device h.note.body ≡ true → is_correction h.note.body ≡ false → (is_integration_cycle hs device ≡ true)
+    × (recorded_cycle hs device ≡ cycle_in h) × (integration_cycle hs device ≡ Some (cycle_in h))
+joiner_integrates hs device h e changes other =
+    let joins = λ (g : Happening). is_joined_by device g.note.body in
+    let joined = joining_of_setting device h.note.body changes other in
+    let last = last_of_both joins (λ (g : Happening). changes_adjustment device g.note.body) None None hs h (λ g j. joined_changes device g.note.body j) joined
+    (λ s. s) e in
+    let at : integration_cycle hs device ≡ Some (cycle_in h) = joining_is_last hs device
+    ∙ ap (λ (o : Option Happening). option_map_or (λ g. Some (cycle_in g)) o None) last in
+    let recorded : recorded_cycle hs device ≡ cycle_in h =
+    next_cycle_is_of_last hs device ∙ ap next_of e
+    ∙ ap (λ (b : Bool). if b then cycle_set h h.note.body + 1 else cycle_set h h.note.body) other ∙ set_by_joining h h.note.body other in (
+      ap (λ (o : Option ℕ). option_map_or (λ cycle. recorded_cycle hs device == cycle) o false) at ∙ eq-eqb (recorded_cycle hs device) (cycle_in h) recorded,
+      recorded,
+      at,
+    )
+
+-- ---- an old device
+
+pub int_lt-is : (a b : ℤ) → int_lt a b ≡ true → a <ℤ b
+int_lt-is a b e = grind (arith, ints)
+
+pub int_lt-from : (a b : ℤ) → a <ℤ b → int_lt a b ≡ true
+int_lt-from a b h = grind (arith, ints)
+
+-- what has cleared stays so
+pub cleared_stays : (v : View) (device : DeviceId) (u t : ℕ) → IsView v → u ≤ t → epoch_time (earlier t v.records) device <ℤ pos u
+    → is_integration_cycle (earlier t v.records) device ≡ true → has_cleared v.scenario v.records device u u ≡ true
+    → has_cleared v.scenario v.records device t t ≡ true
+cleared_stays v device u t is le old at cleared =
+    let s = v.scenario in
+    let reading = s.reading device in
+    let last = settings_stay v device u t is le old in
+    let a = adjustment_stays v device u t is le old in
+    let recorded : recorded_cycle (earlier u v.records) device ≡ recorded_cycle (earlier t v.records) device = next_cycle_is_of_last (earlier u v.records)
+    device ∙ ap next_of last ∙ sym (next_cycle_is_of_last (earlier t v.records) device) in
+    let time : changed_at v.records device u ≡ changed_at v.records device t = ap (λ (o : Option Happening). option_map_or time_of o 0) last in
+    let value_u = correction_value s.network (recorded_cycle (earlier u v.records) device) in
+    let value_t = correction_value s.network (recorded_cycle (earlier t v.records) device) in
+    let value : value_u ≡ value_t = ap (correction_value s.network) recorded in
+    let come = (and_parts (is_integration_cycle (earlier u v.records) device) (had_come s v.records device value_u u u) cleared).1 in
+    let both = and_parts (int_lt (local_at_change s v.records device u) value_u)
+    (int_le value_u (pos (reading (u - 1)) +ℤ (adjustment_before s v.records device u).0)) come in
+    let below = int_lt-is (local_at_change s v.records device u) value_u both.0 in
+    let above = int_le-is value_u (pos (reading (u - 1)) +ℤ (adjustment_before s v.records device u).0) both.1 in
+    let same_a : (adjustment_before s v.records device u).0 ≡ (adjustment_before s v.records device t).0 = ap (λ (x : Units). x.0) a in
+    let same_r : reading (changed_at v.records device u) ≡ reading (changed_at v.records device t) = ap reading time in
+    let up = (steady v is device).never_falls (u - 1) (t - 1) (omega (arith, le)) in
+    and_from (is_integration_cycle (earlier t v.records) device) (had_come s v.records device value_t t t) at
+    (and_from (int_lt (local_at_change s v.records device t) value_t) (int_le value_t (pos (reading (t - 1)) +ℤ (adjustment_before s v.records device t).0))
+    (int_lt-from (local_at_change s v.records device t) value_t (omega (arith, ints, below, same_a, same_r, value)))
+    (int_le-true value_t (pos (reading (t - 1)) +ℤ (adjustment_before s v.records device t).0) (omega (arith, ints, above, same_a, value, up))))
+
+-- a joiner has cleared
+joiner_cleared : (v : View) (n t : ℕ) (device : DeviceId) (before : Stands v n) → IsView v → before.next ≤ t → HasTimeAt v device before.next
+    → IsOldAt v before.next device t → (h : Happening) → last_setting (earlier t v.records) device ≡ Some h
+    → is_integration_cycle (earlier t v.records) device ≡ true → is_correction h.note.body ≡ false → has_cleared v.scenario v.records device t t ≡ true
+joiner_cleared v zero t device before is from has old h e at joined =
+    let zero_next : before.next ≡ 0 = before.is_over in
+    let time : epoch_time (earlier t v.records) device ≡ pos (time_of h) = ap (λ (o : Option Happening). option_map_or (λ g. pos (time_of g)) o (negsuc 0)) e in
+    absurd (omega (arith, ints, zero_next, time, old))
+joiner_cleared v (suc c) t device before is from has old h e at joined =
+    let one = before.narrow c (omega arith) in
+    let last = settings_stay v device before.next t is from old in
+    let had = before.points one.0 c refl one.1 device has in
+    let not_corrected : is_corrected (earlier before.next v.records) device ≡ false =
+    ap (λ (o : Option Happening). option_map_or (λ g. is_correction g.note.body) o false) (last ∙ e) ∙ joined in
+    elim had.how [
+      | inl corrected ↦ absurd (both_ways (is_corrected (earlier before.next v.records) device) not_corrected corrected.0)
+      | inr cleared ↦ cleared_stays v device before.next t is from old at cleared.1
+    ]
+
+-- its number, by what set its clock last
+number_by : (v : View) (n t : ℕ) (device : DeviceId) (before : Stands v n) → IsView v → before.next ≤ t → HasTimeAt v device t → IsOldAt v before.next device t
+    → (o : Option Happening) → last_setting (earlier t v.records) device ≡ o → (cleared : Bool) → has_cleared v.scenario v.records device t t ≡ cleared
+    → (if cleared then recorded_cycle (earlier t v.records) device + 1 else recorded_cycle (earlier t v.records) device) ≡ suc n
+number_by v n t device before is from has old o e cleared c =
+    let next = before.next in
+    let timed = time_stays v device next t is from old has.timed in
+    let set = before.clocks device (record { good = has.good; timed = timed }) in
+    let last = settings_stay v device next t is from old in
+    let index : option_map_or (λ h. cycle_set h h.note.body) o 0 ≡ n = ap (λ (x : Option Happening). option_map_or (λ h. cycle_set h h.note.body) x 0) (sym e)
+    ∙ ap (λ (x : Option Happening). option_map_or (λ h. cycle_set h h.note.body) x 0) (sym last) ∙ set.index in
+    let recorded : recorded_cycle (earlier t v.records) device ≡ next_of o = next_cycle_is_of_last (earlier t v.records) device ∙ ap next_of e in
+    by o e cleared c index recorded timed
+  where
+    -- where a device has cleared, it joined in an earlier cycle
+    earlier_join : is_integration_cycle (earlier t v.records) device ≡ true → recorded_cycle (earlier t v.records) device ≤ n
+    earlier_join at =
+        let j = integration_is (earlier t v.records) device at in
+        let back = in_earlier t v.records j.h j.there in
+        let changes = joined_changes device j.h.note.body j.joins in
+        let sets = λ (h : Happening). changes_adjustment device h.note.body in
+        let none = none_between v device before.next t is from old in
+        let early : time_of j.h < before.next =
+        elim (cases_lt (time_of j.h) before.next) [
+          | inl lt ↦ lt
+          | inr ge ↦ (let i : IsIn j.h [] = subst (IsIn j.h) none
+              (in_kept sets (between before.next t v.records) j.h (is_between before.next t v.records j.h back.0 ge back.1) changes) in absurd i)
+        ] in
+        let low = before.joined j.h device back.0 j.joins has.good early in
+        omega (arith, low, j.of_cycle)
+
+    by : (o : Option Happening) → last_setting (earlier t v.records) device ≡ o → (cleared : Bool) → has_cleared v.scenario v.records device t t ≡ cleared
+        → option_map_or (λ h. cycle_set h h.note.body) o 0 ≡ n → recorded_cycle (earlier t v.records) device ≡ next_of o
+        → has_time (state_left v device before.next) ≡ true
+        → (if cleared then recorded_cycle (earlier t v.records) device + 1 else recorded_cycle (earlier t v.records) device) ≡ suc n
+    by None e true c index recorded timed =
+        let at = (and_parts (is_integration_cycle (earlier t v.records) device) _ c).0 in
+        let low = earlier_join at in
+        absurd (omega (arith, index, recorded, low))
+    by None e false c index recorded timed = omega (arith, index, recorded)
+    by (Some h) e cleared c index recorded timed = some_by h e cleared c index recorded timed (is_correction h.note.body) refl
+      where
+        some_by : (h : Happening) → last_setting (earlier t v.records) device ≡ Some h → (cleared : Bool)
+            → has_cleared v.scenario v.records device t t ≡ cleared → cycle_set h h.note.body ≡ n → recorded_cycle (earlier t v.records) device ≡ next_of
+            (Some h) → has_time (state_left v device before.next) ≡ true → (b : Bool) → is_correction h.note.body ≡ b
+            → (if cleared then recorded_cycle (earlier t v.records) device + 1 else recorded_cycle (earlier t v.records) device) ≡ suc n
+        some_by h e true c index recorded timed true corrected =
+            let at = (and_parts (is_integration_cycle (earlier t v.records) device) _ c).0 in
+            let low = earlier_join at in
+            let shown : recorded_cycle (earlier t v.records) device ≡ cycle_set h h.note.body + 1 = recorded
+            ∙ ap (λ (b : Bool). if b then cycle_set h h.note.body + 1 else cycle_set h h.note.body) corrected in
+            absurd (omega (arith, index, shown, low))
+        some_by h e false c index recorded timed true corrected =
+            let shown : recorded_cycle (earlier t v.records) device ≡ cycle_set h h.note.body + 1 = recorded
+            ∙ ap (λ (b : Bool). if b then cycle_set h h.note.body + 1 else cycle_set h h.note.body) corrected in
+            omega (arith, index, shown)
+        some_by h e true c index recorded timed false joined =
+            let shown : recorded_cycle (earlier t v.records) device ≡ cycle_set h h.note.body = recorded
+            ∙ ap (λ (b : Bool). if b then cycle_set h h.note.body + 1 else cycle_set h h.note.body) joined in
+            omega (arith, index, shown)
+        some_by h e false c index recorded timed false joined =
+            let setting = setting_is v device t h e in
+            let integrates = joiner_integrates (earlier t v.records) device h e setting.sets joined in
+            let cleared = joiner_cleared v n t device before is from (record { good = has.good; timed = timed }) old h e integrates.0 joined in
+            absurd (both_ways (has_cleared v.scenario v.records device t t) c cleared)
+
+-- the number of an old device is that of the block's cycle
+pub old_number : (v : View) (n t : ℕ) (device : DeviceId) (before : Stands v n) → IsView v → before.next ≤ t → HasTimeAt v device t
+    → IsOldAt v before.next device t → next_cycle v.scenario v.records device t ≡ suc n
+old_number v n t device before is from has old =
+    number_by v n t device before is from has old (last_setting (earlier t v.records) device) refl (has_cleared v.scenario v.records device t t) refl

@@ -1,0 +1,138 @@
+-- How the clocks of a lawful scenario read.
+use Rattle.std.proofs.Common.{◌≡◌, ℕ, zero, suc, ◌+◌, ◌-◌, ◌*◌, ◌/◌, ◌^◌, ◌<◌, ◌≤◌, ℤ, pos, ◌≤ℤ◌, ◌<ℤ◌, inl, inr, refl, arith}
+use Rattle.std.proofs.Math.Nat.{mul-le-mul_left}
+use Rattle.std.proofs.lemmas.Bool.{cases_lt}
+use Rattle.std.proofs.lemmas.Int.{by_lt_z, ints}
+use Rattle.drift_clock.specs.Reach.{IsReach}
+use Rattle.precision_law.specs.Readings.{ClocksAreSteady, IsSteady, PermanenceIsSharp, ReachIsSharp, ReachIsThere, RipeInOrder, ShortByReading}
+use Rattle.precision_law.specs.Sizes.{Sizes}
+use Rattle.tte_units.specs.Amount.{amount}
+
+-- ---- what the clock laws give
+
+-- the numbers alone: over at most two cycles a reading goes on by the time, but for the drift
+drifts : (rho grain cycle d a b real : ℕ) → real ≤ 2 * cycle → d ≡ 2 * rho * cycle / 10 ^ 9 + 2 * grain → a ≤ b
+    → 10 ^ 9 * (b - a) ≤ 10 ^ 9 * real + rho * real + 2 * grain * 10 ^ 9 → 10 ^ 9 * real ≤ 10 ^ 9 * (b - a) + rho * real + 2 * grain * 10 ^ 9
+    → (b ≤ a + real + d) × (a + real ≤ b + d)
+drifts rho grain cycle d a b real within is up most least =
+    let drift : rho * real ≤ rho * (2 * cycle) = mul-le-mul_left rho within in
+    let floor : 2 * rho * cycle < 10 ^ 9 * (2 * rho * cycle / 10 ^ 9 + 1) = omega arith in
+    let same : rho * (2 * cycle) ≡ 2 * rho * cycle = omega arith in
+    (omega arith, omega arith)
+
+pub clocks_are_steady : ClocksAreSteady
+clocks_are_steady s path device lawful =
+    let n = s.network in
+    let laws = lawful.clocks device in
+    let reading = s.reading device in
+    let both : (a b : ℕ) → a ≤ b → b ≤ a + 2 * amount n.cycle → _ = λ a b le within.
+    drifts n.rho (amount n.grain) (amount n.cycle) (2 * n.rho * amount n.cycle / 10 ^ 9 + 2 * amount n.grain) (reading a) (reading b) (b - a) (omega arith) refl
+    (laws.never_falls a b le) (omega (arith, laws.drifts a b le)) (omega (arith, laws.drifts a b le)) in
+    record {
+      begins = lawful.begins device;
+      never_falls = laws.never_falls;
+      fast = λ a b le within. let r = both a b le within in omega (arith, r.0);
+      slow = λ a b le within. let r = both a b le within in omega (arith, r.1);
+      steps = λ t.
+          let up = laws.never_falls t (t + 1) (omega arith) in
+          let one = laws.drifts t (t + 1) (omega arith) in
+          let unit : (t + 1) - t ≡ 1 = omega arith in
+          let here = rw unit at one in
+          let slow = lawful.range.rho in
+          omega (arith, up, here, slow);
+    }
+
+-- ---- long stretches
+
+pub short_by_reading : ShortByReading
+short_by_reading n reading s t steady le less =
+    elim (cases_lt t (s + 2 * n.cycle)) [
+      | inl lt ↦ lt
+      | inr ge ↦
+          let up = steady.never_falls (s + 2 * n.cycle) t ge in
+          let slow = steady.slow s (s + 2 * n.cycle) (omega arith) (omega arith) in
+          absurd (omega (arith, up, slow, less))
+    ]
+
+-- ---- reaching a value
+
+-- one unit before, a reading is little less
+step_back : (n : Sizes) (reading : ℕ → ℕ) (t : ℕ) → IsSteady n reading → 0 < t → reading t ≤ reading (t - 1) + 2 * n.grain + 1
+step_back n reading zero steady after = absurd (omega arith)
+step_back n reading (suc t) steady after =
+    let same : suc t - 1 ≡ t = omega arith in
+    let next : t + 1 ≡ suc t = omega arith in
+    let step = steady.steps t in
+    let moved = rw next at step in
+    rw same moved
+
+pub reach_is_sharp : ReachIsSharp
+reach_is_sharp n reading from v t steady below reach =
+    let after : from < t = elim (cases_lt from t) [
+      | inl lt ↦ lt
+      | inr ge ↦
+          let same : t ≡ from = omega (arith, ints, reach.from_on, ge) in
+          let here : v ≤ℤ pos (reading t) = reach.reached in
+          let there = rw same at here in
+          absurd (omega (arith, ints, there, below))
+    ] in
+    let before = reach.not_before (t - 1) (omega (arith, ints, after)) (omega (arith, ints, after)) in
+    let back = step_back n reading t steady (omega (arith, after)) in
+    record { after = after; before = before; least = reach.reached; most = omega (arith, ints, before, back) }
+
+-- among the units behind x there is a first at which the value is read
+first_of_all : (n : Sizes) (reading : ℕ → ℕ) (from x : ℕ) (v : ℤ) (more : ℕ) → IsSteady n reading → from ≤ x → pos (reading x) <ℤ v
+    → v ≤ℤ pos (reading (x + more)) → (u : ℕ) × (x < u) × (u ≤ x + more) × IsReach reading (pos from) v (pos u)
+first_of_all n reading from x v zero steady le below above =
+    let same : x + zero ≡ x = omega arith in
+    let here = rw same at above in
+    absurd (omega (arith, ints, here, below))
+first_of_all n reading from x v (suc more) steady le below above =
+    by_lt_z {P = (u : ℕ) × (x < u) × (u ≤ x + suc more) × IsReach reading (pos from) v (pos u)} (pos (reading (x + more))) v
+    (λ less. (
+      x + suc more,
+      omega arith,
+      omega arith,
+      record {
+        from_on = omega (arith, ints);
+        reached = above;
+        not_before = λ y from_y y_before.
+            let up = steady.never_falls y (x + more) (omega (arith, ints, y_before)) in
+            omega (arith, ints, up, less);
+      },
+    ))
+    (λ enough. let r = first_of_all n reading from x v more steady le below enough in (r.0, r.1, omega (arith, r.2), r.3))
+
+pub reach_is_there : ReachIsThere
+reach_is_there n reading from x v t steady le lt below above =
+    let same : x + (t - x) ≡ t = omega arith in
+    let there : v ≤ℤ pos (reading (x + (t - x))) = rw same above in
+    let r = first_of_all n reading from x v (t - x) steady le below there in
+    (r.0, r.1, omega (arith, r.2), r.3)
+
+-- ---- permanence
+
+pub permanence_is_sharp : PermanenceIsSharp
+permanence_is_sharp n reading arrived point q steady up reach =
+    elim (cases_lt arrived q) [
+      | inl lt ↦
+          let before = reach.not_before (q - 1) (omega (arith, ints, lt)) (omega (arith, ints, lt)) in
+          let back = step_back n reading q steady (omega (arith, lt)) in
+          record { after = omega arith; least = reach.reached; most = omega (arith, ints, before, back); before = inl before }
+      | inr ge ↦
+          let same : q ≡ arrived = omega (arith, ints, reach.from_on, ge) in
+          let here : pos (reading q) ≤ℤ point = rw same up in
+          let there : point ≤ℤ pos (reading q) = reach.reached in
+          record { after = omega (arith, same); least = there; most = omega (arith, ints, here); before = inr (omega (arith, ints, here, there)) }
+    ]
+
+pub ripe_in_order : RipeInOrder
+ripe_in_order n reading a b p r q u steady one other lt =
+    elim other.before [
+      | inl before ↦
+          let up = steady.never_falls q (u - 1) (omega arith) in
+          omega (arith, ints, up, before, one.least)
+      | inr at ↦
+          let up = steady.never_falls q u (omega arith) in
+          omega (arith, ints, up, at, one.least)
+    ]

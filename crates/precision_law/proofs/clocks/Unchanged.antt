@@ -1,0 +1,84 @@
+-- How a device hears that has had a common time since before the block.
+use Rattle.std.proofs.Common.{◌≡◌, ℕ, ◌<◌, ◌≤◌, pos, ◌<ℤ◌, Bool, true, false, List, [], filter, eqb-true, inl, inr, refl, ap, subst, ◌∙◌, arith}
+use Rattle.std.proofs.lemmas.Bool.{and_parts, both_ways, cases_lt, false_from_ne_true, lt-ltb}
+use Rattle.std.proofs.lemmas.Int.{ints}
+use Rattle.std.specs.Prelude.{◌==◌, ◌&&◌, ◌||◌, if◌then◌else◌, nat_lt}
+use Rattle.net_plan.specs.declared.ids.DeviceId.{DeviceId}
+use Rattle.precision_law.proofs.clocks.Epochs.{adjustment_stays, joined_changes, none_between, time_stays}
+use Rattle.precision_law.proofs.faults.Masters.{any_in}
+use Rattle.precision_law.proofs.faults.Turned.{not_turned_on_then}
+use Rattle.precision_law.proofs.records.Times.{between, in_kept, is_between, same_kept}
+use Rattle.precision_law.specs.Blocks.{adjustment_left, state_left}
+use Rattle.precision_law.specs.Epochs.{epoch_time, has_time}
+use Rattle.precision_law.specs.Views.{IsView, View}
+use Rattle.run_law.specs.device.LocalClocks.{changes_adjustment}
+use Rattle.run_law.specs.device.States.{adjustment_after, adjustment_at_hearing, has_joined_at, is_joined_by, state_after, state_at_hearing, state_before}
+use Rattle.run_law.specs.records.Happenings.{Happening, earlier, time_of}
+use Rattle.run_law.specs.records.Order.{IsIn}
+use Rattle.sync_state.specs.declared.state.State.TheVariants.{Integrating, Joining}
+use Rattle.tte_units.specs.declared.units.Units.{Units}
+
+-- records of the view up to a time, among them all of earlier times
+pub record AreUpTo (v : View) (q : ℕ) (hs : List Happening) : Type 0 where
+  pub all : earlier q hs ≡ earlier q v.records
+  pub there : (h : Happening) → IsIn h hs → IsIn h v.records
+  pub to : (h : Happening) → IsIn h hs → time_of h ≤ q
+
+-- so a device stands when it hears a frame at q
+pub record HearsAsAt (v : View) (t q : ℕ) (device : DeviceId) (hs : List Happening) : Type 0 where
+  pub state : has_time (state_at_hearing v.scenario hs device q) ≡ true
+  pub adjustment : (adjustment_at_hearing v.scenario hs device q).0 ≡ adjustment_left v device t
+
+-- a record between sets no clock that was set before
+pub sets_none : (v : View) (device : DeviceId) (from t : ℕ) → IsView v → from ≤ t → epoch_time (earlier t v.records) device <ℤ pos from → (h : Happening)
+    → IsIn h v.records → from ≤ time_of h → time_of h < t → changes_adjustment device h.note.body ≡ false
+sets_none v device from t is le old h i late early =
+    false_from_ne_true (changes_adjustment device h.note.body) (λ sets.
+    let none = none_between v device from t is le old in
+    let kept = in_kept (λ (x : Happening). changes_adjustment device x.note.body) (between from t v.records) h (is_between from t v.records h i late early) sets
+    in
+    let wrong : IsIn h [] = subst (IsIn h) none kept in
+    absurd wrong)
+
+-- so none tells it the time
+pub joins_none : (v : View) (device : DeviceId) (from t : ℕ) → IsView v → from ≤ t → epoch_time (earlier t v.records) device <ℤ pos from → (h : Happening)
+    → IsIn h v.records → from ≤ time_of h → time_of h < t → is_joined_by device h.note.body ≡ false
+joins_none v device from t is le old h i late early =
+    false_from_ne_true (is_joined_by device h.note.body)
+    (λ joins. both_ways (changes_adjustment device h.note.body) (sets_none v device from t is le old h i late early)
+    (joined_changes device h.note.body joins))
+
+or_quiet : (a b : Bool) → (a ≡ false → b ≡ false) → (a || b) ≡ a
+or_quiet true b quiet = refl
+or_quiet false b quiet = quiet refl
+
+-- a device whose clock was set before `from`, and that has a common time before t, hears with this clock between
+pub hears_as_at : (v : View) (device : DeviceId) (from q t : ℕ) (hs : List Happening) → IsView v → AreUpTo v q hs → from ≤ q → q < t
+    → epoch_time (earlier t v.records) device <ℤ pos from → has_time (state_left v device t) ≡ true → HearsAsAt v t q device hs
+hears_as_at v device from q t hs is up le lt old timed =
+    let s = v.scenario in
+    let old_q : epoch_time (earlier t v.records) device <ℤ pos q = omega (arith, ints, old, le) in
+    let timed_q = time_stays v device q t is (omega (arith, lt)) old_q timed in
+    let quiet : (h : Happening) → IsIn h hs → q ≤ time_of h → is_joined_by device h.note.body ≡ false = λ h i ge.
+    (let to = up.to h i in joins_none v device from t is (omega (arith, le, lt)) old h (up.there h i) (omega (arith, le, ge)) (omega (arith, lt, to))) in
+    let none : has_joined_at hs device q ≡ false = false_from_ne_true (has_joined_at hs device q) (λ joined.
+    let x = any_in (λ (h : Happening). time_of h == q && is_joined_by device h.note.body) hs joined in
+    let both = and_parts (time_of x.0 == q) (is_joined_by device x.0.note.body) x.2 in
+    let same = eqb-true (time_of x.0) q both.0 in
+    both_ways (is_joined_by device x.0.note.body) (quiet x.0 x.1 (omega (arith, same))) both.1) in
+    let kept : filter (λ h. nat_lt (time_of h) q || is_joined_by device h.note.body) hs ≡ earlier q hs =
+    same_kept (λ h. nat_lt (time_of h) q || is_joined_by device h.note.body) (λ h. nat_lt (time_of h) q) hs
+    (λ h i. or_quiet (nat_lt (time_of h) q) (is_joined_by device h.note.body) (λ not_early.
+    elim (cases_lt (time_of h) q) [
+      | inl early ↦ absurd (both_ways (nat_lt (time_of h) q) not_early (lt-ltb (time_of h) q early))
+      | inr ge ↦ quiet h i ge
+    ])) in
+    record {
+      state =
+          ap (λ (b : Bool). has_time (if b then Joining else state_before s hs device q)) none
+          ∙ ap (λ (b : Bool). has_time (if b then Integrating else state_after s (earlier q hs) device)) (not_turned_on_then v device q is timed_q)
+          ∙ ap (λ (es : List Happening). has_time (state_after s es device)) up.all ∙ timed_q;
+      adjustment =
+          ap (λ (es : List Happening). (adjustment_after s es device).0) (kept ∙ up.all)
+          ∙ ap (λ (a : Units). a.0) (adjustment_stays v device q t is (omega (arith, lt)) old_q);
+    }

@@ -1,0 +1,314 @@
+-- The base of a compressed frame lies in the hull of its cycle.
+use Rattle.std.proofs.Common.{◌≡◌, ◌⊎◌, ℕ, suc, ◌+◌, ◌-◌, ◌*◌, ◌<◌, ◌≤◌, ℤ, pos, negsuc, ◌+ℤ◌, ◌-ℤ◌, ◌≤ℤ◌, List, [], ◌∷◌, length, map, inl, inr, refl, sym, ap, subst, ◌∙◌, arith}
+use Rattle.std.proofs.lemmas.Bool.{cases_lt}
+use Rattle.std.proofs.lemmas.Int.{ints}
+use Rattle.std.specs.Int.{bit_at}
+use Rattle.std.specs.Prelude.{Some}
+use Rattle.compression.proofs.Elements.{Ordered}
+use Rattle.compression.proofs.MiddleLaws.{middle_among_others, middle_from_first_to_last}
+use Rattle.compression.specs.Ascent.{last_from}
+use Rattle.compression.specs.Clusters.{Point, members_of}
+use Rattle.compression.specs.Middle.{LiesWithin, middle_point}
+use Rattle.membership.specs.Members.{count_of}
+use Rattle.net_plan.specs.declared.ids.DeviceId.{DeviceId}
+use Rattle.pcf_values.specs.declared.members.Members.{Members}
+use Rattle.precision_law.proofs.clocks.Readings.{short_by_reading}
+use Rattle.precision_law.proofs.compression.Counted.{Apart, all_but_one, ascending_from}
+use Rattle.precision_law.proofs.compression.Emitted.{emissions_are_sharp}
+use Rattle.precision_law.proofs.compression.Made.{IsBadPoint, IsGoodPoint, IsMade, bad_is_one, good_member_point, made_of, member_of_point, not_both, point_is, three_have_good}
+use Rattle.precision_law.proofs.compression.Origins.{few_members}
+use Rattle.precision_law.proofs.faults.Broken.{one_member}
+use Rattle.precision_law.proofs.records.Views.{room, steady}
+use Rattle.precision_law.specs.Bases.{AreGood, IsBaseIn, IsEmission, base_of}
+use Rattle.precision_law.specs.CompressionLaws.{BasesAreInHulls, BasesAreNearHulls}
+use Rattle.precision_law.specs.Hulls.{Hull, IsTidyBefore, hull_of}
+use Rattle.precision_law.specs.Readings.{IsSteady}
+use Rattle.precision_law.specs.Sizes.{HaveRoom, Sizes}
+use Rattle.precision_law.specs.Views.{IsView, View}
+use Rattle.run_law.proofs.law.FirstPlaces.{founded_at}
+use Rattle.run_law.proofs.runs.SameSteps.{same_some}
+use Rattle.run_law.specs.records.Happenings.{Happening, time_of}
+use Rattle.run_law.specs.records.Order.{IsIn}
+use Rattle.tte_units.proofs.Means.{mean_of-floor}
+use Rattle.tte_units.specs.Mean.{mean_of}
+
+-- ---- numbers
+
+-- a reading that lies so far behind that of a time is read so much later
+later_by : (n : Sizes) (reading : ℕ → ℕ) (a s gap : ℕ) → IsSteady n reading → gap ≤ 2 * n.cycle → reading a + gap ≤ reading s → 1 ≤ gap → a + gap ≤ s + n.drift
+later_by n reading a s gap steady short le some =
+    elim (cases_lt a s) [
+      | inr ge ↦ (let up = steady.never_falls s a ge in absurd (omega (arith, up, le, some)))
+      | inl lt ↦ elim (cases_lt (a + 2 * n.cycle) s) [
+        | inl long ↦ omega (arith, long, short)
+        | inr within ↦ (let fast = steady.fast a s (omega (arith, lt)) within in omega (arith, fast, le))
+      ]
+    ]
+
+-- and one that lies at most so far behind is read at most so much later
+sooner_by : (n : Sizes) (reading : ℕ → ℕ) (b s gap : ℕ) → IsSteady n reading → gap + n.drift < 2 * n.cycle → reading s ≤ reading b + gap → s ≤ b + gap + n.drift
+sooner_by n reading b s gap steady short le =
+    elim (cases_lt b s) [
+      | inr ge ↦ omega (arith, ge)
+      | inl lt ↦
+          let near = short_by_reading n reading b s steady (omega (arith, lt)) (omega (arith, le, short)) in
+          let slow = steady.slow b s (omega (arith, lt)) (omega (arith, near)) in
+          omega (arith, slow, le)
+    ]
+
+-- what the sizes leave
+gaps_fit : (n : Sizes) (slack : ℕ) → HaveRoom n → slack ≤ n.precision → (2 * n.grain + slack + 1 ≤ n.compression)
+    × (n.compression + slack + 2 * n.grain + n.drift < 2 * n.cycle)
+gaps_fit n slack space small =
+    let e = space.errors in (
+      (let a = space.compression_least in let b = space.eight_errors in let c = e.reach_is in let d = e.clock_is in omega (arith, a, b, c, d, small)),
+      (let a = space.compression_most in let b = space.eight_errors in let c = e.reach_is in let d = e.clock_is in let f = space.cycles in omega
+          (arith, a, b, c, d, f, small)),
+    )
+
+-- the times between which a frame is sent whose middle lies so
+record IsSentNear (n : Sizes) (low high : ℤ) (s slack : ℕ) : Type 0 where
+  pub least : ((low +ℤ pos n.dmax) +ℤ pos n.compression) ≤ℤ (pos s +ℤ pos (n.base + slack))
+  pub most : pos s ≤ℤ (((high +ℤ pos n.dmax) +ℤ pos n.compression) +ℤ pos (n.base + slack))
+
+sent_near : (n : Sizes) (reading : ℕ → ℕ) (low high middle : ℤ) (a b s slack : ℕ) → IsSteady n reading → HaveRoom n → slack ≤ n.precision
+    → (low +ℤ pos n.dmax) ≤ℤ pos (a + n.path) → pos b ≤ℤ (high +ℤ pos (n.dmax + n.path))
+    → pos (reading a) ≤ℤ (middle +ℤ pos (2 * n.grain + slack)) → middle ≤ℤ pos (reading b + slack)
+    → (middle +ℤ pos n.compression) ≤ℤ pos (reading s) → pos (reading s) ≤ℤ ((middle +ℤ pos n.compression) +ℤ pos (2 * n.grain))
+    → IsSentNear n low high s slack
+sent_near n reading low high middle a b s slack steady space small from to above below reached sharp =
+    let fit = gaps_fit n slack space small in
+    let base = space.errors.base_is in
+    let gap : ℕ = n.compression - (2 * n.grain + slack) in
+    let gap_is : gap + (2 * n.grain + slack) ≡ n.compression = omega (arith, fit.0) in
+    let late = later_by n reading a s gap steady (omega (arith, fit.1, gap_is)) (omega (arith, ints, above, reached, gap_is)) (omega (arith, fit.0, gap_is)) in
+    let soon = sooner_by n reading b s (n.compression + slack + 2 * n.grain) steady fit.1 (omega (arith, ints, below, sharp)) in
+    record {
+      least = omega (arith, ints, late, from, gap_is, base);
+      most = omega (arith, ints, soon, to, base);
+    }
+
+-- ---- middles
+
+-- the last of points that lie within bounds does
+last_within : (low high p : ℤ) (qs : List Point) → LiesWithin low high p → ((q : Point) → IsIn q qs → LiesWithin low high q.reading)
+    → LiesWithin low high (last_from p (map (λ q. q.reading) qs))
+last_within low high p [] at each = at
+last_within low high p (q ∷ qs) at each = last_within low high q.reading qs (each q (inl refl)) (λ x i. each x (inr i))
+
+-- of two points the middle is near each
+two_near : (low high a b : ℤ) (width : ℕ) → a ≤ℤ b → b ≤ℤ (a +ℤ pos (2 * width)) → LiesWithin low high a ⊎ LiesWithin low high b
+    → LiesWithin (low -ℤ pos width) (high +ℤ pos width) (a +ℤ mean_of (a -ℤ a) (b -ℤ a))
+two_near low high a b width up close (inl at) =
+    (let m = mean_of-floor (a -ℤ a) (b -ℤ a) in (
+      omega (arith, ints, m.least, m.most, up, close, at.0, at.1),
+      omega (arith, ints, m.least, m.most, up, close, at.0, at.1),
+    ))
+two_near low high a b width up close (inr at) =
+    (let m = mean_of-floor (a -ℤ a) (b -ℤ a) in (
+      omega (arith, ints, m.least, m.most, up, close, at.0, at.1),
+      omega (arith, ints, m.least, m.most, up, close, at.0, at.1),
+    ))
+
+-- ---- the bounds of an emission
+
+-- the least number that is not below
+record HasLeast (z : ℤ) : Type 0 where
+  pub n : ℕ
+  pub above : z ≤ℤ pos n
+  pub least : (q : ℕ) → z ≤ℤ pos q → n ≤ q
+
+has_least : (z : ℤ) → HasLeast z
+has_least (pos n) = record { n = n; above = omega (arith, ints); least = λ q le. omega (arith, ints, le) }
+has_least (negsuc n) = record { n = 0; above = omega (arith, ints); least = λ q le. omega arith }
+
+-- the times between which what dispatches of the cycle make is permanent
+record HasBounds (v : View) (cm : DeviceId) (cycle by : ℕ) : Type 0 where
+  pub hull : Hull
+  pub is : hull_of v cycle ≡ Some hull
+  pub a : ℕ
+  pub b : ℕ
+  pub from : (hull.least +ℤ pos v.sizes.dmax) ≤ℤ pos (a + v.sizes.path)
+  pub to : pos b ≤ℤ (hull.greatest +ℤ pos (v.sizes.dmax + v.sizes.path))
+  pub each : (q : Point) → q.cycle ≡ cycle → IsGoodPoint v cm by q → LiesWithin (pos (v.scenario.reading cm a) -ℤ pos (2 * v.sizes.grain))
+      (pos (v.scenario.reading cm b)) q.reading
+
+bounds_of : (v : View) (cm : DeviceId) (cycle by : ℕ) (q : Point) → IsView v → IsTidyBefore v by → q.cycle ≡ cycle → IsGoodPoint v cm by q
+    → HasBounds v cm cycle by
+bounds_of v cm cycle by q is tidy of_cycle good =
+    let inside = tidy good.first good.master q.cycle good.dispatch good.before in
+    let hull = inside.hull in
+    let n = v.sizes in
+    let begun : pos 0 ≤ℤ hull.greatest = (let most = inside.most in omega (arith, ints, most)) in
+    let a = has_least ((hull.least +ℤ pos n.dmax) -ℤ pos n.path) in
+    let b = has_least (hull.greatest +ℤ pos (n.dmax + n.path)) in
+    let b_is : (hull.greatest +ℤ pos (n.dmax + n.path)) ≡ pos b.n = top (hull.greatest +ℤ pos (n.dmax + n.path)) b (omega (arith, ints, begun)) in
+    let hull_is : hull_of v cycle ≡ Some hull = ap (hull_of v) (sym of_cycle) ∙ inside.is in
+    record {
+      hull = hull;
+      is = hull_is;
+      a = a.n;
+      b = b.n;
+      from = (let above = a.above in omega (arith, ints, above));
+      to = omega (arith, ints, b_is);
+      each = λ x x_cycle x_good.
+          let at = tidy x_good.first x_good.master x.cycle x_good.dispatch x_good.before in
+          let same : at.hull ≡ hull = same_some (hull_of v cycle) at.hull hull (ap (hull_of v) (sym x_cycle) ∙ at.is) hull_is in
+          let low : hull.least ≤ℤ pos (time_of x_good.first) = subst (λ (k : Hull). k.least ≤ℤ pos (time_of x_good.first)) same at.least in
+          let high : pos (time_of x_good.first) ≤ℤ hull.greatest = subst (λ (k : Hull). pos (time_of x_good.first) ≤ℤ k.greatest) same at.most in
+          let early = x_good.in_time.not_early in
+          let late = x_good.in_time.not_late in
+          let after = a.least x_good.ripe (omega (arith, ints, low, early)) in
+          let up = (steady v is cm).never_falls a.n x_good.ripe after in
+          let down = (steady v is cm).never_falls x_good.ripe b.n (omega (arith, ints, high, late, b_is)) in
+          let least = x_good.least in
+          let most = x_good.most in
+          (omega (arith, ints, up, most), omega (arith, ints, down, least));
+    }
+  where
+    top : (z : ℤ) (l : HasLeast z) → pos 0 ≤ℤ z → z ≡ pos l.n
+    top (pos n) l le = (let up = l.above in let down = l.least n (omega (arith, ints)) in omega (arith, ints, up, down))
+    top (negsuc n) l le = absurd (omega (arith, ints, le))
+
+-- where the middle lies so, the frame is sent so
+sent_so : (v : View) (h : Happening) (cm : DeviceId) (cycle : ℕ) (members : Members) (slack : ℕ) (is : IsView v) (e : IsEmission v h cm cycle members)
+    (m : IsMade v h cm cycle members e.at.0 (founded_at v.scenario v.records h is.run.founded e.there).front) (bounds : HasBounds v cm cycle (time_of h))
+    → slack ≤ v.sizes.precision
+    → LiesWithin ((pos (v.scenario.reading cm bounds.a) -ℤ pos (2 * v.sizes.grain)) -ℤ pos slack) (pos (v.scenario.reading cm bounds.b) +ℤ pos slack)
+    (middle_point (map (λ q. q.reading) (m.first ∷ m.more)))
+    → IsSentNear v.sizes bounds.hull.least bounds.hull.greatest (time_of h) slack
+sent_so v h cm cycle members slack is e m bounds small lies =
+    let sharp = emissions_are_sharp v h cm cycle members e is in
+    let middle : ℤ = middle_point (map (λ q. q.reading) (m.first ∷ m.more)) in
+    let at = m.at in
+    let reached = sharp.least in
+    let most = sharp.most in
+    sent_near v.sizes (v.scenario.reading cm) bounds.hull.least bounds.hull.greatest middle bounds.a bounds.b (time_of h) slack (steady v is cm) (room v is)
+    small bounds.from bounds.to
+    (omega (arith, ints, lies.0)) (omega (arith, ints, lies.1)) (omega (arith, ints, at, reached)) (omega (arith, ints, at, most))
+
+many_readings : (qs : List Point) → length (map (λ q. q.reading) qs) ≡ length qs
+many_readings [] = refl
+many_readings (q ∷ qs) = ap suc (many_readings qs)
+
+-- each point lies within the bounds, or is a broken master's
+within_or_bad : (v : View) (h : Happening) (cm : DeviceId) (cycle : ℕ) (members : Members) (is : IsView v) (e : IsEmission v h cm cycle members)
+    (m : IsMade v h cm cycle members e.at.0 (founded_at v.scenario v.records h is.run.founded e.there).front) (bounds : HasBounds v cm cycle (time_of h))
+    → (q : Point) → IsIn q (m.first ∷ m.more) → LiesWithin (pos (v.scenario.reading cm bounds.a) -ℤ pos (2 * v.sizes.grain))
+    (pos (v.scenario.reading cm bounds.b)) q.reading ⊎ IsBadPoint v q
+within_or_bad v h cm cycle members is e m bounds q i =
+    let counted = m.each q i in
+    elim (point_is v h cm q is (founded_at v.scenario v.records h is.run.founded e.there) m.is_cm_one counted.there) [
+      | inl good ↦ inl (bounds.each q counted.of_cycle good)
+      | inr bad ↦ inr bad
+    ]
+
+-- the middle of three or more lies within the bounds
+three_lie : (v : View) (h : Happening) (cm : DeviceId) (cycle : ℕ) (members : Members) (is : IsView v) (e : IsEmission v h cm cycle members)
+    (m : IsMade v h cm cycle members e.at.0 (founded_at v.scenario v.records h is.run.founded e.there).front) (bounds : HasBounds v cm cycle (time_of h))
+    → 3 ≤ length (m.first ∷ m.more)
+    → LiesWithin (pos (v.scenario.reading cm bounds.a) -ℤ pos (2 * v.sizes.grain)) (pos (v.scenario.reading cm bounds.b))
+    (middle_point (map (λ q. q.reading) (m.first ∷ m.more)))
+three_lie v h cm cycle members is e m bounds many =
+    let low : ℤ = pos (v.scenario.reading cm bounds.a) -ℤ pos (2 * v.sizes.grain) in
+    let high : ℤ = pos (v.scenario.reading cm bounds.b) in
+    middle_among_others (map (λ q. q.reading) (m.first ∷ m.more)) low high (let same = many_readings (m.first ∷ m.more) in omega (arith, same, many))
+    (ascending_from (m.first ∷ m.more) m.ordered)
+    (all_but_one low high (IsBadPoint v) (m.first ∷ m.more) m.differ (within_or_bad v h cm cycle members is e m bounds)
+    (λ p q i j a b. bad_is_one v p q is a b))
+
+-- so does that of any number of good ones
+good_lie : (low high : ℤ) (first : Point) (more : List Point) → Ordered (first ∷ more) → ((q : Point) → IsIn q (first ∷ more) → LiesWithin low high q.reading)
+    → LiesWithin low high (middle_point (map (λ q. q.reading) (first ∷ more)))
+good_lie low high first more up each =
+    let middle = middle_from_first_to_last first.reading (map (λ q. q.reading) more) (ascending_from (first ∷ more) up) in
+    let at = each first (inl refl) in
+    let last = last_within low high first.reading more at (λ x i. each x (inr i)) in
+    (omega (arith, ints, middle.0, at.0), omega (arith, ints, middle.1, last.1))
+
+-- all points of good members are good
+all_good : (v : View) (h : Happening) (cm : DeviceId) (cycle : ℕ) (members : Members) (is : IsView v) (e : IsEmission v h cm cycle members)
+    (m : IsMade v h cm cycle members e.at.0 (founded_at v.scenario v.records h is.run.founded e.there).front) → AreGood v members
+    → (q : Point) → IsIn q (m.first ∷ m.more) → IsGoodPoint v cm (time_of h) q
+all_good v h cm cycle members is e m are q i =
+    let counted = m.each q i in
+    elim (point_is v h cm q is (founded_at v.scenario v.records h is.run.founded e.there) m.is_cm_one counted.there) [
+      | inl good ↦ good
+      | inr bad ↦
+          let good = are q.master (ap (λ (x : ℕ). bit_at x q.master) m.members_are ∙ member_of_point (m.first ∷ m.more) q i) in
+          absurd (not_both v good.0 bad.master good.2 bad.bad (one_member v good.0 bad.master q.master is good.1 bad.is_member))
+    ]
+
+sharp_base : (v : View) (h : Happening) (cm : DeviceId) (cycle : ℕ) (members : Members) (is : IsView v) (e : IsEmission v h cm cycle members)
+    (m : IsMade v h cm cycle members e.at.0 (founded_at v.scenario v.records h is.run.founded e.there).front) (bounds : HasBounds v cm cycle (time_of h))
+    → LiesWithin (pos (v.scenario.reading cm bounds.a) -ℤ pos (2 * v.sizes.grain)) (pos (v.scenario.reading cm bounds.b))
+    (middle_point (map (λ q. q.reading) (m.first ∷ m.more)))
+    → IsBaseIn v cycle v.sizes.base (base_of v.sizes (time_of h))
+sharp_base v h cm cycle members is e m bounds lies =
+    let near = sent_so v h cm cycle members 0 is e m bounds (omega arith) (omega (arith, ints, lies.0), omega (arith, ints, lies.1)) in
+    let least = near.least in
+    let most = near.most in
+    record { hull = bounds.hull; is = bounds.is; least = omega (arith, ints, least); most = omega (arith, ints, most) }
+
+near_base : (v : View) (h : Happening) (cm : DeviceId) (cycle : ℕ) (members : Members) (is : IsView v) (e : IsEmission v h cm cycle members)
+    (m : IsMade v h cm cycle members e.at.0 (founded_at v.scenario v.records h is.run.founded e.there).front) (bounds : HasBounds v cm cycle (time_of h))
+    → LiesWithin ((pos (v.scenario.reading cm bounds.a) -ℤ pos (2 * v.sizes.grain)) -ℤ pos v.sizes.precision)
+    (pos (v.scenario.reading cm bounds.b) +ℤ pos v.sizes.precision) (middle_point (map (λ q. q.reading) (m.first ∷ m.more)))
+    → IsBaseIn v cycle (v.sizes.base + v.sizes.precision) (base_of v.sizes (time_of h))
+near_base v h cm cycle members is e m bounds lies =
+    let near = sent_so v h cm cycle members v.sizes.precision is e m bounds (omega arith) lies in
+    let least = near.least in
+    let most = near.most in
+    record { hull = bounds.hull; is = bounds.is; least = omega (arith, ints, least); most = omega (arith, ints, most) }
+
+pub bases_are_in_hulls : BasesAreInHulls
+bases_are_in_hulls v h cm cycle members is e tidy which =
+    let m = made_of v h cm cycle members is e in
+    elim which [
+      | inl many ↦
+          let good = three_have_good v h cm cycle members is e many in
+          let p = good_member_point v h cm cycle members is e m good.0 good.1 good.2 in
+          let bounds = bounds_of v cm cycle (time_of h) p.0 is tidy (m.each p.0 p.1).of_cycle p.2 in
+          let few = few_members (m.first ∷ m.more) in
+          let same : count_of members ≡ count_of (record { 0 = members_of (m.first ∷ m.more) }) = ap (λ (x : ℕ). count_of (record { 0 = x })) m.members_are in
+          sharp_base v h cm cycle members is e m bounds (three_lie v h cm cycle members is e m bounds (omega (arith, few, same, many)))
+      | inr are ↦
+          let first = all_good v h cm cycle members is e m are m.first (inl refl) in
+          let bounds = bounds_of v cm cycle (time_of h) m.first is tidy (m.each m.first (inl refl)).of_cycle first in
+          sharp_base v h cm cycle members is e m bounds
+          (good_lie (pos (v.scenario.reading cm bounds.a) -ℤ pos (2 * v.sizes.grain)) (pos (v.scenario.reading cm bounds.b)) m.first m.more m.ordered
+          (λ q i. bounds.each q (m.each q i).of_cycle (all_good v h cm cycle members is e m are q i)))
+    ]
+
+-- the middle of points of which one lies within bounds, and all but one do, is near them
+near_lie : (v : View) (low high : ℤ) (first : Point) (more : List Point) (q : Point) → IsView v → Ordered (first ∷ more) → Apart (first ∷ more)
+    → ((x : Point) → IsIn x (first ∷ more) → x.reading ≤ℤ (first.reading +ℤ pos (2 * v.sizes.precision)))
+    → ((x : Point) → IsIn x (first ∷ more) → LiesWithin low high x.reading ⊎ IsBadPoint v x)
+    → IsIn q (first ∷ more) → LiesWithin low high q.reading → LiesWithin (low -ℤ pos v.sizes.precision) (high +ℤ pos v.sizes.precision)
+    (middle_point (map (λ q. q.reading) (first ∷ more)))
+near_lie v low high first [] q is up differ close each (inl same) at =
+    let here : LiesWithin low high first.reading = subst (λ (x : Point). LiesWithin low high x.reading) same at in
+    let m = middle_from_first_to_last first.reading [] tt in
+    (omega (arith, ints, m.0, here.0), omega (arith, ints, m.1, here.1))
+near_lie v low high first [] q is up differ close each (inr i) at = absurd i
+near_lie v low high first (next ∷ []) q is up differ close each i at =
+    two_near low high first.reading next.reading v.sizes.precision up.0.0 (close next (inr (inl refl))) (elim i [
+      | inl same ↦ inl (subst (λ (x : Point). LiesWithin low high x.reading) same at)
+      | inr (inl same) ↦ inr (subst (λ (x : Point). LiesWithin low high x.reading) same at)
+      | inr (inr none) ↦ absurd none
+    ])
+near_lie v low high first (next ∷ third ∷ more) q is up differ close each i at =
+    let middle = middle_among_others (map (λ q. q.reading) (first ∷ next ∷ third ∷ more)) low high (omega arith)
+    (ascending_from (first ∷ next ∷ third ∷ more) up)
+    (all_but_one low high (IsBadPoint v) (first ∷ next ∷ third ∷ more) differ each (λ p q i j a b. bad_is_one v p q is a b)) in
+    (omega (arith, ints, middle.0), omega (arith, ints, middle.1))
+
+pub bases_are_near_hulls : BasesAreNearHulls
+bases_are_near_hulls v h cm cycle members is e tidy good =
+    let m = made_of v h cm cycle members is e in
+    let p = good_member_point v h cm cycle members is e m good.0 good.1 good.2 in
+    let bounds = bounds_of v cm cycle (time_of h) p.0 is tidy (m.each p.0 p.1).of_cycle p.2 in
+    near_base v h cm cycle members is e m bounds
+    (near_lie v (pos (v.scenario.reading cm bounds.a) -ℤ pos (2 * v.sizes.grain)) (pos (v.scenario.reading cm bounds.b)) m.first m.more p.0 is m.ordered
+    m.differ
+    (λ x i. (m.each x i).to) (within_or_bad v h cm cycle members is e m bounds) p.1 (bounds.each p.0 (m.each p.0 p.1).of_cycle p.2))

@@ -1,0 +1,189 @@
+-- The points that count in a cluster, and their middle.
+use Rattle.std.proofs.Common.{◌≡◌, ◌⊎◌, ℕ, ℤ, pos, ◌+ℤ◌, ◌-ℤ◌, ◌*ℤ◌, ◌≤ℤ◌, Bool, true, false, List, [], ◌∷◌, ◌++◌, map, fold, inl, inr, refl, sym, ap, subst, ◌∙◌, arith}
+use Rattle.std.proofs.lemmas.Bool.{cases_Bool, eqb-false, eqb-true, or_cases, or_parts}
+use Rattle.std.proofs.lemmas.Int.{ints}
+use Rattle.std.proofs.lemmas.List.Elements.{All-cons, All-nil}
+use Rattle.std.specs.List.{AllByRecursion}
+use Rattle.std.specs.Prelude.{◌==◌, All, Contains, filter}
+use Rattle.compression.proofs.Elements.{Ordered, Ordered-beyond, all-filter, from_beyond, in_cases, in_head, in_none, in_tail}
+use Rattle.compression.proofs.Firsts.{counts, with_first-new, with_first-old}
+use Rattle.compression.proofs.MiddleLaws.{middle_among_others}
+use Rattle.compression.specs.Ascent.{IsAscending}
+use Rattle.compression.specs.Clusters.{AreClusters, Cluster, Point, beyond, cluster_of, firsts, has_master, with_first}
+use Rattle.compression.specs.Middle.{AllButOne, LiesWithin, middle_of, relative}
+use Rattle.run_law.proofs.runs.Places.{in_parts}
+use Rattle.run_law.specs.records.Order.{IsIn}
+use Rattle.tte_units.proofs.Means.{mean_of-floor}
+
+-- ---- lists
+
+pub all_by : {X : Type 0} (P : X → Type 0) (xs : List X) → ((x : X) → IsIn x xs → P x) → AllByRecursion P xs
+all_by P [] each = tt
+all_by P (x ∷ xs) each = (each x (inl refl), all_by P xs (λ y i. each y (inr i)))
+
+pub in_all : {X : Type 0} (P : X → Type 0) (xs : List X) (x : X) → AllByRecursion P xs → IsIn x xs → P x
+in_all P [] x all i = absurd i
+in_all P (y ∷ xs) x all (inl same) = subst P (sym same) all.0
+in_all P (y ∷ xs) x all (inr more) = in_all P xs x all.1 more
+
+all_push : {X : Type 0} (P : X → Type 0) (xs : List X) (x : X) → AllByRecursion P xs → P x → AllByRecursion P (xs ++ x ∷ [])
+all_push P [] x all one = (one, tt)
+all_push P (y ∷ xs) x all one = (all.0, all_push P xs x all.1 one)
+
+pub contains : {X : Type 0} (xs : List X) (x : X) → IsIn x xs → Contains xs x
+contains [] x i = absurd i
+contains {X} (y ∷ xs) x (inl same) = subst (Contains (y ∷ xs)) (sym same) (in_head y xs)
+contains (y ∷ xs) x (inr more) = in_tail y x xs (contains xs x more)
+
+-- ---- the first points of each master
+
+-- points of which no two are of one master
+abbrev pub Apart : List Point → Type 0
+Apart [] = Unit {0}
+Apart (p ∷ ps) = AllByRecursion (λ q. q.master ≡ p.master → ⊥) ps × Apart ps
+
+apart_push : (xs : List Point) (x : Point) → Apart xs → has_master xs x.master ≡ false → Apart (xs ++ x ∷ [])
+apart_push [] x apart none = (tt, tt)
+apart_push (p ∷ ps) x apart none =
+    let parts = or_parts (p.master == x.master) (has_master ps x.master) none in
+    (all_push (λ (q : Point). q.master ≡ p.master → ⊥) ps x apart.0 (λ e. eqb-false p.master x.master parts.0 (sym e)), apart_push ps x apart.1 parts.1)
+
+fold_apart : (acc xs : List Point) → Apart acc → Apart (fold with_first acc xs)
+fold_apart acc [] apart = apart
+fold_apart acc (x ∷ xs) apart =
+    elim (cases_Bool (has_master acc x.master)) [
+      | inl old ↦ subst (λ (a : List Point). Apart (fold with_first a xs)) (sym (with_first-old acc x old)) (fold_apart acc xs apart)
+      | inr new ↦ subst (λ (a : List Point). Apart (fold with_first a xs)) (sym (with_first-new acc x new))
+          (fold_apart (acc ++ x ∷ []) xs (apart_push acc x apart new))
+    ]
+
+pub firsts_apart : (xs : List Point) → Apart (firsts xs)
+firsts_apart xs = fold_apart [] xs tt
+
+ordered_push : (xs : List Point) (x : Point) → Ordered xs → ((a : Point) → IsIn a xs → a.reading ≤ℤ x.reading) → Ordered (xs ++ x ∷ [])
+ordered_push [] x up below = (tt, tt)
+ordered_push (p ∷ ps) x up below =
+    (all_push (λ (q : Point). p.reading ≤ℤ q.reading) ps x up.0 (below p (inl refl)), ordered_push ps x up.1 (λ a i. below a (inr i)))
+
+fold_ordered : (acc xs : List Point) → Ordered acc → Ordered xs → ((a x : Point) → IsIn a acc → IsIn x xs → a.reading ≤ℤ x.reading)
+    → Ordered (fold with_first acc xs)
+fold_ordered acc [] up more below = up
+fold_ordered acc (x ∷ xs) up more below =
+    elim (cases_Bool (has_master acc x.master)) [
+      | inl old ↦ subst (λ (a : List Point). Ordered (fold with_first a xs)) (sym (with_first-old acc x old))
+          (fold_ordered acc xs up more.1 (λ a y i j. below a y i (inr j)))
+      | inr new ↦
+          subst (λ (a : List Point). Ordered (fold with_first a xs)) (sym (with_first-new acc x new))
+          (fold_ordered (acc ++ x ∷ []) xs (ordered_push acc x up (λ a i. below a x i (inl refl))) more.1 (λ a y i j. elim (in_parts a acc (x ∷ []) i) [
+            | inl l ↦ below a y l (inr j)
+            | inr (inl same) ↦ subst (λ (b : Point). b.reading ≤ℤ y.reading) (sym same) (in_all (λ (q : Point). x.reading ≤ℤ q.reading) xs y more.0 j)
+            | inr (inr none) ↦ absurd none
+          ]))
+    ]
+
+pub firsts_ordered : (xs : List Point) → Ordered xs → Ordered (firsts xs)
+firsts_ordered xs up = fold_ordered [] xs tt up (λ a x i j. absurd i)
+
+pub ordered_filter : (test : Point → Bool) (ps : List Point) → Ordered ps → Ordered (filter test ps)
+ordered_filter test [] up = tt
+ordered_filter test (p ∷ ps) up =
+    elim (cases_Bool (test p)) [
+      | inl pass ↦ rw pass (all-filter (λ (q : Point). p.reading ≤ℤ q.reading) test ps up.0, ordered_filter test ps up.1)
+      | inr fail ↦ rw fail (ordered_filter test ps up.1)
+    ]
+
+pub firsts_in : (xs : List Point) (q : Point) → IsIn q (firsts xs) → Contains xs q
+firsts_in xs q i =
+    let c = counts [] xs in
+    (in_all (λ (p : Point). Contains xs p × (has_master [] p.master ≡ false)) c.more q c.each (subst (IsIn q) c.is i)).0
+
+-- the point of a master that has one
+pub has_one : (ps : List Point) (m : ℕ) → has_master ps m ≡ true → (q : Point) × IsIn q ps × (q.master ≡ m)
+has_one [] m has = absurd cc
+has_one (p ∷ ps) m has = elim (or_cases (p.master == m) (has_master ps m) has) [
+  | inl e ↦ (p, inl refl, eqb-true p.master m e)
+  | inr more ↦ let r = has_one ps m more in (r.0, inr r.1, r.2)
+]
+
+pub ascending_from : (ps : List Point) → Ordered ps → IsAscending (map (λ p. p.reading) ps)
+ascending_from [] up = tt
+ascending_from (p ∷ []) up = tt
+ascending_from (p ∷ q ∷ qs) up = (up.0.0, ascending_from (q ∷ qs) up.1)
+
+-- ---- the middle of points of which those of one master may be anywhere
+
+lies_all : (low high : ℤ) (ps : List Point) → ((p : Point) → IsIn p ps → LiesWithin low high p.reading) → All (LiesWithin low high) (map (λ p. p.reading) ps)
+lies_all low high [] each = All-nil (LiesWithin low high)
+lies_all low high (p ∷ ps) each =
+    All-cons (LiesWithin low high) p.reading (map (λ p. p.reading) ps) (each p (inl refl)) (lies_all low high ps (λ q i. each q (inr i)))
+
+pub all_but_one : (low high : ℤ) (Bad : Point → Type 0) (ps : List Point) → Apart ps → ((p : Point) → IsIn p ps → LiesWithin low high p.reading ⊎ Bad p)
+    → ((p q : Point) → IsIn p ps → IsIn q ps → Bad p → Bad q → p.master ≡ q.master) → AllButOne (LiesWithin low high) (map (λ p. p.reading) ps)
+all_but_one low high Bad [] apart each same = tt
+all_but_one low high Bad (p ∷ ps) apart each same = elim (each p (inl refl)) [
+  | inl lies ↦ inr (lies, all_but_one low high Bad ps apart.1 (λ q i. each q (inr i)) (λ q r i j. same q r (inr i) (inr j)))
+  | inr bad ↦ inl (lies_all low high ps (λ q i. elim (each q (inr i)) [
+    | inl lies ↦ lies
+    | inr also ↦ absurd (in_all (λ (r : Point). r.master ≡ p.master → ⊥) ps q apart.0 i (same q p (inr i) (inl refl) also bad))
+  ]))
+]
+
+-- a point near which all but those lie is at most a window away from the middle
+pub middle_near : (ow : ℤ) (Bad : Point → Type 0) (k o : Point) (more : List Point) → pos 0 ≤ℤ ow → Ordered (o ∷ more) → Apart (o ∷ more) → IsIn k (o ∷ more)
+    → ((p : Point) → IsIn p (o ∷ more) → LiesWithin (k.reading -ℤ ow) (k.reading +ℤ ow) p.reading ⊎ Bad p)
+    → ((p q : Point) → IsIn p (o ∷ more) → IsIn q (o ∷ more) → Bad p → Bad q → p.master ≡ q.master)
+    → ((p : Point) → IsIn p (o ∷ more) → p.reading ≤ℤ (o.reading +ℤ (pos 2 *ℤ ow)))
+    → LiesWithin (k.reading -ℤ ow) (k.reading +ℤ ow) (o.reading +ℤ middle_of (relative (map (λ p. p.reading) (o ∷ more))))
+middle_near ow Bad k o [] some up apart i each same short = elim i [
+  | inl e ↦ (let at : k.reading ≡ o.reading = ap (λ (p : Point). p.reading) e in (omega (arith, ints, at, some), omega (arith, ints, at, some)))
+  | inr none ↦ absurd none
+]
+middle_near ow Bad k o (b ∷ []) some up apart i each same short =
+    let m = mean_of-floor (o.reading -ℤ o.reading) (b.reading -ℤ o.reading) in
+    let later : o.reading ≤ℤ b.reading = up.0.0 in
+    let near = short b (inr (inl refl)) in
+    elim i [
+      | inl e ↦ (let at : k.reading ≡ o.reading = ap (λ (p : Point). p.reading) e in (
+        omega (arith, ints, at, some, m.least, m.most, later, near),
+        omega (arith, ints, at, some, m.least, m.most, later, near),
+      ))
+      | inr (inl e) ↦
+          (let at : k.reading ≡ b.reading = ap (λ (p : Point). p.reading) e in (
+            omega (arith, ints, at, some, m.least, m.most, later, near),
+            omega (arith, ints, at, some, m.least, m.most, later, near),
+          ))
+      | inr (inr none) ↦ absurd none
+    ]
+middle_near ow Bad k o (b ∷ c ∷ rest) some up apart i each same short =
+    middle_among_others (map (λ p. p.reading) (o ∷ b ∷ c ∷ rest)) (k.reading -ℤ ow) (k.reading +ℤ ow) (omega arith) (ascending_from (o ∷ b ∷ c ∷ rest) up)
+    (all_but_one (k.reading -ℤ ow) (k.reading +ℤ ow) Bad (o ∷ b ∷ c ∷ rest) apart each same)
+
+-- ---- a cluster by its opener
+
+-- a cluster is that of one of the points and others, which are in order
+pub record IsOpenedBy (ow : ℤ) (ps : List Point) (c : Cluster) : Type 0 where
+  pub first : Point
+  pub rest : List Point
+  pub there : Contains ps first
+  pub others : (x : Point) → Contains rest x → Contains ps x
+  pub is : c ≡ cluster_of ow first (first ∷ rest)
+  pub up : Ordered (first ∷ rest)
+
+pub opened_by : (ow : ℤ) (ps : List Point) (cs : List Cluster) (c : Cluster) → Ordered ps → AreClusters ow ps cs → Contains cs c → IsOpenedBy ow ps c
+opened_by ow [] [] c up are at = absurd (in_none c at)
+opened_by ow [] (d ∷ cs) c up are at = absurd are
+opened_by ow (o ∷ ps) [] c up are at = absurd are
+opened_by ow (o ∷ ps) (d ∷ cs) c up are at =
+    elim (in_cases d c cs at) [
+      | inl same ↦ record { first = o; rest = ps; there = in_head o ps; others = λ x i. in_tail o x ps i; is = sym same ∙ are.0; up = up }
+      | inr later ↦
+          let more = opened_by ow (beyond d.end ps) cs c (Ordered-beyond d.end ps up.1) are.1 later in
+          record {
+            first = more.first;
+            rest = more.rest;
+            there = in_tail o more.first ps (from_beyond d.end ps more.first more.there).0;
+            others = λ x i. in_tail o x ps (from_beyond d.end ps x (more.others x i)).0;
+            is = more.is;
+            up = more.up;
+          }
+    ]

@@ -1,0 +1,262 @@
+-- When compression masters send.
+use Rattle.std.proofs.Common.{◌≡◌, ℕ, ◌≤◌, ℤ, pos, ◌+ℤ◌, ◌-ℤ◌, ◌*ℤ◌, ◌≤ℤ◌, Bool, true, false, List, [], ◌∷◌, map, Some, None, inl, inr, refl, sym, ap, subst, ◌∙◌, arith, nat_le, length}
+use Rattle.std.proofs.lemmas.Bool.{and_from, and_parts, eq-eqb}
+use Rattle.std.proofs.lemmas.Int.{ints}
+use Rattle.std.specs.List.{AllByRecursion, after_last}
+use Rattle.std.specs.Prelude.{◌==◌, ◌&&◌, Contains, Err, Ok, if◌then◌else◌, int_le}
+use Rattle.compression.proofs.Elements.{Ordered, Ordered-beyond, from_beyond, in_cases, in_filter, in_head, in_none, in_tail}
+use Rattle.compression.proofs.Firsts.{counts}
+use Rattle.compression.proofs.Held.{int_le-true}
+use Rattle.compression.specs.Clusters.{AreClusters, Cluster, Point, cluster_of, end_of, firsts, of_cycle_within, beyond, has_master, point_at}
+use Rattle.compression.specs.Emission.{emission}
+use Rattle.compression.specs.Middle.{last_but_one, middle_of, relative}
+use Rattle.compression.specs.declared.compressed.Compressed.{Compressed}
+use Rattle.net_plan.specs.declared.ids.DeviceId.{DeviceId}
+use Rattle.net_plan.specs.declared.ids.LinkId.{LinkId}
+use Rattle.pcf_values.specs.declared.pcf.Pcf.{Pcf}
+use Rattle.precision_law.proofs.block.Hulls.{int_le-is}
+use Rattle.precision_law.proofs.clocks.Epochs.{same_device}
+use Rattle.precision_law.proofs.clocks.Readings.{reach_is_sharp}
+use Rattle.precision_law.proofs.records.Behind.{behind_last, in_filter_map}
+use Rattle.precision_law.proofs.records.Views.{room, steady}
+use Rattle.precision_law.proofs.trips.Descents.{IsCarried, never_timed}
+use Rattle.precision_law.proofs.trips.Paths.{TakesWith, taken_young}
+use Rattle.precision_law.specs.CompressionLaws.{EmissionsAreSharp}
+use Rattle.precision_law.specs.Sizes.{Sizes}
+use Rattle.precision_law.specs.Views.{IsView, View}
+use Rattle.run_law.proofs.law.FirstPlaces.{founded_at, numbered_in}
+use Rattle.run_law.proofs.runs.Places.{in_right}
+use Rattle.run_law.specs.control.Collections.{point_by, points_of, observation_window, ends_stretch, master_of}
+use Rattle.run_law.specs.control.Wires.{Signal, control, timed}
+use Rattle.run_law.specs.declared.judgement.Judgement.{Judgement}
+use Rattle.run_law.specs.declared.note.NoteBody.TheVariants as notes
+use Rattle.run_law.specs.declared.note.NoteBody.{NoteBody}
+use Rattle.run_law.specs.declared.steps.Arrival.TheVariants as arrivals
+use Rattle.run_law.specs.declared.steps.Arrival.{Arrival}
+use Rattle.run_law.specs.device.Standpoints.{standpoint}
+use Rattle.run_law.specs.device.States.{cycle_in}
+use Rattle.run_law.specs.records.Happenings.{Happening, time_of}
+use Rattle.run_law.specs.records.Order.{IsIn}
+use Rattle.run_law.specs.records.Ranks.{place_of, members_in}
+use Rattle.run_law.specs.runs.DueRecords.{IsArrivedRecord, IsCaused, IsDue}
+use Rattle.run_law.specs.runs.Runs.{IsFounded}
+use Rattle.run_law.specs.timed.Receptions.{arrival_of}
+use Rattle.tte_units.proofs.Means.{mean_of-floor}
+use Rattle.tte_units.specs.Amount.{amount}
+use Rattle.tte_units.specs.Mean.{mean_of}
+use Rattle.tte_units.specs.declared.units.Units.{Units}
+
+-- ---- middles
+
+abbrev NotNegative : ℤ → Type 0
+NotNegative z = pos 0 ≤ℤ z
+
+mean_not_negative : (a b : ℤ) → NotNegative a → NotNegative b → NotNegative (mean_of a b)
+mean_not_negative a b x y = (let m = mean_of-floor a b in omega (arith, ints, m.least, m.most, x, y))
+
+last_not_negative : (p q : ℤ) (xs : List ℤ) → NotNegative p → AllByRecursion NotNegative (q ∷ xs) → NotNegative (last_but_one p q xs)
+last_not_negative p q [] x all = x
+last_not_negative p q (r ∷ rs) x all = last_not_negative q r rs all.0 all.1
+
+-- the middle of numbers that are not negative is not
+middle_not_negative : (xs : List ℤ) → AllByRecursion NotNegative xs → NotNegative (middle_of xs)
+middle_not_negative [] all = omega (arith, ints)
+middle_not_negative (a ∷ []) all = all.0
+middle_not_negative (a ∷ b ∷ []) all = mean_not_negative a b all.0 all.1.0
+middle_not_negative (a ∷ b ∷ c ∷ []) all = all.1.0
+middle_not_negative (a ∷ b ∷ c ∷ d ∷ []) all = mean_not_negative b c all.1.0 all.1.1.0
+middle_not_negative (a ∷ b ∷ c ∷ d ∷ e ∷ []) all = mean_not_negative b d all.1.0 all.1.1.1.0
+middle_not_negative (a ∷ b ∷ c ∷ d ∷ e ∷ f ∷ more) all =
+    mean_not_negative b (last_but_one e f more) all.1.0 (last_not_negative e f more all.1.1.1.1.0 all.1.1.1.1.1)
+
+-- ---- clusters
+
+-- a cluster is that of one of the points and others
+pub record IsClusterOf (ow : ℤ) (ps : List Point) (c : Cluster) : Type 0 where
+  pub first : Point
+  pub rest : List Point
+  pub there : Contains ps first
+  pub others : (x : Point) → Contains rest x → Contains ps x
+  pub ordered : Ordered ps → Ordered (first ∷ rest)
+  pub is : c ≡ cluster_of ow first (first ∷ rest)
+
+pub cluster_from : (ow : ℤ) (ps : List Point) (cs : List Cluster) (c : Cluster) → AreClusters ow ps cs → Contains cs c → IsClusterOf ow ps c
+cluster_from ow [] [] c are at = absurd (in_none c at)
+cluster_from ow [] (d ∷ cs) c are at = absurd are
+cluster_from ow (o ∷ ps) [] c are at = absurd are
+cluster_from ow (o ∷ ps) (d ∷ cs) c are at =
+    elim (in_cases d c cs at) [
+      | inl same ↦ record { first = o; rest = ps; there = in_head o ps; others = λ x i. in_tail o x ps i; ordered = λ up. up; is = sym same ∙ are.0 }
+      | inr later ↦
+          let more = cluster_from ow (beyond d.end ps) cs c are.1 later in
+          record {
+            first = more.first;
+            rest = more.rest;
+            there = in_tail o more.first ps (from_beyond d.end ps more.first more.there).0;
+            others = λ x i. in_tail o x ps (from_beyond d.end ps x (more.others x i)).0;
+            ordered = λ up. more.ordered (Ordered-beyond d.end ps up.1);
+            is = more.is;
+          }
+    ]
+
+-- what is counted in a cluster is not before it
+counted_late : (o : Point) (end : ℤ) (rest qs : List Point) → AllByRecursion (λ q. Contains (of_cycle_within o.cycle o.reading end rest) q) qs
+    → AllByRecursion NotNegative (map (λ q. q -ℤ o.reading) (map (λ q. q.reading) qs))
+counted_late o end rest [] all = tt
+counted_late o end rest (q ∷ qs) all =
+    let test = in_filter (λ x. x.cycle == o.cycle && (int_le o.reading x.reading && int_le x.reading end)) rest q all.0 in
+    let both = and_parts (q.cycle == o.cycle) (int_le o.reading q.reading && int_le q.reading end) test.1 in
+    let low = int_le-is o.reading q.reading (and_parts (int_le o.reading q.reading) (int_le q.reading end) both.1).0 in
+    (omega (arith, ints, low), counted_late o end rest qs all.1)
+
+first_parts : (xs acc : List Point) (qs : List Point) → AllByRecursion (λ q. Contains xs q × (has_master acc q.master ≡ false)) qs
+    → AllByRecursion (λ q. Contains xs q) qs
+first_parts xs acc [] all = tt
+first_parts xs acc (q ∷ qs) all = (all.0.0, first_parts xs acc qs all.1)
+
+-- the middle of a cluster is not before its first point
+pub middle_late : (ow : ℤ) (o : Point) (rest : List Point) → o.reading ≤ℤ end_of ow o (o ∷ rest)
+    → NotNegative (middle_of (relative (cluster_of ow o (o ∷ rest)).points))
+middle_late ow o rest ends =
+    let end = end_of ow o (o ∷ rest) in
+    let inner = of_cycle_within o.cycle o.reading end rest in
+    let a : (o.cycle == o.cycle) ≡ true = eq-eqb o.cycle o.cycle refl in
+    let b : int_le o.reading o.reading ≡ true = int_le-true o.reading o.reading (omega (arith, ints)) in
+    let c : int_le o.reading end ≡ true = int_le-true o.reading end ends in
+    let kept : of_cycle_within o.cycle o.reading end (o ∷ rest) ≡ o ∷ inner =
+    ap (λ (t : Bool). if t then o ∷ inner else inner) (and_from (o.cycle == o.cycle) (int_le o.reading o.reading && int_le o.reading end) a
+    (and_from (int_le o.reading o.reading) (int_le o.reading end) b c)) in
+    let count = counts (o ∷ []) inner in
+    let whole : firsts (of_cycle_within o.cycle o.reading end (o ∷ rest)) ≡ o ∷ count.more = ap firsts kept ∙ count.is in
+    let late = counted_late o end rest count.more (first_parts inner (o ∷ []) count.more count.each) in
+    let zero_first : NotNegative (o.reading -ℤ o.reading) = omega (arith, ints) in
+    subst (λ (qs : List Point). NotNegative (middle_of (relative (map (λ q. q.reading) qs)))) (sym whole)
+    (middle_not_negative (map (λ q. q -ℤ o.reading) (map (λ q. q.reading) (o ∷ count.more))) (zero_first, late))
+
+-- a cluster does not end before it begins
+pub ends_late : (ow : ℤ) (o : Point) (ps : List Point) → pos 0 ≤ℤ ow → o.reading ≤ℤ end_of ow o ps
+ends_late ow o ps some = by (nat_le 2 (length (firsts (of_cycle_within o.cycle o.reading (o.reading +ℤ ow) ps))))
+  where
+    by : (b : Bool) → o.reading ≤ℤ (if b then o.reading +ℤ (pos 2 *ℤ ow) else o.reading +ℤ ow)
+    by true = omega (arith, ints, some)
+    by false = omega (arith, ints, some)
+
+-- ---- points
+
+-- what is in a list by its place is in it
+pub contained : {X : Type 0} (xs : List X) (x : X) → Contains xs x → IsIn x xs
+contained [] x at = absurd (in_none x at)
+contained (y ∷ xs) x at = elim (in_cases y x xs at) [ inl same ↦ inl (sym same) | inr more ↦ inr (contained xs x more) ]
+
+-- what is taken with a frame is carried on
+takes_carried : (a : Arrival) (taken : Pcf) → TakesWith a taken → IsCarried a
+takes_carried (arrivals.Waits frame point) taken t = tt
+takes_carried (arrivals.Passes frame way) taken t = tt
+takes_carried (arrivals.PassesAndWaits frame way point) taken t = tt
+takes_carried other taken t = absurd t
+
+-- no arrival is too old
+young_by : (v : View) (hs : List Happening) (t : ℕ) (device : DeviceId) (link : LinkId) (cause : ℕ) (signal : Signal) (taken : Pcf)
+    → TakesWith (arrival_of v.scenario hs device t link cause signal) taken → taken.clock ≤ amount v.scenario.network.dmax
+young_by v hs t device link cause (control (Ok frame)) taken takes =
+    let r = taken_young v.scenario.network device link (standpoint v.scenario hs device t) frame taken takes in
+    omega (arith, r.0, r.1)
+young_by v hs t device link cause (control (Err refusal)) taken takes = absurd takes
+young_by v hs t device link cause (timed octets) taken takes =
+    absurd (never_timed v hs t device link cause octets (takes_carried (arrival_of v.scenario hs device t link cause (timed octets)) taken takes))
+
+pub arrival_young : (v : View) (hs : List Happening) (t : ℕ) (device : DeviceId) (link : LinkId) (cause clock : ℕ)
+    → IsArrivedRecord v.scenario hs device t link cause clock → clock ≤ amount v.scenario.network.dmax
+arrival_young v hs t device link cause clock a = elim a.taken [
+  | inl comes ↦ (let y = young_by v hs t device link cause comes.signal a.frame (subst (λ (x : Arrival). TakesWith x a.frame) comes.becomes refl) in let s =
+      a.shows in omega (arith, y, s))
+  | inr (inl comes) ↦
+      (let y = young_by v hs t device link cause comes.signal a.frame (subst (λ (x : Arrival). TakesWith x a.frame) comes.becomes refl) in let s =
+      a.shows in omega (arith, y, s))
+  | inr (inr comes) ↦
+      (let y = young_by v hs t device link cause comes.signal a.frame (subst (λ (x : Arrival). TakesWith x a.frame) comes.becomes refl) in let s =
+      a.shows in omega (arith, y, s))
+]
+
+-- the record gives the device this point
+pub record GivesPoint (cm : DeviceId) (k : Happening) (p : Point) : Type 0 where
+  pub link : LinkId
+  pub cause : ℕ
+  pub point : Units
+  pub verdict : Judgement
+  pub is : k.note.body ≡ notes.Permanent cm link cause point verdict
+  pub reads : p.reading ≡ point.0
+  pub of_master : p.master ≡ master_of (members_in k)
+  pub of_cycle : p.cycle ≡ cycle_in k
+
+some_if : {X : Type 0} (b : Bool) (x y : X) → (if b then Some x else None) ≡ Some y → (b ≡ true) × (x ≡ y)
+some_if true x y e = (refl, cc)
+some_if false x y e = absurd cc
+
+gives_by : (cm : DeviceId) (k : Happening) (p : Point) (body : NoteBody) → k.note.body ≡ body → point_by cm k body ≡ Some p → GivesPoint cm k p
+gives_by cm k p (notes.Permanent other link cause point verdict) same e =
+    let both = some_if (cm.0 == other.0) (point_at point.0 (master_of (members_in k)) (cycle_in k)) p e in
+    let one : other ≡ cm = same_device cm other both.0 in
+    record {
+      link = link;
+      cause = cause;
+      point = point;
+      verdict = verdict;
+      is = same ∙ ap (λ (d : DeviceId). notes.Permanent d link cause point verdict) one;
+      reads = sym (ap (λ (x : Point). x.reading) both.1);
+      of_master = sym (ap (λ (x : Point). x.master) both.1);
+      of_cycle = sym (ap (λ (x : Point). x.cycle) both.1);
+    }
+gives_by cm k p body same e = absurd cc
+
+pub gives_point : (cm : DeviceId) (k : Happening) (p : Point) → point_by cm k k.note.body ≡ Some p → GivesPoint cm k p
+gives_point cm k p e = gives_by cm k p k.note.body refl e
+
+-- each point of the present stretch is given by a record
+pub point_record : (cm : DeviceId) (front : List Happening) (p : Point) → IsIn p (points_of front cm) → (k : Happening) × IsIn k front × GivesPoint cm k p
+point_record cm front p i =
+    let ends = λ (h : Happening). ends_stretch cm h.note.body in
+    let made = in_filter_map (λ (h : Happening). point_by cm h h.note.body) (after_last ends front) p i in
+    let cut = behind_last ends front in
+    (made.0, subst (IsIn made.0) (sym cut.whole) (in_right made.0 cut.front (after_last ends front) made.1), gives_point cm made.0 p made.2)
+
+-- a point is not negative
+point_not_negative : (v : View) (cm : DeviceId) (front : List Happening) (p : Point) → IsView v → IsFounded place_of (IsDue v.scenario) front
+    → IsIn p (points_of front cm) → NotNegative p.reading
+point_not_negative v cm front p is founded i =
+    let s = v.scenario in
+    let given = point_record cm front p i in
+    let g = given.2 in
+    let at = founded_at s front given.0 founded given.1 in
+    let ripens : IsCaused s at.front given.0.note.time (notes.Permanent cm g.link g.cause g.point g.verdict) = subst (IsCaused s at.front given.0.note.time)
+    g.is at.due.cause in
+    let q = ripens.permanent in
+    let at_a = founded_at s at.front q.arrival at.founded (numbered_in at.front g.cause q.arrival q.there) in
+    let arrived : IsCaused s at_a.front q.arrival.note.time (notes.Arrived cm g.link q.from q.clock) = subst (IsCaused s at_a.front q.arrival.note.time)
+    q.arrived at_a.due.cause in
+    let young = arrival_young v at_a.front (amount q.arrival.note.time) cm g.link q.from q.clock arrived in
+    let dmax = is.lawful.range.dmax.least in
+    let point = q.at_point in
+    let reads = g.reads in
+    omega (arith, ints, reads, point, young, dmax)
+
+pub emissions_are_sharp : EmissionsAreSharp
+emissions_are_sharp v h cm cycle members e is =
+    let s = v.scenario in
+    let space = room v is in
+    let at = founded_at s v.records h is.run.founded e.there in
+    let emits : IsCaused s at.front h.note.time (notes.Compressed cm e.opened e.at cycle members e.verdict) = subst (IsCaused s at.front h.note.time) e.is
+    at.due.cause in
+    let ow = observation_window s.network in
+    let c = cluster_from ow (points_of at.front cm) emits.clusters emits.cluster emits.are emits.there in
+    let first = point_not_negative v cm at.front c.first is at.founded (contained (points_of at.front cm) c.first c.there) in
+    let wide : pos 0 ≤ℤ ow = omega (arith, ints) in
+    let middle = middle_late ow c.first c.rest (ends_late ow c.first (c.first ∷ c.rest) wide) in
+    let sent : e.at.0 ≡ emission ow (pos (amount s.network.calc)) emits.cluster = ap (λ (x : Compressed). x.at.0) emits.is in
+    let shown : emission ow (pos (amount s.network.calc)) emits.cluster ≡ emission ow (pos (amount s.network.calc)) (cluster_of ow c.first (c.first ∷ c.rest)) =
+    ap (emission ow (pos (amount s.network.calc))) c.is in
+    let size : v.sizes.precision ≡ amount s.network.precision = ap (λ (x : Sizes). x.precision) is.sizes in
+    let zero_reading = (steady v is cm).begins in
+    reach_is_sharp v.sizes (s.reading cm) 0 e.at.0 (time_of h) (steady v is cm)
+    (omega (arith, ints, zero_reading, sent, shown, first, middle, size, space.eight_errors, space.errors.reach_is, space.errors.clock_is))
+    emits.reached

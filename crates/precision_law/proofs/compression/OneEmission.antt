@@ -1,0 +1,481 @@
+-- A compression master sends at most one frame of a cycle that has a good member.
+use Rattle.std.proofs.Common.{◌≡◌, ◌⊎◌, ℕ, ◌+◌, ◌-◌, ◌*◌, ◌<◌, ◌≤◌, ℤ, pos, ◌+ℤ◌, ◌-ℤ◌, ◌*ℤ◌, ◌≤ℤ◌, ◌<ℤ◌, true, List, [], ◌∷◌, ◌++◌, map, Some, inl, inr, refl, sym, ap, subst, ◌∙◌, append_assoc, arith}
+use Rattle.std.proofs.lemmas.Bool.{and_parts, cases_lt, eqb-true}
+use Rattle.std.proofs.lemmas.Int.{ints}
+use Rattle.std.specs.Int.{bit_at}
+use Rattle.std.specs.Prelude.{◌==◌, ◌&&◌, Contains, int_le}
+use Rattle.compression.proofs.Elements.{Ordered, in_cases, in_filter}
+use Rattle.compression.proofs.Firsts.{firsts-start}
+use Rattle.compression.proofs.Growth.{end_of-least}
+use Rattle.compression.proofs.Held.{held-start}
+use Rattle.compression.proofs.Times.{one_time_law}
+use Rattle.compression.proofs.Together.{one_cluster}
+use Rattle.compression.specs.Clusters.{AreClusters, Cluster, Point, cluster_of, end_of, firsts, members_of, of_cycle_within}
+use Rattle.compression.specs.Emission.{emission}
+use Rattle.compression.specs.Middle.{LiesWithin, middle_of, relative}
+use Rattle.compression.specs.OneCluster.{AreInOrder, IsKept, LiesIn}
+use Rattle.compression.specs.declared.compressed.Compressed.{Compressed}
+use Rattle.net_plan.specs.declared.ids.DeviceId.{DeviceId}
+use Rattle.pcf_values.specs.declared.members.Members.{Members}
+use Rattle.precision_law.proofs.block.Hulls.{int_le-is}
+use Rattle.precision_law.proofs.compression.Counted.{all_by, ascending_from, contains, firsts_apart, firsts_in, firsts_ordered, has_one, middle_near, opened_by, ordered_filter, Apart}
+use Rattle.precision_law.proofs.compression.Emitted.{contained, emissions_are_sharp, gives_point, middle_late, point_record}
+use Rattle.precision_law.proofs.compression.Fronts.{cluster_stays}
+use Rattle.precision_law.proofs.compression.Made.{IsBadPoint, IsGoodPoint, bad_is_one, ends_soon, front_point, not_both, point_is, point_not_both}
+use Rattle.precision_law.proofs.compression.Origins.{member_has}
+use Rattle.precision_law.proofs.compression.Stretches.{IsGivenIn, later_point, points_go_on, points_ordered, read_at}
+use Rattle.precision_law.proofs.faults.Broken.{has_member, one_member}
+use Rattle.precision_law.proofs.records.Points.{before_of}
+use Rattle.precision_law.proofs.records.Views.{room, steady}
+use Rattle.precision_law.specs.Bases.{HasGood, IsEmission, IsGoodMember}
+use Rattle.precision_law.specs.CompressionLaws.{EmissionIsOne, IsNarrowIfThere}
+use Rattle.precision_law.specs.Hulls.{Hull, IsInHull, IsTidyBefore, hull_of}
+use Rattle.precision_law.specs.Readings.{IsSteady}
+use Rattle.precision_law.specs.Sizes.{HaveRoom, Sizes}
+use Rattle.precision_law.specs.Views.{IsView, View}
+use Rattle.run_law.proofs.law.FirstPlaces.{IsFoundedAt, founded_at, front_founded}
+use Rattle.run_law.proofs.runs.Lacking.{behind_first}
+use Rattle.run_law.proofs.runs.Places.{in_left, in_parts, in_right, never_self, parted, chain}
+use Rattle.run_law.proofs.runs.SameSteps.{same_some}
+use Rattle.run_law.specs.control.Collections.{points_of, observation_window}
+use Rattle.run_law.specs.declared.note.NoteBody.TheVariants as notes
+use Rattle.run_law.specs.declared.note.NoteBody.{NoteBody}
+use Rattle.run_law.specs.records.Happenings.{Happening, time_of}
+use Rattle.run_law.specs.records.Order.{IsBefore, IsIn}
+use Rattle.run_law.specs.records.Ranks.{key, members_in, place_of, rank}
+use Rattle.run_law.specs.runs.DueRecords.{IsCaused, IsDue}
+use Rattle.run_law.specs.runs.Runs.{IsFounded}
+use Rattle.run_law.specs.scenario.Devices.{is_cm}
+use Rattle.tte_units.specs.Amount.{amount}
+use Rattle.tte_units.specs.declared.units.Units.{Units}
+
+-- ---- good points of one cycle are near
+
+-- what two good points tell
+near_numbers : (n : Sizes) (reading : ℕ → ℕ) (least greatest p q : ℤ) (w x a b : ℕ) → HaveRoom n → IsSteady n reading → greatest ≤ℤ (least +ℤ pos n.spread)
+    → least ≤ℤ pos x → pos w ≤ℤ greatest → a ≤ w + n.dmax + n.path → x + n.dmax ≤ b + n.path
+    → p ≤ℤ pos (reading a) → pos (reading b) ≤ℤ (q +ℤ pos (2 * n.grain)) → p ≤ℤ (q +ℤ pos n.precision)
+near_numbers n reading least greatest p q w x a b space steady narrow low high late early up down =
+    let errors = space.eight_errors in
+    let reach = space.errors.reach_is in
+    let clock = space.errors.clock_is in
+    let cycles = space.cycles in
+    elim (cases_lt b a) [
+      | inr le ↦ (let r = steady.never_falls a b le in omega (arith, ints, r, up, down, errors, reach, clock))
+      | inl lt ↦
+          let within : a ≤ b + (n.spread + 2 * n.path) = omega (arith, ints, narrow, low, high, late, early) in
+          let r = steady.fast b a (omega (arith, lt)) (omega (arith, within, errors, reach, clock, cycles)) in
+          omega (arith, ints, r, within, up, down, errors, reach, clock)
+    ]
+
+-- what is known of the cycle
+pub record IsKnown (v : View) (t cycle : ℕ) : Type 0 where
+  pub is : IsView v
+  pub tidy : IsTidyBefore v t
+  pub narrow : IsNarrowIfThere v cycle
+
+pub good_near : (v : View) (t cycle : ℕ) (cm : DeviceId) (by late : ℕ) (p q : Point) → IsKnown v t cycle → by < t → late < t → p.cycle ≡ cycle → q.cycle ≡ cycle
+    → IsGoodPoint v cm by p → IsGoodPoint v cm late q → p.reading ≤ℤ (q.reading +ℤ pos v.sizes.precision)
+good_near v t cycle cm by late p q k lt less of_p of_q a b =
+    let w : IsInHull v cycle (time_of a.first) = subst (λ (c : ℕ). IsInHull v c (time_of a.first)) of_p
+    (k.tidy a.first a.master p.cycle a.dispatch (let e = a.before in omega (arith, e, lt))) in
+    let x : IsInHull v cycle (time_of b.first) = subst (λ (c : ℕ). IsInHull v c (time_of b.first)) of_q
+    (k.tidy b.first b.master q.cycle b.dispatch (let e = b.before in omega (arith, e, less))) in
+    let same : x.hull ≡ w.hull = same_some (hull_of v cycle) x.hull w.hull x.is w.is in
+    let low : w.hull.least ≤ℤ pos (time_of b.first) = subst (λ (y : Hull). y.least ≤ℤ pos (time_of b.first)) same x.least in
+    near_numbers v.sizes (v.scenario.reading cm) w.hull.least w.hull.greatest p.reading q.reading (time_of a.first) (time_of b.first) a.ripe b.ripe
+    (room v k.is) (steady v k.is cm) (k.narrow w.hull w.is) low w.most a.in_time.not_late b.in_time.not_early a.least b.most
+
+-- ---- a good point of what is sent
+
+-- a counted point
+pub record IsCountedIn (ow : ℤ) (o : Point) (rest : List Point) (q : Point) : Type 0 where
+  pub there : Contains (o ∷ rest) q
+  pub of_cycle : q.cycle ≡ o.cycle
+  pub from : o.reading ≤ℤ q.reading
+  pub to : q.reading ≤ℤ end_of ow o (o ∷ rest)
+
+pub counted_in : (ow : ℤ) (o : Point) (rest : List Point) (q : Point) → IsIn q (firsts (of_cycle_within o.cycle o.reading (end_of ow o (o ∷ rest)) (o ∷ rest)))
+    → IsCountedIn ow o rest q
+counted_in ow o rest q i =
+    let end = end_of ow o (o ∷ rest) in
+    let test = in_filter (λ x. x.cycle == o.cycle && (int_le o.reading x.reading && int_le x.reading end)) (o ∷ rest) q
+    (firsts_in (of_cycle_within o.cycle o.reading end (o ∷ rest)) q i) in
+    let both = and_parts (q.cycle == o.cycle) (int_le o.reading q.reading && int_le q.reading end) test.1 in
+    let bounds = and_parts (int_le o.reading q.reading) (int_le q.reading end) both.1 in
+    record { there = test.0; of_cycle = eqb-true q.cycle o.cycle both.0; from = int_le-is o.reading q.reading bounds.0; to = int_le-is q.reading end bounds.1 }
+
+-- a good point in the cluster of what is sent: a precision and more below the emission reading, which is behind the
+-- cluster's end, and at most a precision and the time of a compression above the point
+pub record IsWitness (v : View) (cm : DeviceId) (by cycle : ℕ) (at : ℤ) (ps : List Point) (c : Cluster) (x : Point) : Type 0 where
+  pub there : IsIn x ps
+  pub of_cycle : x.cycle ≡ cycle
+  pub of_cluster : x.cycle ≡ c.cycle
+  pub lies : LiesIn c x
+  pub good : IsGoodPoint v cm by x
+  pub near : (x.reading +ℤ pos v.sizes.precision) <ℤ at
+  pub ends : c.end <ℤ at
+  pub begun : pos 0 <ℤ at
+  pub soon : at ≤ℤ (x.reading +ℤ pos (v.sizes.precision + v.sizes.compression))
+
+-- a cluster of the cycle, of the compression master's points by the records of a front, which are of times up to one
+pub record IsFrontCluster (v : View) (t cycle : ℕ) (cm : DeviceId) (by : ℕ) (front rest : List Happening) (clusters : List Cluster) (c : Cluster) : Type 0 where
+  pub known : IsKnown v t cycle
+  pub whole : v.records ≡ front ++ rest
+  pub only : (h : Happening) → IsIn h front → time_of h ≤ by
+  pub early : by < t
+  pub one : is_cm v.scenario.network cm ≡ true
+  pub are : AreClusters (observation_window v.scenario.network) (points_of front cm) clusters
+  pub there : Contains clusters c
+  pub cycle_is : c.cycle ≡ cycle
+
+-- the numbers of what is sent
+sent_numbers : (ow compression calc : ℕ) (at opened middle x end : ℤ) → 1 ≤ calc → compression ≡ 2 * ow + calc
+    → at ≡ (((opened +ℤ (pos 2 *ℤ pos ow)) +ℤ pos calc) +ℤ middle) → pos 0 ≤ℤ middle → pos 0 ≤ℤ opened → end ≤ℤ (opened +ℤ (pos 2 *ℤ pos ow))
+    → LiesWithin (x -ℤ pos ow) (x +ℤ pos ow) (opened +ℤ middle) → ((x +ℤ pos ow) <ℤ at) × (end <ℤ at) × (pos 0 <ℤ at) × (at ≤ℤ (x +ℤ pos (ow + compression)))
+sent_numbers ow compression calc at opened middle x end some wait is late begun soon near = (
+  omega (arith, ints, some, is, near.0),
+  omega (arith, ints, some, is, late, soon),
+  omega (arith, ints, some, is, late, begun),
+  omega (arith, ints, wait, is, near.1),
+)
+
+-- a member of such a cluster that is good has such a point
+pub front_witness : (v : View) (t cycle : ℕ) (cm : DeviceId) (by : ℕ) (front rest : List Happening) (clusters : List Cluster) (cluster : Cluster)
+    → IsFrontCluster v t cycle cm by front rest clusters cluster → (m : ℕ) → bit_at cluster.members m ≡ 1 → IsGoodMember v m
+    → (x : Point) × IsWitness v cm by cycle (emission (observation_window v.scenario.network) (pos (amount v.scenario.network.calc)) cluster)
+    (points_of front cm) cluster x
+front_witness v t cycle cm by front rest clusters cluster f m bit good =
+    let n = v.scenario.network in
+    let k = f.known in
+    let ow = observation_window n in
+    let ps = points_of front cm in
+    let point : (q : Point) → IsIn q ps → IsGoodPoint v cm by q ⊎ IsBadPoint v q = λ q i. front_point v cm q by front rest k.is f.whole f.only f.one i in
+    let c = opened_by ow ps clusters cluster (points_ordered v cm front rest k.is f.whole) f.are f.there in
+    let o = c.first in
+    let wide : pos 0 ≤ℤ ow = omega (arith, ints) in
+    let end = end_of ow o (o ∷ c.rest) in
+    let least = end_of-least ow o (o ∷ c.rest) wide in
+    let soon = ends_soon ow o (o ∷ c.rest) wide in
+    let qs = firsts (of_cycle_within o.cycle o.reading end (o ∷ c.rest)) in
+    let held = held-start o end c.rest (omega (arith, ints, least, wide)) in
+    let start = firsts-start o (of_cycle_within o.cycle o.reading end c.rest) in
+    let counted : qs ≡ o ∷ start.0 = ap firsts held ∙ start.1 in
+    let each : (q : Point) → IsIn q (o ∷ start.0) → IsCountedIn ow o c.rest q = λ q i. counted_in ow o c.rest q (subst (IsIn q) (sym counted) i) in
+    let in_points : (q : Point) → IsIn q (o ∷ start.0)
+    → IsIn q ps = λ q i. contained ps q
+    (elim (in_cases o q c.rest (each q i).there) [ inl same ↦ subst (Contains ps) same c.there | inr later ↦ c.others q later ]) in
+    let cycle_is : o.cycle ≡ cycle = ap (λ (x : Cluster). x.cycle) (sym c.is) ∙ f.cycle_is in
+    let set : bit_at (members_of qs) m ≡ 1 = subst (λ (x : Cluster). bit_at x.members m ≡ 1) c.is bit in
+    let found = has_one qs m (member_has qs m set) in
+    let x = found.0 in
+    let i : IsIn x (o ∷ start.0) = subst (IsIn x) counted found.1 in
+    let is_good : IsGoodPoint v cm by x = elim (point x (in_points x i)) [
+      | inl one ↦ one
+      | inr bad ↦ absurd (not_both v good.0 bad.master good.2 bad.bad
+          (one_member v good.0 bad.master m k.is good.1 (bad.is_member ∙ ap (λ (m : ℕ). Some m) found.2)))
+    ] in
+    let of_cycle : (q : Point) → IsIn q (o ∷ start.0) → q.cycle ≡ cycle = λ q j. (each q j).of_cycle ∙ cycle_is in
+    let size : v.sizes.precision ≡ amount n.precision = ap (λ (z : Sizes). z.precision) k.is.sizes in
+    let wait : v.sizes.compression ≡ 2 * amount n.precision + amount n.calc = ap (λ (z : Sizes). z.compression) k.is.sizes in
+    let lies : (q : Point) → IsIn q (o ∷ start.0) → LiesWithin (x.reading -ℤ ow) (x.reading +ℤ ow) q.reading
+    ⊎ IsBadPoint v q = λ q j. elim (point q (in_points q j)) [
+      | inr bad ↦ inr bad
+      | inl one ↦
+          let above = good_near v t cycle cm by by q x k f.early f.early (of_cycle q j) (of_cycle x i) one is_good in
+          let below = good_near v t cycle cm by by x q k f.early f.early (of_cycle x i) (of_cycle q j) is_good one in
+          inl (omega (arith, ints, below, size), omega (arith, ints, above, size))
+    ] in
+    let near = middle_near ow (IsBadPoint v) x o start.0 wide
+    (subst Ordered counted
+    (firsts_ordered (of_cycle_within o.cycle o.reading end (o ∷ c.rest))
+    (ordered_filter (λ q. q.cycle == o.cycle && (int_le o.reading q.reading && int_le q.reading end)) (o ∷ c.rest) c.up)))
+    (subst Apart counted (firsts_apart (of_cycle_within o.cycle o.reading end (o ∷ c.rest)))) i lies
+    (λ p q a d bad also. bad_is_one v p q k.is bad also) (λ q j. (let to = (each q j).to in omega (arith, ints, to, soon))) in
+    let at : ℤ = emission ow (pos (amount n.calc)) cluster in
+    let sent : at ≡ emission ow (pos (amount n.calc)) (cluster_of ow o (o ∷ c.rest)) = ap (emission ow (pos (amount n.calc))) c.is in
+    let points : middle_of (relative (map (λ q. q.reading) qs)) ≡ middle_of (relative (map (λ q. q.reading) (o ∷ start.0))) =
+    ap (λ (zs : List Point). middle_of (relative (map (λ q. q.reading) zs))) counted in
+    let whole : at ≡ (((o.reading +ℤ (pos 2 *ℤ ow)) +ℤ pos (amount n.calc)) +ℤ middle_of (relative (map (λ q. q.reading) (o ∷ start.0)))) = sent
+    ∙ ap (λ (z : ℤ). ((o.reading +ℤ (pos 2 *ℤ ow)) +ℤ pos (amount n.calc)) +ℤ z) points in
+    let late : pos 0 ≤ℤ middle_of (relative (map (λ q. q.reading) (o ∷ start.0))) = subst (λ (z : ℤ). pos 0 ≤ℤ z) points
+    (middle_late ow o c.rest (omega (arith, ints, least, wide))) in
+    let calc : 1 ≤ amount n.calc = (let m = (room v k.is).compression_least in omega (arith, m, wait, size)) in
+    let given = point_record cm front o (in_points o (inl refl)) in
+    let begun = (read_at v cm given.0 o k.is (subst (IsIn given.0) (sym f.whole) (in_left given.0 front rest given.1)) given.2).not_negative in
+    let numbers = sent_numbers (amount n.precision) v.sizes.compression (amount n.calc) at o.reading (middle_of (relative (map (λ q. q.reading) (o ∷ start.0))))
+    x.reading end calc wait whole late begun soon near in
+    let here = each x i in (
+      x,
+      record {
+        there = in_points x i;
+        of_cycle = of_cycle x i;
+        of_cluster = here.of_cycle ∙ sym (ap (λ (y : Cluster). y.cycle) c.is);
+        lies = record {
+          low = subst (λ (y : Cluster). y.opened ≤ℤ x.reading) (sym c.is) here.from;
+          high = subst (λ (y : Cluster). x.reading ≤ℤ y.end) (sym c.is)
+              here.to;
+        };
+        good = is_good;
+        near = subst (λ (z : ℕ). (x.reading +ℤ pos z) <ℤ at) (sym size) numbers.0;
+        ends = subst (λ (y : Cluster). y.end <ℤ at) (sym c.is) numbers.1;
+        begun = numbers.2;
+        soon = subst (λ (z : ℕ). at ≤ℤ (x.reading +ℤ pos (z + v.sizes.compression))) (sym size) numbers.3;
+      },
+    )
+
+-- what is sent, given the records before it
+record IsSentBy (v : View) (h : Happening) (cm : DeviceId) (cycle : ℕ) (members : Members) (opened at : Units) (front : List Happening) : Type 0 where
+  pub clusters : List Cluster
+  pub are : AreClusters (observation_window v.scenario.network) (points_of front cm) clusters
+  pub cluster : Cluster
+  pub there : Contains clusters cluster
+  pub one : is_cm v.scenario.network cm ≡ true
+  pub at_is : at.0 ≡ emission (observation_window v.scenario.network) (pos (amount v.scenario.network.calc)) cluster
+  pub opened_is : opened ≡ record { 0 = cluster.opened }
+  pub cycle_is : cycle ≡ cluster.cycle
+  pub members_is : members ≡ record { 0 = cluster.members }
+
+sent_by : (v : View) (h : Happening) (cm : DeviceId) (cycle : ℕ) (members : Members) (e : IsEmission v h cm cycle members)
+    (at : IsFoundedAt v.scenario v.records h) → IsSentBy v h cm cycle members e.opened e.at at.front
+sent_by v h cm cycle members e at =
+    let s = v.scenario in
+    let emits : IsCaused s at.front h.note.time (notes.Compressed cm e.opened e.at cycle members e.verdict) = subst (IsCaused s at.front h.note.time) e.is
+    at.due.cause in
+    record {
+      clusters = emits.clusters;
+      are = emits.are;
+      cluster = emits.cluster;
+      there = emits.there;
+      one = emits.cm;
+      at_is = ap (λ (x : Compressed). x.at.0) emits.is;
+      opened_is = ap (λ (x : Compressed). x.opened) emits.is;
+      cycle_is = ap (λ (x : Compressed). x.cycle) emits.is;
+      members_is = ap (λ (x : Compressed). x.members) emits.is;
+    }
+
+witness : (v : View) (t : ℕ) (h : Happening) (cm : DeviceId) (cycle : ℕ) (members : Members) (k : IsKnown v t cycle) (e : IsEmission v h cm cycle members)
+    (at : IsFoundedAt v.scenario v.records h) → time_of h < t → HasGood v members
+    → (b : IsSentBy v h cm cycle members e.opened e.at at.front) → (x : Point) × IsWitness v cm (time_of h) cycle e.at.0 (points_of at.front cm) b.cluster x
+witness v t h cm cycle members k e at early good b =
+    let bit : bit_at b.cluster.members good.0 ≡ 1 = subst (λ (m : Members). bit_at m.0 good.0 ≡ 1) b.members_is good.1 in
+    let found = front_witness v t cycle cm (time_of h) at.front (h ∷ at.rest) b.clusters b.cluster
+    (record {
+      known = k;
+      whole = at.whole;
+      only = (before_of v h k.is at).only;
+      early = early;
+      one = b.one;
+      are = b.are;
+      there = b.there;
+      cycle_is = sym b.cycle_is;
+    }) good.0 bit good.2 in
+    (found.0, subst (λ (z : ℤ). IsWitness v cm (time_of h) cycle z (points_of at.front cm) b.cluster found.0) (sym b.at_is) found.1)
+
+-- ---- the number of the broken master
+
+-- a number that is of the broken master's points, and of no good one's
+pub record IsBadNumber (v : View) (cm : DeviceId) (by : ℕ) (qs : List Point) (b : ℕ) : Type 0 where
+  pub of_bad : (q : Point) → IsIn q qs → IsBadPoint v q → q.master ≡ b
+  pub of_good : (q : Point) → IsIn q qs → IsGoodPoint v cm by q → q.master ≡ b → ⊥
+
+bad_or_none : (v : View) (cm : DeviceId) (by : ℕ) (qs : List Point) → ((q : Point) → IsIn q qs → IsGoodPoint v cm by q ⊎ IsBadPoint v q)
+    → ((q : Point) × IsBadPoint v q) ⊎ ((q : Point) → IsIn q qs → IsGoodPoint v cm by q)
+bad_or_none v cm by [] each = inr (λ q i. absurd i)
+bad_or_none v cm by (p ∷ qs) each = elim (each p (inl refl)) [
+  | inr bad ↦ inl (p, bad)
+  | inl good ↦ elim (bad_or_none v cm by qs (λ q i. each q (inr i))) [
+    | inl bad ↦ inl bad
+    | inr all ↦ inr (λ q i. elim i [ inl same ↦ subst (IsGoodPoint v cm by) (sym same) good | inr more ↦ all q more ])
+  ]
+]
+
+pub bad_number : (v : View) (cm : DeviceId) (by : ℕ) (qs : List Point) → IsView v → ((q : Point) → IsIn q qs → IsGoodPoint v cm by q ⊎ IsBadPoint v q) → (b : ℕ)
+    × IsBadNumber v cm by qs b
+bad_number v cm by qs is each = elim (bad_or_none v cm by qs each) [
+  | inl bad ↦ (
+    bad.0.master,
+    record {
+      of_bad = λ q i also. bad_is_one v q bad.0 is also bad.1;
+      of_good = λ q i good same. point_not_both v cm by q bad.0 is good
+          bad.1 same;
+    },
+  )
+  | inr all ↦ (
+    32,
+    record {
+      of_bad = λ q i bad. absurd (point_not_both v cm by q q is (all q i) bad refl);
+      of_good = λ q i good same. (let small = (has_member v good.master q.master is good.is_member).small in omega (arith, small, same));
+    },
+  )
+]
+
+-- ---- one cluster
+
+-- two clusters of good points of one cycle are one
+one_of_two : (v : View) (t : ℕ) (g : Happening) (cm : DeviceId) (cycle : ℕ) (k : IsKnown v t cycle) (at : IsFoundedAt v.scenario v.records g) → time_of g < t
+    → is_cm v.scenario.network cm ≡ true
+    → (ds : List Cluster) → AreClusters (observation_window v.scenario.network) (points_of at.front cm) ds → (c d : Cluster) → Contains ds c → Contains ds d
+    → (x y : Point) → IsIn x (points_of at.front cm) → IsIn y (points_of at.front cm) → x.cycle ≡ cycle → y.cycle ≡ cycle → x.cycle ≡ c.cycle
+    → y.cycle ≡ d.cycle → LiesIn c x → LiesIn d y
+    → (late : ℕ) → late < t → IsGoodPoint v cm late x → IsGoodPoint v cm (time_of g) y → c ≡ d
+one_of_two v t g cm cycle k at early one ds are c d in_c in_d x y ix iy of_x of_y of_c of_d lies_x lies_y late less gx gy =
+    let ow = observation_window v.scenario.network in
+    let ps = points_of at.front cm in
+    let wide : pos 0 ≤ℤ ow = omega (arith, ints) in
+    let up : AreInOrder ps = ascending_from ps (points_ordered v cm at.front (g ∷ at.rest) k.is at.whole) in
+    let each : (q : Point) → IsIn q ps → IsGoodPoint v cm (time_of g) q ⊎ IsBadPoint v q = λ q i. point_is v g cm q k.is at one i in
+    let b = bad_number v cm (time_of g) ps k.is each in
+    let size : v.sizes.precision ≡ amount v.scenario.network.precision = ap (λ (z : Sizes). z.precision) k.is.sizes in
+    let kept_good : (q : Point) → IsKept ps ds b.0 cycle q → IsGoodPoint v cm (time_of g) q = λ q kept. elim (each q (contained ps q kept.there))
+    [ inl good ↦ good | inr bad ↦ absurd (kept.other (b.1.of_bad q (contained ps q kept.there) bad)) ] in
+    let near : (p q : Point) → IsKept ps ds b.0 cycle p → IsKept ps ds b.0 cycle q → p.reading ≤ℤ (q.reading +ℤ ow) = λ p q kp kq.
+    (let r = good_near v t cycle cm (time_of g) (time_of g) p q k early early kp.same kq.same (kept_good p kp) (kept_good q kq) in omega (arith, ints, r, size))
+    in
+    let time = one_time_law ow ps ds wide up are in
+    let kept : (q : Point) (e : Cluster) → IsIn q ps → q.cycle ≡ cycle → q.cycle ≡ e.cycle → Contains ds e → LiesIn e q → (q.master ≡ b.0 → ⊥)
+    → IsKept ps ds b.0 cycle q = λ q e i of_q of_e in_e lies_q other.
+    record {
+      there = contains ps q i;
+      other = other;
+      same = of_q;
+      kept = λ dropped.
+          (let u = time q (contains ps q i) in dropped.2 (of_e ∙ ap (λ (z : Cluster). z.cycle) (u.3 e in_e lies_q ∙ sym (u.3 dropped.0 dropped.1 dropped.3))));
+    }
+    in
+    let other_x : x.master ≡ b.0 → ⊥ = elim (each x ix) [ inl good ↦ b.1.of_good x ix good | inr bad ↦ absurd (point_not_both v cm late x x k.is gx bad refl) ]
+    in
+    let kx = kept x c ix of_x of_c in_c lies_x other_x in
+    let ky = kept y d iy of_y of_d in_d lies_y (b.1.of_good y iy gy) in
+    let z = one_cluster ow ps ds b.0 cycle wide up are near x kx in
+    let ux = time x (contains ps x ix) in
+    let uy = time y (contains ps y iy) in
+    ux.3 c in_c lies_x ∙ sym (ux.3 z.0 z.1 (z.2 x kx).1) ∙ (uy.3 z.0 z.1 (z.2 y ky).1 ∙ sym (uy.3 d in_d lies_y))
+
+-- ---- one emission
+
+-- a record that gives a point, behind an emission, is of a later time
+later_time : (t u : ℕ) (xs ys : List ℕ) → IsBefore (t ∷ 4 ∷ xs) (u ∷ 3 ∷ ys) → t < u
+later_time t u xs ys (inl lt) = lt
+later_time t u xs ys (inr (same, inl lt)) = absurd (omega (arith, lt))
+later_time t u xs ys (inr (same, inr (e, more))) = absurd (omega (arith, e))
+
+no_later_time : (t u : ℕ) (xs ys : List ℕ) → IsBefore (t ∷ xs) (u ∷ ys) → t ≤ u
+no_later_time t u xs ys (inl lt) = omega (arith, lt)
+no_later_time t u xs ys (inr (same, more)) = omega (arith, same)
+
+-- of two emissions one is not behind the other
+not_behind : (v : View) (t : ℕ) (h g : Happening) (cm : DeviceId) (cycle : ℕ) (members others : Members) (k : IsKnown v t cycle)
+    → IsEmission v h cm cycle members → IsEmission v g cm cycle others → time_of g < t → HasGood v members → HasGood v others
+    → (at : IsFoundedAt v.scenario v.records g) → (front mid : List Happening) → at.front ≡ front ++ h ∷ mid → ⊥
+not_behind v t h g cm cycle members others k e f early good also at front mid is_front =
+    let s = v.scenario in
+    let n = s.network in
+    let ow = observation_window n in
+    let wide : pos 0 ≤ℤ ow = omega (arith, ints) in
+    let whole : v.records ≡ front ++ h ∷ (mid ++ g ∷ at.rest) = at.whole ∙ ap (λ (hs : List Happening). hs ++ g ∷ at.rest) is_front
+    ∙ append_assoc front (h ∷ mid) (g ∷ at.rest) in
+    let founded : IsFounded place_of (IsDue s) (front ++ h ∷ (mid ++ g ∷ at.rest)) = subst (IsFounded place_of (IsDue s)) whole k.is.run.founded in
+    let at_h : IsFoundedAt s v.records h = record {
+      front = front;
+      rest = mid ++ g ∷ at.rest;
+      whole = whole;
+      due = (founded front (mid ++ g ∷ at.rest) h refl).1;
+      founded = front_founded place_of (IsDue s) front (h ∷ (mid ++ g ∷ at.rest)) founded;
+    } in
+    let before : IsBefore (place_of h) (place_of g) = behind_first place_of (IsDue s) front (mid ++ g ∷ at.rest) h g founded
+    (in_right g mid (g ∷ at.rest) (inl refl)) in
+    let order = no_later_time (time_of h) (time_of g) (rank h.note.body ∷ key (members_in h) h.note.body) (rank g.note.body ∷ key (members_in g) g.note.body)
+    before in
+    let early_h : time_of h < t = omega (arith, order, early) in
+    let b = sent_by v h cm cycle members e at_h in
+    let c = sent_by v g cm cycle others f at in
+    let x = witness v t h cm cycle members k e at_h early_h good b in
+    let y = witness v t g cm cycle others k f at early also c in
+    let sharp = emissions_are_sharp v h cm cycle members e k.is in
+    let sharp_g = emissions_are_sharp v g cm cycle others f k.is in
+    let late : (p : Point) → IsGivenIn cm (h ∷ mid) p → e.at.0 ≤ℤ p.reading = λ p given.
+    let point = gives_point cm given.0 p given.2 in
+    elim given.1 [
+      | inl same ↦ (let wrong : notes.Compressed cm e.opened e.at cycle members e.verdict ≡ notes.Permanent cm point.link point.cause point.point
+          point.verdict = sym e.is ∙ ap (λ (z : Happening). z.note.body) (sym same) ∙ point.is in absurd cc)
+      | inr i ↦
+          let in_rest : IsIn given.0 (mid ++ g ∷ at.rest) = in_left given.0 mid (g ∷ at.rest) i in
+          let behind = behind_first place_of (IsDue s) front (mid ++ g ∷ at.rest) h given.0 founded in_rest in
+          let moved : IsBefore (time_of h ∷ 4 ∷ key (members_in h) (notes.Compressed cm e.opened e.at cycle members e.verdict)) (place_of given.0) = subst
+          (λ (z : NoteBody). IsBefore (time_of h ∷ rank z ∷ key (members_in h) z) (place_of given.0)) e.is behind in
+          let placed : IsBefore (time_of h ∷ 4 ∷ key (members_in h) (notes.Compressed cm e.opened e.at cycle members e.verdict))
+          (time_of given.0 ∷ 3 ∷ key (members_in given.0) (notes.Permanent cm point.link point.cause point.point point.verdict)) = subst
+          (λ (z : NoteBody). IsBefore (time_of h ∷ 4 ∷ key (members_in h) (notes.Compressed cm e.opened e.at cycle members e.verdict))
+          (time_of given.0 ∷ rank z ∷ key (members_in given.0) z)) point.is moved in
+          let lt = later_time (time_of h) (time_of given.0) (key (members_in h) (notes.Compressed cm e.opened e.at cycle members e.verdict))
+          (key (members_in given.0) (notes.Permanent cm point.link point.cause point.point point.verdict)) placed in
+          let in_all : IsIn given.0 v.records = subst (IsIn given.0) (sym whole) (in_right given.0 front (h ∷ (mid ++ g ∷ at.rest)) (inr in_rest)) in
+          let above = later_point v cm p.reading (time_of h) (time_of given.0) k.is (read_at v cm given.0 p k.is in_all point) lt in
+          (let reached = sharp.least in omega (arith, ints, above, reached))
+    ] in
+    elim (points_go_on cm front (h ∷ mid)) [
+      | inr anew ↦
+          let above = late y.0 (anew y.0 (subst (λ (hs : List Happening). IsIn y.0 (points_of hs cm)) is_front y.1.there)) in
+          let near = good_near v t cycle cm (time_of g) (time_of h) y.0 x.0 k early early_h y.1.of_cycle x.1.of_cycle y.1.good x.1.good in
+          (let below = x.1.near in omega (arith, ints, above, near, below))
+      | inl adds ↦
+          let all : points_of at.front cm ≡ points_of front cm ++ adds.more = ap (λ (hs : List Happening). points_of hs cm) is_front ∙ adds.whole in
+          let past = all_by (λ (q : Point). b.cluster.end <ℤ q.reading) adds.more
+          (λ q i. (let above = late q (adds.given q i) in let ends = x.1.ends in omega (arith, ints, above, ends))) in
+          let stays = cluster_stays ow (points_of front cm) adds.more b.clusters c.clusters b.cluster wide b.are
+          (subst (λ (ps : List Point). AreClusters ow ps c.clusters) all c.are) b.there past in
+          let ix : IsIn x.0 (points_of at.front cm) = subst (IsIn x.0) (sym all) (in_left x.0 (points_of front cm) adds.more x.1.there) in
+          let one = one_of_two v t g cm cycle k at early c.one c.clusters c.are b.cluster c.cluster stays c.there x.0 y.0 ix y.1.there x.1.of_cycle y.1.of_cycle
+          x.1.of_cluster y.1.of_cluster x.1.lies y.1.lies (time_of h) early_h x.1.good y.1.good in
+          let at_same : e.at.0 ≡ f.at.0 = b.at_is ∙ ap (emission ow (pos (amount n.calc))) one ∙ sym c.at_is in
+          let same_time : time_of h ≡ time_of g = elim (cases_lt (time_of h) (time_of g)) [
+            | inr ge ↦ omega (arith, ge, order)
+            | inl lt ↦
+                let up = (steady v k.is cm).never_falls (time_of h) (time_of g - 1) (omega (arith, lt)) in
+                (let reached = sharp.least in let not_yet = sharp_g.before in absurd (omega (arith, ints, up, reached, not_yet, at_same)))
+          ] in
+          never_self (place_of g)
+          (subst (λ (p : List ℕ). IsBefore p (place_of g)) (same_place b.cluster c.cluster one same_time b.opened_is c.opened_is at_same b.members_is
+          c.members_is) before)
+    ]
+  where
+    same_units : (a b : Units) → a.0 ≡ b.0 → a ≡ b
+    same_units a b same = ap unit same
+      where
+        unit : ℤ → Units
+        unit z = record { 0 = z }
+
+    same_place : (c d : Cluster) → c ≡ d → time_of h ≡ time_of g → e.opened ≡ record { 0 = c.opened } → f.opened ≡ record { 0 = d.opened } → e.at.0 ≡ f.at.0
+        → members ≡ record { 0 = c.members } → others ≡ record { 0 = d.members } → place_of h ≡ place_of g
+    same_place c d one time opened opened' at_same of_h of_g =
+        let by_opened : e.opened ≡ f.opened = opened ∙ ap (λ (z : Cluster). record { 0 = z.opened }) one ∙ sym opened' in
+        let by_members : members ≡ others = of_h ∙ ap (λ (z : Cluster). record { 0 = z.members }) one ∙ sym of_g in
+        let by_at : e.at ≡ f.at = same_units e.at f.at at_same in
+        ap (λ (z : NoteBody). time_of h ∷ rank z ∷ key (members_in h) z) e.is
+        ∙ ap (λ (z : ℕ). z ∷ 4 ∷ key 0 (notes.Compressed cm e.opened e.at cycle members e.verdict)) time
+        ∙ ap (λ (z : Units). time_of g ∷ 4 ∷ key 0 (notes.Compressed cm z e.at cycle members e.verdict)) by_opened
+        ∙ ap (λ (z : Units). time_of g ∷ 4 ∷ key 0 (notes.Compressed cm f.opened z cycle members e.verdict)) by_at
+        ∙ ap (λ (z : Members). time_of g ∷ 4 ∷ key 0 (notes.Compressed cm f.opened f.at cycle z e.verdict)) by_members
+        ∙ sym (ap (λ (z : NoteBody). time_of g ∷ rank z ∷ key (members_in g) z) f.is)
+
+pub emission_is_one : EmissionIsOne
+emission_is_one v t h g cm cycle members others is tidy narrow e f before after good also =
+    let k : IsKnown v t cycle = record { is = is; tidy = tidy; narrow = narrow } in
+    let at_g = founded_at v.scenario v.records g is.run.founded f.there in
+    let at_h = founded_at v.scenario v.records h is.run.founded e.there in
+    elim (in_parts h at_g.front (g ∷ at_g.rest) (subst (IsIn h) at_g.whole e.there)) [
+      | inl first ↦ (let p = parted h at_g.front first in absurd (not_behind v t h g cm cycle members others k e f after good also at_g p.0 p.1 p.2))
+      | inr (inl same) ↦ same
+      | inr (inr later) ↦
+          let behind = behind_first place_of (IsDue v.scenario) at_g.front at_g.rest g h
+          (subst (IsFounded place_of (IsDue v.scenario)) at_g.whole is.run.founded) later in
+          elim (in_parts g at_h.front (h ∷ at_h.rest) (subst (IsIn g) at_h.whole f.there)) [
+            | inl first ↦ (let p = parted g at_h.front first in absurd (not_behind v t g h cm cycle others members k f e before also good at_h p.0 p.1 p.2))
+            | inr (inl same) ↦ sym same
+            | inr (inr after_h) ↦
+                let ahead = behind_first place_of (IsDue v.scenario) at_h.front at_h.rest h g
+                (subst (IsFounded place_of (IsDue v.scenario)) at_h.whole is.run.founded) after_h in
+                absurd (never_self (place_of h) (chain (place_of h) (place_of g) (place_of h) ahead behind))
+          ]
+    ]

@@ -1,0 +1,183 @@
+-- The points of a compression master as records come.
+use Rattle.std.proofs.Common.{◌≡◌, ◌⊎◌, ℕ, ◌-◌, ◌<◌, ◌≤◌, ℤ, pos, ◌≤ℤ◌, Bool, true, false, not, List, [], ◌∷◌, ◌++◌, Option, Some, None, inl, inr, refl, sym, ap, subst, ◌∙◌, append_assoc, arith}
+use Rattle.std.proofs.lemmas.Bool.{not_from_false}
+use Rattle.std.proofs.lemmas.Int.{ints}
+use Rattle.std.proofs.lemmas.List.Elements.{filter_map-append}
+use Rattle.std.specs.List.{after_last, cons_option, filter_map}
+use Rattle.compression.proofs.Elements.{Ordered}
+use Rattle.compression.specs.Clusters.{Point}
+use Rattle.net_plan.specs.declared.ids.DeviceId.{DeviceId}
+use Rattle.precision_law.proofs.clocks.Readings.{permanence_is_sharp, ripe_in_order}
+use Rattle.precision_law.proofs.compression.Counted.{all_by}
+use Rattle.precision_law.proofs.compression.Emitted.{GivesPoint, arrival_young, gives_point}
+use Rattle.precision_law.proofs.records.Behind.PartsAtLast.{none, some}
+use Rattle.precision_law.proofs.records.Behind.{PartsAtLast, after_last_at, after_last_none, all_of, behind_last, in_filter_map, parts_at_last}
+use Rattle.precision_law.proofs.records.Views.{steady}
+use Rattle.precision_law.specs.Readings.{IsRipe}
+use Rattle.precision_law.specs.Views.{IsView, View}
+use Rattle.run_law.proofs.law.FirstPlaces.{founded_at, numbered_in}
+use Rattle.run_law.proofs.runs.Lacking.{behind_first}
+use Rattle.run_law.proofs.runs.Places.{in_left, in_parts, in_right}
+use Rattle.run_law.specs.control.Collections.{ends_stretch, point_by, points_of}
+use Rattle.run_law.specs.declared.note.NoteBody.TheVariants as notes
+use Rattle.run_law.specs.declared.note.NoteBody.{NoteBody}
+use Rattle.run_law.specs.records.Happenings.{Happening, time_of}
+use Rattle.run_law.specs.records.Order.{IsBefore, IsIn}
+use Rattle.run_law.specs.records.Ranks.{key, members_in, place_of, rank}
+use Rattle.run_law.specs.runs.DueRecords.{IsCaused, IsDue}
+use Rattle.run_law.specs.runs.Runs.{IsFounded}
+use Rattle.tte_units.specs.Amount.{amount}
+
+-- ---- points and their records
+
+-- the reading of the device comes sharply to the point at the time
+pub record IsReadAt (v : View) (cm : DeviceId) (point : ℤ) (q : ℕ) : Type 0 where
+  pub arrived : ℕ
+  pub ripe : IsRipe v.sizes (v.scenario.reading cm) arrived point q
+  pub not_negative : pos 0 ≤ℤ point
+
+pub read_at : (v : View) (cm : DeviceId) (k : Happening) (p : Point) → IsView v → IsIn k v.records → GivesPoint cm k p → IsReadAt v cm p.reading (time_of k)
+read_at v cm k p is i g =
+    let s = v.scenario in
+    let at = founded_at s v.records k is.run.founded i in
+    let ripens : IsCaused s at.front k.note.time (notes.Permanent cm g.link g.cause g.point g.verdict) = subst (IsCaused s at.front k.note.time) g.is
+    at.due.cause in
+    let q = ripens.permanent in
+    let at_a = founded_at s at.front q.arrival at.founded (numbered_in at.front g.cause q.arrival q.there) in
+    let arrived : IsCaused s at_a.front q.arrival.note.time (notes.Arrived cm g.link q.from q.clock) = subst (IsCaused s at_a.front q.arrival.note.time)
+    q.arrived at_a.due.cause in
+    let young = arrival_young v at_a.front (amount q.arrival.note.time) cm g.link q.from q.clock arrived in
+    let dmax = is.lawful.range.dmax.least in
+    let point = q.at_point in
+    let reads = g.reads in
+    let sharp = permanence_is_sharp v.sizes (s.reading cm) (time_of q.arrival) g.point.0 (time_of k) (steady v is cm) (omega (arith, ints, point, young, dmax))
+    q.reached in
+    record {
+      arrived = time_of q.arrival;
+      ripe = subst (λ (z : ℤ). IsRipe v.sizes (s.reading cm) (time_of q.arrival) z (time_of k)) (sym g.reads) sharp;
+      not_negative = omega (arith, ints, reads, point, young, dmax);
+    }
+
+-- a point that is permanent later is not below an earlier reading
+pub later_point : (v : View) (cm : DeviceId) (point : ℤ) (t q : ℕ) → IsView v → IsReadAt v cm point q → t < q → pos (v.scenario.reading cm t) ≤ℤ point
+later_point v cm point t q is r lt =
+    let up = (steady v is cm).never_falls in
+    elim r.ripe.before [
+      | inl before ↦ (let u = up t (q - 1) (omega (arith, lt)) in omega (arith, ints, u, before))
+      | inr at ↦ (let u = up t q (omega (arith, lt)) in omega (arith, ints, u, at))
+    ]
+
+-- ---- order
+
+-- of two records at one place but for points, the first has no greater one
+key_order : (a b : ℕ) (xs ys : List ℕ) (d : ℕ) → IsBefore (d ∷ a ∷ xs) (d ∷ b ∷ ys) → a ≤ b
+key_order a b xs ys d (inl lt) = absurd (omega (arith, lt))
+key_order a b xs ys d (inr (same, inl lt)) = omega (arith, lt)
+key_order a b xs ys d (inr (same, inr (e, more))) = omega (arith, e)
+
+pub place_order : (t u d a b : ℕ) (xs ys : List ℕ) → IsBefore (t ∷ 3 ∷ d ∷ a ∷ xs) (u ∷ 3 ∷ d ∷ b ∷ ys) → (t < u) ⊎ (a ≤ b)
+place_order t u d a b xs ys (inl lt) = inl lt
+place_order t u d a b xs ys (inr (same, inl lt)) = absurd (omega (arith, lt))
+place_order t u d a b xs ys (inr (same, inr (e, more))) = inr (key_order a b xs ys d more)
+
+points_in_order : (v : View) (cm : DeviceId) (k l : Happening) (p q : Point) → IsView v → IsIn k v.records → IsIn l v.records → GivesPoint cm k p
+    → GivesPoint cm l q → IsBefore (place_of k) (place_of l) → p.reading ≤ℤ q.reading
+points_in_order v cm k l p q is i j gk gl before =
+    let a = read_at v cm k p is i gk in
+    let b = read_at v cm l q is j gl in
+    let of_k : IsBefore (time_of k ∷ rank (notes.Permanent cm gk.link gk.cause gk.point gk.verdict)
+    ∷ key (members_in k) (notes.Permanent cm gk.link gk.cause gk.point gk.verdict)) (place_of l) =
+    subst (λ (n : NoteBody). IsBefore (time_of k ∷ rank n ∷ key (members_in k) n) (place_of l)) gk.is before in
+    let of_l : IsBefore (time_of k ∷ rank (notes.Permanent cm gk.link gk.cause gk.point gk.verdict)
+    ∷ key (members_in k) (notes.Permanent cm gk.link gk.cause gk.point gk.verdict))
+    (time_of l ∷ rank (notes.Permanent cm gl.link gl.cause gl.point gl.verdict)
+    ∷ key (members_in l) (notes.Permanent cm gl.link gl.cause gl.point gl.verdict)) =
+    subst (λ (n : NoteBody). IsBefore (time_of k ∷ rank (notes.Permanent cm gk.link gk.cause gk.point gk.verdict)
+    ∷ key (members_in k) (notes.Permanent cm gk.link gk.cause gk.point gk.verdict)) (time_of l ∷ rank n ∷ key (members_in l) n)) gl.is of_k in
+    elim (place_order (time_of k) (time_of l) cm.0 (amount gk.point) (amount gl.point) (members_in k ∷ gk.link.0 ∷ gk.cause ∷ [])
+    (members_in l ∷ gl.link.0 ∷ gl.cause ∷ []) of_l) [
+      | inl lt ↦ ripe_in_order v.sizes (v.scenario.reading cm) a.arrived b.arrived p.reading q.reading (time_of k) (time_of l) (steady v is cm) a.ripe b.ripe lt
+      | inr le ↦ (let x = gk.reads in let y = gl.reads in let m = a.not_negative in let n = b.not_negative in omega (arith, ints, le, x, y, m, n))
+    ]
+
+ordered_by : (v : View) (cm : DeviceId) (ps ks rest : List Happening) → IsView v → v.records ≡ ps ++ (ks ++ rest)
+    → Ordered (filter_map (λ h. point_by cm h h.note.body) ks)
+ordered_by v cm ps [] rest is whole = tt
+ordered_by v cm ps (k ∷ ks) rest is whole =
+    by (point_by cm k k.note.body) refl (ordered_by v cm (ps ++ k ∷ []) ks rest is (whole ∙ sym (append_assoc ps (k ∷ []) (ks ++ rest))))
+  where
+    by : (o : Option Point) → point_by cm k k.note.body ≡ o → Ordered (filter_map (λ h. point_by cm h h.note.body) ks)
+        → Ordered (cons_option o (filter_map (λ h. point_by cm h h.note.body) ks))
+    by None e up = up
+    by (Some p) e up = (
+      all_by (λ (q : Point). p.reading ≤ℤ q.reading) (filter_map (λ h. point_by cm h h.note.body) ks) (λ q i.
+          let made = in_filter_map (λ (h : Happening). point_by cm h h.note.body) ks q i in
+          let in_rest : IsIn made.0 (ks ++ rest) = in_left made.0 ks rest made.1 in
+          let before = behind_first place_of (IsDue v.scenario) ps (ks ++ rest) k made.0 (subst (IsFounded place_of (IsDue v.scenario)) whole is.run.founded)
+          in_rest in
+          points_in_order v cm k made.0 p q is
+          (subst (IsIn k) (sym whole) (in_right k ps (k ∷ (ks ++ rest)) (inl refl)))
+          (subst (IsIn made.0) (sym whole) (in_right made.0 ps (k ∷ (ks ++ rest)) (inr in_rest)))
+          (gives_point cm k p e) (gives_point cm made.0 q made.2) before),
+      up,
+    )
+
+-- the points of a stretch are in their order
+pub points_ordered : (v : View) (cm : DeviceId) (front rest : List Happening) → IsView v → v.records ≡ front ++ rest → Ordered (points_of front cm)
+points_ordered v cm front rest is whole =
+    let cut = behind_last (λ (h : Happening). ends_stretch cm h.note.body) front in
+    ordered_by v cm cut.front (after_last (λ (h : Happening). ends_stretch cm h.note.body) front) rest is
+    (whole ∙ ap (λ (hs : List Happening). hs ++ rest) cut.whole ∙ append_assoc cut.front (after_last (λ (h : Happening). ends_stretch cm h.note.body) front)
+    rest)
+
+-- ---- stretches
+
+-- the point is given by one of the records
+abbrev pub IsGivenIn : DeviceId → List Happening → Point → Type 0
+IsGivenIn cm ks p = (k : Happening) × IsIn k ks × (point_by cm k k.note.body ≡ Some p)
+
+-- behind the last of a kind stands what stood there, with what comes, or only what comes
+module _ {X : Type 0} (p : X → Bool) where
+  pub last_none : (xs ys : List X) → ((y : X) → IsIn y ys → p y ≡ false) → PartsAtLast p xs → after_last p (xs ++ ys) ≡ after_last p xs ++ ys
+  last_none xs ys quiet (none all) =
+      after_last_none p (xs ++ ys)
+      (all_of (λ (x : X). not (p x) ≡ true) (xs ++ ys) (λ x i. not_from_false (p x) (elim (in_parts x xs ys i) [ inl l ↦ all x l | inr r ↦ quiet x r ])))
+      ∙ ap (λ (zs : List X). zs ++ ys) (sym (after_last_none p xs (all_of (λ (x : X). not (p x) ≡ true) xs (λ x i. not_from_false (p x) (all x i)))))
+  last_none xs ys quiet (some front rest last whole here all) =
+      ap (λ (zs : List X). after_last p (zs ++ ys)) whole
+      ∙ ap (after_last p) (append_assoc front (last ∷ rest) ys)
+      ∙ after_last_at p front last (rest ++ ys) here
+      (all_of (λ (x : X). not (p x) ≡ true) (rest ++ ys)
+      (λ x i. not_from_false (p x) (elim (in_parts x rest ys i) [ inl l ↦ all x l | inr r ↦ quiet x r ])))
+      ∙ ap (λ (zs : List X). zs ++ ys)
+      (sym (ap (after_last p) whole
+      ∙ after_last_at p front last rest here (all_of (λ (x : X). not (p x) ≡ true) rest (λ x i. not_from_false (p x) (all x i)))))
+
+  last_parts : (xs ys : List X) → PartsAtLast p ys → (after_last p (xs ++ ys) ≡ after_last p xs ++ ys)
+      ⊎ ((x : X) → IsIn x (after_last p (xs ++ ys)) → IsIn x ys)
+  last_parts xs ys (none all) = inl (last_none xs ys all (parts_at_last p xs))
+  last_parts xs ys (some front rest last whole here all) =
+      let at : after_last p (xs ++ ys) ≡ rest =
+      ap (λ (zs : List X). after_last p (xs ++ zs)) whole ∙ ap (after_last p) (sym (append_assoc xs front (last ∷ rest)))
+      ∙ after_last_at p (xs ++ front) last rest here (all_of (λ (x : X). not (p x) ≡ true) rest (λ x i. not_from_false (p x) (all x i))) in
+      inr (λ x i. subst (IsIn x) (sym whole) (in_right x front (last ∷ rest) (inr (subst (IsIn x) at i))))
+
+-- records that come add points behind those of the stretch, or begin another, whose points are all given by them
+pub record AddsPoints (cm : DeviceId) (front back : List Happening) : Type 0 where
+  pub more : List Point
+  pub whole : points_of (front ++ back) cm ≡ points_of front cm ++ more
+  pub given : (p : Point) → IsIn p more → IsGivenIn cm back p
+
+pub points_go_on : (cm : DeviceId) (front back : List Happening) → AddsPoints cm front back
+    ⊎ ((p : Point) → IsIn p (points_of (front ++ back) cm) → IsGivenIn cm back p)
+points_go_on cm front back =
+    let ends = λ (h : Happening). ends_stretch cm h.note.body in
+    let point = λ (h : Happening). point_by cm h h.note.body in
+    elim (last_parts (λ (h : Happening). ends_stretch cm h.note.body) front back (parts_at_last ends back)) [
+      | inl same ↦ inl (record {
+        more = filter_map point back;
+        whole = ap (filter_map point) same ∙ filter_map-append point (after_last ends front) back;
+        given = λ p i. in_filter_map point back p i;
+      })
+      | inr in_back ↦ inr (λ p i. let made = in_filter_map point (after_last ends (front ++ back)) p i in (made.0, in_back made.0 made.1, made.2))
+    ]

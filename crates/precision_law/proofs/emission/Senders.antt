@@ -1,0 +1,198 @@
+-- The compression master of the sound channel, a good master that began on, and what its dispatches bring.
+use Rattle.std.proofs.Common.{◌≡◌, ◌⊎◌, ℕ, zero, suc, ◌+◌, ◌*◌, ◌<◌, ◌≤◌, ℤ, pos, ◌+ℤ◌, ◌≤ℤ◌, ◌<ℤ◌, Bool, true, false, not, List, [], ◌∷◌, length, Option, Some, None, IsSomeAnd, inl, inr, refl, ap, subst, ◌∙◌, arith, slice_get}
+use Rattle.std.proofs.lemmas.Bool.{both_ways, cases_Bool, cases_lt}
+use Rattle.std.proofs.lemmas.Int.{ints}
+use Rattle.std.proofs.lemmas.Nat.{ones_le_self}
+use Rattle.std.specs.Option.{option_map_or}
+use Rattle.std.specs.Prelude.{IsNone, ◌||◌}
+use Rattle.membership.specs.Members.{count_of}
+use Rattle.net_plan.proofs.Trees.{closed, opened}
+use Rattle.net_plan.specs.Places.{IsCmOf, IsSwitchOf, device_at, is_master}
+use Rattle.net_plan.specs.declared.ids.DeviceId.{DeviceId}
+use Rattle.net_plan.specs.declared.ids.LinkId.{LinkId}
+use Rattle.net_plan.specs.declared.tables.Device.{Device}
+use Rattle.net_plan.specs.declared.tables.Role.TheVariants.{Cm}
+use Rattle.net_plan.specs.declared.tables.Role.{Role}
+use Rattle.net_plan.specs.declared.tables.Way.TheVariants.{Up}
+use Rattle.pcf_values.specs.declared.channel.Channel.TheVariants.{A, B}
+use Rattle.pcf_values.specs.declared.channel.Channel.{Channel}
+use Rattle.precision_law.proofs.block.Dispatched.{masters_dispatch}
+use Rattle.precision_law.proofs.faults.Enough.{enough_masters}
+use Rattle.precision_law.proofs.law.Together.{before_narrow, follows_before}
+use Rattle.precision_law.proofs.records.Views.{room}
+use Rattle.precision_law.proofs.sizes.Instants.{frames_come_first}
+use Rattle.precision_law.proofs.trips.Gates.{dispatches_pass}
+use Rattle.precision_law.proofs.trips.SoundUp.{sound_frames_go_up}
+use Rattle.precision_law.specs.BlockLaws.{BlocksGoSo}
+use Rattle.precision_law.specs.Blocks.{IsInBlock}
+use Rattle.precision_law.specs.Hulls.{Hull, IsInHull, first_correction, first_dispatch, last_dispatch}
+use Rattle.precision_law.specs.Masters.{IsFirstMaster}
+use Rattle.precision_law.specs.Trips.{IsBrought}
+use Rattle.precision_law.specs.Views.{IsDispatch, IsView, View}
+use Rattle.run_law.specs.control.Permanence.{waits_for}
+use Rattle.run_law.specs.records.Happenings.{Happening, time_of}
+use Rattle.run_law.specs.scenario.Devices.{has_role, is_cm, is_cm_role, is_parent_of, is_relay_role}
+use Rattle.run_law.specs.scenario.Scenarios.{is_broken}
+use Rattle.schedule_tables.specs.declared.rule.Rule.TheVariants.{CompressionMasters, Masters}
+use Rattle.tte_units.specs.declared.units.Units.{Units}
+
+-- ---- the compression master
+
+-- the sound channel has one
+pub sound_cm : (v : View) → IsView v → (cm : DeviceId) × IsCmOf v.scenario.network v.channel cm
+sound_cm v is = by v.channel
+  where
+    by : (channel : Channel) → (cm : DeviceId) × IsCmOf v.scenario.network channel cm
+    by A = (let one = (is.lawful.rules CompressionMasters 0).on_a refl in (one.0, one.1))
+    by B = (let one = (is.lawful.rules CompressionMasters 1).on_b refl in (one.0, one.1))
+
+-- what it is
+pub record IsSoundCm (v : View) (cm : DeviceId) : Type 0 where
+  pub one : is_cm v.scenario.network cm ≡ true
+  pub switch : IsSwitchOf v.scenario.network v.channel cm
+  pub waits : (link : LinkId) → waits_for v.scenario.network cm link ≡ true
+
+-- a compression master of the sound channel is such
+pub cm_is : (v : View) (cm : DeviceId) → IsCmOf v.scenario.network v.channel cm → IsSoundCm v cm
+cm_is v cm of_channel =
+    let n = v.scenario.network in
+    let d = opened (λ (x : Device). (x.role ≡ Cm) × (x.channel ≡ Some v.channel)) (device_at n cm) of_channel in
+    let role : (kind : Role → Bool) → has_role n kind cm ≡ kind Cm = λ kind. ap (λ (o : Option Device). option_map_or (λ x. kind x.role) o false) d.1
+    ∙ ap kind d.2.0 in
+    record {
+      one = role is_cm_role;
+      switch = closed (λ (x : Device). x.channel ≡ Some v.channel) (device_at n cm) d.0 d.1 d.2.1;
+      waits = λ link. ap (λ (b : Bool). not b || not (is_parent_of n cm link)) (role is_relay_role);
+    }
+
+-- ---- a first master
+
+-- a device begins on, or does not
+begins_or_not : (o : Option Device) → IsSomeAnd o (λ d. IsNone d.start → ⊥) ⊎ (IsSomeAnd o (λ d. IsNone d.start → ⊥) → ⊥)
+begins_or_not None = inr (λ x. x)
+begins_or_not (Some d) = by d.start
+  where
+    by : (start : Option Units) → (IsNone start → ⊥) ⊎ ((IsNone start → ⊥) → ⊥)
+    by None = inr (λ f. f refl)
+    by (Some u) = inl (λ e. cc)
+
+-- a device is a good master that began on, or is not
+first_or_not : (v : View) (device : DeviceId) → IsFirstMaster v device ⊎ (IsFirstMaster v device → ⊥)
+first_or_not v device =
+    elim (cases_Bool (has_role v.scenario.network is_master device)) [
+      | inr other ↦ inr (λ m. both_ways (has_role v.scenario.network is_master device) other m.master)
+      | inl master ↦ elim (cases_Bool (is_broken v.scenario device v.until)) [
+        | inl bad ↦ inr (λ m. both_ways (is_broken v.scenario device v.until) m.good bad)
+        | inr good ↦ elim (begins_or_not (device_at v.scenario.network device)) [
+          | inl on ↦ inl (record { master = master; on = on; good = good })
+          | inr off ↦ inr (λ m. off m.on)
+        ]
+      ]
+    ]
+
+-- among devices there is one, or none is
+some_first : (v : View) (ds : List Device) (k : ℕ) → ((device : DeviceId) × IsFirstMaster v device)
+    ⊎ ((j : ℕ) → j < length ds → IsFirstMaster v (record { 0 = k + j }) → ⊥)
+some_first v [] k = inr (λ j lt. absurd (omega (arith, lt)))
+some_first v (d ∷ ds) k = elim (first_or_not v (record { 0 = k })) [
+  | inl one ↦ inl (record { 0 = k }, one)
+  | inr none ↦ elim (some_first v ds (k + 1)) [ inl found ↦ inl found | inr all ↦ inr (at none all) ]
+]
+  where
+    plus_zero : (n : ℕ) → n + 0 ≡ n
+    plus_zero n = omega arith
+
+    shifted : (a b : ℕ) → a + suc b ≡ (a + 1) + b
+    shifted a b = omega arith
+
+    at : (IsFirstMaster v (record { 0 = k }) → ⊥) → ((j : ℕ) → j < length ds → IsFirstMaster v (record { 0 = (k + 1) + j }) → ⊥) → (j : ℕ) → j < length (d ∷ ds)
+        → IsFirstMaster v (record { 0 = k + j }) → ⊥
+    at none all zero lt m = none (subst (λ (i : ℕ). IsFirstMaster v (record { 0 = i })) (plus_zero k) m)
+    at none all (suc j) lt m = all j (omega (arith, lt)) (subst (λ (i : ℕ). IsFirstMaster v (record { 0 = i })) (shifted k j) m)
+
+-- what has a role is one of the devices
+within : (xs : List Device) (i : ℕ) (kind : Role → Bool) → option_map_or (λ d. kind d.role) (slice_get xs i) false ≡ true → i < length xs
+within [] i kind e = absurd cc
+within (x ∷ xs) zero kind e = omega arith
+within (x ∷ xs) (suc i) kind e = (let more = within xs i kind e in omega (arith, more))
+
+-- the masters are enough, so there is one
+pub first_master : (v : View) → IsView v → (device : DeviceId) × IsFirstMaster v device
+first_master v is =
+    let n = v.scenario.network in
+    elim (some_first v n.device 0) [
+      | inl found ↦ found
+      | inr none ↦
+          let enough = enough_masters v (record { 0 = 0 }) is
+          (λ device i m e.
+          absurd (none device.0 (within n.device device.0 is_master m.master)
+          (subst (λ (k : ℕ). IsFirstMaster v (record { 0 = k })) (zero_plus device.0) m))) in
+          let least = (is.lawful.rules Masters 2).threshold_least refl in
+          let nothing : count_of (record { 0 = 0 }) ≤ 0 = ones_le_self 0 in
+          absurd (omega (arith, enough, least, nothing))
+    ]
+  where
+    zero_plus : (n : ℕ) → n ≡ 0 + n
+    zero_plus n = omega arith
+
+-- ---- what a dispatch brings
+
+-- the dispatch of a first master in the block, and what it brings to the compression master
+pub record IsSender (v : View) (n : ℕ) (before : Hull) (cm master : DeviceId) : Type 0 where
+  pub first : Happening
+  pub dispatch : IsDispatch v first master (suc n)
+  pub inside : IsInHull v (suc n) (time_of first)
+  pub low : first_dispatch v.sizes before ≤ℤ pos (time_of first)
+  pub high : pos (time_of first) ≤ℤ last_dispatch v.sizes before
+  pub brought : IsBrought v Up first cm
+
+-- numbers
+in_time : (w t until dmax compression base path precision reach : ℕ) (last first : ℤ) → pos w ≤ℤ last
+    → ((last +ℤ pos (2 * dmax + compression + base + path + precision)) +ℤ pos (5 * precision)) <ℤ first → (first +ℤ pos reach) ≤ℤ pos t → t ≤ until
+    → (w ≤ t) × (w + dmax + path ≤ until) × (w + dmax ≤ until + path)
+in_time w t until dmax compression base path precision reach last first le lt late within =
+    (omega (arith, ints, le, lt, late), omega (arith, ints, le, lt, late, within), omega (arith, ints, le, lt, late, within))
+
+-- the last dispatch comes before the correction points
+dispatches_over : (v : View) (n t : ℕ) (block : IsInBlock v n t) → IsView v → (first_correction v.sizes block.before.hull +ℤ pos v.sizes.reach) ≤ℤ pos t
+    → last_dispatch v.sizes block.before.hull ≤ℤ pos t
+dispatches_over v n t block is late =
+    let first = frames_come_first v.sizes block.before.hull (room v is) (before_narrow v n block.before) in
+    omega (arith, ints, first, late)
+
+-- each first master has one
+pub sends_up : BlocksGoSo → (v : View) (n t : ℕ) (block : IsInBlock v n t) (cm master : DeviceId) → IsView v
+    → (first_correction v.sizes block.before.hull +ℤ pos v.sizes.reach) ≤ℤ pos t → IsCmOf v.scenario.network v.channel cm → IsFirstMaster v master
+    → IsSender v n block.before.hull cm master
+sends_up goes v n t block cm master is late one first =
+    let before = block.before in
+    let sent = masters_dispatch goes v n t block master is (dispatches_over v n t block is late) first in
+    let w = time_of sent.0 in
+    let space = frames_come_first v.sizes before.hull (room v is) (before_narrow v n before) in
+    let times = in_time w t v.until v.sizes.dmax v.sizes.compression v.sizes.base v.sizes.path v.sizes.precision v.sizes.reach
+    (last_dispatch v.sizes before.hull) (first_correction v.sizes before.hull) sent.2 space late block.in_run in
+    let from : before.next ≤ w = elim (cases_lt w before.next) [
+      | inr ge ↦ ge
+      | inl early ↦ (let wrong = (before.dispatches sent.0 master (suc n) sent.1 early).0 in absurd (omega (arith, wrong)))
+    ] in
+    let there : IsInBlock v n w = record {
+      before = before;
+      next = block.next;
+      is_over = block.is_over;
+      from = from;
+      to = omega (arith, times.0, block.to);
+      in_run = omega (arith, times.0, block.in_run);
+    } in
+    let so = (goes v n w there is).dispatches sent.0 master (suc n) sent.1 refl in
+    let hull = so.inside in
+    let follows = follows_before v n before.hull hull.hull is before.is_hull hull.is in
+    let low : first_dispatch v.sizes before.hull ≤ℤ pos w = (let a = follows.least in let b = hull.least in omega (arith, ints, a, b)) in
+    let open_gates = dispatches_pass goes v n w there is low sent.2 times.2 in
+    record {
+      first = sent.0;
+      dispatch = sent.1;
+      inside = hull;
+      low = low;
+      high = sent.2;
+      brought = sound_frames_go_up v sent.0 master cm (suc n) is sent.1 one open_gates times.1;
+    }

@@ -1,0 +1,163 @@
+-- One master at most is broken, and no two masters have one member number.
+use Rattle.std.proofs.Common.{◌≡◌, ℕ, zero, suc, ◌<◌, ◌≤◌, Bool, true, false, List, [], ◌∷◌, ◌++◌, filter, Option, Some, None, inl, inr, refl, sym, ap, subst, ◌∙◌, arith}
+use Rattle.std.proofs.lemmas.Bool.{cases_eq, cases_lt}
+use Rattle.std.specs.Prelude.{IfSome, if◌then◌else◌, is_some, nat_le, option_and_then, slice_get}
+use Rattle.net_plan.specs.Places.{device_at, is_master}
+use Rattle.net_plan.specs.Ranges.{IsDeviceInRange}
+use Rattle.net_plan.specs.declared.event.Event.{Event}
+use Rattle.net_plan.specs.declared.event.What.TheVariants as events
+use Rattle.net_plan.specs.declared.ids.DeviceId.{DeviceId}
+use Rattle.net_plan.specs.declared.tables.Device.{Device}
+use Rattle.precision_law.proofs.faults.Masters.{any_in, breaks_it, device_of_place}
+use Rattle.precision_law.proofs.trips.Ascents.{bad_role}
+use Rattle.precision_law.specs.Masters.{OneMasterBreaks}
+use Rattle.precision_law.specs.Views.{IsBad, IsView, View}
+use Rattle.run_law.proofs.law.FirstPlaces.{in_filter}
+use Rattle.run_law.proofs.runs.Places.{in_parts, parted}
+use Rattle.run_law.proofs.scenario.Decisions.{any_first, any_later}
+use Rattle.run_law.specs.declared.outside.Outside.TheVariants.{SecondBreak}
+use Rattle.run_law.specs.records.Order.{IsIn}
+use Rattle.run_law.specs.scenario.Devices.{member_of}
+use Rattle.run_law.specs.scenario.Faults.{Breaks, IsBroken}
+use Rattle.run_law.specs.scenario.Hypothesis.{breaks_at}
+use Rattle.run_law.specs.scenario.Scenarios.{events_up_to}
+use Rattle.schedule_tables.proofs.EntryLemmas.{all_at}
+use Rattle.schedule_tables.specs.declared.rule.Rule.TheVariants.{Masters}
+use Rattle.tte_units.specs.Amount.{amount}
+
+-- ---- one breaks
+
+-- an event by which a broken device broke
+pub record BrokeBy (v : View) (device : DeviceId) : Type 0 where
+  pub event : Event
+  pub there : IsIn event v.scenario.events
+  pub breaks : Breaks device event
+
+pub broke_by : (v : View) (device : DeviceId) → IsBad v device → BrokeBy v device
+broke_by v device bad =
+    let s = v.scenario in
+    let found = any_in (λ (e : Event). breaks_at device.0 e.what) (events_up_to s v.until) bad in
+    let breaks = breaks_it device.0 found.0.what found.2 in
+    let same = device_of_place breaks.0 device breaks.2 in
+    record { event = found.0; there = in_filter (λ e. nat_le (amount e.time) v.until) s.events found.0 found.1; breaks = breaks.1 ∙ ap events.Break same }
+
+broken_in : (es : List Event) (e : Event) (device : DeviceId) → IsIn e es → Breaks device e → IsBroken es device
+broken_in [] e device i breaks = absurd i
+broken_in (x ∷ es) e device (inl same) breaks = any_first (Breaks device) x es (subst (Breaks device) same breaks)
+broken_in (x ∷ es) e device (inr more) breaks = any_later (Breaks device) x es (broken_in es e device more breaks)
+
+in_end : {X : Type 0} (ps qs : List X) (x : X) → IsIn x (ps ++ x ∷ qs)
+in_end [] qs x = inl refl
+in_end (p ∷ ps) qs x = inr (in_end ps qs x)
+
+split_twice : {X : Type 0} (ps mid qs : List X) (e : X) → (ps ++ e ∷ mid) ++ qs ≡ ps ++ e ∷ (mid ++ qs)
+split_twice [] mid qs e = refl
+split_twice (p ∷ ps) mid qs e = ap (λ (t : List _). p ∷ t) (split_twice ps mid qs e)
+
+pub one_bad : (v : View) (device other : DeviceId) → IsView v → IsBad v device → IsBad v other → other ≡ device
+one_bad v device other is bad bad' =
+    let s = v.scenario in
+    let a = broke_by v device bad in
+    let b = broke_by v other bad' in
+    let at = parted a.event s.events a.there in
+    elim (in_parts b.event at.0 (a.event ∷ at.1) (subst (IsIn b.event) at.2 b.there)) [
+      | inl before ↦ absurd (is.lawful.within at.0 at.1 a.event at.2 SecondBreak
+          (record { device = device; broken = other; breaks = a.breaks; is_broken = broken_in at.0 b.event other before b.breaks }))
+      | inr (inl same) ↦ (let both : events.Break other ≡ events.Break device = sym b.breaks ∙ ap (λ (e : Event). e.what) same ∙ a.breaks in cc)
+      | inr (inr after) ↦
+          let to = parted b.event at.1 after in
+          let whole : s.events ≡ (at.0 ++ a.event ∷ to.0) ++ b.event ∷ to.1 = at.2 ∙ ap (λ (t : List Event). at.0 ++ a.event ∷ t) to.2
+          ∙ sym (split_twice at.0 to.0 (b.event ∷ to.1) a.event) in
+          absurd (is.lawful.within (at.0 ++ a.event ∷ to.0) to.1 b.event whole SecondBreak
+          (record {
+            device = other;
+            broken = device;
+            breaks = b.breaks;
+            is_broken = broken_in (at.0 ++ a.event ∷ to.0) a.event device
+                (in_end at.0 to.0 a.event) a.breaks;
+          }))
+    ]
+
+pub one_master_breaks : OneMasterBreaks
+one_master_breaks v device is bad = record { master = bad_role v device is bad; only = λ other bad'. one_bad v device other is bad bad' }
+
+-- ---- member numbers
+
+-- where what passes a test stands among those that do
+kept_place : {X : Type 0} (p : X → Bool) (xs : List X) (i : ℕ) (x : X) → slice_get xs i ≡ Some x → p x ≡ true → (j : ℕ) × (slice_get (filter p xs) j ≡ Some x)
+kept_place p [] i x at pass = absurd cc
+kept_place {X} p (z ∷ zs) zero x at pass =
+    let same : z ≡ x = cc in
+    (0, ap (λ (b : Bool). slice_get (if b then z ∷ filter p zs else filter p zs) 0) (ap p same ∙ pass) ∙ ap (λ (y : X). Some y) same)
+kept_place p (z ∷ zs) (suc i) x at pass =
+    let more = kept_place p zs i x at pass in
+    elim (p z) as (λ b. (j : ℕ) × (slice_get (if b then z ∷ filter p zs else filter p zs) j ≡ Some x)) [
+      | true ↦ (suc more.0, more.1)
+      | false ↦ more
+    ]
+
+kept_pair : {X : Type 0} (p : X → Bool) (xs : List X) (i k : ℕ) (x y : X) → i < k → slice_get xs i ≡ Some x → slice_get xs k ≡ Some y → p x ≡ true → p y ≡ true
+    → (j : ℕ) × (l : ℕ) × (j < l) × (slice_get (filter p xs) j ≡ Some x) × (slice_get (filter p xs) l ≡ Some y)
+kept_pair p [] i k x y lt at to pass passed = absurd cc
+kept_pair p (z ∷ zs) i zero x y lt at to pass passed = absurd (omega (arith, lt))
+kept_pair {X} p (z ∷ zs) zero (suc k) x y lt at to pass passed =
+    let same : z ≡ x = cc in
+    let later = kept_place p zs k y to passed in
+    let first : p z ≡ true = ap p same ∙ pass in (
+      0,
+      suc later.0,
+      omega arith,
+      ap (λ (b : Bool). slice_get (if b then z ∷ filter p zs else filter p zs) 0) first ∙ ap (λ (w : X). Some w) same,
+      ap (λ (b : Bool). slice_get (if b then z ∷ filter p zs else filter p zs) (suc later.0)) first ∙ later.1,
+    )
+kept_pair p (z ∷ zs) (suc i) (suc k) x y lt at to pass passed =
+    let more = kept_pair p zs i k x y (omega (arith, lt)) at to pass passed in
+    elim (p z) as (λ b. (j : ℕ) × (l : ℕ) × (j < l) × (slice_get (if b then z ∷ filter p zs else filter p zs) j ≡ Some x)
+    × (slice_get (if b then z ∷ filter p zs else filter p zs) l ≡ Some y)) [
+      | true ↦ (suc more.0, suc more.1, (let lt' = more.2 in omega (arith, lt')), more.3, more.4)
+      | false ↦ more
+    ]
+
+-- the device of a member number
+pub record HasMember (v : View) (device : DeviceId) (m : ℕ) : Type 0 where
+  pub d : Device
+  pub at : device_at v.scenario.network device ≡ Some d
+  pub member : d.member ≡ Some m
+  pub master : is_master d.role ≡ true
+  pub small : m ≤ 31
+
+pub has_member : (v : View) (device : DeviceId) (m : ℕ) → IsView v → member_of v.scenario.network device ≡ Some m → HasMember v device m
+has_member v device m is e = by (device_at v.scenario.network device) refl e
+  where
+    by : (o : Option Device) → device_at v.scenario.network device ≡ o → option_and_then (λ d. d.member) o ≡ Some m → HasMember v device m
+    by None at e = absurd cc
+    by (Some d) at e =
+        let known : IsDeviceInRange d = all_at IsDeviceInRange v.scenario.network.device device.0 d is.lawful.range.devices at in
+        record {
+          d = d;
+          at = at;
+          member = e;
+          master = sym known.masters ∙ ap is_some e;
+          small = subst (λ (o : Option ℕ). IfSome o (λ k. k ≤ 31)) e known.member;
+        }
+
+pub one_member : (v : View) (a b : DeviceId) (m : ℕ) → IsView v → member_of v.scenario.network a ≡ Some m → member_of v.scenario.network b ≡ Some m → a ≡ b
+one_member v a b m is of_a of_b =
+    let x = has_member v a m is of_a in
+    let y = has_member v b m is of_b in
+    let differ = (is.lawful.rules Masters 1).members refl in
+    elim (cases_eq a.0 b.0) [
+      | inl same ↦ device_of_place a b same
+      | inr other ↦ elim (cases_lt a.0 b.0) [
+        | inl lt ↦
+            let p = kept_pair (λ (d : Device). is_master d.role) v.scenario.network.device a.0 b.0 x.d y.d lt x.at y.at x.master y.master in
+            absurd (differ p.0 p.1 x.d y.d p.2 p.3 p.4 (x.member ∙ sym y.member))
+        | inr ge ↦
+            let p = kept_pair (λ (d : Device). is_master d.role) v.scenario.network.device b.0 a.0 y.d x.d (strict a.0 b.0 ge other) y.at x.at y.master x.master
+            in
+            absurd (differ p.0 p.1 y.d x.d p.2 p.3 p.4 (y.member ∙ sym x.member))
+      ]
+    ]
+  where
+    strict : (i j : ℕ) → j ≤ i → (i ≡ j → ⊥) → j < i
+    strict i j ge other = elim (cases_lt j i) [ inl lt ↦ lt | inr le ↦ absurd (other (omega (arith, ge, le))) ]

@@ -1,0 +1,41 @@
+-- What a device that joins comes to by its first correction.
+use Rattle.std.proofs.Common.{ℕ, ℤ, ◌-ℤ◌, List, sym, subst}
+use Rattle.net_plan.specs.declared.ids.DeviceId.{DeviceId}
+use Rattle.precision_law.specs.Dispatches.{DispatchesStayNear}
+use Rattle.precision_law.specs.Joined.{IsFirstCorrection, IsFixedByPoints, JoinersComeIn}
+use Rattle.precision_law.specs.Precision.{ClocksStayTogether, IsRunUpTo}
+use Rattle.run_law.specs.control.Corrections.{standing_before}
+use Rattle.run_law.specs.declared.note.Note.{Note}
+use Rattle.run_law.specs.declared.note.NoteBody.TheVariants as notes
+use Rattle.run_law.specs.records.Happenings.{Happening, happenings, time_of}
+use Rattle.run_law.specs.runs.DueRecords.{IsCaused}
+use Rattle.run_law.specs.scenario.Scenarios.{Scenario}
+use Rattle.sync_state.proofs.LawLemmas.{by_points}
+use Rattle.sync_state.specs.Verdicts.{HasVerdict}
+use Rattle.sync_state.specs.declared.answers.Verdict.TheVariants.{Corrected}
+
+-- a correction is by what was heard
+fixed_by_points : (s : Scenario) (mark : List ℕ) (ns : List Note) (until : ℕ) → IsRunUpTo s mark ns until → (device : DeviceId) (h : Happening)
+    → (f : IsFirstCorrection s (happenings s.network ns) device h) → IsFixedByPoints s f.front (time_of h) device f.adjustment
+fixed_by_points s mark ns until up device h f =
+    let due = (up.run.founded f.front f.rest h f.whole).1 in
+    let caused : IsCaused s f.front h.note.time (notes.Corrected device f.cycle f.by f.adjustment) = subst (IsCaused s f.front h.note.time) f.is due.cause in
+    let standing = standing_before s f.front device (time_of h) in
+    let point = caused.corrected in
+    record {
+      heard = point.summary;
+      sums = point.heard;
+      from_any =
+          λ other. subst (λ (z : ℤ). HasVerdict (record standing { adjustment = other }) point.summary (Corrected (record { 0 = z -ℤ other.0 })))
+          (sym caused.sum) (by_points standing point.summary f.by other point.comes);
+    }
+
+pub joiners_come_in : ClocksStayTogether → DispatchesStayNear → JoinersComeIn
+joiners_come_in together near s mark ns until up device h le f =
+    let agree = together s mark ns until up in
+    record {
+      fixed = fixed_by_points s mark ns until up device h f;
+      near = λ cycle g other own same_master theirs. (near s mark ns until up cycle g other own theirs, near s mark ns until up cycle other g theirs own);
+      after = λ t e from to own theirs. agree.after t device e to own theirs;
+      before = λ t e from to own theirs. agree.before t device e to own theirs;
+    }

@@ -1,0 +1,214 @@
+-- In the span of a cycle the clocks keep between the ideal clocks of that cycle.
+use Rattle.std.proofs.Common.{◌≡◌, ℕ, zero, suc, ◌+◌, ◌-◌, ◌*◌, ◌<◌, ◌≤◌, ℤ, pos, ◌+ℤ◌, ◌-ℤ◌, ◌<ℤ◌, ◌≤ℤ◌, List, Some, inl, inr, refl, sym, subst, ◌∙◌, arith}
+use Rattle.std.proofs.lemmas.Bool.{cases_lt}
+use Rattle.std.proofs.lemmas.Int.{by_lt_z, ints}
+use Rattle.net_plan.specs.declared.ids.DeviceId.{DeviceId}
+use Rattle.precision_law.proofs.block.Goings.{corrections_go_on, known_dispatch}
+use Rattle.precision_law.proofs.law.Keeping.{ideal_least, ideal_most}
+use Rattle.precision_law.proofs.law.OnTime.{begins_late, corrected_late}
+use Rattle.precision_law.proofs.law.Precision.{not_integrating, timed_of}
+use Rattle.precision_law.proofs.law.Together.{before_narrow, block_ends, follows_before, old_shows}
+use Rattle.precision_law.proofs.records.Cutting.{IsCutAt}
+use Rattle.precision_law.proofs.records.RunViews.{all_in_hulls, hull_is_from_to, of_cut, view_of, view_with}
+use Rattle.precision_law.proofs.records.Views.{room}
+use Rattle.precision_law.specs.BlockLaws.{BlocksCover, BlocksGoSo}
+use Rattle.precision_law.specs.Blocks.{HasTimeAt, IsInBlock, adjustment_left, state_left}
+use Rattle.precision_law.specs.Dispatches.{AreFromTo}
+use Rattle.precision_law.specs.Epochs.{epoch_time, last_setting}
+use Rattle.precision_law.specs.Hulls.{Hull, hull_of}
+use Rattle.precision_law.specs.IdealClocks.{ClocksKeepTheSpan, IsBehindCorrections, IsBetweenIdeals}
+use Rattle.precision_law.specs.Masters.{OneChannelIsSound}
+use Rattle.precision_law.specs.Standings.{ShowsIn}
+use Rattle.precision_law.specs.Views.{IsView, View}
+use Rattle.run_law.specs.device.States.{adjustment_after, state_after}
+use Rattle.run_law.specs.records.Happenings.{Happening, earlier, happenings}
+use Rattle.run_law.specs.scenario.Scenarios.{Scenario, is_turned_on_at}
+use Rattle.schedule_tables.specs.Margins.{clock_error, drift_of}
+use Rattle.sync_state.specs.declared.state.State.TheVariants.{Synchronised}
+use Rattle.tte_units.specs.Amount.{amount}
+
+-- ---- one hull
+
+antisym : (a b : ℤ) → a ≤ℤ b → b ≤ℤ a → a ≡ b
+antisym a b low high = omega (arith, ints, low, high)
+
+-- the first and the last dispatch of a cycle are one
+one_span : (s : Scenario) (hs : List Happening) (t cycle : ℕ) (first last least greatest : ℤ) → AreFromTo s hs t cycle first last
+    → AreFromTo s hs t cycle least greatest → (first ≡ least) × (last ≡ greatest)
+one_span s hs t zero first last least greatest a b = (a.0 ∙ sym b.0, a.1 ∙ sym b.1)
+one_span s hs t (suc c) first last least greatest a b =
+    let one = (a.each b.earliest b.is_earliest).0 in
+    let two = (b.each a.earliest a.is_earliest).0 in
+    let three = (a.each b.latest b.is_latest).1 in
+    let four = (b.each a.latest a.is_latest).1 in (
+      antisym first least (let e = b.first_is in omega (arith, ints, one, e)) (let e = a.first_is in omega (arith, ints, two, e)),
+      antisym last greatest (let e = a.last_is in omega (arith, ints, four, e)) (let e = b.last_is in omega (arith, ints, three, e)),
+    )
+
+-- ---- the block of the span
+
+-- the last correction of this cycle comes before the instant
+abbrev ComesBefore : View → ℕ → ℕ → Type 0
+ComesBefore v t c =
+    (first : ℤ) × (last : ℤ) × AreFromTo v.scenario v.records v.until c first last
+    × (((last +ℤ pos (v.sizes.cycle + v.sizes.correction)) +ℤ pos (2 * v.sizes.reach)) <ℤ pos t)
+
+-- where it does, the block is not that of the cycle, nor of an earlier one
+not_earlier : BlocksCover → BlocksGoSo → (v : View) (k c : ℕ) (block : IsInBlock v k v.until) → IsView v → ComesBefore v v.until c → k ≤ c → ⊥
+not_earlier cover goes v k c block is before le =
+    let hull = block.before.hull in
+    let ends = block_ends v k block.next hull block.before.is_hull block.is_over in
+    let to = block.to in
+    let after = before.3 in
+    elim (cases_lt k c) [
+      | inr ge ↦
+          let same : c ≡ k = omega (arith, le, ge) in
+          let at = one_span v.scenario v.records v.until k before.0 before.1 hull.least hull.greatest
+          (subst (λ (x : ℕ). AreFromTo v.scenario v.records v.until x before.0 before.1) same before.2)
+          (hull_is_from_to cover goes v is k hull block.before.is_hull) in
+          let top = at.1 in
+          omega (arith, ints, ends, to, after, top)
+      | inl lt ↦ by c lt before.2 after
+    ]
+  where
+    by : (c : ℕ) → k < c → AreFromTo v.scenario v.records v.until c before.0 before.1
+        → ((before.1 +ℤ pos (v.sizes.cycle + v.sizes.correction)) +ℤ pos (2 * v.sizes.reach)) <ℤ pos v.until → ⊥
+    by zero lt lie after = omega (arith, lt)
+    by (suc d) lt lie after =
+        let hull = block.before.hull in
+        let ends = block_ends v k block.next hull block.before.is_hull block.is_over in
+        let to = block.to in
+        let e = lie.latest in
+        let own = lie.is_latest in
+        let inside = all_in_hulls cover goes v is e own.master (suc d) (record { there = own.there; is = own.is; good = own.correct }) in
+        let known : suc d ≤ suc k =
+        (known_dispatch v k (v.until + 1) block.before
+        (λ u from less. goes v k u
+        (record {
+          before = block.before;
+          next = block.next;
+          is_over = block.is_over;
+          from = from;
+          to = omega (arith, less, to);
+          in_run = omega (arith, less);
+        }) is) e own.master (suc d) (record { there = own.there; is = own.is; good = own.correct })
+        (let within = own.by_then in omega (arith, within))).0 in
+        let same : suc d ≡ suc k = omega (arith, known, lt) in
+        let at : hull_of v (suc k) ≡ Some inside.hull = subst (λ (x : ℕ). hull_of v x ≡ Some inside.hull) same inside.is in
+        let follows = follows_before v k hull inside.hull is block.before.is_hull at in
+        let space = room v is in
+        let narrow = before_narrow v k block.before in
+        let last_is = lie.last_is in
+        let low = inside.least in
+        omega (arith, ints, ends, to, after, last_is, low, follows.least, narrow, space.cycles, space.eight_errors)
+
+-- where the first correction behind a cycle does not come before, the block is that behind the cycle, or an earlier one
+not_later : BlocksCover → BlocksGoSo → (v : View) (k cycle : ℕ) (first last : ℤ) (block : IsInBlock v k v.until) → IsView v
+    → AreFromTo v.scenario v.records v.until cycle first last → (pos v.until +ℤ pos v.sizes.reach) ≤ℤ (first +ℤ pos (v.sizes.cycle + v.sizes.correction))
+    → cycle < k → ⊥
+not_later cover goes v zero cycle first last block is lie early lt = omega (arith, lt)
+not_later cover goes v (suc j) cycle first last block is lie early lt =
+    let stands = block.before in
+    let one = stands.narrow cycle (omega (arith, lt)) in
+    let there = stands.narrow j (omega arith) in
+    let at = one_span v.scenario v.records v.until cycle first last one.0.least one.0.greatest lie (hull_is_from_to cover goes v is cycle one.0 one.1) in
+    let gap : cycle + (j - cycle) ≡ j = omega (arith, lt) in
+    let at_j : hull_of v (cycle + (j - cycle)) ≡ Some there.0 = subst (λ (x : ℕ). hull_of v x ≡ Some there.0) (sym gap) there.1 in
+    let low = corrections_go_on v (suc j) cycle (j - cycle) stands one.0 there.0 is (omega (arith, lt)) one.1 at_j in
+    let late = begins_late v j stands is in
+    let follows = follows_before v j there.0 stands.hull is there.1 stands.is_hull in
+    let from = block.from in
+    let bottom = at.0 in
+    omega (arith, ints, low, late, follows.least, follows.ordered, from, early, bottom)
+
+-- ---- in the span
+
+-- the two bounds of the corrections are one
+early_by : (t reach cycle correction : ℕ) (first least : ℤ) → first ≡ least → (pos t +ℤ pos reach) ≤ℤ (first +ℤ pos (cycle + correction))
+    → pos t ≤ℤ ((((least +ℤ pos cycle) +ℤ pos correction) -ℤ pos (2 * reach)) +ℤ pos reach)
+early_by t reach cycle correction first least same le = omega (arith, ints, same, le)
+
+span_shows : BlocksCover → BlocksGoSo → (v : View) (cycle : ℕ) (first last : ℤ) (device : DeviceId) → IsView v
+    → AreFromTo v.scenario v.records v.until cycle first last → ((c : ℕ) → cycle ≡ suc c → ComesBefore v v.until c)
+    → (pos v.until +ℤ pos v.sizes.reach) ≤ℤ (first +ℤ pos (v.sizes.cycle + v.sizes.correction)) → HasTimeAt v device v.until
+    → state_left v device v.until ≡ Synchronised
+    → (hull : Hull) × (first ≡ hull.least) × (last ≡ hull.greatest)
+    × ShowsIn v.sizes (pos (v.scenario.reading device v.until) +ℤ adjustment_left v device v.until) cycle hull v.until
+span_shows cover goes v cycle first last device is lie behind early has synchronised =
+    let covered = cover v v.until is (omega arith) in
+    let k = covered.0 in
+    let block = covered.1 in
+    let low : cycle ≤ k = elim (cases_lt k cycle) [ inr ge ↦ ge | inl lt ↦ absurd (earlier_not cycle lt behind) ] in
+    let high : k ≤ cycle = elim (cases_lt cycle k) [ inr ge ↦ ge | inl lt ↦ absurd (not_later cover goes v k cycle first last block is lie early lt) ] in
+    let same : k ≡ cycle = omega (arith, low, high) in
+    let hull = block.before.hull in
+    let at_hull = subst (λ (x : ℕ). AreFromTo v.scenario v.records v.until x hull.least hull.greatest) same
+    (hull_is_from_to cover goes v is k hull block.before.is_hull) in
+    let at = one_span v.scenario v.records v.until cycle first last hull.least hull.greatest lie at_hull in
+    let soon = early_by v.until v.sizes.reach v.sizes.cycle v.sizes.correction first hull.least at.0 early in
+    let shows = by_lt_z {P = ShowsIn v.sizes (pos (v.scenario.reading device v.until) +ℤ adjustment_left v device v.until) k hull v.until}
+    (epoch_time (earlier v.until v.records) device) (pos block.before.next)
+    (λ old. old_shows v k v.until v.until device block is (omega arith) has old)
+    (λ late. (let after = corrected_late v k v.until block device (last_setting (earlier v.until v.records) device) goes is has synchronised refl
+    late in absurd (omega (arith, ints, after, soon)))) in (
+      hull,
+      at.0,
+      at.1,
+      subst (λ (x : ℕ). ShowsIn v.sizes (pos (v.scenario.reading device v.until) +ℤ adjustment_left v device v.until) x hull v.until) same
+          shows,
+    )
+  where
+    earlier_not : (cycle : ℕ) → (cover v v.until is (omega arith)).0 < cycle → ((c : ℕ) → cycle ≡ suc c → ComesBefore v v.until c) → ⊥
+    earlier_not zero lt behind = omega (arith, lt)
+    earlier_not (suc c) lt behind =
+        not_earlier cover goes v (cover v v.until is (omega arith)).0 c (cover v v.until is (omega arith)).1 is (behind c refl) (omega (arith, lt))
+
+-- ---- in a run
+
+-- what holds of the dispatches of the run holds of those up to the time
+from_to_of_cut : (s : Scenario) (hs : List Happening) (t cycle : ℕ) (first last : ℤ) (cut : IsCutAt s hs t) → AreFromTo s hs t cycle first last
+    → AreFromTo s cut.front t cycle first last
+from_to_of_cut s hs t zero first last cut at = at
+from_to_of_cut s hs t (suc c) first last cut at = record {
+  earliest = at.earliest;
+  is_earliest = of_cut s hs t (suc c) cut at.earliest at.is_earliest;
+  first_is = at.first_is;
+  latest = at.latest;
+  is_latest = of_cut s hs t (suc c) cut at.latest at.is_latest;
+  last_is = at.last_is;
+  each = λ h d. at.each h (record { there = cut.inside h d.there; master = d.master; is = d.is; correct = d.correct; by_then = d.by_then });
+}
+
+pub clocks_keep_the_span : OneChannelIsSound → BlocksCover → BlocksGoSo → ClocksKeepTheSpan
+clocks_keep_the_span sound cover goes s mark ns until beta up is_beta t cycle first last device le lie behind early step =
+    let hs = happenings s.network ns in
+    let channel = sound s t up.lawful in
+    let at = view_with s mark ns until t channel.0 beta up is_beta le channel.1 in
+    let v = view_of s t channel.0 beta at.cut.front in
+    let same : earlier t hs ≡ earlier t at.cut.front = sym (at.cut.early t (omega arith)) in
+    let synchronised : state_left v device t ≡ Synchronised = subst (λ (gs : List Happening). state_after s gs device ≡ Synchronised) same
+    (not_integrating (is_turned_on_at s device t) (state_after s (earlier t hs) device) step.synchronised) in
+    let has : HasTimeAt v device t = record { good = step.correct; timed = timed_of (state_left v device t) synchronised } in
+    let shown = span_shows cover goes v cycle first last device at.is (from_to_of_cut s hs t cycle first last at.cut lie) (comes cycle behind at.cut) early has
+    synchronised in
+    let whole : IsBetweenIdeals s.network beta cycle first last t (pos (s.reading device t) +ℤ adjustment_left v device t) = record {
+      least =
+          subst (λ (z : ℤ). ((pos (cycle * amount s.network.cycle) +ℤ pos t) -ℤ z) ≤ℤ ((pos (s.reading device t) +ℤ adjustment_left v device t)
+          +ℤ pos (clock_error s.network beta + drift_of s.network))) (sym shown.2)
+          (ideal_least (cycle * amount s.network.cycle) t (clock_error s.network beta + drift_of s.network)
+          (pos (s.reading device t) +ℤ adjustment_left v device t) shown.0.greatest shown.3.least);
+      most =
+          subst (λ (z : ℤ). (pos (s.reading device t) +ℤ adjustment_left v device t) ≤ℤ (((pos (cycle * amount s.network.cycle) +ℤ pos t) -ℤ z)
+          +ℤ pos (clock_error s.network beta + drift_of s.network))) (sym shown.1)
+          (ideal_most (cycle * amount s.network.cycle) t (clock_error s.network beta + drift_of s.network)
+          (pos (s.reading device t) +ℤ adjustment_left v device t) shown.0.least shown.3.most);
+    } in
+    subst (λ (gs : List Happening). IsBetweenIdeals s.network beta cycle first last t (pos (s.reading device t) +ℤ (adjustment_after s gs device).0)) (sym same)
+    whole
+  where
+    comes : (n : ℕ) → IsBehindCorrections s (happenings s.network ns) beta t n → (cut : IsCutAt s (happenings s.network ns) t) → (c : ℕ) → n ≡ suc c
+        → ComesBefore (view_of s t (sound s t up.lawful).0 beta cut.front) t c
+    comes zero b cut c e = absurd (omega (arith, e))
+    comes (suc d) b cut c e =
+        let one : d ≡ c = omega (arith, e) in
+        (b.0, b.1, subst (λ (x : ℕ). AreFromTo s cut.front t x b.0 b.1) one (from_to_of_cut s (happenings s.network ns) t d b.0 b.1 cut b.2), b.3)

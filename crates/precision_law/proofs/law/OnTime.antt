@@ -1,0 +1,247 @@
+-- The clocks of synchronised devices reach the values of the schedule on time.
+use Rattle.std.proofs.Common.{◌≡◌, ℕ, zero, suc, ◌+◌, ◌*◌, ◌<◌, ◌≤◌, ℤ, pos, negsuc, ◌+ℤ◌, ◌-ℤ◌, ◌<ℤ◌, ◌≤ℤ◌, true, false, List, Option, Some, None, inl, inr, refl, sym, ap, subst, arith}
+use Rattle.std.proofs.Math.Nat.{mul-le-mul_right}
+use Rattle.std.proofs.lemmas.Bool.{both_ways, cases_lt, false_from_ne_true}
+use Rattle.std.proofs.lemmas.Int.{by_lt_z, ints}
+use Rattle.std.specs.Option.{option_map_or}
+use Rattle.drift_clock.specs.Reach.{IsReach}
+use Rattle.net_plan.specs.declared.ids.DeviceId.{DeviceId}
+use Rattle.precision_law.proofs.clocks.Anchored.{one_more}
+use Rattle.precision_law.proofs.clocks.Epochs.{clocks_reach_sharply, same_device}
+use Rattle.precision_law.proofs.clocks.Joiners.{joiner_waits}
+use Rattle.precision_law.proofs.law.Precision.{not_integrating, timed_of}
+use Rattle.precision_law.proofs.law.Together.{before_narrow, block_ends, follows_before, new_shows, old_shows, set_shows}
+use Rattle.precision_law.proofs.records.Points.{before_of, point_timed, setting_is}
+use Rattle.precision_law.proofs.records.RunViews.{from_to_of_run, hull_is_from_to, view_of, view_with}
+use Rattle.precision_law.proofs.records.Views.{room}
+use Rattle.precision_law.proofs.sizes.Instants.{instants_are_in_order, set_clocks_stay_at_correction}
+use Rattle.precision_law.specs.BlockLaws.{BlocksCover, BlocksGoSo, ComesTo}
+use Rattle.precision_law.specs.Blocks.{HasTimeAt, IsInBlock, Stands, adjustment_left, state_left}
+use Rattle.precision_law.specs.Epochs.{epoch_time, last_setting}
+use Rattle.precision_law.specs.Hulls.{Hull, IsNarrow, first_correction, hull_of}
+use Rattle.precision_law.specs.IdealClocks.{ValuesAreReachedOnTime}
+use Rattle.precision_law.specs.Masters.{OneChannelIsSound}
+use Rattle.precision_law.specs.Standings.{ShowsIn}
+use Rattle.precision_law.specs.Views.{IsView, View}
+use Rattle.run_law.proofs.law.FirstPlaces.{founded_at}
+use Rattle.run_law.specs.declared.note.NoteBody.TheVariants as notes
+use Rattle.run_law.specs.declared.note.NoteBody.{NoteBody}
+use Rattle.run_law.specs.device.LocalClocks.{Reaches, changes_adjustment}
+use Rattle.run_law.specs.device.States.{adjustment_after, is_joined_by, is_synchronised, state_after}
+use Rattle.run_law.specs.records.Happenings.{Happening, earlier, happenings, time_of}
+use Rattle.run_law.specs.runs.DueRecords.{IsCaused}
+use Rattle.run_law.specs.scenario.Scenarios.{Scenario, is_turned_on_at}
+use Rattle.sync_state.specs.declared.answers.Verdict.TheVariants.{Corrected}
+use Rattle.sync_state.specs.declared.state.State.TheVariants.{Synchronised}
+use Rattle.tte_units.specs.Amount.{amount}
+use Rattle.tte_units.specs.declared.units.Units.{Units}
+
+-- ---- a synchronised device's clock was corrected last
+
+-- the record corrects the device's clock
+pub record CorrectsClock (device : DeviceId) (body : NoteBody) : Type 0 where
+  pub cycle : ℕ
+  pub by : Units
+  pub adjustment : Units
+  pub is : body ≡ notes.Corrected device cycle by adjustment
+
+-- what sets the clock and is no joining does
+pub corrects_by : (device : DeviceId) (body : NoteBody) → changes_adjustment device body ≡ true → is_joined_by device body ≡ false → CorrectsClock device body
+corrects_by device (notes.Corrected other cycle by adjustment) sets none =
+    record {
+      cycle = cycle;
+      by = by;
+      adjustment = adjustment;
+      is = ap (λ (d : DeviceId). notes.Corrected d cycle by adjustment) (same_device device other sets);
+    }
+corrects_by device body sets none = absurd (both_ways _ none sets)
+
+-- the record that set a synchronised device's clock last corrected it
+pub last_corrects : (v : View) (device : DeviceId) (t : ℕ) (h : Happening) → IsView v → state_left v device t ≡ Synchronised
+    → last_setting (earlier t v.records) device ≡ Some h → CorrectsClock device h.note.body
+last_corrects v device t h is synchronised last =
+    corrects_by device h.note.body (setting_is v device t h last).sets
+    (false_from_ne_true (is_joined_by device h.note.body)
+    (λ joined. both_ways (is_synchronised (state_left v device t)) (joiner_waits v device t h is last joined) (ap is_synchronised synchronised)))
+
+-- one whose clock was set in the block was corrected there, not before the first correction
+pub corrected_late : (v : View) (n t : ℕ) (block : IsInBlock v n t) (device : DeviceId) (o : Option Happening) → BlocksGoSo → IsView v → HasTimeAt v device t
+    → state_left v device t ≡ Synchronised → last_setting (earlier t v.records) device ≡ o
+    → pos block.before.next ≤ℤ option_map_or (λ h. pos (time_of h)) o (negsuc 0) → (first_correction v.sizes block.before.hull +ℤ pos v.sizes.reach) <ℤ pos t
+corrected_late v n t block device None goes is has synchronised e late = absurd (omega (arith, ints, late))
+corrected_late v n t block device (Some h) goes is has synchronised e late =
+    let at = setting_is v device t h e in
+    let set = last_corrects v device t h is synchronised e in
+    let found = founded_at v.scenario v.records h is.run.founded at.there in
+    let cause : IsCaused v.scenario found.front h.note.time (notes.Corrected device set.cycle set.by set.adjustment) = subst
+    (IsCaused v.scenario found.front h.note.time) set.is found.due.cause in
+    let split = before_of v h is found in
+    let then_has : HasTimeAt v device (time_of h) = record {
+      good = has.good;
+      timed = point_timed v (time_of h) device set.cycle (Corrected set.by) found.front
+          split cause.corrected;
+    } in
+    let comes : ComesTo v (time_of h) device set.cycle (Corrected set.by) = record { front = found.front; split = split; point = cause.corrected } in
+    let here : IsInBlock v n (time_of h) = record {
+      before = block.before;
+      next = block.next;
+      is_over = block.is_over;
+      from = omega (arith, ints, late);
+      to = omega (arith, at.early, block.to);
+      in_run = omega (arith, at.early, block.in_run);
+    } in
+    let so = goes v n (time_of h) here is in
+    let old = so.old_alone device set.cycle (Corrected set.by) then_has comes (λ e. cc) in
+    let point = so.points device set.cycle (Corrected set.by) then_has old comes in
+    omega (arith, ints, point.not_early, at.early)
+
+-- ---- reaching
+
+-- the value lies so in a cycle
+pub record IsInCycle (v : View) (value : ℕ) : Type 0 where
+  pub begins : v.sizes.correction + v.sizes.dmax + 4 * v.sizes.precision ≤ value
+  pub ends : value + 4 * v.sizes.precision ≤ v.sizes.cycle
+
+-- behind the end of a cycle's block its hull lies a correction back
+pub begins_late : (v : View) (n : ℕ) (stands : Stands v (suc n)) → IsView v
+    → ((stands.hull.greatest +ℤ pos (v.sizes.correction + v.sizes.reach)) +ℤ pos 1) ≤ℤ pos stands.next
+begins_late v n stands is =
+    let there = stands.narrow n (omega arith) in
+    let ends = block_ends v n stands.next there.0 there.1 stands.is_over in
+    let order = instants_are_in_order v.sizes there.0 stands.hull (room v is) there.2 (follows_before v n there.0 stands.hull is there.1 stands.is_hull) in
+    omega (arith, ints, ends, order.last_not_early)
+
+-- a clock that was set before the block reaches the value in no other cycle
+same_cycle : (v : View) (n k value t : ℕ) (block : IsInBlock v k t) (shown : ℤ) → IsView v → IsInCycle v value → ShowsIn v.sizes shown k block.before.hull t
+    → pos (n * v.sizes.cycle + value) ≤ℤ shown → shown ≤ℤ (pos (n * v.sizes.cycle + value) +ℤ pos (2 * v.sizes.grain)) → k ≡ n
+same_cycle v n k value t block shown is within shows least most =
+    let space = room v is in
+    let ends = block_ends v k block.next block.before.hull block.before.is_hull block.is_over in
+    let narrow = before_narrow v k block.before in
+    elim (cases_lt k n) [
+      | inl lt ↦
+          let more : suc k * v.sizes.cycle ≤ n * v.sizes.cycle = mul-le-mul_right v.sizes.cycle (omega (arith, lt)) in
+          let one = one_more k v.sizes.cycle in
+          absurd (omega (arith, ints, more, one, least, shows.most, block.to, ends, narrow, within.begins, space.eight_errors, space.errors.reach_is))
+      | inr ge ↦ elim (cases_lt n k) [
+        | inl lt ↦ absurd (by k block shows lt)
+        | inr le ↦ omega (arith, ge, le)
+      ]
+    ]
+  where
+    by : (k : ℕ) (block : IsInBlock v k t) → ShowsIn v.sizes shown k block.before.hull t → n < k → ⊥
+    by zero block shows lt = absurd (omega (arith, lt))
+    by (suc j) block shows lt =
+        let space = room v is in
+        let late = begins_late v j block.before is in
+        let more : suc n * v.sizes.cycle ≤ suc j * v.sizes.cycle = mul-le-mul_right v.sizes.cycle (omega (arith, lt)) in
+        let one = one_more n v.sizes.cycle in
+        absurd (omega (arith, ints, more, one, most, shows.least, block.from, late, within.ends, space.eight_errors, space.errors.reach_is))
+
+-- the instant lies so far from the hull of the cycle
+pub record IsReachedFrom (v : View) (n value t : ℕ) : Type 0 where
+  pub hull : Hull
+  pub is_hull : hull_of v n ≡ Some hull
+  pub narrow : IsNarrow v.sizes hull
+  pub not_early : (hull.least +ℤ pos value) ≤ℤ (pos t +ℤ pos v.sizes.reach)
+  pub not_late : pos t ≤ℤ ((hull.greatest +ℤ pos value) +ℤ pos v.sizes.reach)
+
+-- one whose clock was set before the block
+old_reaches : (v : View) (n k value t : ℕ) (block : IsInBlock v k t) (shown : ℤ) → IsView v → IsInCycle v value → ShowsIn v.sizes shown k block.before.hull t
+    → pos (n * v.sizes.cycle + value) ≤ℤ shown → shown ≤ℤ (pos (n * v.sizes.cycle + value) +ℤ pos (2 * v.sizes.grain)) → IsReachedFrom v n value t
+old_reaches v n k value t block shown is within shows least most =
+    let space = room v is in
+    let same = same_cycle v n k value t block shown is within shows least most in
+    let whole : n * v.sizes.cycle ≡ k * v.sizes.cycle = ap (λ (m : ℕ). m * v.sizes.cycle) (sym same) in
+    record {
+      hull = block.before.hull;
+      is_hull = subst (λ (m : ℕ). hull_of v m ≡ Some block.before.hull) same block.before.is_hull;
+      narrow = before_narrow v k block.before;
+      not_early = omega (arith, ints, whole, least, shows.most, space.errors.reach_is);
+      not_late = omega (arith, ints, whole, most, shows.least, space.errors.reach_is);
+    }
+
+-- one whose clock was set in the block reaches none there
+new_reaches_none : (v : View) (n k value t : ℕ) (block : IsInBlock v k t) (shown : ℤ) (hull : Hull) → IsView v → IsInCycle v value
+    → hull_of v (suc k) ≡ Some hull → ShowsIn v.sizes shown (suc k) hull t
+    → (first_correction v.sizes block.before.hull +ℤ pos v.sizes.reach) <ℤ pos t → pos (n * v.sizes.cycle + value) ≤ℤ shown
+    → shown ≤ℤ (pos (n * v.sizes.cycle + value) +ℤ pos (2 * v.sizes.grain)) → ⊥
+new_reaches_none v n k value t block shown hull is within is_hull shows after least most =
+    let space = room v is in
+    let ends = block_ends v k block.next block.before.hull block.before.is_hull block.is_over in
+    let narrow = before_narrow v k block.before in
+    let to = block.to in
+    let near = set_clocks_stay_at_correction v.sizes shown (suc k) t block.before.hull hull space narrow
+    (follows_before v k block.before.hull hull is block.before.is_hull is_hull)
+    (omega (arith, ints, after)) (omega (arith, ints, ends, to)) shows in
+    elim (cases_lt k n) [
+      | inl lt ↦
+          let more : suc k * v.sizes.cycle ≤ n * v.sizes.cycle = mul-le-mul_right v.sizes.cycle (omega (arith, lt)) in
+          omega (arith, ints, more, least, near.most, within.begins, space.eight_errors, space.errors.reach_is, space.errors.clock_is)
+      | inr ge ↦
+          let more : n * v.sizes.cycle ≤ k * v.sizes.cycle = mul-le-mul_right v.sizes.cycle ge in
+          let one = one_more k v.sizes.cycle in
+          omega (arith, ints, more, one, most, near.least, within.ends, space.eight_errors, space.errors.reach_is, space.errors.clock_is)
+    ]
+
+pub value_reached : BlocksCover → BlocksGoSo → (v : View) (n value t : ℕ) (device : DeviceId) → IsView v → HasTimeAt v device t
+    → state_left v device t ≡ Synchronised → t ≤ v.until → IsInCycle v value → Reaches v.scenario v.records device (pos (n * v.sizes.cycle + value)) t
+    → IsReachedFrom v n value t
+value_reached cover goes v n value t device is has synchronised in_run within reaches =
+    let covered = cover v t is in_run in
+    let k = covered.0 in
+    let block = covered.1 in
+    let shown = pos (v.scenario.reading device t) +ℤ adjustment_left v device t in
+    let sharp = clocks_reach_sharply v device (pos (n * v.sizes.cycle + value)) t is reaches in
+    let least : pos (n * v.sizes.cycle + value) ≤ℤ shown = omega (arith, ints, sharp.least) in
+    let most : shown ≤ℤ (pos (n * v.sizes.cycle + value) +ℤ pos (2 * v.sizes.grain)) = omega (arith, ints, sharp.most) in
+    by_lt_z {P = IsReachedFrom v n value t} (epoch_time (earlier t v.records) device) (pos block.before.next)
+    (λ old. old_reaches v n k value t block shown is within (old_shows v k t t device block is (omega arith) has old) least most)
+    (λ late.
+    let set = new_shows v k t t device block
+    (λ w from lt. goes v k w
+    (record {
+      before = block.before;
+      next = block.next;
+      is_over = block.is_over;
+      from = from;
+      to = omega (arith, lt, block.to);
+      in_run = omega (arith, lt, block.in_run);
+    }) is) is (omega arith) has (last_setting (earlier t v.records) device) refl late in
+    absurd (new_reaches_none v n k value t block shown set.hull is within set.is_hull (set_shows v k t device (adjustment_left v device t) block is set)
+    (corrected_late v k t block device (last_setting (earlier t v.records) device) goes is has synchronised refl late) least most))
+
+-- ---- in a run
+
+-- what a clock reaches depends on the earlier records
+reaches_by : (s : Scenario) (hs gs : List Happening) (device : DeviceId) (value : ℤ) (t : ℕ) → earlier t hs ≡ earlier t gs → Reaches s hs device value t
+    → Reaches s gs device value t
+reaches_by s hs gs device value t same reaches = record {
+  below =
+      subst (λ (es : List Happening). (pos (s.reading device (option_map_or time_of (last_setting es device) 0)) +ℤ (adjustment_after s es device).0) <ℤ value)
+      same reaches.below;
+  reach =
+      subst (λ (es : List Happening). IsReach (s.reading device) (pos (option_map_or time_of (last_setting es device) 0))
+      (value -ℤ (adjustment_after s es device).0) (pos t)) same reaches.reach;
+}
+
+pub values_are_reached_on_time : OneChannelIsSound → BlocksCover → BlocksGoSo → ValuesAreReachedOnTime
+values_are_reached_on_time sound cover goes s mark ns until beta up is_beta t cycle value device le step within reaches =
+    let hs = happenings s.network ns in
+    let channel = sound s t up.lawful in
+    let at = view_with s mark ns until t channel.0 beta up is_beta le channel.1 in
+    let v = view_of s t channel.0 beta at.cut.front in
+    let same : earlier t hs ≡ earlier t at.cut.front = sym (at.cut.early t (omega arith)) in
+    let synchronised : state_left v device t ≡ Synchronised = subst (λ (gs : List Happening). state_after s gs device ≡ Synchronised) same
+    (not_integrating (is_turned_on_at s device t) (state_after s (earlier t hs) device) step.synchronised) in
+    let has : HasTimeAt v device t = record { good = step.correct; timed = timed_of (state_left v device t) synchronised } in
+    let from = value_reached cover goes v cycle value t device at.is has synchronised (omega arith) (record { begins = within.begins; ends = within.ends })
+    (reaches_by s hs at.cut.front device (pos (cycle * amount s.network.cycle + value)) t same reaches) in
+    record {
+      first = from.hull.least;
+      last = from.hull.greatest;
+      dispatches = from_to_of_run s hs t cycle from.hull.least from.hull.greatest at.cut (hull_is_from_to cover goes v at.is cycle from.hull from.is_hull);
+      narrow = from.narrow;
+      not_early = from.not_early;
+      not_late = from.not_late;
+    }

@@ -1,0 +1,309 @@
+-- How near to one another all dispatches of a cycle lie, those of a master that breaks later among them.
+use Rattle.std.proofs.Common.{◌≡◌, ℕ, zero, suc, ◌+◌, ◌*◌, ◌<◌, ◌≤◌, ℤ, pos, ◌+ℤ◌, ◌-ℤ◌, ◌<ℤ◌, ◌≤ℤ◌, true, false, List, inl, inr, refl, sym, ap, subst, ◌∙◌, arith}
+use Rattle.std.proofs.lemmas.Bool.{cases_lt}
+use Rattle.std.proofs.lemmas.Int.{ints}
+use Rattle.net_plan.proofs.Beta.{beta_exists}
+use Rattle.net_plan.proofs.Shape.{rules_give_trees}
+use Rattle.net_plan.specs.Bounds.{IsBeta, beta_at}
+use Rattle.net_plan.specs.declared.ids.DeviceId.{DeviceId}
+use Rattle.pcf_values.specs.declared.channel.Channel.{Channel}
+use Rattle.precision_law.proofs.block.Halving.{HasDispatched, IsReachedBy, has_dispatched, high_by, low_by, shared_near, start_near, synchronised_is}
+use Rattle.precision_law.proofs.clocks.Anchored.{anchored_clocks_reach, anchored_clocks_show, one_more, shared_clocks_halve, starts_stay_together}
+use Rattle.precision_law.proofs.clocks.Epochs.{adjustment_stays, state_stays}
+use Rattle.precision_law.proofs.clocks.Readings.{short_by_reading}
+use Rattle.precision_law.proofs.law.Breaking.{AreTwo, IsFrontOf, set_before}
+use Rattle.precision_law.proofs.law.Together.{before_narrow, follows_before}
+use Rattle.precision_law.proofs.records.Points.{within_run}
+use Rattle.precision_law.proofs.records.RunViews.{all_in_hulls, block_of, hull_lies, view_of, view_with}
+use Rattle.precision_law.proofs.records.Views.{room, steady}
+use Rattle.precision_law.specs.Anchors.{IsAnchored}
+use Rattle.precision_law.specs.BlockLaws.{BlocksCover, BlocksGoSo}
+use Rattle.precision_law.specs.Blocks.{AreShared, IsInBlock, IsOldAt, Stands, adjustment_left, state_left}
+use Rattle.precision_law.specs.Dispatches.{DispatchesHalve, DispatchesStayNear, IsDispatchOf}
+use Rattle.precision_law.specs.Epochs.{epoch_time}
+use Rattle.precision_law.specs.Hulls.{last_dispatch, start_hull}
+use Rattle.precision_law.specs.Masters.{OneChannelIsSound}
+use Rattle.precision_law.specs.Precision.{IsRunUpTo}
+use Rattle.precision_law.specs.Sizes.{sizes_of}
+use Rattle.precision_law.specs.Views.{IsDispatch, IsGood, IsView, View}
+use Rattle.run_law.proofs.law.FirstPlaces.{founded_at}
+use Rattle.run_law.specs.declared.note.Note.{Note}
+use Rattle.run_law.specs.declared.note.NoteBody.TheVariants as notes
+use Rattle.run_law.specs.device.States.{is_synchronised}
+use Rattle.run_law.specs.records.Happenings.{Happening, earlier, happenings, time_of}
+use Rattle.run_law.specs.records.Order.{IsIn}
+use Rattle.run_law.specs.runs.DueRecords.{IsCaused}
+use Rattle.run_law.specs.scenario.Devices.{is_end}
+use Rattle.run_law.specs.scenario.Scenarios.{Scenario, is_broken}
+use Rattle.schedule_tables.proofs.Margins.{shape_rules}
+use Rattle.tte_units.specs.Amount.{amount}
+use Rattle.tte_units.specs.declared.units.Units.{Units}
+
+-- ---- a clock that reaches the next cycle later
+
+-- what a clock is that shares a frame, and was set before the block
+record IsSharing (v : View) (n w u : ℕ) (before : Stands v n) (device : DeviceId) : Type 0 where
+  pub good : IsGood v device
+  pub end : is_end v.scenario.network device ≡ true
+  pub synchronised : is_synchronised (state_left v device w) ≡ true
+  pub from : before.next ≤ w
+  pub le : w ≤ u
+  pub old : IsOldAt v before.next device w
+  pub least : pos (suc n * v.sizes.cycle) ≤ℤ (pos (v.scenario.reading device u) +ℤ adjustment_left v device w)
+  pub most : (pos (v.scenario.reading device u) +ℤ adjustment_left v device w) ≤ℤ (pos (suc n * v.sizes.cycle) +ℤ pos (2 * v.sizes.grain))
+
+later_near : (v : View) (n w u : ℕ) (before : Stands v n) (device : DeviceId) (share : AreShared v n before.hull before.next) → IsView v
+    → IsSharing v n w u before device → IsReachedBy v n u before.hull share.shared
+later_near v n w u before device share is at =
+    let reading = v.scenario.reading device in
+    let still = state_stays is_synchronised refl v device before.next w is at.from at.old at.synchronised in
+    let by = share.each device (record { end = at.end; good = at.good }) (synchronised_is (state_left v device before.next) still) in
+    let same : adjustment_left v device before.next ≡ adjustment_left v device w = ap (λ (a : Units). a.0)
+    (adjustment_stays v device before.next w is at.from at.old) in
+    let low = low_by v.sizes share.shared by.other in
+    let high = high_by v.sizes share.shared by.other in
+    let anchored = subst (λ (a : ℤ). IsAnchored v.sizes (pos (reading by.set_at) +ℤ a) n low high by.set_at) same by.anchored in
+    let space = room v is in
+    let product = one_more n v.sizes.cycle in
+    let first : by.set_at ≤ u = (let behind = by.not_behind in let from = at.from in let le = at.le in omega (arith, behind, from, le)) in
+    let short : reading u + v.sizes.drift < reading by.set_at + 2 * v.sizes.cycle =
+    (let a = anchored.least in let m = at.most in let near = share.near.most in let far = by.near.most in let begun = by.not_before in let narrow =
+    before_narrow v n before in
+    omega (
+      arith,
+      ints,
+      a,
+      m,
+      near,
+      far,
+      begun,
+      narrow,
+      product,
+      space.cycles,
+      space.eight_errors,
+      space.errors.reach_is,
+      space.errors.clock_is,
+      space.errors.base_is,
+    )) in
+    let within = short_by_reading v.sizes reading by.set_at u (steady v is device) first short in
+    let shows = anchored_clocks_show v.sizes reading (adjustment_left v device w) n low high by.set_at u (steady v is device) first (omega (arith, within))
+    anchored in
+    record {
+      other = by.other;
+      near = by.near;
+      reached = anchored_clocks_reach v.sizes (pos (reading u) +ℤ adjustment_left v device w) n low high v.sizes.cycle u shows
+          (let l = at.least in omega (arith, ints, l, product)) (let m = at.most in omega (arith, ints, m, product));
+    }
+
+-- ---- two dispatches
+
+-- they lie at most so far apart
+pub record AreWithin (w u : ℕ) (twice : ℤ) : Type 0 where
+  pub one : pos (2 * u) ≤ℤ (pos (2 * w) +ℤ twice)
+  pub other : pos (2 * w) ≤ℤ (pos (2 * u) +ℤ twice)
+
+module _ (cover : BlocksCover) (goes : BlocksGoSo) (s : Scenario) (path : ℕ) (c d : Channel) (w u : ℕ) (front more : List Happening)
+    (views : IsFrontOf s path c d w u front more) where
+  -- those of a later cycle
+  halve_two : (m : ℕ) (g h : Happening) (one other : DeviceId) → AreTwo cover goes s path c d w u front more views (suc m) g h one other
+      → (block : IsInBlock (view_of s w c path front) (suc m) w) → IsInBlock (view_of s u d path more) (suc m) u
+      → AreWithin w u ((block.before.hull.greatest -ℤ block.before.hull.least) +ℤ pos (view_of s w c path front).sizes.settled)
+  halve_two m g h one other two block later =
+      let v = view_of s w c path front in
+      let is = views.is in
+      let n = suc m in
+      let before = block.before in
+      let set = set_before cover goes s path c d w u front more views n g h one other two block later in
+      let share = before.shared (omega arith) in
+      let has = subst (λ (t : ℕ). HasDispatched v one (suc n) t) two.at_w (has_dispatched v g one (suc n) is two.first) in
+      let end = (has_dispatched (view_of s u d path more) h other (suc n) views.longer two.second).end in
+      let own = all_in_hulls cover goes v is g one (suc n) two.first in
+      let follows = follows_before v n before.hull own.hull is before.is_hull own.is in
+      let late : pos w ≤ℤ last_dispatch v.sizes before.hull = (let at = two.at_w in let most = own.most in omega (arith, ints, at, most, follows.most)) in
+      let old = subst (λ (t : ℕ). IsOldAt v before.next one t) two.at_w ((goes v n (time_of g) (subst (IsInBlock v n) (sym two.at_w) block) is).dispatches g one
+      (suc n) two.first refl).old in
+      let x = shared_near v n w before one share is two.first.good has block.from old late in
+      let y = later_near v n w u before other share is
+      (record {
+        good = set.good;
+        end = end;
+        synchronised = set.synchronised;
+        from = block.from;
+        le = views.le;
+        old = set.old;
+        least = set.least;
+        most = set.most;
+      }) in
+      record {
+        one = shared_clocks_halve v.sizes before.hull share.shared y.other x.other u w (room v is) y.near x.near y.reached x.reached;
+        other = shared_clocks_halve v.sizes before.hull share.shared x.other y.other w u (room v is) x.near y.near x.reached y.reached;
+      }
+
+  -- those of the first cycle
+  start_two : (g h : Happening) (one other : DeviceId) → AreTwo cover goes s path c d w u front more views 0 g h one other
+      → (block : IsInBlock (view_of s w c path front) 0 w) → (later : IsInBlock (view_of s u d path more) 0 u)
+      → AreWithin w u (pos (2 * (view_of s w c path front).sizes.spread))
+  start_two g h one other two block later =
+      let v = view_of s w c path front in
+      let v' = view_of s u d path more in
+      let start_is : block.before.next ≡ 0 = block.before.is_over in
+      let later_is : later.before.next ≡ 0 = later.before.is_over in
+      let has = subst (λ (t : ℕ). HasDispatched v one 1 t) two.at_w (has_dispatched v g one 1 views.is two.first) in
+      let has' = subst (λ (t : ℕ). HasDispatched v' other 1 t) two.at_u (has_dispatched v' h other 1 views.longer two.second) in
+      let old = subst (λ (x : ℕ). epoch_time (earlier w front) one <ℤ pos x) start_is
+      (subst (λ (t : ℕ). IsOldAt v block.before.next one t) two.at_w
+      ((goes v 0 (time_of g) (subst (IsInBlock v 0) (sym two.at_w) block) views.is).dispatches g one 1 two.first refl).old) in
+      let old' = subst (λ (x : ℕ). epoch_time (earlier u more) other <ℤ pos x) later_is
+      (subst (λ (t : ℕ). IsOldAt v' later.before.next other t) two.at_u
+      ((goes v' 0 (time_of h) (subst (IsInBlock v' 0) (sym two.at_u) later) views.longer).dispatches h other 1 two.second refl).old) in
+      let own = all_in_hulls cover goes v views.is g one 1 two.first in
+      let own' = all_in_hulls cover goes v' views.longer h other 1 two.second in
+      let follows = follows_before v 0 (start_hull v.sizes) own.hull views.is refl own.is in
+      let follows' = follows_before v' 0 (start_hull v'.sizes) own'.hull views.longer refl own'.is in
+      let late : pos w ≤ℤ last_dispatch v.sizes (start_hull v.sizes) = (let at = two.at_w in let most = own.most in omega (arith, ints, at, most, follows.most))
+      in
+      let late' : pos u ≤ℤ last_dispatch v'.sizes (start_hull v'.sizes) =
+      (let at = two.at_u in let most = own'.most in omega (arith, ints, at, most, follows'.most)) in
+      let x = start_near v one w views.is two.first.good has old late in
+      let y = start_near v' other u views.longer two.second.good has' old' late' in
+      let a = starts_stay_together v.sizes w u (room v views.is) x y in
+      let b = starts_stay_together v.sizes u w (room v views.is) y x in
+      record { one = omega (arith, ints, b); other = omega (arith, ints, a) }
+
+-- ---- in a run
+
+-- a dispatch is of a master that is correct then
+sends_correct : (s : Scenario) (mark : List ℕ) (ns : List Note) (until cycle : ℕ) → IsRunUpTo s mark ns until → (h : Happening)
+    → (d : IsDispatchOf (happenings s.network ns) until cycle h) → is_broken s d.master (time_of h) ≡ false
+sends_correct s mark ns until cycle up h d =
+    let found = founded_at s (happenings s.network ns) h up.run.founded d.there in
+    let sends : IsCaused s found.front h.note.time (notes.Sent d.master cycle) = subst (IsCaused s found.front h.note.time) d.is found.due.cause in
+    sends.up.correct
+
+-- the view at a dispatch, and that at a later one
+record HasViews (s : Scenario) (hs : List Happening) (path : ℕ) (g h : Happening) (one other : DeviceId) (cycle : ℕ) : Type 0 where
+  pub c : Channel
+  pub d : Channel
+  pub front : List Happening
+  pub more : List Happening
+  pub views : IsFrontOf s path c d (time_of g) (time_of h) front more
+  pub inside : (e : Happening) → IsIn e front → IsIn e hs
+  pub first : IsDispatch (view_of s (time_of g) c path front) g one cycle
+  pub second : IsDispatch (view_of s (time_of h) d path more) h other cycle
+
+has_views : OneChannelIsSound → (s : Scenario) (mark : List ℕ) (ns : List Note) (until path cycle : ℕ) → (up : IsRunUpTo s mark ns until)
+    → IsBeta s.network (pos path) → (g h : Happening) → (a : IsDispatchOf (happenings s.network ns) until cycle g)
+    → (b : IsDispatchOf (happenings s.network ns) until cycle h) → time_of g ≤ time_of h
+    → HasViews s (happenings s.network ns) path g h a.master b.master cycle
+has_views sound s mark ns until path cycle up beta g h a b le =
+    let hs = happenings s.network ns in
+    let w = time_of g in
+    let u = time_of h in
+    let c = sound s w up.lawful in
+    let d = sound s u up.lawful in
+    let x = view_with s mark ns until w c.0 path up beta a.by_then c.1 in
+    let y = view_with s mark ns until u d.0 path up beta b.by_then d.1 in
+    record {
+      c = c.0;
+      d = d.0;
+      front = x.cut.front;
+      more = y.cut.front;
+      views = record {
+        is = x.is;
+        longer = y.is;
+        le = le;
+        early = λ t within. x.cut.early t (omega (arith, within)) ∙ sym (y.cut.early t (omega (arith, within, le)));
+        inside = λ e i. y.cut.has e (x.cut.inside e i) (let in_run = within_run (view_of s w c.0 path x.cut.front) x.is e i in omega (arith, in_run, le));
+      };
+      inside = x.cut.inside;
+      first = record { there = x.cut.has g a.there (omega arith); is = a.is; good = sends_correct s mark ns until cycle up g a };
+      second = record { there = y.cut.has h b.there (omega arith); is = b.is; good = sends_correct s mark ns until cycle up h b };
+    }
+
+-- the cycle is 1, or behind a later one; so the dispatches lie so far apart, and in the hull of the cycle before
+record AreApart (s : Scenario) (hs : List Happening) (until k : ℕ) (g h : Happening) : Type 0 where
+  pub near : AreWithin (time_of g) (time_of h) (pos (2 * (sizes_of s.network 0).spread))
+  pub halves : (first last : ℤ) → 1 ≤ k → ((e : Happening) → IsDispatchOf hs until k e → (first ≤ℤ pos (time_of e)) × (pos (time_of e) ≤ℤ last))
+      → AreWithin (time_of g) (time_of h) ((last -ℤ first) +ℤ pos (amount s.network.settled))
+
+-- numbers
+spread_by : (w u settled spread gamma : ℕ) (least greatest : ℤ) → AreWithin w u ((greatest -ℤ least) +ℤ pos settled) → greatest ≤ℤ (least +ℤ pos spread)
+    → spread ≡ settled + 2 * gamma + 2 → AreWithin w u (pos (2 * spread))
+spread_by w u settled spread gamma least greatest near narrow is =
+    (let a = near.one in let b = near.other in record { one = omega (arith, ints, a, narrow, is); other = omega (arith, ints, b, narrow, is) })
+
+wider_by : (w u settled : ℕ) (least greatest first last : ℤ) → AreWithin w u ((greatest -ℤ least) +ℤ pos settled) → first ≤ℤ least → greatest ≤ℤ last
+    → AreWithin w u ((last -ℤ first) +ℤ pos settled)
+wider_by w u settled least greatest first last near low high =
+    (let a = near.one in let b = near.other in record { one = omega (arith, ints, a, low, high); other = omega (arith, ints, b, low, high) })
+
+apart_by : BlocksCover → BlocksGoSo → (s : Scenario) (hs : List Happening) (path until k : ℕ) (g h : Happening) (one other : DeviceId)
+    → (x : HasViews s hs path g h one other (suc k)) → time_of g ≤ until → IsInBlock (view_of s (time_of g) x.c path x.front) k (time_of g)
+    → IsInBlock (view_of s (time_of h) x.d path x.more) k (time_of h) → AreApart s hs until k g h
+apart_by cover goes s hs path until zero g h one other x to block later =
+    record {
+      near =
+          start_two cover goes s path x.c x.d (time_of g) (time_of h) x.front x.more x.views g h one other
+          (record { first = x.first; second = x.second; at_w = refl; at_u = refl }) block later;
+      halves = λ first last begun lie. absurd (omega (arith, begun));
+    }
+apart_by cover goes s hs path until (suc m) g h one other x to block later =
+    let v = view_of s (time_of g) x.c path x.front in
+    let is = x.views.is in
+    let half = halve_two cover goes s path x.c x.d (time_of g) (time_of h) x.front x.more x.views m g h one other
+    (record { first = x.first; second = x.second; at_w = refl; at_u = refl }) block later in
+    let hull = block.before.hull in
+    record {
+      near =
+          spread_by (time_of g) (time_of h) v.sizes.settled v.sizes.spread v.sizes.gamma hull.least hull.greatest half (before_narrow v (suc m) block.before)
+          (room v is).errors.spread_is;
+      halves = λ first last begun lie.
+          let ends = hull_lies cover goes v is m hull block.before.is_hull in
+          let a = ends.is_earliest in
+          let b = ends.is_latest in
+          let low = (lie ends.earliest
+          (record { there = x.inside ends.earliest a.there; master = a.master; is = a.is; by_then = (let t = a.by_then in omega (arith, t, to)) })).0 in
+          let high = (lie ends.latest
+          (record { there = x.inside ends.latest b.there; master = b.master; is = b.is; by_then = (let t = b.by_then in omega (arith, t, to)) })).1 in
+          wider_by (time_of g) (time_of h) v.sizes.settled hull.least hull.greatest first last half (let e = ends.first_is in omega (arith, ints, low, e))
+          (let e = ends.last_is in omega (arith, ints, high, e));
+    }
+
+apart : OneChannelIsSound → BlocksCover → BlocksGoSo → (s : Scenario) (mark : List ℕ) (ns : List Note) (until k : ℕ) → IsRunUpTo s mark ns until
+    → (g h : Happening) → IsDispatchOf (happenings s.network ns) until (suc k) g → IsDispatchOf (happenings s.network ns) until (suc k) h
+    → time_of g ≤ time_of h → AreApart s (happenings s.network ns) until k g h
+apart sound cover goes s mark ns until k up g h a b le =
+    let n = s.network in
+    let beta = (beta_exists n (rules_give_trees n (shape_rules n up.lawful.rules))).1 in
+    let path = beta_at n beta.jitter beta.links in
+    let x = has_views sound s mark ns until path (suc k) up (subst (IsBeta n) beta.value beta) g h a b le in
+    let one = block_of cover goes (view_of s (time_of g) x.c path x.front) x.views.is g a.master (suc k) x.first in
+    let other = block_of cover goes (view_of s (time_of h) x.d path x.more) x.views.longer h b.master (suc k) x.second in
+    let at : one.n ≡ k = (let e = one.of_cycle in omega (arith, e)) in
+    let too : other.n ≡ k = (let e = other.of_cycle in omega (arith, e)) in
+    apart_by cover goes s (happenings s.network ns) path until k g h a.master b.master x a.by_then
+    (subst (λ (j : ℕ). IsInBlock (view_of s (time_of g) x.c path x.front) j (time_of g)) at one.block)
+    (subst (λ (j : ℕ). IsInBlock (view_of s (time_of h) x.d path x.more) j (time_of h)) too other.block)
+
+-- nothing is dispatched in cycle 0
+none_of_start : (s : Scenario) (mark : List ℕ) (ns : List Note) (until cycle : ℕ) → IsRunUpTo s mark ns until → (h : Happening)
+    → IsDispatchOf (happenings s.network ns) until cycle h → 1 ≤ cycle
+none_of_start s mark ns until cycle up h d =
+    let found = founded_at s (happenings s.network ns) h up.run.founded d.there in
+    let sends : IsCaused s found.front h.note.time (notes.Sent d.master cycle) = subst (IsCaused s found.front h.note.time) d.is found.due.cause in
+    sends.begun
+
+pub dispatches_stay_near : OneChannelIsSound → BlocksCover → BlocksGoSo → DispatchesStayNear
+dispatches_stay_near sound cover goes s mark ns until up zero g h a b = (let begun = none_of_start s mark ns until zero up g a in absurd (omega (arith, begun)))
+dispatches_stay_near sound cover goes s mark ns until up (suc k) g h a b =
+    elim (cases_lt (time_of h) (time_of g)) [
+      | inr le ↦ (let near = (apart sound cover goes s mark ns until k up g h a b le).near.other in omega (arith, ints, near))
+      | inl lt ↦ (let near = (apart sound cover goes s mark ns until k up h g b a (omega (arith, lt))).near.one in omega (arith, ints, near))
+    ]
+
+pub dispatches_halve : OneChannelIsSound → BlocksCover → BlocksGoSo → DispatchesHalve
+dispatches_halve sound cover goes s mark ns until up cycle first last begun lie g h a b =
+    elim (cases_lt (time_of h) (time_of g)) [
+      | inr le ↦ ((apart sound cover goes s mark ns until cycle up g h a b le).halves first last begun lie).other
+      | inl lt ↦ ((apart sound cover goes s mark ns until cycle up h g b a (omega (arith, lt))).halves first last begun lie).one
+    ]

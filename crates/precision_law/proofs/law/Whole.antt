@@ -1,0 +1,97 @@
+-- The laws, from what each instant of a block brings.
+use Rattle.precision_law.proofs.block.Brings.{blocks_go_so}
+use Rattle.precision_law.proofs.block.Coming.{points_have_come}
+use Rattle.precision_law.proofs.block.Goings.{FramesGoSo}
+use Rattle.precision_law.proofs.block.Halving.{hulls_are_narrow}
+use Rattle.precision_law.proofs.block.Onward.{stands_on}
+use Rattle.precision_law.proofs.block.Starts.{stands_at_start}
+use Rattle.precision_law.proofs.compression.Bounds.{bases_are_in_hulls, bases_are_near_hulls}
+use Rattle.precision_law.proofs.compression.Emitted.{emissions_are_sharp}
+use Rattle.precision_law.proofs.compression.Made.{emissions_are_of_dispatches, three_have_good}
+use Rattle.precision_law.proofs.emission.SoundMaster.{sound_master_sends}
+use Rattle.precision_law.proofs.faults.Masters.{one_channel_is_sound, switches_are_good}
+use Rattle.precision_law.proofs.faults.Turned.{none_turns_on}
+use Rattle.precision_law.proofs.hearing.Hearings.{hearings_are_of_frames}
+use Rattle.precision_law.proofs.hearing.InBlocks.{heard_in_their_blocks}
+use Rattle.precision_law.proofs.hearing.Timely.{heard_frames_are_timely}
+use Rattle.precision_law.proofs.law.ComingIn.{joiners_come_in}
+use Rattle.precision_law.proofs.law.Cover.{blocks_cover}
+use Rattle.precision_law.proofs.law.InSpans.{clocks_keep_the_span}
+use Rattle.precision_law.proofs.law.Keeping.{clocks_keep_their_cycles}
+use Rattle.precision_law.proofs.law.OnTime.{values_are_reached_on_time}
+use Rattle.precision_law.proofs.law.Precision.{clocks_stay_together, time_is_kept}
+use Rattle.precision_law.proofs.law.Spreading.{dispatches_halve, dispatches_stay_near}
+use Rattle.precision_law.proofs.law.Together.{clocks_agree_in_blocks}
+use Rattle.precision_law.proofs.records.Recorded.{points_are_recorded}
+use Rattle.precision_law.proofs.verdict.FirmDevices.{firm_devices_correct}
+use Rattle.precision_law.specs.BlockLaws.{BlocksCover, BlocksGoSo, FirmDevicesCorrect, PointsHaveCome, StandsOn}
+use Rattle.precision_law.specs.Dispatches.{DispatchesHalve, DispatchesStayNear}
+use Rattle.precision_law.specs.IdealClocks.{ClocksKeepTheSpan, ClocksKeepTheirCycles, ValuesAreReachedOnTime}
+use Rattle.precision_law.specs.Joined.{JoinersComeIn}
+use Rattle.precision_law.specs.Precision.{ClocksStayTogether, TimeIsKept}
+
+-- ---- what is known
+
+-- the frames that are heard are as they should be
+pub frames_known : FramesGoSo
+frames_known = record {
+  hearings = hearings_are_of_frames;
+  timely = heard_frames_are_timely emissions_are_sharp;
+  three = three_have_good;
+  dispatched = emissions_are_of_dispatches;
+  bases = bases_are_in_hulls;
+  in_blocks = heard_in_their_blocks (heard_frames_are_timely emissions_are_sharp) emissions_are_of_dispatches bases_are_near_hulls;
+}
+
+-- so are the instants of a block
+pub goes_known : BlocksGoSo
+goes_known = blocks_go_so frames_known
+
+-- what is known of blocks
+pub record AreKnown : Type 0 where
+  pub goes : BlocksGoSo
+  pub come : PointsHaveCome
+  pub correct : FirmDevicesCorrect
+  pub cover : BlocksCover
+
+-- once the correction points of a block may come, firm devices are corrected
+correct_known : FirmDevicesCorrect
+correct_known = firm_devices_correct frames_known (sound_master_sends goes_known) goes_known
+
+-- the correction points of a block come
+come_known : PointsHaveCome
+come_known = points_have_come (points_are_recorded none_turns_on)
+
+pub blocks_known : AreKnown
+blocks_known = record {
+  goes = goes_known;
+  come = come_known;
+  correct = correct_known;
+  cover = blocks_cover stands_at_start (stands_on goes_known come_known correct_known switches_are_good);
+}
+
+-- ---- the laws
+
+pub clocks_agree : ClocksStayTogether
+clocks_agree = clocks_stay_together one_channel_is_sound blocks_known.cover (clocks_agree_in_blocks blocks_known.goes (hulls_are_narrow blocks_known.goes))
+
+pub time_kept : TimeIsKept
+time_kept = time_is_kept one_channel_is_sound blocks_known.cover blocks_known.goes blocks_known.correct
+
+pub cycles_kept : ClocksKeepTheirCycles
+cycles_kept = clocks_keep_their_cycles one_channel_is_sound blocks_known.cover blocks_known.goes
+
+pub span_kept : ClocksKeepTheSpan
+span_kept = clocks_keep_the_span one_channel_is_sound blocks_known.cover blocks_known.goes
+
+pub on_time : ValuesAreReachedOnTime
+on_time = values_are_reached_on_time one_channel_is_sound blocks_known.cover blocks_known.goes
+
+pub near : DispatchesStayNear
+near = dispatches_stay_near one_channel_is_sound blocks_known.cover blocks_known.goes
+
+pub halve : DispatchesHalve
+halve = dispatches_halve one_channel_is_sound blocks_known.cover blocks_known.goes
+
+pub joiners : JoinersComeIn
+joiners = joiners_come_in clocks_agree near

@@ -1,0 +1,84 @@
+-- A run up to an earlier time.
+use Rattle.std.proofs.Common.{◌≡◌, ℕ, ◌+◌, ◌<◌, ◌≤◌, List, [], ◌∷◌, ◌++◌, inl, inr, sym, ap, subst, ◌∙◌, append_assoc, arith}
+use Rattle.std.proofs.lemmas.Bool.{cases_lt, le-ltb, lt-ltb}
+use Rattle.std.proofs.lemmas.List.{append-nil}
+use Rattle.std.proofs.lemmas.List.Elements.{filter-append}
+use Rattle.std.specs.Prelude.{nat_lt}
+use Rattle.precision_law.proofs.records.Times.{all_kept}
+use Rattle.precision_law.specs.Views.{Covers}
+use Rattle.run_law.proofs.law.FirstPlaces.{IsSplit, front_founded, in_front_of, none_kept, split}
+use Rattle.run_law.proofs.runs.Places.{chain, earlier_time, in_left, in_parts}
+use Rattle.run_law.specs.records.Happenings.{Happening, earlier, time_of}
+use Rattle.run_law.specs.records.Order.{IsBefore, IsIn}
+use Rattle.run_law.specs.records.Ranks.{key, members_in, place_of, rank}
+use Rattle.run_law.specs.runs.DueRecords.{IsDue}
+use Rattle.run_law.specs.runs.Runs.{IsFounded, IsRun}
+use Rattle.run_law.specs.scenario.Scenarios.{Scenario}
+
+-- the records of a run before an earlier place are the run up to this place
+pub cut_run : {N : Type 0} (place : N → List ℕ) (IsDue : List N → N → Type 0) (mark p : List ℕ) (ns : List N) (at : IsSplit place ns p)
+    → ((q : List ℕ) → IsBefore q p → IsBefore q mark) → IsRun place IsDue mark ns → IsRun place IsDue p at.front
+cut_run {N} place IsDue mark p ns at up run = record {
+  founded = front_founded place IsDue at.front at.rest (subst (IsFounded place IsDue) at.whole run.founded);
+  full = λ ps qs x e before none due here.
+      let whole : ns ≡ ps ++ (qs ++ at.rest) = at.whole ∙ ap (λ (t : List N). t ++ at.rest) e ∙ append_assoc ps qs at.rest in
+      let found = run.full ps (qs ++ at.rest) x whole before (λ n i lt. elim (in_parts n qs at.rest i) [
+        | inl l ↦ none n l lt
+        | inr r ↦ at.none n r (chain (place n) (place x) p lt here)
+      ]) due (up (place x) here) in
+      (found.0, in_front_of place ns p at found.0 found.1 (subst (λ (q : List ℕ). IsBefore q p) (sym found.2) here), found.2);
+  within = at.before;
+}
+
+-- what is before the time behind one is before each mark that covers it
+pub before_cover : (mark : List ℕ) (until t : ℕ) (q : List ℕ) → Covers mark until → t ≤ until → IsBefore q ((t + 1) ∷ []) → IsBefore q mark
+before_cover mark until t [] covers le before = some_mark mark (covers [])
+  where
+    some_mark : (m : List ℕ) → IsBefore (until ∷ []) m → IsBefore [] m
+    some_mark [] b = b
+    some_mark (x ∷ xs) b = tt
+before_cover mark until t (x ∷ xs) covers le before =
+    let early = earlier_time x (t + 1) xs before in
+    elim (cases_lt x until) [
+      | inl lt ↦ chain (x ∷ xs) (until ∷ []) mark (inl lt) (covers [])
+      | inr ge ↦ (let same : until ≡ x = omega arith in subst (λ (n : ℕ). IsBefore (n ∷ xs) mark) same (covers xs))
+    ]
+
+-- the records up to a time
+pub record IsCutAt (s : Scenario) (hs : List Happening) (t : ℕ) : Type 0 where
+  pub front : List Happening
+  pub run : IsRun place_of (IsDue s) ((t + 1) ∷ []) front
+  pub same : earlier (t + 1) hs ≡ front
+  pub inside : (h : Happening) → IsIn h front → IsIn h hs
+  pub has : (h : Happening) → IsIn h hs → time_of h ≤ t → IsIn h front
+  pub early : (u : ℕ) → u ≤ t + 1 → earlier u front ≡ earlier u hs
+
+-- a record of an earlier time is before the time
+sooner : (h : Happening) (u : ℕ) → time_of h < u → IsBefore (place_of h) (u ∷ [])
+sooner h u lt = inl lt
+
+-- and what is before the time is of an earlier one
+pub of_earlier : (h : Happening) (u : ℕ) → IsBefore (place_of h) (u ∷ []) → time_of h < u
+of_earlier h u b = earlier_time (time_of h) u (rank h.note.body ∷ key (members_in h) h.note.body) b
+
+pub cut_at : (s : Scenario) (mark : List ℕ) (hs : List Happening) (until t : ℕ) → IsRun place_of (IsDue s) mark hs → Covers mark until → t ≤ until
+    → IsCutAt s hs t
+cut_at s mark hs until t run covers le =
+    let at = split place_of (IsDue s) hs ((t + 1) ∷ []) run.founded in
+    let keeps : (u : ℕ) → u ≤ t + 1 → earlier u at.front ≡ earlier u hs = λ u within.
+    let none : earlier u at.rest ≡ [] = none_kept (λ h. nat_lt (time_of h) u) at.rest (λ h i. elim (cases_lt (time_of h) u) [
+      | inl lt ↦ absurd (at.none h i (sooner h (t + 1) (omega arith)))
+      | inr ge ↦ le-ltb (time_of h) u ge
+    ]) in
+    sym (append-nil (earlier u at.front)) ∙ ap (λ (gs : List Happening). earlier u at.front ++ gs) (sym none)
+    ∙ sym (filter-append (λ h. nat_lt (time_of h) u) at.front at.rest) ∙ ap (earlier u) (sym at.whole) in
+    let all : earlier (t + 1) at.front ≡ at.front = all_kept (λ h. nat_lt (time_of h) (t + 1)) at.front
+    (λ h i. lt-ltb (time_of h) (t + 1) (of_earlier h (t + 1) (at.before h i))) in
+    record {
+      front = at.front;
+      run = cut_run place_of (IsDue s) mark ((t + 1) ∷ []) hs at (λ q b. before_cover mark until t q covers le b) run;
+      same = sym (keeps (t + 1) (omega arith)) ∙ all;
+      inside = λ h i. subst (IsIn h) (sym at.whole) (in_left h at.front at.rest i);
+      has = λ h i early. in_front_of place_of hs ((t + 1) ∷ []) at h i (sooner h (t + 1) (omega (arith, early)));
+      early = keeps;
+    }

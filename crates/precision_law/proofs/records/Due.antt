@@ -1,0 +1,279 @@
+-- What is due is recorded: the frames of clusters, and what is permanent.
+use Rattle.std.proofs.Common.{◌≡◌, ◌⊎◌, ℕ, ◌+◌, ◌<◌, ◌≤◌, ℤ, pos, Bool, true, false, List, [], ◌∷◌, length, Option, Some, None, inl, inr, refl, sym, ap, subst, ◌∙◌, arith}
+use Rattle.std.proofs.lemmas.Bool.{cases_lt}
+use Rattle.std.proofs.lemmas.Int.{ints}
+use Rattle.std.specs.Option.{option_map_or}
+use Rattle.std.specs.Prelude.{Contains, MatchBool, option_and_then, unsigned_abs}
+use Rattle.net_plan.specs.declared.ids.DeviceId.{DeviceId}
+use Rattle.net_plan.specs.declared.ids.LinkId.{LinkId}
+use Rattle.pcf_values.specs.declared.pcf.Pcf.{Pcf}
+use Rattle.precision_law.specs.Trips.{IsPermanentAt}
+use Rattle.precision_law.specs.Views.{IsGood, IsView, View}
+use Rattle.run_law.proofs.law.FirstPlaces.{IsSplit, by_number, due_is_there, front_founded, in_front_of}
+use Rattle.run_law.specs.declared.judgement.Reason.TheVariants.{Cycle}
+use Rattle.run_law.specs.declared.judgement.Reason.{Reason}
+use Rattle.run_law.specs.declared.note.Note.{Note}
+use Rattle.run_law.specs.declared.note.NoteBody.TheVariants as notes
+use Rattle.run_law.specs.declared.note.NoteBody.{NoteBody}
+use Rattle.run_law.specs.device.States.{adjustment_at_hearing, state_at_hearing}
+use Rattle.run_law.specs.records.Happenings.{Happening, happening, numbered, time_of}
+use Rattle.run_law.specs.records.Order.{AllBefore, IsBefore, IsIn, NoneBefore}
+use Rattle.run_law.specs.records.Ranks.{key, members_in, place_of, rank, sign}
+use Rattle.run_law.specs.runs.DueRecords.{IsCaused, IsDue}
+use Rattle.run_law.specs.runs.Runs.{IsFounded}
+use Rattle.run_law.specs.scenario.Devices.{is_cm, plan_of}
+use Rattle.run_law.specs.scenario.Scenarios.{Scenario}
+use Rattle.tte_units.specs.Amount.{amount, units_of}
+use Rattle.compression.proofs.Times.{one_list_of_clusters}
+use Rattle.compression.specs.Clusters.{AreClusters, Cluster, Point, point_at}
+use Rattle.compression.specs.Emission.{emission}
+use Rattle.compression.specs.Role.{role}
+use Rattle.compression.specs.declared.taken.Taken.{Taken}
+use Rattle.compression.specs.declared.taken.Taken.TheVariants as taken
+use Rattle.drift_clock.specs.Reach.{IsReach}
+use Rattle.precision_law.specs.Bases.{IsEmission}
+use Rattle.precision_law.specs.Sizes.{Sizes}
+use Rattle.precision_law.proofs.records.Judged.{all_judge}
+use Rattle.precision_law.proofs.faults.Masters.{good_is_correct}
+use Rattle.run_law.specs.control.Collections.{master_of, point_fault, points_of, ripe_by_role, observation_window}
+use Rattle.run_law.specs.control.Emissions.{Emits}
+use Rattle.run_law.specs.control.Hearing.{heard_as}
+use Rattle.run_law.specs.control.Permanence.{IsCollectedOrDropped, IsJudgedBy, IsPermanent, IsPermanenceOutcome, IsCollectionOutcome, BecomesPermanent, before_permanence, ripe_as, waits_for}
+use Rattle.run_law.specs.declared.judgement.Judgement.{Judgement}
+use Rattle.run_law.specs.declared.judgement.Judgement.TheVariants as judgements
+use Rattle.run_law.specs.declared.steps.Ripe.TheVariants as ripe
+use Rattle.transparent_clock.specs.Points.{point_of}
+
+-- ---- what is sent
+
+abbrev next_note : List Happening → ℕ → NoteBody → Note
+next_note ps t body = record { number = length ps + 1; time = units_of t; body = body }
+
+next_due : (s : Scenario) (ps : List Happening) (t : ℕ) (body : NoteBody) → IsCaused s ps (units_of t) body
+    → IsDue s ps (happening s.network ps (next_note ps t body))
+next_due s ps t body cause = record { number = refl; same = refl; begun = omega (arith, ints); cause = cause }
+
+-- the emission reading of a cluster
+abbrev pub sent_at : View → Cluster → ℤ
+sent_at v c = emission (observation_window v.scenario.network) (pos (amount v.scenario.network.calc)) c
+
+-- where the frame of a cluster stands in the order, if it is sent at the time
+abbrev pub place_of_sent : View → DeviceId → Cluster → ℕ → List ℕ
+place_of_sent v cm c t = t ∷ 4 ∷ cm.0 ∷ unsigned_abs c.opened ∷ unsigned_abs (sent_at v c) ∷ c.cycle ∷ c.members ∷ sign c.opened ∷ sign (sent_at v c) ∷ []
+
+-- the frame of the cluster was sent at the time
+pub record IsSentAt (v : View) (cm : DeviceId) (c : Cluster) (t : ℕ) : Type 0 where
+  pub h : Happening
+  pub emission : IsEmission v h cm c.cycle (record { 0 = c.members })
+  pub at_is : emission.at.0 ≡ sent_at v c
+  pub time : time_of h ≡ t
+
+-- where a compression master's reading first reaches the emission reading of a cluster of its points so far, the frame
+-- of the cluster is sent
+pub is_sent : (v : View) (cm : DeviceId) (t : ℕ) (c : Cluster) (clusters : List Cluster) (is : IsView v) → is_cm v.scenario.network cm ≡ true → IsGood v cm
+    → t ≤ v.until
+    → (at : IsSplit place_of v.records (place_of_sent v cm c t)) → AreClusters (observation_window v.scenario.network) (points_of at.front cm) clusters
+    → Contains clusters c
+    → IsReach (v.scenario.reading cm) (pos 0) (sent_at v c) (pos t) → IsSentAt v cm c t
+is_sent v cm t c clusters is one good within at are there reached =
+    let s = v.scenario in
+    let n = s.network in
+    let verdict = heard_as (plan_of n cm) (observation_window n) (state_at_hearing s at.front cm t) (adjustment_at_hearing s at.front cm t).0 (sent_at v c)
+    c.cycle (record { 0 = c.members }) in
+    let body : NoteBody = notes.Compressed cm (record { 0 = c.opened }) (record { 0 = sent_at v c }) c.cycle (record { 0 = c.members }) verdict in
+    let emits : Emits s at.front cm t
+    (record { opened = record { 0 = c.opened }; at = record { 0 = sent_at v c }; cycle = c.cycle; members = record { 0 = c.members } }) verdict =
+    record {
+      cm = one;
+      correct = good_is_correct v cm t good within;
+      clusters = clusters;
+      are = are;
+      cluster = c;
+      there = there;
+      is = refl;
+      reached = reached;
+      heard = refl;
+    } in
+    let h : Happening = happening n at.front (next_note at.front t body) in
+    record {
+      h = h;
+      emission = record {
+        there = due_is_there s ((v.until + 1) ∷ []) v.records h at is.run (next_due s at.front t body emits) (inl (omega (arith, within)));
+        opened = record { 0 = c.opened };
+        at = record { 0 = sent_at v c };
+        verdict = verdict;
+        is = refl;
+      };
+      at_is = refl;
+      time = refl;
+    }
+
+-- ---- what is permanent
+
+-- what has arrived, and is permanent at q: the number of its record, and its frame
+pub record IsRipeArrival (v : View) (device : DeviceId) (arrival : Happening) (link : LinkId) (frame : Pcf) (point : ℤ) (q : ℕ) : Type 0 where
+  pub there : IsIn arrival v.records
+  pub of_frame : arrival.frame ≡ Some frame
+  pub waits : waits_for v.scenario.network device link ≡ true
+  pub good : IsGood v device
+  pub permanent : IsPermanentAt v arrival device point q
+  pub by_link : permanent.link ≡ link
+  pub later : time_of arrival ≤ q
+  pub in_run : q ≤ v.until
+
+-- its place in the order
+abbrev pub place_of_ripe : DeviceId → Happening → LinkId → Pcf → ℤ → ℕ → List ℕ
+place_of_ripe device arrival link frame point q = q ∷ 3 ∷ device.0 ∷ unsigned_abs point ∷ frame.members.0 ∷ link.0 ∷ arrival.note.number ∷ []
+
+-- it has a record of its permanence
+pub record IsRipeRecord (v : View) (device : DeviceId) (arrival : Happening) (link : LinkId) (point : ℤ) (q : ℕ) (verdict : Judgement)
+    (frame : Pcf) : Type 0 where
+  pub h : Happening
+  pub there : IsIn h v.records
+  pub is : h.note.body ≡ notes.Permanent device link arrival.note.number (record { 0 = point }) verdict
+  pub time : time_of h ≡ q
+  pub of_frame : h.frame ≡ Some frame
+
+before_ripe : (t q : ℕ) (r : ℕ) (rest more : List ℕ) → t ≤ q → r < 3 → IsBefore (t ∷ r ∷ rest) (q ∷ 3 ∷ more)
+before_ripe t q r rest more le low = elim (cases_lt t q) [ inl lt ↦ inl lt | inr ge ↦ inr (omega (arith, le, ge), inl low) ]
+
+-- given those before its place, it becomes what the law of permanence says: where this is a judgement, there is a
+-- record of it
+pub is_recorded : (v : View) (device : DeviceId) (arrival : Happening) (link : LinkId) (frame : Pcf) (point : ℤ) (q : ℕ) (verdict : Judgement) (is : IsView v)
+    → IsRipeArrival v device arrival link frame point q
+    → (at : IsSplit place_of v.records (place_of_ripe device arrival link frame point q))
+    → IsPermanenceOutcome v.scenario.network device (state_at_hearing v.scenario at.front device q) (adjustment_at_hearing v.scenario at.front device q).0
+    (points_of at.front device) frame point (ripe_as verdict)
+    → IsRipeRecord v device arrival link point q verdict frame
+is_recorded v device arrival link frame point q verdict is r at becomes =
+    let s = v.scenario in
+    let n = s.network in
+    let number : ℕ = arrival.note.number in
+    let body : NoteBody = notes.Permanent device link number (record { 0 = point }) verdict in
+    let p = r.permanent in
+    let arrives : arrival.note.body ≡ notes.Arrived device link p.from p.clock = p.is ∙ ap (λ (l : LinkId). notes.Arrived device l p.from p.clock) r.by_link in
+    let sooner : IsBefore (place_of arrival) (place_of_ripe device arrival link frame point q) = before_ripe (time_of arrival) q (rank arrival.note.body)
+    (key (members_in arrival) arrival.note.body) (device.0 ∷ unsigned_abs point ∷ frame.members.0 ∷ link.0 ∷ number ∷ []) r.later
+    (let two : rank arrival.note.body ≡ 2 = ap rank arrives in omega (arith, two)) in
+    let front = front_founded place_of (IsDue s) at.front at.rest (subst (IsFounded place_of (IsDue s)) at.whole is.run.founded) in
+    let found : numbered at.front number ≡ Some arrival = by_number s at.front arrival front
+    (in_front_of place_of v.records (place_of_ripe device arrival link frame point q) at arrival r.there sooner) in
+    let dmax_is : n.dmax.0 ≡ pos v.sizes.dmax = (let least = is.lawful.range.dmax.least in let size : v.sizes.dmax ≡ amount n.dmax = ap (λ (x : Sizes). x.dmax)
+    is.sizes in omega (arith, ints, least, size)) in
+    let permanent : IsPermanent s at.front device q link number frame (record { 0 = point }) = record {
+      arrival = arrival;
+      there = found;
+      from = p.from;
+      clock = p.clock;
+      arrived = arrives;
+      of_frame = r.of_frame;
+      waits = r.waits;
+      at_point = p.at_point ∙ ap (point_of (pos (s.reading device (time_of arrival))) p.clock) (sym dmax_is);
+      reached = p.reached;
+      correct = good_is_correct v device q r.good r.in_run;
+    } in
+    let judged : IsJudgedBy s (before_permanence at.front device q link number frame (record { 0 = point })) device q frame (record { 0 = point })
+    (ripe_as verdict) =
+    subst (λ (hs : List Happening). IsJudgedBy s hs device q frame (record { 0 = point }) (ripe_as verdict))
+    (sym (all_judge at.front q device link number frame (record { 0 = point }) at.before)) becomes in
+    let ripens : BecomesPermanent s at.front device q link number (record { 0 = point }) (ripe_as verdict) =
+    record { frame = frame; permanent = permanent; becomes = judged } in
+    let h : Happening = happening n at.front (next_note at.front q body) in
+    let framed : h.frame ≡ Some frame = ap (λ (o : Option Happening). option_and_then (λ x. x.frame) o) found ∙ r.of_frame in
+    let members : members_in h ≡ frame.members.0 = ap (λ (o : Option Pcf). option_map_or (λ f. f.members.0) o 0) framed in
+    let place : place_of h ≡ place_of_ripe device arrival link frame point q = ap (λ (m : ℕ). q ∷ 3 ∷ device.0 ∷ unsigned_abs point ∷ m ∷ link.0 ∷ number ∷ [])
+    members in
+    let moved : IsSplit place_of v.records (place_of h) = record {
+      front = at.front;
+      rest = at.rest;
+      whole = at.whole;
+      before = subst (AllBefore place_of at.front) (sym place) at.before;
+      none = subst (NoneBefore place_of at.rest) (sym place) at.none;
+    } in
+    let in_run = r.in_run in
+    record {
+      h = h;
+      there = due_is_there s ((v.until + 1) ∷ []) v.records h moved is.run (next_due s at.front q body ripens) (inl (omega (arith, in_run)));
+      is = refl;
+      time = refl;
+      of_frame = framed;
+    }
+
+-- ---- what a compression master collects
+
+-- the judgement of a role
+pub judged_by : (taken : Taken) → (ripe_by_role taken ≡ ripe.Dropped Cycle) ⊎ ((verdict : Judgement) × (ripe_as verdict ≡ ripe_by_role taken))
+judged_by taken.Opened = inr (judgements.Opened, refl)
+judged_by taken.Joined = inr (judgements.Joined, refl)
+judged_by taken.Repeat = inr (judgements.Repeat, refl)
+judged_by taken.OtherCycle = inl refl
+
+-- a frame that is permanent at a compression master, and has no fault, has a record that gives its point, but where it
+-- is dropped since it lies in the time of a cluster of another cycle
+pub is_collected : (v : View) (cm : DeviceId) (arrival : Happening) (link : LinkId) (frame : Pcf) (point : ℤ) (q : ℕ) (is : IsView v)
+    → is_cm v.scenario.network cm ≡ true → IsRipeArrival v cm arrival link frame point q
+    → (at : IsSplit place_of v.records (place_of_ripe cm arrival link frame point q))
+    → point_fault v.scenario.network (state_at_hearing v.scenario at.front cm q) (adjustment_at_hearing v.scenario at.front cm q).0 point frame.cycle ≡ None
+    → ((clusters : List Cluster) × AreClusters (observation_window v.scenario.network) (points_of at.front cm) clusters
+    × (role clusters (point_at point (master_of frame.members.0) frame.cycle) ≡ taken.OtherCycle))
+    ⊎ ((verdict : Judgement) × IsRipeRecord v cm arrival link point q verdict frame)
+is_collected v cm arrival link frame point q is one r at fine =
+    let n = v.scenario.network in
+    let found = one_list_of_clusters (observation_window n) (points_of at.front cm) in
+    by found.0 found.1 (role found.0 (point_at point (master_of frame.members.0) frame.cycle)) refl
+  where
+    becomes : (verdict : Judgement) (points : List Point) (o : Option Reason) → o ≡ None
+        → IsCollectionOutcome v.scenario.network points (point_at point (master_of frame.members.0) frame.cycle) (ripe_as verdict)
+        → IsCollectedOrDropped v.scenario.network points (point_at point (master_of frame.members.0) frame.cycle) o (ripe_as verdict)
+    becomes verdict points None e so = so
+    becomes verdict points (Some reason) e so = absurd cc
+
+    at_cm : (verdict : Judgement) (b : Bool) (P Q : Type 0) → b ≡ true → P → MatchBool b P Q
+    at_cm verdict true P Q e p = p
+    at_cm verdict false P Q e p = absurd cc
+
+    by : (clusters : List Cluster) → AreClusters (observation_window v.scenario.network) (points_of at.front cm) clusters → (t : Taken)
+        → role clusters (point_at point (master_of frame.members.0) frame.cycle) ≡ t
+        → ((clusters : List Cluster) × AreClusters (observation_window v.scenario.network) (points_of at.front cm) clusters
+        × (role clusters (point_at point (master_of frame.members.0) frame.cycle) ≡ taken.OtherCycle))
+        ⊎ ((verdict : Judgement) × IsRipeRecord v cm arrival link point q verdict frame)
+    by clusters are taken.OtherCycle e = inl (clusters, are, e)
+    by clusters are taken.Opened e =
+        inr (
+          judgements.Opened,
+          is_recorded v cm arrival link frame point q judgements.Opened is r at
+              (at_cm judgements.Opened (is_cm v.scenario.network cm) _ _ one
+              (becomes judgements.Opened (points_of at.front cm) _ fine
+              (record { taken = taken.Opened; collected = record { clusters = clusters; are = are; is = sym e }; becomes = refl }))),
+        )
+    by clusters are taken.Joined e =
+        inr (
+          judgements.Joined,
+          is_recorded v cm arrival link frame point q judgements.Joined is r at
+              (at_cm judgements.Joined (is_cm v.scenario.network cm) _ _ one
+              (becomes judgements.Joined (points_of at.front cm) _ fine
+              (record { taken = taken.Joined; collected = record { clusters = clusters; are = are; is = sym e }; becomes = refl }))),
+        )
+    by clusters are taken.Repeat e =
+        inr (
+          judgements.Repeat,
+          is_recorded v cm arrival link frame point q judgements.Repeat is r at
+              (at_cm judgements.Repeat (is_cm v.scenario.network cm) _ _ one
+              (becomes judgements.Repeat (points_of at.front cm) _ fine
+              (record { taken = taken.Repeat; collected = record { clusters = clusters; are = are; is = sym e }; becomes = refl }))),
+        )
+
+-- ---- what other devices hear
+
+-- a frame that is permanent at any other device has a record, by which the device hears it
+pub is_heard_of : (v : View) (device : DeviceId) (arrival : Happening) (link : LinkId) (frame : Pcf) (point : ℤ) (q : ℕ) (is : IsView v)
+    → is_cm v.scenario.network device ≡ false → IsRipeArrival v device arrival link frame point q
+    → (at : IsSplit place_of v.records (place_of_ripe device arrival link frame point q))
+    → IsRipeRecord v device arrival link point q (heard_as (plan_of v.scenario.network device) (observation_window v.scenario.network)
+    (state_at_hearing v.scenario at.front device q) (adjustment_at_hearing v.scenario at.front device q).0 point frame.cycle frame.members) frame
+is_heard_of v device arrival link frame point q is other r at =
+    is_recorded v device arrival link frame point q _ is r at (elsewhere (is_cm v.scenario.network device) _ _ other refl)
+  where
+    elsewhere : (b : Bool) (P Q : Type 0) → b ≡ false → Q → MatchBool b P Q
+    elsewhere false P Q e p = p
+    elsewhere true P Q e p = absurd cc

@@ -1,0 +1,54 @@
+-- The records by which a frame that is permanent is judged.
+use Rattle.std.proofs.Common.{◌≡◌, ℕ, Bool, true, false, ◌&&◌, ◌||◌, List, [], ◌∷◌, filter, nat_lt, inl, inr, refl, ap, ◌∙◌, arith}
+use Rattle.std.proofs.lemmas.Bool.{eq-eqb, le-ltb, lt-ltb, or_left}
+use Rattle.std.specs.Prelude.{◌==◌, if◌then◌else◌}
+use Rattle.net_plan.specs.declared.ids.DeviceId.{DeviceId}
+use Rattle.net_plan.specs.declared.ids.LinkId.{LinkId}
+use Rattle.pcf_values.specs.declared.pcf.Pcf.{Pcf}
+use Rattle.precision_law.proofs.records.Times.{all_kept}
+use Rattle.run_law.specs.control.Permanence.{before_permanence}
+use Rattle.run_law.specs.records.Happenings.{Happening, earlier, time_of}
+use Rattle.run_law.specs.records.Order.{AllBefore, IsBefore, is_before}
+use Rattle.run_law.specs.records.Ranks.{place_of}
+use Rattle.tte_units.specs.Amount.{amount}
+use Rattle.tte_units.specs.declared.units.Units.{Units}
+
+-- the test of what comes before
+before_is : (p q : List ℕ) → IsBefore p q → is_before p q ≡ true
+before_is p [] b = absurd b
+before_is [] (y ∷ ys) b = refl
+before_is (x ∷ xs) (y ∷ ys) (inl lt) = or_left (nat_lt x y) _ (lt-ltb x y lt)
+before_is (x ∷ xs) (y ∷ ys) (inr b) =
+    ap (λ (c : Bool). c || (x == y && is_before xs ys)) (le-ltb x y (omega (arith, b.0)))
+    ∙ ap (λ (c : Bool). c && is_before xs ys) (eq-eqb x y b.0)
+    ∙ before_is xs ys b.1
+
+-- where all records are before the place of the frame's permanence, all count
+pub all_judge : (hs : List Happening) (t : ℕ) (device : DeviceId) (link : LinkId) (cause : ℕ) (frame : Pcf) (point : Units)
+    → AllBefore place_of hs (t ∷ 3 ∷ device.0 ∷ amount point ∷ frame.members.0 ∷ link.0 ∷ cause ∷ [])
+    → before_permanence hs device t link cause frame point ≡ hs
+all_judge hs t device link cause frame point all =
+    let here = t ∷ 3 ∷ device.0 ∷ amount point ∷ frame.members.0 ∷ link.0 ∷ cause ∷ [] in
+    all_kept (λ h. is_before (place_of h) (t ∷ 3 ∷ device.0 ∷ amount point ∷ frame.members.0 ∷ link.0 ∷ cause ∷ [])) hs
+    (λ h i. before_is (place_of h) here (all h i))
+
+-- a filter that keeps all earlier records
+earlier_kept : (t : ℕ) (q : Happening → Bool) (hs : List Happening) → ((h : Happening) → nat_lt (time_of h) t ≡ true → q h ≡ true)
+    → earlier t (filter q hs) ≡ earlier t hs
+earlier_kept t q [] all = refl
+earlier_kept t q (h ∷ hs) all = by (q h) (nat_lt (time_of h) t) refl refl (earlier_kept t q hs all)
+  where
+    by : (b c : Bool) → q h ≡ b → nat_lt (time_of h) t ≡ c → earlier t (filter q hs) ≡ earlier t hs
+        → earlier t (if b then h ∷ filter q hs else filter q hs) ≡ (if c then h ∷ earlier t hs else earlier t hs)
+    by true c is at more =
+        ap (λ (d : Bool). if d then h ∷ earlier t (filter q hs) else earlier t (filter q hs)) at
+        ∙ ap (λ (l : List Happening). if c then h ∷ l else l) more
+    by false true is at more = (let kept = all h at in absurd cc)
+    by false false is at more = more
+
+-- all records of earlier times count
+pub earlier_judge : (hs : List Happening) (t : ℕ) (device : DeviceId) (link : LinkId) (cause : ℕ) (frame : Pcf) (point : Units)
+    → earlier t (before_permanence hs device t link cause frame point) ≡ earlier t hs
+earlier_judge hs t device link cause frame point =
+    earlier_kept t (λ h. is_before (place_of h) (t ∷ 3 ∷ device.0 ∷ amount point ∷ frame.members.0 ∷ link.0 ∷ cause ∷ [])) hs
+    (λ h e. or_left (nat_lt (time_of h) t) _ e)

@@ -1,0 +1,157 @@
+-- The records of a view with those before them, and the correction points that they come of.
+use Rattle.std.proofs.Common.{◌≡◌, ◌⊎◌, ℕ, ◌+◌, ◌<◌, ◌≤◌, Bool, true, false, List, [], ◌∷◌, ◌++◌, filter, Option, Some, None, inl, inr, refl, sym, ap, subst, ◌∙◌, arith, ℤ, pos, ◌+ℤ◌, ◌<ℤ◌, ◌-ℤ◌}
+use Rattle.std.proofs.lemmas.Bool.{le-ltb}
+use Rattle.std.proofs.lemmas.List.{append-nil}
+use Rattle.std.proofs.lemmas.List.Elements.{filter-append}
+use Rattle.std.specs.List.{last_or}
+use Rattle.std.specs.Option.{option_map_or}
+use Rattle.std.specs.Prelude.{nat_lt, if◌then◌else◌}
+use Rattle.drift_clock.specs.Reach.{IsReach}
+use Rattle.net_plan.specs.declared.ids.DeviceId.{DeviceId}
+use Rattle.precision_law.proofs.records.Cutting.{of_earlier}
+use Rattle.precision_law.proofs.records.Times.{AreSorted, in_earlier, passes}
+use Rattle.precision_law.proofs.records.Views.{in_order}
+use Rattle.precision_law.specs.BlockLaws.{AreBeforeCorrections}
+use Rattle.precision_law.specs.Blocks.{state_left}
+use Rattle.precision_law.specs.Epochs.{has_time, last_setting}
+use Rattle.precision_law.specs.Views.{IsView, View}
+use Rattle.run_law.proofs.law.FirstPlaces.{IsFoundedAt, in_filter, none_kept}
+use Rattle.run_law.specs.control.Corrections.{ComesToCorrection}
+use Rattle.run_law.specs.device.LocalClocks.{Reaches, changed_at, changes_adjustment}
+use Rattle.run_law.specs.device.States.{adjustment_after, adjustment_before, state_after, state_before}
+use Rattle.run_law.specs.records.Happenings.{Happening, earlier, time_of}
+use Rattle.run_law.specs.records.Order.{IsIn}
+use Rattle.run_law.specs.scenario.Scenarios.{is_turned_on_at}
+use Rattle.sync_state.specs.Standing.{point_in}
+use Rattle.sync_state.specs.declared.answers.Verdict.{Verdict}
+use Rattle.sync_state.specs.declared.state.State.TheVariants.{Off, Integrating, Joining, Synchronised}
+use Rattle.sync_state.specs.declared.state.State.{State}
+use Rattle.tte_units.specs.declared.units.Units.{Units}
+
+-- ---- records with those before them
+
+-- each record of a view is of a time up to its end
+pub within_run : (v : View) → IsView v → (h : Happening) → IsIn h v.records → time_of h ≤ v.until
+within_run v is h i = let lt = of_earlier h (v.until + 1) (is.run.within h i) in omega (arith, lt)
+
+-- of sorted records those before one are not later, and those behind it not earlier
+pub sorted_parts : (ps qs : List Happening) (x : Happening) → AreSorted (ps ++ x ∷ qs) → ((y : Happening) → IsIn y ps → time_of y ≤ time_of x)
+    × ((y : Happening) → IsIn y qs → time_of x ≤ time_of y)
+sorted_parts [] qs x order = (λ y i. absurd i, order.0)
+sorted_parts (p ∷ ps) qs x order =
+    let more = sorted_parts ps qs x order.1 in (
+      λ y i. elim i [
+        | inl same ↦ (let up = order.0 x (in_middle ps qs x) in rw same up)
+        | inr later ↦ more.0 y later
+      ],
+      more.1,
+    )
+  where
+    in_middle : (ps qs : List Happening) (x : Happening) → IsIn x (ps ++ x ∷ qs)
+    in_middle [] qs x = inl refl
+    in_middle (p ∷ ps) qs x = inr (in_middle ps qs x)
+
+-- those before a record are the records before corrections at its time
+pub before_of : (v : View) (h : Happening) → IsView v → (at : IsFoundedAt v.scenario v.records h) → AreBeforeCorrections v (time_of h) at.front
+before_of v h is at =
+    let parts = sorted_parts at.front at.rest h (subst AreSorted at.whole (in_order v is)) in
+    record {
+      rest = h ∷ at.rest;
+      whole = at.whole;
+      later = λ g i. elim i [ inl same ↦ (rw same (omega arith)) | inr more ↦ parts.1 g more ];
+      only = parts.0;
+    }
+
+-- they have all earlier records
+pub earlier_before : (v : View) (t : ℕ) (front : List Happening) → AreBeforeCorrections v t front → earlier t front ≡ earlier t v.records
+earlier_before v t front split =
+    let none : earlier t split.rest ≡ [] = none_kept (λ h. nat_lt (time_of h) t) split.rest (λ h i. le-ltb (time_of h) t (split.later h i)) in
+    sym (append-nil (earlier t front)) ∙ ap (λ (gs : List Happening). earlier t front ++ gs) (sym none)
+    ∙ sym (filter-append (λ h. nat_lt (time_of h) t) front split.rest) ∙ ap (earlier t) (sym split.whole)
+
+-- ---- correction points
+
+-- a state that has a correction point has the common time
+pub point_has_time : (state : State) (n cycle : ℕ) → point_in state n ≡ Some cycle → has_time state ≡ true
+point_has_time Off n cycle e = absurd cc
+point_has_time Integrating n cycle e = absurd cc
+point_has_time Joining n cycle e = refl
+point_has_time Synchronised n cycle e = refl
+
+-- and the point is that of the number
+pub point_is : (state : State) (n cycle : ℕ) → point_in state n ≡ Some cycle → cycle ≡ n
+point_is Off n cycle e = absurd cc
+point_is Integrating n cycle e = absurd cc
+point_is Joining n cycle e = cc
+point_is Synchronised n cycle e = cc
+
+-- a device that is not just turned on has the state that the records leave
+not_turned_on : (b : Bool) (state : State) → has_time (if b then Integrating else state) ≡ true → has_time state ≡ true
+not_turned_on true state e = absurd cc
+not_turned_on false state e = e
+
+-- before t a device has the time where it does when something comes at t
+pub left_with_time : (v : View) (device : DeviceId) (t : ℕ) (front : List Happening) → AreBeforeCorrections v t front
+    → has_time (state_before v.scenario front device t) ≡ true → has_time (state_left v device t) ≡ true
+left_with_time v device t front split e =
+    let same = earlier_before v t front split in
+    let here = not_turned_on (is_turned_on_at v.scenario device t) (state_after v.scenario (earlier t front) device) e in
+    subst (λ (hs : List Happening). has_time (state_after v.scenario hs device) ≡ true) same here
+
+-- so does one that comes to a correction point
+pub point_timed : (v : View) (t : ℕ) (device : DeviceId) (cycle : ℕ) (verdict : Verdict) (front : List Happening) → AreBeforeCorrections v t front
+    → ComesToCorrection v.scenario front device t cycle verdict → has_time (state_left v device t) ≡ true
+point_timed v t device cycle verdict front split point =
+    left_with_time v device t front split (point_has_time (state_before v.scenario front device t) _ cycle point.next)
+
+-- the adjustment is that which the earlier records leave
+pub same_adjustment : (v : View) (device : DeviceId) (t : ℕ) (front : List Happening) → AreBeforeCorrections v t front
+    → adjustment_before v.scenario front device t ≡ adjustment_before v.scenario v.records device t
+same_adjustment v device t front split = ap (λ (hs : List Happening). adjustment_after v.scenario hs device) (earlier_before v t front split)
+
+-- ---- the last setting
+
+-- the last of a list is in it
+pub last_in : {X : Type 0} (o : Option X) (xs : List X) (x : X) → last_or o xs ≡ Some x → (o ≡ Some x) ⊎ IsIn x xs
+last_in o [] x e = inl e
+last_in {X} o (y ∷ xs) x e =
+    elim (last_in (Some y) xs x e) [
+      | inl same ↦ (let one : x ≡ y = cc in inr (inl one))
+      | inr more ↦ inr (inr more)
+    ]
+
+-- the record that set a device's clock last
+pub record IsSetting (v : View) (device : DeviceId) (t : ℕ) (h : Happening) : Type 0 where
+  pub there : IsIn h v.records
+  pub early : time_of h < t
+  pub sets : changes_adjustment device h.note.body ≡ true
+
+pub setting_is : (v : View) (device : DeviceId) (t : ℕ) (h : Happening) → last_setting (earlier t v.records) device ≡ Some h → IsSetting v device t h
+setting_is v device t h e =
+    let sets = λ (g : Happening). changes_adjustment device g.note.body in
+    elim (last_in None (filter sets (earlier t v.records)) h e) [
+      | inl none ↦ absurd cc
+      | inr i ↦
+          let back = in_earlier t v.records h (in_filter sets (earlier t v.records) h i) in
+          record { there = back.0; early = back.1; sets = passes sets (earlier t v.records) h i }
+    ]
+
+-- ---- what a clock reaches, given the records before
+
+-- where a clock reaches a value given the records before, it does given all
+pub reaches_whole : (v : View) (device : DeviceId) (value : ℤ) (t : ℕ) (front : List Happening) → AreBeforeCorrections v t front
+    → Reaches v.scenario front device value t → Reaches v.scenario v.records device value t
+reaches_whole v device value t front split reaches =
+    let same = earlier_before v t front split in
+    let time : changed_at front device t ≡ changed_at v.records device t = ap (λ (hs : List Happening). option_map_or time_of (last_setting hs device) 0) same
+    in
+    let left : (adjustment_before v.scenario front device t).0 ≡ (adjustment_before v.scenario v.records device t).0 = ap (λ (a : Units). a.0)
+    (same_adjustment v device t front split) in
+    record {
+      below =
+          subst (λ (x : ℕ). (pos (v.scenario.reading device x) +ℤ (adjustment_before v.scenario v.records device t).0) <ℤ value) time
+          (subst (λ (a : ℤ). (pos (v.scenario.reading device (changed_at front device t)) +ℤ a) <ℤ value) left reaches.below);
+      reach =
+          subst (λ (x : ℕ). IsReach (v.scenario.reading device) (pos x) (value -ℤ (adjustment_before v.scenario v.records device t).0) (pos t)) time
+          (subst (λ (a : ℤ). IsReach (v.scenario.reading device) (pos (changed_at front device t)) (value -ℤ a) (pos t)) left reaches.reach);
+    }

@@ -1,0 +1,282 @@
+-- The correction points of good devices are recorded.
+use Rattle.std.proofs.Common.{◌≡◌, ℕ, ◌+◌, ◌<◌, ◌≤◌, pos, ◌+ℤ◌, Bool, true, false, List, [], ◌∷◌, ◌++◌, filter, length, Option, Some, None, inl, inr, refl, sym, ap, subst, ◌∙◌, arith}
+use Rattle.std.proofs.lemmas.Bool.{cases_lt, le-ltb}
+use Rattle.std.proofs.lemmas.Int.{ints}
+use Rattle.std.proofs.lemmas.List.{append-nil, append_assoc}
+use Rattle.std.proofs.lemmas.List.Elements.{filter-append, filter_map-append}
+use Rattle.std.specs.List.{after_last, cons_option, filter_map}
+use Rattle.std.specs.Prelude.{◌&&◌, ◌||◌, if◌then◌else◌, nat_lt, not}
+use Rattle.membership.specs.Hearing.{Hearing}
+use Rattle.membership.specs.Summary.{Summary, Summarizes}
+use Rattle.net_plan.specs.declared.ids.DeviceId.{DeviceId}
+use Rattle.precision_law.proofs.faults.Masters.{good_is_correct}
+use Rattle.precision_law.proofs.hearing.Heard.{cleared_by, same_cleared, same_next}
+use Rattle.precision_law.proofs.records.Behind.{PartsAtLast, after_last_at, after_last_none, all_of, none, parts_at_last, some}
+use Rattle.precision_law.proofs.records.PlacedFronts.{reaches_front}
+use Rattle.precision_law.proofs.records.Points.{earlier_before}
+use Rattle.precision_law.proofs.records.Times.{same_kept}
+use Rattle.precision_law.proofs.verdict.Verdicts.{summary_of, verdict_of}
+use Rattle.precision_law.specs.BlockLaws.{AreBeforeCorrections, IsPointRecord, NoneTurnsOn, PointsAreRecorded}
+use Rattle.precision_law.specs.Blocks.{HasTimeAt}
+use Rattle.precision_law.specs.Epochs.{has_time}
+use Rattle.precision_law.specs.Views.{IsView, View}
+use Rattle.run_law.proofs.law.FirstPlaces.{IsSplit, due_is_there, front_founded, in_filter, split}
+use Rattle.run_law.proofs.runs.Places.{chain, in_parts, in_right}
+use Rattle.run_law.specs.control.Corrections.{ComesToCorrection, correction_value, has_cleared, heard_since, hearing_by, integration_cycle, next_cycle, recorded_cycle, standing_before}
+use Rattle.run_law.specs.declared.judgement.Why.TheVariants as whys
+use Rattle.run_law.specs.declared.judgement.Why.{Why}
+use Rattle.run_law.specs.declared.note.Note.{Note}
+use Rattle.run_law.specs.declared.note.NoteBody.TheVariants as notes
+use Rattle.run_law.specs.declared.note.NoteBody.{NoteBody}
+use Rattle.run_law.specs.device.LocalClocks.{Reaches, changes_adjustment}
+use Rattle.run_law.specs.device.StateChanges.{ChangesState}
+use Rattle.run_law.specs.device.States.{adjustment_after, adjustment_before, state_after}
+use Rattle.run_law.specs.records.Happenings.{Happening, earlier, happening, time_of}
+use Rattle.run_law.specs.records.Order.{IsBefore, IsIn}
+use Rattle.run_law.specs.records.Ranks.{key, members_in, place_of, rank}
+use Rattle.run_law.specs.runs.DueRecords.{IsDue}
+use Rattle.run_law.specs.runs.Runs.{IsFounded}
+use Rattle.run_law.specs.scenario.Devices.{plan_of}
+use Rattle.run_law.specs.scenario.Scenarios.{is_turned_on_at}
+use Rattle.sync_state.specs.Standing.{IsAtIntegration, Standing, point_in}
+use Rattle.sync_state.specs.Verdicts.{HasVerdict}
+use Rattle.sync_state.specs.declared.answers.Verdict.TheVariants.{Corrected, SyncClique, AsyncClique}
+use Rattle.sync_state.specs.declared.answers.Verdict.{Verdict}
+use Rattle.sync_state.specs.declared.state.State.TheVariants.{Off, Integrating, Joining, Synchronised}
+use Rattle.sync_state.specs.declared.state.State.{State}
+use Rattle.tte_units.specs.declared.units.Units.{Units}
+
+-- ---- lists
+
+-- what ends no part may be added behind the last that does
+after_more : {X : Type 0} (p : X → Bool) (xs ys : List X) → ((y : X) → IsIn y ys → p y ≡ false) → after_last p (xs ++ ys) ≡ after_last p xs ++ ys
+after_more {X} p xs ys quiet = by (parts_at_last p xs)
+  where
+    in_two : (ls rs : List X) → ((x : X) → IsIn x ls → p x ≡ false) → ((x : X) → IsIn x rs → p x ≡ false) → (x : X) → IsIn x (ls ++ rs) → not (p x) ≡ true
+    in_two ls rs a b x i = elim (in_parts x ls rs i) [ inl l ↦ ap not (a x l) | inr r ↦ ap not (b x r) ]
+
+    alone : (ls : List X) → ((x : X) → IsIn x ls → p x ≡ false) → (x : X) → IsIn x ls → not (p x) ≡ true
+    alone ls a x i = ap not (a x i)
+
+    by : PartsAtLast p xs → after_last p (xs ++ ys) ≡ after_last p xs ++ ys
+    by (none all) =
+        after_last_none p (xs ++ ys) (all_of (λ (x : X). not (p x) ≡ true) (xs ++ ys) (in_two xs ys all quiet))
+        ∙ ap (λ (t : List X). t ++ ys) (sym (after_last_none p xs (all_of (λ (x : X). not (p x) ≡ true) xs (alone xs all))))
+    by (some front rest last whole hit all) =
+        ap (λ (t : List X). after_last p (t ++ ys)) whole ∙ ap (after_last p) (append_assoc front (last ∷ rest) ys)
+        ∙ after_last_at p front last (rest ++ ys) hit (all_of (λ (x : X). not (p x) ≡ true) (rest ++ ys) (in_two rest ys all quiet))
+        ∙ ap (λ (t : List X). t ++ ys)
+        (sym (ap (after_last p) whole ∙ after_last_at p front last rest hit (all_of (λ (x : X). not (p x) ≡ true) rest (alone rest all))))
+
+-- what makes nothing of each makes nothing
+makes_none : {X Y : Type 0} (f : X → Option Y) (xs : List X) → ((x : X) → IsIn x xs → f x ≡ None) → filter_map f xs ≡ []
+makes_none f [] quiet = refl
+makes_none f (x ∷ xs) quiet = ap (λ (o : Option _). cons_option o (filter_map f xs)) (quiet x (inl refl)) ∙ makes_none f xs (λ y i. quiet y (inr i))
+
+-- ---- what was heard
+
+-- records of corrections and states tell nothing heard
+high_quiet : (v : View) (device : DeviceId) (u : ℕ) (h : Happening) (body : NoteBody) → time_of h ≡ u → (rank body < 6 → ⊥)
+    → hearing_by v.scenario.network device h body ≡ None
+high_quiet v device u h (notes.Permanent other link cause point verdict) at high = absurd (high (omega arith))
+high_quiet v device u h (notes.Compressed other opened sent cycle members verdict) at high = absurd (high (omega arith))
+high_quiet v device u h body at high = refl
+
+heard_more : (v : View) (device : DeviceId) (u : ℕ) (front mid : List Happening) → has_cleared v.scenario (front ++ mid) device u u ≡ has_cleared v.scenario
+    front device u u → ((x : ℕ) → has_cleared v.scenario (front ++ mid) device u x ≡ has_cleared v.scenario front device u x)
+    → ((m : Happening) → IsIn m mid → time_of m ≡ u) → ((m : Happening) → IsIn m mid → rank m.note.body < 6 → ⊥)
+    → heard_since v.scenario (front ++ mid) device u ≡ heard_since v.scenario front device u
+heard_more v device u front mid cleared cleared_at at high =
+    let s = v.scenario in
+    let set = λ (h : Happening). nat_lt (time_of h) u && changes_adjustment device h.note.body in
+    let f = λ (h : Happening). hearing_by s.network device h h.note.body in
+    let late = λ (h : Happening). not (has_cleared s front device u u) || has_cleared s front device u (time_of h) in
+    let late_more = λ (h : Happening). not (has_cleared s (front ++ mid) device u u) || has_cleared s (front ++ mid) device u (time_of h) in
+    let since : after_last set (front ++ mid) ≡ after_last set front
+    ++ mid = after_more set front mid
+    (λ m i. ap (λ (b : Bool). b && changes_adjustment device m.note.body) (le-ltb (time_of m) u (let e = at m i in omega (arith, e)))) in
+    let quiet : filter_map f (filter late mid) ≡ [] = makes_none f (filter late mid)
+    (λ m i. (let back = in_filter late mid m i in high_quiet v device u m m.note.body (at m back) (high m back))) in
+    ap (λ (hs : List Happening). filter_map f (filter late_more hs)) since
+    ∙ ap (filter_map f)
+    (same_kept late_more late (after_last set front ++ mid) (λ h i. ap (λ (b : Bool). not b || has_cleared s (front ++ mid) device u (time_of h)) cleared
+    ∙ ap (λ (b : Bool). not (has_cleared s front device u u) || b) (cleared_at (time_of h))))
+    ∙ ap (filter_map f) (filter-append late (after_last set front) mid)
+    ∙ filter_map-append f (filter late (after_last set front)) (filter late mid)
+    ∙ ap (λ (t : List Hearing). filter_map f (filter late (after_last set front)) ++ t) quiet
+    ∙ append-nil (filter_map f (filter late (after_last set front)))
+
+-- ---- the point
+
+point_of_timed : (state : State) (n : ℕ) → has_time state ≡ true → point_in state n ≡ Some n
+point_of_timed Off n e = absurd cc
+point_of_timed Integrating n e = absurd cc
+point_of_timed Joining n e = refl
+point_of_timed Synchronised n e = refl
+
+-- a part of the records that ends at a place of the time is before corrections
+split_before : (v : View) (u : ℕ) (more : List ℕ) (at : IsSplit place_of v.records (u ∷ more)) → AreBeforeCorrections v u at.front
+split_before v u more at = record {
+  rest = at.rest;
+  whole = at.whole;
+  later = λ h i. elim (cases_lt (time_of h) u) [ inl lt ↦ absurd (at.none h i (inl lt)) | inr ge ↦ ge ];
+  only = λ h i. at_most (time_of h) u (rank h.note.body ∷ key (members_in h) h.note.body) more (at.before h i);
+}
+  where
+    at_most : (t u : ℕ) (xs ys : List ℕ) → IsBefore (t ∷ xs) (u ∷ ys) → t ≤ u
+    at_most t u xs ys (inl lt) = omega (arith, lt)
+    at_most t u xs ys (inr both) = (let e = both.0 in omega (arith, e))
+
+-- the point comes, given such a part
+comes_given : (v : View) (device : DeviceId) (u : ℕ) (front : List Happening) (summary : Summary) (verdict : Verdict) → IsView v → NoneTurnsOn → u ≤ v.until
+    → HasTimeAt v device u → AreBeforeCorrections v u front
+    → Reaches v.scenario v.records device (correction_value v.scenario.network (next_cycle v.scenario v.records device u)) u
+    → Summarizes summary (heard_since v.scenario front device u) → HasVerdict (standing_before v.scenario front device u) summary verdict
+    → ComesToCorrection v.scenario front device u (next_cycle v.scenario v.records device u) verdict
+comes_given v device u front summary verdict is steady_on le timed before reaches heard has =
+    let s = v.scenario in
+    let same = earlier_before v u front before in
+    let off = steady_on v device u is timed in
+    let state : has_time (if is_turned_on_at s device u then Integrating else state_after s (earlier u front) device) ≡ true =
+    ap (λ (b : Bool). has_time (if b then Integrating else state_after s (earlier u front) device)) off
+    ∙ ap (λ (hs : List Happening). has_time (state_after s hs device)) same ∙ timed.timed in
+    record {
+      next =
+          point_of_timed (if is_turned_on_at s device u then Integrating else state_after s (earlier u front) device) (next_cycle s front device u) state
+          ∙ ap (λ (n : ℕ). Some n) (same_next v device u front before);
+      reached = reaches_front v device (correction_value s.network (next_cycle s v.records device u)) u front before reaches;
+      correct = good_is_correct v device u timed.good le;
+      summary = summary;
+      heard = heard;
+      comes = has;
+    }
+
+not_at : (v : View) (device : DeviceId) (u : ℕ) (front : List Happening) → AreBeforeCorrections v u front
+    → (integration_cycle (earlier u v.records) device ≡ Some (next_cycle v.scenario v.records device u) → ⊥)
+    → IsAtIntegration (standing_before v.scenario front device u) → ⊥
+not_at v device u front before never at =
+    never (ap (λ (hs : List Happening). integration_cycle hs device) (sym (earlier_before v u front before)) ∙ at.cycle
+    ∙ ap (λ (n : ℕ). Some n) (same_next v device u front before))
+
+same_standing : (v : View) (device : DeviceId) (u : ℕ) (front : List Happening) → AreBeforeCorrections v u front
+    → standing_before v.scenario front device u ≡ standing_before v.scenario v.records device u
+same_standing v device u front before =
+    let s = v.scenario in
+    ap (λ (es : List Happening). let st : Standing = record {
+      plan = plan_of s.network device;
+      state = if is_turned_on_at s device u then Integrating else state_after s es device;
+      adjustment = adjustment_after s es device;
+      number = if cleared_by s device u es then recorded_cycle es device + 1 else recorded_cycle es device;
+      integrated = integration_cycle es device;
+    } in st) (earlier_before v u front before)
+
+-- what lies between the places of a correction and of the loss of the time
+between_is : (h : Happening) (u d : ℕ) → IsBefore (place_of h) (u ∷ 7 ∷ d ∷ 0 ∷ []) → (IsBefore (place_of h) (u ∷ 6 ∷ d ∷ []) → ⊥) → (time_of h ≡ u)
+    × (rank h.note.body < 6 → ⊥)
+between_is h u d (inl lt) never = absurd (never (inl lt))
+between_is h u d (inr (same, more)) never = (same, λ low. never (inr (same, inl low)))
+
+-- the two parts of the records at the places of a correction and of the loss of the time
+record HasParts (v : View) (device : DeviceId) (u : ℕ) : Type 0 where
+  pub six : IsSplit place_of v.records (u ∷ 6 ∷ device.0 ∷ [])
+  pub seven : IsSplit place_of v.records (u ∷ 7 ∷ device.0 ∷ 0 ∷ [])
+  pub mid : List Happening
+  pub whole : seven.front ≡ six.front ++ mid
+  pub at : (m : Happening) → IsIn m mid → (time_of m ≡ u) × (rank m.note.body < 6 → ⊥)
+
+parts_of : (v : View) (device : DeviceId) (u : ℕ) → IsView v → HasParts v device u
+parts_of v device u is =
+    let s = v.scenario in
+    let seven = split place_of (IsDue s) v.records (u ∷ 7 ∷ device.0 ∷ 0 ∷ []) is.run.founded in
+    let founded = front_founded place_of (IsDue s) seven.front seven.rest (subst (IsFounded place_of (IsDue s)) seven.whole is.run.founded) in
+    let six = split place_of (IsDue s) seven.front (u ∷ 6 ∷ device.0 ∷ []) founded in
+    record {
+      six = record {
+        front = six.front;
+        rest = six.rest ++ seven.rest;
+        whole = seven.whole ∙ ap (λ (t : List Happening). t ++ seven.rest) six.whole ∙ append_assoc six.front six.rest seven.rest;
+        before = six.before;
+        none = λ n i lt. elim (in_parts n six.rest seven.rest i) [
+          | inl l ↦ six.none n l lt
+          | inr r ↦ seven.none n r (chain (place_of n) (u ∷ 6 ∷ device.0 ∷ []) (u ∷ 7 ∷ device.0 ∷ 0 ∷ []) lt (inr (refl, inl (omega arith))))
+        ];
+      };
+      seven = seven;
+      mid = six.rest;
+      whole = six.whole;
+      at = λ m i. between_is m u device.0 (seven.before m (subst (IsIn m) (sym six.whole) (in_right m six.front six.rest i))) (six.none m i);
+    }
+
+-- the record of a correction
+corrected_there : (v : View) (device : DeviceId) (u : ℕ) (cycle : ℕ) (by : Units) (at : IsSplit place_of v.records (u ∷ 6 ∷ device.0 ∷ [])) → IsView v
+    → u ≤ v.until → ComesToCorrection v.scenario at.front device u cycle (Corrected by) → (h : Happening) × IsPointRecord v device u h
+corrected_there v device u cycle by at is le comes =
+    let s = v.scenario in
+    let adjustment : Units = record { 0 = (adjustment_before s at.front device u).0 +ℤ by.0 } in
+    let note : Note = record { number = length at.front + 1; time = record { 0 = pos u }; body = notes.Corrected device cycle by adjustment } in
+    let x : Happening = happening s.network at.front note in
+    let due : IsDue s at.front x = record { number = refl; same = refl; begun = omega (arith, ints); cause = record { corrected = comes; sum = refl } } in (
+      x,
+      record {
+        there = due_is_there s ((v.until + 1) ∷ []) v.records x at is.run due (inl (omega (arith, le)));
+        at = refl;
+        says = inl (cycle, by, adjustment, refl);
+      },
+    )
+
+-- and that of the loss of the time
+lost_there : (v : View) (device : DeviceId) (u : ℕ) (why : Why) (at : IsSplit place_of v.records (u ∷ 7 ∷ device.0 ∷ 0 ∷ [])) → IsView v → u ≤ v.until
+    → ChangesState v.scenario at.front device u Integrating 0 why → (h : Happening) × IsPointRecord v device u h
+lost_there v device u why at is le changes =
+    let s = v.scenario in
+    let note : Note = record { number = length at.front + 1; time = record { 0 = pos u }; body = notes.State device Integrating 0 why } in
+    let x : Happening = happening s.network at.front note in
+    let due : IsDue s at.front x = record { number = refl; same = refl; begun = omega (arith, ints); cause = changes } in (
+      x,
+      record {
+        there = due_is_there s ((v.until + 1) ∷ []) v.records x at is.run due (inl (omega (arith, le)));
+        at = refl;
+        says = inr (0, why, refl);
+      },
+    )
+
+pub points_are_recorded : NoneTurnsOn → PointsAreRecorded
+points_are_recorded steady_on v device u is le timed reaches never =
+    let s = v.scenario in
+    let p = parts_of v device u is in
+    let six = split_before v u (6 ∷ device.0 ∷ []) p.six in
+    let seven = split_before v u (7 ∷ device.0 ∷ 0 ∷ []) p.seven in
+    let standing : standing_before s p.seven.front device u ≡ standing_before s p.six.front device u = same_standing v device u p.seven.front seven
+    ∙ sym (same_standing v device u p.six.front six) in
+    let cleared : (x : ℕ) → has_cleared s (p.six.front ++ p.mid) device u x ≡ has_cleared s p.six.front device u x = λ x.
+    subst (λ (hs : List Happening). has_cleared s hs device u x ≡ has_cleared s p.six.front device u x) p.whole (same_cleared v device u x p.seven.front seven
+    ∙ sym (same_cleared v device u x p.six.front six)) in
+    let heard : heard_since s p.seven.front device u ≡ heard_since s p.six.front device u = ap (λ (hs : List Happening). heard_since s hs device u) p.whole
+    ∙ heard_more v device u p.six.front p.mid (cleared u) cleared (λ m i. (p.at m i).0) (λ m i. (p.at m i).1) in
+    let summary = summary_of (heard_since s p.seven.front device u) in
+    elim (verdict_of (standing_before s p.seven.front device u) summary.0 (not_at v device u p.seven.front seven never)) [
+      | inl correct ↦
+          corrected_there v device u (next_cycle s v.records device u) correct.0 p.six is le
+          (comes_given v device u p.six.front summary.0 (Corrected correct.0) is steady_on le timed six reaches (subst (Summarizes summary.0) heard summary.1)
+          (subst (λ (st : Standing). HasVerdict st summary.0 (Corrected correct.0)) standing correct.1))
+      | inr (inl sync) ↦
+          lost_there v device u whys.SyncClique p.seven is le (
+            refl,
+            refl,
+            (
+              next_cycle s v.records device u,
+              comes_given v device u p.seven.front summary.0 SyncClique is steady_on le timed seven reaches summary.1
+                  sync,
+            ),
+          )
+      | inr (inr async) ↦
+          lost_there v device u whys.AsyncClique p.seven is le (
+            refl,
+            refl,
+            (
+              next_cycle s v.records device u,
+              comes_given v device u p.seven.front summary.0 AsyncClique is steady_on le timed seven reaches
+                  summary.1 async,
+            ),
+          )
+    ]

@@ -1,0 +1,144 @@
+-- The records of a run in the order of their times.
+use Rattle.std.proofs.Common.{◌≡◌, ℕ, ◌<◌, ◌≤◌, Bool, true, false, List, [], ◌∷◌, ◌++◌, filter, Option, Some, inl, inr, refl, sym, ap, subst, ◌∙◌, arith}
+use Rattle.std.proofs.lemmas.Bool.{cases_lt, le-ltb, lt-ltb, ltb-true}
+use Rattle.std.specs.List.{last_or}
+use Rattle.std.specs.Prelude.{nat_lt, not, if◌then◌else◌}
+use Rattle.run_law.proofs.law.FirstPlaces.{in_filter, none_kept}
+use Rattle.run_law.proofs.runs.Lacking.{behind_first}
+use Rattle.run_law.specs.records.Happenings.{Happening, earlier, time_of}
+use Rattle.run_law.specs.records.Order.{IsBefore, IsIn}
+use Rattle.run_law.specs.records.Ranks.{key, members_in, place_of, rank}
+use Rattle.run_law.specs.runs.DueRecords.{IsDue}
+use Rattle.run_law.specs.runs.Runs.{IsFounded}
+use Rattle.run_law.specs.scenario.Scenarios.{Scenario}
+
+-- ---- order
+
+-- no record is of an earlier time than one before it
+abbrev pub AreSorted : List Happening → Type 0
+AreSorted [] = Unit {0}
+AreSorted (h ∷ hs) = ((g : Happening) → IsIn g hs → time_of h ≤ time_of g) × AreSorted hs
+
+-- a place that is before another is of no later time
+no_later : (t u : ℕ) (xs ys : List ℕ) → IsBefore (t ∷ xs) (u ∷ ys) → t ≤ u
+no_later t u xs ys (inl lt) = omega arith
+no_later t u xs ys (inr both) = omega (arith, both.0)
+
+-- what is founded behind some records is sorted
+sorted_behind : (s : Scenario) (ps qs : List Happening) → IsFounded place_of (IsDue s) (ps ++ qs) → AreSorted qs
+sorted_behind s ps [] founded = tt
+sorted_behind s ps (q ∷ qs) founded = (
+  λ g i. no_later (time_of q) (time_of g) (rank q.note.body ∷ key (members_in q) q.note.body) (rank g.note.body ∷ key (members_in g) g.note.body)
+      (behind_first place_of (IsDue s) ps qs q g founded i),
+  sorted_behind s (ps ++ q ∷ []) qs (subst (IsFounded place_of (IsDue s)) (sym (moved ps q qs)) founded),
+)
+  where
+    moved : (ps : List Happening) (q : Happening) (qs : List Happening) → (ps ++ q ∷ []) ++ qs ≡ ps ++ q ∷ qs
+    moved [] q qs = refl
+    moved (p ∷ ps) q qs = ap (λ (t : List Happening). p ∷ t) (moved ps q qs)
+
+-- the records of a run are
+pub sorted : (s : Scenario) (hs : List Happening) → IsFounded place_of (IsDue s) hs → AreSorted hs
+sorted s hs founded = sorted_behind s [] hs founded
+
+-- ---- filters
+
+-- what a filter keeps passes its test
+pub passes : {X : Type 0} (p : X → Bool) (xs : List X) (x : X) → IsIn x (filter p xs) → p x ≡ true
+passes p [] x i = absurd i
+passes p (y ∷ xs) x i =
+    elim (p y) as (λ b. p y ≡ b → IsIn x (if b then y ∷ filter p xs else filter p xs) → p x ≡ true) [
+      | true ↦ λ e j. elim j [ inl same ↦ ap p same ∙ e | inr more ↦ passes p xs x more ]
+      | false ↦ λ e j. passes p xs x j
+    ] refl i
+
+-- what passes the test is kept
+pub in_kept : {X : Type 0} (p : X → Bool) (xs : List X) (x : X) → IsIn x xs → p x ≡ true → IsIn x (filter p xs)
+in_kept p [] x i e = absurd i
+in_kept {X} p (y ∷ xs) x i e =
+    elim (p y) as (λ b. p y ≡ b → IsIn x (if b then y ∷ filter p xs else filter p xs)) [
+      | true ↦ λ at. elim i [ inl same ↦ inl same | inr more ↦ inr (in_kept p xs x more e) ]
+      | false ↦ λ at. elim i [ inl same ↦ (let wrong : p x ≡ false = ap p same ∙ at in absurd cc) | inr more ↦ in_kept p xs x more e ]
+    ] refl
+
+-- a filter that all pass keeps all
+pub all_kept : {X : Type 0} (p : X → Bool) (xs : List X) → ((x : X) → IsIn x xs → p x ≡ true) → filter p xs ≡ xs
+all_kept p [] all = refl
+all_kept {X} p (x ∷ xs) all =
+    ap (λ (b : Bool). if b then x ∷ filter p xs else filter p xs) (all x (inl refl)) ∙ ap (λ (t : List X). x ∷ t) (all_kept p xs (λ y i. all y (inr i)))
+
+-- two filters that keep the same records agree
+pub same_kept : {X : Type 0} (p q : X → Bool) (xs : List X) → ((x : X) → IsIn x xs → p x ≡ q x) → filter p xs ≡ filter q xs
+same_kept p q [] same = refl
+same_kept {X} p q (x ∷ xs) same =
+    ap (λ (b : Bool). if b then x ∷ filter p xs else filter p xs) (same x (inl refl))
+    ∙ ap (λ (t : List X). if q x then x ∷ t else t) (same_kept p q xs (λ y i. same y (inr i)))
+
+-- ---- earlier records
+
+-- a record is earlier exactly where its time is
+pub in_earlier : (t : ℕ) (hs : List Happening) (h : Happening) → IsIn h (earlier t hs) → IsIn h hs × (time_of h < t)
+in_earlier t hs h i = (in_filter (λ x. nat_lt (time_of x) t) hs h i, ltb-true (time_of h) t (passes (λ x. nat_lt (time_of x) t) hs h i))
+
+pub is_earlier : (t : ℕ) (hs : List Happening) (h : Happening) → IsIn h hs → time_of h < t → IsIn h (earlier t hs)
+is_earlier t hs h i lt = in_kept (λ x. nat_lt (time_of x) t) hs h i (lt-ltb (time_of h) t lt)
+
+-- the records from u on and before t
+abbrev pub between : ℕ → ℕ → List Happening → List Happening
+between u t hs = filter (λ h. not (nat_lt (time_of h) u)) (earlier t hs)
+
+pub in_between : (u t : ℕ) (hs : List Happening) (h : Happening) → IsIn h (between u t hs) → IsIn h hs × (u ≤ time_of h) × (time_of h < t)
+in_between u t hs h i =
+    let back = in_earlier t hs h (in_filter (λ x. not (nat_lt (time_of x) u)) (earlier t hs) h i) in
+    let late = passes (λ x. not (nat_lt (time_of x) u)) (earlier t hs) h i in (
+      back.0,
+      elim (cases_lt (time_of h) u) [
+        | inl lt ↦ (let e = lt-ltb (time_of h) u lt in let wrong : not true ≡ true = rw e at late in absurd cc)
+        | inr ge ↦ ge
+      ],
+      back.1,
+    )
+
+pub is_between : (u t : ℕ) (hs : List Happening) (h : Happening) → IsIn h hs → u ≤ time_of h → time_of h < t → IsIn h (between u t hs)
+is_between u t hs h i late early =
+    let e = le-ltb (time_of h) u late in
+    in_kept (λ x. not (nat_lt (time_of x) u)) (earlier t hs) h (is_earlier t hs h i early) (rw e refl)
+
+-- where the first record is not before u, none is
+none_earlier : (u : ℕ) (h : Happening) (hs : List Happening) → AreSorted (h ∷ hs) → u ≤ time_of h → earlier u (h ∷ hs) ≡ []
+none_earlier u h hs order le = none_kept (λ x. nat_lt (time_of x) u) (h ∷ hs) (λ x i. elim i [
+  | inl same ↦ rw same (le-ltb (time_of h) u le)
+  | inr more ↦ (let up = order.0 x more in le-ltb (time_of x) u (omega arith))
+])
+
+-- the records before t are those before u and those between
+pub earlier_parts : (u t : ℕ) (hs : List Happening) → AreSorted hs → u ≤ t → earlier t hs ≡ earlier u hs ++ between u t hs
+earlier_parts u t [] order le = refl
+earlier_parts u t (h ∷ hs) order le =
+    elim (cases_lt (time_of h) u) [
+      | inl lt ↦
+          let a : nat_lt (time_of h) u ≡ true = lt-ltb (time_of h) u lt in
+          let b : nat_lt (time_of h) t ≡ true = lt-ltb (time_of h) t (omega arith) in
+          let more = earlier_parts u t hs order.1 le in
+          rw (b, a) (ap (λ (gs : List Happening). h ∷ gs) more)
+      | inr ge ↦
+          let none = none_earlier u h hs order ge in
+          let all : between u t (h ∷ hs) ≡ earlier t (h ∷ hs) = all_kept (λ x. not (nat_lt (time_of x) u)) (earlier t (h ∷ hs)) (λ x i.
+          let there = in_earlier t (h ∷ hs) x i in
+          let late : nat_lt (time_of x) u ≡ false = elim there.0 [
+            | inl same ↦ rw same (le-ltb (time_of h) u ge)
+            | inr more ↦ (let up = order.0 x more in le-ltb (time_of x) u (omega arith))
+          ] in rw late refl) in
+          sym all ∙ ap (λ (gs : List Happening). gs ++ between u t (h ∷ hs)) (sym none)
+    ]
+
+-- ---- the last of a list
+
+-- the last of a list that has some is in it
+pub last_some : {X : Type 0} (o : Option X) (x : X) (xs : List X) → (y : X) × (last_or o (x ∷ xs) ≡ Some y) × IsIn y (x ∷ xs)
+last_some o x [] = (x, refl, inl refl)
+last_some o x (y ∷ ys) = let r = last_some (Some x) y ys in (r.0, r.1, inr r.2)
+
+pub last_append : {X : Type 0} (o : Option X) (xs ys : List X) → last_or o (xs ++ ys) ≡ last_or (last_or o xs) ys
+last_append o [] ys = refl
+last_append o (x ∷ xs) ys = last_append (Some x) xs ys

@@ -1,0 +1,13 @@
+-- One frame: it goes from link to link, takes dmax, and is permanent; the sound channel delivers it.
+pub mod Links
+pub mod Paths
+pub mod Travels
+pub mod Upward
+pub mod Ascents
+pub mod Descents
+pub mod Carried
+pub mod Kept
+pub mod Gates
+pub mod Sound
+pub mod SoundUp
+pub mod SoundDown

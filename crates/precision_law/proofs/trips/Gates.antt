@@ -1,0 +1,162 @@
+-- The gates of the sound channel are open while the frames of a cycle come.
+use Rattle.std.proofs.Common.{◌≡◌, ℕ, suc, ◌+◌, ◌*◌, ◌%◌, ◌-◌, ◌<◌, ◌≤◌, ℤ, pos, ◌+ℤ◌, ◌<ℤ◌, ◌≤ℤ◌, Bool, false, ◌&&◌, inr, ap, ◌∙◌, arith}
+use Rattle.std.proofs.lemmas.Bool.{and_right, le-ltb}
+use Rattle.std.proofs.lemmas.Int.{int_rem_euclid_is, ints}
+use Rattle.std.proofs.lemmas.Nat.{mod-mul-add}
+use Rattle.std.specs.Prelude.{int_lt}
+use Rattle.net_plan.specs.declared.ids.DeviceId.{DeviceId}
+use Rattle.net_plan.specs.declared.network.Network.{Network}
+use Rattle.precision_law.proofs.block.Dispatched.{IsCalm, hull_ordered, old_then, synchronised_then}
+use Rattle.precision_law.proofs.clocks.Anchored.{natural, natural_of, one_more}
+use Rattle.precision_law.proofs.faults.Masters.{switches_are_good}
+use Rattle.precision_law.proofs.faults.Ways.{sound_switches_begin_on}
+use Rattle.precision_law.proofs.law.Together.{before_narrow, block_ends, old_shows}
+use Rattle.precision_law.proofs.records.Views.{room}
+use Rattle.precision_law.proofs.sizes.Instants.{frames_come_first}
+use Rattle.precision_law.specs.BlockLaws.{BlocksGoSo}
+use Rattle.precision_law.specs.Blocks.{HasTimeAt, IsInBlock, Stands, adjustment_left}
+use Rattle.precision_law.specs.Epochs.{has_time}
+use Rattle.precision_law.specs.Hulls.{Hull, IsNarrow, first_correction, first_dispatch, last_correction, last_dispatch}
+use Rattle.precision_law.specs.Sizes.{HaveRoom, Sizes}
+use Rattle.precision_law.specs.Standings.{ShowsIn}
+use Rattle.precision_law.specs.Trips.{AreOpenFrom, IsOpen}
+use Rattle.precision_law.specs.Views.{IsSoundSwitch, IsView, View}
+use Rattle.run_law.specs.device.Standpoints.{offset_in_cycle, standpoint}
+use Rattle.run_law.specs.device.States.{is_synchronised}
+use Rattle.run_law.specs.scenario.Devices.{is_relay}
+use Rattle.tte_units.specs.Amount.{amount}
+
+-- ---- a value's place in its cycle
+
+-- a value behind the beginning of a cycle by less than a cycle stands so far in it
+placed : (n : Network) (c r m : ℕ) (z : ℤ) → 0 < amount n.cycle → pos 0 ≤ℤ n.cycle.0 → r < amount n.cycle → m ≡ c * amount n.cycle + r → z ≡ pos m
+    → offset_in_cycle n z ≡ pos r
+placed n c r m z some begun small is same =
+    let whole : n.cycle.0 ≡ pos (amount n.cycle) = natural n.cycle.0 begun in
+    int_rem_euclid_is z n.cycle.0 (amount n.cycle) 0 m some whole (omega (arith, ints, same))
+    ∙ ap pos (ap (λ (x : ℕ). x % amount n.cycle) is ∙ mod-mul-add c (amount n.cycle) r small)
+
+-- what a clock shows from shortly before the beginning of a cycle to its correction point
+record IsInWindow (n : Sizes) (cycle : ℕ) (shown : ℤ) : Type 0 where
+  pub least : pos (cycle * n.cycle) ≤ℤ (shown +ℤ pos (2 * n.precision))
+  pub most : shown ≤ℤ pos (cycle * n.cycle + n.correction)
+
+in_window : (s : Sizes) (shown : ℤ) (n u : ℕ) (hull : Hull) → HaveRoom s → IsNarrow s hull → ShowsIn s shown n hull u → first_dispatch s hull ≤ℤ pos u
+    → pos u ≤ℤ first_correction s hull → IsInWindow s (suc n) shown
+in_window s shown n u hull space narrow shows low high =
+    let more = one_more n s.cycle in
+    record {
+      least = omega (arith, ints, more, narrow, shows.least, low, space.eight_errors, space.errors.reach_is);
+      most = omega (arith, ints, more, shows.most, high, space.errors.reach_is);
+    }
+
+-- ---- gates
+
+and_third : (a b c : Bool) → c ≡ false → (a && b && c) ≡ false
+and_third a b c e = and_right (a && b) c e
+
+-- then the gate is open
+open_by : (v : View) (cycle : ℕ) (shown : ℤ) → IsView v → IsInWindow v.sizes cycle shown
+    → int_lt (pos (amount v.scenario.network.correction + 2 * amount v.scenario.network.precision))
+    (offset_in_cycle v.scenario.network (shown +ℤ pos (2 * amount v.scenario.network.precision))) ≡ false
+open_by v cycle shown is window =
+    let n = v.scenario.network in
+    let space = room v is in
+    let precision : v.sizes.precision ≡ amount n.precision = ap (λ (x : Sizes). x.precision) is.sizes in
+    let correction : v.sizes.correction ≡ amount n.correction = ap (λ (x : Sizes). x.correction) is.sizes in
+    let length : v.sizes.cycle ≡ amount n.cycle = ap (λ (x : Sizes). x.cycle) is.sizes in
+    let product : cycle * v.sizes.cycle ≡ cycle * amount n.cycle = ap (λ (x : ℕ). cycle * x) length in
+    let z = shown +ℤ pos (2 * amount n.precision) in
+    let from : pos (cycle * amount n.cycle) ≤ℤ z = from_by (cycle * v.sizes.cycle) (cycle * amount n.cycle) shown v.sizes.precision (amount n.precision) product
+    precision window.least in
+    let m = natural_of z (cycle * amount n.cycle) from in
+    let rest = behind (cycle * amount n.cycle) m.0 z from m.1 in
+    let top = top_by (cycle * v.sizes.cycle) (cycle * amount n.cycle) shown v.sizes.precision (amount n.precision) v.sizes.correction (amount n.correction)
+    rest.0 m.0 product precision correction window.most m.1 rest.1 in
+    let small : rest.0 < amount n.cycle = small_by v.sizes.precision (amount n.precision) v.sizes.correction (amount n.correction) v.sizes.cycle
+    (amount n.cycle) v.sizes.dmax v.sizes.spread v.sizes.reach v.sizes.clock v.sizes.path v.sizes.drift v.sizes.grain rest.0 precision correction length
+    top space.cycles space.eight_errors space.errors.reach_is space.grain in
+    let some : 0 < amount n.cycle = omega (arith, small) in
+    let place = placed n cycle rest.0 m.0 z some (begun v is) small rest.1 m.1 in
+    ap (int_lt (pos (amount n.correction + 2 * amount n.precision))) place ∙ not_less (amount n.correction + 2 * amount n.precision) rest.0 top
+  where
+    from_by : (a b : ℕ) (shown : ℤ) (p q : ℕ) → a ≡ b → p ≡ q → pos a ≤ℤ (shown +ℤ pos (2 * p)) → pos b ≤ℤ (shown +ℤ pos (2 * q))
+    from_by a b shown p q x y le = omega (arith, ints, x, y, le)
+
+    behind : (a m : ℕ) (z : ℤ) → pos a ≤ℤ z → z ≡ pos m → (r : ℕ) × (m ≡ a + r)
+    behind a m z le same = (m - a, omega (arith, ints, le, same))
+
+    top_by : (a b : ℕ) (shown : ℤ) (p q c d r m : ℕ) → a ≡ b → p ≡ q → c ≡ d → shown ≤ℤ pos (a + c) → (shown +ℤ pos (2 * q)) ≡ pos m → m ≡ b + r → r ≤ d + 2 * q
+    top_by a b shown p q c d r m x y z le same is = omega (arith, ints, x, y, z, le, same, is)
+
+    small_by : (p q c d l k dmax spread reach clock path drift grain r : ℕ) → p ≡ q → c ≡ d → l ≡ k → r ≤ d + 2 * q → c + dmax + 8 * p ≤ l
+        → spread + 8 * reach ≤ p → reach ≡ clock + drift + 2 * grain → 1 ≤ grain → r < k
+    small_by p q c d l k dmax spread reach clock path drift grain r x y z le cycles errors reach_is some =
+        omega (arith, x, y, z, le, cycles, errors, reach_is, some)
+
+    not_less : (a b : ℕ) → b ≤ a → int_lt (pos a) (pos b) ≡ false
+    not_less a b le = le-ltb a b le
+
+    begun : (v : View) → IsView v → pos 0 ≤ℤ v.scenario.network.cycle.0
+    begun v is = omega (arith, ints, is.lawful.range.cycle.least)
+
+-- a switch of the sound channel is calm
+switch_calm : (v : View) (n u : ℕ) (block : IsInBlock v n u) (switch : DeviceId) → IsView v → IsSoundSwitch v switch
+    → pos u ≤ℤ first_correction v.sizes block.before.hull → IsCalm v n u block switch u
+switch_calm v n u block switch is sound high =
+    let space = room v is in
+    record {
+      before = omega (arith, ints, high, space.errors.reach_is, space.grain);
+      to = omega arith;
+      firm = inr sound;
+      good = switches_are_good v v.channel switch is sound;
+      on = sound_switches_begin_on v switch is sound;
+    }
+
+-- from the first dispatch to the first correction of a cycle the gates are open
+pub gate_is_open : BlocksGoSo → (v : View) (n u : ℕ) (block : IsInBlock v n u) (switch : DeviceId) → IsView v → IsSoundSwitch v switch
+    → first_dispatch v.sizes block.before.hull ≤ℤ pos u → pos u ≤ℤ first_correction v.sizes block.before.hull → IsOpen v switch u
+gate_is_open goes v n u block switch is sound low high =
+    let s = v.scenario in
+    let calm = switch_calm v n u block switch is sound high in
+    let synchronised = synchronised_then goes v n u block switch u u is calm (omega arith) in
+    let old = old_then goes v n u block switch u u is calm (omega arith) in
+    let has : HasTimeAt v switch u = record { good = calm.good; timed = ap has_time synchronised } in
+    let shows = old_shows v n u u switch block is (omega arith) has old in
+    let window = in_window v.sizes (pos (s.reading switch u) +ℤ adjustment_left v switch u) n u block.before.hull (room v is) (before_narrow v n block.before)
+    shows low high in
+    and_third (is_relay s.network switch) (is_synchronised (standpoint s v.records switch u).state) _
+    (open_by v (suc n) (pos (s.reading switch u) +ℤ adjustment_left v switch u) is window)
+
+-- so they are while a frame that is given then may travel
+pub are_open_from : BlocksGoSo → (v : View) (n w : ℕ) (block : IsInBlock v n w) → IsView v → first_dispatch v.sizes block.before.hull ≤ℤ pos w
+    → pos (w + v.sizes.dmax) ≤ℤ first_correction v.sizes block.before.hull → w + v.sizes.dmax ≤ v.until + v.sizes.path → AreOpenFrom v w
+are_open_from goes v n w block is low high in_run switch u sound from to =
+    let ends = block_ends v n block.next block.before.hull block.before.is_hull block.is_over in
+    let space = room v is in
+    let narrow = before_narrow v n block.before in
+    let ordered = corrections_ordered v n block.before is in
+    let at : IsInBlock v n u = record {
+      before = block.before;
+      next = block.next;
+      is_over = block.is_over;
+      from = omega (arith, block.from, from);
+      to = omega (arith, ints, ends, high, to, ordered);
+      in_run = omega (arith, to, in_run);
+    } in
+    gate_is_open goes v n u at switch is sound (omega (arith, ints, low, from)) (omega (arith, ints, high, to))
+  where
+    corrections_ordered : (v : View) (n : ℕ) (before : Stands v n) → IsView v → first_correction v.sizes before.hull ≤ℤ last_correction v.sizes before.hull
+    corrections_ordered v n before is = (let ordered = hull_ordered v n before is in omega (arith, ints, ordered))
+
+-- so they are for the dispatches of the block's cycle
+pub dispatches_pass : BlocksGoSo → (v : View) (n w : ℕ) (block : IsInBlock v n w) → IsView v → first_dispatch v.sizes block.before.hull ≤ℤ pos w
+    → pos w ≤ℤ last_dispatch v.sizes block.before.hull → w + v.sizes.dmax ≤ v.until + v.sizes.path → AreOpenFrom v w
+dispatches_pass goes v n w block is low high in_run =
+    let first = frames_come_first v.sizes block.before.hull (room v is) (before_narrow v n block.before) in
+    are_open_from goes v n w block is low (early w v.sizes.dmax v.sizes.compression v.sizes.base v.sizes.path v.sizes.precision
+    (last_dispatch v.sizes block.before.hull) (first_correction v.sizes block.before.hull) high first) in_run
+  where
+    early : (w dmax compression base path precision : ℕ) (last first : ℤ) → pos w ≤ℤ last
+        → ((last +ℤ pos (2 * dmax + compression + base + path + precision)) +ℤ pos (5 * precision)) <ℤ first → pos (w + dmax) ≤ℤ first
+    early w dmax compression base path precision last first le lt = omega (arith, ints, le, lt)

@@ -1,0 +1,266 @@
+-- A frame goes over a link: it leaves, and it arrives.
+use Rattle.std.proofs.Common.{◌≡◌, ◌⊎◌, ℕ, ◌+◌, ◌-◌, ◌*◌, ◌^◌, ◌<◌, ◌≤◌, Bool, true, false, List, [], ◌∷◌, length, Option, Some, None, inl, inr, refl, sym, ap, subst, ◌∙◌, arith}
+use Rattle.std.proofs.Math.Nat.{mul-le-mul_left}
+use Rattle.std.proofs.lemmas.Bool.{cases_lt, le-ltb}
+use Rattle.std.proofs.lemmas.Int.{ints}
+use Rattle.std.specs.Option.{option_map_or}
+use Rattle.std.specs.Prelude.{Ok, nat_lt, not, ◌&&◌, option_and_then, option_map, if◌then◌else◌}
+use Rattle.drift_clock.specs.ClockLaws.{Measures}
+use Rattle.net_plan.specs.Places.{link_at}
+use Rattle.net_plan.specs.Ranges.{IsLinkInRange}
+use Rattle.net_plan.specs.declared.ids.DeviceId.{DeviceId}
+use Rattle.net_plan.specs.declared.ids.LinkId.{LinkId}
+use Rattle.net_plan.specs.declared.network.Network.{Network}
+use Rattle.net_plan.specs.declared.tables.Link.{Link}
+use Rattle.net_plan.specs.declared.tables.Way.TheVariants.{Up, Down}
+use Rattle.net_plan.specs.declared.tables.Way.{Way}
+use Rattle.pcf_values.specs.declared.pcf.Pcf.{Pcf}
+use Rattle.precision_law.proofs.trips.Paths.{delay_is}
+use Rattle.precision_law.specs.Trips.{IsLeg}
+use Rattle.precision_law.specs.Views.{IsView, View}
+use Rattle.run_law.proofs.law.FirstDelays.{delay_least, hold_most}
+use Rattle.run_law.proofs.law.FirstPlaces.{by_number, due_is_there, front_founded, in_front_of, same_earlier, split}
+use Rattle.run_law.specs.control.Arrivals.{clock_on_arrival, control_arrival, frame_fault, frame_or_fault, point_on_arrival}
+use Rattle.run_law.specs.control.Leaving.{Departs, Gives, clock_at_leaving, leaves, on_cut_way, too_old}
+use Rattle.run_law.specs.control.Wires.{Arrives, Launch, control}
+use Rattle.run_law.specs.declared.judgement.Reason.{Reason}
+use Rattle.run_law.specs.declared.note.Note.{Note}
+use Rattle.run_law.specs.declared.note.NoteBody.TheVariants as notes
+use Rattle.run_law.specs.declared.note.NoteBody.{NoteBody}
+use Rattle.run_law.specs.declared.steps.Arrival.TheVariants as arrivals
+use Rattle.run_law.specs.declared.steps.Arrival.{Arrival}
+use Rattle.run_law.specs.device.Standpoints.{Standpoint, standpoint}
+use Rattle.run_law.specs.device.States.{adjustment_after, is_off, state_after}
+use Rattle.run_law.specs.records.Happenings.{Happening, happening, numbered, time_of, with_clock}
+use Rattle.run_law.specs.records.Order.{IsBefore, IsIn}
+use Rattle.run_law.specs.records.Ranks.{key, members_in, place_of, rank}
+use Rattle.run_law.specs.runs.DueRecords.{IsArrivedRecord, IsCaused, IsDue}
+use Rattle.run_law.specs.runs.Runs.{IsFounded}
+use Rattle.run_law.specs.scenario.Devices.{is_parent_of, is_relay}
+use Rattle.run_law.specs.scenario.Scenarios.{Scenario, is_broken, is_turned_on_at}
+use Rattle.run_law.specs.scenario.Ways.{delay_at, hold_at, is_cut, receiver_of, way_from, way_to, wire_of}
+use Rattle.run_law.specs.timed.Receptions.{ArrivesAs}
+use Rattle.schedule_tables.proofs.EntryLemmas.{all_at}
+use Rattle.schedule_tables.specs.Delays.{delay_by}
+use Rattle.sync_state.specs.declared.state.State.TheVariants.{Integrating}
+use Rattle.tte_units.specs.Amount.{amount, units_of}
+use Rattle.tte_units.specs.declared.units.Units.{Units}
+
+-- ---- records that are due
+
+abbrev next_note : List Happening → ℕ → NoteBody → Note
+next_note ps t body = record { number = length ps + 1; time = units_of t; body = body }
+
+next_due : (s : Scenario) (ps : List Happening) (t : ℕ) (body : NoteBody) → IsCaused s ps (units_of t) body
+    → IsDue s ps (happening s.network ps (next_note ps t body))
+next_due s ps t body cause = record { number = refl; same = refl; begun = omega (arith, ints); cause = cause }
+
+-- what gives a frame has a low rank
+gives_low : (n : Network) (body : NoteBody) (device : DeviceId) (link : LinkId) → Gives n body device link → rank body < 8
+gives_low n (notes.Sent master cycle) device link g = omega arith
+gives_low n (notes.Compressed cm opened at cycle members verdict) device link g = omega arith
+gives_low n (notes.Arrived relay by cause clock) device link g = omega arith
+gives_low n other device link g = absurd g
+
+before_leaving : (u held r : ℕ) (rest more : List ℕ) → r < 8 → IsBefore (u ∷ r ∷ rest) ((u + held) ∷ 8 ∷ more)
+before_leaving u held r rest more low = elim (cases_lt u (u + held)) [ inl lt ↦ inl lt | inr ge ↦ inr (omega (arith, ge), inl low) ]
+
+-- ---- what is taken
+
+record TakenWith (a : Arrival) (frame : Pcf) : Type 0 where
+  pub point : Units
+  pub way : Way
+  pub is : (a ≡ arrivals.Waits frame point) ⊎ ((a ≡ arrivals.Passes frame way) ⊎ (a ≡ arrivals.PassesAndWaits frame way point))
+
+taken_with : (relay parent : Bool) (frame : Pcf) (point : Units)
+    → TakenWith (if relay then (if parent then arrivals.Passes frame Up else arrivals.PassesAndWaits frame Down point) else arrivals.Waits frame point) frame
+taken_with true true frame point = record { point = point; way = Up; is = inr (inl refl) }
+taken_with true false frame point = record { point = point; way = Down; is = inr (inr refl) }
+taken_with false parent frame point = record { point = point; way = Up; is = inl refl }
+
+taken_without : (n : Network) (device : DeviceId) (link : LinkId) (at : Standpoint) (frame : Pcf) (fault : Option Reason) → fault ≡ None
+    → TakenWith (frame_or_fault n device link at frame fault) (with_clock (clock_on_arrival n link frame) frame)
+taken_without n device link at frame (Some reason) e = absurd cc
+taken_without n device link at frame None e =
+    taken_with (is_relay n device) (is_parent_of n device link) (with_clock (clock_on_arrival n link frame) frame)
+    (point_on_arrival n at (clock_on_arrival n link frame))
+
+abbrev standpoint_by : Scenario → DeviceId → ℕ → List Happening → Standpoint
+standpoint_by s device t es = record {
+  takes_part = not (is_off (if is_turned_on_at s device t then Integrating else state_after s es device)) && not (is_broken s device t);
+  state = if is_turned_on_at s device t then Integrating else state_after s es device;
+  reading = s.reading device t;
+  adjustment = (adjustment_after s es device).0;
+}
+
+-- ---- over a link
+
+-- when what is given to the way leaves, and when it arrives
+abbrev pub leaves_at : Scenario → LinkId → Way → ℕ → ℕ
+leaves_at s link way t = t + hold_at s link way t
+
+abbrev pub arrives_at : Scenario → LinkId → Way → ℕ → ℕ
+arrives_at s link way t = leaves_at s link way t + delay_at s link way (leaves_at s link way t)
+
+-- a frame is given to a way that is whole
+pub record IsGivenOn (v : View) (way : Way) (r : Happening) (frame : Pcf) (sender receiver : DeviceId) (link : LinkId) (l : Link) : Type 0 where
+  pub given : IsIn r v.records
+  pub of_frame : r.frame ≡ Some frame
+  pub gives : Gives v.scenario.network r.note.body sender link
+  pub there : link_at v.scenario.network link ≡ Some l
+  pub from_way : way_from v.scenario.network sender link ≡ way
+  pub on_way : way_to v.scenario.network receiver link ≡ way
+  pub comes_to : receiver_of v.scenario.network link way ≡ Some receiver
+  pub correct : is_broken v.scenario sender (leaves_at v.scenario link way (time_of r)) ≡ false
+  pub whole : is_cut v.scenario link way (leaves_at v.scenario link way (time_of r)) ≡ false
+
+-- it has come
+pub record HasGone (v : View) (way : Way) (r : Happening) (frame : Pcf) (receiver : DeviceId) (link : LinkId) (l : Link) : Type 0 where
+  pub leaving : Happening
+  pub arriving : Happening
+  pub is : IsLeg v way (record { link = link; giving = r; leaving = leaving; arriving = arriving })
+  pub cause : ℕ
+  pub clock : ℕ
+  pub body : arriving.note.body ≡ notes.Arrived receiver link cause clock
+  pub of_frame : arriving.frame ≡ Some (with_clock clock frame)
+  pub at : time_of arriving ≡ arrives_at v.scenario link way (time_of r)
+  pub grows : 10 ^ 9 * clock ≤ 10 ^ 9 * frame.clock + 10 ^ 9 * delay_by l + v.scenario.network.rho * delay_by l + 2 * amount v.scenario.network.grain * 10 ^ 9
+
+-- how long it takes
+pub takes_at_most : (v : View) (way : Way) (link : LinkId) (l : Link) (t : ℕ) → IsView v → link_at v.scenario.network link ≡ Some l
+    → (arrives_at v.scenario link way t ≤ t + delay_by l) × (leaves_at v.scenario link way t < arrives_at v.scenario link way t)
+takes_at_most v way link l t is there =
+    let n = v.scenario.network in
+    let known : IsLinkInRange n l = all_at (IsLinkInRange n) n.link link.0 l is.lawful.range.links there in
+    let hold = hold_most v.scenario link l way t is.lawful there known.hold.least in
+    let delay = delay_is v link l way (leaves_at v.scenario link way t) is there in
+    let least = delay_least v.scenario link l way (leaves_at v.scenario link way t) is.lawful there known.wire.least in
+    (omega (arith, hold, delay.1), omega (arith, least))
+
+-- what the clock of the frame grows by
+grown : (rho grain held hold wire jitter clock seen : ℕ) → Measures rho grain held seen → held ≤ hold
+    → 10 ^ 9 * (clock + seen + wire) ≤ 10 ^ 9 * clock + 10 ^ 9 * (wire + jitter + hold) + rho * (wire + jitter + hold) + 2 * grain * 10 ^ 9
+grown rho grain held hold wire jitter clock seen measures short =
+    let drift : rho * held ≤ rho * (wire + jitter + hold) = mul-le-mul_left rho (omega (arith, short)) in
+    omega (arith, measures, drift, short)
+
+pub goes_over : (v : View) (way : Way) (r : Happening) (frame : Pcf) (sender receiver : DeviceId) (link : LinkId) (l : Link) → IsView v
+    → IsGivenOn v way r frame sender receiver link l
+    → ((clock : ℕ) → 10 ^ 9 * clock ≤ 10 ^ 9 * frame.clock + 10 ^ 9 * delay_by l + v.scenario.network.rho * delay_by l + 2 * amount
+    v.scenario.network.grain * 10 ^ 9 → clock ≤ amount v.scenario.network.dmax)
+    → ((clock : ℕ) → clock + wire_of v.scenario.network link ≤ amount v.scenario.network.dmax
+    → frame_fault v.scenario.network receiver link (standpoint v.scenario v.records receiver (arrives_at v.scenario link way (time_of r)))
+    (with_clock clock frame) ≡ None)
+    → arrives_at v.scenario link way (time_of r) ≤ v.until
+    → HasGone v way r frame receiver link l
+goes_over v way r frame sender receiver link l is g young fair in_run =
+    let s = v.scenario in
+    let n = s.network in
+    let hs = v.records in
+    let mark : List ℕ = (v.until + 1) ∷ [] in
+    let t : ℕ = leaves_at s link way (time_of r) in
+    let u : ℕ = arrives_at s link way (time_of r) in
+    let takes = takes_at_most v way link l (time_of r) is g.there in
+    let known : IsLinkInRange n l = all_at (IsLinkInRange n) n.link link.0 l is.lawful.range.links g.there in
+    let held = hold_most s link l way (time_of r) is.lawful g.there known.hold.least in
+    let nominal : wire_of n link ≡ amount l.wire = ap (λ (o : Option Link). option_map_or (λ k. amount k.wire) o 0) g.there in
+    let seen : ℕ = s.reading sender t - s.reading sender (time_of r) in
+    let clock : ℕ = clock_at_leaving s sender frame (time_of r) t in
+    let hold_is : t - time_of r ≡ hold_at s link way (time_of r) = omega arith in
+    let measures : Measures n.rho (amount n.grain) (hold_at s link way (time_of r)) seen = subst (λ (x : ℕ). Measures n.rho (amount n.grain) x seen) hold_is
+    ((is.lawful.clocks sender).drifts (time_of r) t (omega arith)) in
+    let grows = grown n.rho (amount n.grain) (hold_at s link way (time_of r)) (amount l.hold) (amount l.wire) (amount l.jitter) frame.clock seen measures held
+    in
+    let then_clock : ℕ = clock + wire_of n link in
+    let grows_so : 10 ^ 9 * then_clock ≤ 10 ^ 9 * frame.clock + 10 ^ 9 * delay_by l + n.rho * delay_by l + 2 * amount n.grain * 10 ^ 9 = subst
+    (λ (x : ℕ). 10 ^ 9 * (clock + x) ≤ 10 ^ 9 * frame.clock + 10 ^ 9 * delay_by l + n.rho * delay_by l + 2 * amount n.grain * 10 ^ 9) (sym nominal)
+    grows in
+    let small : then_clock ≤ amount n.dmax = young then_clock grows_so in
+    let at = split place_of (IsDue s) hs (t ∷ 8 ∷ sender.0 ∷ link.0 ∷ r.note.number ∷ []) is.run.founded in
+    let sooner : IsBefore (place_of r) (t ∷ 8 ∷ sender.0 ∷ link.0 ∷ r.note.number ∷ []) = before_leaving (time_of r) (hold_at s link way (time_of r))
+    (rank r.note.body) (key (members_in r) r.note.body) (sender.0 ∷ link.0 ∷ r.note.number ∷ []) (gives_low n r.note.body sender link g.gives) in
+    let front = front_founded place_of (IsDue s) at.front at.rest (subst (IsFounded place_of (IsDue s)) at.whole is.run.founded) in
+    let found : numbered at.front r.note.number ≡ Some r = by_number s at.front r front
+    (in_front_of place_of hs (t ∷ 8 ∷ sender.0 ∷ link.0 ∷ r.note.number ∷ []) at r g.given sooner) in
+    let old : nat_lt (amount n.dmax) clock ≡ false = le-ltb (amount n.dmax) clock (omega (arith, small)) in
+    let cut : is_cut s link (way_from n sender link) t ≡ false = ap (λ (w : Way). is_cut s link w t) g.from_way ∙ g.whole in
+    let departs : Departs s at.front sender t link r.note.number (leaves clock) = record {
+      giving = r;
+      there = found;
+      gives = g.gives;
+      frame = frame;
+      of_frame = g.of_frame;
+      held = ap (λ (w : Way). time_of r + hold_at s link w (time_of r)) (sym g.from_way);
+      correct = g.correct;
+      becomes =
+          sym (ap (λ (b : Bool). if b then too_old else (if is_cut s link (way_from n sender link) t then on_cut_way else leaves clock)) old
+          ∙ ap (λ (b : Bool). if b then on_cut_way else leaves clock) cut);
+    } in
+    let leaving : Happening = happening n at.front (next_note at.front t (notes.Left sender link r.note.number clock)) in
+    let left_there : IsIn leaving hs = due_is_there s mark hs leaving at is.run (next_due s at.front t (notes.Left sender link r.note.number clock) departs)
+    (inl (omega (arith, takes.1, in_run))) in
+    let left_frame : leaving.frame ≡ Some (with_clock clock frame) =
+    ap (λ (o : Option Happening). option_map (with_clock clock) (option_and_then (λ x. x.frame) o)) found ∙ ap (option_map (with_clock clock)) g.of_frame in
+    let by = split place_of (IsDue s) hs (u ∷ 2 ∷ receiver.0 ∷ link.0 ∷ leaving.note.number ∷ []) is.run.founded in
+    let front_by = front_founded place_of (IsDue s) by.front by.rest (subst (IsFounded place_of (IsDue s)) by.whole is.run.founded) in
+    let found_by : numbered by.front leaving.note.number ≡ Some leaving = by_number s by.front leaving front_by
+    (in_front_of place_of hs (u ∷ 2 ∷ receiver.0 ∷ link.0 ∷ leaving.note.number ∷ []) by leaving left_there (inl takes.1)) in
+    let arrives : Arrives s leaving receiver link u (control (Ok (with_clock clock frame))) = record {
+      way = way;
+      put =
+          ap (λ (o : Option Pcf). option_map (λ f. let x : Launch = record { link = link; way = way_from n sender link; signal = control (Ok f) } in x) o)
+          left_frame ∙ ap (λ (w : Way). Some (let x : Launch = record { link = link; way = w; signal = control (Ok (with_clock clock frame)) } in x))
+          g.from_way;
+      receiver = g.comes_to;
+      at = omega arith;
+    } in
+    let stands : standpoint s by.front receiver u ≡ standpoint s hs receiver u = ap (standpoint_by s receiver u)
+    (same_earlier u (2 ∷ receiver.0 ∷ link.0 ∷ leaving.note.number ∷ []) hs by) in
+    let no_fault : frame_fault n receiver link (standpoint s by.front receiver u) (with_clock clock frame) ≡ None =
+    ap (λ (p : Standpoint). frame_fault n receiver link p (with_clock clock frame)) stands ∙ fair clock small in
+    let taken = taken_without n receiver link (standpoint s by.front receiver u) (with_clock clock frame)
+    (frame_fault n receiver link (standpoint s by.front receiver u) (with_clock clock frame)) no_fault in
+    let as_taken : (a : Arrival) → control_arrival n receiver link (standpoint s by.front receiver u) (Ok (with_clock clock frame)) ≡ a
+    → ArrivesAs s by.front receiver u link leaving.note.number a =
+    λ a e. record { putting = leaving; there = found_by; signal = control (Ok (with_clock clock frame)); arrives = arrives; becomes = sym e } in
+    let arrived : IsArrivedRecord s by.front receiver u link leaving.note.number then_clock = record {
+      frame = with_clock then_clock frame;
+      point = taken.point;
+      way = taken.way;
+      taken = elim taken.is [
+        | inl e ↦ inl (as_taken (arrivals.Waits (with_clock then_clock frame) taken.point) e)
+        | inr (inl e) ↦ inr (inl (as_taken (arrivals.Passes (with_clock then_clock frame) taken.way) e))
+        | inr (inr e) ↦ inr (inr (as_taken (arrivals.PassesAndWaits (with_clock then_clock frame) taken.way taken.point) e))
+      ];
+      shows = refl;
+    } in
+    let arriving : Happening = happening n by.front (next_note by.front u (notes.Arrived receiver link leaving.note.number then_clock)) in
+    let there : IsIn arriving hs = due_is_there s mark hs arriving by is.run (next_due s by.front u (notes.Arrived receiver link leaving.note.number then_clock)
+    arrived) (inl (omega (arith, in_run))) in
+    record {
+      leaving = leaving;
+      arriving = arriving;
+      is = record {
+        sender = sender;
+        receiver = receiver;
+        given = g.given;
+        gives = g.gives;
+        left = left_there;
+        left_clock = clock;
+        leaves = refl;
+        arrived = there;
+        arrived_clock = then_clock;
+        arrives = refl;
+        from_way = g.from_way;
+        on_way = g.on_way;
+        comes_to = g.comes_to;
+      };
+      cause = leaving.note.number;
+      clock = then_clock;
+      body = refl;
+      of_frame =
+          ap (λ (o : Option Happening). option_map (with_clock then_clock) (option_and_then (λ x. x.frame) o)) found_by
+          ∙ ap (option_map (with_clock then_clock)) left_frame;
+      at = refl;
+      grows = grows_so;
+    }

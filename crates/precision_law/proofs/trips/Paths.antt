@@ -1,0 +1,348 @@
+-- The links of a trip down are the path of the device that it leads to.
+use Rattle.std.proofs.Common.{◌≡◌, ◌⊎◌, ℕ, ◌+◌, ◌-◌, ◌≤◌, Bool, true, false, List, [], ◌∷◌, Option, Some, None, inl, inr, refl, sym, ap, subst, ◌∙◌, arith, ◌==◌, Ok, ◌<ℤ◌, not, ◌+ℤ◌, nat_lt}
+use Rattle.std.specs.Option.{option_map_or}
+use Rattle.std.specs.Prelude.{if◌then◌else◌, option_map, Ok, nat_lt, not, option_and_then}
+use Rattle.std.proofs.lemmas.Bool.{and_parts, eqb-true, ltb-false}
+use Rattle.std.proofs.lemmas.Int.{by_lt_z, ints}
+use Rattle.drift_clock.specs.ClockLaws.{Measures}
+use Rattle.net_plan.proofs.Trees.{closed}
+use Rattle.net_plan.specs.Places.{link_at}
+use Rattle.net_plan.specs.Ranges.{IsLinkInRange}
+use Rattle.net_plan.specs.declared.event.Event.{Event}
+use Rattle.net_plan.specs.declared.event.What.TheVariants as events
+use Rattle.net_plan.specs.declared.event.What.{What}
+use Rattle.net_plan.specs.declared.ids.DeviceId.{DeviceId}
+use Rattle.net_plan.specs.declared.ids.LinkId.{LinkId}
+use Rattle.net_plan.specs.declared.network.Network.{Network}
+use Rattle.net_plan.specs.declared.tables.Link.{Link}
+use Rattle.net_plan.specs.declared.tables.Way.TheVariants.{Up, Down}
+use Rattle.net_plan.specs.declared.tables.Way.{Way}
+use Rattle.pcf_values.specs.declared.pcf.Pcf.{Pcf}
+use Rattle.precision_law.specs.Trips.{IsLeg, Leg, clock_in}
+use Rattle.precision_law.specs.Views.{IsView, View}
+use Rattle.run_law.proofs.law.FirstDelays.{hold_most, last_is}
+use Rattle.run_law.proofs.law.FirstPlaces.{by_number, founded_at, numbered_front}
+use Rattle.run_law.proofs.runs.Places.{parted}
+use Rattle.run_law.proofs.runs.SameSteps.{same_some}
+use Rattle.run_law.specs.control.Arrivals.{clock_on_arrival, control_arrival, frame_fault, frame_or_fault, is_cold_start, is_gate_shut, is_of_other_domain, is_of_other_member, point_on_arrival}
+use Rattle.run_law.specs.control.Leaving.{clock_at_leaving, leaves, on_cut_way, too_old}
+use Rattle.run_law.specs.control.Wires.{Launch, control, launched, time_on_port}
+use Rattle.run_law.specs.declared.judgement.Reason.TheVariants.{Off, ColdStart, Domain, Member, Old, Gate}
+use Rattle.run_law.specs.declared.judgement.Reason.{Reason}
+use Rattle.run_law.specs.declared.note.NoteBody.TheVariants as notes
+use Rattle.run_law.specs.declared.note.NoteBody.{NoteBody}
+use Rattle.run_law.specs.declared.outside.Outside.TheVariants.{Wire}
+use Rattle.run_law.specs.declared.steps.Arrival.TheVariants as arrivals
+use Rattle.run_law.specs.declared.steps.Arrival.{Arrival}
+use Rattle.run_law.specs.device.Standpoints.{Standpoint, first_reason, standpoint}
+use Rattle.run_law.specs.records.Happenings.{frame_by, numbered, with_clock, Happening, time_of}
+use Rattle.run_law.specs.records.Order.{IsIn}
+use Rattle.run_law.specs.runs.DueRecords.{IsCaused}
+use Rattle.run_law.specs.scenario.Devices.{is_relay, is_parent_of}
+use Rattle.run_law.specs.scenario.Ways.{is_way, is_way_of, wire_of, wire_set, is_cut, way_from, delay_at, hold_at}
+use Rattle.run_law.specs.timed.Receptions.{ArrivesAs, arrival_of}
+use Rattle.schedule_tables.proofs.EntryLemmas.{all_at}
+use Rattle.schedule_tables.specs.Delays.{delay_by, delay_of}
+use Rattle.transparent_clock.specs.Hops.{Hop, IsHop}
+use Rattle.tte_units.specs.Amount.{amount}
+use Rattle.tte_units.specs.declared.units.Units.{Units}
+
+-- ---- one leg as a hop
+
+-- the leg of a frame, as a hop: what it is held and what of this is measured, the wire and the delay
+pub record HasHop (v : View) (leg : Leg) : Type 0 where
+  pub hop : Hop
+  pub is : IsHop v.scenario.network.rho (amount v.scenario.network.grain) hop
+  pub travels : time_of leg.arriving ≡ time_of leg.giving + (hop.hold + hop.delay)
+  pub grows : clock_in leg.arriving ≡ clock_in leg.giving + (hop.measured + hop.wire)
+  pub young : clock_in leg.arriving ≤ amount v.scenario.network.dmax
+  pub fits : hop.hold + hop.delay ≤ delay_of v.scenario.network leg.link
+  pub jitter : hop.jitter ≡ option_map_or (λ l. amount l.jitter) (link_at v.scenario.network leg.link) 0
+
+-- ---- the delay of a link
+
+-- the wire delay that an event sets on a way of the link
+record SetsWire (link : LinkId) (what : What) (d : ℕ) : Type 0 where
+  pub way : Way
+  pub delay : Units
+  pub is : what ≡ events.Wire link way delay
+  pub sets : amount delay ≡ d
+
+set_if : (b : Bool) (n d : ℕ) → (if b then Some n else None) ≡ Some d → (b ≡ true) × (n ≡ d)
+set_if true n d e = (refl, cc)
+set_if false n d e = absurd cc
+
+sets_wire : (link : LinkId) (way : Way) (what : What) (d : ℕ) → wire_set link way what ≡ Some d → SetsWire link what d
+sets_wire link way (events.Wire other turned delay) d e =
+    let both = set_if (is_way_of link way other turned) (amount delay) d e in
+    let parts = and_parts (link.0 == other.0) (is_way way turned) both.0 in
+    let same : other ≡ link = ap (λ (n : ℕ). let l : LinkId = record { 0 = n } in l) (sym (eqb-true link.0 other.0 parts.0)) in
+    record { way = turned; delay = delay; is = ap (λ (l : LinkId). events.Wire l turned delay) same; sets = both.1 }
+sets_wire link way other d e = absurd cc
+
+-- the delay is that of the wire, but for its jitter
+abbrev pub IsDelay : Link → ℕ → Type 0
+IsDelay l d = (amount l.wire ≤ d) × (d ≤ amount l.wire + amount l.jitter)
+
+set_delay : (v : View) (link : LinkId) (l : Link) (way : Way) → IsView v → link_at v.scenario.network link ≡ Some l → (e : Event) → IsIn e v.scenario.events
+    → (d : ℕ) → wire_set link way e.what ≡ Some d → IsDelay l d
+set_delay v link l way is there e i d set =
+    let n = v.scenario.network in
+    let w = sets_wire link way e.what d set in
+    let at = parted e v.scenario.events i in
+    let known = is.lawful.within at.0 at.1 e at.2 in
+    let range : IsLinkInRange n l = all_at (IsLinkInRange n) n.link link.0 l is.lawful.range.links there in
+    by_lt_z {P = IsDelay l d} w.delay.0 l.wire.0
+    (λ short. absurd
+    (known Wire
+    (record {
+      link = link;
+      way = w.way;
+      delay = w.delay;
+      what = w.is;
+      other = closed (λ (k : Link). (w.delay.0 <ℤ k.wire.0) ⊎ ((k.wire.0 +ℤ k.jitter.0) <ℤ w.delay.0)) (link_at n link) l there (inl short);
+    })))
+    (λ enough. by_lt_z {P = IsDelay l d} (l.wire.0 +ℤ l.jitter.0) w.delay.0
+    (λ long. absurd
+    (known Wire
+    (record {
+      link = link;
+      way = w.way;
+      delay = w.delay;
+      what = w.is;
+      other = closed (λ (k : Link). (w.delay.0 <ℤ k.wire.0) ⊎ ((k.wire.0 +ℤ k.jitter.0) <ℤ w.delay.0)) (link_at n link) l there (inr long);
+    })))
+    (λ small. (let a = range.wire.least in let b = range.jitter.least in let c =
+    w.sets in (omega (arith, ints, enough, a, b, c), omega (arith, ints, small, enough, a, b, c)))))
+
+pub delay_is : (v : View) (link : LinkId) (l : Link) (way : Way) (t : ℕ) → IsView v → link_at v.scenario.network link ≡ Some l
+    → IsDelay l (delay_at v.scenario link way t)
+delay_is v link l way t is there =
+    let nominal : wire_of v.scenario.network link ≡ amount l.wire = ap (λ (o : Option Link). option_map_or (λ k. amount k.wire) o 0) there in
+    last_is (IsDelay l) v.scenario (wire_set link way) (wire_of v.scenario.network link) t (omega (arith, nominal), omega (arith, nominal))
+    (set_delay v link l way is there)
+
+-- ---- arrivals
+
+-- a frame whose first fault is none is not too old
+not_old : (a b c d e f : Bool) (p q r s t u : Reason) → first_reason ((a, p) ∷ (b, q) ∷ (c, r) ∷ (d, s) ∷ (e, t) ∷ (f, u) ∷ []) ≡ None → e ≡ false
+not_old true b c d e f p q r s t u none = absurd cc
+not_old false true c d e f p q r s t u none = absurd cc
+not_old false false true d e f p q r s t u none = absurd cc
+not_old false false false true e f p q r s t u none = absurd cc
+not_old false false false false true f p q r s t u none = absurd cc
+not_old false false false false false f p q r s t u none = refl
+
+-- the frame with which an arrival is taken
+abbrev pub TakesWith : Arrival → Pcf → Type 0
+TakesWith (arrivals.Waits frame point) taken = frame ≡ taken
+TakesWith (arrivals.Passes frame way) taken = frame ≡ taken
+TakesWith (arrivals.PassesAndWaits frame way point) taken = frame ≡ taken
+TakesWith other taken = ⊥
+
+taken_frame : (relay parent : Bool) (frame taken : Pcf) (point : Units)
+    → TakesWith (if relay then (if parent then arrivals.Passes frame Up else arrivals.PassesAndWaits frame Down point) else arrivals.Waits frame point) taken
+    → frame ≡ taken
+taken_frame true true frame taken point e = e
+taken_frame true false frame taken point e = e
+taken_frame false parent frame taken point e = e
+
+-- a frame that is taken is not too old, and has its clock at the arrival
+pub taken_young : (n : Network) (device : DeviceId) (link : LinkId) (at : Standpoint) (frame taken : Pcf)
+    → TakesWith (control_arrival n device link at (Ok frame)) taken → (clock_on_arrival n link frame ≤ amount n.dmax)
+    × (taken.clock ≡ clock_on_arrival n link frame)
+taken_young n device link at frame taken takes = by (frame_fault n device link at frame) refl takes
+  where
+    by : (o : Option Reason) → frame_fault n device link at frame ≡ o → TakesWith (frame_or_fault n device link at frame o) taken
+        → (clock_on_arrival n link frame ≤ amount n.dmax) × (taken.clock ≡ clock_on_arrival n link frame)
+    by (Some reason) e t = absurd t
+    by None e t =
+        let old = not_old (not at.takes_part) (is_cold_start frame.kind) (is_of_other_domain n frame) (is_of_other_member n device link frame.members)
+        (nat_lt (amount n.dmax) (clock_on_arrival n link frame)) (is_gate_shut n device at) Off ColdStart Domain Member Old Gate e in
+        let same = taken_frame (is_relay n device) (is_parent_of n device link) (with_clock (clock_on_arrival n link frame) frame) taken
+        (point_on_arrival n at (clock_on_arrival n link frame)) t in
+        (ltb-false (amount n.dmax) (clock_on_arrival n link frame) old, ap (λ (f : Pcf). f.clock) (sym same))
+
+-- ---- legs
+
+-- what a departure says of the clock
+left_with : (old cut : Bool) (clock left : ℕ) → leaves left ≡ (if old then too_old else (if cut then on_cut_way else leaves clock)) → left ≡ clock
+left_with true cut clock left e = absurd cc
+left_with false true clock left e = absurd cc
+left_with false false clock left e = cc
+
+-- the record of a leaving, read
+pub record LeavingIs (v : View) (leg : Leg) (sender : DeviceId) (left_clock : ℕ) : Type 0 where
+  pub frame : Pcf
+  pub of_frame : leg.giving.frame ≡ Some frame
+  pub hold : ℕ
+  pub held : time_of leg.leaving ≡ time_of leg.giving + hold
+  pub most : (l : Link) → link_at v.scenario.network leg.link ≡ Some l → hold ≤ amount l.hold
+  pub clock : left_clock ≡ frame.clock + (v.scenario.reading sender (time_of leg.leaving) - v.scenario.reading sender (time_of leg.giving))
+  pub left_frame : leg.leaving.frame ≡ Some (with_clock left_clock frame)
+
+pub leaving_is : (v : View) (way : Way) (leg : Leg) → IsView v → (is_leg : IsLeg v way leg) → LeavingIs v leg is_leg.sender is_leg.left_clock
+leaving_is v way leg is l =
+    let s = v.scenario in
+    let at = founded_at s v.records leg.leaving is.run.founded l.left in
+    let departs : IsCaused s at.front leg.leaving.note.time (notes.Left l.sender leg.link leg.giving.note.number l.left_clock) = subst
+    (IsCaused s at.front leg.leaving.note.time) l.leaves at.due.cause in
+    let in_all : numbered v.records leg.giving.note.number ≡ Some departs.giving = subst
+    (λ (hs : List Happening). numbered hs leg.giving.note.number ≡ Some departs.giving) (sym at.whole)
+    (numbered_front at.front (leg.leaving ∷ at.rest) leg.giving.note.number departs.giving departs.there) in
+    let same : departs.giving ≡ leg.giving = same_some (numbered v.records leg.giving.note.number) departs.giving leg.giving in_all
+    (by_number s v.records leg.giving is.run.founded l.given) in
+    let given : time_of departs.giving ≡ time_of leg.giving = ap time_of same in
+    let clock = left_with (nat_lt (amount s.network.dmax) (clock_at_leaving s l.sender departs.frame (time_of departs.giving) (time_of leg.leaving)))
+    (is_cut s leg.link (way_from s.network l.sender leg.link) (time_of leg.leaving))
+    (clock_at_leaving s l.sender departs.frame (time_of departs.giving) (time_of leg.leaving)) l.left_clock departs.becomes in
+    record {
+      frame = departs.frame;
+      of_frame = ap (λ (h : Happening). h.frame) (sym same) ∙ departs.of_frame;
+      hold = hold_at s leg.link (way_from s.network l.sender leg.link) (time_of departs.giving);
+      held = (let h = departs.held in omega (arith, h, given));
+      most =
+          λ k at_k. hold_most s leg.link k (way_from s.network l.sender leg.link) (time_of departs.giving) is.lawful at_k
+          (all_at (IsLinkInRange s.network) s.network.link leg.link.0 k is.lawful.range.links at_k).hold.least;
+      clock = clock ∙ ap (λ (t : ℕ). departs.frame.clock + (s.reading l.sender (time_of leg.leaving) - s.reading l.sender t)) given;
+      left_frame = ap (λ (x : Happening). x.frame) at.due.same ∙ ap (frame_by s.network at.front) l.leaves
+          ∙ ap (λ (o : Option Happening). option_map (with_clock l.left_clock) (option_and_then (λ x. x.frame) o)) departs.there
+          ∙ ap (option_map (with_clock l.left_clock)) departs.of_frame;
+    }
+
+-- the record of an arrival, read
+record ArrivingIs (v : View) (leg : Leg) (left arrived_clock : ℕ) : Type 0 where
+  pub delay : ℕ
+  pub way : Way
+  pub is_delay : delay ≡ delay_at v.scenario leg.link way (time_of leg.leaving)
+  pub at : time_of leg.arriving ≡ time_of leg.leaving + delay
+  pub clock : arrived_clock ≡ left + wire_of v.scenario.network leg.link
+  pub young : arrived_clock ≤ amount v.scenario.network.dmax
+
+-- what was put on the wire
+put_is : (o : Option Pcf) (frame : Pcf) (link : LinkId) (way : Way) (l : Launch) → o ≡ Some frame
+    → option_map (λ f. record { link = link; way = way; signal = control (Ok f) }) o ≡ Some l → l.signal ≡ control (Ok frame)
+put_is o frame link way l e put =
+    let at : Some (record { link = link; way = way; signal = control (Ok frame) }) ≡ Some l =
+    sym (ap (option_map (λ f. record { link = link; way = way; signal = control (Ok f) })) e) ∙ put in
+    ap (λ (x : Launch). x.signal)
+    (sym (same_some (Some (record { link = link; way = way; signal = control (Ok frame) })) (record { link = link; way = way; signal = control (Ok frame) })
+    l refl at))
+
+arriving_by : (v : View) (way : Way) (leg : Leg) (is : IsView v) (l : IsLeg v way leg) (frame taken : Pcf) (front : List Happening) (a : Arrival)
+    → ((n : ℕ) (h : Happening) → numbered front n ≡ Some h → numbered v.records n ≡ Some h) → leg.leaving.frame ≡ Some frame
+    → ArrivesAs v.scenario front l.receiver (time_of leg.arriving) leg.link leg.leaving.note.number a → TakesWith a taken → l.arrived_clock ≡ taken.clock
+    → ArrivingIs v leg frame.clock l.arrived_clock
+arriving_by v way leg is l frame taken front a in_all framed comes takes shows =
+    let s = v.scenario in
+    let same : comes.putting ≡ leg.leaving = same_some (numbered v.records leg.leaving.note.number) comes.putting leg.leaving
+    (in_all leg.leaving.note.number comes.putting comes.there) (by_number s v.records leg.leaving is.run.founded l.left) in
+    let launch : Launch = record { link = leg.link; way = comes.arrives.way; signal = comes.signal } in
+    let put : launched s leg.leaving (time_of leg.leaving) leg.leaving.note.body ≡ Some launch = subst
+    (λ (h : Happening). launched s h (time_of h) h.note.body ≡ Some launch) same comes.arrives.put in
+    let put_left : launched s leg.leaving (time_of leg.leaving) (notes.Left l.sender leg.link leg.giving.note.number l.left_clock) ≡ Some launch = subst
+    (λ (b : NoteBody). launched s leg.leaving (time_of leg.leaving) b ≡ Some launch) l.leaves put in
+    let signal : comes.signal ≡ control (Ok frame) = put_is leg.leaving.frame frame leg.link (way_from s.network l.sender leg.link) launch framed put_left in
+    let port : time_on_port s.network leg.link comes.signal ≡ 0 = ap (time_on_port s.network leg.link) signal in
+    let arrival : a ≡ arrival_of s front l.receiver (time_of leg.arriving) leg.link leg.leaving.note.number (control (Ok frame)) = comes.becomes
+    ∙ ap (arrival_of s front l.receiver (time_of leg.arriving) leg.link leg.leaving.note.number) signal in
+    let young = taken_young s.network l.receiver leg.link (standpoint s front l.receiver (time_of leg.arriving)) frame taken
+    (subst (λ (x : Arrival). TakesWith x taken) arrival takes) in
+    let then_at = comes.arrives.at in
+    let put_time : time_of comes.putting ≡ time_of leg.leaving = ap time_of same in
+    let delay : delay_at s leg.link comes.arrives.way (time_of comes.putting) ≡ delay_at s leg.link comes.arrives.way (time_of leg.leaving) =
+    ap (delay_at s leg.link comes.arrives.way) put_time in
+    record {
+      delay = delay_at s leg.link comes.arrives.way (time_of leg.leaving);
+      way = comes.arrives.way;
+      is_delay = refl;
+      at = omega (arith, then_at, port, put_time, delay);
+      clock = shows ∙ young.1;
+      young = (let small = young.0 in let same_clock = young.1 in omega (arith, small, same_clock, shows));
+    }
+
+arriving_is : (v : View) (way : Way) (leg : Leg) (is : IsView v) (l : IsLeg v way leg) (frame : Pcf) → leg.leaving.frame ≡ Some frame
+    → ArrivingIs v leg frame.clock l.arrived_clock
+arriving_is v way leg is l frame framed =
+    let s = v.scenario in
+    let at = founded_at s v.records leg.arriving is.run.founded l.arrived in
+    let a : IsCaused s at.front leg.arriving.note.time (notes.Arrived l.receiver leg.link leg.leaving.note.number l.arrived_clock) = subst
+    (IsCaused s at.front leg.arriving.note.time) l.arrives at.due.cause in
+    let in_all : (n : ℕ) (h : Happening) → numbered at.front n ≡ Some h
+    → numbered v.records n ≡ Some h = λ n h e. subst (λ (hs : List Happening). numbered hs n ≡ Some h) (sym at.whole)
+    (numbered_front at.front (leg.arriving ∷ at.rest) n h e) in
+    elim a.taken [
+      | inl waits ↦ arriving_by v way leg is l frame a.frame at.front (arrivals.Waits a.frame a.point) in_all framed waits refl a.shows
+      | inr (inl passes) ↦ arriving_by v way leg is l frame a.frame at.front (arrivals.Passes a.frame a.way) in_all framed passes refl a.shows
+      | inr (inr both) ↦ arriving_by v way leg is l frame a.frame at.front (arrivals.PassesAndWaits a.frame a.way a.point) in_all framed both refl a.shows
+    ]
+
+-- the frame that arrived
+arrived_frame : (v : View) (way : Way) (leg : Leg) (frame : Pcf) → IsView v → (l : IsLeg v way leg) → leg.leaving.frame ≡ Some frame
+    → leg.arriving.frame ≡ Some (with_clock l.arrived_clock frame)
+arrived_frame v way leg frame is l framed =
+    let s = v.scenario in
+    let at = founded_at s v.records leg.arriving is.run.founded l.arrived in
+    let a : IsCaused s at.front leg.arriving.note.time (notes.Arrived l.receiver leg.link leg.leaving.note.number l.arrived_clock) = subst
+    (IsCaused s at.front leg.arriving.note.time) l.arrives at.due.cause in
+    let put = elim a.taken as (λ _. (h : Happening) × (numbered at.front leg.leaving.note.number ≡ Some h))
+    [ inl w ↦ (w.putting, w.there) | inr (inl p) ↦ (p.putting, p.there) | inr (inr b) ↦ (b.putting, b.there) ] in
+    let in_all : numbered v.records leg.leaving.note.number ≡ Some put.0 = subst (λ (hs : List Happening). numbered hs leg.leaving.note.number ≡ Some put.0)
+    (sym at.whole) (numbered_front at.front (leg.arriving ∷ at.rest) leg.leaving.note.number put.0 put.1) in
+    let same : put.0 ≡ leg.leaving = same_some (numbered v.records leg.leaving.note.number) put.0 leg.leaving in_all
+    (by_number s v.records leg.leaving is.run.founded l.left) in
+    let of_put : put.0.frame ≡ Some frame = ap (λ (h : Happening). h.frame) same ∙ framed in
+    ap (λ (x : Happening). x.frame) at.due.same ∙ ap (frame_by s.network at.front) l.arrives
+    ∙ ap (λ (o : Option Happening). option_map (with_clock l.arrived_clock) (option_and_then (λ x. x.frame) o)) put.1
+    ∙ ap (option_map (with_clock l.arrived_clock)) of_put
+
+-- its clock
+arrived_clock_is : (v : View) (way : Way) (leg : Leg) (frame : Pcf) → IsView v → (l : IsLeg v way leg) → leg.leaving.frame ≡ Some frame
+    → clock_in leg.arriving ≡ l.arrived_clock
+arrived_clock_is v way leg frame is l framed = ap (λ (o : Option Pcf). option_map_or (λ f. f.clock) o 0) (arrived_frame v way leg frame is l framed)
+
+-- what a leg brings is what was given, but for its clock
+pub leg_frame : (v : View) (way : Way) (leg : Leg) (frame : Pcf) → IsView v → IsLeg v way leg → leg.giving.frame ≡ Some frame → (clock : ℕ)
+    × (leg.arriving.frame ≡ Some (with_clock clock frame))
+leg_frame v way leg frame is l framed =
+    let d = leaving_is v way leg is l in
+    let same : d.frame ≡ frame = same_some leg.giving.frame d.frame frame d.of_frame framed in
+    let whole = arrived_frame v way leg (with_clock l.left_clock d.frame) is l d.left_frame in
+    (l.arrived_clock, whole ∙ ap (λ (f : Pcf). Some (with_clock l.arrived_clock f)) same)
+
+-- a leg is a hop
+pub leg_hop : (v : View) (way : Way) (leg : Leg) (link : Link) → IsView v → IsLeg v way leg → link_at v.scenario.network leg.link ≡ Some link → HasHop v leg
+leg_hop v way leg link is l there =
+    let n = v.scenario.network in
+    let d = leaving_is v way leg is l in
+    let a = arriving_is v way leg is l (with_clock l.left_clock d.frame) d.left_frame in
+    let clock = arrived_clock_is v way leg (with_clock l.left_clock d.frame) is l d.left_frame in
+    let given : clock_in leg.giving ≡ d.frame.clock = ap (λ (o : Option Pcf). option_map_or (λ f. f.clock) o 0) d.of_frame in
+    let reading = v.scenario.reading l.sender in
+    let drifts = (is.lawful.clocks l.sender).drifts (time_of leg.giving) (time_of leg.leaving) (let h = d.held in omega (arith, h)) in
+    let hold : time_of leg.leaving - time_of leg.giving ≡ d.hold = (let h = d.held in omega (arith, h)) in
+    let within : IsDelay link a.delay = subst (IsDelay link) (sym a.is_delay) (delay_is v leg.link link a.way (time_of leg.leaving) is there) in
+    let wire : wire_of n leg.link ≡ amount link.wire = ap (λ (o : Option Link). option_map_or (λ k. amount k.wire) o 0) there in
+    let jitter : option_map_or (λ k. amount k.jitter) (link_at n leg.link) 0 ≡ amount link.jitter =
+    ap (λ (o : Option Link). option_map_or (λ k. amount k.jitter) o 0) there in
+    record {
+      hop = record {
+        hold = d.hold;
+        measured = reading (time_of leg.leaving) - reading (time_of leg.giving);
+        wire = wire_of n leg.link;
+        jitter = option_map_or (λ k. amount k.jitter) (link_at n leg.link) 0;
+        delay = a.delay;
+      };
+      is = record {
+        measures = subst (λ (x : ℕ). Measures n.rho (amount n.grain) x (reading (time_of leg.leaving) - reading (time_of leg.giving))) hold drifts;
+        least = omega (arith, within.0, wire);
+        most = omega (arith, within.1, wire, jitter);
+      };
+      travels = (let h = d.held in let t = a.at in omega (arith, h, t));
+      grows = (let c = d.clock in let e = a.clock in omega (arith, clock, given, c, e));
+      young = (let y = a.young in omega (arith, clock, y));
+      fits =
+          (let h = d.most link there in let all : delay_of n leg.link ≡ delay_by link = ap (λ (o : Option Link). option_map_or delay_by o 0) there in omega
+          (arith, h, within.1, all));
+      jitter = refl;
+    }

@@ -1,0 +1,193 @@
+-- The sound channel delivers: up to its compression master, and down from it.
+use Rattle.std.proofs.Common.{◌≡◌, ℕ, suc, ◌+◌, ◌*◌, ◌/◌, ◌^◌, ◌<◌, ◌≤◌, ℤ, pos, Bool, true, false, List, [], ◌∷◌, fold, Option, Some, None, inl, inr, refl, ap, subst, ◌∙◌, arith}
+use Rattle.std.proofs.Math.Nat.{mul-le-mul_left}
+use Rattle.std.proofs.lemmas.Bool.{eq-eqb, le-ltb}
+use Rattle.std.proofs.lemmas.Int.{by_lt_z, ints}
+use Rattle.std.specs.Prelude.{◌==◌, ◌&&◌, IsNone, IsSomeAnd, if◌then◌else◌, nat_lt, not, option_and_then}
+use Rattle.drift_clock.specs.Reach.{IsReach}
+use Rattle.net_plan.proofs.Trees.{opened}
+use Rattle.net_plan.specs.Places.{device_at}
+use Rattle.net_plan.specs.declared.ids.DeviceId.{DeviceId}
+use Rattle.net_plan.specs.declared.ids.LinkId.{LinkId}
+use Rattle.net_plan.specs.declared.network.Network.{Network}
+use Rattle.net_plan.specs.declared.tables.Device.{Device}
+use Rattle.pcf_values.specs.declared.pcf.Pcf.{Pcf}
+use Rattle.pcf_values.specs.declared.pcf.PcfKind.TheVariants.{Integration}
+use Rattle.precision_law.proofs.clocks.Readings.{reach_is_there}
+use Rattle.precision_law.proofs.faults.Masters.{good_is_correct}
+use Rattle.precision_law.proofs.faults.Ways.{sound_switches_begin_on}
+use Rattle.precision_law.proofs.records.Views.{room, steady}
+use Rattle.precision_law.specs.Trips.{IsOpen, IsPermanentAt}
+use Rattle.precision_law.specs.Views.{IsGood, IsSoundSwitch, IsView, View}
+use Rattle.run_law.proofs.law.FirstPlaces.{founded_at, in_filter}
+use Rattle.run_law.specs.control.Arrivals.{clock_on_arrival, frame_fault, is_cold_start, is_gate_shut, is_of_other_domain, is_of_other_member}
+use Rattle.run_law.specs.declared.judgement.Reason.TheVariants.{Off as IsOffReason, ColdStart, Domain, Member, Old, Gate}
+use Rattle.run_law.specs.declared.judgement.Reason.{Reason}
+use Rattle.run_law.specs.declared.judgement.Why.TheVariants as whys
+use Rattle.run_law.specs.declared.judgement.Why.{Why}
+use Rattle.run_law.specs.declared.note.NoteBody.TheVariants as notes
+use Rattle.run_law.specs.declared.note.NoteBody.{NoteBody}
+use Rattle.run_law.specs.device.Standpoints.{Standpoint, first_reason, standpoint}
+use Rattle.run_law.specs.device.StateChanges.{ChangesState}
+use Rattle.run_law.specs.device.States.{is_joined_by, is_off, state_after, state_before, state_with}
+use Rattle.run_law.specs.records.Happenings.{Happening, earlier, time_of, with_clock}
+use Rattle.run_law.specs.records.Order.{IsIn}
+use Rattle.run_law.specs.runs.DueRecords.{IsCaused}
+use Rattle.run_law.specs.scenario.Devices.{start_of}
+use Rattle.run_law.specs.scenario.Faults.{BeginsOn}
+use Rattle.run_law.specs.scenario.Scenarios.{is_broken, is_turned_on_at}
+use Rattle.run_law.specs.scenario.Ways.{wire_of}
+use Rattle.sync_state.specs.Standing.{state_at_start}
+use Rattle.sync_state.specs.declared.state.State.TheVariants.{Integrating, Joining}
+use Rattle.sync_state.specs.declared.state.State.{State}
+use Rattle.transparent_clock.specs.Points.{point_of}
+use Rattle.tte_units.specs.Amount.{amount}
+use Rattle.tte_units.specs.declared.units.Units.{Units}
+
+-- ---- the switches of the sound channel are on
+
+state_is_on : (s : _) (ps : List Happening) (t : ℕ) (device : DeviceId) (state : State) (cause : ℕ) (why : Why) → ChangesState s ps device t state cause why
+    → is_off state ≡ false
+state_is_on s ps t device state cause whys.On c = ap is_off c.0
+state_is_on s ps t device state cause whys.Frame c = ap is_off c.0
+state_is_on s ps t device state cause whys.Correction c = ap is_off c.0
+state_is_on s ps t device state cause whys.SyncClique c = ap is_off c.0
+state_is_on s ps t device state cause whys.AsyncClique c = ap is_off c.0
+
+joined_or : (b : Bool) (old : State) → is_off old ≡ false → is_off (if b then Joining else old) ≡ false
+joined_or true old e = refl
+joined_or false old e = e
+
+stays_on : (v : View) (device : DeviceId) (h : Happening) (old : State) (body : NoteBody) → IsView v → IsIn h v.records → h.note.body ≡ body
+    → is_off old ≡ false → is_off (state_with device old body) ≡ false
+stays_on v device h old (notes.State other state cause why) is i same on =
+    let at = founded_at v.scenario v.records h is.run.founded i in
+    let changes : ChangesState v.scenario at.front other (time_of h) state cause why = subst (IsCaused v.scenario at.front h.note.time) same at.due.cause in
+    by (device.0 == other.0) (state_is_on v.scenario at.front (time_of h) other state cause why changes)
+  where
+    by : (b : Bool) → is_off state ≡ false → is_off (if b then state else old) ≡ false
+    by true new = new
+    by false new = on
+stays_on v device h old (notes.Permanent other link cause point verdict) is i same on =
+    joined_or (is_joined_by device (notes.Permanent other link cause point verdict)) old on
+stays_on v device h old (notes.Compressed other opened at cycle members verdict) is i same on =
+    joined_or (is_joined_by device (notes.Compressed other opened at cycle members verdict)) old on
+stays_on v device h old body is i same on = joined_or (is_joined_by device body) old on
+
+fold_on : (v : View) (device : DeviceId) (hs : List Happening) (old : State) → IsView v → ((h : Happening) → IsIn h hs → IsIn h v.records) → is_off old ≡ false
+    → is_off (fold (λ state h. state_with device state h.note.body) old hs) ≡ false
+fold_on v device [] old is all on = on
+fold_on v device (h ∷ hs) old is all on =
+    fold_on v device hs (state_with device old h.note.body) is (λ g i. all g (inr i)) (stays_on v device h old h.note.body is (all h (inl refl)) refl on)
+
+starts_on : (network : Network) (device : DeviceId) → BeginsOn network device → is_off (state_at_start (start_of network device)) ≡ false
+starts_on network device on = by (device_at network device) on
+  where
+    by_start : (o : Option Units) → (IsNone o → ⊥) → is_off (state_at_start o) ≡ false
+    by_start None not_none = absurd (not_none refl)
+    by_start (Some start) not_none = refl
+
+    by : (o : Option Device) → IsSomeAnd o (λ d. IsNone d.start → ⊥) → is_off (state_at_start (option_and_then (λ d. d.start) o)) ≡ false
+    by None on = absurd on
+    by (Some d) on = by_start d.start on
+
+pub sound_switch_on : (v : View) (device : DeviceId) (t : ℕ) → IsView v → IsSoundSwitch v device → is_off (state_before v.scenario v.records device t) ≡ false
+sound_switch_on v device t is switch =
+    by (is_turned_on_at v.scenario device t) (fold_on v device (earlier t v.records) (state_at_start (start_of v.scenario.network device)) is
+    (λ h i. in_filter (λ h. nat_lt (time_of h) t) v.records h i) (starts_on v.scenario.network device (sound_switches_begin_on v device is switch)))
+  where
+    by : (b : Bool) → is_off (state_after v.scenario (earlier t v.records) device) ≡ false
+        → is_off (if b then Integrating else state_after v.scenario (earlier t v.records) device) ≡ false
+    by true e = refl
+    by false e = e
+
+-- ---- no fault
+
+-- what correct devices send
+pub record IsClean (n : Network) (frame : Pcf) : Type 0 where
+  pub kind : frame.kind ≡ Integration
+  pub priority : frame.priority ≡ n.priority
+  pub domain : frame.domain ≡ n.domain
+
+none_holds : (a b c d e f : Bool) (p q r s t u : Reason) → a ≡ false → b ≡ false → c ≡ false → d ≡ false → e ≡ false → f ≡ false
+    → first_reason ((a, p) ∷ (b, q) ∷ (c, r) ∷ (d, s) ∷ (e, t) ∷ (f, u) ∷ []) ≡ None
+none_holds false false false false false false p q r s t u ea eb ec ed ee ef = refl
+none_holds true b c d e f p q r s t u ea eb ec ed ee ef = absurd cc
+none_holds false true c d e f p q r s t u ea eb ec ed ee ef = absurd cc
+none_holds false false true d e f p q r s t u ea eb ec ed ee ef = absurd cc
+none_holds false false false true e f p q r s t u ea eb ec ed ee ef = absurd cc
+none_holds false false false false true f p q r s t u ea eb ec ed ee ef = absurd cc
+none_holds false false false false false true p q r s t u ea eb ec ed ee ef = absurd cc
+
+taking_part : (off broken : Bool) → off ≡ false → broken ≡ false → not (not off && not broken) ≡ false
+taking_part false false a b = refl
+taking_part true broken a b = absurd cc
+taking_part false true a b = absurd cc
+
+same_domain : (a b c d : ℕ) → a ≡ b → c ≡ d → not (a == b && c == d) ≡ false
+same_domain a b c d one other = ap (λ (x : Bool). not (x && c == d)) (eq-eqb a b one) ∙ ap (λ (x : Bool). not x) (eq-eqb c d other)
+
+-- the device is on, and its gate is open, while a trip that begins at the time may last
+abbrev pub IsReady : View → DeviceId → ℕ → Type 0
+IsReady v device t0 =
+    (u : ℕ) → t0 ≤ u → u + v.sizes.path ≤ t0 + v.sizes.dmax → (is_off (state_before v.scenario v.records device u) ≡ false) × IsOpen v device u
+
+pub no_fault : (v : View) (device : DeviceId) (link : LinkId) (u clock : ℕ) (frame : Pcf) → IsView v → IsClean v.scenario.network frame → IsGood v device
+    → u ≤ v.until → is_off (state_before v.scenario v.records device u) ≡ false → IsOpen v device u
+    → is_of_other_member v.scenario.network device link frame.members ≡ false → clock + wire_of v.scenario.network link ≤ amount v.scenario.network.dmax
+    → frame_fault v.scenario.network device link (standpoint v.scenario v.records device u) (with_clock clock frame) ≡ None
+no_fault v device link u clock frame is clean good within on is_open member small =
+    let n = v.scenario.network in
+    let at : Standpoint = standpoint v.scenario v.records device u in
+    none_holds (not at.takes_part) (is_cold_start frame.kind) (is_of_other_domain n (with_clock clock frame)) (is_of_other_member n device link frame.members)
+    (nat_lt (amount n.dmax) (clock_on_arrival n link (with_clock clock frame))) (is_gate_shut n device at) IsOffReason ColdStart Domain Member Old Gate
+    (taking_part (is_off (state_before v.scenario v.records device u)) (is_broken v.scenario device u) on (good_is_correct v device u good within))
+    (ap is_cold_start clean.kind) (same_domain frame.priority n.priority frame.domain n.domain clean.priority clean.domain) member
+    (le-ltb (amount n.dmax) (clock + wire_of n link) small) is_open
+
+-- ---- the budget of a path
+
+pub budget : (rho g dmax path jitter links d e more k m clock next : ℕ) → path ≡ jitter + 4 * rho * dmax / 10 ^ 9 + 8 * g * (links + 2)
+    → path + (d + (e + more)) ≤ dmax → k + suc m ≤ links
+    → 10 ^ 9 * clock ≤ 10 ^ 9 * d + rho * d + 2 * g * 10 ^ 9 * k → 10 ^ 9 * next ≤ 10 ^ 9 * clock + 10 ^ 9 * e + rho * e + 2 * g * 10 ^ 9
+    → (next ≤ dmax) × (10 ^ 9 * next ≤ 10 ^ 9 * (d + e) + rho * (d + e) + 2 * g * 10 ^ 9 * (k + 1))
+budget rho g dmax path jitter links d e more k m clock next is fits few before grows =
+    let drift : rho * (d + e) ≤ rho * dmax = mul-le-mul_left rho (omega (arith, fits)) in
+    let grains : g * (k + 1) ≤ g * (links + 2) = mul-le-mul_left g (omega (arith, few)) in
+    let floor : 4 * rho * dmax < 10 ^ 9 * (4 * rho * dmax / 10 ^ 9 + 1) = omega arith in
+    (omega (arith, is, fits, before, grows, drift, grains, floor), omega (arith, before, grows))
+
+-- ---- permanence
+
+-- what has arrived will be permanent
+pub record WillBePermanent (v : View) (last : Happening) (device : DeviceId) (clock : ℕ) : Type 0 where
+  pub point : ℤ
+  pub q : ℕ
+  pub permanent : IsPermanentAt v last device point q
+  pub same : permanent.clock ≡ clock
+
+pub will_be_permanent : (v : View) (last : Happening) (device : DeviceId) (link : LinkId) (cause clock : ℕ) → IsView v
+    → last.note.body ≡ notes.Arrived device link cause clock → clock ≤ v.sizes.dmax → WillBePermanent v last device clock
+will_be_permanent v last device link cause clock is body small =
+    let reading = v.scenario.reading device in
+    let a : ℕ = time_of last in
+    let point : ℤ = point_of (pos (reading a)) clock (pos v.sizes.dmax) in
+    let space = room v is in
+    let of_reach : (q : ℕ) → IsReach reading (pos a) point (pos q) → WillBePermanent v last device clock = λ q reach.
+    record {
+      point = point;
+      q = q;
+      permanent = record { link = link; from = cause; clock = clock; is = body; at_point = refl; reached = reach };
+      same = refl;
+    } in
+    by_lt_z {P = WillBePermanent v last device clock} (pos (reading a)) point
+    (λ below.
+    let slow = (steady v is device).slow a (a + v.sizes.cycle) (omega arith) (omega arith) in
+    let cycles = space.cycles in
+    let errors = space.eight_errors in
+    let reach_is = space.errors.reach_is in
+    let there = reach_is_there v.sizes reading a a point (a + v.sizes.cycle) (steady v is device) (omega arith) (omega (arith, cycles, errors, reach_is)) below
+    (omega (arith, ints, slow, cycles, errors, reach_is)) in
+    of_reach there.0 there.3)
+    (λ enough. of_reach a
+    (record { from_on = omega (arith, ints); reached = enough; not_before = λ y from_y y_before. absurd (omega (arith, ints, from_y, y_before)) }))

@@ -1,0 +1,349 @@
+-- The sound channel brings dispatches up to its compression master.
+use Rattle.std.proofs.Common.{◌≡◌, ◌⊎◌, ℕ, suc, ◌+◌, ◌*◌, ◌^◌, ◌≤◌, Bool, true, false, List, [], ◌∷◌, length, Option, Some, None, inl, inr, refl, sym, ap, subst, ◌∙◌, arith}
+use Rattle.std.proofs.lemmas.Bool.{both_ways, eq-eqb}
+use Rattle.std.proofs.lemmas.Int.{ints}
+use Rattle.std.proofs.lemmas.List.Sums.{sum_by-cons}
+use Rattle.std.specs.Option.{option_map_or}
+use Rattle.std.specs.Prelude.{◌==◌, ◌&&◌, if◌then◌else◌, is_some, not, option_map, unwrap_or}
+use Rattle.net_plan.proofs.Shape.{rules_give_trees}
+use Rattle.net_plan.proofs.Trees.{closed, opened}
+use Rattle.net_plan.specs.Bounds.{beta_at}
+use Rattle.net_plan.specs.Paths.{IsPath}
+use Rattle.net_plan.specs.Places.{device_at, is_end_system, link_at, IsCmOf, IsDeviceOf, IsSwitchOf, is_master}
+use Rattle.net_plan.specs.Ranges.{IsDeviceInRange}
+use Rattle.net_plan.specs.Rules.{IsChildOf}
+use Rattle.net_plan.specs.declared.ids.DeviceId.{DeviceId}
+use Rattle.net_plan.specs.declared.ids.LinkId.{LinkId}
+use Rattle.net_plan.specs.declared.tables.Device.{Device}
+use Rattle.net_plan.specs.declared.tables.Link.{Link}
+use Rattle.net_plan.specs.declared.tables.Role.TheVariants.{Master, Client, Cm, Relay}
+use Rattle.net_plan.specs.declared.tables.Role.{Role}
+use Rattle.net_plan.specs.declared.tables.Way.TheVariants.{Up, Down}
+use Rattle.pcf_values.specs.declared.channel.Channel.TheVariants.{A, B}
+use Rattle.pcf_values.specs.declared.channel.Channel.{Channel}
+use Rattle.pcf_values.specs.declared.pcf.Pcf.{Pcf}
+use Rattle.precision_law.proofs.compression.Made.{dispatch_clock}
+use Rattle.precision_law.proofs.faults.Masters.{good_is_correct, master_ends, switches_are_good}
+use Rattle.precision_law.proofs.faults.Ways.{sound_ways_are_whole}
+use Rattle.precision_law.proofs.trips.Ascents.{master_member}
+use Rattle.precision_law.proofs.trips.Descents.{child_down, receiver_up}
+use Rattle.precision_law.proofs.trips.Links.{HasGone, IsGivenOn, arrives_at, goes_over, leaves_at, takes_at_most}
+use Rattle.precision_law.proofs.trips.Sound.{IsClean, budget, no_fault, sound_switch_on, will_be_permanent}
+use Rattle.precision_law.proofs.trips.Upward.{path_up, trips_up_take_dmax}
+use Rattle.precision_law.specs.Sizes.{Sizes}
+use Rattle.precision_law.specs.Trips.{AreOpenFrom, IsBrought, IsTrip, Leg, SoundFramesGoUp, clock_in}
+use Rattle.precision_law.specs.Views.{IsGood, IsSoundSwitch, IsView, View}
+use Rattle.run_law.proofs.law.FirstPlaces.{founded_at}
+use Rattle.run_law.proofs.runs.SameSteps.{same_some}
+use Rattle.run_law.specs.control.Arrivals.{are_others, is_of_other_member}
+use Rattle.run_law.specs.control.Leaving.{Gives}
+use Rattle.run_law.specs.declared.note.NoteBody.TheVariants as notes
+use Rattle.run_law.specs.declared.note.NoteBody.{NoteBody}
+use Rattle.run_law.specs.records.Frames.{dispatched_frame}
+use Rattle.run_law.specs.records.Happenings.{Happening, frame_by, time_of, with_clock}
+use Rattle.run_law.specs.records.Order.{IsIn}
+use Rattle.run_law.specs.runs.DueRecords.{IsCaused}
+use Rattle.run_law.specs.scenario.Devices.{is_end, is_parent_of, is_relay, is_relay_role, member_of, IsParentOf}
+use Rattle.run_law.specs.scenario.Ways.{receiver_of}
+use Rattle.schedule_tables.proofs.EntryLemmas.{all_at}
+use Rattle.schedule_tables.proofs.Margins.{margins, shape_rules}
+use Rattle.schedule_tables.specs.Delays.{delay_by, delay_of, delay_on}
+use Rattle.schedule_tables.specs.Entries.{target_by}
+use Rattle.schedule_tables.specs.declared.rule.Rule.TheVariants.{CompressionMasters, Joints}
+use Rattle.tte_units.specs.Amount.{amount}
+
+-- ---- roles
+
+not_end : (b : Bool) → true ≡ not b → b ≡ false
+not_end true e = absurd cc
+not_end false e = refl
+
+-- a switch is no end system
+pub switch_ends : (v : View) (device : DeviceId) (channel : Channel) → IsView v → IsSwitchOf v.scenario.network channel device
+    → is_end v.scenario.network device ≡ false
+switch_ends v device channel is switch =
+    let n = v.scenario.network in
+    let d = opened (λ (x : Device). x.channel ≡ Some channel) (device_at n device) switch in
+    let known : IsDeviceInRange d.0 = all_at IsDeviceInRange n.device device.0 d.0 is.lawful.range.devices d.1 in
+    ap (λ (o : Option Device). option_map_or (λ x. is_end_system x.role) o false) d.1
+    ∙ not_end (is_end_system d.0.role) (ap (λ (c : Option Channel). is_some c) (sym d.2) ∙ known.switches)
+
+-- one that is a link's child is a relay
+pub child_relays : (v : View) (device : DeviceId) (channel : Channel) (link : LinkId) (l : Link) → IsView v → link_at v.scenario.network link ≡ Some l
+    → l.child ≡ device → IsSwitchOf v.scenario.network channel device → is_relay v.scenario.network device ≡ true
+child_relays v device channel link l is at child switch =
+    let n = v.scenario.network in
+    let joint = is.lawful.rules Joints link.0 l at in
+    let relays : is_relay n l.child ≡ true = elim joint.2 [
+      | inl end ↦
+          let e = opened (λ (x : Device). is_end_system x.role ≡ true) (device_at n l.child) end in
+          let ends : is_end n l.child ≡ true = ap (λ (o : Option Device). option_map_or (λ x. is_end_system x.role) o false) e.1 ∙ e.2 in
+          absurd (both_ways (is_end n l.child) (ap (is_end n) child ∙ switch_ends v device channel is switch) ends)
+      | inr role ↦
+          let e = opened (λ (x : Device). (x.role ≡ Relay) × (x.channel ≡ Some joint.0)) (device_at n l.child) role in
+          ap (λ (o : Option Device). option_map_or (λ x. is_relay_role x.role) o false) e.1 ∙ ap is_relay_role e.2.0
+    ] in
+    ap (is_relay n) (sym child) ∙ relays
+
+turned : (b : Bool) → (if b then Up else Down) ≡ Down → (if b then Down else Up) ≡ Up
+turned true e = absurd cc
+turned false e = refl
+
+last_false : (a b c : Bool) → (b ≡ true → c ≡ false) → (a && b && c) ≡ false
+last_false true true c f = f refl
+last_false true false c f = refl
+last_false false b c f = refl
+
+-- a channel has one compression master
+pub one_cm : (v : View) (channel : Channel) (a b : DeviceId) → IsView v → IsCmOf v.scenario.network channel a → IsCmOf v.scenario.network channel b → a ≡ b
+one_cm v A a b is x y = (let one = (is.lawful.rules CompressionMasters 0).on_a refl in one.2 a x ∙ sym (one.2 b y))
+one_cm v B a b is x y = (let one = (is.lawful.rules CompressionMasters 1).on_b refl in one.2 a x ∙ sym (one.2 b y))
+
+-- ---- one link up
+
+-- a frame that is given to the first link of a path, and has been on its way for this long over so many links
+record CanGoUp (v : View) (t0 : ℕ) (link : LinkId) (rest : List LinkId) (r : Happening) (frame : Pcf) (sender : DeviceId) (d k links : ℕ) : Type 0 where
+  pub path : IsPath v.scenario.network v.channel sender (link ∷ rest)
+  pub there : IsIn r v.records
+  pub of_frame : r.frame ≡ Some frame
+  pub clean : IsClean v.scenario.network frame
+  pub gives : Gives v.scenario.network r.note.body sender link
+  pub good : IsGood v sender
+  pub member : is_end v.scenario.network sender ≡ true → are_others (member_of v.scenario.network sender) frame.members ≡ false
+  pub clock : 10 ^ 9 * frame.clock ≤ 10 ^ 9 * d + v.scenario.network.rho * d + 2 * amount v.scenario.network.grain * 10 ^ 9 * k
+  pub time : time_of r ≤ t0 + d
+  pub after : t0 ≤ time_of r
+  pub fits : v.sizes.path + (d + delay_on v.scenario.network (link ∷ rest)) ≤ v.sizes.dmax
+  pub few : k + suc (length rest) ≤ links
+
+record Stepped (v : View) (t0 : ℕ) (link : LinkId) (rest : List LinkId) (r : Happening) (frame : Pcf) (d k links : ℕ) : Type 0 where
+  pub l : Link
+  pub at : link_at v.scenario.network link ≡ Some l
+  pub switch : IsSoundSwitch v l.parent
+  pub path : IsPath v.scenario.network v.channel l.parent rest
+  pub gone : HasGone v Up r frame l.parent link l
+  pub small : gone.clock ≤ amount v.scenario.network.dmax
+  pub clock : 10 ^ 9 * gone.clock ≤ 10 ^ 9 * (d + delay_by l) + v.scenario.network.rho * (d + delay_by l) + 2 * amount v.scenario.network.grain * 10 ^
+      9 * (k + 1)
+  pub time : time_of gone.arriving ≤ t0 + (d + delay_by l)
+  pub after : t0 ≤ time_of gone.arriving
+  pub fits : v.sizes.path + ((d + delay_by l) + delay_on v.scenario.network rest) ≤ v.sizes.dmax
+
+step_up : (v : View) (t0 : ℕ) (link : LinkId) (rest : List LinkId) (r : Happening) (frame : Pcf) (sender : DeviceId) (d k : ℕ) (is : IsView v)
+    → CanGoUp v t0 link rest r frame sender d k is.beta.links → AreOpenFrom v t0 → t0 + v.sizes.dmax + v.sizes.path ≤ v.until
+    → Stepped v t0 link rest r frame d k is.beta.links
+step_up v t0 link rest r frame sender d k is c opens in_run =
+    let s = v.scenario in
+    let n = s.network in
+    let l = opened (λ (x : Link). (x.child ≡ sender) × IsSwitchOf n v.channel x.parent × IsPath n v.channel x.parent rest) (link_at n link) c.path in
+    let receiver : DeviceId = l.0.parent in
+    let child : IsChildOf n sender link = closed (λ (x : Link). x.child ≡ sender) (link_at n link) l.0 l.1 l.2.0 in
+    let to : receiver_of n link Up ≡ Some receiver = ap (λ (o : Option Link). option_map (target_by Up) o) l.1 in
+    let delay : delay_on n (link ∷ rest) ≡ delay_by l.0 + delay_on n rest = sum_by-cons (delay_of n) link rest
+    ∙ ap (λ (x : ℕ). x + delay_on n rest) (ap (λ (o : Option Link). option_map_or delay_by o 0) l.1) in
+    let takes = takes_at_most v Up link l.0 (time_of r) is l.1 in
+    let dmax : v.sizes.dmax ≡ amount n.dmax = ap (λ (z : Sizes). z.dmax) is.sizes in
+    let value : v.sizes.path ≡ beta_at n is.beta.jitter is.beta.links = (let e = is.beta.value in omega (arith, ints, e)) in
+    let time = c.time in
+    let after = c.after in
+    let room_left = c.fits in
+    let fits : v.sizes.path + ((d + delay_by l.0) + delay_on n rest) ≤ v.sizes.dmax = omega (arith, room_left, delay) in
+    let fits_so : v.sizes.path + (d + (delay_by l.0 + delay_on n rest)) ≤ amount n.dmax = omega (arith, fits, dmax) in
+    let u : ℕ = arrives_at s link Up (time_of r) in
+    let soon : u ≤ t0 + (d + delay_by l.0) = omega (arith, takes.0, time) in
+    let within : u ≤ v.until = omega (arith, soon, fits, in_run) in
+    let behind : t0 ≤ u = omega (arith, after) in
+    let g : IsGivenOn v Up r frame sender receiver link l.0 = record {
+      given = c.there;
+      of_frame = c.of_frame;
+      gives = c.gives;
+      there = l.1;
+      from_way = turned (is_parent_of n sender link) (child_down v sender link is child);
+      on_way = receiver_up n link receiver to;
+      comes_to = to;
+      correct = good_is_correct v sender (leaves_at s link Up (time_of r)) c.good (omega (arith, takes.1, within));
+      whole =
+          sound_ways_are_whole v link Up (leaves_at s link Up (time_of r)) is
+          (closed (λ (x : Link). IsSwitchOf n v.channel x.parent) (link_at n link) l.0 l.1 l.2.1) (omega (arith, takes.1, within));
+    } in
+    let spend : (next : ℕ) → 10 ^ 9 * next ≤ 10 ^ 9 * frame.clock + 10 ^ 9 * delay_by l.0 + n.rho * delay_by l.0 + 2 * amount n.grain * 10 ^ 9
+    → (next ≤ amount n.dmax) × (10 ^ 9 * next ≤ 10 ^ 9 * (d + delay_by l.0) + n.rho * (d + delay_by l.0) + 2 * amount n.grain * 10 ^ 9 * (k + 1)) =
+    λ next grows.
+    budget n.rho (amount n.grain) (amount n.dmax) v.sizes.path is.beta.jitter is.beta.links d (delay_by l.0) (delay_on n rest) k (length rest) frame.clock next
+    value fits_so c.few c.clock grows in
+    let member : is_of_other_member n receiver link frame.members ≡ false =
+    ap (λ (o : Option Link). option_map_or (λ x. x.parent.0 == receiver.0 && is_end n x.child && are_others (member_of n x.child) frame.members) o false) l.1
+    ∙ last_false (l.0.parent.0 == receiver.0) (is_end n l.0.child) (are_others (member_of n l.0.child) frame.members)
+    (subst (λ (x : DeviceId). is_end n x ≡ true → are_others (member_of n x) frame.members ≡ false) (sym l.2.0) c.member) in
+    let gone = goes_over v Up r frame sender receiver link l.0 is g (λ next grows. (spend next grows).0)
+    (λ next small. no_fault v receiver link u next frame is c.clean (switches_are_good v v.channel receiver is l.2.1) within
+    (sound_switch_on v receiver u is l.2.1) (opens receiver u l.2.1 behind (omega (arith, soon, fits))) member small) within in
+    let arrived = gone.at in
+    let spent = spend gone.clock gone.grows in
+    record {
+      l = l.0;
+      at = l.1;
+      switch = l.2.1;
+      path = l.2.2;
+      gone = gone;
+      small = spent.0;
+      clock = spent.1;
+      time = omega (arith, arrived, soon);
+      after = omega (arith, arrived, behind);
+      fits = fits;
+    }
+
+-- ---- up to the compression master
+
+record GoesUp (v : View) (r : Happening) : Type 0 where
+  pub legs : List Leg
+  pub last : Happening
+  pub trip : IsTrip v Up r legs last
+  pub cm : DeviceId
+  pub is_cm : IsCmOf v.scenario.network v.channel cm
+  pub link : LinkId
+  pub cause : ℕ
+  pub clock : ℕ
+  pub body : last.note.body ≡ notes.Arrived cm link cause clock
+  pub clock_is : clock_in last ≡ clock
+  pub small : clock ≤ amount v.scenario.network.dmax
+
+go_up : (v : View) (t0 : ℕ) (link : LinkId) (rest : List LinkId) (r : Happening) (frame : Pcf) (sender : DeviceId) (d k : ℕ) (is : IsView v)
+    → CanGoUp v t0 link rest r frame sender d k is.beta.links → AreOpenFrom v t0 → t0 + v.sizes.dmax + v.sizes.path ≤ v.until → GoesUp v r
+go_up v t0 link [] r frame sender d k is c opens in_run =
+    let p = step_up v t0 link [] r frame sender d k is c opens in_run in
+    record {
+      legs = record { link = link; giving = r; leaving = p.gone.leaving; arriving = p.gone.arriving } ∷ [];
+      last = p.gone.arriving;
+      trip = (refl, p.gone.is, refl);
+      cm = p.l.parent;
+      is_cm = p.path;
+      link = link;
+      cause = p.gone.cause;
+      clock = p.gone.clock;
+      body = p.gone.body;
+      clock_is = ap (λ (o : Option Pcf). option_map_or (λ f. f.clock) o 0) p.gone.of_frame;
+      small = p.small;
+    }
+go_up v t0 link (next ∷ rest) r frame sender d k is c opens in_run =
+    let n = v.scenario.network in
+    let p = step_up v t0 link (next ∷ rest) r frame sender d k is c opens in_run in
+    let device : DeviceId = p.l.parent in
+    let m = opened (λ (x : Link). (x.child ≡ device) × IsSwitchOf n v.channel x.parent × IsPath n v.channel x.parent rest) (link_at n next) p.path in
+    let relay = child_relays v device v.channel next m.0 is m.1 m.2.0 p.switch in
+    let parent : IsParentOf n device link = closed (λ (x : Link). x.parent ≡ device) (link_at n link) p.l p.at refl in
+    let child : IsChildOf n device next = closed (λ (x : Link). x.child ≡ device) (link_at n next) m.0 m.1 m.2.0 in
+    let few = c.few in
+    let more = go_up v t0 next rest p.gone.arriving (with_clock p.gone.clock frame) device (d + delay_by p.l) (k + 1) is (record {
+      path = p.path;
+      there = p.gone.is.arrived;
+      of_frame = p.gone.of_frame;
+      clean = record { kind = c.clean.kind; priority = c.clean.priority; domain = c.clean.domain };
+      gives = subst (λ (b : NoteBody). Gives n b device next) (sym p.gone.body) (refl, record { relay = relay; on = inl (parent, child) });
+      good = switches_are_good v v.channel device is p.switch;
+      member = λ ends. absurd (both_ways (is_end n device) (switch_ends v device v.channel is p.switch) ends);
+      clock = p.clock;
+      time = p.time;
+      after = p.after;
+      fits = p.fits;
+      few = omega (arith, few);
+    }) opens in_run in
+    record {
+      legs = record { link = link; giving = r; leaving = p.gone.leaving; arriving = p.gone.arriving } ∷ more.legs;
+      last = more.last;
+      trip = (refl, p.gone.is, more.trip);
+      cm = more.cm;
+      is_cm = more.is_cm;
+      link = more.link;
+      cause = more.cause;
+      clock = more.clock;
+      body = more.body;
+      clock_is = more.clock_is;
+      small = more.small;
+    }
+
+-- ---- the law
+
+master_device : (o : Option Device) → option_map_or (λ d. is_master d.role) o false ≡ true → (d : Device) × (o ≡ Some d) × (is_master d.role ≡ true)
+master_device None e = absurd cc
+master_device (Some d) e = (d, refl, e)
+
+master_no_cm : (role : Role) → is_master role ≡ true → role ≡ Cm → ⊥
+master_no_cm Master e f = cc
+master_no_cm Client e f = cc
+master_no_cm Cm e f = cc
+master_no_cm Relay e f = cc
+
+own_member : (o : Option ℕ) (m : ℕ) → o ≡ Some m → are_others o (record { 0 = 2 ^ unwrap_or o 0 }) ≡ false
+own_member None m e = absurd cc
+own_member (Some x) m e = ap not (eq-eqb (2 ^ x) (2 ^ x) refl)
+
+-- the delays of a path leave room for its error
+pub path_fits : (v : View) (channel : Channel) (device : DeviceId) (links : List LinkId) (is : IsView v) → IsDeviceOf v.scenario.network channel device
+    → IsPath v.scenario.network channel device links → (v.sizes.path + delay_on v.scenario.network links ≤ v.sizes.dmax) × (length links ≤ is.beta.links)
+path_fits v channel device links is member path =
+    let n = v.scenario.network in
+    let margin = margins rules_give_trees n v.sizes.path is.lawful.range is.lawful.rules is.beta in
+    let fits = margin.dmax.paths channel device links member path in
+    let dmax : v.sizes.dmax ≡ amount n.dmax = ap (λ (z : Sizes). z.dmax) is.sizes in
+    (omega (arith, fits, dmax), is.beta.links_greatest.most (length links) (channel, (device, (links, member, path, refl))))
+
+pub sound_frames_go_up : SoundFramesGoUp
+sound_frames_go_up v h master cm cycle is d one opens in_run =
+    let s = v.scenario in
+    let n = s.network in
+    let at = founded_at s v.records h is.run.founded d.there in
+    let sends : IsCaused s at.front h.note.time (notes.Sent master cycle) = subst (IsCaused s at.front h.note.time) d.is at.due.cause in
+    let role = master_device (device_at n master) sends.master in
+    let member = master_member v master is sends.master in
+    let of_channel : IsDeviceOf n v.channel master = closed (λ (x : Device). (is_end_system x.role ≡ true) ⊎ (x.channel ≡ Some v.channel)) (device_at n master)
+    role.0 role.1 (inl (master_ends role.0.role role.2)) in
+    let tree = rules_give_trees n (shape_rules n is.lawful.rules) in
+    let reach = tree.reach v.channel master of_channel in
+    let framed : h.frame ≡ Some (dispatched_frame n master cycle) = ap (λ (x : Happening). x.frame) at.due.same ∙ ap (frame_by n at.front) d.is in
+    by reach.0 reach.2 role of_channel member framed
+  where
+    by : (links : List LinkId) → IsPath v.scenario.network v.channel master links
+        → (role : (x : Device) × (device_at v.scenario.network master ≡ Some x) × (is_master x.role ≡ true)) → IsDeviceOf v.scenario.network v.channel master
+        → (m : (x : ℕ) × (member_of v.scenario.network master ≡ Some x)) → h.frame ≡ Some (dispatched_frame v.scenario.network master cycle)
+        → IsBrought v Up h cm
+    by [] path role of_channel m framed =
+        let e = opened (λ (x : Device). (x.role ≡ Cm) × (x.channel ≡ Some v.channel)) (device_at v.scenario.network master) path in
+        let same : e.0 ≡ role.0 = same_some (device_at v.scenario.network master) e.0 role.0 e.1 role.1 in
+        absurd (master_no_cm role.0.role role.2 (ap (λ (x : Device). x.role) (sym same) ∙ e.2.0))
+    by (link ∷ rest) path role of_channel m framed =
+        let n = v.scenario.network in
+        let l = opened (λ (x : Link). (x.child ≡ master) × IsSwitchOf n v.channel x.parent × IsPath n v.channel x.parent rest) (link_at n link) path in
+        let child : IsChildOf n master link = closed (λ (x : Link). x.child ≡ master) (link_at n link) l.0 l.1 l.2.0 in
+        let fits = path_fits v v.channel master (link ∷ rest) is of_channel path in
+        let goes = go_up v (time_of h) link rest h (dispatched_frame n master cycle) master 0 0 is (record {
+          path = path;
+          there = d.there;
+          of_frame = framed;
+          clean = record { kind = refl; priority = refl; domain = refl };
+          gives = subst (λ (b : NoteBody). Gives n b master link) (sym d.is) (refl, child);
+          good = d.good;
+          member = λ ends. own_member (member_of n master) m.0 m.1;
+          clock = omega arith;
+          time = omega arith;
+          after = omega arith;
+          fits = (let f = fits.0 in omega (arith, f));
+          few = (let f = fits.1 in omega (arith, f));
+        }) opens in_run in
+        let dmax : v.sizes.dmax ≡ amount n.dmax = ap (λ (z : Sizes). z.dmax) is.sizes in
+        let same : goes.cm ≡ cm = one_cm v v.channel goes.cm cm is goes.is_cm one in
+        let body : goes.last.note.body ≡ notes.Arrived cm goes.link goes.cause goes.clock = goes.body
+        ∙ ap (λ (x : DeviceId). notes.Arrived x goes.link goes.cause goes.clock) same in
+        let will = will_be_permanent v goes.last cm goes.link goes.cause goes.clock is body (let small = goes.small in omega (arith, small, dmax)) in
+        let up = path_up v v.channel h goes.last goes.legs master cm cycle goes.link goes.cause goes.clock is one goes.trip body d.is in
+        record {
+          legs = goes.legs;
+          last = goes.last;
+          trip = goes.trip;
+          point = will.point;
+          q = will.q;
+          permanent = will.permanent;
+          in_time =
+              trips_up_take_dmax v h goes.last goes.legs v.channel master cm will.point will.q is of_channel up (dispatch_clock v h master cycle is d) goes.trip
+              will.permanent (goes.clock_is ∙ sym will.same);
+        }

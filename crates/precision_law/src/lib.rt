@@ -1,0 +1,9 @@
+//! How near to one another the clocks of a network stay, in each run within the fault hypothesis.
+#![tactic(auto)]
+
+mod laws;
+
+pub use laws::{
+    clocks_keep_the_span, clocks_keep_their_cycles, clocks_stay_together, dispatches_halve,
+    dispatches_stay_near, joiners_come_in, time_is_kept, values_are_reached_on_time,
+};

@@ -1,2 +1,0 @@
--- The machines of this crate.
-pub mod LoneMasters

@@ -1,0 +1,6 @@
+pub mod Safe
+pub mod schedule
+pub mod spans
+pub mod faults
+pub mod ports
+pub mod delivery

@@ -1,0 +1,376 @@
+-- A dispatched frame that comes to a synchronised device is taken, or one was taken before.
+use Rattle.std.proofs.Common.{◌≡◌, ◌≢◌, ◌⊎◌, ℕ, ◌+◌, ◌<◌, ◌≤◌, pos, ◌+ℤ◌, Bool, true, false, not, ◌&&◌, ◌||◌, List, [], ◌∷◌, ◌++◌, length, filter, Option, Some, None, nat_lt, inl, inr, refl, sym, ap, subst, ◌∙◌, arith}
+use Rattle.std.proofs.lemmas.Bool.{eq-eqb, eqb-true, ltb-true, ne_eqb}
+use Rattle.std.proofs.lemmas.Int.{ints}
+use Rattle.std.specs.List.{last_or}
+use Rattle.std.specs.Option.{option_map_or}
+use Rattle.std.specs.Prelude.{◌==◌, option_map, option_and_then, if◌then◌else◌}
+use Rattle.net_plan.specs.Bounds.{gamma_of}
+use Rattle.net_plan.specs.Places.{link_at}
+use Rattle.net_plan.specs.declared.ids.DeviceId.{DeviceId}
+use Rattle.net_plan.specs.declared.ids.LinkId.{LinkId}
+use Rattle.net_plan.specs.declared.ids.VlId.{VlId}
+use Rattle.net_plan.specs.declared.network.Network.{Network}
+use Rattle.net_plan.specs.declared.tables.Link.{Link}
+use Rattle.net_plan.specs.declared.tables.Way.TheVariants.{Up, Down}
+use Rattle.net_plan.specs.declared.tables.Way.{Way}
+use Rattle.pcf_codec.specs.Fields.{field}
+use Rattle.precision_law.proofs.records.Times.{passes}
+use Rattle.precision_law.proofs.records.Views.{room}
+use Rattle.precision_law.specs.Sizes.{Sizes}
+use Rattle.precision_law.specs.Views.{IsGood, IsView, View}
+use Rattle.run_law.proofs.law.FirstPlaces.{IsSplit, by_number, due_is_there, front_founded, in_filter, in_front_of, same_earlier, split}
+use Rattle.run_law.proofs.runs.Places.{in_left}
+use Rattle.run_law.specs.control.Wires.{Arrives, launched, timed}
+use Rattle.run_law.specs.declared.note.Note.{Note}
+use Rattle.run_law.specs.declared.note.NoteBody.TheVariants as notes
+use Rattle.run_law.specs.declared.note.NoteBody.{NoteBody}
+use Rattle.run_law.specs.declared.steps.Arrival.TheVariants as arrivals
+use Rattle.run_law.specs.declared.steps.Arrival.{Arrival}
+use Rattle.run_law.specs.device.Standpoints.{Standpoint, clock_of, cycle_at, offset_in_cycle, standpoint}
+use Rattle.run_law.specs.device.States.{adjustment_after, is_off, is_synchronised, state_after}
+use Rattle.run_law.specs.records.Frames.{tt_frame_by}
+use Rattle.run_law.specs.records.Happenings.{Happening, earlier, happening, numbered, time_of}
+use Rattle.run_law.specs.records.Order.{IsIn}
+use Rattle.run_law.specs.records.Ranks.{place_of}
+use Rattle.run_law.specs.runs.DueRecords.{IsCaused, IsDue}
+use Rattle.run_law.specs.runs.Runs.{IsFounded}
+use Rattle.run_law.specs.scenario.Devices.{is_end}
+use Rattle.run_law.specs.scenario.Scenarios.{Scenario, is_broken, is_turned_on_at}
+use Rattle.run_law.specs.scenario.Ways.{receiver_of, way_from}
+use Rattle.run_law.specs.timed.Arrivals.{entry_arrival, entry_entering, is_taken_in, octets_fault, octets_or_fault, row_fault, taken_by, taken_or_fault, timed_arrival}
+use Rattle.run_law.specs.timed.Receptions.{ArrivesAs, arrival_of, comes_before, is_taken_before, last_taken, taken_cycle}
+use Rattle.schedule_tables.proofs.EntryLemmas.{in_range}
+use Rattle.schedule_tables.specs.Entries.{source_by, target_by, target_of}
+use Rattle.schedule_tables.specs.Rules.{KeepsRules}
+use Rattle.schedule_tables.specs.Windows.{OccursIn}
+use Rattle.schedule_tables.specs.declared.entry.Entry.{Entry}
+use Rattle.sync_state.specs.declared.state.State.TheVariants.{Integrating, Synchronised}
+use Rattle.sync_state.specs.declared.state.State.{State}
+use Rattle.traffic_law.proofs.delivery.Arriving.{arrivals_are_in_windows, delay_lies, frames_arrive_in_spans}
+use Rattle.traffic_law.proofs.delivery.Coming.{on_port}
+use Rattle.traffic_law.proofs.delivery.Entering.{enters_by, octets_sound, row_sound}
+use Rattle.traffic_law.proofs.delivery.Frames.{frame_shows}
+use Rattle.traffic_law.proofs.delivery.Taken.{put_on, way_is}
+use Rattle.traffic_law.proofs.delivery.Whole.{dispatches_are_whole}
+use Rattle.traffic_law.proofs.ports.Ends.{ends_differ}
+use Rattle.traffic_law.proofs.schedule.Rows.{rows_are_in_time}
+use Rattle.traffic_law.proofs.spans.Corrected.{last_in}
+use Rattle.traffic_law.specs.Bringing.{BringsBlocks, BringsChannels}
+use Rattle.traffic_law.specs.Delivered.{ArrivalsAreTaken, HasTaken}
+use Rattle.traffic_law.specs.Dispatched.{IsRowDispatch}
+use Rattle.traffic_law.specs.Fits.{FieldsFit}
+use Rattle.traffic_law.specs.Passed.{arrives_at}
+use Rattle.traffic_law.specs.Spans.{IsTimedAt, shown_at}
+use Rattle.traffic_law.specs.Taken.{SaysTaken}
+use Rattle.tte_units.specs.Amount.{amount, units_of}
+
+-- ---- ways
+
+-- a device sends on the way on which it is the source
+way_from_by : (o : Option Link) (l : Link) (way : Way) (device : DeviceId) → o ≡ Some l → l.child ≢ l.parent → source_by way l ≡ device
+    → (if option_map_or (λ x. x.parent.0 == device.0) o false then Down else Up) ≡ way
+way_from_by o l Down device at differ source =
+    let test : option_map_or (λ x. x.parent.0 == device.0) o false ≡ true = ap (λ (p : Option Link). option_map_or (λ x. x.parent.0 == device.0) p false) at
+    ∙ eq-eqb l.parent.0 device.0 (ap (λ (d : DeviceId). d.0) source) in
+    rw test refl
+way_from_by o l Up device at differ source =
+    let apart : l.parent.0 ≡ device.0 → ⊥ = λ same. differ (source ∙ sym (ap (λ (n : ℕ). let d : DeviceId = record { 0 = n } in d) same)) in
+    let test : option_map_or (λ x. x.parent.0 == device.0) o false ≡ false = ap (λ (p : Option Link). option_map_or (λ x. x.parent.0 == device.0) p false) at
+    ∙ ne_eqb l.parent.0 device.0 apart in
+    rw test refl
+
+-- so does a device of a network
+pub sends_on : (network : Network) (link : LinkId) (l : Link) (way : Way) (device : DeviceId) → KeepsRules network → link_at network link ≡ Some l
+    → source_by way l ≡ device → way_from network device link ≡ way
+sends_on network link l way device keeps at source = way_from_by (link_at network link) l way device at (ends_differ network link l keeps at) source
+
+-- ---- what was taken before
+
+-- the record says that the device took a frame of the virtual link, by the time
+pub record SaysSo (device : DeviceId) (vl : VlId) (cycle t : ℕ) (g : Happening) : Type 0 where
+  pub link : LinkId
+  pub cause : ℕ
+  pub says : SaysTaken g.note.body device link cause vl cycle
+  pub by_then : time_of g ≤ t
+
+-- both parts of a test
+pub both_true : (x y : Bool) → (x && y) ≡ true → (x ≡ true) × (y ≡ true)
+both_true true y e = (refl, e)
+both_true false y e = absurd cc
+
+-- one part of a test
+either_true : (x y : Bool) → (x || y) ≡ true → (x ≡ true) ⊎ (y ≡ true)
+either_true true y e = inl refl
+either_true false y e = inr e
+
+-- what was taken before is no later
+sooner : (at t : ℕ) (more : Bool) → (nat_lt at t || (at == t && more)) ≡ true → at ≤ t
+sooner at t more e = elim (either_true (nat_lt at t) (at == t && more) e) [
+  | inl lt ↦ (let less = ltb-true at t lt in omega (arith, less))
+  | inr same ↦ (let equal = eqb-true at t (both_true (at == t) more same).0 in omega (arith, equal))
+]
+
+-- the id of a device
+pub one_device : (d e : DeviceId) → (d.0 == e.0) ≡ true → e ≡ d
+one_device d e same = ap (λ (n : ℕ). let x : DeviceId = record { 0 = n } in x) (sym (eqb-true d.0 e.0 same))
+
+-- the id of a virtual link
+pub one_vl : (d e : VlId) → (d.0 == e.0) ≡ true → e ≡ d
+one_vl d e same = ap (λ (n : ℕ). let x : VlId = record { 0 = n } in x) (sym (eqb-true d.0 e.0 same))
+
+-- what passes the test is such a record
+pub says_so : (device : DeviceId) (vl : VlId) (cycle t : ℕ) (link : LinkId) (cause : ℕ) (g : Happening) (body : NoteBody) → g.note.body ≡ body
+    → is_taken_before device vl t link cause (time_of g) body ≡ true → taken_cycle body ≡ Some cycle → SaysSo device vl cycle t g
+says_so device vl cycle t link cause g (notes.Accepted other by from of_vl number) same test cycles =
+    let outer = both_true (device.0 == other.0 && vl.0 == of_vl.0) (nat_lt (time_of g) t || (time_of g == t && comes_before by from link cause)) test in
+    let inner = both_true (device.0 == other.0) (vl.0 == of_vl.0) outer.0 in
+    let number_is : number ≡ cycle = cc in
+    record {
+      link = by;
+      cause = from;
+      says =
+          inl (same ∙ ap (λ (d : DeviceId). notes.Accepted d by from of_vl number) (one_device device other inner.0)
+          ∙ ap (λ (x : VlId). notes.Accepted device by from x number) (one_vl vl of_vl inner.1) ∙ ap (λ (c : ℕ). notes.Accepted device by from vl c) number_is);
+      by_then = sooner (time_of g) t (comes_before by from link cause) outer.1;
+    }
+says_so device vl cycle t link cause g (notes.Delivered other by from of_vl number) same test cycles =
+    let outer = both_true (device.0 == other.0 && vl.0 == of_vl.0) (nat_lt (time_of g) t || (time_of g == t && comes_before by from link cause)) test in
+    let inner = both_true (device.0 == other.0) (vl.0 == of_vl.0) outer.0 in
+    let number_is : number ≡ cycle = cc in
+    record {
+      link = by;
+      cause = from;
+      says =
+          inr (same ∙ ap (λ (d : DeviceId). notes.Delivered d by from of_vl number) (one_device device other inner.0)
+          ∙ ap (λ (x : VlId). notes.Delivered device by from x number) (one_vl vl of_vl inner.1) ∙ ap (λ (c : ℕ). notes.Delivered device by from vl c)
+          number_is);
+      by_then = sooner (time_of g) t (comes_before by from link cause) outer.1;
+    }
+says_so device vl cycle t link cause g body same test cycles = absurd cc
+
+-- where the last frame was taken in the cycle, there is its record
+taken_before : (hs : List Happening) (device : DeviceId) (t : ℕ) (link : LinkId) (cause : ℕ) (vl : VlId) (cycle : ℕ)
+    → is_taken_in cycle (last_taken hs device t link cause vl) ≡ true → (g : Happening) × IsIn g hs × SaysSo device vl cycle t g
+taken_before hs device t link cause vl cycle e =
+    by (last_or None (filter (λ h. is_taken_before device vl t link cause (time_of h) h.note.body) hs)) refl e
+  where
+    in_cycle : (o : Option ℕ) → is_taken_in cycle o ≡ true → o ≡ Some cycle
+    in_cycle None e = absurd cc
+    in_cycle (Some c) e = ap (λ (n : ℕ). Some n) (eqb-true c cycle e)
+
+    by : (o : Option Happening) → last_or None (filter (λ h. is_taken_before device vl t link cause (time_of h) h.note.body) hs) ≡ o
+        → is_taken_in cycle (option_and_then (λ h. taken_cycle h.note.body) o) ≡ true → (g : Happening) × IsIn g hs × SaysSo device vl cycle t g
+    by None last e = absurd cc
+    by (Some g) last e =
+        elim (last_in None (filter (λ h. is_taken_before device vl t link cause (time_of h) h.note.body) hs) g last) [
+          | inl none ↦ absurd cc
+          | inr i ↦
+              let test = passes (λ (h : Happening). is_taken_before device vl t link cause (time_of h) h.note.body) hs g i in (
+                g,
+                in_filter (λ h. is_taken_before device vl t link cause (time_of h) h.note.body) hs g i,
+                says_so device vl cycle t link cause g g.note.body
+                    refl test (in_cycle (taken_cycle g.note.body) e),
+              )
+        ]
+
+-- ---- the frame that comes
+
+-- what a device without a fault makes of the octets, by whether it took such a frame before
+judged : (network : Network) (device : DeviceId) (link : LinkId) (at : Standpoint) (octets : List ℕ) (last : VlId → Option ℕ) (entry : Entry)
+    → octets_fault network at octets ≡ None → entry_entering network device link (field 4 2 octets) ≡ Some entry
+    → row_fault network at entry (length octets) (last entry.row.vl) ≡ None → timed_arrival network device link at octets last ≡ taken_by network device
+    entry.row.vl (cycle_at network (clock_of at))
+judged network device link at octets last entry sound found fits =
+    ap (octets_or_fault network device link at octets last) sound
+    ∙ ap (entry_arrival network device at (length octets) last) found
+    ∙ ap (taken_or_fault network device at entry) fits
+
+-- the record with a body at a time that comes next
+abbrev pub next_note : List Happening → ℕ → NoteBody → Note
+next_note ps t body = record { number = length ps + 1; time = units_of t; body = body }
+
+-- where it has a cause it is due
+pub next_due : (s : Scenario) (ps : List Happening) (t : ℕ) (body : NoteBody) → IsCaused s ps (units_of t) body
+    → IsDue s ps (happening s.network ps (next_note ps t body))
+next_due s ps t body cause = record { number = refl; same = refl; begun = omega (arith, ints); cause = cause }
+
+-- a record of an earlier time is among those before a place
+found_before : (s : Scenario) (hs : List Happening) (t : ℕ) (more : List ℕ) (at : IsSplit place_of hs (t ∷ more)) (h : Happening)
+    → IsFounded place_of (IsDue s) hs → IsIn h hs → time_of h < t → numbered at.front h.note.number ≡ Some h
+found_before s hs t more at h founded i less =
+    let front = front_founded place_of (IsDue s) at.front at.rest (subst (IsFounded place_of (IsDue s)) at.whole founded) in
+    by_number s at.front h front (in_front_of place_of hs (t ∷ more) at h i (inl less))
+
+-- a device that is not turned on, and that the records leave synchronised, takes part
+pub state_is : (b : Bool) (state : State) → b ≡ false → state ≡ Synchronised → (if b then Integrating else state) ≡ Synchronised
+state_is true state off e = absurd cc
+state_is false state off e = e
+
+-- a synchronised device that is not broken takes part
+takes_part : (state : State) (broken : Bool) → state ≡ Synchronised → broken ≡ false → (not (is_off state) && not broken) ≡ true
+takes_part state broken e f = rw (e, f) refl
+
+-- the test of the state
+synchronised_test : (state : State) → state ≡ Synchronised → is_synchronised state ≡ true
+synchronised_test state e = rw e refl
+
+-- a dispatch is on its way to the device that its row enters
+comes_to : (v : View) (h : Happening) (device receiver : DeviceId) (link : LinkId) (cause : ℕ) (vl : VlId) (cycle : ℕ) → IsView v
+    → (d : IsRowDispatch v h device link cause vl cycle) → target_of d.entry ≡ receiver
+    → Arrives v.scenario h receiver link (arrives_at v h link d.entry.row.way d.entry) (timed h.octets)
+comes_to v h device receiver link cause vl cycle is d enters =
+    let s = v.scenario in
+    let n = s.network in
+    let at : link_at n link ≡ Some d.entry.link = subst (λ (x : LinkId). link_at n x ≡ Some d.entry.link) d.by d.row.link in
+    let way : way_from n device link ≡ d.entry.row.way = sends_on n link d.entry.link d.entry.row.way device is.lawful.rules at d.leaves in
+    let port = on_port v d.place d.entry link h.octets d.row d.by (dispatches_are_whole v h device link cause vl cycle is d) in
+    record {
+      way = d.entry.row.way;
+      put = ap (launched s h (time_of h)) d.is ∙ ap (λ (w : Way). Some (put_on link w (timed h.octets))) way;
+      receiver = ap (λ (o : Option Link). option_map (target_by d.entry.row.way) o) at ∙ ap (λ (x : DeviceId). Some x) enters;
+      at = omega (arith, port);
+    }
+
+-- what becomes of it, by records that have those of earlier times
+taken_so : BringsBlocks → BringsChannels → (v : View) (h : Happening) (device receiver : DeviceId) (link : LinkId) (cause : ℕ) (vl : VlId) (cycle : ℕ)
+    → IsView v → FieldsFit v.scenario.network → IsGood v device → IsGood v receiver
+    → (d : IsRowDispatch v h device link cause vl cycle) → h.octets ≡ tt_frame_by v.scenario.network d.entry.vl cycle → target_of d.entry ≡ receiver
+    → arrives_at v h link d.entry.row.way d.entry ≤ v.until → IsTimedAt v receiver (arrives_at v h link d.entry.row.way d.entry)
+    → is_turned_on_at v.scenario receiver (arrives_at v h link d.entry.row.way d.entry) ≡ false
+    → (ps : List Happening) → earlier (arrives_at v h link d.entry.row.way d.entry) ps ≡ earlier (arrives_at v h link d.entry.row.way d.entry) v.records
+    → (last : VlId → Option ℕ) → is_taken_in cycle (last vl) ≡ false
+    → timed_arrival v.scenario.network receiver link (standpoint v.scenario ps receiver (arrives_at v h link d.entry.row.way d.entry)) h.octets last ≡ taken_by
+    v.scenario.network receiver vl cycle
+taken_so brings channels v h device receiver link cause vl cycle is fit good fine d whole enters in_run up off ps same last anew =
+    let s = v.scenario in
+    let n = s.network in
+    let entry = d.entry in
+    let t = arrives_at v h link entry.row.way entry in
+    let at = standpoint s ps receiver t in
+    let left : state_after s (earlier t ps) receiver ≡ Synchronised = ap (λ (xs : List Happening). state_after s xs receiver) same ∙ up.synchronised in
+    let state : at.state ≡ Synchronised = state_is (is_turned_on_at s receiver t) (state_after s (earlier t ps) receiver) off left in
+    let part : at.takes_part ≡ true = takes_part at.state (is_broken s receiver t) state (channels.correct v receiver t fine in_run) in
+    let shown : clock_of at ≡ shown_at v receiver t = ap (λ (xs : List Happening). pos (s.reading receiver t) +ℤ (adjustment_after s xs receiver).0) same in
+    let shows = frame_shows n entry.vl cycle fit.marker (fit.ids entry.row.vl.0 entry.vl d.row.vl) (fit.types entry.row.vl.0 entry.vl d.row.vl) in
+    let range = in_range n d.place entry is.lawful.range d.row in
+    let type_is : field 12 2 h.octets ≡ entry.vl.ethertype = ap (field 12 2) whole ∙ shows.ethertype in
+    let marker_is : field 0 4 h.octets ≡ n.marker = ap (field 0 4) whole ∙ shows.marker in
+    let id_is : field 4 2 h.octets ≡ entry.vl.id = ap (field 4 2) whole ∙ shows.id in
+    let sound = octets_sound n at h.octets part (omega (arith, type_is, range.vl.ethertype_least)) (synchronised_test at.state state) marker_is in
+    let link_there : link_at n link ≡ Some entry.link = subst (λ (x : LinkId). link_at n x ≡ Some entry.link) d.by d.row.link in
+    let receives : receiver_of n link entry.row.way ≡ Some receiver = ap (λ (o : Option Link). option_map (target_by entry.row.way) o) link_there
+    ∙ ap (λ (x : DeviceId). Some x) enters in
+    let found : entry_entering n receiver link (field 4 2 h.octets) ≡ Some entry =
+    ap (entry_entering n receiver link) id_is ∙ enters_by n receiver link d.place entry is.lawful.rules d.row d.by
+    (way_is n link entry.row.way receiver is.lawful.rules receives) in
+    let arrives = frames_arrive_in_spans brings v h device link cause vl cycle entry.row.way is good d in_run in
+    let window = arrivals_are_in_windows v d.place cycle t entry receiver is d.row arrives up in
+    let cycle_at_t : cycle_at n (clock_of at) ≡ cycle = ap (cycle_at n) shown ∙ window.in_cycle in
+    let place_at_t : offset_in_cycle n (clock_of at) ≡ offset_in_cycle n (shown_at v receiver t) = ap (offset_in_cycle n) shown in
+    let times = rows_are_in_time v d.place entry is d.row in
+    let precision : v.sizes.precision ≡ amount n.precision = ap (λ (x : Sizes). x.precision) is.sizes in
+    let gamma : v.sizes.gamma ≡ gamma_of n = ap (λ (x : Sizes). x.gamma) is.sizes in
+    let space = room v is in
+    let fits = row_sound n at entry (length h.octets) (last entry.row.vl) (dispatches_are_whole v h device link cause vl cycle is d)
+    (subst (OccursIn entry.vl) (sym cycle_at_t) d.occurs)
+    (omega (arith, ints, place_at_t, window.not_before, precision, gamma, space.eight_errors))
+    (omega (arith, ints, place_at_t, window.not_behind, times.tolerates, space.eight_errors))
+    (ap (λ (c : ℕ). is_taken_in c (last entry.row.vl)) cycle_at_t ∙ ap (λ (x : VlId). is_taken_in cycle (last x)) d.of_vl ∙ anew) in
+    judged n receiver link at h.octets last entry sound found fits
+    ∙ ap (λ (x : VlId). taken_by n receiver x (cycle_at n (clock_of at))) d.of_vl
+    ∙ ap (taken_by n receiver vl) cycle_at_t
+
+-- the frame is later than its dispatch
+later_than : (v : View) (h : Happening) (device : DeviceId) (link : LinkId) (cause : ℕ) (vl : VlId) (cycle : ℕ) → IsView v
+    → (d : IsRowDispatch v h device link cause vl cycle) → time_of h < arrives_at v h link d.entry.row.way d.entry
+later_than v h device link cause vl cycle is d =
+    let n = v.scenario.network in
+    let range = in_range n d.place d.entry is.lawful.range d.row in
+    let at : link_at n link ≡ Some d.entry.link = subst (λ (x : LinkId). link_at n x ≡ Some d.entry.link) d.by d.row.link in
+    let delay = delay_lies v.scenario link d.entry.link d.entry.row.way (time_of h) is.lawful at range.link.wire.least range.link.jitter.least in
+    omega (arith, ints, delay.0, range.link.wire.least)
+
+pub arrivals_are_taken : BringsBlocks → BringsChannels → ArrivalsAreTaken
+arrivals_are_taken brings channels v h device receiver link cause vl cycle is fit good fine d whole enters in_run up off =
+    by (is_end v.scenario.network receiver) refl
+  where
+    repeated : (front rest : List Happening) → v.records ≡ front ++ rest
+        → is_taken_in cycle (last_taken front receiver (arrives_at v h link d.entry.row.way d.entry) link h.note.number vl) ≡ true
+        → HasTaken v receiver vl cycle (arrives_at v h link d.entry.row.way d.entry)
+    repeated front rest split e =
+        let g = taken_before front receiver (arrives_at v h link d.entry.row.way d.entry) link h.note.number vl cycle e in
+        record {
+          taking = g.0;
+          there = subst (IsIn g.0) (sym split) (in_left g.0 front rest g.1);
+          by_then = g.2.by_then;
+          link = g.2.link;
+          cause = g.2.cause;
+          says = g.2.says;
+        }
+
+    arrives_as : (ps : List Happening) (a : Arrival) → numbered ps h.note.number ≡ Some h
+        → arrival_of v.scenario ps receiver (arrives_at v h link d.entry.row.way d.entry) link h.note.number (timed h.octets) ≡ a
+        → ArrivesAs v.scenario ps receiver (arrives_at v h link d.entry.row.way d.entry) link h.note.number a
+    arrives_as ps a found e = record {
+      putting = h;
+      there = found;
+      signal = timed h.octets;
+      arrives = comes_to v h device receiver link cause vl cycle is d
+          enters;
+      becomes = sym e;
+    }
+
+    by : (b : Bool) → is_end v.scenario.network receiver ≡ b → HasTaken v receiver vl cycle (arrives_at v h link d.entry.row.way d.entry)
+    by false end =
+        let s = v.scenario in
+        let t = arrives_at v h link d.entry.row.way d.entry in
+        let at = split place_of (IsDue s) v.records (t ∷ 11 ∷ receiver.0 ∷ link.0 ∷ h.note.number ∷ []) is.run.founded in
+        let found = found_before s v.records t _ at h is.run.founded d.there (later_than v h device link cause vl cycle is d) in
+        elim (is_taken_in cycle (last_taken at.front receiver t link h.note.number vl)) as
+        (λ b. is_taken_in cycle (last_taken at.front receiver t link h.note.number vl) ≡ b → HasTaken v receiver vl cycle t) [
+          | true ↦ λ again. repeated at.front at.rest at.whole again
+          | false ↦ λ anew.
+              let judgement = taken_so brings channels v h device receiver link cause vl cycle is fit good fine d whole enters in_run up off at.front
+              (same_earlier t _ v.records at) (last_taken at.front receiver t link h.note.number) anew in
+              let kind : taken_by s.network receiver vl cycle ≡ arrivals.Accepted vl cycle = ap (λ (x : Bool). if x then arrivals.Delivered vl cycle
+              else arrivals.Accepted vl cycle) end in
+              let body = notes.Accepted receiver link h.note.number vl cycle in
+              let taking = happening s.network at.front (next_note at.front t body) in
+              record {
+                taking = taking;
+                there =
+                    due_is_there s ((v.until + 1) ∷ []) v.records taking at is.run
+                    (next_due s at.front t body (arrives_as at.front (arrivals.Accepted vl cycle) found (judgement ∙ kind))) (inl (omega (arith, in_run)));
+                by_then = omega arith;
+                link = link;
+                cause = h.note.number;
+                says = inl refl;
+              }
+        ] refl
+    by true end =
+        let s = v.scenario in
+        let t = arrives_at v h link d.entry.row.way d.entry in
+        let at = split place_of (IsDue s) v.records (t ∷ 12 ∷ receiver.0 ∷ link.0 ∷ h.note.number ∷ []) is.run.founded in
+        let found = found_before s v.records t _ at h is.run.founded d.there (later_than v h device link cause vl cycle is d) in
+        elim (is_taken_in cycle (last_taken at.front receiver t link h.note.number vl)) as
+        (λ b. is_taken_in cycle (last_taken at.front receiver t link h.note.number vl) ≡ b → HasTaken v receiver vl cycle t) [
+          | true ↦ λ again. repeated at.front at.rest at.whole again
+          | false ↦ λ anew.
+              let judgement = taken_so brings channels v h device receiver link cause vl cycle is fit good fine d whole enters in_run up off at.front
+              (same_earlier t _ v.records at) (last_taken at.front receiver t link h.note.number) anew in
+              let kind : taken_by s.network receiver vl cycle ≡ arrivals.Delivered vl cycle = ap (λ (x : Bool). if x then arrivals.Delivered vl cycle
+              else arrivals.Accepted vl cycle) end in
+              let body = notes.Delivered receiver link h.note.number vl cycle in
+              let taking = happening s.network at.front (next_note at.front t body) in
+              record {
+                taking = taking;
+                there =
+                    due_is_there s ((v.until + 1) ∷ []) v.records taking at is.run
+                    (next_due s at.front t body (arrives_as at.front (arrivals.Delivered vl cycle) found (judgement ∙ kind))) (inl (omega (arith, in_run)));
+                by_then = omega arith;
+                link = link;
+                cause = h.note.number;
+                says = inr refl;
+              }
+        ] refl

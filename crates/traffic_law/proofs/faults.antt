@@ -1,0 +1,6 @@
+-- What the fault hypothesis leaves of channels, switches and senders.
+pub mod TurnedOn
+pub mod Senders
+pub mod Firm
+pub mod Ways
+pub mod Channels

@@ -1,0 +1,130 @@
+-- The switches of the sound channel are synchronised when the span of a cycle begins.
+use Rattle.std.proofs.Common.{◌≡◌, ℕ, zero, suc, ◌<◌, ◌≤◌, Bool, true, false, List, [], ◌∷◌, fold, Option, Some, None, inl, inr, refl, sym, ap, subst, ◌∙◌, arith}
+use Rattle.std.proofs.lemmas.Bool.{both_ways, le-ltb}
+use Rattle.std.proofs.lemmas.List.Sums.{fold-append}
+use Rattle.std.specs.Prelude.{◌==◌, nat_lt, if◌then◌else◌, IsSomeAnd, IsNone, option_and_then}
+use Rattle.net_plan.specs.Places.{device_at}
+use Rattle.net_plan.specs.declared.event.What.TheVariants.{On}
+use Rattle.net_plan.specs.declared.ids.DeviceId.{DeviceId}
+use Rattle.net_plan.specs.declared.network.Network.{Network}
+use Rattle.net_plan.specs.declared.tables.Device.{Device}
+use Rattle.precision_law.proofs.clocks.Epochs.{same_device}
+use Rattle.precision_law.proofs.records.Times.{between, earlier_parts, in_between}
+use Rattle.precision_law.proofs.records.Views.{in_order}
+use Rattle.precision_law.specs.Blocks.{NoneLost, state_left}
+use Rattle.precision_law.specs.Epochs.{has_time}
+use Rattle.precision_law.specs.Views.{IsFirm, IsView, View}
+use Rattle.run_law.proofs.law.FirstPlaces.{IsFoundedAt, founded_at, none_kept, numbered_in}
+use Rattle.run_law.proofs.runs.Places.{in_left}
+use Rattle.run_law.specs.declared.judgement.Judgement.TheVariants.{Integrates}
+use Rattle.run_law.specs.declared.judgement.Why.TheVariants as whys
+use Rattle.run_law.specs.declared.judgement.Why.{Why}
+use Rattle.run_law.specs.declared.note.NoteBody.TheVariants as notes
+use Rattle.run_law.specs.declared.note.NoteBody.{NoteBody}
+use Rattle.run_law.specs.device.StateChanges.{ChangesState}
+use Rattle.run_law.specs.device.States.{is_joined_by, state_after, state_with}
+use Rattle.run_law.specs.records.Happenings.{Happening, earlier, time_of}
+use Rattle.run_law.specs.records.Order.{IsIn}
+use Rattle.run_law.specs.runs.DueRecords.{IsCaused}
+use Rattle.run_law.specs.scenario.Devices.{start_of}
+use Rattle.run_law.specs.scenario.Faults.{BeginsOn}
+use Rattle.run_law.specs.scenario.Scenarios.{is_turned_on_at}
+use Rattle.sync_state.specs.Standing.{state_at_start}
+use Rattle.sync_state.specs.declared.state.State.TheVariants.{Synchronised}
+use Rattle.sync_state.specs.declared.state.State.{State}
+use Rattle.traffic_law.proofs.spans.Forward.{no_joining, turned_on_by}
+use Rattle.traffic_law.specs.Bringing.{BringsChannels}
+use Rattle.traffic_law.specs.Delivered.{SoundSwitchesKeepTime}
+use Rattle.traffic_law.specs.Senders.{TimedAreNotTurnedOn}
+use Rattle.tte_units.specs.declared.units.Units.{Units}
+
+-- what begins on begins synchronised
+starts_synchronised : (network : Network) (device : DeviceId) → BeginsOn network device → state_at_start (start_of network device) ≡ Synchronised
+starts_synchronised network device on = by (device_at network device) on
+  where
+    by_start : (o : Option Units) → (IsNone o → ⊥) → state_at_start o ≡ Synchronised
+    by_start None not = absurd (not refl)
+    by_start (Some start) not = refl
+
+    by : (o : Option Device) → IsSomeAnd o (λ d. IsNone d.start → ⊥) → state_at_start (option_and_then (λ d. d.start) o) ≡ Synchronised
+    by None on = absurd on
+    by (Some d) on = by_start d.start on
+
+-- a change of state leaves a firm device synchronised
+changes_to : (v : View) (device : DeviceId) (next : ℕ) (h : Happening) (state : State) (cause : ℕ) (why : Why) → IsView v → NoneLost v next → IsFirm v device
+    → IsIn h v.records → time_of h < next → state_left v device (time_of h) ≡ Synchronised → is_turned_on_at v.scenario device (time_of h) ≡ false
+    → h.note.body ≡ notes.State device state cause why → (found : IsFoundedAt v.scenario v.records h) → ChangesState v.scenario found.front device (time_of h)
+    state cause why → state ≡ Synchronised
+changes_to v device next h state cause whys.On is kept firm i lt timed not_on body found c =
+    let g = c.2.1 in
+    let j = numbered_in found.front cause g c.2.2.there in
+    let at = founded_at v.scenario found.front g found.founded j in
+    let caused : IsCaused v.scenario at.front g.note.time (notes.Event c.2.0 (On device)) = subst (IsCaused v.scenario at.front g.note.time) c.2.3 at.due.cause
+    in
+    let on = turned_on_by v.scenario g.note.time c.2.0 device caused in
+    absurd (both_ways _ not_on (ap (is_turned_on_at v.scenario device) (sym c.2.2.same_time) ∙ on))
+changes_to v device next h state cause whys.Frame is kept firm i lt timed not_on body found c =
+    let g = c.1.0 in
+    let j = numbered_in found.front cause g c.1.1.there in
+    let in_all : IsIn g v.records = subst (IsIn g) (sym found.whole) (in_left g found.front (h ∷ found.rest) j) in
+    let same = c.1.1.same_time in
+    absurd (both_ways _ (no_joining v device g is in_all (subst (λ (t : ℕ). state_left v device t ≡ Synchronised) (sym same) timed)
+    (subst (λ (t : ℕ). is_turned_on_at v.scenario device t ≡ false) (sym same) not_on)) c.1.2)
+changes_to v device next h state cause whys.Correction is kept firm i lt timed not_on body found c = c.0
+changes_to v device next h state cause whys.SyncClique is kept firm i lt timed not_on body found c =
+    absurd (kept h device state cause whys.SyncClique i lt body tt firm)
+changes_to v device next h state cause whys.AsyncClique is kept firm i lt timed not_on body found c =
+    absurd (kept h device state cause whys.AsyncClique i lt body tt firm)
+
+-- each record does
+leaves_by : (v : View) (device : DeviceId) (next : ℕ) (h : Happening) (body : NoteBody) → IsView v → NoneLost v next → IsFirm v device → IsIn h v.records
+    → time_of h < next → state_left v device (time_of h) ≡ Synchronised → is_turned_on_at v.scenario device (time_of h) ≡ false
+    → h.note.body ≡ body → is_joined_by device body ≡ false → state_with device Synchronised body ≡ Synchronised
+leaves_by v device next h (notes.State other state cause why) is kept firm i lt timed not_on body joined = by (device.0 == other.0) refl
+  where
+    by : (b : Bool) → (device.0 == other.0) ≡ b → (if b then state else Synchronised) ≡ Synchronised
+    by false e = refl
+    by true e =
+        let own : h.note.body ≡ notes.State device state cause why = body ∙ ap (λ (d : DeviceId). notes.State d state cause why) (same_device device other e) in
+        let found = founded_at v.scenario v.records h is.run.founded i in
+        let caused : ChangesState v.scenario found.front device (time_of h) state cause why = subst (IsCaused v.scenario found.front h.note.time) own
+        found.due.cause in
+        changes_to v device next h state cause why is kept firm i lt timed not_on own found caused
+leaves_by v device next h (notes.Permanent other link cause point Integrates) is kept firm i lt timed not_on body joined = rw joined refl
+leaves_by v device next h (notes.Compressed other opened at cycle members Integrates) is kept firm i lt timed not_on body joined = rw joined refl
+leaves_by v device next h body is kept firm i lt timed not_on same joined = refl
+
+-- so do all of them
+fold_leaves : (device : DeviceId) (hs : List Happening) → ((h : Happening) → IsIn h hs → state_with device Synchronised h.note.body ≡ Synchronised)
+    → (old : State) → old ≡ Synchronised → fold (λ state h. state_with device state h.note.body) old hs ≡ Synchronised
+fold_leaves device [] each old e = e
+fold_leaves device (h ∷ hs) each old e =
+    fold_leaves device hs (λ g i. each g (inr i)) (state_with device old h.note.body) (ap (λ (x : State). state_with device x h.note.body) e
+    ∙ each h (inl refl))
+
+-- a firm device that begins on is synchronised until it loses the time
+firm_up_to : TimedAreNotTurnedOn → (v : View) (device : DeviceId) (next t : ℕ) → IsView v → NoneLost v next → IsFirm v device
+    → BeginsOn v.scenario.network device → t ≤ next → state_left v device t ≡ Synchronised
+firm_up_to never v device next zero is kept firm on le =
+    let none : earlier 0 v.records ≡ [] = none_kept (λ h. nat_lt (time_of h) 0) v.records (λ h i. le-ltb (time_of h) 0 (omega arith)) in
+    ap (λ (xs : List Happening). state_after v.scenario xs device) none ∙ starts_synchronised v.scenario.network device on
+firm_up_to never v device next (suc t) is kept firm on le =
+    let timed = firm_up_to never v device next t is kept firm on (omega (arith, le)) in
+    let not_on = never v device t is (ap has_time timed) in
+    let hs = between t (suc t) v.records in
+    let parts = earlier_parts t (suc t) v.records (in_order v is) (omega arith) in
+    let each : (h : Happening) → IsIn h hs → state_with device Synchronised h.note.body ≡ Synchronised = λ h i.
+    let there = in_between t (suc t) v.records h i in
+    let same : time_of h ≡ t = omega (arith, there.1, there.2) in
+    let timed_h = subst (λ (u : ℕ). state_left v device u ≡ Synchronised) (sym same) timed in
+    let not_h = subst (λ (u : ℕ). is_turned_on_at v.scenario device u ≡ false) (sym same) not_on in
+    leaves_by v device next h h.note.body is kept firm there.0 (omega (arith, same, le)) timed_h not_h refl (no_joining v device h is there.0 timed_h not_h) in
+    let apart = fold-append (λ (state : State) (h : Happening). state_with device state h.note.body) (state_at_start (start_of v.scenario.network device))
+    (earlier t v.records) hs in
+    ap (λ (xs : List Happening). state_after v.scenario xs device) parts ∙ apart ∙ fold_leaves device hs each (state_left v device t) timed
+
+pub sound_switches_keep_time : BringsChannels → TimedAreNotTurnedOn → SoundSwitchesKeepTime
+sound_switches_keep_time channels never v n before device is switch = record {
+  good = channels.switches v v.channel device is switch;
+  synchronised = firm_up_to never v device before.next before.next is before.kept (inr switch) (channels.begin v device is switch) (omega arith);
+}

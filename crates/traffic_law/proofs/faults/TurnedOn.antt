@@ -1,0 +1,257 @@
+-- A device that has the common time is not turned on.
+use Rattle.std.proofs.Common.{◌≡◌, ℕ, zero, suc, ◌<◌, Bool, true, false, ◌&&◌, ◌||◌, List, [], ◌∷◌, ◌++◌, fold, Any, Option, Some, None, inl, inr, refl, sym, ap, subst, ◌∙◌, append_assoc, arith}
+use Rattle.std.proofs.lemmas.Bool.{both_ways, eqb-true, false_from_ne_true, le-ltb}
+use Rattle.std.proofs.lemmas.List.Sums.{fold-append}
+use Rattle.std.specs.List.{list_any}
+use Rattle.std.specs.Prelude.{◌==◌, nat_lt, if◌then◌else◌, IsSomeAnd, IsNone, option_and_then}
+use Rattle.net_plan.specs.Places.{device_at}
+use Rattle.net_plan.specs.declared.event.Event.{Event}
+use Rattle.net_plan.specs.declared.event.What.TheVariants as events
+use Rattle.net_plan.specs.declared.event.What.{What}
+use Rattle.net_plan.specs.declared.ids.DeviceId.{DeviceId}
+use Rattle.net_plan.specs.declared.network.Network.{Network}
+use Rattle.net_plan.specs.declared.tables.Device.{Device}
+use Rattle.precision_law.proofs.clocks.Epochs.{same_device}
+use Rattle.precision_law.proofs.records.Points.{before_of, earlier_before}
+use Rattle.precision_law.proofs.records.Times.{between, earlier_parts, in_between}
+use Rattle.precision_law.proofs.records.Views.{in_order}
+use Rattle.precision_law.specs.Blocks.{state_left}
+use Rattle.precision_law.specs.Epochs.{has_time}
+use Rattle.precision_law.specs.Views.{IsView, View}
+use Rattle.run_law.proofs.law.FirstPlaces.{IsFoundedAt, founded_at, none_kept, numbered_in}
+use Rattle.run_law.proofs.runs.Places.{in_left, in_parts, in_right, parted}
+use Rattle.run_law.proofs.scenario.Decisions.{any_first, any_later}
+use Rattle.run_law.specs.declared.judgement.Judgement.TheVariants.{Integrates}
+use Rattle.run_law.specs.declared.judgement.Why.TheVariants as whys
+use Rattle.run_law.specs.declared.judgement.Why.{Why}
+use Rattle.run_law.specs.declared.note.NoteBody.TheVariants as notes
+use Rattle.run_law.specs.declared.note.NoteBody.{NoteBody}
+use Rattle.run_law.specs.declared.outside.Outside.TheVariants.{NotOff}
+use Rattle.run_law.specs.device.StateChanges.{ChangesState}
+use Rattle.run_law.specs.device.States.{is_joined_by, state_after, state_before, state_with}
+use Rattle.run_law.specs.law.FirstLaws.{IsLawful}
+use Rattle.run_law.specs.records.Happenings.{Happening, earlier, time_of}
+use Rattle.run_law.specs.records.Order.{IsIn}
+use Rattle.run_law.specs.runs.DueRecords.{IsCaused}
+use Rattle.run_law.specs.scenario.Devices.{start_of}
+use Rattle.run_law.specs.scenario.Faults.{BeginsOn, TurnsOn}
+use Rattle.run_law.specs.scenario.Scenarios.{Scenario, is_turned_on_at, turns_on}
+use Rattle.sync_state.specs.Standing.{point_in, state_at_start}
+use Rattle.sync_state.specs.declared.state.State.TheVariants.{Off, Integrating, Joining, Synchronised}
+use Rattle.sync_state.specs.declared.state.State.{State}
+use Rattle.traffic_law.proofs.spans.Forward.{joins_integrating, turned_on_by}
+use Rattle.traffic_law.specs.Senders.{TimedAreNotTurnedOn}
+use Rattle.tte_units.specs.Amount.{amount}
+use Rattle.tte_units.specs.declared.units.Units.{Units}
+
+-- ---- events that turn devices on
+
+-- where some passes, it is in the list
+any_in : {X : Type 0} (p : X → Bool) (xs : List X) → list_any p xs ≡ true → (x : X) × IsIn x xs × (p x ≡ true)
+any_in p [] e = absurd cc
+any_in {X} p (x ∷ xs) e = either p x xs (p x) refl e (any_in p xs)
+  where
+    either : {X : Type 0} (p : X → Bool) (x : X) (xs : List X) (b : Bool) → p x ≡ b → (b || list_any p xs) ≡ true
+        → (list_any p xs ≡ true → (y : X) × IsIn y xs × (p y ≡ true)) → (y : X) × IsIn y (x ∷ xs) × (p y ≡ true)
+    either p x xs true at s back = (x, inl refl, at)
+    either p x xs false at s back = (let r = back s in (r.0, inr r.1, r.2))
+
+-- what is in a list is somewhere there
+to_any : {X : Type 0} (P : X → Type 0) (xs : List X) (x : X) → IsIn x xs → P x → Any P xs
+to_any P [] x i p = absurd i
+to_any P (y ∷ xs) x (inl same) p = any_first P y xs (subst P same p)
+to_any P (y ∷ xs) x (inr more) p = any_later P y xs (to_any P xs x more p)
+
+-- the event turns the device on at the time
+record TurnsOnAt (s : Scenario) (device : DeviceId) (t : ℕ) : Type 0 where
+  pub event : Event
+  pub there : IsIn event s.events
+  pub what : event.what ≡ events.On device
+  pub at : amount event.time ≡ t
+
+-- the test of such an event
+turns_it_on : (device : DeviceId) (what : What) → turns_on device what ≡ true → what ≡ events.On device
+turns_it_on device (events.On other) e = ap events.On (same_device device other e)
+turns_it_on device what e = absurd cc
+
+-- a device that is turned on has such an event
+turned_on_at : (s : Scenario) (device : DeviceId) (t : ℕ) → is_turned_on_at s device t ≡ true → TurnsOnAt s device t
+turned_on_at s device t e =
+    let found = any_in (λ (x : Event). turns_on device x.what && amount x.time == t) s.events e in
+    let parts = both_true (turns_on device found.0.what) (amount found.0.time == t) found.2 in
+    record { event = found.0; there = found.1; what = turns_it_on device found.0.what parts.0; at = eqb-true (amount found.0.time) t parts.1 }
+  where
+    both_true : (x y : Bool) → (x && y) ≡ true → (x ≡ true) × (y ≡ true)
+    both_true true y e = (refl, e)
+    both_true false y e = absurd cc
+
+-- of two events that turn a device on one is behind the other, which the hypothesis rules out
+on_again : (s : Scenario) (device : DeviceId) (before behind : List Event) (e f : Event) → IsLawful s → s.events ≡ before ++ f ∷ behind → IsIn e before
+    → e.what ≡ events.On device → f.what ≡ events.On device → ⊥
+on_again s device before behind e f lawful split i one two =
+    lawful.within before behind f split NotOff (record { device = device; what = two; known = inr (inl (to_any (TurnsOn device) before e i one)) })
+
+-- a device is turned on once
+on_once : (s : Scenario) (device : DeviceId) (t u : ℕ) → IsLawful s → t < u → TurnsOnAt s device t → TurnsOnAt s device u → ⊥
+on_once s device t u lawful lt one two =
+    let at = parted one.event s.events one.there in
+    elim (in_parts two.event at.0 (one.event ∷ at.1) (subst (IsIn two.event) at.2 two.there)) [
+      | inl l ↦ on_again s device at.0 at.1 two.event one.event lawful at.2 l two.what one.what
+      | inr (inl same) ↦ (let times : amount two.event.time ≡ amount one.event.time = ap (λ (x : Event). amount x.time) same in omega
+          (arith, times, one.at, two.at, lt))
+      | inr (inr later) ↦
+          let more = parted two.event at.1 later in
+          let whole : s.events ≡ (at.0 ++ one.event ∷ more.0) ++ two.event ∷ more.1 = at.2 ∙ ap (λ (xs : List Event). at.0 ++ one.event ∷ xs) more.2
+          ∙ sym (append_assoc at.0 (one.event ∷ more.0) (two.event ∷ more.1)) in
+          on_again s device (at.0 ++ one.event ∷ more.0) more.1 one.event two.event lawful whole (in_right one.event at.0 (one.event ∷ more.0) (inl refl))
+          one.what two.what
+    ]
+
+-- what is turned on did not begin on
+began_off : (s : Scenario) (device : DeviceId) (t : ℕ) → IsLawful s → TurnsOnAt s device t → BeginsOn s.network device → ⊥
+began_off s device t lawful on begins =
+    let at = parted on.event s.events on.there in
+    lawful.within at.0 at.1 on.event at.2 NotOff (record { device = device; what = on.what; known = inl begins })
+
+-- what does not begin on begins off
+starts_off : (network : Network) (device : DeviceId) → (BeginsOn network device → ⊥) → state_at_start (start_of network device) ≡ Off
+starts_off network device not = by (device_at network device) refl not
+  where
+    by : (o : Option Device) → device_at network device ≡ o → (IsSomeAnd o (λ d. IsNone d.start → ⊥) → ⊥)
+        → state_at_start (option_and_then (λ d. d.start) o) ≡ Off
+    by None e not = refl
+    by (Some d) e not = by_start d.start not
+      where
+        by_start : (o : Option Units) → ((IsNone o → ⊥) → ⊥) → state_at_start o ≡ Off
+        by_start None not = refl
+        by_start (Some start) not = absurd (not (λ none. cc))
+
+-- ---- a device that is off
+
+-- a device that is not turned on at a time, and off before it, is off when something comes
+off_before : (b : Bool) (state : State) → b ≡ false → state ≡ Off → (if b then Integrating else state) ≡ Off
+off_before true state not e = absurd cc
+off_before false state not e = e
+
+-- no frame tells it the time
+no_joining_off : (v : View) (device : DeviceId) (h : Happening) → IsView v → IsIn h v.records → state_left v device (time_of h) ≡ Off
+    → is_turned_on_at v.scenario device (time_of h) ≡ false → is_joined_by device h.note.body ≡ false
+no_joining_off v device h is i off not_on =
+    let s = v.scenario in
+    let found = founded_at s v.records h is.run.founded i in
+    let same = earlier_before v (time_of h) found.front (before_of v h is found) in
+    let left : state_after s (earlier (time_of h) found.front) device ≡ Off = ap (λ (xs : List Happening). state_after s xs device) same ∙ off in
+    false_from_ne_true (is_joined_by device h.note.body) (λ joined.
+    let was = joins_integrating s found.front h.note.time device h.note.body joined found.due.cause in
+    let is_off = off_before (is_turned_on_at s device (time_of h)) (state_after s (earlier (time_of h) found.front) device) not_on left in
+    apart _ is_off was)
+  where
+    apart : (state : State) → state ≡ Off → state ≡ Integrating → ⊥
+    apart state one two = cc
+
+-- its state does not change
+no_change_off : (v : View) (device : DeviceId) (h : Happening) (state : State) (cause : ℕ) (why : Why) → IsView v → IsIn h v.records
+    → state_left v device (time_of h) ≡ Off → is_turned_on_at v.scenario device (time_of h) ≡ false
+    → (found : IsFoundedAt v.scenario v.records h) → state_before v.scenario found.front device (time_of h) ≡ Off
+    → ChangesState v.scenario found.front device (time_of h) state cause why → ⊥
+no_change_off v device h state cause whys.On is i off not_on found before c =
+    let g = c.2.1 in
+    let j = numbered_in found.front cause g c.2.2.there in
+    let at = founded_at v.scenario found.front g found.founded j in
+    let caused : IsCaused v.scenario at.front g.note.time (notes.Event c.2.0 (events.On device)) = subst (IsCaused v.scenario at.front g.note.time) c.2.3
+    at.due.cause in
+    let on = turned_on_by v.scenario g.note.time c.2.0 device caused in
+    both_ways _ not_on (ap (is_turned_on_at v.scenario device) (sym c.2.2.same_time) ∙ on)
+no_change_off v device h state cause whys.Frame is i off not_on found before c =
+    let g = c.1.0 in
+    let j = numbered_in found.front cause g c.1.1.there in
+    let in_all : IsIn g v.records = subst (IsIn g) (sym found.whole) (in_left g found.front (h ∷ found.rest) j) in
+    let same = c.1.1.same_time in
+    both_ways _ (no_joining_off v device g is in_all (subst (λ (t : ℕ). state_left v device t ≡ Off) (sym same) off)
+    (subst (λ (t : ℕ). is_turned_on_at v.scenario device t ≡ false) (sym same) not_on)) c.1.2
+no_change_off v device h state cause whys.Correction is i off not_on found before c =
+    (let was = c.1 in apart (state_before v.scenario found.front device (time_of h)) before was)
+  where
+    apart : (state : State) → state ≡ Off → state ≡ Joining → ⊥
+    apart state one two = cc
+no_change_off v device h state cause whys.SyncClique is i off not_on found before c =
+    no_point (state_before v.scenario found.front device (time_of h)) _ _ before c.2.1.next
+  where
+    no_point : (state : State) (n cycle : ℕ) → state ≡ Off → point_in state n ≡ Some cycle → ⊥
+    no_point Off n cycle off e = cc
+    no_point Integrating n cycle off e = cc
+    no_point Joining n cycle off e = cc
+    no_point Synchronised n cycle off e = cc
+no_change_off v device h state cause whys.AsyncClique is i off not_on found before c =
+    no_point (state_before v.scenario found.front device (time_of h)) _ _ before c.2.1.next
+  where
+    no_point : (state : State) (n cycle : ℕ) → state ≡ Off → point_in state n ≡ Some cycle → ⊥
+    no_point Off n cycle off e = cc
+    no_point Integrating n cycle off e = cc
+    no_point Joining n cycle off e = cc
+    no_point Synchronised n cycle off e = cc
+
+-- no record of the instant turns it on
+stays_off_by : (v : View) (device : DeviceId) (h : Happening) (body : NoteBody) → IsView v → IsIn h v.records → state_left v device (time_of h) ≡ Off
+    → is_turned_on_at v.scenario device (time_of h) ≡ false → h.note.body ≡ body → is_joined_by device body ≡ false → state_with device Off body ≡ Off
+stays_off_by v device h (notes.State other state cause why) is i off not_on body joined = by (device.0 == other.0) refl
+  where
+    by : (b : Bool) → (device.0 == other.0) ≡ b → (if b then state else Off) ≡ Off
+    by false e = refl
+    by true e =
+        let s = v.scenario in
+        let found = founded_at s v.records h is.run.founded i in
+        let same = earlier_before v (time_of h) found.front (before_of v h is found) in
+        let left : state_after s (earlier (time_of h) found.front) device ≡ Off = ap (λ (xs : List Happening). state_after s xs device) same ∙ off in
+        let before = off_before (is_turned_on_at s device (time_of h)) (state_after s (earlier (time_of h) found.front) device) not_on left in
+        let caused : ChangesState s found.front other (time_of h) state cause why = subst (IsCaused s found.front h.note.time) body found.due.cause in
+        let own = subst (λ (d : DeviceId). ChangesState s found.front d (time_of h) state cause why) (same_device device other e) caused in
+        absurd (no_change_off v device h state cause why is i off not_on found before own)
+stays_off_by v device h (notes.Permanent other link cause point Integrates) is i off not_on body joined = rw joined refl
+stays_off_by v device h (notes.Compressed other opened at cycle members Integrates) is i off not_on body joined = rw joined refl
+stays_off_by v device h body is i off not_on same joined = refl
+
+-- so do all of them
+fold_off : (device : DeviceId) (hs : List Happening) → ((h : Happening) → IsIn h hs → state_with device Off h.note.body ≡ Off) → (old : State) → old ≡ Off
+    → fold (λ state h. state_with device state h.note.body) old hs ≡ Off
+fold_off device [] each old e = e
+fold_off device (h ∷ hs) each old e =
+    fold_off device hs (λ g i. each g (inr i)) (state_with device old h.note.body) (ap (λ (x : State). state_with device x h.note.body) e ∙ each h (inl refl))
+
+-- up to its being turned on a device that began off is off
+off_up_to : (v : View) (device : DeviceId) (t : ℕ) → IsView v → (BeginsOn v.scenario.network device → ⊥)
+    → ((x : ℕ) → x < t → is_turned_on_at v.scenario device x ≡ false) → state_left v device t ≡ Off
+off_up_to v device zero is began not_on =
+    let none : earlier 0 v.records ≡ [] = none_kept (λ h. nat_lt (time_of h) 0) v.records (λ h i. le-ltb (time_of h) 0 (omega arith)) in
+    ap (λ (xs : List Happening). state_after v.scenario xs device) none ∙ starts_off v.scenario.network device began
+off_up_to v device (suc t) is began not_on =
+    let off = off_up_to v device t is began (λ x lt. not_on x (omega (arith, lt))) in
+    let here = not_on t (omega arith) in
+    let hs = between t (suc t) v.records in
+    let parts = earlier_parts t (suc t) v.records (in_order v is) (omega arith) in
+    let each : (h : Happening) → IsIn h hs → state_with device Off h.note.body ≡ Off = λ h i.
+    let there = in_between t (suc t) v.records h i in
+    let same : time_of h ≡ t = omega (arith, there.1, there.2) in
+    let off_h = subst (λ (u : ℕ). state_left v device u ≡ Off) (sym same) off in
+    let not_h = subst (λ (u : ℕ). is_turned_on_at v.scenario device u ≡ false) (sym same) here in
+    stays_off_by v device h h.note.body is there.0 off_h not_h refl (no_joining_off v device h is there.0 off_h not_h) in
+    let apart = fold-append (λ (state : State) (h : Happening). state_with device state h.note.body) (state_at_start (start_of v.scenario.network device))
+    (earlier t v.records) hs in
+    ap (λ (xs : List Happening). state_after v.scenario xs device) parts ∙ apart ∙ fold_off device hs each (state_left v device t) off
+
+-- ---- the law
+
+pub timed_are_not_turned_on : TimedAreNotTurnedOn
+timed_are_not_turned_on v device t is timed =
+    let s = v.scenario in
+    false_from_ne_true (is_turned_on_at s device t) (λ on.
+    let here = turned_on_at s device t on in
+    let off = off_up_to v device t is (began_off s device t is.lawful here) (λ x lt.
+    false_from_ne_true (is_turned_on_at s device x) (λ before. on_once s device x t is.lawful lt (turned_on_at s device x before) here)) in
+    apart (state_left v device t) off timed)
+  where
+    apart : (state : State) → state ≡ Off → has_time state ≡ true → ⊥
+    apart Off off e = cc
+    apart Integrating off e = cc
+    apart Joining off e = cc
+    apart Synchronised off e = cc

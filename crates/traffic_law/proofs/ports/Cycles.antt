@@ -1,0 +1,45 @@
+-- What two instants of the blocks of a run have in common.
+use Rattle.std.proofs.Common.{◌≡◌, ℕ, zero, suc, ◌<◌, pos, ◌+ℤ◌, ◌≤ℤ◌, Some, inl, inr, ap, subst, arith}
+use Rattle.std.proofs.lemmas.Bool.{cases_lt}
+use Rattle.std.proofs.lemmas.Int.{ints}
+use Rattle.precision_law.proofs.block.Hulls.{has_before}
+use Rattle.precision_law.proofs.records.Points.{within_run}
+use Rattle.precision_law.proofs.records.Views.{room}
+use Rattle.precision_law.specs.Blocks.{Stands}
+use Rattle.precision_law.specs.Hulls.{Hull, IsOverBefore, hull_of, last_correction}
+use Rattle.precision_law.specs.Views.{IsView, View}
+use Rattle.run_law.proofs.runs.SameSteps.{same_some}
+
+-- the block of a cycle ends at one time
+pub same_end : (v : View) (n a b : ℕ) → IsOverBefore v n a → IsOverBefore v n b → a ≡ b
+same_end v zero a b one two = omega (arith, one, two)
+same_end v (suc n) a b one two =
+    let same : one.0 ≡ two.0 = same_some (hull_of v n) one.0 two.0 one.1 two.1 in
+    let end : last_correction v.sizes one.0 ≡ last_correction v.sizes two.0 = ap (last_correction v.sizes) same in
+    omega (arith, ints, one.2, two.2, end)
+
+-- a cycle has one hull
+pub same_hull : (v : View) (n : ℕ) (one two : Stands v n) → one.hull ≡ two.hull
+same_hull v n one two = same_some (hull_of v n) one.hull two.hull one.is_hull two.is_hull
+
+-- and its span one beginning
+pub same_next : (v : View) (n : ℕ) (one two : Stands v n) → one.next ≡ two.next
+same_next v n one two = same_end v n one.next two.next one.is_over two.is_over
+
+-- the hulls of later cycles are later by a cycle, but for an error
+pub hulls_grow : (v : View) (n m : ℕ) (a b : Hull) → IsView v → n < m → hull_of v n ≡ Some a → hull_of v m ≡ Some b
+    → (a.least +ℤ pos v.sizes.cycle) ≤ℤ (b.least +ℤ pos v.sizes.reach)
+hulls_grow v n zero a b is lt one two = absurd (omega (arith, lt))
+hulls_grow v n (suc m) a b is lt one two =
+    let has = has_before v m b (within_run v is) two in
+    let space = room v is in
+    elim (cases_lt n m) [
+      | inl less ↦
+          let more = hulls_grow v n m a has.before is less one has.is_before in
+          omega (arith, ints, more, has.follows.least, space.many_errors)
+      | inr ge ↦
+          let same : n ≡ m = omega (arith, lt, ge) in
+          let equal : a ≡ has.before = same_some (hull_of v m) a has.before (subst (λ (k : ℕ). hull_of v k ≡ Some a) same one) has.is_before in
+          let least : a.least ≡ has.before.least = ap (λ (h : Hull). h.least) equal in
+          omega (arith, ints, least, has.follows.least)
+    ]

@@ -1,0 +1,76 @@
+-- The two ends of a link, and the ways on which a device sends by it.
+use Rattle.std.proofs.Common.{◌≡◌, ◌≢◌, ◌⊎◌, ℕ, List, [], ◌∷◌, Option, Some, None, IsSomeAnd, true, inr, refl, sym, ap, subst, ◌∙◌}
+use Rattle.net_plan.proofs.Shape.{rules_give_trees}
+use Rattle.net_plan.specs.Paths.{IsPath, IsTree, IsUplink}
+use Rattle.net_plan.specs.Places.{device_at, link_at, is_end_system, IsDeviceOf, IsSwitchOf}
+use Rattle.net_plan.specs.declared.ids.DeviceId.{DeviceId}
+use Rattle.net_plan.specs.declared.ids.LinkId.{LinkId}
+use Rattle.net_plan.specs.declared.network.Network.{Network}
+use Rattle.net_plan.specs.declared.tables.Device.{Device}
+use Rattle.net_plan.specs.declared.tables.Link.{Link}
+use Rattle.net_plan.specs.declared.tables.Way.TheVariants.{Up, Down}
+use Rattle.net_plan.specs.declared.tables.Way.{Way}
+use Rattle.pcf_values.specs.declared.channel.Channel.{Channel}
+use Rattle.run_law.proofs.runs.SameSteps.{same_some}
+use Rattle.schedule_tables.proofs.Margins.{shape_rules}
+use Rattle.schedule_tables.specs.Entries.{IsEntry, source_by, source_of}
+use Rattle.schedule_tables.specs.Rules.{KeepsRules}
+use Rattle.schedule_tables.specs.declared.entry.Entry.{Entry}
+use Rattle.schedule_tables.specs.declared.rule.Rule.TheVariants.{Joints}
+
+-- ---- what is there
+
+-- the value behind `IsSomeAnd`, and back
+pub opened : {X : Type 0} (P : X → Type 0) (o : Option X) → IsSomeAnd o P → (x : X) × (o ≡ Some x) × P x
+opened P None h = absurd h
+opened P (Some x) h = (x, refl, h)
+
+-- and back
+pub closed : {X : Type 0} (P : X → Type 0) (o : Option X) (x : X) → o ≡ Some x → P x → IsSomeAnd o P
+closed P o x e h = subst (λ (s : Option _). IsSomeAnd s P) (sym e) h
+
+-- ---- the ends of a link
+
+-- a device whose uplink leads to itself has no path
+no_path : (network : Network) (channel : Channel) (device : DeviceId) (link : LinkId) (l : Link) → IsTree network → link_at network link ≡ Some l
+    → l.parent ≡ device → IsUplink network channel device link → (links : List LinkId) → IsPath network channel device links → ⊥
+no_path network channel device link l tree at turns up [] path = tree.root channel device link path up
+no_path network channel device link l tree at turns up (k ∷ ks) path =
+    let first = opened (λ (x : Link). (x.child ≡ device) × IsSwitchOf network channel x.parent × IsPath network channel x.parent ks) (link_at network k) path in
+    let here : IsUplink network channel device k = closed (λ (x : Link). (x.child ≡ device) × IsSwitchOf network channel x.parent) (link_at network k) first.0
+    first.1 (first.2.0, first.2.1) in
+    let one = tree.one_uplink channel device k link here up in
+    let same : first.0 ≡ l = same_some (link_at network k) first.0 l first.1 (subst (λ (m : LinkId). link_at network m ≡ Some l) (sym one) at) in
+    let parent : first.0.parent ≡ device = ap (λ (x : Link). x.parent) same ∙ turns in
+    no_path network channel device link l tree at turns up ks (subst (λ (d : DeviceId). IsPath network channel d ks) parent first.2.2)
+
+-- the ends of a link are two devices
+pub ends_differ : (network : Network) (link : LinkId) (l : Link) → KeepsRules network → link_at network link ≡ Some l → l.child ≢ l.parent
+ends_differ network link l keeps at same =
+    let joint = keeps Joints link.0 l at in
+    let tree = rules_give_trees network (shape_rules network keeps) in
+    let up : IsUplink network joint.0 l.parent link = closed (λ (x : Link). (x.child ≡ l.parent) × IsSwitchOf network joint.0 x.parent) (link_at network link) l
+    at (same, joint.1) in
+    let switch = opened (λ (d : Device). d.channel ≡ Some joint.0) (device_at network l.parent) joint.1 in
+    let member : IsDeviceOf network joint.0 l.parent = closed (λ (d : Device). (is_end_system d.role ≡ true) ⊎ (d.channel ≡ Some joint.0))
+    (device_at network l.parent) switch.0 switch.1 (inr switch.2) in
+    let path = tree.reach joint.0 l.parent member in
+    no_path network joint.0 l.parent link l tree at refl up path.0 path.2
+
+-- ---- ways
+
+-- two ways of a link that leave one device are one
+one_way : (a b : Way) (l : Link) → l.child ≢ l.parent → source_by a l ≡ source_by b l → a ≡ b
+one_way Up Up l differ same = refl
+one_way Up Down l differ same = absurd (differ same)
+one_way Down Up l differ same = absurd (differ (sym same))
+one_way Down Down l differ same = refl
+
+-- two rows of one link that leave one device go on one way
+pub same_way : (network : Network) (place other : ℕ) (entry second : Entry) → KeepsRules network → IsEntry network place entry → IsEntry network other second
+    → entry.row.link ≡ second.row.link → source_of entry ≡ source_of second → entry.row.way ≡ second.row.way
+same_way network place other entry second keeps one two link source =
+    let same : entry.link ≡ second.link = same_some (link_at network entry.row.link) entry.link second.link one.link
+    (subst (λ (m : LinkId). link_at network m ≡ Some second.link) (sym link) two.link) in
+    one_way entry.row.way second.row.way entry.link (ends_differ network entry.row.link entry.link keeps one.link)
+    (source ∙ ap (λ (l : Link). source_by second.row.way l) (sym same))

@@ -1,0 +1,4 @@
+-- Rows, their periods and what their numbers leave.
+pub mod Rows
+pub mod Periods
+pub mod Values

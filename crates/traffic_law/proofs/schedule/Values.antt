@@ -1,0 +1,42 @@
+-- The cycle of a local value and its place in the cycle.
+use Rattle.std.proofs.Common.{◌≡◌, ℕ, ◌+◌, ◌-◌, ◌*◌, ◌<◌, ℤ, pos, negsuc, ◌≤ℤ◌, ◌<ℤ◌, unsigned_abs, refl, sym, ap, ◌∙◌, arith}
+use Rattle.std.proofs.lemmas.Int.{ints}
+use Rattle.std.proofs.lemmas.Nat.{div-mul-add, mod-mul-add}
+use Rattle.std.specs.Int.{int_div_euclid, int_rem_euclid}
+use Rattle.net_plan.specs.declared.network.Network.{Network}
+use Rattle.precision_law.specs.Views.{IsView, View}
+use Rattle.run_law.specs.device.Standpoints.{cycle_at, natural, offset_in_cycle}
+use Rattle.traffic_law.proofs.ports.Dispatched.{cycle_is}
+
+-- a number that is not negative
+pub not_negative : (z : ℤ) → pos 0 ≤ℤ z → z ≡ pos (unsigned_abs z)
+not_negative (pos n) up = refl
+not_negative (negsuc n) up = absurd (omega (arith, ints, up))
+
+-- the cycle of a network is not negative
+pub cycle_whole : (v : View) → IsView v → v.scenario.network.cycle.0 ≡ pos v.sizes.cycle
+cycle_whole v is =
+    let range = is.lawful.range.cycle in
+    not_negative v.scenario.network.cycle.0 (omega (arith, ints, range.least)) ∙ ap (λ (n : ℕ). pos n) (sym (cycle_is v is))
+
+-- a value so far in a cycle
+pub record IsSoFarIn (network : Network) (z : ℤ) (cycle place : ℕ) : Type 0 where
+  pub cycle_is : cycle_at network z ≡ cycle
+  pub place_is : offset_in_cycle network z ≡ pos place
+
+-- it is in the cycle, and there
+pub so_far_in : (network : Network) (length : ℕ) (z : ℤ) (cycle place : ℕ) → network.cycle.0 ≡ pos length → z ≡ pos (cycle * length + place) → place < length
+    → IsSoFarIn network z cycle place
+so_far_in network length z cycle place whole is less = record {
+  cycle_is =
+      ap (λ (y : ℤ). natural (int_div_euclid y network.cycle.0)) is ∙ ap (λ (y : ℤ). natural (int_div_euclid (pos (cycle * length + place)) y)) whole
+      ∙ div-mul-add cycle length place less;
+  place_is =
+      ap (λ (y : ℤ). int_rem_euclid y network.cycle.0) is ∙ ap (λ (y : ℤ). int_rem_euclid (pos (cycle * length + place)) y) whole
+      ∙ ap (λ (n : ℕ). pos n) (mod-mul-add cycle length place less);
+}
+
+-- a value between the ends of a cycle is so far in it
+pub so_far : (z : ℤ) (from length : ℕ) → pos from ≤ℤ z → z <ℤ pos (from + length) → (place : ℕ) × (z ≡ pos (from + place)) × (place < length)
+so_far (pos m) from length least most = (m - from, ap (λ (n : ℕ). pos n) (omega (arith, ints, least)), omega (arith, ints, least, most))
+so_far (negsuc m) from length least most = absurd (omega (arith, ints, least))

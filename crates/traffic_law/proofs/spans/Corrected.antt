@@ -1,0 +1,117 @@
+-- The clock of a synchronised device was last set by a correction.
+use Rattle.std.proofs.Common.{◌≡◌, ◌⊎◌, ℕ, Bool, true, false, List, [], ◌∷◌, ◌++◌, filter, Option, Some, inl, inr, refl, sym, ap, subst, ◌∙◌, append_assoc}
+use Rattle.std.proofs.lemmas.Bool.{both_ways, false_from_ne_true, le-ltb, lt-ltb, cases_lt}
+use Rattle.std.proofs.lemmas.List.{append-nil}
+use Rattle.std.proofs.lemmas.List.Elements.{filter-append}
+use Rattle.std.specs.List.{last_or}
+use Rattle.std.specs.Prelude.{nat_lt, if◌then◌else◌}
+use Rattle.net_plan.specs.declared.ids.DeviceId.{DeviceId}
+use Rattle.precision_law.proofs.clocks.Epochs.{same_device}
+use Rattle.precision_law.proofs.clocks.Joiners.{joiner_waits}
+use Rattle.precision_law.proofs.records.Cutting.{of_earlier}
+use Rattle.precision_law.proofs.records.Points.{setting_is}
+use Rattle.precision_law.proofs.records.Times.{all_kept}
+use Rattle.precision_law.specs.Blocks.{state_left}
+use Rattle.precision_law.specs.Epochs.{last_setting}
+use Rattle.precision_law.specs.Views.{IsView, View}
+use Rattle.run_law.proofs.law.FirstPlaces.{front_founded, in_filter, none_kept, split}
+use Rattle.run_law.proofs.runs.Lacking.{behind_first}
+use Rattle.run_law.specs.declared.note.NoteBody.TheVariants as notes
+use Rattle.run_law.specs.declared.note.NoteBody.{NoteBody}
+use Rattle.run_law.specs.device.LocalClocks.{changes_adjustment}
+use Rattle.run_law.specs.device.States.{is_joined_by, is_synchronised}
+use Rattle.run_law.specs.records.Happenings.{Happening, earlier, time_of}
+use Rattle.run_law.specs.records.Order.{IsBefore, IsIn}
+use Rattle.run_law.specs.records.Ranks.{place_of}
+use Rattle.run_law.specs.runs.DueRecords.{IsDue}
+use Rattle.run_law.specs.runs.Runs.{IsFounded}
+use Rattle.run_law.specs.scenario.Scenarios.{Scenario}
+use Rattle.sync_state.specs.declared.state.State.TheVariants.{Synchronised}
+use Rattle.tte_units.specs.declared.units.Units.{Units}
+
+-- ---- the earlier records
+
+-- the records of earlier times are founded
+pub earlier_founded : (v : View) (t : ℕ) → IsView v → IsFounded place_of (IsDue v.scenario) (earlier t v.records)
+earlier_founded v t is =
+    let at = split place_of (IsDue v.scenario) v.records (t ∷ []) is.run.founded in
+    let none : earlier t at.rest ≡ [] = none_kept (λ h. nat_lt (time_of h) t) at.rest (λ h i. elim (cases_lt (time_of h) t) [
+      | inl lt ↦ absurd (at.none h i (inl lt))
+      | inr ge ↦ le-ltb (time_of h) t ge
+    ]) in
+    let all : earlier t at.front ≡ at.front = all_kept (λ h. nat_lt (time_of h) t) at.front (λ h i. lt-ltb (time_of h) t (of_earlier h t (at.before h i))) in
+    let same : at.front ≡ earlier t v.records = sym all ∙ sym (append-nil (earlier t at.front)) ∙ ap (λ (gs : List Happening). earlier t at.front ++ gs)
+    (sym none) ∙ sym (filter-append (λ h. nat_lt (time_of h) t) at.front at.rest) ∙ ap (earlier t) (sym at.whole) in
+    let founded = front_founded place_of (IsDue v.scenario) at.front at.rest (subst (IsFounded place_of (IsDue v.scenario)) at.whole is.run.founded) in
+    subst (IsFounded place_of (IsDue v.scenario)) same founded
+
+-- ---- the last of the settings
+
+-- each record stands before those behind it
+abbrev pub AreInPlaces : List Happening → Type 0
+AreInPlaces [] = Unit {0}
+AreInPlaces (h ∷ hs) = ((g : Happening) → IsIn g hs → IsBefore (place_of h) (place_of g)) × AreInPlaces hs
+
+-- the records of a founded list do
+pub in_places : (s : Scenario) (ps qs : List Happening) → IsFounded place_of (IsDue s) (ps ++ qs) → AreInPlaces qs
+in_places s ps [] founded = tt
+in_places s ps (q ∷ qs) founded = (
+  λ g i. behind_first place_of (IsDue s) ps qs q g founded i,
+  in_places s (ps ++ q ∷ []) qs (subst (IsFounded place_of (IsDue s)) (sym (append_assoc ps (q ∷ []) qs)) founded),
+)
+
+-- the last of a list is in it
+pub last_in : {X : Type 0} (o : Option X) (xs : List X) (x : X) → last_or o xs ≡ Some x → (o ≡ Some x) ⊎ IsIn x xs
+last_in o [] x e = inl e
+last_in {X} o (y ∷ xs) x e =
+    elim (last_in (Some y) xs x e) [
+      | inl same ↦ (let one : x ≡ y = cc in inr (inl one))
+      | inr more ↦ inr (inr more)
+    ]
+
+-- of the records that pass a test none is behind the last
+pub last_of : (p : Happening → Bool) (o : Option Happening) (xs : List Happening) (h g : Happening) → AreInPlaces xs → last_or o (filter p xs) ≡ Some h
+    → IsIn g xs → p g ≡ true → (g ≡ h) ⊎ IsBefore (place_of g) (place_of h)
+last_of p o [] h g order e i hit = absurd i
+last_of p o (x ∷ xs) h g order e i hit =
+    elim (p x) as (λ b. p x ≡ b → last_or o (if b then x ∷ filter p xs else filter p xs) ≡ Some h → (g ≡ h) ⊎ IsBefore (place_of g) (place_of h)) [
+      | true ↦ λ at is. elim i [
+        | inl same ↦ elim (last_in (Some x) (filter p xs) h is) [
+          | inl one ↦ (let here : x ≡ h = cc in inl (same ∙ here))
+          | inr more ↦ inr (subst (λ (y : Happening). IsBefore (place_of y) (place_of h)) (sym same) (order.0 h (in_filter p xs h more)))
+        ]
+        | inr more ↦ last_of p (Some x) xs h g order.1 is more hit
+      ]
+      | false ↦ λ at is. elim i [
+        | inl same ↦ absurd (both_ways _ at (ap p (sym same) ∙ hit))
+        | inr more ↦ last_of p o xs h g order.1 is more hit
+      ]
+    ] refl e
+
+-- ---- the last setting of a synchronised device
+
+-- it is no joining
+not_joined : (v : View) (device : DeviceId) (t : ℕ) (h : Happening) → IsView v → state_left v device t ≡ Synchronised
+    → last_setting (earlier t v.records) device ≡ Some h → is_joined_by device h.note.body ≡ false
+not_joined v device t h is timed last =
+    false_from_ne_true (is_joined_by device h.note.body)
+    (λ joined. both_ways (is_synchronised (state_left v device t)) (joiner_waits v device t h is last joined) (ap is_synchronised timed))
+
+-- it is a correction of the device's clock
+pub record IsCorrection (device : DeviceId) (body : NoteBody) : Type 0 where
+  pub cycle : ℕ
+  pub by : Units
+  pub adjustment : Units
+  pub is : body ≡ notes.Corrected device cycle by adjustment
+
+-- what sets the clock and is no joining is a correction
+is_correction_by : (device : DeviceId) (body : NoteBody) → changes_adjustment device body ≡ true → is_joined_by device body ≡ false → IsCorrection device body
+is_correction_by device (notes.Corrected d cycle by adjustment) sets not =
+    let same = same_device device d sets in
+    record { cycle = cycle; by = by; adjustment = adjustment; is = ap (λ (x : DeviceId). notes.Corrected x cycle by adjustment) same }
+is_correction_by device body sets not = absurd (both_ways _ not sets)
+
+pub last_is_correction : (v : View) (device : DeviceId) (t : ℕ) (h : Happening) → IsView v → state_left v device t ≡ Synchronised
+    → last_setting (earlier t v.records) device ≡ Some h → IsCorrection device h.note.body
+last_is_correction v device t h is timed last =
+    is_correction_by device h.note.body (setting_is v device t h last).sets (not_joined v device t h is timed last)

@@ -1,0 +1,323 @@
+-- A synchronised device stays so in the span of a cycle.
+use Rattle.std.proofs.Common.{◌≡◌, ℕ, zero, suc, ◌+◌, ◌-◌, ◌≤◌, ℤ, pos, negsuc, ◌<ℤ◌, Bool, true, false, ◌&&◌, ◌||◌, List, [], ◌∷◌, ◌++◌, filter, fold, Option, Some, None, MatchBool, slice_get, inl, inr, refl, sym, ap, subst, ◌∙◌, arith}
+use Rattle.std.proofs.lemmas.Bool.{both_ways, eq-eqb, false_from_ne_true}
+use Rattle.std.proofs.lemmas.Int.{ints}
+use Rattle.std.proofs.lemmas.List.{append-nil}
+use Rattle.std.proofs.lemmas.List.Elements.{filter-append}
+use Rattle.std.proofs.lemmas.List.Sums.{fold-append}
+use Rattle.std.specs.List.{last_or, list_any}
+use Rattle.std.specs.Option.{option_map_or}
+use Rattle.std.specs.Prelude.{◌==◌, if◌then◌else◌}
+use Rattle.compression.specs.Clusters.{Point, point_at}
+use Rattle.compression.specs.declared.taken.Taken.TheVariants as taken
+use Rattle.compression.specs.declared.taken.Taken.{Taken}
+use Rattle.net_plan.specs.declared.event.Event.{Event}
+use Rattle.net_plan.specs.declared.event.What.TheVariants.{On}
+use Rattle.net_plan.specs.declared.ids.DeviceId.{DeviceId}
+use Rattle.precision_law.proofs.clocks.Epochs.{same_device}
+use Rattle.precision_law.proofs.records.Judged.{earlier_judge}
+use Rattle.precision_law.proofs.records.Points.{before_of, earlier_before}
+use Rattle.precision_law.proofs.records.Times.{between, earlier_parts, in_between}
+use Rattle.precision_law.proofs.records.Views.{in_order}
+use Rattle.precision_law.specs.BlockLaws.{AreBeforeCorrections, ComesTo}
+use Rattle.precision_law.specs.Blocks.{IsInBlock, IsOldAt, state_left}
+use Rattle.precision_law.specs.Epochs.{last_setting}
+use Rattle.precision_law.specs.Views.{IsView, View}
+use Rattle.run_law.proofs.law.FirstPlaces.{IsFoundedAt, founded_at, none_kept, numbered_in}
+use Rattle.run_law.proofs.runs.Places.{in_left}
+use Rattle.run_law.specs.control.Collections.{master_of, point_fault, points_of, ripe_by_role, observation_window}
+use Rattle.run_law.specs.control.Corrections.{ComesToCorrection}
+use Rattle.run_law.specs.control.Emissions.{Emits}
+use Rattle.run_law.specs.control.Hearing.{heard_as}
+use Rattle.run_law.specs.control.Permanence.{IsCollectedOrDropped, BecomesPermanent, before_permanence, ripe_as}
+use Rattle.run_law.specs.declared.judgement.Judgement.TheVariants as judgements
+use Rattle.run_law.specs.declared.judgement.Judgement.TheVariants.{Integrates, Outside, Within}
+use Rattle.run_law.specs.declared.judgement.Judgement.{Judgement}
+use Rattle.run_law.specs.declared.judgement.Reason.{Reason}
+use Rattle.run_law.specs.declared.judgement.Why.TheVariants as whys
+use Rattle.run_law.specs.declared.judgement.Why.{Why}
+use Rattle.run_law.specs.declared.note.NoteBody.TheVariants as notes
+use Rattle.run_law.specs.declared.note.NoteBody.{NoteBody}
+use Rattle.run_law.specs.declared.steps.Ripe.TheVariants as ripe
+use Rattle.run_law.specs.device.LocalClocks.{changes_adjustment}
+use Rattle.run_law.specs.device.StateChanges.{ChangesState}
+use Rattle.run_law.specs.device.States.{adjustment_at_hearing, has_joined_at, is_joined_by, state_after, state_at_hearing, state_before, state_with}
+use Rattle.run_law.specs.records.Happenings.{Happening, earlier, time_of}
+use Rattle.run_law.specs.records.Order.{IsIn}
+use Rattle.run_law.specs.runs.DueRecords.{IsCaused, IsEventRecord}
+use Rattle.run_law.specs.scenario.Devices.{is_cm, plan_of, start_of}
+use Rattle.run_law.specs.scenario.Scenarios.{Scenario, is_turned_on_at, turns_on}
+use Rattle.sync_state.specs.Standing.{state_at_start}
+use Rattle.sync_state.specs.declared.answers.Verdict.TheVariants.{AsyncClique, Corrected, SyncClique}
+use Rattle.sync_state.specs.declared.answers.Verdict.{Verdict}
+use Rattle.sync_state.specs.declared.state.State.TheVariants.{Off, Integrating, Joining, Synchronised}
+use Rattle.sync_state.specs.declared.state.State.{State}
+use Rattle.traffic_law.proofs.spans.Spans.{has_time_at}
+use Rattle.traffic_law.specs.Bringing.{BringsBlocks}
+use Rattle.traffic_law.specs.Senders.{TimedAreNotTurnedOn}
+use Rattle.traffic_law.specs.Spans.{IsInSpan, IsTimedAt, SynchronisedStaySo}
+use Rattle.tte_units.specs.Amount.{amount}
+use Rattle.tte_units.specs.declared.units.Units.{Units}
+
+-- ---- who joins
+
+-- only an integrating device integrates a frame
+hears_integrating : (plan : _) (precision : ℤ) (state : State) (adjustment point : ℤ) (cycle : ℕ) (members : _)
+    → Integrates ≡ heard_as plan precision state adjustment point cycle members → state ≡ Integrating
+hears_integrating plan precision Off adjustment point cycle members e = absurd cc
+hears_integrating plan precision Integrating adjustment point cycle members e = refl
+hears_integrating plan precision Joining adjustment point cycle members e = absurd (in_time _ e)
+  where
+    in_time : (b : Bool) → Integrates ≡ (if b then Within else Outside) → ⊥
+    in_time true e = cc
+    in_time false e = cc
+hears_integrating plan precision Synchronised adjustment point cycle members e = absurd (in_time _ e)
+  where
+    in_time : (b : Bool) → Integrates ≡ (if b then Within else Outside) → ⊥
+    in_time true e = cc
+    in_time false e = cc
+
+-- a frame that is permanent so is not collected
+rise_integrating : (cm : Bool) (P Q : Type 0) (Z : Type 0) → MatchBool cm P Q → (P → Z) → (Q → Z) → Z
+rise_integrating true P Q Z m f g = f m
+rise_integrating false P Q Z m f g = g m
+
+-- a role in a collection is no integration
+collected_other : (t : Taken) → ripe.Integrates ≡ ripe_by_role t → ⊥
+collected_other taken.Opened e = cc
+collected_other taken.Joined e = cc
+collected_other taken.Repeat e = cc
+collected_other taken.OtherCycle e = cc
+
+-- the judgement that is an integration
+ripe_integrates : (j : Judgement) → ripe.Integrates ≡ ripe_as j → Integrates ≡ j
+ripe_integrates judgements.Opened e = absurd cc
+ripe_integrates judgements.Joined e = absurd cc
+ripe_integrates judgements.Repeat e = absurd cc
+ripe_integrates judgements.Within e = absurd cc
+ripe_integrates judgements.Outside e = absurd cc
+ripe_integrates judgements.Integrates e = refl
+ripe_integrates judgements.Ignored e = absurd cc
+
+-- what hears a frame so is integrating when something comes
+pub hearing_state : (joined : Bool) (state : State) → (if joined then Joining else state) ≡ Integrating → state ≡ Integrating
+hearing_state true state e = absurd cc
+hearing_state false state e = e
+
+-- a device by whose record a frame tells it the time was integrating
+pub joins_integrating : (s : Scenario) (ps : List Happening) (time : Units) (device : DeviceId) (body : NoteBody) → is_joined_by device body ≡ true
+    → IsCaused s ps time body → state_before s ps device (amount time) ≡ Integrating
+joins_integrating s ps time device (notes.Permanent other link cause point Integrates) e c =
+    let same = same_device device other e in
+    let here : BecomesPermanent s ps device (amount time) link cause point (ripe_as Integrates) = subst
+    (λ (d : DeviceId). BecomesPermanent s ps d (amount time) link cause point (ripe_as Integrates)) same c in
+    let judged = before_permanence ps device (amount time) link cause here.frame point in
+    let before : state_before s judged device (amount time) ≡ Integrating = hearing_state (has_joined_at judged device (amount time))
+    (state_before s judged device (amount time)) (ripens here) in
+    sym (ap (λ (hs : List Happening). if is_turned_on_at s device (amount time) then Integrating else state_after s hs device)
+    (earlier_judge ps (amount time) device link cause here.frame point)) ∙ before
+  where
+    fault_other : (o : Option Reason) (points : List Point) (point : Point) → IsCollectedOrDropped s.network points point o ripe.Integrates → ⊥
+    fault_other None points point c = collected_other c.taken c.becomes
+    fault_other (Some reason) points point c = cc
+
+    ripens : (r : BecomesPermanent s ps device (amount time) link cause point (ripe_as Integrates))
+        → state_at_hearing s (before_permanence ps device (amount time) link cause r.frame point) device (amount time) ≡ Integrating
+    ripens r =
+        let judged = before_permanence ps device (amount time) link cause r.frame point in
+        rise_integrating (is_cm s.network device) _ _ (state_at_hearing s judged device (amount time) ≡ Integrating) r.becomes
+        (λ c. absurd (fault_other
+        (point_fault s.network (state_at_hearing s judged device (amount time)) (adjustment_at_hearing s judged device (amount time)).0 point.0
+        r.frame.cycle) (points_of judged device) (point_at point.0 (master_of r.frame.members.0) r.frame.cycle) c))
+        (λ h. hears_integrating (plan_of s.network device) (observation_window s.network) (state_at_hearing s judged device (amount time))
+        (adjustment_at_hearing s judged device (amount time)).0 point.0 r.frame.cycle r.frame.members (ripe_integrates _ h))
+joins_integrating s ps time device (notes.Compressed other opened at cycle members Integrates) e c =
+    let same = same_device device other e in
+    let here : Emits s ps device (amount time) (record { opened = opened; at = at; cycle = cycle; members = members }) Integrates = subst
+    (λ (d : DeviceId). Emits s ps d (amount time) (record { opened = opened; at = at; cycle = cycle; members = members }) Integrates) same c in
+    hearing_state (has_joined_at ps device (amount time)) (state_before s ps device (amount time))
+    (hears_integrating (plan_of s.network device) (observation_window s.network) (state_at_hearing s ps device (amount time))
+    (adjustment_at_hearing s ps device (amount time)).0 at.0 cycle members here.heard)
+joins_integrating s ps time device body e c = absurd cc
+
+-- ---- who is turned on
+
+-- where the element at a place passes, some does
+any_at : {X : Type 0} (p : X → Bool) (xs : List X) (i : ℕ) (x : X) → slice_get xs i ≡ Some x → p x ≡ true → list_any p xs ≡ true
+any_at p [] i x e hit = absurd cc
+any_at {X} p (y ∷ xs) zero x e hit = (let same : y ≡ x = cc in let here : p y ≡ true = ap p same ∙ hit in rw here refl)
+any_at p (y ∷ xs) (suc i) x e hit = by (p y) (any_at p xs i x e hit)
+  where
+    by : (b : Bool) → list_any p xs ≡ true → (b || list_any p xs) ≡ true
+    by true more = refl
+    by false more = more
+
+-- the device of an `on` event's record is turned on at its time
+pub turned_on_by : (s : Scenario) (time : Units) (line : ℕ) (device : DeviceId) → IsEventRecord s.events time line (On device)
+    → is_turned_on_at s device (amount time) ≡ true
+turned_on_by s time line device r =
+    let what : turns_on device r.event.what ≡ true = ap (turns_on device) (sym r.same) ∙ eq-eqb device.0 device.0 refl in
+    let at : (amount r.event.time == amount time) ≡ true = eq-eqb (amount r.event.time) (amount time) (ap amount (sym r.at)) in
+    any_at (λ (e : Event). turns_on device e.what && amount e.time == amount time) s.events r.before r.event r.is (rw (what, at) refl)
+
+-- ---- an instant at which nothing changes
+
+-- the device's correction point does not come at the instant
+abbrev HasNoPoint : View → DeviceId → ℕ → Type 0
+HasNoPoint v device t =
+    (front : List Happening) (cycle : ℕ) (verdict : Verdict) → AreBeforeCorrections v t front → ComesToCorrection v.scenario front device t cycle verdict → ⊥
+
+-- the record leaves the device's clock and its state
+record Leaves (device : DeviceId) (body : NoteBody) : Type 0 where
+  pub clock : changes_adjustment device body ≡ false
+  pub state : state_with device Synchronised body ≡ Synchronised
+
+-- no frame tells a synchronised device the time
+pub no_joining : (v : View) (device : DeviceId) (h : Happening) → IsView v → IsIn h v.records → state_left v device (time_of h) ≡ Synchronised
+    → is_turned_on_at v.scenario device (time_of h) ≡ false → is_joined_by device h.note.body ≡ false
+no_joining v device h is i timed not_on =
+    let s = v.scenario in
+    let found = founded_at s v.records h is.run.founded i in
+    let same = earlier_before v (time_of h) found.front (before_of v h is found) in
+    false_from_ne_true (is_joined_by device h.note.body) (λ joined.
+    let was = joins_integrating s found.front h.note.time device h.note.body joined found.due.cause in
+    let left : state_after s (earlier (time_of h) found.front) device ≡ Synchronised = subst (λ (xs : List Happening). state_after s xs device ≡ Synchronised)
+    (sym same) timed in
+    apart (is_turned_on_at s device (time_of h)) (state_after s (earlier (time_of h) found.front) device) not_on left was)
+  where
+    apart : (b : Bool) (state : State) → b ≡ false → state ≡ Synchronised → (if b then Integrating else state) ≡ Integrating → ⊥
+    apart true state off is e = cc
+    apart false state off is e = cc
+
+-- no correction of the device comes where its point does not
+no_correction : (v : View) (device : DeviceId) (h : Happening) (cycle : ℕ) (by adjustment : Units) → IsView v → IsIn h v.records
+    → HasNoPoint v device (time_of h) → h.note.body ≡ notes.Corrected device cycle by adjustment → ⊥
+no_correction v device h cycle by adjustment is i none body =
+    let found = founded_at v.scenario v.records h is.run.founded i in
+    let caused : IsCaused v.scenario found.front h.note.time (notes.Corrected device cycle by adjustment) = subst (IsCaused v.scenario found.front h.note.time)
+    body found.due.cause in
+    none found.front cycle (Corrected by) (before_of v h is found) caused.corrected
+
+-- the state of the device does not change
+no_change : (v : View) (device : DeviceId) (h : Happening) (state : State) (cause : ℕ) (why : Why) → IsView v → IsIn h v.records
+    → state_left v device (time_of h) ≡ Synchronised → is_turned_on_at v.scenario device (time_of h) ≡ false → HasNoPoint v device (time_of h)
+    → (found : IsFoundedAt v.scenario v.records h) → ChangesState v.scenario found.front device (time_of h) state cause why → ⊥
+no_change v device h state cause whys.On is i timed not_on none found c =
+    let g = c.2.1 in
+    let j = numbered_in found.front cause g c.2.2.there in
+    let at = founded_at v.scenario found.front g found.founded j in
+    let caused : IsCaused v.scenario at.front g.note.time (notes.Event c.2.0 (On device)) = subst (IsCaused v.scenario at.front g.note.time) c.2.3 at.due.cause
+    in
+    let on = turned_on_by v.scenario g.note.time c.2.0 device caused in
+    both_ways _ not_on (ap (is_turned_on_at v.scenario device) (sym c.2.2.same_time) ∙ on)
+no_change v device h state cause whys.Frame is i timed not_on none found c =
+    let g = c.1.0 in
+    let j = numbered_in found.front cause g c.1.1.there in
+    let in_all : IsIn g v.records = subst (IsIn g) (sym found.whole) (in_left g found.front (h ∷ found.rest) j) in
+    let same = c.1.1.same_time in
+    both_ways _ (no_joining v device g is in_all (subst (λ (t : ℕ). state_left v device t ≡ Synchronised) (sym same) timed)
+    (subst (λ (t : ℕ). is_turned_on_at v.scenario device t ≡ false) (sym same) not_on)) c.1.2
+no_change v device h state cause whys.Correction is i timed not_on none found c =
+    let g = c.2.3 in
+    let j = numbered_in found.front cause g c.2.4.there in
+    let in_all : IsIn g v.records = subst (IsIn g) (sym found.whole) (in_left g found.front (h ∷ found.rest) j) in
+    no_correction v device g c.2.0 c.2.1 c.2.2 is in_all (subst (HasNoPoint v device) (sym c.2.4.same_time) none) c.2.5
+no_change v device h state cause whys.SyncClique is i timed not_on none found c = none found.front c.2.0 SyncClique (before_of v h is found) c.2.1
+no_change v device h state cause whys.AsyncClique is i timed not_on none found c = none found.front c.2.0 AsyncClique (before_of v h is found) c.2.1
+
+-- no record of the instant changes anything of the device
+leaves_by : (v : View) (device : DeviceId) (h : Happening) (body : NoteBody) → IsView v → IsIn h v.records → state_left v device (time_of h) ≡ Synchronised
+    → is_turned_on_at v.scenario device (time_of h) ≡ false → HasNoPoint v device (time_of h) → h.note.body ≡ body → is_joined_by device body ≡ false
+    → Leaves device body
+leaves_by v device h (notes.State other state cause why) is i timed not_on none body joined = record { clock = refl; state = by (device.0 == other.0) refl }
+  where
+    by : (b : Bool) → (device.0 == other.0) ≡ b → (if b then state else Synchronised) ≡ Synchronised
+    by false e = refl
+    by true e =
+        let found = founded_at v.scenario v.records h is.run.founded i in
+        let caused : ChangesState v.scenario found.front other (time_of h) state cause why = subst (IsCaused v.scenario found.front h.note.time) body
+        found.due.cause in
+        let own = subst (λ (d : DeviceId). ChangesState v.scenario found.front d (time_of h) state cause why) (same_device device other e) caused in
+        absurd (no_change v device h state cause why is i timed not_on none found own)
+leaves_by v device h (notes.Corrected other cycle by adjustment) is i timed not_on none body joined =
+    record {
+      clock = false_from_ne_true (device.0 == other.0)
+          (λ e. no_correction v device h cycle by adjustment is i none
+          (body ∙ ap (λ (d : DeviceId). notes.Corrected d cycle by adjustment) (same_device device other e)));
+      state = refl;
+    }
+leaves_by v device h (notes.Permanent other link cause point Integrates) is i timed not_on none body joined = record { clock = joined; state = rw joined refl }
+leaves_by v device h (notes.Compressed other opened at cycle members Integrates) is i timed not_on none body joined =
+    record { clock = joined; state = rw joined refl }
+leaves_by v device h body is i timed not_on none same joined = record { clock = refl; state = refl }
+
+-- ---- from an instant to the next
+
+-- where each of them leaves the device, all do
+fold_leaves : (device : DeviceId) (hs : List Happening) → ((h : Happening) → IsIn h hs → Leaves device h.note.body) → (old : State) → old ≡ Synchronised
+    → fold (λ state h. state_with device state h.note.body) old hs ≡ Synchronised
+fold_leaves device [] each old e = e
+fold_leaves device (h ∷ hs) each old e =
+    fold_leaves device hs (λ g i. each g (inr i)) (state_with device old h.note.body) (ap (λ (x : State). state_with device x h.note.body) e
+    ∙ (each h (inl refl)).state)
+
+-- the device stands as before at the next instant
+pub stands_on : (v : View) (device : DeviceId) (t : ℕ) → IsView v → state_left v device t ≡ Synchronised → is_turned_on_at v.scenario device t ≡ false
+    → HasNoPoint v device t
+    → (state_left v device (t + 1) ≡ Synchronised) × (last_setting (earlier (t + 1) v.records) device ≡ last_setting (earlier t v.records) device)
+stands_on v device t is timed not_on none =
+    let sets = λ (h : Happening). changes_adjustment device h.note.body in
+    let hs = between t (t + 1) v.records in
+    let parts = earlier_parts t (t + 1) v.records (in_order v is) (omega arith) in
+    let each : (h : Happening) → IsIn h hs → Leaves device h.note.body = λ h i.
+    let there = in_between t (t + 1) v.records h i in
+    let same : time_of h ≡ t = omega (arith, there.1, there.2) in
+    let here = subst (λ (u : ℕ). state_left v device u ≡ Synchronised) (sym same) timed in
+    let off = subst (λ (u : ℕ). is_turned_on_at v.scenario device u ≡ false) (sym same) not_on in
+    let no_point = subst (HasNoPoint v device) (sym same) none in
+    leaves_by v device h h.note.body is there.0 here off no_point refl (no_joining v device h is there.0 here off) in
+    let none_sets : filter sets hs ≡ [] = none_kept sets hs (λ h i. (each h i).clock) in
+    let apart = fold-append (λ (state : State) (h : Happening). state_with device state h.note.body) (state_at_start (start_of v.scenario.network device))
+    (earlier t v.records) hs in (
+      ap (λ (xs : List Happening). state_after v.scenario xs device) parts ∙ apart ∙ fold_leaves device hs each (state_left v device t) timed,
+      ap (last_or None) (ap (filter sets) parts ∙ filter-append sets (earlier t v.records) hs
+          ∙ ap (λ (xs : List Happening). filter sets (earlier t v.records) ++ xs) none_sets ∙ append-nil (filter sets (earlier t v.records))),
+    )
+
+-- ---- in a span
+
+-- after so many instants
+stays_for : BringsBlocks → TimedAreNotTurnedOn → (v : View) (n u t more : ℕ) (span : IsInSpan v n t) (device : DeviceId) → IsView v → span.block.before.next ≤ u
+    → u + more ≤ t
+    → IsTimedAt v device u → IsOldAt v span.block.before.next device u
+    → IsTimedAt v device (u + more) × IsOldAt v span.block.before.next device (u + more)
+stays_for brings never v n u t zero span device is from le timed old =
+    let same : u ≡ u + zero = omega arith in
+    (subst (IsTimedAt v device) same timed, subst (IsOldAt v span.block.before.next device) same old)
+stays_for brings never v n u t (suc more) span device is from le timed old =
+    let x = u + more in
+    let here = stays_for brings never v n u t more span device is from (omega (arith, le)) timed old in
+    let block : IsInBlock v n x = record {
+      before = span.block.before;
+      next = span.block.next;
+      is_over = span.block.is_over;
+      from = omega (arith, from);
+      to = omega (arith, le, span.block.to);
+      in_run = omega (arith, le, span.block.in_run);
+    } in
+    let none : HasNoPoint v device x = λ front cycle verdict split point.
+    let comes : ComesTo v x device cycle verdict = record { front = front; split = split; point = point } in
+    let at = (brings.goes v n x block is).points device cycle verdict (has_time_at v device x here.0) here.1 comes in
+    absurd (omega (arith, ints, at.not_early, span.early, le)) in
+    let next = stands_on v device x is here.0.synchronised (never v device x is (has_time_at v device x here.0).timed) none in
+    let same : x + 1 ≡ u + suc more = omega arith in (
+      subst (IsTimedAt v device) same (record { good = timed.good; synchronised = next.0 }),
+      subst (IsOldAt v span.block.before.next device) same
+          (subst (λ (o : Option Happening). option_map_or (λ h. pos (time_of h)) o (negsuc 0) <ℤ pos span.block.before.next) (sym next.1) here.1),
+    )
+
+pub synchronised_stay_so : BringsBlocks → TimedAreNotTurnedOn → SynchronisedStaySo
+synchronised_stay_so brings never v n u t span device is from le timed old =
+    let same : u + (t - u) ≡ t = omega (arith, le) in
+    let there = stays_for brings never v n u t (t - u) span device is from (omega (arith, same)) timed old in
+    (subst (IsTimedAt v device) same there.0, subst (IsOldAt v span.block.before.next device) same there.1)

@@ -1,0 +1,180 @@
+-- The span of a cycle: what clocks show there, and when they reach a value of the schedule.
+use Rattle.std.proofs.Common.{◌≡◌, ℕ, zero, suc, ◌+◌, ◌*◌, ◌<◌, ◌≤◌, ℤ, pos, negsuc, ◌+ℤ◌, ◌≤ℤ◌, ◌<ℤ◌, true, Option, Some, None, inl, inr, refl, sym, ap, subst, arith}
+use Rattle.std.proofs.Math.Nat.{mul-le-mul_right}
+use Rattle.std.proofs.lemmas.Bool.{cases_lt}
+use Rattle.std.proofs.lemmas.Int.{by_lt_z, ints}
+use Rattle.std.specs.Option.{option_map_or}
+use Rattle.net_plan.specs.declared.ids.DeviceId.{DeviceId}
+use Rattle.precision_law.proofs.clocks.Epochs.{clocks_reach_sharply}
+use Rattle.precision_law.proofs.law.Together.{before_narrow, block_ends, follows_before, new_shows, old_shows, set_shows}
+use Rattle.precision_law.proofs.records.Points.{before_of, point_timed, setting_is}
+use Rattle.precision_law.proofs.records.Views.{room}
+use Rattle.precision_law.proofs.sizes.Instants.{instants_are_in_order, set_clocks_stay_at_correction}
+use Rattle.precision_law.specs.BlockLaws.{BlocksGoSo, ComesTo}
+use Rattle.precision_law.specs.Blocks.{HasTimeAt, IsInBlock, IsOldAt, Stands, adjustment_left, state_left}
+use Rattle.precision_law.specs.Epochs.{epoch_time, has_time, last_setting}
+use Rattle.precision_law.specs.Hulls.{IsNarrow, first_correction, hull_of}
+use Rattle.precision_law.specs.Standings.{ShowsIn}
+use Rattle.precision_law.specs.Views.{IsView, View}
+use Rattle.run_law.proofs.law.FirstPlaces.{founded_at}
+use Rattle.run_law.proofs.runs.SameSteps.{same_some}
+use Rattle.run_law.specs.declared.note.NoteBody.TheVariants as notes
+use Rattle.run_law.specs.records.Happenings.{earlier, time_of, Happening}
+use Rattle.run_law.specs.runs.DueRecords.{IsCaused}
+use Rattle.sync_state.specs.declared.answers.Verdict.TheVariants.{Corrected}
+use Rattle.sync_state.specs.declared.state.State.TheVariants.{Synchronised}
+use Rattle.sync_state.specs.declared.state.State.{State}
+use Rattle.traffic_law.proofs.spans.Corrected.{last_is_correction}
+use Rattle.traffic_law.specs.Bringing.{BringsBlocks}
+use Rattle.traffic_law.specs.Rows.{IsInSchedule}
+use Rattle.traffic_law.specs.Spans.{IsReachedInSpan, IsTimedAt, SynchronisedKeepTime, ValuesAreReachedInSpans, shown_at}
+
+-- ---- devices with the time
+
+-- a synchronised device has the common time
+pub has_time_at : (v : View) (device : DeviceId) (t : ℕ) → IsTimedAt v device t → HasTimeAt v device t
+has_time_at v device t timed = record { good = timed.good; timed = by (state_left v device t) timed.synchronised }
+  where
+    by : (state : State) → state ≡ Synchronised → has_time state ≡ true
+    by state e = rw e refl
+
+-- a synchronised device whose clock was set in the block was corrected, not before the first correction
+pub corrected_late : (v : View) (n t : ℕ) (block : IsInBlock v n t) (device : DeviceId) (o : Option Happening) → BlocksGoSo → IsView v → IsTimedAt v device t
+    → last_setting (earlier t v.records) device ≡ o
+    → pos block.before.next ≤ℤ option_map_or (λ h. pos (time_of h)) o (negsuc 0) → (first_correction v.sizes block.before.hull +ℤ pos v.sizes.reach) <ℤ pos t
+corrected_late v n t block device None goes is timed e late = absurd (omega (arith, ints, late))
+corrected_late v n t block device (Some h) goes is timed e late =
+    let at = setting_is v device t h e in
+    let set = last_is_correction v device t h is timed.synchronised e in
+    let found = founded_at v.scenario v.records h is.run.founded at.there in
+    let cause : IsCaused v.scenario found.front h.note.time (notes.Corrected device set.cycle set.by set.adjustment) = subst
+    (IsCaused v.scenario found.front h.note.time) set.is found.due.cause in
+    let split = before_of v h is found in
+    let has : HasTimeAt v device (time_of h) = record {
+      good = timed.good;
+      timed = point_timed v (time_of h) device set.cycle (Corrected set.by) found.front
+          split cause.corrected;
+    } in
+    let comes : ComesTo v (time_of h) device set.cycle (Corrected set.by) = record { front = found.front; split = split; point = cause.corrected } in
+    let here : IsInBlock v n (time_of h) = record {
+      before = block.before;
+      next = block.next;
+      is_over = block.is_over;
+      from = omega (arith, ints, late);
+      to = omega (arith, at.early, block.to);
+      in_run = omega (arith, at.early, block.in_run);
+    } in
+    let so = goes v n (time_of h) here is in
+    let old = so.old_alone device set.cycle (Corrected set.by) has comes (λ e. cc) in
+    let point = so.points device set.cycle (Corrected set.by) has old comes in
+    omega (arith, ints, point.not_early, at.early)
+
+pub synchronised_keep_time : BringsBlocks → SynchronisedKeepTime
+synchronised_keep_time brings v n t span device is timed =
+    let old : IsOldAt v span.block.before.next device t =
+    by_lt_z {P = IsOldAt v span.block.before.next device t} (epoch_time (earlier t v.records) device) (pos span.block.before.next)
+    (λ lt. lt)
+    (λ late. (let after = corrected_late v n t span.block device (last_setting (earlier t v.records) device) brings.goes is timed refl
+    late in absurd (omega (arith, ints, after, span.early)))) in
+    record {
+      old = old;
+      shows = old_shows v n t t device span.block is (omega arith) (has_time_at v device t timed) old;
+    }
+
+-- ---- reaching
+
+-- a cycle more is as long as a cycle
+one_more : (cycle length : ℕ) → suc cycle * length ≡ cycle * length + length
+one_more cycle length = omega arith
+
+-- behind the end of a cycle's block its hull lies a correction back
+pub begins_late : (v : View) (n : ℕ) (stands : Stands v (suc n)) → IsView v
+    → ((stands.hull.greatest +ℤ pos (v.sizes.correction + v.sizes.reach)) +ℤ pos 1) ≤ℤ pos stands.next
+begins_late v n stands is =
+    let over = stands.is_over in
+    let before = over.0 in
+    let narrow = narrow_before in
+    let order = instants_are_in_order v.sizes before stands.hull (room v is) narrow (follows_before v n before stands.hull is over.1 stands.is_hull) in
+    omega (arith, ints, over.2, order.last_not_early)
+  where
+    narrow_before : IsNarrow v.sizes stands.is_over.0
+    narrow_before =
+        let there = stands.narrow n (omega arith) in
+        let same : there.0 ≡ stands.is_over.0 = same_some (hull_of v n) there.0 stands.is_over.0 there.1 stands.is_over.1 in
+        subst (IsNarrow v.sizes) same there.2
+
+-- a clock that was set before the block reaches the value in no other cycle
+same_cycle : (v : View) (n k value t : ℕ) (block : IsInBlock v k t) (shown : ℤ) → IsView v → 1 ≤ n → IsInSchedule v.sizes value
+    → ShowsIn v.sizes shown k block.before.hull t
+    → pos (n * v.sizes.cycle + value) ≤ℤ shown → shown ≤ℤ (pos (n * v.sizes.cycle + value) +ℤ pos (2 * v.sizes.grain)) → k ≡ n
+same_cycle v n k value t block shown is begun within shows least most =
+    let space = room v is in
+    let ends = block_ends v k block.next block.before.hull block.before.is_hull block.is_over in
+    let narrow = before_narrow v k block.before in
+    elim (cases_lt k n) [
+      | inl lt ↦
+          let more : suc k * v.sizes.cycle ≤ n * v.sizes.cycle = mul-le-mul_right v.sizes.cycle (omega (arith, lt)) in
+          let one = one_more k v.sizes.cycle in
+          absurd (omega (arith, ints, more, one, least, shows.most, block.to, ends, narrow, within.begins, space.eight_errors, space.errors.reach_is))
+      | inr ge ↦ elim (cases_lt n k) [
+        | inl lt ↦ absurd (by k block shows lt)
+        | inr le ↦ omega (arith, ge, le)
+      ]
+    ]
+  where
+    by : (k : ℕ) (block : IsInBlock v k t) → ShowsIn v.sizes shown k block.before.hull t → n < k → ⊥
+    by zero block shows lt = absurd (omega (arith, lt))
+    by (suc j) block shows lt =
+        let space = room v is in
+        let late = begins_late v j block.before is in
+        let more : suc n * v.sizes.cycle ≤ suc j * v.sizes.cycle = mul-le-mul_right v.sizes.cycle (omega (arith, lt)) in
+        let one = one_more n v.sizes.cycle in
+        absurd (omega (arith, ints, more, one, most, shows.least, block.from, late, within.ends, space.eight_errors, space.errors.reach_is))
+
+pub values_are_reached_in_spans : BringsBlocks → ValuesAreReachedInSpans
+values_are_reached_in_spans brings v n value t device is timed in_run begun within reaches =
+    let covered = brings.cover v t is in_run in
+    let k = covered.0 in
+    let block = covered.1 in
+    let space = room v is in
+    let sharp = clocks_reach_sharply v device (pos (n * v.sizes.cycle + value)) t is reaches in
+    let least : pos (n * v.sizes.cycle + value) ≤ℤ shown_at v device t = omega (arith, ints, sharp.least) in
+    let most : shown_at v device t ≤ℤ (pos (n * v.sizes.cycle + value) +ℤ pos (2 * v.sizes.grain)) = omega (arith, ints, sharp.most) in
+    let has = has_time_at v device t timed in
+    let ends = block_ends v k block.next block.before.hull block.before.is_hull block.is_over in
+    let narrow = before_narrow v k block.before in
+    by_lt_z {P = IsReachedInSpan v n value t} (epoch_time (earlier t v.records) device) (pos block.before.next)
+    (λ old.
+    let shows = old_shows v k t t device block is (omega arith) has old in
+    let same = same_cycle v n k value t block (shown_at v device t) is begun within shows least most in
+    let whole : n * v.sizes.cycle ≡ k * v.sizes.cycle = ap (λ (m : ℕ). m * v.sizes.cycle) (sym same) in
+    let not_late : pos t ≤ℤ ((block.before.hull.greatest +ℤ pos value) +ℤ pos v.sizes.reach) = omega
+    (arith, ints, whole, most, shows.least, space.errors.reach_is) in
+    let here : IsReachedInSpan v k value t = record {
+      span = record { block = block; early = omega (arith, ints, not_late, narrow, within.ends, space.eight_errors) };
+      not_early = omega (arith, ints, whole, least, shows.most, space.errors.reach_is);
+      not_late = not_late;
+    } in
+    subst (λ (m : ℕ). IsReachedInSpan v m value t) same here)
+    (λ late.
+    let each = λ (w : ℕ) (from : block.before.next ≤ w) (less : w < t). brings.goes v k w (record {
+      before = block.before;
+      next = block.next;
+      is_over = block.is_over;
+      from = from;
+      to = omega (arith, less, block.to);
+      in_run = omega (arith, less, block.in_run);
+    }) is in
+    let set = new_shows v k t t device block each is (omega arith) has (last_setting (earlier t v.records) device) refl late in
+    let shows = set_shows v k t device (adjustment_left v device t) block is set in
+    let after = corrected_late v k t block device (last_setting (earlier t v.records) device) brings.goes is timed refl late in
+    let near = set_clocks_stay_at_correction v.sizes (shown_at v device t) (suc k) t block.before.hull set.hull space narrow
+    (follows_before v k block.before.hull set.hull is block.before.is_hull set.is_hull)
+    (omega (arith, ints, after)) (omega (arith, ints, ends, block.to)) shows in
+    absurd (elim (cases_lt k n) [
+      | inl lt ↦ (let more : suc k * v.sizes.cycle ≤ n * v.sizes.cycle = mul-le-mul_right v.sizes.cycle (omega (arith, lt)) in
+          omega (arith, ints, more, least, near.most, within.begins, space.eight_errors, space.errors.reach_is, space.errors.clock_is))
+      | inr ge ↦ (let more : n * v.sizes.cycle ≤ k * v.sizes.cycle = mul-le-mul_right v.sizes.cycle ge in
+          let one = one_more k v.sizes.cycle in
+          omega (arith, ints, more, one, most, near.least, within.ends, space.eight_errors, space.errors.reach_is, space.errors.clock_is))
+    ]))

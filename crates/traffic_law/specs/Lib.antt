@@ -1,0 +1,11 @@
+pub mod Rows
+pub mod Spans
+pub mod Dispatched
+pub mod Taken
+pub mod Passed
+pub mod Senders
+pub mod Fits
+pub mod Coming
+pub mod Delivered
+pub mod Bringing
+pub mod Ports

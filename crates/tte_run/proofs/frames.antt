@@ -1,0 +1,3 @@
+-- The answer of `show`.
+pub mod Frames
+pub mod Answers

@@ -1,0 +1,3 @@
+-- The answer for a network file.
+pub mod KeyLengths
+pub mod Answers

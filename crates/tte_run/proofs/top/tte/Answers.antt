@@ -1,0 +1,91 @@
+use Rattle.std.proofs.Common.{◌≡◌, ◌⊎◌, ℕ, List, Option, Some, None, inl, inr, subst, rules}
+use Rattle.tte_run.specs.Forms.{form_of}
+use Rattle.tte_run.specs.Putting.{Shown, shown_by}
+use Rattle.tte_run.specs.Top.{AnswersWords, Completes}
+use Rattle.tte_run.specs.declared.form.Form.{Form}
+use Rattle.tte_run.specs.declared.form.Form.TheVariants.{Show, Check, Run}
+use Rattle.tte_run.specs.declared.status.Status.{Status}
+use Rattle.tte_run.proofs.TopAnswers.{usage-any, shown-form, completes-show, completes-check, completes-run}
+use Rattle.tte_run.proofs.top.tte.Goals as goal
+
+-- what is answered for the form is answered for the words
+words_as : {f form : Option Form} → f ≡ form → (first second : Option (List ℕ)) (status : Status) (old new : Shown)
+    → AnswersWords f first second status old new → AnswersWords form first second status old new
+words_as {f} {form} same first second status old new a = subst (λ (x : Option Form). AnswersWords x first second status old new) same a
+
+whole_as : {f form : Option Form} → f ≡ form → (first second : Option (List ℕ)) (status : Status) (SourceRose SinkRose : Type 0)
+    → Completes f first second SourceRose SinkRose status → Completes form first second SourceRose SinkRose status
+whole_as {f} {form} same first second status SourceRose SinkRose h = subst (λ (x : Option Form). Completes x first second SourceRose SinkRose status) same h
+
+-- a read that failed raised one of the counts
+read_rose : {F U V T W : Type 0} → (F × U × V) ⊎ (T × W) → F ⊎ T
+read_rose (inl h) = inl h.0
+read_rose (inr h) = inr h.0
+
+pub returns-in-Some-Show-clause-general : goal.returns-in-Some-Show-clause-general
+returns-in-Some-Show-clause-general g c =
+    let form : Some Show ≡ form_of c.args.words.now = search rules in
+    let first = g.A.Source.left c.args.first.now in
+    let second = g.B.Source.left c.args.second.now in
+    let old = shown_by g.K.Sink c.args.out.now in
+    let new = shown_by g.K.Sink c.show.new.out in
+    words_as form first second c.show.result old new (shown-form first second c.show.result old new c.show.ensures.general)
+
+pub returns-in-Some-Show-clause-complete : goal.returns-in-Some-Show-clause-complete
+returns-in-Some-Show-clause-complete g c =
+    let form : Some Show ≡ form_of c.args.words.now = search rules in
+    let first = g.A.Source.left c.args.first.now in
+    let second = g.B.Source.left c.args.second.now in
+    let old = shown_by g.K.Sink c.args.out.now in
+    let new = shown_by g.K.Sink c.show.new.out in
+    whole_as form first second c.show.result _ _
+    (completes-show first second c.show.result old new _ _ c.show.ensures.general (λ e. inl (c.show.ensures.read e)) c.show.ensures.write)
+
+pub returns-in-Some-Check-clause-general : goal.returns-in-Some-Check-clause-general
+returns-in-Some-Check-clause-general g c =
+    let form : Some Check ≡ form_of c.args.words.now = search rules in
+    let first = g.A.Source.left c.args.first.now in
+    let second = g.B.Source.left c.args.second.now in
+    let old = shown_by g.K.Sink c.args.out.now in
+    let new = shown_by g.K.Sink c.check_network.new.out in
+    words_as form first second c.check_network.result old new c.check_network.ensures.general
+
+pub returns-in-Some-Check-clause-complete : goal.returns-in-Some-Check-clause-complete
+returns-in-Some-Check-clause-complete g c =
+    let form : Some Check ≡ form_of c.args.words.now = search rules in
+    let first = g.A.Source.left c.args.first.now in
+    let second = g.B.Source.left c.args.second.now in
+    let old = shown_by g.K.Sink c.args.out.now in
+    let new = shown_by g.K.Sink c.check_network.new.out in
+    whole_as form first second c.check_network.result _ _
+    (completes-check first second c.check_network.result old new _ _ c.check_network.ensures.general
+    (λ e. inl (c.check_network.ensures.read e)) c.check_network.ensures.write)
+
+pub returns-in-Some-Run-clause-general : goal.returns-in-Some-Run-clause-general
+returns-in-Some-Run-clause-general g c =
+    let form : Some Run ≡ form_of c.args.words.now = search rules in
+    let first = g.A.Source.left c.args.first.now in
+    let second = g.B.Source.left c.args.second.now in
+    let old = shown_by g.K.Sink c.args.out.now in
+    let new = shown_by g.K.Sink c.run_trace.new.out in
+    words_as form first second c.run_trace.result old new c.run_trace.ensures.general
+
+pub returns-in-Some-Run-clause-complete : goal.returns-in-Some-Run-clause-complete
+returns-in-Some-Run-clause-complete g c =
+    let form : Some Run ≡ form_of c.args.words.now = search rules in
+    let first = g.A.Source.left c.args.first.now in
+    let second = g.B.Source.left c.args.second.now in
+    let old = shown_by g.K.Sink c.args.out.now in
+    let new = shown_by g.K.Sink c.run_trace.new.out in
+    whole_as form first second c.run_trace.result _ _
+    (completes-run first second c.run_trace.result old new _ _ c.run_trace.ensures.general
+    (λ e. read_rose (c.run_trace.ensures.read e)) c.run_trace.ensures.write)
+
+pub returns-in-None-clause-general : goal.returns-in-None-clause-general
+returns-in-None-clause-general g c =
+    let form : None ≡ form_of c.args.words.now = search rules in
+    let first = g.A.Source.left c.args.first.now in
+    let second = g.B.Source.left c.args.second.now in
+    let old = shown_by g.K.Sink c.args.out.now in
+    let new = shown_by g.K.Sink c.put_usage.new.out in
+    words_as form first second c.put_usage.result old new (usage-any first second c.put_usage.result old new c.put_usage.ensures.gives)

@@ -1,0 +1,25 @@
+use Rattle.std.proofs.Common.{subst}
+use Rattle.tte_io.specs.declared.lines.LineTaken.{LineTaken}
+use Rattle.tte_run.specs.traces.Following.{IsFound}
+use Rattle.tte_run.proofs.traces.Following.{long_some}
+use Rattle.tte_run.proofs.trace.lines.Trace.judge.Goals as goal
+
+pub returns-in-Ok-clause-judged : goal.returns-in-Ok-clause-judged
+returns-in-Ok-clause-judged c network events rest f found =
+    let whole = subst (λ (t : LineTaken). IsFound rest t c.args.self.now.reader) c.in-Whole.is found in
+    c.in-Ok.ensures.judged network events rest f whole
+
+pub returns-in-Err-clause-judged : goal.returns-in-Err-clause-judged
+returns-in-Err-clause-judged c network events rest f found =
+    let whole = subst (λ (t : LineTaken). IsFound rest t c.args.self.now.reader) c.in-Whole.is found in
+    c.in-Err.ensures.judged network events rest f whole
+
+pub returns-in-Some-clause-judged : goal.returns-in-Some-clause-judged
+returns-in-Some-clause-judged c network events rest f found =
+    let long = subst (λ (t : LineTaken). IsFound rest t c.args.self.now.reader) c.in-Long.is found in
+    (c.in-Some.ensures.fault network events rest f (long_some rest long), f)
+
+pub returns-in-None-clause-judged : goal.returns-in-None-clause-judged
+returns-in-None-clause-judged c network events rest f found =
+    let long = subst (λ (t : LineTaken). IsFound rest t c.args.self.now.reader) c.in-Long.is found in
+    ((c.in-None.ensures.fault network events rest f (long_some rest long), long), f)

@@ -1,0 +1,89 @@
+use Rattle.std.proofs.Common.{◌∙◌, ◌+◌, ◌++◌, ◌∷◌, [], subst, arith}
+use Rattle.tte_run.specs.Answering.{Gives}
+use Rattle.tte_run.specs.Putting.{shown_by}
+use Rattle.tte_run.specs.Faults.{PutFailed}
+use Rattle.tte_run.specs.traces.Refusing.{fault_answer}
+use Rattle.tte_run.specs.declared.trace.fault.TraceFault.{TraceFault}
+use Rattle.tte_run.proofs.traces.Ends.{IsStatusOf, ends_at_end, ends_at_event, ends_at_fault, ends_at_read}
+use Rattle.tte_run.proofs.traces.Steps.{ends_as, next_befalls, next_given, one_line_more, reads_end, reads_fault, reads_found, reads_next, runs_as, runs_on, stands_as, stands_next}
+use Rattle.tte_run.proofs.traces.Streams.{stops_behind, takes_little, writes_answer, writes_event, writes_nothing, writes_rest}
+use Rattle.tte_run.proofs.trace.steps.Running.step.Goals as goal
+
+pub put_event-requires-clause-next : goal.put_event-requires-clause-next
+put_event-requires-clause-next g c =
+    let o = c.requires in
+    let gives =
+    next_given o.network o.events c.next_event.new.self c.in-Ok-Some.event c.in-Ok-Some.field-0-is
+    (c.in-Ok-Some.ensures.follows o.network o.events o.stands.follows) in
+    next_befalls c.into-line.result o.stands gives (c.into-line.ensures ∙ c.lines.ensures)
+
+pub returns-in-Ok-clause-further : goal.returns-in-Ok-clause-further
+returns-in-Ok-clause-further g c =
+    let o = c.requires in
+    let gives =
+    next_given o.network o.events c.next_event.new.self c.in-Ok-Some.event c.in-Ok-Some.field-0-is
+    (c.in-Ok-Some.ensures.follows o.network o.events o.stands.follows) in
+    one_line_more o.stands gives
+
+pub returns-in-Ok-clause-ongoing : goal.returns-in-Ok-clause-ongoing
+returns-in-Ok-clause-ongoing g c =
+    let at = c.network-network.result.now in
+    let events = c.requires.events in
+    let stands = stands_as (c.network-network.ensures.value ∙ c.requires.stands.follows.over) c.requires.stands in
+    let gives = next_given at events c.next_event.new.self c.in-Ok-Some.event c.in-Ok-Some.field-0-is (c.in-Ok-Some.ensures.follows at events stands.follows) in
+    let puts = c.in-Ok.ensures.puts events c.requires.notes stands.world in
+    record { network = at; events = events ++ c.in-Ok-Some.event ∷ []; notes = c.requires.notes ++ puts.more; stands = stands_next stands gives puts }
+
+pub returns-in-Ok-clause-steps : goal.returns-in-Ok-clause-steps
+returns-in-Ok-clause-steps g c network first old running =
+    runs_as (c.network-network.ensures.value ∙ running.stands.follows.over) running (λ r.
+    let at = c.network-network.result.now in
+    let event = c.in-Ok-Some.event in
+    let gives = next_given at r.events c.next_event.new.self event c.in-Ok-Some.field-0-is (c.in-Ok-Some.ensures.follows at r.events r.stands.follows) in
+    let reads = reads_next event c.in-Ok-Some.field-0-is (reads_found r c.in-Ok-Some.ensures.takes) in
+    runs_on r gives reads (c.in-Ok.ensures.puts r.events r.notes r.stands.world))
+
+pub returns-in-Err-clause-steps : goal.returns-in-Err-clause-steps
+returns-in-Err-clause-steps g c network first old running =
+    ends_as (c.network-network.ensures.value ∙ running.stands.follows.over) running (λ r.
+    let now = shown_by g.K.Sink c.args.out.now in
+    let new = shown_by g.K.Sink c.put_event.new.out in
+    let event = c.in-Ok-Some.event in
+    let puts = c.in-Err.ensures.puts r.events r.notes r.stands.world in
+    let writes = writes_event c.network-network.result.now r.events r.notes event c.put_event.new.world c.in-Err.status now new puts in
+    let reads = reads_next event c.in-Ok-Some.field-0-is (reads_found r c.in-Ok-Some.ensures.takes) in
+    ends_at_event c.next_event.new.self r reads puts (takes_little new r c.in-Ok-Some.ensures.takes writes))
+
+pub returns-in-Ok-None-clause-steps : goal.returns-in-Ok-None-clause-steps
+returns-in-Ok-None-clause-steps g c network first old running =
+    ends_as (c.network-network.ensures.value ∙ running.stands.follows.over) running (λ r.
+    let now = shown_by g.K.Sink c.args.out.now in
+    let new = shown_by g.K.Sink c.put_rest.new.out in
+    let puts = c.put_rest.ensures.puts r.events r.notes r.stands.world in
+    let writes = writes_rest c.network-network.result.now r.events r.notes c.args.self.now.time c.put_rest.new.world c.put_rest.result now new puts in
+    let ended = reads_end c.in-Ok-None.field-0-is (reads_found r c.in-Ok-None.ensures.takes) in
+    ends_at_end r ended puts (takes_little new r c.in-Ok-None.ensures.takes writes))
+
+pub returns-in-Err-Fault-clause-steps : goal.returns-in-Err-Fault-clause-steps
+returns-in-Err-Fault-clause-steps g c network first old running =
+    ends_as (c.network-network.ensures.value ∙ running.stands.follows.over) running (λ r.
+    let now = shown_by g.K.Sink c.args.out.now in
+    let new = shown_by g.K.Sink c.put_fault.new.out in
+    let line = c.from-line.result + 1 in
+    let fault = c.in-Err-Fault.fault in
+    let gives = subst (λ (f : TraceFault). Gives (fault_answer line f) c.put_fault.result now new) c.in-Err-Fault.fault-is c.put_fault.ensures.gives in
+    let status =
+    subst (λ (f : TraceFault). IsStatusOf f c.put_fault.result (PutFailed g.K.Sink c.args.out.now c.put_fault.new.out)) c.in-Err-Fault.fault-is
+    c.put_fault.ensures.status in
+    let writes = writes_answer (fault_answer line fault) c.put_fault.result now new gives in
+    let is = reads_fault fault c.in-Err-Fault.field-0-is (reads_found r c.in-Err-Fault.ensures.takes) in
+    let follows = c.in-Err-Fault.ensures.follows c.network-network.result.now r.events r.stands.follows in
+    ends_at_fault fault line r is (omega (arith, c.from-line.ensures, c.lines-in-Err-Fault.ensures, follows.lines)) gives status
+    (takes_little new r c.in-Err-Fault.ensures.takes writes))
+
+pub returns-in-Err-ReadFault-clause-steps : goal.returns-in-Err-ReadFault-clause-steps
+returns-in-Err-ReadFault-clause-steps g c network first old running =
+    ends_as (c.network-network.ensures.value ∙ running.stands.follows.over) running (λ r.
+    let now = shown_by g.K.Sink c.args.out.now in
+    let behind = stops_behind r c.in-Err-ReadFault.field-0-is (reads_found r c.in-Err-ReadFault.ensures.takes) in
+    ends_at_read r behind (takes_little now r c.in-Err-ReadFault.ensures.takes (writes_nothing now)))

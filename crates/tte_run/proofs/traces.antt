@@ -1,0 +1,19 @@
+-- A run under a trace: what is admitted, the records of the silent cycle, the one answer, and each step.
+pub mod EventTimes
+pub mod Faults
+pub mod Admitted
+pub mod Following
+pub mod ClockHistories
+pub mod BuiltNetworks
+pub mod EventRecords
+pub mod SilentRuns
+pub mod Answers
+pub mod Given
+pub mod Completes
+pub mod Sources
+pub mod WorldMarks
+pub mod PuttingRecords
+pub mod PuttingEvents
+pub mod Steps
+pub mod Streams
+pub mod Ends

@@ -1,0 +1,164 @@
+-- How a run under a trace ends.
+use Rattle.std.proofs.Common.{◌≡◌, ◌⊎◌, ◌+◌, ℕ, List, [], ◌∷◌, ◌++◌, length, Option, Some, None, Err, inl, inr, refl, sym, subst}
+use Rattle.std.specs.Prelude.{IfSome}
+use Rattle.drift_clock.specs.Segment.{Segment}
+use Rattle.drift_world.specs.Progress.{Progress}
+use Rattle.drift_world.specs.Standing.{last_time, mark_of}
+use Rattle.net_plan.specs.declared.event.Event.{Event}
+use Rattle.net_plan.specs.declared.network.Network.{Network}
+use Rattle.report_text.specs.NoteLine.{report_of}
+use Rattle.run_law.specs.declared.note.Note.{Note}
+use Rattle.tte_run.specs.Answering.{Gives, GivesOne}
+use Rattle.tte_run.specs.traces.Records.{AreSilentBefore, AreSilentSoFar, PutsEvent, PutsOr, PutsOrRest, PutsRest}
+use Rattle.tte_run.specs.Putting.{Shown, PutsLines}
+use Rattle.tte_run.specs.traces.Refusing.{fault_answer}
+use Rattle.tte_run.specs.traces.Answer.{IsBuilt, IsTraceAnswer}
+use Rattle.tte_run.specs.traces.Steps.{IsRunning, ReadsFrom, RunEnds}
+use Rattle.tte_run.specs.traces.Streaming.{ForTrace, StopsBehindLines, TakesLittle}
+use Rattle.tte_run.specs.traces.FaultLine.{fault_status}
+use Rattle.tte_run.specs.traces.Lines.{AreAdmitted, HaveEnded, IsFault, behind_lines}
+use Rattle.tte_run.specs.declared.trace.fault.TraceFault.{TraceFault}
+use Rattle.tte_run.specs.declared.trace.fault.TraceFault.TheVariants.{Missing, TooMany, After, Long, Line, Early, Event as Outlaw}
+use Rattle.tte_run.specs.declared.trace.lines.Trace.{Trace}
+use Rattle.tte_run.specs.declared.trace.steps.Running.{Running}
+use Rattle.tte_run.specs.declared.status.Status.{Status}
+use Rattle.tte_run.specs.declared.status.Status.TheVariants.{ReadFault, WriteFault, OutOfMemory}
+use Rattle.tte_run.proofs.traces.Answers.{IsAllAdmitted, all_records}
+use Rattle.tte_run.proofs.traces.Given.{cut_ended, cut_so_far, failed_ended, failed_so_far, fails_report, faulty_given, puts_report, whole_given}
+use Rattle.tte_run.proofs.traces.SilentRuns.{records_of_silent, so_far_of_silent}
+use Rattle.tte_run.proofs.traces.WorldMarks.{mark_within}
+use Rattle.tte_units.specs.Amount.{amount}
+use Rattle.tte_units.specs.declared.units.Units.{Units}
+
+-- little was taken of the trace
+abbrev pub Little : Network → Option (List ℕ) → Option (List ℕ) → Shown → Shown → Type 0
+Little network first after old new = ForTrace first after (λ octets rest. TakesLittle network octets rest old new)
+
+-- what holds for all octets that are told
+pub for_told : (left : Option (List ℕ)) (P : List ℕ → Type 0) → ((octets : List ℕ) → left ≡ Some octets → P octets) → IfSome left P
+for_told None P h = tt {0}
+for_told (Some octets) P h = h octets refl
+
+-- that was cut short at an event
+cut_given : (network : Network) (octets : List ℕ) (events : List Event) (notes more : List Note) (status : Status) (old now new : Shown) → IsBuilt network
+    → AreAdmitted network octets events → AreSilentSoFar network events (notes ++ more)
+    → PutsLines (report_of network notes) old now → PutsOr {T = Unit {0}} (Err status) (report_of network more) now new
+    → GivesOne (IsTraceAnswer network octets) status old new
+cut_given network octets events notes more status old now new built all run puts (inl f) =
+    failed_so_far network octets events (notes ++ more) status old new built all (so_far_of_silent network octets events (notes ++ more) built all run) f.0
+    (fails_report network notes more old now new puts f.1)
+cut_given network octets events notes more status old now new built all run puts (inr m) =
+    cut_so_far network octets events (notes ++ more) status old new built all (so_far_of_silent network octets events (notes ++ more) built all run) (inr m.0)
+    (puts_report network notes more old now new puts m.1)
+
+-- no read failed where a put failed, memory ran out, or the trace was refused
+no_read : {X Y : Type 0} (status : Status) → ((status ≡ WriteFault) × X) ⊎ ((status ≡ OutOfMemory) × Y) → status ≡ ReadFault → ⊥
+no_read status (inl w) is = let e = w.0 in cc
+no_read status (inr m) is = let e = m.0 in cc
+
+-- the status is that of the fault, or a put failed
+abbrev pub IsStatusOf : TraceFault → Status → Type 0 → Type 0
+IsStatusOf fault status PutFails = (status ≡ fault_status fault) ⊎ ((status ≡ WriteFault) × PutFails)
+
+fault_no_read : {X : Type 0} (fault : TraceFault) (status : Status) → (status ≡ fault_status fault) ⊎ ((status ≡ WriteFault) × X) → status ≡ ReadFault → ⊥
+fault_no_read fault status (inr w) is = let e = w.0 in cc
+fault_no_read Missing status (inl e) is = cc
+fault_no_read TooMany status (inl e) is = cc
+fault_no_read After status (inl e) is = cc
+fault_no_read Long status (inl e) is = cc
+fault_no_read (Line refusal) status (inl e) is = cc
+fault_no_read Early status (inl e) is = cc
+fault_no_read (Outlaw outside) status (inl e) is = cc
+
+rest_no_read : (network : Network) (events : List Event) (notes more : List Note) (end : Units) (status : Status) (old new : Shown)
+    → PutsOrRest network events notes more end status old new → status ≡ ReadFault → ⊥
+rest_no_read network events notes more end status old new (inl d) is = let e = d.0 in cc
+rest_no_read network events notes more end status old new (inr c) is = no_read status c is
+
+-- ---- at an event
+
+pub ends_at_event : {network : Network} {first left after : Option (List ℕ)} {old now new : Shown} {run : Running} {event : Event} (trace : Trace)
+    {world : Progress Segment} {status : Status}
+    → (r : IsRunning network first left old now run) → ReadsFrom first after network (r.events ++ event ∷ []) trace
+    → PutsEvent {T = Unit {0}} network r.events r.notes event world (Err status) now new → Little network first after old new
+    → RunEnds (IsTraceAnswer network) network first after status old new
+ends_at_event {network} {first} {old} {now} {new} trace {status} r reads p little = record {
+  general = for_told first (λ octets. GivesOne (IsTraceAnswer network octets) status old new)
+      (λ octets told. cut_given network octets p.befallen r.notes p.more status old now new r.stands.built (admitted octets told) p.so_far r.puts p.puts);
+  cut = λ is. absurd (no_read status p.puts is);
+  little = little;
+}
+  where
+    admitted : (octets : List ℕ) → first ≡ Some octets → AreAdmitted network octets p.befallen
+    admitted octets told =
+        elim p.whether [
+          | inl same ↦ subst (λ (es : List Event). AreAdmitted network octets es) (sym same) (r.reads octets told).2.admitted
+          | inr more ↦ subst (λ (es : List Event). AreAdmitted network octets es) (sym more) (reads octets told).2.admitted
+        ]
+
+-- ---- where a read fails
+
+pub ends_at_read : {network : Network} {first left after : Option (List ℕ)} {old now : Shown} {run : Running} → IsRunning network first left old now run
+    → ForTrace first after (λ octets rest. StopsBehindLines network octets rest old now) → Little network first after old now
+    → RunEnds (IsTraceAnswer network) network first after ReadFault old now
+ends_at_read {network} {first} {old} {now} r behind little = record {
+  general = for_told first (λ octets. GivesOne (IsTraceAnswer network octets) ReadFault old now) (λ octets told.
+      let all = (r.reads octets told).2.admitted in
+      cut_so_far network octets r.events r.notes ReadFault old now r.stands.built all
+      (so_far_of_silent network octets r.events r.notes r.stands.built all r.stands.so_far) (inl refl) r.puts);
+  cut = λ is. behind;
+  little = little;
+}
+
+-- ---- at a fault of the trace
+
+pub ends_at_fault : {network : Network} {first left after : Option (List ℕ)} {old now new : Shown} {run : Running} {status : Status} {PutFailed : Type 0}
+    (fault : TraceFault) (line : ℕ)
+    → (r : IsRunning network first left old now run) → ((octets : List ℕ) → first ≡ Some octets
+    → IsFault network r.events (behind_lines (length r.events) octets) fault) → line ≡ length r.events + 1
+    → Gives (fault_answer line fault) status now new → (status ≡ fault_status fault) ⊎ ((status ≡ WriteFault) × PutFailed) → Little network first after old new
+    → RunEnds (IsTraceAnswer network) network first after status old new
+ends_at_fault {network} {first} {old} {now} {new} {status} fault line r is count g which little = record {
+  general = for_told first (λ octets. GivesOne (IsTraceAnswer network octets) status old new) (λ octets told.
+      let all = (r.reads octets told).2.admitted in
+      faulty_given network octets r.events r.notes fault status old now new (record { admitted = all; is = is octets told })
+      (so_far_of_silent network octets r.events r.notes r.stands.built all r.stands.so_far) r.puts
+      (subst (λ (n : ℕ). Gives (fault_answer n fault) status now new) count g));
+  cut = λ read. absurd (fault_no_read fault status which read);
+  little = little;
+}
+
+-- ---- at the end
+
+-- the records up to the end were put, or some of them
+rest_given : (network : Network) (octets : List ℕ) (events : List Event) (notes : List Note) (time : Units) (world : Progress Segment) (status : Status)
+    (old now new : Shown) → IsBuilt network → IsAllAdmitted network octets events → time ≡ last_time events
+    → PutsLines (report_of network notes) old now → (p : PutsRest network events notes time world status now new)
+    → PutsOrRest network events notes p.more time status now new → GivesOne (IsTraceAnswer network octets) status old new
+rest_given network octets events notes time world status old now new built all last puts p (inl d) =
+    let silent = subst (λ (t : Units). AreSilentBefore network events ((amount t + 1) ∷ []) (notes ++ p.more)) last d.2 in
+    let run = records_of_silent network octets events ((amount (last_time events) + 1) ∷ []) (notes ++ p.more) built all.admitted (λ q before. before) silent in
+    whole_given network octets events (notes ++ p.more) status old new all (all_records events network octets (notes ++ p.more) all run) d.0
+    (puts_report network notes p.more old now new puts d.1)
+rest_given network octets events notes time world status old now new built all last puts p (inr (inl f)) =
+    let up = mark_within network world events (notes ++ p.more) p.stands in
+    let run = records_of_silent network octets events (mark_of world) (notes ++ p.more) built all.admitted up p.stands.run in
+    failed_ended network octets events (mark_of world) (notes ++ p.more) status old new all up run f.0 (fails_report network notes p.more old now new puts f.1)
+rest_given network octets events notes time world status old now new built all last puts p (inr (inr m)) =
+    let up = mark_within network world events (notes ++ p.more) p.stands in
+    let run = records_of_silent network octets events (mark_of world) (notes ++ p.more) built all.admitted up p.stands.run in
+    cut_ended network octets events (mark_of world) (notes ++ p.more) status old new all up run (inr m.0)
+    (puts_report network notes p.more old now new puts m.1)
+
+pub ends_at_end : {network : Network} {first left after : Option (List ℕ)} {old now new : Shown} {run : Running} {world : Progress Segment} {status : Status}
+    → (r : IsRunning network first left old now run) → ((octets : List ℕ) → first ≡ Some octets
+    → (behind_lines (length r.events) octets ≡ []) × HaveEnded r.events)
+    → PutsRest network r.events r.notes run.time world status now new → Little network first after old new
+    → RunEnds (IsTraceAnswer network) network first after status old new
+ends_at_end {network} {first} {old} {now} {new} {run} {world} {status} r ended p little = record {
+  general = for_told first (λ octets. GivesOne (IsTraceAnswer network octets) status old new) (λ octets told.
+      rest_given network octets r.events r.notes run.time world status old now new r.stands.built
+      (record { admitted = (r.reads octets told).2.admitted; ended = (ended octets told).1; none_left = (ended octets told).0 }) r.stands.last r.puts p p.puts);
+  cut = λ is. absurd (rest_no_read network r.events r.notes p.more run.time status now new p.puts is);
+  little = little;
+}

@@ -1,0 +1,166 @@
+-- A run under a trace goes on by a line, or ends.
+use Rattle.std.proofs.Common.{◌≡◌, ◌^◌, ◌<◌, ◌≤ℤ◌, ℕ, List, [], ◌∷◌, ◌++◌, length, Option, Some, None, Result, Ok, Err, refl, sym, subst, arith}
+use Rattle.std.proofs.lemmas.Bool.{false_from_ne_true}
+use Rattle.std.proofs.lemmas.Int.{ints}
+use Rattle.std.proofs.lemmas.List.{length-append}
+use Rattle.drift_clock.specs.Segment.{Segment}
+use Rattle.drift_world.proofs.Callers.{order_kept}
+use Rattle.drift_world.specs.Progress.{Progress}
+use Rattle.net_plan.specs.declared.event.Event.{Event}
+use Rattle.net_plan.specs.declared.network.Network.{Network}
+use Rattle.run_law.specs.scenario.Hypothesis.{SetsFastRate}
+use Rattle.run_law.specs.declared.note.Note.{Note}
+use Rattle.run_law.specs.declared.outside.Outside.TheVariants as conditions
+use Rattle.net_plan.specs.Belonging.{IsOfNetwork}
+use Rattle.trace_text.specs.Ranges.{IsTime}
+use Rattle.tte_run.specs.traces.Following.{Follows, GivesEvent, GoesOn, ReadsOn, TakesNext}
+use Rattle.tte_run.specs.traces.Records.{AreSilentSoFar, IsUnderway, MayBefall, PutsEvent, StandsExact}
+use Rattle.tte_run.specs.Putting.{Shown}
+use Rattle.tte_run.specs.traces.Answer.{IsBuilt, IsTraceAnswer, clock_reading}
+use Rattle.tte_run.specs.traces.Steps.{Begins, IsRunning, ReadsFrom, RunEnds, StandsBy}
+use Rattle.tte_run.specs.traces.Lines.{HaveEnded, IsFault, behind_lines}
+use Rattle.tte_run.specs.declared.trace.fault.TraceFault.{TraceFault}
+use Rattle.tte_run.specs.declared.trace.fault.TraceStop.{TraceStop}
+use Rattle.tte_run.specs.declared.trace.fault.TraceStop.TheVariants.{Fault}
+use Rattle.tte_run.specs.declared.status.Status.{Status}
+use Rattle.tte_run.specs.declared.trace.lines.Trace.{Trace}
+use Rattle.tte_run.specs.declared.trace.steps.Running.{Running}
+use Rattle.tte_run.proofs.traces.Admitted.{admitted_in_order, admitted_none, have_ended, last_is}
+use Rattle.tte_run.proofs.Puts.{PutsLines-none}
+use Rattle.tte_run.proofs.traces.EventRecords.{events_run}
+use Rattle.tte_run.proofs.traces.Given.{puts_report}
+use Rattle.tte_units.specs.Amount.{units_of}
+use Rattle.tte_units.specs.declared.units.Units.{Units}
+
+-- ---- the beginning
+
+pub stands_first : {network : Network} {run : Running} → IsBuilt network → Follows network [] run.trace → StandsExact network run.world [] []
+    → run.time ≡ units_of 0 → StandsBy network [] [] run
+stands_first {network} {run} built follows world time = record {
+  built = built;
+  follows = follows;
+  world = world;
+  so_far = events_run network (clock_reading network []) [] (admitted_in_order network [] [] (admitted_none network []));
+  last = time;
+  range = subst IsTime (sym time) (record { least = omega (arith, ints); most = omega (arith, ints) });
+}
+
+-- a run that begins is running
+pub begins_running : {network : Network} {run : Running} (left : Option (List ℕ)) (s : Shown) → Begins network run → IsRunning network left left s s run
+begins_running left s b = record {
+  events = [];
+  notes = [];
+  stands = b.stands;
+  reads = λ octets told. (octets, told, b.reads octets);
+  puts = PutsLines-none s;
+}
+
+-- ---- one network under two names
+
+pub stands_as : {network at : Network} {events : List Event} {notes : List Note} {run : Running} → at ≡ network → StandsBy network events notes run
+    → StandsBy at events notes run
+stands_as {network} {at} {events} {notes} {run} same stands = subst (λ (n : Network). StandsBy n events notes run) (sym same) stands
+
+pub runs_as : {network at : Network} {first left after : Option (List ℕ)} {run later : Running} {old now new : Shown} → at ≡ network
+    → IsRunning network first left old now run
+    → (IsRunning at first left old now run → IsRunning at first after old new later) → IsRunning network first after old new later
+runs_as {network} {at} {first} {left} {after} {run} {later} {old} {now} {new} same r on =
+    subst (λ (n : Network). IsRunning n first after old new later) same (on (subst (λ (n : Network). IsRunning n first left old now run) (sym same) r))
+
+pub ends_as : {network at : Network} {first left after : Option (List ℕ)} {run : Running} {status : Status} {old now new : Shown} → at ≡ network
+    → IsRunning network first left old now run
+    → (IsRunning at first left old now run → RunEnds (IsTraceAnswer at) at first after status old new)
+    → RunEnds (IsTraceAnswer network) network first after status old new
+ends_as {network} {at} {first} {left} {after} {run} {status} {old} {now} {new} same r ends =
+    subst (λ (n : Network). RunEnds (IsTraceAnswer n) n first after status old new) same
+    (ends (subst (λ (n : Network). IsRunning n first left old now run) (sym same) r))
+
+-- ---- the next event
+
+pub underway : {network : Network} {events : List Event} {notes : List Note} {run : Running} → StandsBy network events notes run → IsUnderway network run.world
+underway {network} {events} {notes} stands = record { events = events; notes = notes; of_network = stands.follows.watch.of_network; stands = stands.world }
+
+-- the trace gives this event
+pub next_given : (network : Network) (events : List Event) {found : Option Event} (trace : Trace) (event : Event) → found ≡ Some event
+    → GoesOn network events (Ok found) trace → GivesEvent network events event trace
+next_given network events {found} trace event same goes = let P : Option Event → Type 0 = λ f. GoesOn network events (Ok f) trace in subst P same goes
+
+-- it may befall the world
+pub next_befalls : {network : Network} {events : List Event} {notes : List Note} {run : Running} {event : Event} {trace : Trace} (line : ℕ)
+    → StandsBy network events notes run → GivesEvent network events event trace → line ≡ trace.lines → MayBefall run.world line event
+next_befalls {network} {events} {notes} {run} {event} line stands gives same = record {
+  number = omega (arith, same, gives.follows.lines, stands.world.lines, length-append events (event ∷ []));
+  order = subst (λ (t : Units). t.0 ≤ℤ event.time.0) (sym stands.world.now) (order_kept events event (gives.within conditions.Order) gives.range.time.least);
+  limit = gives.range.time.most;
+  of_network = subst (λ (n : Network). IsOfNetwork n event.what) (sym stands.world.same) gives.of_network;
+  rate = λ fast. gives.within conditions.Rate (subst (λ (n : Network). SetsFastRate n event) stands.world.same fast);
+  unended = false_from_ne_true run.world.ended (λ is. gives.unended (have_ended events run.world.now ((stands.world.ended run.world.now).1 (is, refl))));
+}
+
+-- one line less is left
+pub one_line_more : {network : Network} {events : List Event} {notes : List Note} {run : Running} {event : Event} {trace : Trace}
+    → StandsBy network events notes run → GivesEvent network events event trace → (run.trace.lines < trace.lines) × (trace.lines < 2 ^ 32)
+one_line_more {events} {event} stands gives =
+    (omega (arith, gives.follows.lines, stands.follows.lines, length-append events (event ∷ [])), omega (arith, gives.follows.lines, gives.follows.number))
+
+-- with it the run stands behind its record
+pub stands_next : {network : Network} {events : List Event} {notes : List Note} {run : Running} {event : Event} {trace : Trace} {world : Progress Segment}
+    {old new : Shown}
+    → StandsBy network events notes run → GivesEvent network events event trace
+    → (p : PutsEvent {T = Unit {0}} network events notes event world (Ok (tt {0})) old new)
+    → StandsBy network (events ++ event ∷ []) (notes ++ p.more) (record { trace = trace; world = world; time = event.time })
+stands_next {network} {events} {notes} {event} {world} stands gives p = record {
+  built = stands.built;
+  follows = gives.follows;
+  world = subst (λ (es : List Event). StandsExact network world es (notes ++ p.more)) p.befalls p.stands;
+  so_far = subst (λ (es : List Event). AreSilentSoFar network es (notes ++ p.more)) p.befalls p.so_far;
+  last = sym (last_is events event);
+  range = gives.range.time;
+}
+
+-- ---- what the trace reads
+
+-- what a call reads in the octets that the trace had at first
+pub record ReadsFound (first after : Option (List ℕ)) (network : Network) (events : List Event) (found : Result (Option Event) TraceStop)
+    (next : Trace) : Type 0 where
+  pub told : (octets : List ℕ) → first ≡ Some octets → (rest : List ℕ) × (after ≡ Some rest) × ReadsOn network octets events found next rest
+
+pub reads_found : {network : Network} {first left after : Option (List ℕ)} {old now : Shown} {run : Running} {found : Result (Option Event) TraceStop}
+    {next : Trace}
+    → (r : IsRunning network first left old now run) → TakesNext run.trace left found next after → ReadsFound first after network r.events found next
+reads_found {network} r takes = record { told = λ octets told. let h = r.reads octets told in takes.reads network octets r.events h.0 h.1 h.2 }
+
+pub reads_next : {network : Network} {first after : Option (List ℕ)} {events : List Event} {found : Option Event} {next : Trace} (event : Event)
+    → found ≡ Some event → ReadsFound first after network events (Ok found) next → ReadsFrom first after network (events ++ event ∷ []) next
+reads_next {network} {first} {after} {events} {found} {next} event same reads =
+    let P : Option Event → Type 0 = λ f. ReadsFound first after network events (Ok f) next in
+    let some = subst P same reads in some.told
+
+pub reads_end : {network : Network} {first after : Option (List ℕ)} {events : List Event} {found : Option Event} {next : Trace}
+    → found ≡ None → ReadsFound first after network events (Ok found) next → (octets : List ℕ) → first ≡ Some octets
+    → (behind_lines (length events) octets ≡ []) × HaveEnded events
+reads_end {network} {first} {after} {events} {found} {next} same reads octets told =
+    let P : Option Event → Type 0 = λ f. ReadsFound first after network events (Ok f) next in
+    let none = subst P same reads in (none.told octets told).2
+
+pub reads_fault : {network : Network} {first after : Option (List ℕ)} {events : List Event} {stop : TraceStop} {next : Trace} (fault : TraceFault)
+    → stop ≡ Fault fault → ReadsFound first after network events (Err stop) next → (octets : List ℕ) → first ≡ Some octets
+    → IsFault network events (behind_lines (length events) octets) fault
+reads_fault {network} {first} {after} {events} {stop} {next} fault same reads octets told =
+    let P : TraceStop → Type 0 = λ s. ReadsFound first after network events (Err s) next in
+    let stopped = subst P same reads in (stopped.told octets told).2
+
+-- ---- the run goes on
+
+pub runs_on : {network : Network} {first left after : Option (List ℕ)} {old now new : Shown} {run : Running} {event : Event} {trace : Trace}
+    {world : Progress Segment}
+    → (r : IsRunning network first left old now run) → GivesEvent network r.events event trace → ReadsFrom first after network (r.events ++ event ∷ []) trace
+    → PutsEvent {T = Unit {0}} network r.events r.notes event world (Ok (tt {0})) now new
+    → IsRunning network first after old new (record { trace = trace; world = world; time = event.time })
+runs_on {network} {old} {now} {new} {event} r gives reads p = record {
+  events = r.events ++ event ∷ [];
+  notes = r.notes ++ p.more;
+  stands = stands_next r.stands gives p;
+  reads = reads;
+  puts = puts_report network r.notes p.more old now new r.puts p.puts;
+}

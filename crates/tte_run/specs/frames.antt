@@ -1,0 +1,4 @@
+-- What `show` answers.
+pub mod FrameLine
+pub mod Answer
+pub mod Law

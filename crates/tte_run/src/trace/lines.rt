@@ -1,0 +1,183 @@
+ghost use Rattle.std.specs.Prelude.{◌≡◌, ◌≢◌, ◌↔◌, ◌<◌, ◌≤◌, ℕ, List, [], ◌∷◌, ◌++◌, length, Some, Ok, Err, IfOk, IfSome, IsNone, IsSome, IsTrue, MatchOption, MatchResult, OnOk};
+ghost use Rattle.net_plan.specs.Ranges.{IsInRange};
+ghost use Rattle.net_plan.specs.declared.event.Event.{Event as EventValue};
+ghost use Rattle.net_plan.specs.declared.network.Network.{Network as NetworkValue};
+ghost use Rattle.net_plan.specs.Belonging.{IsOfNetwork};
+ghost use Rattle.trace_text.specs.Ranges.{IsEventInRange};
+ghost use Rattle.tte_run.specs.Faults.{ReadFailed};
+ghost use Rattle.tte_run.specs.traces.Following.{Follows, GoesOn, IsFound, Judges, Reads, TakesNext};
+ghost use Rattle.tte_run.specs.traces.Lines.{HasEvent, IsAdmitted, IsEarly, IsFault, IsOpen};
+
+use crate::trace::fault::{TraceFault, TraceStop};
+use fault_hypothesis::Watch;
+use net_plan::{Event, Network, What};
+use schedule_tables::Accepted;
+use trace_text::line;
+use tte_io::{LineReader, LineTaken, Source};
+
+/// A trace that is taken line by line: each line's event is admitted by the fault hypothesis, given
+/// those before it, or the trace is refused.
+#[derive(Drop)]
+pub(crate) struct Trace<'a> {
+    accepted: &'a Accepted,
+    watch: Watch<'a>,
+    reader: LineReader,
+    /// How many lines gave an event.
+    lines: u32,
+    /// Was the last of these the end?
+    ended: bool,
+}
+
+impl<'a> Trace<'a> {
+    /// A trace of which no line was taken.
+    pub(crate) fn new(accepted: &'a Accepted) -> Trace<'a>
+        ensures follows { Follows accepted.now [] result }
+        ensures reads { (octets : List ℕ) → Reads accepted.now octets [] result octets }
+    {
+        Trace {
+            accepted,
+            watch: Watch::new(accepted),
+            reader: LineReader::new(),
+            lines: 0,
+            ended: false,
+        }
+    }
+
+    /// The network.
+    pub(crate) fn network(&self) -> &'a Network
+        ensures value { result.now ≡ self.now.accepted.now }
+        ensures in_range { IsInRange result.now }
+    {
+        self.accepted.network()
+    }
+
+    /// How many lines gave an event.
+    pub(crate) fn lines(&self) -> u32
+        ensures { result ≡ self.now.lines }
+    {
+        self.lines
+    }
+
+    /// The event of the next line, or None where the trace has ended.
+    ///
+    /// After a failed read the next call goes on where this one stopped. After a fault of the trace
+    /// no call is to follow.
+    pub(crate) fn next_event<B: Source>(
+        &mut self,
+        source: &mut B,
+    ) -> Result<Option<Event>, TraceStop>
+        ensures follows { (network : NetworkValue) (events : List EventValue) → Follows network events self.old
+            → GoesOn network events result self.new }
+
+        ensures takes { TakesNext self.old (B.left source.old) result self.new (B.left source.new) }
+
+        ensures never_falls { B.faults source.old ≤ B.faults source.new }
+        ensures unchanged { result ≢ Err TraceStop.ReadFault → B.faults source.new ≡ B.faults source.old }
+        ensures failed_rose { result ≡ Err TraceStop.ReadFault → ReadFailed B.Source source.old source.new }
+    {
+        match self.reader.next_line(source) {
+            Ok(found) => match self.judge(found) {
+                Ok(event) => Ok(event),
+                Err(fault) => Err(TraceStop::Fault(fault)),
+            },
+            Err(_) => Err(TraceStop::ReadFault),
+        }
+    }
+
+    /// The event of what was found, or None at the end of a trace that has ended.
+    fn judge(&mut self, found: LineTaken) -> Result<Option<Event>, TraceFault>
+        requires { found ≡ LineTaken.Whole → IsSome self.old.reader.text }
+        ensures judged { (network : NetworkValue) (events : List EventValue) (rest : List ℕ)
+            → Follows network events self.old → IsFound rest found self.old.reader
+            → Judges network events rest result self.new }
+        ensures of_network { IfOk result (λ event. IfSome event (λ e. IsOfNetwork self.old.accepted.now e.what)) }
+        ensures range { IfOk result (λ event. IfSome event IsEventInRange) }
+        ensures reader { self.new.reader ≡ self.old.reader }
+    {
+        match found {
+            LineTaken::Whole => match self.take_line() {
+                Ok(event) => Ok(Some(event)),
+                Err(fault) => Err(fault),
+            },
+            LineTaken::Long => match self.fault_of_line() {
+                Some(fault) => Err(fault),
+                None => Err(TraceFault::Long),
+            },
+            LineTaken::End if self.ended => Ok(None),
+            LineTaken::End => Err(TraceFault::Missing),
+        }
+    }
+
+    /// Why no further line may come, if that is so.
+    fn fault_of_line(&self) -> Option<TraceFault>
+        ensures fault { (network : NetworkValue) (events : List EventValue) (rest : List ℕ)
+            → Follows network events self.now → rest ≢ []
+            → MatchOption result (IsOpen events rest) (IsFault network events rest) }
+        ensures room { IsNone result → self.now.lines < u32.MAX }
+    {
+        if self.lines == u32::MAX {
+            Some(TraceFault::TooMany)
+        } else if self.ended {
+            Some(TraceFault::After)
+        } else {
+            None
+        }
+    }
+
+    /// The event of the line that was read.
+    fn event_of_line(&self) -> Result<Event, TraceFault>
+        requires { IsSome self.now.reader.text }
+        ensures judged { (network : NetworkValue) (events : List EventValue) (rest : List ℕ)
+            → Follows network events self.now → IsFound rest LineTaken.Whole self.now.reader
+            → MatchResult result (HasEvent network events rest) (IsFault network events rest) }
+        ensures of_network { IfOk result (λ event. IsOfNetwork self.now.accepted.now event.what) }
+        ensures range { IfOk result IsEventInRange }
+        ensures room { OnOk result (self.now.lines < u32.MAX) }
+    {
+        match self.fault_of_line() {
+            Some(fault) => return Err(fault),
+            None => (),
+        }
+        let network = self.accepted.network();
+        match line(network, self.reader.text()) {
+            Ok(event) if is_early(network, &event) => Err(TraceFault::Early),
+            Ok(event) => Ok(event),
+            Err(refusal) => Err(TraceFault::Line(refusal)),
+        }
+    }
+
+    /// The event of the line that was read, which is admitted.
+    fn take_line(&mut self) -> Result<Event, TraceFault>
+        requires { IsSome self.old.reader.text }
+        ensures judged { (network : NetworkValue) (events : List EventValue) (rest : List ℕ)
+            → Follows network events self.old → IsFound rest LineTaken.Whole self.old.reader
+            → MatchResult result
+            (λ event. IsAdmitted network events rest event × Follows network (events ++ event ∷ []) self.new)
+            (λ fault. IsFault network events rest fault × Follows network events self.new) }
+        ensures of_network { IfOk result (λ event. IsOfNetwork self.old.accepted.now event.what) }
+        ensures range { IfOk result IsEventInRange }
+        ensures reader { self.new.reader ≡ self.old.reader }
+    {
+        let event = match self.event_of_line() {
+            Ok(event) => event,
+            Err(fault) => return Err(fault),
+        };
+        match self.watch.admit(&event) {
+            Ok(()) => (),
+            Err(outside) => return Err(TraceFault::Event(outside)),
+        }
+        self.lines += 1;
+        self.ended = matches!(event.what, What::End);
+        Ok(event)
+    }
+}
+
+/// Is the run of the event not built yet? It is where the event sends, or comes when the first
+/// cycle is half over.
+fn is_early(network: &Network, event: &Event) -> bool
+    requires network { IsInRange network.now }
+    requires event { IsEventInRange event.now }
+    ensures { IsTrue result ↔ IsEarly network.now event.now }
+{
+    matches!(event.what, What::Send(_, _)) || network.cycle.amount() / 2 <= event.time.amount()
+}

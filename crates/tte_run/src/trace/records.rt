@@ -1,0 +1,103 @@
+ghost use Rattle.std.specs.Prelude.{◌≡◌, ◌⊎◌, List, IfErr, OnOk};
+ghost use Rattle.net_plan.specs.Ranges.{IsInRange};
+ghost use Rattle.net_plan.specs.declared.event.Event.{Event as EventValue};
+ghost use Rattle.run_law.specs.declared.note.Note.{Note as NoteValue};
+ghost use Rattle.trace_text.specs.Ranges.{IsTime};
+ghost use Rattle.tte_run.specs.traces.Records.{IsCut, IsUnderway, MayBefall, PutsEvent, PutsRest, PutsUntil, StandsExact};
+ghost use Rattle.tte_run.specs.Faults.{PutFailed};
+ghost use Rattle.tte_run.specs.Putting.{Over};
+
+use crate::Status;
+use drift_clock::SegmentClock;
+use drift_world::World;
+use net_plan::{Event, Network};
+use report_text::write;
+use tte_io::Sink;
+use tte_units::Units;
+
+/// The world of the program, whose clocks are exact.
+pub(crate) type ExactWorld<'a> = World<'a, SegmentClock>;
+
+/// Puts the next records that are earlier than a time.
+///
+/// The error is that a put failed or that memory ran out.
+pub(crate) fn put_until<K: Sink>(
+    world: &mut ExactWorld<'_>,
+    network: &Network,
+    until: Units,
+    out: &mut K,
+) -> Result<(), Status>
+    requires in_range { IsInRange network.now }
+    requires underway { IsUnderway network.now world.old }
+    ensures puts { (events : List EventValue) (notes : List NoteValue) → StandsExact network.now world.old events notes
+        → Over K.Sink out.old out.new (PutsUntil network.now events notes until world.new result) }
+    ensures quiet { OnOk result (K.faults out.new ≡ K.faults out.old) }
+    ensures cause { IfErr result (λ status. IsCut status (PutFailed K.Sink out.old out.new)) }
+{
+    'notes: loop {
+        match world.next(until) {
+            Ok(Some(note)) => match write(network, &note, out) {
+                Ok(()) => (),
+                Err(_) => return Err(Status::WriteFault),
+            },
+            Ok(None) => return Ok(()),
+            Err(_) => return Err(Status::OutOfMemory),
+        }
+    }
+}
+
+/// Puts the records that are earlier than the event of this line, lets it befall the network, and
+/// puts its record.
+///
+/// The error is that a put failed or that memory ran out.
+pub(crate) fn put_event<K: Sink>(
+    world: &mut ExactWorld<'_>,
+    network: &Network,
+    line: u64,
+    event: &Event,
+    out: &mut K,
+) -> Result<(), Status>
+    requires in_range { IsInRange network.now }
+    requires underway { IsUnderway network.now world.old }
+    requires next { MayBefall world.old line event.now }
+    ensures puts { (events : List EventValue) (notes : List NoteValue) → StandsExact network.now world.old events notes
+        → Over K.Sink out.old out.new (PutsEvent network.now events notes event.now world.new result) }
+    ensures quiet { OnOk result (K.faults out.new ≡ K.faults out.old) }
+    ensures cause { IfErr result (λ status. IsCut status (PutFailed K.Sink out.old out.new)) }
+{
+    match put_until(world, network, event.time, out) {
+        Ok(()) => (),
+        Err(status) => return Err(status),
+    }
+    let note = match world.apply(line, event) {
+        Ok(note) => note,
+        Err(_) => return Err(Status::OutOfMemory),
+    };
+    match write(network, &note, out) {
+        Ok(()) => Ok(()),
+        Err(_) => Err(Status::WriteFault),
+    }
+}
+
+/// Puts the records that are left, up to the end, which came at this time.
+///
+/// The status is Done, or that a put failed or that memory ran out.
+pub(crate) fn put_rest<K: Sink>(
+    world: &mut ExactWorld<'_>,
+    network: &Network,
+    end: Units,
+    out: &mut K,
+) -> Status
+    requires in_range { IsInRange network.now }
+    requires underway { IsUnderway network.now world.old }
+    requires time { IsTime end }
+    requires last { end ≡ world.old.now }
+    ensures puts { (events : List EventValue) (notes : List NoteValue) → StandsExact network.now world.old events notes
+        → Over K.Sink out.old out.new (PutsRest network.now events notes end world.new result) }
+    ensures cause { (result ≡ Status.Done) ⊎ IsCut result (PutFailed K.Sink out.old out.new) }
+{
+    match put_until(world, network, Units(end.0 + 1), out) {
+        Ok(()) => Status::Done,
+        Err(status) => status,
+    }
+}
