@@ -19,6 +19,7 @@ returns-clause-range c =
       precision = record { least = omega (arith, ints); most = omega (arith, ints) };
       correction = record { least = omega (arith, ints); most = omega (arith, ints) };
       tt_start = record { least = omega (arith, ints); most = omega (arith, ints) };
+      marker = omega arith;
       threshold_least = omega arith;
       threshold_most = omega arith;
       few_devices = omega (arith, devices.count);

@@ -28,6 +28,7 @@ returns c =
       precision = r.precision;
       correction = r.correction;
       tt_start = r.tt_start;
+      marker = r.marker;
       threshold_least = r.threshold_least;
       threshold_most = r.threshold_most;
       few_devices = omega (arith, two);
