@@ -86,6 +86,7 @@ pub record BlockGoesSo (v : View) (n next t : ℕ) (before : Hull) : Type 0 wher
   pub old_alone : (device : DeviceId) (cycle : ℕ) (verdict : Verdict) → HasTimeAt v device t
       → ComesTo v t device cycle verdict → (verdict ≡ Cleared → ⊥) → IsOldAt v next device t
 
+-- each instant of each block brings what it should
 abbrev pub BlocksGoSo : Type 0
 BlocksGoSo =
     (v : View) (n t : ℕ) (block : IsInBlock v n t) → IsView v → BlockGoesSo v n block.before.next t block.before.hull
@@ -192,6 +193,7 @@ BlocksCover = (v : View) (t : ℕ) → IsView v → t ≤ v.until → (n : ℕ) 
 
 -- ---- precision within a block
 
+-- within a block the clocks of any two devices that have a common time are close
 abbrev pub ClocksAgreeInBlocks : Type 0
 ClocksAgreeInBlocks =
     (v : View) (n t u : ℕ) (d e : DeviceId) → IsInBlock v n t → IsView v → t ≤ u → u ≤ t + 1 → HasTimeAt v d u

@@ -94,6 +94,7 @@ pub record IsHeardInBlock (v : View) (cycle q : ℕ) : Type 0 where
   pub not_early : hull.least ≤ℤ pos q
   pub not_late : pos q <ℤ first_correction v.sizes before
 
+-- a frame that has a good member is heard so, where the dispatches before it lie in narrow hulls
 abbrev pub HeardInTheirBlocks : Type 0
 HeardInTheirBlocks =
     (v : View) (device : DeviceId) (channel : Channel) (cycle : ℕ) (members : Members) (h : Happening) (q : ℕ)

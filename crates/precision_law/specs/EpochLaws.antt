@@ -32,6 +32,7 @@ abbrev pub next_of : Option Happening → ℕ
 next_of None = 1
 next_of (Some h) = if is_correction h.note.body then cycle_set h h.note.body + 1 else cycle_set h h.note.body
 
+-- the records show it by the last setting of the clock
 abbrev pub NextCycleIsOfLast : Type 0
 NextCycleIsOfLast =
     (hs : List Happening) (device : DeviceId) → recorded_cycle hs device ≡ next_of (last_setting hs device)
@@ -75,5 +76,6 @@ pub record HasNumber (v : View) (device : DeviceId) (t : ℕ) : Type 0 where
   pub cleared : has_cleared v.scenario v.records device t t ≡ true
       → next_cycle v.scenario v.records device t ≡ epoch_cycle (earlier t v.records) device + 1
 
+-- it is so for each device, at each time
 abbrev pub EpochsFixNumbers : Type 0
 EpochsFixNumbers = (v : View) (device : DeviceId) (t : ℕ) → IsView v → HasNumber v device t

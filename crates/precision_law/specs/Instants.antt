@@ -34,6 +34,7 @@ pub record AreInOrder (n : Sizes) (before hull : Hull) : Type 0 where
   pub next_later : first_correction n before ≤ℤ first_correction n hull
   pub hulls : before.greatest ≤ℤ hull.least
 
+-- they lie so where the hull before is narrow
 abbrev pub InstantsAreInOrder : Type 0
 InstantsAreInOrder =
     (n : Sizes) (before hull : Hull) → HaveRoom n → IsNarrow n before → Follows n before hull → AreInOrder n before hull
@@ -43,6 +44,7 @@ pub record ShowsCorrection (n : Sizes) (shown : ℤ) (cycle : ℕ) : Type 0 wher
   pub least : pos (cycle * n.cycle + n.correction) ≤ℤ shown
   pub most : shown ≤ℤ pos (cycle * n.cycle + n.correction + n.precision)
 
+-- where the hull before is narrow, it does
 abbrev pub SetClocksShowCorrection : Type 0
 SetClocksShowCorrection =
     (n : Sizes) (shown : ℤ) (cycle t : ℕ) (before hull : Hull) → HaveRoom n → IsNarrow n before → Follows n before hull
@@ -54,6 +56,7 @@ pub record ShowsNearCorrection (n : Sizes) (shown : ℤ) (cycle : ℕ) : Type 0 
   pub least : pos (cycle * n.cycle + n.correction) ≤ℤ (shown +ℤ pos n.precision)
   pub most : shown ≤ℤ pos (cycle * n.cycle + n.correction + n.precision)
 
+-- where the hull before is narrow, it does
 abbrev pub SetClocksStayAtCorrection : Type 0
 SetClocksStayAtCorrection =
     (n : Sizes) (shown : ℤ) (cycle t : ℕ) (before hull : Hull) → HaveRoom n → IsNarrow n before → Follows n before hull
@@ -64,6 +67,7 @@ SetClocksStayAtCorrection =
 abbrev pub IsNotBefore : Sizes → ℕ → Hull → Type 0
 IsNotBefore n cycle hull = pos (cycle * n.cycle) ≤ℤ ((hull.least +ℤ pos (cycle * n.reach)) +ℤ pos n.settled)
 
+-- if one hull is not before its time, the next one is not
 abbrev pub HullsGoOn : Type 0
 HullsGoOn =
     (n : Sizes) (cycle : ℕ) (before hull : Hull) → IsNotBefore n cycle before → Follows n before hull

@@ -54,6 +54,7 @@ pub record ComesIn (s : Scenario) (hs : List Happening) (until : ℕ) (device : 
       → IsInStepBefore s hs device t → IsInStepBefore s hs e t
       → AreClose s.network (local_before s hs device t) (local_before s hs e t)
 
+-- each device that joins comes in so
 abbrev pub JoinersComeIn : Type 0
 JoinersComeIn =
     (s : Scenario) (mark : List ℕ) (ns : List Note) (until : ℕ) → IsRunUpTo s mark ns until

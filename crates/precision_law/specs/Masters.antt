@@ -33,6 +33,7 @@ pub record OneIsBroken (v : View) (device : DeviceId) : Type 0 where
   pub master : has_role v.scenario.network is_master device ≡ true
   pub only : (other : DeviceId) → IsBad v other → other ≡ device
 
+-- whichever device is broken, it is so
 abbrev pub OneMasterBreaks : Type 0
 OneMasterBreaks = (v : View) (device : DeviceId) → IsView v → IsBad v device → OneIsBroken v device
 

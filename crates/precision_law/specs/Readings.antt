@@ -54,6 +54,7 @@ pub record IsRipe (n : Sizes) (reading : ℕ → ℕ) (arrived : ℕ) (point : �
   pub most : pos (reading q) ≤ℤ (point +ℤ pos (2 * n.grain))
   pub before : (pos (reading (q - 1)) <ℤ point) ⊎ (pos (reading q) ≡ point)
 
+-- where a reading reaches the point, the frame is permanent so
 abbrev pub PermanenceIsSharp : Type 0
 PermanenceIsSharp =
     (n : Sizes) (reading : ℕ → ℕ) (arrived : ℕ) (point : ℤ) (q : ℕ) → IsSteady n reading

@@ -92,6 +92,7 @@ pub record IsReachedNear (n : Sizes) (low high : ℤ) (v t : ℕ) : Type 0 where
   pub not_early : (low +ℤ pos (2 * v)) ≤ℤ (pos (2 * t) +ℤ pos (2 * n.drift))
   pub not_late : pos (2 * t) ≤ℤ ((high +ℤ pos (2 * v)) +ℤ pos (2 * n.drift + 4 * n.grain))
 
+-- an anchored clock reaches a value so
 abbrev pub AnchoredClocksReach : Type 0
 AnchoredClocksReach =
     (n : Sizes) (shown : ℤ) (cycle : ℕ) (low high : ℤ) (v t : ℕ) → ShowsNear n shown cycle low high t
@@ -103,6 +104,7 @@ pub record IsReachedIn (n : Sizes) (hull : Hull) (v t : ℕ) : Type 0 where
   pub not_early : ((hull.least +ℤ pos v) +ℤ pos (2 * n.grain)) ≤ℤ (pos t +ℤ pos n.reach)
   pub not_late : pos t ≤ℤ ((hull.greatest +ℤ pos v) +ℤ pos n.reach)
 
+-- a clock that was set in the hull reaches a value so
 abbrev pub SetClocksReach : Type 0
 SetClocksReach =
     (n : Sizes) (reading : ℕ → ℕ) (adjustment : ℤ) (cycle : ℕ) (hull : Hull) (r v t : ℕ) → HaveRoom n
@@ -125,6 +127,7 @@ pub record ShowsIn (n : Sizes) (shown : ℤ) (cycle : ℕ) (hull : Hull) (t : �
   pub least : (pos (cycle * n.cycle) +ℤ pos t) ≤ℤ (shown +ℤ (hull.greatest +ℤ pos (n.clock + n.drift)))
   pub most : (shown +ℤ hull.least) ≤ℤ (pos (cycle * n.cycle) +ℤ (pos t +ℤ pos (n.clock + n.drift)))
 
+-- over two cycles it shows this
 abbrev pub SetClocksShow : Type 0
 SetClocksShow =
     (n : Sizes) (reading : ℕ → ℕ) (adjustment : ℤ) (cycle : ℕ) (hull : Hull) (r t : ℕ) → IsSteady n reading → r ≤ t

@@ -84,6 +84,7 @@ pub record IsInTime (v : View) (first : Happening) (q : ℕ) : Type 0 where
   pub not_early : time_of first + v.sizes.dmax ≤ q + v.sizes.path
   pub not_late : q ≤ time_of first + v.sizes.dmax + v.sizes.path
 
+-- so is each frame that went up the path of a device
 abbrev pub TripsUpTakeDmax : Type 0
 TripsUpTakeDmax =
     (v : View) (first last : Happening) (legs : List Leg) (channel : Channel) (device cm : DeviceId) (point : ℤ) (q : ℕ)
@@ -92,6 +93,7 @@ TripsUpTakeDmax =
     → clock_in first ≡ 0 → IsTrip v Up first legs last → (p : IsPermanentAt v last cm point q) → clock_in last ≡ p.clock
     → IsInTime v first q
 
+-- and each that came down to a device
 abbrev pub TripsDownTakeDmax : Type 0
 TripsDownTakeDmax =
     (v : View) (first last : Happening) (legs : List Leg) (channel : Channel) (device : DeviceId) (point : ℤ) (q : ℕ)

@@ -1,0 +1,114 @@
+-- How a switch stands at the beginning.
+use Rattle.std.proofs.Common.{◌≡◌, ◌∙◌, ℕ, ◌≤◌, ◌^◌, ◌+◌, ◌*◌, ℤ, pos, ◌+ℤ◌, ◌≤ℤ◌, [], Option, Some, None, refl, sym, ap, arith}
+use Rattle.std.proofs.lemmas.Int.{ints}
+use Rattle.std.specs.Prelude.{IfSome, option_and_then}
+use Rattle.clock_correction.specs.Deviation.{IsSmall}
+use Rattle.compression.specs.Collecting.{fresh}
+use Rattle.membership.specs.Summary.{silence}
+use Rattle.net_plan.specs.Ranges.{IsWithin}
+use Rattle.net_plan.specs.declared.ids.DeviceId.{DeviceId}
+use Rattle.net_plan.specs.declared.network.Network.{Network}
+use Rattle.run_law.specs.control.Corrections.{correction_value}
+use Rattle.run_law.specs.control.Hearing.{last_cycle}
+use Rattle.run_law.specs.machines.Nodes.{begun_node}
+use Rattle.run_law.specs.scenario.Devices.{expected_by, plan_of, start_of}
+use Rattle.switch_ports.proofs.Amounts.{its_amount}
+use Rattle.switch_ports.proofs.CorrectedStands.{and_then_same, silent_now}
+use Rattle.switch_ports.proofs.Fair.{HasRoom}
+use Rattle.switch_ports.proofs.Hearings.{fresh_stands, nothing_done, silent, times_three, times_two}
+use Rattle.switch_ports.proofs.Rooms.{expected_is, room}
+use Rattle.switch_ports.specs.Corrections.{correction_at, reading_of}
+use Rattle.switch_ports.specs.Sites.{IsSiteOf}
+use Rattle.switch_ports.specs.Standing.{HasTaken, IsAccepted, LeavesNone, StandsAs}
+use Rattle.switch_ports.specs.Steady.{IsFair}
+use Rattle.switch_ports.specs.declared.switch.Switch.{Switch}
+use Rattle.sync_state.specs.Standing.{Standing, adjustment_at_start, begun, next_point, state_at_start}
+use Rattle.sync_state.specs.declared.plan.SyncPlan.{SyncPlan}
+use Rattle.sync_state.specs.declared.state.State.TheVariants.{Joining}
+use Rattle.tte_units.specs.Amount.{amount}
+use Rattle.tte_units.specs.declared.units.Units.{Units}
+
+small_within : (u : Units) → IsWithin 0 (2 ^ 40) u → IsSmall u.0
+small_within u h = let a = h.least in let b = h.most in (omega (arith, ints, a, b), omega (arith, ints, a, b))
+
+start_small : (o : Option Units) → IfSome o (IsWithin 0 (2 ^ 40)) → IsSmall (adjustment_at_start o).0
+start_small None h = (omega (arith, ints), omega (arith, ints))
+start_small (Some u) h = small_within u h
+
+start_least : (o : Option Units) → IfSome o (IsWithin 0 (2 ^ 40)) → pos 0 ≤ℤ (adjustment_at_start o).0
+start_least None h = omega (arith, ints)
+start_least (Some u) h = h.least
+
+no_joiner : (o : Option Units) → state_at_start o ≡ Joining → ⊥
+no_joiner None e = cc
+no_joiner (Some u) e = cc
+
+never_less : (x : ℤ) → x ≤ℤ x
+never_less x = omega (arith, ints)
+
+from_nothing : (x : ℤ) → x ≤ℤ (pos 0 +ℤ x)
+from_nothing x = omega (arith, ints)
+
+lower_first : (r e k p : ℕ) (x start three two : ℤ) → HasRoom r e k p → x ≡ (pos (1 * r) +ℤ pos e) → pos 0 ≤ℤ start → three ≡ pos (3 * p) → two ≡ pos (2 * r)
+    → (x +ℤ three) ≤ℤ (start +ℤ two)
+lower_first r e k p x start three two h a b c d =
+    let f = h.expected in let g = h.correction in
+    omega (arith, ints, a, b, c, d, f, g)
+
+few : (l : ℕ) → 1 ≤ l + 2
+few l = omega arith
+
+pub begun_stands : (s : Switch) (network : Network) (device : DeviceId) → IsAccepted network → LeavesNone network device → IsSiteOf network device s.site
+    → HasTaken network device s.intake [] → s.sync ≡ begun s.site.plan (start_of network device) → IfSome (start_of network device) (IsWithin 0 (2 ^ 40))
+    → s.heard ≡ silence → s.collector ≡ fresh s.site.precision.0 s.site.calc.0 → s.changed ≡ s.sync.adjustment
+    → s.corrects_at ≡ option_and_then (λ cycle. correction_at s.site cycle s.sync.adjustment.0 s.changed.0) (next_point s.sync)
+    → StandsAs s network device (begun_node network device)
+begun_stands s network device accepted leaves site intake sync start heard collector changed corrects =
+    let standing : begun (plan_of network device) (start_of network device) ≡ s.sync =
+    sym (sync ∙ ap (λ (p : SyncPlan). begun p (start_of network device)) site.plan) in
+    let adjustment : s.sync.adjustment.0 ≡ (adjustment_at_start (start_of network device)).0 = ap (λ (x : Standing). x.adjustment.0) (sym standing) in
+    let changed_is : s.changed.0 ≡ (adjustment_at_start (start_of network device)).0 = ap (λ (u : Units). u.0) changed ∙ adjustment in
+    let p = its_amount _ _ network.precision accepted.range.precision in
+    let r = its_amount _ _ network.cycle accepted.range.cycle in
+    record {
+      accepted = accepted;
+      leaves = leaves;
+      intake = intake;
+      site = site;
+      sound = refl;
+      standing = standing;
+      plan = refl;
+      heard = silent_now s.heard heard;
+      changed = sym changed_is;
+      corrects = corrects
+          ∙ and_then_same (λ (cycle : ℕ). correction_at s.site cycle s.sync.adjustment.0 s.changed.0)
+          (λ (cycle : ℕ). reading_of (correction_value network cycle) s.sync.adjustment.0 s.changed.0) (next_point s.sync)
+          (λ cycle. ap (λ (q : SyncPlan). reading_of (pos (cycle * amount q.cycle_length + amount s.site.correction)) s.sync.adjustment.0 s.changed.0) site.plan
+          ∙ ap (λ (u : Units). reading_of (pos (cycle * amount network.cycle + amount u)) s.sync.adjustment.0 s.changed.0) site.correction)
+          ∙ ap (λ (x : Standing). option_and_then (λ (cycle : ℕ). reading_of (correction_value network cycle) x.adjustment.0 s.changed.0) (next_point x))
+          (sym standing)
+          ∙ ap (λ (z : ℤ). option_and_then (λ (cycle : ℕ). reading_of (correction_value network cycle) (adjustment_at_start (start_of network device)).0 z)
+          (next_point (begun (plan_of network device) (start_of network device)))) changed_is;
+      done = λ cycle there. nothing_done cycle 1 there;
+      begun = never_less (pos 0);
+      small = start_small (start_of network device) start;
+      steady = λ timed. record {
+        number = few last_cycle;
+        lower =
+            lower_first (amount network.cycle) (expected_by network device) (amount network.correction) (amount network.precision) _ _ _ _
+            (room network device accepted) (expected_is network device 1 accepted) (start_least (start_of network device) start) (times_three _ _ p)
+            (times_two _ _ r);
+        upper = from_nothing _;
+        joined = λ j i. absurd (no_joiner (start_of network device) j);
+        fair = λ lt ch. silent (IsFair network (begun (plan_of network device) (start_of network device))) s.heard ch heard;
+      };
+      collects = rw collector (record {
+        collected = fresh_stands s.site.precision.0 s.site.calc.0;
+        window = ap (λ (u : Units). u.0) site.precision;
+        calc = ap (λ (u : Units). u.0) site.calc;
+        idle = λ n. refl;
+        earliest = λ limit low points emitted. low;
+        masters = λ k d lt. absurd (omega (arith, lt));
+        from_zero = λ k d lt. absurd (omega (arith, lt));
+      });
+    }

@@ -1,0 +1,97 @@
+-- How a switch stands when its correction point has come.
+use Rattle.std.proofs.Common.{◌≡◌, ◌∙◌, ℕ, ◌≤◌, ◌^◌, ◌+◌, ◌*◌, ℤ, pos, neg_ℤ, ◌+ℤ◌, ◌-ℤ◌, ◌*ℤ◌, ◌≤ℤ◌, ◌<ℤ◌, Bool, true, false, not, Option, Some, None, IsSomeAnd, refl, sym, subst, ap, arith}
+use Rattle.std.proofs.lemmas.Int.{ints}
+use Rattle.std.proofs.Math.Nat.{mul-le-mul_right}
+use Rattle.std.specs.Prelude.{IfSome, is_some}
+use Rattle.clock_correction.specs.Deviation.{IsSmall}
+use Rattle.membership.specs.Summary.{best_on}
+use Rattle.membership.specs.declared.frame.HeardFrame.{HeardFrame}
+use Rattle.net_plan.specs.declared.ids.DeviceId.{DeviceId}
+use Rattle.net_plan.specs.declared.network.Network.{Network}
+use Rattle.pcf_values.specs.declared.channel.Channel.{Channel}
+use Rattle.run_law.specs.control.Corrections.{correction_value}
+use Rattle.run_law.specs.control.Hearing.{last_cycle}
+use Rattle.run_law.specs.machines.Nodes.{Node}
+use Rattle.run_law.specs.scenario.Devices.{expected_by}
+use Rattle.switch_ports.proofs.Amounts.{amount_most, its_amount}
+use Rattle.switch_ports.proofs.Pending.{correction_pending}
+use Rattle.switch_ports.proofs.Ranges.{expected_most}
+use Rattle.switch_ports.proofs.Rooms.{expected_is}
+use Rattle.switch_ports.specs.Standing.{StandsAs}
+use Rattle.switch_ports.specs.Steady.{IsFair, is_timed}
+use Rattle.switch_ports.specs.declared.switch.Switch.{Switch}
+use Rattle.sync_state.specs.Plan.{expected_at}
+use Rattle.sync_state.specs.Standing.{Standing, next_point, point_in}
+use Rattle.sync_state.specs.Verdicts.{IsNear}
+use Rattle.sync_state.specs.declared.plan.SyncPlan.{SyncPlan}
+use Rattle.sync_state.specs.declared.state.State.TheVariants.{Off, Integrating, Joining, Synchronised}
+use Rattle.sync_state.specs.declared.state.State.{State}
+use Rattle.tte_units.specs.Amount.{amount}
+use Rattle.tte_units.specs.declared.units.Units.{Units}
+
+pub timed_next : (state : State) (number cycle : ℕ) → point_in state number ≡ Some cycle → (is_timed state ≡ true) × (number ≡ cycle)
+timed_next Off number cycle e = absurd cc
+timed_next Integrating number cycle e = absurd cc
+timed_next Joining number cycle e = (refl, cc)
+timed_next Synchronised number cycle e = (refl, cc)
+
+number_some : (o : Option ℕ) (n limit : ℕ) → o ≡ Some n → n ≤ limit → IsSomeAnd o (λ k. k ≤ limit)
+number_some o n limit e h = subst (λ (p : Option ℕ). IsSomeAnd p (λ k. k ≤ limit)) (sym e) h
+
+-- the number of the next correction point
+pub number_within : (s : Switch) (network : Network) (device : DeviceId) (node : Node) (cycle : ℕ) → StandsAs s network device node
+    → next_point s.sync ≡ Some cycle → IsSomeAnd (next_point s.sync) (λ n. n ≤ last_cycle + 2)
+number_within s network device node cycle st e =
+    let own : next_point node.standing ≡ Some cycle = ap next_point st.standing ∙ e in
+    let t = timed_next node.standing.state node.standing.number cycle own in
+    number_some (next_point s.sync) cycle (last_cycle + 2) e (subst (λ (n : ℕ). n ≤ last_cycle + 2) t.1 (st.steady t.0).number)
+
+near_by : (n l r e p : ℕ) (x point adjustment prec two : ℤ) → n ≤ l + 1 → l ≡ 2 ^ 20 + 2 ^ 17 → r ≤ 2 ^ 40 → e ≤ 2 ^ 43 → p ≤ 2 ^ 40 → prec ≡ pos p
+    → two ≡ pos (2 * r) → x ≡ (pos (n * r) +ℤ pos e)
+    → neg_ℤ (pos (2 ^ 41)) ≤ℤ point → point ≤ℤ pos (2 ^ 60 + 2 ^ 51) → (point +ℤ adjustment) ≤ℤ (x +ℤ prec) → x ≤ℤ ((point +ℤ adjustment) +ℤ two)
+    → IsSmall (x -ℤ point) × IsSmall ((x -ℤ point) -ℤ adjustment)
+near_by n l r e p x point adjustment prec two a is b d pm q t xe low high h k =
+    let more : n * r ≤ (l + 1) * r = mul-le-mul_right r a in
+    let most : (l + 1) * r ≤ (2 ^ 20 + 2 ^ 17 + 1) * r = rw is (omega arith) in (
+      (omega (arith, ints, more, most, b, d, xe, low, high), omega (arith, ints, more, most, b, d, xe, low, high)),
+      (omega (arith, ints, more, most, b, d, pm, q, h, xe), omega (arith, ints, more, most, b, d, t, k, xe)),
+    )
+
+near_frame : (network : Network) (device : DeviceId) (s : Switch) (node : Node) (frame : HeardFrame) → StandsAs s network device node
+    → IsFair network node.standing frame → IsNear node.standing frame
+near_frame network device s node frame st f =
+    let en = ap (λ (q : SyncPlan). expected_at q node.standing.number) st.plan ∙ expected_is network device node.standing.number st.accepted in
+    let r = its_amount _ _ network.cycle st.accepted.range.cycle in
+    let n = near_by node.standing.number last_cycle (amount network.cycle) (expected_by network device) (amount network.precision)
+    (expected_at node.standing.plan node.standing.number) frame.point.0 node.standing.adjustment.0 network.precision.0 (pos 2 *ℤ network.cycle.0)
+    f.cycle refl (amount_most _ _ network.cycle st.accepted.range.cycle) (expected_most network device st.accepted.range)
+    (amount_most _ _ network.precision st.accepted.range.precision)
+    (its_amount _ _ network.precision st.accepted.range.precision) (omega (arith, ints, r)) en f.point.low f.point.high f.behind f.ahead in
+    record { difference = n.0; deviation = n.1 }
+
+if_mapped : {X : Type 0} (P Q : X → Type 0) (o : Option X) → ((x : X) → P x → Q x) → IfSome o P → IfSome o Q
+if_mapped P Q None f h = tt
+if_mapped P Q (Some x) f h = f x h
+
+-- what is heard is near, where the correction point is to come
+pub is_near : (s : Switch) (network : Network) (device : DeviceId) (node : Node) (at : Units) (ch : Channel) → StandsAs s network device node
+    → s.corrects_at ≡ Some at → IfSome (best_on ch s.heard) (IsNear s.sync)
+is_near s network device node at ch st e =
+    let p = correction_pending s network device node at st e in
+    let t = timed_next node.standing.state node.standing.number p.0 p.3 in
+    let lt : node.changed <ℤ correction_value network node.standing.number = subst (λ (n : ℕ). node.changed <ℤ correction_value network n) (sym t.1) p.1.1.ahead
+    in
+    subst (λ (x : Standing). IfSome (best_on ch s.heard) (IsNear x)) st.standing
+    (if_mapped (IsFair network node.standing) (IsNear node.standing) (best_on ch s.heard) (λ f fair. near_frame network device s node f st fair)
+    ((st.steady t.0).fair lt ch))
+
+pub some_if : (o : Option Units) (b : Bool) → is_some o ≡ not b → b ≡ false → (at : Units) × (o ≡ Some at)
+some_if None b e t = absurd (let f : not b ≡ not false = ap not t in let g : false ≡ not false = e ∙ f in cc)
+some_if (Some at) b e t = (at, refl)
+
+pub none_if : (o : Option Units) (b : Bool) → is_some o ≡ not b → b ≡ true → o ≡ None
+none_if None b e t = refl
+none_if (Some at) b e t = absurd (let f : not b ≡ not true = ap not t in let g : true ≡ not true = e ∙ f in cc)
+
+pub never_some : {X : Type 0} (x : X) → None ≡ Some x → ⊥
+never_some x e = cc

@@ -1,0 +1,211 @@
+-- How a compression master stands when it has sent a frame.
+use Rattle.std.proofs.Common.{◌≡◌, ◌∙◌, inl, inr, ℕ, ◌<◌, ℤ, pos, negsuc, neg_ℤ, ◌+ℤ◌, ◌≤ℤ◌, ◌<ℤ◌, get_or, suc, List, [], ◌∷◌, ◌++◌, Option, Some, None, All, refl, sym, subst, ap, arith}
+use Rattle.std.proofs.lemmas.Int.{ints}
+use Rattle.std.proofs.lemmas.List.Elements.{All-contains, All-contains_itself, Contains-append_left, Contains-append_right}
+use Rattle.std.specs.List.{AllByRecursion, Contains}
+use Rattle.std.specs.Prelude.{IfSome, IsSomeAnd, unsigned_abs}
+use Rattle.std.specs.Int.{int_max}
+use Rattle.compression.proofs.Elements.{in_head}
+use Rattle.compression.specs.Clusters.{Cluster}
+use Rattle.compression.specs.Collecting.{Collecting}
+use Rattle.compression.specs.Emission.{compressed}
+use Rattle.compression.specs.Least.{IsLeast}
+use Rattle.compression.specs.Stands.{StandsForPoints}
+use Rattle.compression.specs.declared.compressed.Compressed.{Compressed}
+use Rattle.net_plan.specs.declared.ids.DeviceId.{DeviceId}
+use Rattle.net_plan.specs.declared.network.Network.{Network}
+use Rattle.run_law.specs.declared.steps.Moment.{Moment}
+use Rattle.run_law.specs.machines.Calls.{MayCall}
+use Rattle.run_law.specs.machines.Nodes.{Node, Phase, sending, correcting, dispatching}
+use Rattle.run_law.specs.machines.Tasks.{IsFirstTask, IsPending, Task, emitting, doing, order_of, reading_for}
+use Rattle.run_law.specs.records.Order.{IsBefore}
+use Rattle.switch_ports.proofs.Pending.{IsCorrection, IsEmission, emission_pending, kind_of, some_window}
+use Rattle.switch_ports.proofs.Waiting.{first_opened, opened_beyond}
+use Rattle.switch_ports.specs.Standing.{StandsAs}
+use Rattle.switch_ports.specs.declared.switch.Switch.{Switch}
+use Rattle.tte_units.specs.declared.units.Units.{Units}
+
+-- the device that has sent one frame more
+abbrev pub with_sent : Node → Compressed → Node
+with_sent node sent = record node { emitted = node.emitted ++ sent ∷ [] }
+
+most_of : (a b limit : ℤ) → a ≤ℤ limit → b ≤ℤ limit → int_max a b ≤ℤ limit
+most_of a b limit h k = grind (arith, ints, h, k)
+
+all_front : (P : Compressed → Type 0) (xs ys : List Compressed) → All P (xs ++ ys) → All P xs
+all_front P xs ys all = λ k d lt. All-contains P (xs ++ ys) (get_or xs k d) all (Contains-append_left xs ys (get_or xs k d) (All-contains_itself xs k d lt))
+
+all_last : (P : Compressed → Type 0) (xs : List Compressed) (x : Compressed) → All P (xs ++ x ∷ []) → P x
+all_last P xs x all = All-contains P (xs ++ x ∷ []) x all (Contains-append_right xs (x ∷ []) x (in_head x []))
+
+-- the switch that has sent it
+pub sent_stands : (s : Switch) (collector : Collecting) (network : Network) (device : DeviceId) (node : Node) (sent : Compressed)
+    → StandsAs s network device node
+    → collector ≡ record s.collector { earliest = int_max s.collector.earliest sent.at.0; waiting = collector.waiting }
+    → StandsForPoints collector node.points (node.emitted ++ sent ∷ [])
+    → StandsAs (record s { collector = collector }) network device (with_sent node sent)
+sent_stands s collector network device node sent st kept stands = record {
+  accepted = st.accepted;
+  leaves = st.leaves;
+  intake = st.intake;
+  site = st.site;
+  sound = st.sound;
+  standing = st.standing;
+  plan = st.plan;
+  heard = st.heard;
+  changed = st.changed;
+  corrects = st.corrects;
+  done = st.done;
+  begun = st.begun;
+  small = st.small;
+  steady = λ timed. let o = st.steady timed in record { number = o.number; lower = o.lower; upper = o.upper; joined = o.joined; fair = o.fair };
+  collects = record {
+    collected = stands;
+    window = ap (λ (c : Collecting). c.ow) kept ∙ st.collects.window;
+    calc = ap (λ (c : Collecting). c.calc) kept ∙ st.collects.calc;
+    idle = st.collects.idle;
+    earliest = λ limit low points emitted.
+        subst (λ (c : Collecting). c.earliest ≤ℤ limit) (sym kept)
+        (most_of s.collector.earliest sent.at.0 limit
+        (st.collects.earliest limit low points (all_front (λ e. e.at.0 ≤ℤ limit) node.emitted (sent ∷ []) emitted))
+        (all_last (λ e. e.at.0 ≤ℤ limit) node.emitted sent emitted));
+    masters = st.collects.masters;
+    from_zero = st.collects.from_zero;
+  };
+}
+
+-- what is left to do then was to be done before
+pub pending_before : (network : Network) (device : DeviceId) (node : Node) (sent : Compressed) (task : Task)
+    → IsPending network device (with_sent node sent) task → IsPending network device node task
+pending_before network device node sent (emitting e) p = (
+  p.0,
+  record {
+    cm = p.1.cm;
+    clusters = p.1.clusters;
+    are = p.1.are;
+    cluster = p.1.cluster;
+    there = p.1.there;
+    is = p.1.is;
+    not_yet = λ at. p.1.not_yet (Contains-append_left node.emitted (sent ∷ []) e at);
+  },
+)
+pending_before network device node sent (doing (sending cycle)) p = (p.0, record { own = p.1.own; ahead = p.1.ahead; not_yet = p.1.not_yet })
+pending_before network device node sent (doing (correcting cycle)) p = (p.0, record { own = p.1.own; ahead = p.1.ahead; not_yet = p.1.not_yet })
+pending_before network device node sent (doing (dispatching row cycle)) p =
+    let f = p.1.own.1 in (
+      p.0,
+      record {
+        own = (
+          p.1.own.0,
+          record {
+            entry = f.entry;
+            is = f.is;
+            leaves = f.leaves;
+            occurs = f.occurs;
+            has = elim f.has [ inl x ↦ inl x | inr (y, t) ↦ inr (y, record { last = t.last }) ];
+          },
+        );
+        ahead = p.1.ahead;
+        not_yet = p.1.not_yet;
+      },
+    )
+
+same_reading : (network : Network) (node : Node) (sent : Compressed) (task : Task) → reading_for network (with_sent node sent) task ≡ reading_for network node
+    task
+same_reading network node sent (emitting e) = refl
+same_reading network node sent (doing deed) = refl
+
+all_done_before : (network : Network) (device : DeviceId) (node : Node) (sent : Compressed) (moment : Moment) (task : Task)
+    → ((task : Task) → IsPending network device node task → node.last.reading.0 <ℤ reading_for network node task)
+    → IsPending network device (with_sent node sent) task → node.last.reading.0 <ℤ reading_for network (with_sent node sent) task
+all_done_before network device node sent moment task h p =
+    subst (λ (z : ℤ). node.last.reading.0 <ℤ z) (sym (same_reading network node sent task)) (h task (pending_before network device node sent task p))
+
+in_time_before : (network : Network) (device : DeviceId) (node : Node) (sent : Compressed) (moment : Moment) (task : Task)
+    → ((task : Task) → IsPending network device node task → moment.reading.0 <ℤ (reading_for network node task +ℤ network.precision.0))
+    → IsPending network device (with_sent node sent) task → moment.reading.0 <ℤ (reading_for network (with_sent node sent) task +ℤ network.precision.0)
+in_time_before network device node sent moment task h p =
+    subst (λ (z : ℤ). moment.reading.0 <ℤ (z +ℤ network.precision.0)) (sym (same_reading network node sent task))
+    (h task (pending_before network device node sent task p))
+
+-- so it may be called as before
+pub may_before : (network : Network) (device : DeviceId) (node : Node) (sent : Compressed) (moment : Moment) (phase : Phase)
+    → MayCall network device node moment phase → MayCall network device (with_sent node sent) moment phase
+may_before network device node sent moment phase may = record {
+  later = may.later;
+  in_order = may.in_order;
+  all_done = λ lt task p. all_done_before network device node sent moment task (may.all_done lt) p;
+  in_time = λ task p. in_time_before network device node sent moment task may.in_time p;
+}
+
+-- ---- it is the first task
+
+to_recursion : {X : Type 0} (P : X → Type 0) (xs : List X) → All P xs → AllByRecursion P xs
+to_recursion P [] all = tt
+to_recursion P (x ∷ xs) all = (all 0 x (omega arith), to_recursion P xs (λ k d lt. all (suc k) d (omega (arith, lt))))
+
+above : (x : ℤ) → pos 0 ≤ℤ x → neg_ℤ (pos 1) <ℤ x
+above x h = omega (arith, ints, h)
+
+below : (x : ℤ) → neg_ℤ (pos 1) <ℤ x → pos 0 ≤ℤ x
+below x h = omega (arith, ints, h)
+
+opened_from_zero : (s : Switch) (network : Network) (device : DeviceId) (node : Node) (c : Cluster) → StandsAs s network device node
+    → Contains s.collector.waiting c → pos 0 ≤ℤ c.opened
+opened_from_zero s network device node c st at =
+    let held = st.collects.collected in
+    below c.opened
+    (opened_beyond s.collector.ow (neg_ℤ (pos 1)) node.points (held.done ++ s.collector.waiting) c
+    (to_recursion (λ q. neg_ℤ (pos 1) <ℤ q.reading) node.points (λ k d lt. above _ (st.collects.from_zero k d lt))) held.clusters
+    (Contains-append_right held.done s.collector.waiting c at))
+
+not_less : (x y : ℤ) → pos 0 ≤ℤ x → x ≤ℤ y → unsigned_abs y < unsigned_abs x → ⊥
+not_less (pos m) (pos n) a b lt = omega (arith, ints, b, lt)
+not_less (pos m) (negsuc n) a b lt = omega (arith, ints, a, b)
+not_less (negsuc m) y a b lt = omega (arith, ints, a)
+
+order_of_two : (m n : ℕ) → (m < n → ⊥) → IsBefore (0 ∷ m ∷ []) (0 ∷ n ∷ []) → ⊥
+order_of_two m n h (inl lt) = omega (arith, lt)
+order_of_two m n h (inr (e, inl lt)) = h lt
+order_of_two m n h (inr (e, inr more)) = more.1
+
+order_first : (s : Switch) (network : Network) (device : DeviceId) (node : Node) (first : Cluster) (rest : List Cluster) (task : Task)
+    → StandsAs s network device node → s.collector.waiting ≡ first ∷ rest → IsEmission s task
+    → IsBefore (order_of network task) (0 ∷ unsigned_abs first.opened ∷ []) → ⊥
+order_first s network device node first rest (doing deed) st is h before = h
+order_first s network device node first rest (emitting sent) st is (c, at, e) before =
+    let zero_on = opened_from_zero s network device node first st (subst (λ (cs : List Cluster). Contains cs first) (sym is) (in_head first rest)) in
+    let le = first_opened s.collector node.points node.emitted first rest c (some_window s network device node st) st.collects.collected is at in
+    let opened : sent.opened.0 ≡ c.opened = ap (λ (x : Compressed). x.opened.0) e in
+    order_of_two (unsigned_abs sent.opened.0) (unsigned_abs first.opened)
+    (λ lt. not_less first.opened c.opened zero_on le (subst (λ (z : ℤ). unsigned_abs z < unsigned_abs first.opened) opened lt)) before
+
+order_other : (network : Network) (device : DeviceId) (node : Node) (n : ℕ) (task : Task) → IsCorrection network device node task
+    → IsBefore (order_of network task) (0 ∷ n ∷ []) → ⊥
+order_other network device node n (doing (correcting cycle)) p (inl lt) = omega (arith, lt)
+order_other network device node n (doing (correcting cycle)) p (inr more) = omega (arith, more.0)
+order_other network device node n (emitting sent) p before = p
+order_other network device node n (doing (sending cycle)) p before = p
+order_other network device node n (doing (dispatching row cycle)) p before = p
+
+-- the first collection's frame is the first task
+pub first_emission : (s : Switch) (network : Network) (device : DeviceId) (node : Node) (sent : Compressed) (first : Cluster) (rest : List Cluster)
+    (reading : ℤ) → StandsAs s network device node → s.collector.waiting ≡ first ∷ rest → sent ≡ compressed s.collector.ow s.collector.calc first
+    → sent.at.0 ≤ℤ reading
+    → IsFirstTask network device node reading (emitting sent)
+first_emission s network device node sent first rest reading st is e due = record {
+  pending =
+      subst (λ (x : Compressed). IsPending network device node (emitting x)) (sym e)
+      (emission_pending s network device node first st (subst (λ (cs : List Cluster). Contains cs first) (sym is) (in_head first rest)));
+  due = due;
+  first = λ other q here before. elim (kind_of s network device node other st q) [
+    | inl x ↦ order_first s network device node first rest other st is x
+        (subst (λ (z : ℤ). IsBefore (order_of network other) (0 ∷ unsigned_abs z ∷ [])) (ap (λ (x : Compressed). x.opened.0) e) before)
+    | inr y ↦ order_other network device node _ other y before
+  ];
+}
+
+pub reached_by : (o : Option Units) (reading x : ℤ) (es : List ℤ) → IsSomeAnd o (λ at. at.0 ≤ℤ reading) → IfSome o (λ at. IsLeast at.0 es) → IsLeast x es
+    → x ≤ℤ reading
+reached_by None reading x es some least mine = absurd some
+reached_by (Some at) reading x es some least mine = let le = All-contains (λ y. x ≤ℤ y) es at.0 mine.bound least.there in omega (arith, ints, le, some)

@@ -1,0 +1,125 @@
+-- What frames that are heard within their time show at the next correction point.
+use Rattle.std.proofs.Common.{◌≡◌, ◌⊎◌, inl, inr, ℕ, zero, suc, ◌+◌, ◌*◌, ◌≤◌, ℤ, pos, ◌+ℤ◌, ◌-ℤ◌, ◌≤ℤ◌, ◌<ℤ◌, Bool, true, false, ◌&&◌, Option, Some, None, refl, sym, subst, arith}
+use Rattle.std.proofs.lemmas.Int.{ints}
+use Rattle.std.proofs.Math.Nat.{mul-le-mul_right}
+use Rattle.std.specs.Prelude.{IfSome, int_le, nat_le}
+use Rattle.membership.specs.BestFrame.{IsBetterOf}
+use Rattle.membership.specs.Summary.{Summary, best_on}
+use Rattle.membership.specs.declared.frame.HeardFrame.{HeardFrame}
+use Rattle.pcf_values.specs.declared.channel.Channel.TheVariants.{A, B}
+use Rattle.pcf_values.specs.declared.channel.Channel.{Channel}
+use Rattle.pcf_values.specs.declared.members.Members.{Members}
+use Rattle.pcf_values.specs.declared.pcf.Pcf.{Pcf}
+use Rattle.run_law.specs.control.Hearing.{heard_as, heard_enough, heard_by_schedule, last_cycle}
+use Rattle.run_law.specs.control.Permanence.{ripe_as}
+use Rattle.run_law.specs.declared.steps.Ripe.TheVariants as ripe
+use Rattle.switch_ports.specs.Steady.{is_timed}
+use Rattle.switch_ports.specs.Steps.{IsHeardSo}
+use Rattle.sync_state.specs.Plan.{expected_at}
+use Rattle.sync_state.specs.declared.plan.SyncPlan.{SyncPlan}
+use Rattle.sync_state.specs.declared.state.State.TheVariants.{Off, Integrating, Joining, Synchronised}
+use Rattle.sync_state.specs.declared.state.State.{State}
+use Rattle.tte_units.specs.declared.units.Units.{Units}
+
+-- ---- what stays the best
+
+better_keeps : (P : HeardFrame → Type 0) (o : Option HeardFrame) (later best : HeardFrame) → IsBetterOf o later best → P later → IfSome o P → P best
+better_keeps P None later best e new old = subst P (sym e) new
+better_keeps P (Some b) later best e new old = elim e [
+  | inl x ↦ subst P (sym x.1) old
+  | inr y ↦ subst P (sym y.1) new
+]
+
+best_same : (P : HeardFrame → Type 0) (old new : Summary) (ch : Channel) → new ≡ old → IfSome (best_on ch old) P → IfSome (best_on ch new) P
+best_same P old new ch e h = subst (λ (s : Summary). IfSome (best_on ch s) P) (sym e) h
+
+-- what holds of the best frames holds after one more frame, of which it holds where it was within
+pub kept : (P : HeardFrame → Type 0) (old new : Summary) (channel : Option Channel) (frame : Pcf) (point : Units) (within : Bool)
+    → IsHeardSo old channel frame point within new
+    → (within ≡ true → P (record { cycle = frame.cycle; members = frame.members; point = point })) → ((ch : Channel) → IfSome (best_on ch old) P)
+    → (ch : Channel) → IfSome (best_on ch new) P
+kept P old new None frame point within h new_is all ch = best_same P old new ch h (all ch)
+kept P old new (Some c) frame point false h new_is all A = best_same P _ new A h (all A)
+kept P old new (Some c) frame point false h new_is all B = best_same P _ new B h (all B)
+kept P old new (Some A) frame point true (best, is, e) new_is all A = best_same P _ new A e (better_keeps P old.best_a _ best is (new_is refl) (all A))
+kept P old new (Some A) frame point true (best, is, e) new_is all B = best_same P _ new B e (all B)
+kept P old new (Some B) frame point true (best, is, e) new_is all A = best_same P _ new A e (all A)
+kept P old new (Some B) frame point true (best, is, e) new_is all B = best_same P _ new B e (better_keeps P old.best_b _ best is (new_is refl) (all B))
+
+-- ---- what is heard within its time
+
+enough_never : (b : Bool) → ripe_as (heard_enough b) ≡ ripe.Within → ⊥
+enough_never true e = cc
+enough_never false e = cc
+
+timely : (b : Bool) → ripe_as (heard_by_schedule b) ≡ ripe.Within → b ≡ true
+timely true e = refl
+timely false e = absurd cc
+
+all_three : (n l : ℕ) (x y z : ℤ) → (nat_le n l && (int_le x y && int_le y z)) ≡ true → (n ≤ l) × (x ≤ℤ y) × (y ≤ℤ z)
+all_three n l x y z e = (grind (arith, ints, e), grind (arith, ints, e), grind (arith, ints, e))
+
+pub within_in : (plan : SyncPlan) (precision : ℤ) (state : State) (adjustment point : ℤ) (cycle : ℕ) (members : Members)
+    → ripe_as (heard_as plan precision state adjustment point cycle members) ≡ ripe.Within
+    → (is_timed state ≡ true) × ((cycle ≤ last_cycle) × ((expected_at plan cycle -ℤ precision) ≤ℤ (point +ℤ adjustment))
+    × ((point +ℤ adjustment) ≤ℤ (expected_at plan cycle +ℤ precision)))
+within_in plan precision Off adjustment point cycle members e = absurd cc
+within_in plan precision Integrating adjustment point cycle members e = absurd (enough_never _ e)
+within_in plan precision Joining adjustment point cycle members e = (refl, all_three _ _ _ _ _ (timely _ e))
+within_in plan precision Synchronised adjustment point cycle members e = (refl, all_three _ _ _ _ _ (timely _ e))
+
+-- ---- of which cycle it is
+
+-- the numbers of a network leave this room
+pub record HasRoom (r e k p : ℕ) : Type 0 where
+  pub expected : e + 8 * p ≤ k
+  pub correction : k ≤ r
+  pub some : 1 ≤ p
+  pub compression : 2 * p ≤ e
+
+-- a frame of cycle c that was heard within its time before the correction point of cycle n
+pub record IsHeardBefore (n c r e k p : ℕ) (point adjustment reading changed : ℤ) : Type 0 where
+  pub room : HasRoom r e k p
+  pub early : ((pos (c * r) +ℤ pos e) -ℤ pos p) ≤ℤ (point +ℤ adjustment)
+  pub late : (point +ℤ adjustment) ≤ℤ ((pos (c * r) +ℤ pos e) +ℤ pos p)
+  pub ahead : reading <ℤ ((pos (n * r + k) -ℤ adjustment) +ℤ pos p)
+  pub reached : point ≤ℤ reading
+  pub recent : reading <ℤ (point +ℤ pos p)
+  pub lower : ((pos (n * r) +ℤ pos e) +ℤ pos (3 * p)) ≤ℤ (changed +ℤ pos (2 * r))
+  pub upper : changed ≤ℤ (reading +ℤ adjustment)
+
+decide : (c n : ℕ) → (c ≤ n) ⊎ (n + 1 ≤ c)
+decide zero n = inl (omega arith)
+decide (suc c) zero = inr (omega arith)
+decide (suc c) (suc n) = elim (decide c n) [ inl h ↦ inl (omega (arith, h)) | inr h ↦ inr (omega (arith, h)) ]
+
+pub not_later : (n c r e k p : ℕ) (point adjustment reading changed : ℤ) → IsHeardBefore n c r e k p point adjustment reading changed → c ≤ n
+not_later n c r e k p point adjustment reading changed h = elim (decide c n) [
+  | inl y ↦ y
+  | inr n1 ↦
+      let more : (n + 1) * r ≤ c * r = mul-le-mul_right r n1 in
+      let a = h.early in let b = h.ahead in let d = h.reached in let f = h.room.correction in let g = h.room.compression in let i = h.room.some in
+      absurd (omega (arith, ints, more, a, b, d, f, g, i))
+]
+
+pub not_earlier : (n c r e k p : ℕ) (point adjustment reading changed : ℤ) → IsHeardBefore n c r e k p point adjustment reading changed → n ≤ c + 1
+not_earlier n c r e k p point adjustment reading changed h = elim (decide n (c + 1)) [
+  | inl y ↦ y
+  | inr n1 ↦
+      let more : (c + 1 + 1) * r ≤ n * r = mul-le-mul_right r n1 in
+      let a = h.late in let b = h.recent in let d = h.lower in let f = h.upper in let i = h.room.some in
+      absurd (omega (arith, ints, more, a, b, d, f, i))
+]
+
+pub behind : (n c r e k p : ℕ) (point adjustment reading changed : ℤ) → IsHeardBefore n c r e k p point adjustment reading changed
+    → (point +ℤ adjustment) ≤ℤ ((pos (n * r) +ℤ pos e) +ℤ pos p)
+behind n c r e k p point adjustment reading changed h =
+    let more : c * r ≤ n * r = mul-le-mul_right r (not_later n c r e k p point adjustment reading changed h) in
+    let a = h.late in
+    omega (arith, ints, more, a)
+
+pub ahead : (n c r e k p : ℕ) (point adjustment reading changed : ℤ) → IsHeardBefore n c r e k p point adjustment reading changed
+    → (pos (n * r) +ℤ pos e) ≤ℤ ((point +ℤ adjustment) +ℤ pos (2 * r))
+ahead n c r e k p point adjustment reading changed h =
+    let b = h.recent in let d = h.lower in let f = h.upper in
+    omega (arith, ints, b, d, f)

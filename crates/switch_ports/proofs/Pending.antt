@@ -1,0 +1,261 @@
+-- What a switch has still to do.
+use Rattle.std.proofs.Common.{◌≡◌, ◌∙◌, ◌⊎◌, inl, inr, ℕ, ◌<◌, ℤ, pos, ◌-ℤ◌, ◌≤ℤ◌, ◌<ℤ◌, Bool, true, false, List, [], ◌∷◌, ◌++◌, Option, Some, None, refl, sym, subst, ap, arith}
+use Rattle.std.specs.Prelude.{int_le, int_lt, IfSome, IsNone, ◌↔◌, option_and_then}
+use Rattle.std.specs.List.{Contains}
+use Rattle.std.proofs.lemmas.Int.{ints}
+use Rattle.std.proofs.lemmas.Bool.{cases_Bool}
+use Rattle.std.proofs.lemmas.List.Elements.{All-contains, Contains-append_right}
+use Rattle.compression.proofs.Elements.{in_none}
+use Rattle.compression.specs.Clusters.{AreClusters, Cluster, Point}
+use Rattle.compression.specs.Collecting.{emissions}
+use Rattle.compression.specs.Emission.{compressed, emission}
+use Rattle.compression.specs.Least.{IsLeast}
+use Rattle.compression.specs.declared.compressed.Compressed.{Compressed}
+use Rattle.net_plan.specs.declared.ids.DeviceId.{DeviceId}
+use Rattle.net_plan.specs.declared.network.Network.{Network}
+use Rattle.run_law.specs.control.Collections.{observation_window}
+use Rattle.run_law.specs.control.Corrections.{correction_value}
+use Rattle.run_law.specs.machines.Nodes.{Node, sending, correcting, dispatching}
+use Rattle.run_law.specs.machines.Tasks.{IsDueReading, IsPending, Task, emitting, doing, reading_for}
+use Rattle.run_law.specs.scenario.Devices.{is_cm}
+use Rattle.switch_ports.proofs.Amounts.{its_amount}
+use Rattle.switch_ports.proofs.Waiting.{in_map, to_map, unsent, waits}
+use Rattle.switch_ports.specs.Corrections.{reading_of}
+use Rattle.switch_ports.specs.Due.{least_of}
+use Rattle.switch_ports.specs.Standing.{StandsAs}
+use Rattle.switch_ports.specs.declared.switch.Switch.{Switch}
+use Rattle.sync_state.specs.Standing.{next_point, point_in}
+use Rattle.sync_state.specs.declared.state.State.TheVariants.{Off, Integrating, Joining, Synchronised}
+use Rattle.sync_state.specs.declared.state.State.{State}
+use Rattle.tte_units.specs.Amount.{amount}
+use Rattle.tte_units.specs.declared.units.Units.{Units}
+
+-- ---- no sendings
+
+not_both : (b : Bool) → b ≡ false → b ≡ true → ⊥
+not_both b x y = cc
+
+-- ---- collections
+
+pub window_is : (s : Switch) (network : Network) (device : DeviceId) (node : Node) → StandsAs s network device node
+    → s.collector.ow ≡ observation_window network
+window_is s network device node st = st.collects.window ∙ its_amount _ _ network.precision st.accepted.range.precision
+
+calc_is : (s : Switch) (network : Network) (device : DeviceId) (node : Node) → StandsAs s network device node → s.collector.calc ≡ pos (amount network.calc)
+calc_is s network device node st = st.collects.calc ∙ its_amount _ _ network.calc st.accepted.range.calc
+
+from_one : (x : ℤ) → pos 1 ≤ℤ x → pos 0 ≤ℤ x
+from_one x h = omega (arith, ints, h)
+
+pub some_window : (s : Switch) (network : Network) (device : DeviceId) (node : Node) → StandsAs s network device node → pos 0 ≤ℤ s.collector.ow
+some_window s network device node st = subst (λ (z : ℤ). pos 0 ≤ℤ z) (sym st.collects.window) (from_one _ st.accepted.range.precision.least)
+
+none_of_none : (ow : ℤ) (ps : List Point) (cs : List Cluster) (c : Cluster) → ps ≡ [] → AreClusters ow ps cs → Contains cs c → ⊥
+none_of_none ow ps [] c none are at = in_none c at
+none_of_none ow [] (d ∷ cs) c none are at = are
+none_of_none ow (p ∷ ps) (d ∷ cs) c none are at = cc
+
+pub is_master_of : (s : Switch) (network : Network) (device : DeviceId) (node : Node) (c : Cluster) → StandsAs s network device node
+    → Contains s.collector.waiting c → is_cm network device ≡ true
+is_master_of s network device node c st at = elim (cases_Bool (is_cm network device)) [
+  | inl y ↦ y
+  | inr n ↦ absurd (none_of_none s.collector.ow node.points (st.collects.collected.done ++ s.collector.waiting) c (st.collects.idle n)
+      st.collects.collected.clusters (Contains-append_right st.collects.collected.done s.collector.waiting c at))
+]
+
+-- a collection that waits is a task
+pub emission_pending : (s : Switch) (network : Network) (device : DeviceId) (node : Node) (c : Cluster) → StandsAs s network device node
+    → Contains s.collector.waiting c → IsPending network device node (emitting (compressed s.collector.ow s.collector.calc c))
+emission_pending s network device node c st at =
+    let held = st.collects.collected in (
+      st.sound,
+      record {
+        cm = is_master_of s network device node c st at;
+        clusters = held.done ++ s.collector.waiting;
+        are = subst (λ (w : ℤ). AreClusters w node.points (held.done ++ s.collector.waiting)) (window_is s network device node st) held.clusters;
+        cluster = c;
+        there = Contains-append_right held.done s.collector.waiting c at;
+        is =
+            ap (λ (w : ℤ). compressed w s.collector.calc c) (window_is s network device node st) ∙ ap (λ (k : ℤ). compressed (observation_window network) k c)
+            (calc_is s network device node st);
+        not_yet = unsent s.collector node.points node.emitted c (some_window s network device node st) held at;
+      },
+    )
+
+-- and each emission to come is one of them
+pub pending_emission : (s : Switch) (network : Network) (device : DeviceId) (node : Node) (sent : Compressed) → StandsAs s network device node
+    → IsPending network device node (emitting sent)
+    → (c : Cluster) × Contains s.collector.waiting c × (sent ≡ compressed s.collector.ow s.collector.calc c)
+pending_emission s network device node sent st p =
+    let w = p.1 in
+    let is : sent ≡ compressed s.collector.ow s.collector.calc w.cluster =
+    w.is ∙ sym (ap (λ (x : ℤ). compressed x s.collector.calc w.cluster) (window_is s network device node st)
+    ∙ ap (λ (k : ℤ). compressed (observation_window network) k w.cluster) (calc_is s network device node st)) in
+    let are = subst (λ (x : ℤ). AreClusters x node.points w.clusters) (sym (window_is s network device node st)) w.are in
+    let not_yet = λ (at : Contains node.emitted (compressed s.collector.ow s.collector.calc w.cluster)). w.not_yet (subst (Contains node.emitted) (sym is) at)
+    in
+    (w.cluster, waits s.collector node.points node.emitted w.clusters w.cluster st.collects.collected are w.there not_yet, is)
+
+-- ---- the correction
+
+correction_by : (value adjustment changed : ℤ) (at : Units) → reading_of value adjustment changed ≡ Some at → (changed <ℤ value)
+    × (at.0 ≡ (value -ℤ adjustment))
+correction_by value adjustment changed at e = elim (cases_Bool (int_lt changed value)) [
+  | inl y ↦ (grind (arith, ints, y), let f : Some (record { 0 = value -ℤ adjustment }) ≡ Some at = rw y at e in cc)
+  | inr n ↦ absurd (let f : None ≡ Some at = rw n at e in cc)
+]
+
+due_by : (value adjustment changed : ℤ) → changed <ℤ value → reading_of value adjustment changed ≡ Some (record { 0 = value -ℤ adjustment })
+due_by value adjustment changed lt = let y : int_lt changed value ≡ true = grind (arith, ints, lt) in rw y refl
+
+not_next : (state : State) (number cycle : ℕ) → point_in state number ≡ Some cycle → cycle < number → ⊥
+not_next Off number cycle e lt = cc
+not_next Integrating number cycle e lt = cc
+not_next Joining number cycle e lt = let same : number ≡ cycle = cc in omega (arith, same, lt)
+not_next Synchronised number cycle e lt = let same : number ≡ cycle = cc in omega (arith, same, lt)
+
+-- the correction that is to come, by the next point
+due_with : (f : ℕ → Option Units) (next : Option ℕ) (at : Units) → option_and_then f next ≡ Some at → (cycle : ℕ) × (next ≡ Some cycle) × (f cycle ≡ Some at)
+due_with f None at e = absurd cc
+due_with f (Some cycle) at e = (cycle, refl, e)
+
+pub correction_pending : (s : Switch) (network : Network) (device : DeviceId) (node : Node) (at : Units) → StandsAs s network device node
+    → s.corrects_at ≡ Some at
+    → (cycle : ℕ) × IsPending network device node (doing (correcting cycle)) × (reading_for network node (doing (correcting cycle)) ≡ at.0)
+    × (next_point node.standing ≡ Some cycle)
+correction_pending s network device node at st e =
+    let d = due_with (λ (cycle : ℕ). reading_of (correction_value network cycle) node.standing.adjustment.0 node.changed) (next_point node.standing) at
+    (sym st.corrects ∙ e) in
+    let by = correction_by (correction_value network d.0) node.standing.adjustment.0 node.changed at d.2 in (
+      d.0,
+      (st.sound, record { own = d.1; ahead = by.0; not_yet = λ there. not_next (node.standing.state) node.standing.number d.0 d.1 (st.done d.0 there) }),
+      sym by.1,
+      d.1,
+    )
+
+pub pending_correction : (s : Switch) (network : Network) (device : DeviceId) (node : Node) (cycle : ℕ) → StandsAs s network device node
+    → IsPending network device node (doing (correcting cycle))
+    → (next_point node.standing ≡ Some cycle) × (s.corrects_at ≡ Some (record { 0 = correction_value network cycle -ℤ node.standing.adjustment.0 }))
+pending_correction s network device node cycle st p = (
+  p.1.own,
+  st.corrects ∙ ap (option_and_then (λ (cycle : ℕ). reading_of (correction_value network cycle) node.standing.adjustment.0 node.changed)) p.1.own
+      ∙ due_by (correction_value network cycle) node.standing.adjustment.0 node.changed p.1.ahead,
+)
+
+-- ---- the least of both
+
+-- the least reading of the tasks of a kind
+abbrev pub IsLeastOf : (Task → Type 0) → (Task → ℤ) → Option Units → Type 0
+IsLeastOf Is reading None = (task : Task) → Is task → ⊥
+IsLeastOf Is reading (Some due) = ((task : Task) × Is task × (reading task ≡ due.0)) × ((task : Task) → Is task → due.0 ≤ℤ reading task)
+
+abbrev pub IsEmission : Switch → Task → Type 0
+IsEmission s (emitting sent) = (c : Cluster) × Contains s.collector.waiting c × (sent ≡ compressed s.collector.ow s.collector.calc c)
+IsEmission s (doing deed) = ⊥
+
+abbrev pub IsCorrection : Network → DeviceId → Node → Task → Type 0
+IsCorrection network device node (doing (correcting cycle)) = IsPending network device node (doing (correcting cycle))
+IsCorrection network device node other = ⊥
+
+pub kind_of : (s : Switch) (network : Network) (device : DeviceId) (node : Node) (task : Task) → StandsAs s network device node
+    → IsPending network device node task → IsEmission s task ⊎ IsCorrection network device node task
+kind_of s network device node (emitting sent) st p = inl (pending_emission s network device node sent st p)
+kind_of s network device node (doing (correcting cycle)) st p = inr p
+kind_of s network device node (doing (sending cycle)) st p = absurd (not_both _ st.site.not_master p.1.own.0)
+kind_of s network device node (doing (dispatching row cycle)) st p = absurd (st.leaves row.0 p.1.own.1.entry p.1.own.1.is p.1.own.1.leaves)
+
+pub emission_is : (s : Switch) (network : Network) (device : DeviceId) (node : Node) (task : Task) → StandsAs s network device node → IsEmission s task
+    → IsPending network device node task
+emission_is s network device node (emitting sent) st (c, at, is) =
+    subst (λ (e : Compressed). IsPending network device node (emitting e)) (sym is) (emission_pending s network device node c st at)
+emission_is s network device node (doing deed) st none = absurd none
+
+correction_is : (network : Network) (device : DeviceId) (node : Node) (task : Task) → IsCorrection network device node task → IsPending network device node task
+correction_is network device node (doing (correcting cycle)) p = p
+correction_is network device node (emitting sent) p = absurd p
+correction_is network device node (doing (sending cycle)) p = absurd p
+correction_is network device node (doing (dispatching row cycle)) p = absurd p
+
+-- ---- collections by their readings
+
+pub emission_at : (s : Switch) (c : Cluster) → Contains s.collector.waiting c → Contains (emissions s.collector) (emission s.collector.ow s.collector.calc c)
+emission_at s c at = to_map (emission s.collector.ow s.collector.calc) s.collector.waiting c at
+
+no_emission : (s : Switch) (task : Task) → s.collector.waiting ≡ [] → IsEmission s task → ⊥
+no_emission s (emitting sent) none (c, at, is) = in_none c (subst (λ (cs : List Cluster). Contains cs c) none at)
+no_emission s (doing deed) none h = h
+
+emission_bound : (s : Switch) (network : Network) (node : Node) (task : Task) (at : Units) → IsLeast at.0 (emissions s.collector) → IsEmission s task
+    → at.0 ≤ℤ reading_for network node task
+emission_bound s network node (doing deed) at least h = absurd h
+emission_bound s network node (emitting sent) at least (c, there, is) =
+    subst (λ (e : Compressed). at.0 ≤ℤ e.at.0) (sym is) (All-contains (λ x. at.0 ≤ℤ x) (emissions s.collector) (emission s.collector.ow s.collector.calc c)
+    least.bound (emission_at s c there))
+
+no_correction : (s : Switch) (network : Network) (device : DeviceId) (node : Node) (task : Task) → StandsAs s network device node → s.corrects_at ≡ None
+    → IsCorrection network device node task → ⊥
+no_correction s network device node (doing (correcting cycle)) st e p = let f = sym e ∙ (pending_correction s network device node cycle st p).1 in cc
+no_correction s network device node (emitting sent) st e p = p
+no_correction s network device node (doing (sending cycle)) st e p = p
+no_correction s network device node (doing (dispatching row cycle)) st e p = p
+
+its_number : (a b : Units) → Some a ≡ Some b → a.0 ≡ b.0
+its_number a b e = cc
+
+correction_bound : (s : Switch) (network : Network) (device : DeviceId) (node : Node) (task : Task) (at : Units) → StandsAs s network device node
+    → s.corrects_at ≡ Some at → IsCorrection network device node task → at.0 ≤ℤ reading_for network node task
+correction_bound s network device node (doing (correcting cycle)) at st e p =
+    let same = its_number at _ (sym e ∙ (pending_correction s network device node cycle st p).1) in omega (arith, ints, same)
+correction_bound s network device node (emitting sent) at st e p = absurd p
+correction_bound s network device node (doing (sending cycle)) at st e p = absurd p
+correction_bound s network device node (doing (dispatching row cycle)) at st e p = absurd p
+
+least_emission : (s : Switch) (network : Network) (node : Node) (o : Option Units) → (IsNone o ↔ (s.collector.waiting ≡ []))
+    → IfSome o (λ at. IsLeast at.0 (emissions s.collector)) → IsLeastOf (IsEmission s) (reading_for network node) o
+least_emission s network node None none least = λ task is. no_emission s task (none.0 refl) is
+least_emission s network node (Some at) none least =
+    let of = in_map (emission s.collector.ow s.collector.calc) s.collector.waiting at.0 least.there in (
+      (emitting (compressed s.collector.ow s.collector.calc of.0), (of.0, of.1, refl), sym of.2),
+      λ task is. emission_bound s network node task at least is,
+    )
+
+least_correction : (s : Switch) (network : Network) (device : DeviceId) (node : Node) (o : Option Units) → StandsAs s network device node → s.corrects_at ≡ o
+    → IsLeastOf (IsCorrection network device node) (reading_for network node) o
+least_correction s network device node None st e = λ task is. no_correction s network device node task st e is
+least_correction s network device node (Some at) st e =
+    let p = correction_pending s network device node at st e in
+    ((doing (correcting p.0), p.1, p.2), λ task is. correction_bound s network device node task at st e is)
+
+join_least : (Is A B : Task → Type 0) (reading : Task → ℤ) (a b : Option Units) → ((task : Task) → Is task → A task ⊎ B task)
+    → ((task : Task) → A task → Is task) → ((task : Task) → B task → Is task)
+    → IsLeastOf A reading a → IsLeastOf B reading b → IsLeastOf Is reading (least_of a b)
+join_least Is A B reading None None split fa fb la lb = λ task is. elim (split task is) [ inl x ↦ la task x | inr y ↦ lb task y ]
+join_least Is A B reading None (Some b) split fa fb la lb =
+    ((lb.0.0, fb lb.0.0 lb.0.1, lb.0.2), λ task is. elim (split task is) [ inl x ↦ absurd (la task x) | inr y ↦ lb.1 task y ])
+join_least Is A B reading (Some a) None split fa fb la lb =
+    ((la.0.0, fa la.0.0 la.0.1, la.0.2), λ task is. elim (split task is) [ inl x ↦ la.1 task x | inr y ↦ absurd (lb task y) ])
+join_least Is A B reading (Some a) (Some b) split fa fb la lb = elim (cases_Bool (int_le a.0 b.0)) [
+  | inl y ↦ rw y (
+    (la.0.0, fa la.0.0 la.0.1, la.0.2),
+    λ (task : Task) (is : Is task). elim (split task is) [ inl x ↦ la.1 task x | inr z ↦ let le = lb.1 task z in grind (arith, ints, y, le) ],
+  )
+  | inr n ↦ rw n (
+    (lb.0.0, fb lb.0.0 lb.0.1, lb.0.2),
+    λ (task : Task) (is : Is task). elim (split task is) [ inl x ↦ let le = la.1 task x in grind (arith, ints, n, le) | inr z ↦ lb.1 task z ],
+  )
+]
+
+is_least : (network : Network) (device : DeviceId) (node : Node) (o : Option Units) → IsLeastOf (IsPending network device node) (reading_for network node) o
+    → IsDueReading network device node o
+is_least network device node None h = h
+is_least network device node (Some at) h = h
+
+-- the less of what the collector and the correction wait for is due
+pub is_due : (s : Switch) (network : Network) (device : DeviceId) (node : Node) (o : Option Units) → StandsAs s network device node
+    → (IsNone o ↔ (s.collector.waiting ≡ [])) → IfSome o (λ at. IsLeast at.0 (emissions s.collector))
+    → IsDueReading network device node (least_of o s.corrects_at)
+is_due s network device node o st none least =
+    is_least network device node (least_of o s.corrects_at)
+    (join_least (IsPending network device node) (IsEmission s) (IsCorrection network device node) (reading_for network node) o s.corrects_at
+    (λ task p. kind_of s network device node task st p) (λ task p. emission_is s network device node task st p) (correction_is network device node)
+    (least_emission s network node o none least) (least_correction s network device node s.corrects_at st refl))

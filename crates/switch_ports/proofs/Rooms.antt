@@ -1,0 +1,103 @@
+-- What the numbers of an accepted network leave room for.
+use Rattle.std.proofs.Common.{◌≡◌, ◌∙◌, inl, inr, ℕ, ◌+◌, ◌*◌, ◌≤◌, ℤ, pos, ◌+ℤ◌, ◌*ℤ◌, ◌≤ℤ◌, Bool, true, false, List, [], ◌∷◌, length, Option, Some, None, All, IsSomeAnd, refl, sym, subst, ap, arith, if◌then◌else◌}
+use Rattle.std.proofs.lemmas.Int.{ints}
+use Rattle.std.proofs.lemmas.Option.{slice_get-get_or, slice_get_cases}
+use Rattle.std.specs.List.{Contains}
+use Rattle.std.specs.Prelude.{slice_get}
+use Rattle.compression.proofs.Elements.{in_filter, in_head}
+use Rattle.net_plan.specs.Places.{is_end_system, is_master, link_at}
+use Rattle.net_plan.specs.Rules.{masters}
+use Rattle.net_plan.specs.declared.ids.DeviceId.{DeviceId}
+use Rattle.net_plan.specs.declared.ids.LinkId.{LinkId}
+use Rattle.net_plan.specs.declared.network.Network.{Network}
+use Rattle.net_plan.specs.declared.tables.Device.{Device}
+use Rattle.net_plan.specs.declared.tables.Link.{Link}
+use Rattle.net_plan.specs.declared.tables.Role.TheVariants.{Master, Client, Cm, Relay}
+use Rattle.net_plan.specs.declared.tables.Role.{Role}
+use Rattle.pcf_values.specs.declared.channel.Channel.TheVariants.{A}
+use Rattle.run_law.specs.scenario.Devices.{expected_by, is_cm, plan_of}
+use Rattle.schedule_tables.specs.Delays.{pcf_port_time}
+use Rattle.schedule_tables.specs.declared.rule.Rule.TheVariants as rules
+use Rattle.switch_ports.proofs.Amounts.{its_amount}
+use Rattle.switch_ports.proofs.Fair.{HasRoom}
+use Rattle.switch_ports.specs.Standing.{IsAccepted}
+use Rattle.sync_state.specs.Plan.{expected_at}
+use Rattle.tte_units.specs.Amount.{amount}
+
+some_same : {X : Type 0} (x y : X) → Some x ≡ Some y → x ≡ y
+some_same x y e = cc
+
+pub all_got : {X : Type 0} (P : X → Type 0) (xs : List X) (i : ℕ) (x : X) → All P xs → slice_get xs i ≡ Some x → P x
+all_got P xs i x all e = elim (slice_get_cases xs i).1 [
+  | inl (y, lt, there, got) ↦ subst P (some_same y x (sym there ∙ e)) (subst P got (all i y lt))
+  | inr (le, none) ↦ absurd (let f : None ≡ Some x = sym none ∙ e in cc)
+]
+
+some_there : {X : Type 0} (o : Option X) (P : X → Type 0) → IsSomeAnd o P → (x : X) × (o ≡ Some x)
+some_there None P h = absurd h
+some_there (Some x) P h = (x, refl)
+
+pub head_there : {X : Type 0} (xs : List X) → 1 ≤ length xs → (x : X) × Contains xs x
+head_there [] h = absurd (omega (arith, h))
+head_there (x ∷ xs) h = (x, in_head x xs)
+
+pub master_end : (role : Role) → is_master role ≡ true → is_end_system role ≡ true
+master_end Master e = refl
+master_end Client e = absurd cc
+master_end Cm e = absurd cc
+master_end Relay e = absurd cc
+
+pub one_of_four : (n : ℕ) → 4 ≤ n → 1 ≤ n
+one_of_four n h = omega (arith, h)
+
+end_there : (o : Option Device) (d : Device) → o ≡ Some d → is_master d.role ≡ true → IsSomeAnd o (λ x. is_end_system x.role ≡ true)
+end_there o d e m = subst (λ (p : Option Device). IsSomeAnd p (λ x. is_end_system x.role ≡ true)) (sym e) (master_end d.role m)
+
+-- an accepted network has a link
+pub some_link : (network : Network) → IsAccepted network → (link : LinkId) × (l : Link) × (link_at network link ≡ Some l)
+some_link network accepted =
+    let d = head_there (masters network) (one_of_four _ ((accepted.rules rules.Masters 0).least refl)) in
+    let at = in_filter (λ (x : Device). is_master x.role) network.device d.0 d.1 in
+    let there : slice_get network.device at.0.0 ≡ Some d.0 = slice_get-get_or network.device at.0.0 d.0 at.0.1 ∙ ap Some at.0.2 in
+    let up = (accepted.rules rules.Connections at.0.0).ends (end_there _ d.0 there at.1) A in
+    let l = some_there (link_at network up.0) _ up.1 in
+    (up.0, l.0, l.1)
+
+pub small_expected : (b : Bool) (d p q k : ℕ) → 2 * d + q + 10 * p ≤ k → (if b then d + (2 * p + q) else 2 * d + (2 * p + q)) + 8 * p ≤ k
+small_expected true d p q k h = omega (arith, h)
+small_expected false d p q k h = omega (arith, h)
+
+compression_in : (b : Bool) (d p q : ℕ) → 2 * p ≤ (if b then d + (2 * p + q) else 2 * d + (2 * p + q))
+compression_in true d p q = omega arith
+compression_in false d p q = omega arith
+
+from_units : (x : ℤ) (n : ℕ) → pos 1 ≤ℤ x → x ≡ pos n → 1 ≤ n
+from_units x n h e = omega (arith, ints, h, e)
+
+in_cycle : (k d p t s r : ℕ) → k + d + 4 * p + t ≤ s → s + 4 * p ≤ r → k ≤ r
+in_cycle k d p t s r a b = omega (arith, a, b)
+
+pub room : (network : Network) (device : DeviceId) → IsAccepted network → HasRoom (amount network.cycle) (expected_by network device)
+    (amount network.correction) (amount network.precision)
+room network device accepted =
+    let found = some_link network accepted in
+    let schedule = accepted.rules rules.ScheduleStart 0 in
+    let begins = all_got (λ (k : Link). amount network.correction + amount network.dmax + 4 * amount network.precision + pcf_port_time k ≤ amount
+    network.tt_start) network.link found.0.0 found.1 schedule.begins found.2 in
+    record {
+      expected =
+          small_expected (is_cm network device) (amount network.dmax) (amount network.precision) (amount network.calc) (amount network.correction)
+          (accepted.rules rules.Correction 0);
+      correction = in_cycle _ _ _ _ _ _ begins schedule.ends;
+      some = from_units _ _ accepted.range.precision.least (its_amount _ _ network.precision accepted.range.precision);
+      compression = compression_in (is_cm network device) (amount network.dmax) (amount network.precision) (amount network.calc);
+    }
+
+expected_by_parts : (n r e : ℕ) (R : ℤ) → R ≡ pos r → ((pos n *ℤ R) +ℤ pos e) ≡ (pos (n * r) +ℤ pos e)
+expected_by_parts n r e R is = rw is (omega (arith, ints))
+
+-- when the frame of a cycle is expected, in natural numbers
+pub expected_is : (network : Network) (device : DeviceId) (n : ℕ) → IsAccepted network
+    → expected_at (plan_of network device) n ≡ (pos (n * amount network.cycle) +ℤ pos (expected_by network device))
+expected_is network device n accepted =
+    expected_by_parts n (amount network.cycle) (expected_by network device) network.cycle.0 (its_amount _ _ network.cycle accepted.range.cycle)

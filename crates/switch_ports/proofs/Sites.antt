@@ -1,0 +1,89 @@
+-- What a site says of its links.
+use Rattle.std.proofs.Common.{◌≡◌, ◌∙◌, ℕ, ◌==◌, Bool, true, false, ◌&&◌, List, Option, Some, None, refl, ap, sym, slice_get, unwrap_or, if◌then◌else◌}
+use Rattle.std.proofs.lemmas.Option.{slice_get-map}
+use Rattle.std.specs.Prelude.{option_map, option_and_then}
+use Rattle.std.specs.Option.{option_map_or}
+use Rattle.net_plan.specs.Places.{link_at}
+use Rattle.net_plan.specs.declared.ids.DeviceId.{DeviceId}
+use Rattle.net_plan.specs.declared.ids.LinkId.{LinkId}
+use Rattle.net_plan.specs.declared.network.Network.{Network}
+use Rattle.net_plan.specs.declared.tables.Link.{Link}
+use Rattle.pcf_values.specs.declared.members.Members.{Members}
+use Rattle.run_law.specs.control.Arrivals.{are_others, is_of_other_member}
+use Rattle.run_law.specs.scenario.Devices.{channel_of, channel_of_link, is_end, is_parent_of, member_of}
+use Rattle.run_law.specs.scenario.Ways.{wire_of}
+use Rattle.switch_ports.specs.Sites.{IsSiteOf, end_below, is_below, is_other_member, no_port, port_in, port_of}
+use Rattle.switch_ports.specs.declared.site.Peer.TheVariants as peers
+use Rattle.switch_ports.specs.declared.site.Port.{Port}
+use Rattle.switch_ports.specs.declared.site.Site.{Site}
+use Rattle.tte_units.specs.Amount.{amount}
+
+-- the port of a link that may be there
+abbrev port_by : Network → DeviceId → Option Link → Port
+port_by network device o = unwrap_or (option_map (port_of network device) o) no_port
+
+pub port_is : (network : Network) (device : DeviceId) (site : Site) (link : LinkId) → IsSiteOf network device site
+    → port_in site.ports.items link ≡ port_by network device (link_at network link)
+port_is network device site link h =
+    ap (λ (ports : List Port). unwrap_or (slice_get ports link.0) no_port) h.ports
+    ∙ ap (λ (o : Option Port). unwrap_or o no_port) (slice_get-map (port_of network device) network.link link.0)
+
+-- ---- members
+
+by_peer : (below end : Bool) (member : Option ℕ) (members : Members)
+    → (below && end && are_others member members) ≡ is_other_member (if below then (if end then end_below member else peers.Switch) else peers.Parent) members
+by_peer false end member members = refl
+by_peer true false member members = refl
+by_peer true true None members = refl
+by_peer true true (Some m) members = refl
+
+member_by : (network : Network) (device : DeviceId) (o : Option Link) (members : Members)
+    → option_map_or (λ l. l.parent.0 == device.0 && is_end network l.child && are_others (member_of network l.child) members) o false ≡ is_other_member
+    (port_by network device o).peer members
+member_by network device None members = refl
+member_by network device (Some l) members = by_peer (l.parent.0 == device.0) (is_end network l.child) (member_of network l.child) members
+
+pub member_same : (network : Network) (device : DeviceId) (site : Site) (link : LinkId) (members : Members) → IsSiteOf network device site
+    → is_other_member (port_in site.ports.items link).peer members ≡ is_of_other_member network device link members
+member_same network device site link members h =
+    ap (λ (p : Port). is_other_member p.peer members) (port_is network device site link h) ∙ sym (member_by network device (link_at network link) members)
+
+-- ---- ways
+
+below_end : (o : Option ℕ) → is_below (end_below o) ≡ true
+below_end None = refl
+below_end (Some m) = refl
+
+by_below : (below end : Bool) (member : Option ℕ) → is_below (if below then (if end then end_below member else peers.Switch) else peers.Parent) ≡ below
+by_below false end member = refl
+by_below true false member = refl
+by_below true true member = below_end member
+
+below_by : (network : Network) (device : DeviceId) (o : Option Link) → is_below (port_by network device o).peer ≡ option_map_or (λ l. l.parent.0 == device.0) o
+    false
+below_by network device None = refl
+below_by network device (Some l) = by_below (l.parent.0 == device.0) (is_end network l.child) (member_of network l.child)
+
+pub parent_same : (network : Network) (device : DeviceId) (site : Site) (link : LinkId) → IsSiteOf network device site
+    → is_below (port_in site.ports.items link).peer ≡ is_parent_of network device link
+parent_same network device site link h =
+    ap (λ (p : Port). is_below p.peer) (port_is network device site link h) ∙ below_by network device (link_at network link)
+
+-- ---- wires and channels
+
+wire_by : (network : Network) (device : DeviceId) (o : Option Link) → amount (port_by network device o).wire ≡ option_map_or (λ l. amount l.wire) o 0
+wire_by network device None = refl
+wire_by network device (Some l) = refl
+
+pub wire_same : (network : Network) (device : DeviceId) (site : Site) (link : LinkId) → IsSiteOf network device site
+    → amount (port_in site.ports.items link).wire ≡ wire_of network link
+wire_same network device site link h = ap (λ (p : Port). amount p.wire) (port_is network device site link h) ∙ wire_by network device (link_at network link)
+
+channel_by : (network : Network) (device : DeviceId) (o : Option Link) → (port_by network device o).channel ≡ option_and_then (λ l. channel_of network l.parent)
+    o
+channel_by network device None = refl
+channel_by network device (Some l) = refl
+
+pub channel_same : (network : Network) (device : DeviceId) (site : Site) (link : LinkId) → IsSiteOf network device site
+    → (port_in site.ports.items link).channel ≡ channel_of_link network link
+channel_same network device site link h = ap (λ (p : Port). p.channel) (port_is network device site link h) ∙ channel_by network device (link_at network link)

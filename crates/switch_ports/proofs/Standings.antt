@@ -1,0 +1,122 @@
+-- How a call leaves a switch to what it was given and has done.
+use Rattle.std.proofs.Common.{◌≡◌, ◌∙◌, inl, inr, ℕ, ℤ, ◌+ℤ◌, ◌≤ℤ◌, Bool, true, false, not, ◌&&◌, ◌==◌, List, Option, Some, None, refl, sym, ap, arith}
+use Rattle.std.proofs.lemmas.Int.{ints}
+use Rattle.std.proofs.lemmas.Bool.{cases_Bool, eqb-true}
+use Rattle.std.specs.Prelude.{Result, Ok, Err}
+use Rattle.net_plan.specs.declared.ids.DeviceId.{DeviceId}
+use Rattle.net_plan.specs.declared.ids.LinkId.{LinkId}
+use Rattle.net_plan.specs.declared.network.Network.{Network}
+use Rattle.pcf_codec.specs.EtherType.{pcf_type}
+use Rattle.pcf_codec.specs.Fields.{field}
+use Rattle.pcf_codec.specs.declared.refusal.PcfRefusal.{PcfRefusal}
+use Rattle.pcf_values.specs.declared.pcf.Pcf.{Pcf}
+use Rattle.run_law.specs.control.Arrivals.{control_arrival, frame_fault, frame_or_fault, frame_taken}
+use Rattle.run_law.specs.declared.judgement.Reason.{Reason}
+use Rattle.run_law.specs.declared.steps.Moment.{Moment}
+use Rattle.run_law.specs.device.Standpoints.{Standpoint as Point}
+use Rattle.run_law.specs.device.States.{is_off}
+use Rattle.run_law.specs.machines.Answers.{after_arrival, called}
+use Rattle.run_law.specs.machines.Calls.{MayCall}
+use Rattle.run_law.specs.machines.Nodes.{Node, Phase, standpoint_at}
+use Rattle.run_law.specs.scenario.Devices.{is_parent_of, is_relay}
+use Rattle.switch_ports.proofs.Ranges.{site_in_range}
+use Rattle.switch_ports.specs.Standing.{StandsAs}
+use Rattle.switch_ports.specs.Standpoints.{IsAlive, standpoint_of}
+use Rattle.switch_ports.specs.declared.standpoint.Standpoint.{Standpoint}
+use Rattle.switch_ports.specs.declared.switch.Switch.{Switch}
+use Rattle.sync_state.specs.Standing.{Standing}
+use Rattle.sync_state.specs.declared.state.State.{State}
+use Rattle.tte_units.specs.Amount.{amount}
+use Rattle.tte_units.specs.declared.units.Units.{Units}
+
+pub through : (x y z : ℤ) → x ≤ℤ y → y ≤ℤ z → x ≤ℤ z
+through x y z a b = omega (arith, ints, a, b)
+
+pub further : (x y z a : ℤ) → x ≤ℤ (y +ℤ a) → y ≤ℤ z → x ≤ℤ (z +ℤ a)
+further x y z a h k = omega (arith, ints, h, k)
+
+-- the moment of a call is in its range
+pub alive : (s : Switch) (network : Network) (device : DeviceId) (node : Node) (moment : Moment) (phase : Phase) (at : Standpoint)
+    → StandsAs s network device node → MayCall network device node moment phase
+    → at.reading ≡ moment.reading → at.adjustment ≡ s.sync.adjustment → IsAlive s.site at
+alive s network device node moment phase at st may r a = record {
+  site_in_range = site_in_range network device s.site st.accepted.range st.site;
+  reading = rw r (record { least = through _ _ _ st.begun may.later.reading; most = may.later.low_enough });
+  small = rw (a ∙ sym (ap (λ (x : Standing). x.adjustment) st.standing)) st.small;
+}
+
+-- a call that changes nothing else
+pub called_stands : (s : Switch) (network : Network) (device : DeviceId) (node : Node) (moment : Moment) (phase : Phase) → StandsAs s network device node
+    → node.last.reading.0 ≤ℤ moment.reading.0 → StandsAs s network device (called moment phase node)
+called_stands s network device node moment phase st later = record {
+  accepted = st.accepted;
+  leaves = st.leaves;
+  site = st.site;
+  sound = st.sound;
+  standing = st.standing;
+  plan = st.plan;
+  heard = st.heard;
+  changed = st.changed;
+  corrects = st.corrects;
+  done = st.done;
+  begun = through _ _ _ st.begun later;
+  small = st.small;
+  steady =
+      λ timed. let h = st.steady timed in record {
+        number = h.number;
+        lower = h.lower;
+        upper = further _ _ _ _ h.upper later;
+        joined = h.joined;
+        fair = h.fair;
+      };
+  intake = st.intake;
+  collects = st.collects;
+}
+
+-- ---- arrivals
+
+and_true : (b c : Bool) → c ≡ false → (b && not c) ≡ b
+and_true true c e = rw e refl
+and_true false c e = refl
+
+abbrev made_point : Bool → State → ℕ → ℤ → Point
+made_point part state reading adjustment = record { takes_part = part; state = state; reading = reading; adjustment = adjustment }
+
+pub point_same : (s : Switch) (network : Network) (device : DeviceId) (node : Node) (moment : Moment) (at : Standpoint) → StandsAs s network device node
+    → at.state ≡ s.sync.state → at.reading ≡ moment.reading → at.adjustment ≡ s.sync.adjustment
+    → standpoint_of at ≡ standpoint_at node moment
+point_same s network device node moment at st e r a =
+    let state : at.state ≡ node.standing.state = e ∙ sym (ap (λ (x : Standing). x.state) st.standing) in
+    let adjustment : at.adjustment ≡ node.standing.adjustment = a ∙ sym (ap (λ (x : Standing). x.adjustment) st.standing) in
+    let part : (not (is_off node.standing.state) && not node.broken) ≡ not (is_off node.standing.state) = and_true _ _ st.sound in
+    ap (λ (x : State). made_point (not (is_off x)) x (amount at.reading) at.adjustment.0) state
+    ∙ ap (λ (x : Units). made_point (not (is_off node.standing.state)) node.standing.state (amount x) at.adjustment.0) r
+    ∙ ap (λ (x : Units). made_point (not (is_off node.standing.state)) node.standing.state (amount moment.reading) x.0) adjustment
+    ∙ ap (λ (x : Bool). made_point x node.standing.state (amount moment.reading) node.standing.adjustment.0) (sym part)
+
+taken_none : (node : Node) (moment : Moment) (network : Network) (device : DeviceId) (link : LinkId) (frame : Pcf) (point : Units) (relay parent : Bool)
+    → is_relay network device ≡ relay → is_parent_of network device link ≡ parent
+    → after_arrival node moment (frame_taken network device link frame point) ≡ node
+taken_none node moment network device link frame point false parent r p = rw r refl
+taken_none node moment network device link frame point true true r p = rw r (rw p refl)
+taken_none node moment network device link frame point true false r p = rw r (rw p refl)
+
+fault_none : (node : Node) (moment : Moment) (network : Network) (device : DeviceId) (link : LinkId) (at : Point) (frame : Pcf) (fault : Option Reason)
+    → after_arrival node moment (frame_or_fault network device link at frame fault) ≡ node
+fault_none node moment network device link at frame (Some reason) = refl
+fault_none node moment network device link at frame None = taken_none node moment network device link _ _ _ _ refl refl
+
+-- a control frame is never taken as that of a virtual link
+pub control_none : (node : Node) (moment : Moment) (network : Network) (device : DeviceId) (link : LinkId) (at : Point) (read : Result Pcf PcfRefusal)
+    → after_arrival node moment (control_arrival network device link at read) ≡ node
+control_none node moment network device link at (Err refusal) = refl
+control_none node moment network device link at (Ok frame) = fault_none node moment network device link at frame (frame_fault network device link at frame)
+
+pub is_type : (octets : List ℕ) → field 12 2 octets ≡ pcf_type → (field 12 2 octets == pcf_type) ≡ true
+is_type octets e = rw e refl
+
+pub is_no_type : (octets : List ℕ) → (field 12 2 octets ≡ pcf_type → ⊥) → (field 12 2 octets == pcf_type) ≡ false
+is_no_type octets other = elim (cases_Bool (field 12 2 octets == pcf_type)) [
+  | inl y ↦ absurd (other (eqb-true _ _ y))
+  | inr n ↦ n
+]

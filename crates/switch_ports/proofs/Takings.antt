@@ -1,0 +1,196 @@
+-- Time-triggered frames that a switch takes.
+use Rattle.std.proofs.Common.{◌≡◌, ◌∙◌, ⊎_elim, ℕ, zero, suc, ◌<◌, ◌≤◌, ℤ, ◌≤ℤ◌, Bool, true, false, ◌==◌, cond, List, [], ◌∷◌, ◌++◌, length, map, Option, Some, None, refl, sym, subst, ap, arith}
+use Rattle.std.specs.Prelude.{find, filter, slice_get, option_map, option_and_then, unwrap_or, IfSome}
+use Rattle.std.specs.Int.{int_rem_euclid}
+use Rattle.std.specs.List.{All, last_or}
+use Rattle.std.specs.BTreeMap.{get}
+use Rattle.std.proofs.lemmas.Bool.{cases_Bool, eqb-true}
+use Rattle.std.proofs.lemmas.List.Elements.{All-head, All-map, All-tail, filter-append}
+use Rattle.std.proofs.lemmas.List.{length-map}
+use Rattle.net_plan.specs.Ranges.{IsInRange, IsRowInRange, IsVlInRange}
+use Rattle.net_plan.specs.declared.ids.DeviceId.{DeviceId}
+use Rattle.net_plan.specs.declared.ids.VlId.{VlId}
+use Rattle.net_plan.specs.declared.network.Network.{Network}
+use Rattle.net_plan.specs.declared.tables.Row.{Row}
+use Rattle.net_plan.specs.declared.tables.VirtualLink.{VirtualLink}
+use Rattle.run_law.specs.declared.judgement.Reason.{Reason}
+use Rattle.run_law.specs.declared.steps.Arrival.TheVariants as arrivals
+use Rattle.run_law.specs.declared.steps.Arrival.{Arrival}
+use Rattle.run_law.specs.declared.steps.Moment.{Moment}
+use Rattle.run_law.specs.device.Standpoints.{Standpoint, clock_of}
+use Rattle.run_law.specs.machines.Answers.{after_arrival, called}
+use Rattle.run_law.specs.machines.Nodes.{Node, TakenFrame, arriving}
+use Rattle.run_law.specs.scenario.Devices.{is_end}
+use Rattle.run_law.specs.timed.Arrivals.{entry_arrival, entry_of, row_fault, taken_or_fault}
+use Rattle.schedule_tables.proofs.EntryLemmas.{all_at}
+use Rattle.schedule_tables.specs.declared.entry.Entry.{Entry}
+use Rattle.switch_ports.proofs.Entrances.{enters, find_of, some_at}
+use Rattle.switch_ports.proofs.Standings.{called_stands, further, through}
+use Rattle.switch_ports.specs.Intakes.{AreEntrances, IsTakenSo, IsWhole, Takes, cycle_of, entering_by, entrance_cmp, fault_arrival, fault_of, first_entering, last_in, row_arrival}
+use Rattle.switch_ports.specs.Standing.{HasTaken, StandsAs, last_by}
+use Rattle.switch_ports.specs.declared.intake.EnteringRow.{EnteringRow}
+use Rattle.switch_ports.specs.declared.intake.Intake.{Intake}
+use Rattle.switch_ports.specs.declared.switch.Switch.{Switch}
+
+-- ---- what is kept can be judged
+
+-- a row that can be judged, where so many virtual links are
+abbrev IsFine : ℕ → EnteringRow → Type 0
+IsFine count row = (1 ≤ row.period) × (row.vl.0 < count)
+
+entry_fine : (network : Network) (row : Row) → IsInRange network → IsRowInRange network row → IfSome (option_map (entering_by network) (entry_of network row))
+    (IsFine (length network.vl))
+entry_fine network row range r =
+    let vl = some_at network.vl row.vl.0 r.vl in
+    let link = some_at network.link row.link.0 r.link in
+    let fine = all_at (IsVlInRange network) network.vl row.vl.0 vl.0 range.vls vl.1 in
+    rw vl.1 (rw link.1 (fine.period_least, r.vl))
+
+found_fine : (network : Network) (o : Option Row) → IsInRange network → ((row : Row) → o ≡ Some row → IsRowInRange network row)
+    → IfSome (option_map (entering_by network) (option_and_then (entry_of network) o)) (IsFine (length network.vl))
+found_fine network None range each = tt
+found_fine network (Some row) range each = entry_fine network row range (each row refl)
+
+pub is_whole : (network : Network) (device : DeviceId) (intake : Intake) (taken : List TakenFrame) → IsInRange network → HasTaken network device intake taken
+    → IsWhole intake
+is_whole network device intake taken range has entrance =
+    subst (λ (o : Option EnteringRow). IfSome o (IsFine (length intake.taken.items))) (sym (has.rows entrance))
+    (subst (λ (n : ℕ). IfSome (option_map (entering_by network) (first_entering network device network.row entrance)) (IsFine n)) (sym has.count)
+    (found_fine network (find (enters network device entrance) network.row) range
+    (λ row e. find_of (IsRowInRange network) (enters network device entrance) network.row row range.rows e)))
+
+-- ---- how a frame is judged
+
+fault_same : (network : Network) (device : DeviceId) (at : Standpoint) (entry : Entry) (o : Option Reason) → is_end network device ≡ false
+    → taken_or_fault network device at entry o ≡ fault_arrival entry.row.vl (cycle_of (clock_of at) network.cycle.0) o
+fault_same network device at entry None not_end = rw not_end refl
+fault_same network device at entry (Some reason) not_end = refl
+
+entry_same : (network : Network) (device : DeviceId) (at : Standpoint) (size : ℕ) (last : VlId → Option ℕ) (o : Option Entry) → is_end network device ≡ false
+    → entry_arrival network device at size last o ≡ row_arrival (option_map (entering_by network) o) size (cycle_of (clock_of at) network.cycle.0)
+    (int_rem_euclid (clock_of at) network.cycle.0) last
+entry_same network device at size last None not_end = refl
+entry_same network device at size last (Some entry) not_end = fault_same network device at entry (row_fault network at entry size (last entry.row.vl)) not_end
+
+last_same : (o : Option EnteringRow) (size cycle : ℕ) (place : ℤ) (f g : VlId → Option ℕ) → ((vl : VlId) → f vl ≡ g vl)
+    → row_arrival o size cycle place f ≡ row_arrival o size cycle place g
+last_same None size cycle place f g e = refl
+last_same (Some row) size cycle place f g e = ap (λ (l : Option ℕ). fault_arrival row.vl cycle (fault_of row size cycle place l)) (e row.vl)
+
+-- a frame of the entry that is kept, or of none, is judged as the network says
+pub judged : (network : Network) (device : DeviceId) (at : Standpoint) (size : ℕ) (own last : VlId → Option ℕ) (row : Option EnteringRow) (o : Option Entry)
+    (clock length : ℤ) → is_end network device ≡ false
+    → row ≡ option_map (entering_by network) o → clock ≡ clock_of at → length ≡ network.cycle.0 → ((vl : VlId) → own vl ≡ last vl)
+    → row_arrival row size (cycle_of clock length) (int_rem_euclid clock length) own ≡ entry_arrival network device at size last o
+judged network device at size own last row o clock length not_end kept c l same =
+    last_same row size (cycle_of clock length) (int_rem_euclid clock length) own last same
+    ∙ ap (λ (r : Option EnteringRow). row_arrival r size (cycle_of clock length) (int_rem_euclid clock length) last) kept
+    ∙ ap (λ (z : ℤ). row_arrival (option_map (entering_by network) o) size (cycle_of z length) (int_rem_euclid z length) last) c
+    ∙ ap (λ (z : ℤ). row_arrival (option_map (entering_by network) o) size (cycle_of (clock_of at) z) (int_rem_euclid (clock_of at) z) last) l
+    ∙ sym (entry_same network device at size last o not_end)
+
+-- ---- what was taken
+
+last_pushed : {X : Type 0} (o : Option X) (xs : List X) (x : X) → last_or o (xs ++ x ∷ []) ≡ Some x
+last_pushed o [] x = refl
+last_pushed o (y ∷ xs) x = last_pushed (Some y) xs x
+
+last_kept : {X : Type 0} (o : Option X) (xs : List X) → last_or o (xs ++ []) ≡ last_or o xs
+last_kept o [] = refl
+last_kept o (y ∷ xs) = last_kept (Some y) xs
+
+-- the virtual link of the taking is the other
+by_pushed : (taken : List TakenFrame) (t : TakenFrame) (vl : VlId) (b : Bool) → (t.vl.0 == vl.0) ≡ b → last_by (taken ++ t ∷ []) vl ≡ cond b (Some t.cycle)
+    (last_by taken vl)
+by_pushed taken t vl true e =
+    ap (λ (ts : List TakenFrame). option_map (λ (x : TakenFrame). x.cycle) (last_or None ts)) (filter-append (λ x. x.vl.0 == vl.0) taken (t ∷ []))
+    ∙ rw e (ap (option_map (λ (x : TakenFrame). x.cycle)) (last_pushed None (filter (λ x. x.vl.0 == vl.0) taken) t))
+by_pushed taken t vl false e =
+    ap (λ (ts : List TakenFrame). option_map (λ (x : TakenFrame). x.cycle) (last_or None ts)) (filter-append (λ x. x.vl.0 == vl.0) taken (t ∷ []))
+    ∙ rw e (ap (option_map (λ (x : TakenFrame). x.cycle)) (last_kept None (filter (λ x. x.vl.0 == vl.0) taken)))
+
+same_vl : (a b : VlId) → a.0 ≡ b.0 → a ≡ b
+same_vl a b e = ap (λ (n : ℕ). record { 0 = n }) e
+
+not_same : (a b : ℕ) → (a == b) ≡ false → b ≡ a → ⊥
+not_same a b e h = grind (arith, e, h)
+
+-- one frame more
+pub has_taken : (network : Network) (device : DeviceId) (old new : Intake) (taken : List TakenFrame) (t : TakenFrame) → HasTaken network device old taken
+    → Takes old t.vl t.cycle new → HasTaken network device new (taken ++ t ∷ [])
+has_taken network device old new taken t has takes = record {
+  rows = λ entrance. ap (λ rows. get entrance_cmp rows entrance) takes.rows ∙ has.rows entrance;
+  count = takes.count ∙ has.count;
+  last = λ vl. ⊎_elim
+      (λ (y : (t.vl.0 == vl.0) ≡ true). subst (λ (v : VlId). last_in new.taken.items v ≡ Some t.cycle) (same_vl t.vl vl (eqb-true t.vl.0 vl.0 y)) takes.taken
+      ∙ sym (by_pushed taken t vl true y))
+      (λ (n : (t.vl.0 == vl.0) ≡ false). takes.others vl (not_same t.vl.0 vl.0 n) ∙ has.last vl ∙ sym (by_pushed taken t vl false n))
+      (cases_Bool (t.vl.0 == vl.0));
+}
+
+with_intake : (s : Switch) (intake : Intake) (network : Network) (device : DeviceId) (node : Node) (moment : Moment) (taken : List TakenFrame)
+    → StandsAs s network device node → node.last.reading.0 ≤ℤ moment.reading.0 → HasTaken network device intake taken
+    → StandsAs (record s { intake = intake }) network device (called moment arriving (record node { taken = taken }))
+with_intake s intake network device node moment taken st later has = record {
+  accepted = st.accepted;
+  leaves = st.leaves;
+  site = st.site;
+  sound = st.sound;
+  standing = st.standing;
+  plan = st.plan;
+  heard = st.heard;
+  changed = st.changed;
+  corrects = st.corrects;
+  done = st.done;
+  begun = through _ _ _ st.begun later;
+  small = st.small;
+  steady =
+      λ timed. let h = st.steady timed in record {
+        number = h.number;
+        lower = h.lower;
+        upper = further _ _ _ _ h.upper later;
+        joined = h.joined;
+        fair = h.fair;
+      };
+  intake = has;
+  collects = st.collects;
+}
+
+not_taken : (s : Switch) (intake : Intake) (network : Network) (device : DeviceId) (node : Node) (moment : Moment) → StandsAs s network device node
+    → node.last.reading.0 ≤ℤ moment.reading.0 → intake ≡ s.intake → StandsAs (record s { intake = intake }) network device (called moment arriving node)
+not_taken s intake network device node moment st later same =
+    subst (λ (i : Intake). StandsAs (record s { intake = i }) network device (called moment arriving node)) (sym same)
+    (called_stands s network device node moment arriving st later)
+
+-- the switch of whose frame this became
+pub arrival_stands : (s : Switch) (intake : Intake) (network : Network) (device : DeviceId) (node : Node) (moment : Moment) (is : Arrival)
+    → StandsAs s network device node → node.last.reading.0 ≤ℤ moment.reading.0 → IsTakenSo s.intake intake is
+    → StandsAs (record s { intake = intake }) network device (called moment arriving (after_arrival node moment is))
+arrival_stands s intake network device node moment (arrivals.Accepted vl cycle) st later so =
+    with_intake s intake network device node moment _ st later (has_taken network device s.intake intake node.taken _ st.intake so)
+arrival_stands s intake network device node moment (arrivals.Delivered vl cycle) st later so = absurd so
+arrival_stands s intake network device node moment (arrivals.Dropped reason) st later so = not_taken s intake network device node moment st later so
+arrival_stands s intake network device node moment (arrivals.Waits frame point) st later so = not_taken s intake network device node moment st later so
+arrival_stands s intake network device node moment (arrivals.Passes frame way) st later so = not_taken s intake network device node moment st later so
+arrival_stands s intake network device node moment (arrivals.PassesAndWaits frame way point) st later so =
+    not_taken s intake network device node moment st later so
+
+get_nil : (n : ℕ) → slice_get {X = Option ℕ} [] n ≡ None
+get_nil zero = refl
+get_nil (suc n) = refl
+
+none_at : (xs : List (Option ℕ)) (n : ℕ) → All (λ o. o ≡ None) xs → unwrap_or (slice_get xs n) None ≡ None
+none_at [] n all = ap (λ (o : Option (Option ℕ)). unwrap_or o None) (get_nil n)
+none_at (x ∷ xs) zero all = All-head (λ o. o ≡ None) x xs all
+none_at (x ∷ xs) (suc n) all = none_at xs n (All-tail (λ o. o ≡ None) x xs all)
+
+-- none was taken at first
+pub taken_none : (network : Network) (device : DeviceId) (intake : Intake) → AreEntrances network device network.row intake.rows
+    → intake.taken.items ≡ map (λ vl. None) network.vl → HasTaken network device intake []
+taken_none network device intake rows none = record {
+  rows = rows;
+  count = ap (λ (xs : List (Option ℕ)). length xs) none ∙ length-map network.vl _;
+  last =
+      λ vl. ap (λ (xs : List (Option ℕ)). last_in xs vl) none
+      ∙ none_at (map (λ vl. None) network.vl) vl.0 (All-map (λ (o : Option ℕ). o ≡ None) (λ (x : VirtualLink). None) network.vl (λ i d lt. refl));
+}

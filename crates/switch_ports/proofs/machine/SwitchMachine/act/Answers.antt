@@ -1,0 +1,135 @@
+use Rattle.std.proofs.Common.{◌≡◌, ◌∙◌, ℕ, ◌+ℤ◌, ◌≤ℤ◌, ◌<ℤ◌, Option, Some, ap, sym, refl, subst}
+use Rattle.compression.specs.Collecting.{emissions}
+use Rattle.pcf_values.specs.declared.channel.Channel.TheVariants.{A, B}
+use Rattle.pcf_values.specs.declared.channel.Channel.{Channel}
+use Rattle.pcf_values.specs.declared.pcf.Pcf.{Pcf}
+use Rattle.run_law.specs.control.Collections.{observation_window}
+use Rattle.run_law.specs.control.Corrections.{correction_value}
+use Rattle.run_law.specs.control.Hearing.{heard_as}
+use Rattle.run_law.specs.control.Permanence.{ripe_as}
+use Rattle.run_law.specs.machines.Answers.{after_permanence, called}
+use Rattle.run_law.specs.machines.Nodes.{acting}
+use Rattle.run_law.specs.machines.Tasks.{emitting}
+use Rattle.run_law.specs.records.Frames.{integration_frame}
+use Rattle.run_law.specs.scenario.Devices.{plan_of}
+use Rattle.switch_ports.proofs.CorrectedStands.{corrects_stands}
+use Rattle.switch_ports.proofs.CorrectionPoints.{is_near, never_some, none_if, number_within, some_if, timed_next}
+use Rattle.switch_ports.proofs.Emissions.{first_emission, may_before, reached_by, sent_stands, with_sent}
+use Rattle.switch_ports.proofs.FirstActs.{EmitsNone, first_correction, nothing_due, value_reached}
+use Rattle.switch_ports.proofs.HeardKinds.{heard_so, heard_stands}
+use Rattle.switch_ports.proofs.Hearings.{IsComing, is_point}
+use Rattle.switch_ports.proofs.Ranges.{site_in_range}
+use Rattle.switch_ports.proofs.machine.SwitchMachine.act.Goals as goal
+use Rattle.switch_ports.specs.Standing.{StandsAs}
+use Rattle.sync_state.specs.Standing.{Standing, next_point}
+use Rattle.sync_state.specs.Verdicts.{HasVerdict}
+
+pub hear_frame-heard-requires-clause-site : goal.hear_frame-heard-requires-clause-site
+hear_frame-heard-requires-clause-site c = let r = c.requires in site_in_range r.0 r.1 c.args.self.now.site r.3.accepted.range r.3.site
+
+pub correct-requires-clause-site : goal.correct-requires-clause-site
+correct-requires-clause-site c = let r = c.requires in site_in_range r.0 r.1 c.args.self.now.site r.3.accepted.range r.3.site
+
+pub correct-requires-clause-number : goal.correct-requires-clause-number
+correct-requires-clause-number c =
+    let r = c.requires in number_within c.args.self.now r.0 r.1 r.2 c.in-Some.cycle r.3 (sym c.next_correction.ensures ∙ c.in-Some.is)
+
+pub correct-requires-clause-near_a : goal.correct-requires-clause-near_a
+correct-requires-clause-near_a c =
+    let r = c.requires in let o = some_if c.args.self.now.corrects_at c.is_none.result c.is_none.ensures c.if-is_none.false in is_near c.args.self.now r.0 r.1
+    r.2 o.0 A r.3 o.1
+
+pub correct-requires-clause-near_b : goal.correct-requires-clause-near_b
+correct-requires-clause-near_b c =
+    let r = c.requires in let o = some_if c.args.self.now.corrects_at c.is_none.result c.is_none.ensures c.if-is_none.false in is_near c.args.self.now r.0 r.1
+    r.2 o.0 B r.3 o.1
+
+pub returns-in-Some : goal.returns-in-Some
+returns-in-Some c network device node st may due =
+    let old = c.args.self.now in
+    let cycle = c.in-Some.cycle in
+    let o = some_if old.corrects_at c.is_none.result c.is_none.ensures c.if-is_none.false in
+    let next : next_point node.standing ≡ Some cycle = ap next_point st.standing ∙ (sym c.next_correction.ensures ∙ c.in-Some.is) in
+    let none : EmitsNone old c.args.moment.reading.0 c.due.result = record {
+      none = c.due.ensures.none;
+      least = c.due.ensures.least;
+      later = c.is_reached.ensures.later c.if-is_reached.false;
+    } in
+    let first = first_correction old network device node cycle o.0 c.args.moment.reading.0 c.due.result st none o.1 next due in
+    let t = timed_next node.standing.state node.standing.number cycle next in
+    let ahead = subst (λ (n : ℕ). node.changed <ℤ correction_value network n) (sym t.1) first.pending.1.ahead in
+    let reached = subst (λ (n : ℕ). correction_value network n ≤ℤ (c.args.moment.reading.0 +ℤ node.standing.adjustment.0)) (sym t.1)
+    (value_reached (correction_value network cycle) node.standing.adjustment.0 c.args.moment.reading.0 first.due) in
+    let is : HasVerdict node.standing old.heard c.correct.result = subst (λ (x : Standing). HasVerdict x old.heard c.correct.result) (sym st.standing)
+    c.correct.ensures.is in (
+      _,
+      (first, (old.heard, record { summary = st.heard; verdict_is = is }, refl)),
+      corrects_stands old c.correct.new.self network device node c.args.moment cycle c.correct.result st may.later.reading t.0 (sym t.1) ahead reached
+          c.correct.ensures,
+    )
+
+pub returns-then-is_none : goal.returns-then-is_none
+returns-then-is_none c network device node st may due =
+    let old = c.args.self.now in
+    let none : EmitsNone old c.args.moment.reading.0 c.due.result = record {
+      none = c.due.ensures.none;
+      least = c.due.ensures.least;
+      later = c.is_reached.ensures.later c.if-is_reached.false;
+    } in
+    let absent = none_if old.corrects_at c.is_none.result c.is_none.ensures c.if-is_none.true in
+    absurd (nothing_due old network device node c.args.moment.reading.0 c.due.result st none (λ cycle at e f. never_some at (sym absent ∙ f)) due)
+
+pub returns-in-None : goal.returns-in-None
+returns-in-None c network device node st may due =
+    let old = c.args.self.now in
+    let none : EmitsNone old c.args.moment.reading.0 c.due.result = record {
+      none = c.due.ensures.none;
+      least = c.due.ensures.least;
+      later = c.is_reached.ensures.later c.if-is_reached.false;
+    } in
+    absurd (nothing_due old network device node c.args.moment.reading.0 c.due.result st none
+    (λ cycle at e f. never_some cycle (sym (sym c.next_correction.ensures ∙ c.in-None.is) ∙ e)) due)
+
+pub hear_frame-heard-requires-clause-point : goal.hear_frame-heard-requires-clause-point
+hear_frame-heard-requires-clause-point c =
+    let r = c.requires in
+    let st = r.3 in
+    let old = c.args.self.now in
+    let f = c.emit-sent.ensures.first in
+    let due = reached_by c.due.result c.args.moment.reading.0 c.emit-sent.result.at.0 (emissions old.collector)
+    (c.is_reached.ensures.reached c.if-is_reached.true) c.due.ensures.least c.emit-sent.ensures.due in
+    let first = first_emission old r.0 r.1 r.2 c.emit-sent.result f.0 c.emit-sent.new.self.waiting c.args.moment.reading.0 st f.1 f.2 due in
+    is_point old r.0 r.1 r.2 c.args.moment acting c.emit-sent.result.at st r.4.call
+    (record { reached = due; in_time = r.4.call.in_time (emitting c.emit-sent.result) first.pending })
+
+pub returns-then-is_reached : goal.returns-then-is_reached
+returns-then-is_reached c network device node st may has =
+    let old = c.args.self.now in
+    let sent = c.emit-sent.result in
+    let f = c.emit-sent.ensures.first in
+    let due = reached_by c.due.result c.args.moment.reading.0 sent.at.0 (emissions old.collector) (c.is_reached.ensures.reached c.if-is_reached.true)
+    c.due.ensures.least c.emit-sent.ensures.due in
+    let first = first_emission old network device node sent f.0 c.emit-sent.new.self.waiting c.args.moment.reading.0 st f.1 f.2 due in
+    let mid = sent_stands old c.emit-sent.new.self network device node sent st c.emit-sent.ensures.kept
+    (c.emit-sent.ensures.stands node.points node.emitted st.collects.collected) in
+    let frame = c.integration_frame-frame.ensures network device st.site in
+    let coming : IsComing network c.args.moment sent.at = record { reached = due; in_time = may.in_time (emitting sent) first.pending } in
+    let new = heard_stands (record old { collector = c.emit-sent.new.self }) c.hear_frame-heard.new.self network device (with_sent node sent) c.args.moment
+    acting (Some old.site.channel) c.integration_frame-frame.result sent.at c.hear_frame-heard.result mid
+    (may_before network device node sent c.args.moment acting may) coming c.hear_frame-heard.ensures.is c.hear_frame-heard.ensures.hears in
+    let heard = heard_so (record old { collector = c.emit-sent.new.self }) network device (with_sent node sent) sent.at.0 c.integration_frame-frame.result.cycle
+    c.integration_frame-frame.result.members c.hear_frame-heard.result mid c.hear_frame-heard.ensures.is in (
+      _,
+      (
+        first,
+        heard ∙ ap (λ (p : Pcf). ripe_as (heard_as (plan_of network device) (observation_window network) node.standing.state node.standing.adjustment.0
+            sent.at.0 p.cycle p.members)) frame,
+        refl,
+      ),
+      subst (λ (o : Option Channel). StandsAs c.hear_frame-heard.new.self network device
+          (called c.args.moment acting (after_permanence (with_sent node sent) c.args.moment o (integration_frame network device sent.cycle sent.members)
+          sent.at c.hear_frame-heard.result))) (sym st.site.channel)
+          (subst (λ (p : Pcf). StandsAs c.hear_frame-heard.new.self network device
+          (called c.args.moment acting (after_permanence (with_sent node sent) c.args.moment (Some old.site.channel) p sent.at c.hear_frame-heard.result)))
+          frame new),
+    )

@@ -1,0 +1,10 @@
+use Rattle.std.proofs.Common.{◌∙◌, ap}
+use Rattle.switch_ports.proofs.Sites.{member_same}
+use Rattle.switch_ports.proofs.site.Site.is_of_other_member.Goals as goal
+use Rattle.switch_ports.specs.Sites.{is_other_member}
+use Rattle.switch_ports.specs.declared.site.Port.{Port}
+
+pub returns : goal.returns
+returns c network device site =
+    c.is_other_member.ensures ∙ ap (λ (p : Port). is_other_member p.peer c.args.members) c.port.ensures ∙ member_same network device c.args.self.now c.args.link
+    c.args.members site

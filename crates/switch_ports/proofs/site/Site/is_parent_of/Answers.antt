@@ -1,0 +1,9 @@
+use Rattle.std.proofs.Common.{◌∙◌, ap}
+use Rattle.switch_ports.proofs.Sites.{parent_same}
+use Rattle.switch_ports.proofs.site.Site.is_parent_of.Goals as goal
+use Rattle.switch_ports.specs.Sites.{is_below}
+use Rattle.switch_ports.specs.declared.site.Port.{Port}
+
+pub returns : goal.returns
+returns c network device site =
+    c.is_below.ensures ∙ ap (λ (p : Port). is_below p.peer) c.port.ensures ∙ parent_same network device c.args.self.now c.args.link site

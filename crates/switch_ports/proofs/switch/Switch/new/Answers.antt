@@ -1,0 +1,39 @@
+use Rattle.std.proofs.Common.{◌≡◌, ◌∙◌, ap, subst, []}
+use Rattle.std.specs.Prelude.{IfSome, Option, ◌^◌}
+use Rattle.net_plan.specs.Ranges.{IsWithin}
+use Rattle.net_plan.specs.declared.network.Network.{Network}
+use Rattle.run_law.specs.scenario.Devices.{start_of}
+use Rattle.switch_ports.proofs.Beginning.{begun_stands}
+use Rattle.switch_ports.proofs.Ranges.{calc_short, site_in_range}
+use Rattle.switch_ports.proofs.Takings.{taken_none}
+use Rattle.switch_ports.proofs.switch.Switch.new.Goals as goal
+use Rattle.switch_ports.specs.Sites.{IsSiteOf}
+use Rattle.switch_ports.specs.Standing.{HasTaken}
+use Rattle.sync_state.specs.Standing.{begun}
+use Rattle.tte_units.specs.declared.units.Units.{Units}
+
+pub new-collector-requires-clause-short : goal.new-collector-requires-clause-short
+new-collector-requires-clause-short c =
+    let e = c.network-network.ensures in
+    let is = subst (λ (n : Network). IsSiteOf n c.args.device c.in_ok-site.site) e.value c.in_ok-site.ensures in
+    rw is.calc (rw is.precision (calc_short c.args.accepted.now e.range e.rules))
+
+pub next_correction_at-corrects_at-requires-clause-site : goal.next_correction_at-corrects_at-requires-clause-site
+next_correction_at-corrects_at-requires-clause-site c =
+    let e = c.network-network.ensures in
+    let is = subst (λ (n : Network). IsSiteOf n c.args.device c.in_ok-site.site) e.value c.in_ok-site.ensures in
+    site_in_range c.args.accepted.now c.args.device c.in_ok-site.site e.range is
+
+pub returns : goal.returns
+returns c leaves =
+    let e = c.network-network.ensures in
+    let is = subst (λ (n : Network). IsSiteOf n c.args.device c.in_ok-site.site) e.value c.in_ok-site.ensures in
+    let start : c.start_of.result ≡ start_of c.args.accepted.now c.args.device = c.start_of.ensures.value
+    ∙ ap (λ (n : Network). start_of n c.args.device) e.value in
+    let taken = taken_none c.network-network.result.now c.args.device c.in_ok-intake.intake (c.in_ok-intake.ensures.rows c.args.device c.in_ok-site.ensures)
+    c.in_ok-intake.ensures.taken in
+    begun_stands _ c.args.accepted.now c.args.device (record { range = e.range; rules = e.rules }) leaves is
+    (subst (λ (n : Network). HasTaken n c.args.device c.in_ok-intake.intake []) e.value taken)
+    (c.new-sync.ensures.value ∙ ap (begun c.in_ok-site.site.plan) start)
+    (subst (λ (o : Option Units). IfSome o (IsWithin 0 (2 ^ 40))) start c.start_of.ensures.range)
+    c.new-3.ensures.value c.new-collector.ensures.value c.adjustment-changed.ensures c.next_correction_at-corrects_at.ensures

@@ -1,0 +1,10 @@
+pub mod Sites
+pub mod Standpoints
+pub mod Arrivals
+pub mod Intakes
+pub mod Corrections
+pub mod Steps
+pub mod Members
+pub mod Steady
+pub mod Standing
+pub mod Due

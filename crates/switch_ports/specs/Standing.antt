@@ -1,0 +1,76 @@
+-- How a switch stands to what it was given and has done.
+use Rattle.std.specs.Prelude.{◌≡◌, ℕ, ◌<◌, ℤ, pos, ◌≤ℤ◌, true, false, ◌==◌, List, [], length, filter, Option, None, option_map, All}
+use Rattle.std.specs.List.{Contains, last_or}
+use Rattle.clock_correction.specs.Deviation.{IsSmall}
+use Rattle.compression.specs.Clusters.{Point}
+use Rattle.compression.specs.Collecting.{Collecting}
+use Rattle.compression.specs.Stands.{StandsForPoints}
+use Rattle.compression.specs.declared.compressed.Compressed.{Compressed}
+use Rattle.membership.specs.Summary.{Summarizes}
+use Rattle.net_plan.specs.Ranges.{IsInRange}
+use Rattle.net_plan.specs.declared.ids.DeviceId.{DeviceId}
+use Rattle.net_plan.specs.declared.ids.VlId.{VlId}
+use Rattle.net_plan.specs.declared.network.Network.{Network}
+use Rattle.run_law.specs.machines.Nodes.{Node, TakenFrame, correcting}
+use Rattle.run_law.specs.scenario.Devices.{is_cm, plan_of}
+use Rattle.schedule_tables.specs.Entries.{IsEntry, source_of}
+use Rattle.schedule_tables.specs.Rules.{KeepsRules}
+use Rattle.schedule_tables.specs.declared.entry.Entry.{Entry}
+use Rattle.switch_ports.specs.Corrections.{correction_due}
+use Rattle.switch_ports.specs.Intakes.{AreEntrances, last_in}
+use Rattle.switch_ports.specs.Members.{member_numbers}
+use Rattle.switch_ports.specs.Sites.{IsSiteOf}
+use Rattle.switch_ports.specs.Steady.{IsSteady, is_timed}
+use Rattle.switch_ports.specs.declared.intake.Intake.{Intake}
+use Rattle.switch_ports.specs.declared.switch.Switch.{Switch}
+use Rattle.tte_units.specs.Reading.{least_reading}
+
+-- a network that is accepted
+pub record IsAccepted (network : Network) : Type 0 where
+  pub range : IsInRange network
+  pub rules : KeepsRules network
+
+-- no row leaves the device
+abbrev pub LeavesNone : Network → DeviceId → Type 0
+LeavesNone network device =
+    (place : ℕ) (entry : Entry) → IsEntry network place entry → source_of entry ≡ device → ⊥
+
+-- the cycle in which the last frame of the virtual link was taken
+abbrev pub last_by : List TakenFrame → VlId → Option ℕ
+last_by taken vl = option_map (λ taking. taking.cycle) (last_or None (filter (λ taking. taking.vl.0 == vl.0) taken))
+
+-- the rows by which frames come to the device, of which it has taken these
+pub record HasTaken (network : Network) (device : DeviceId) (intake : Intake) (taken : List TakenFrame) : Type 0 where
+  pub rows : AreEntrances network device network.row intake.rows
+  pub count : length intake.taken.items ≡ length network.vl
+  pub last : (vl : VlId) → last_in intake.taken.items vl ≡ last_by taken vl
+
+-- what a collector has taken and sent of these points and frames
+pub record HasCollected (collector : Collecting) (network : Network) (device : DeviceId) (points : List Point)
+    (emitted : List Compressed) : Type 0 where
+  pub collected : StandsForPoints collector points emitted
+  pub window : collector.ow ≡ network.precision.0
+  pub calc : collector.calc ≡ network.calc.0
+  pub idle : is_cm network device ≡ false → points ≡ []
+  pub earliest : (limit : ℤ) → least_reading ≤ℤ limit → All (λ p. p.reading ≤ℤ limit) points
+      → All (λ sent. sent.at.0 ≤ℤ limit) emitted → collector.earliest ≤ℤ limit
+  pub masters : All (λ p. Contains (member_numbers network) p.master) points
+  pub from_zero : All (λ p. pos 0 ≤ℤ p.reading) points
+
+-- the switch stands as this device of this network
+pub record StandsAs (switch : Switch) (network : Network) (device : DeviceId) (node : Node) : Type 0 where
+  pub accepted : IsAccepted network
+  pub leaves : LeavesNone network device
+  pub site : IsSiteOf network device switch.site
+  pub sound : node.broken ≡ false
+  pub standing : node.standing ≡ switch.sync
+  pub plan : node.standing.plan ≡ plan_of network device
+  pub heard : Summarizes switch.heard node.heard
+  pub changed : node.changed ≡ switch.changed.0
+  pub corrects : switch.corrects_at ≡ correction_due network node
+  pub done : (cycle : ℕ) → Contains node.done (correcting cycle) → cycle < node.standing.number
+  pub begun : pos 0 ≤ℤ node.last.reading.0
+  pub small : IsSmall node.standing.adjustment.0
+  pub steady : is_timed node.standing.state ≡ true → IsSteady network node switch.heard
+  pub intake : HasTaken network device switch.intake node.taken
+  pub collects : HasCollected switch.collector network device node.points node.emitted

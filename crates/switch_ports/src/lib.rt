@@ -1,0 +1,21 @@
+//! A switch as it behaves by itself: a relay or a compression master. It passes, collects and hears
+//! control frames, corrects its clock, and takes time-triggered frames. It does not yet dispatch rows.
+#![tactic(auto)]
+
+mod arriving;
+mod correcting;
+mod hearing;
+mod intake;
+mod machine;
+mod pointing;
+mod site;
+mod standpoint;
+mod switch;
+mod timed;
+
+pub(crate) use site::{Peer, Port, Site};
+pub(crate) use standpoint::Standpoint;
+pub use switch::Switch;
+
+#[cfg(test)]
+mod tests;

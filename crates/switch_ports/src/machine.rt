@@ -1,0 +1,121 @@
+ghost use Rattle.std.specs.Prelude.{◌≡◌, ◌≤ℤ◌, ◌<ℤ◌, IfSome, IsSomeAnd, IsTrue, IsFalse};
+ghost use Rattle.net_plan.specs.declared.ids.DeviceId.{DeviceId};
+ghost use Rattle.net_plan.specs.declared.network.Network.{Network};
+ghost use Rattle.run_law.specs.records.Frames.{integration_frame};
+ghost use Rattle.switch_ports.specs.Due.{least_of};
+ghost use Rattle.switch_ports.specs.Sites.{IsSiteOf};
+
+use crate::{Site, Switch};
+use net_plan::LinkId;
+use pcf_codec::is_pcf;
+use pcf_values::{Members, Pcf, PcfKind};
+use run_law::{Act, Arrival, Machine, Moment, Ripe};
+use sync_state::{State, Verdict};
+use tte_units::Units;
+
+impl Machine for Switch {
+    ghost use Rattle.switch_ports.specs.Standing.{StandsAs};
+
+    ghost stands = { StandsAs };
+
+    fn due(&self) -> Option<Units> {
+        least(self.collector.due(), self.corrects_at)
+    }
+
+    fn act(&mut self, moment: Moment) -> Act {
+        if is_reached(self.collector.due(), moment.reading) {
+            let sent = self.collector.emit();
+            let frame = self.site.integration_frame(sent.cycle, sent.members);
+            let channel = Some(self.site.channel);
+            let heard = self.hear_frame(moment, channel, &frame, sent.at);
+            return Act::Emit(sent, heard);
+        }
+        if self.corrects_at.is_none() {
+            return Act::Correct(0, Verdict::Cleared);
+        }
+        match self.sync.next_correction() {
+            Some(cycle) => Act::Correct(cycle, self.correct(moment)),
+            None => Act::Correct(0, Verdict::Cleared),
+        }
+    }
+
+    fn hear(&mut self, moment: Moment, link: LinkId, octets: &[u8]) -> Arrival {
+        let at = self.standpoint(moment);
+        if is_pcf(octets) {
+            self.site.control_arrival(&at, link, octets)
+        } else {
+            self.hear_timed(&at, link, octets)
+        }
+    }
+
+    fn ripen(&mut self, moment: Moment, link: LinkId, frame: &Pcf, point: Units) -> Ripe {
+        if self.site.is_relay {
+            let channel = self.site.port(link).channel;
+            self.hear_frame(moment, channel, frame, point)
+        } else {
+            let at = self.standpoint(moment);
+            if at.is_off() {
+                return Ripe::Ignored;
+            }
+            match self.site.point_fault(&at, frame.cycle, point) {
+                Some(reason) => Ripe::Dropped(reason),
+                None => self.collect(frame, point),
+            }
+        }
+    }
+
+    fn turn_on(&mut self) {
+        if self.sync.state() == State::Off {
+            self.sync.on();
+        }
+    }
+
+    fn state(&self) -> State {
+        self.sync.state()
+    }
+
+    fn adjustment(&self) -> Units {
+        self.sync.adjustment()
+    }
+}
+
+impl Site {
+    /// The frame that a compression master sends for a collection.
+    fn integration_frame(&self, cycle: u32, members: Members) -> Pcf
+        ensures { (network : Network) (device : DeviceId) → IsSiteOf network device self.now
+            → result ≡ integration_frame network device cycle members }
+    {
+        Pcf {
+            destination: self.destination,
+            source: self.mac,
+            cycle,
+            members,
+            priority: self.priority,
+            domain: self.domain,
+            kind: PcfKind::Integration,
+            clock: 0,
+        }
+    }
+}
+
+/// The less of two readings that may be there.
+fn least(a: Option<Units>, b: Option<Units>) -> Option<Units>
+    ensures { result ≡ least_of a b }
+{
+    match (a, b) {
+        (Some(a), Some(b)) if a.0 <= b.0 => Some(a),
+        (Some(a), None) => Some(a),
+        (_, b) => b,
+    }
+}
+
+/// Is the reading that is due, if there is one, reached?
+fn is_reached(due: Option<Units>, reading: Units) -> bool
+    ensures reached { IsTrue result → IsSomeAnd due (λ at. at.0 ≤ℤ reading.0) }
+    ensures later { IsFalse result → IfSome due (λ at. reading.0 <ℤ at.0) }
+{
+    match due {
+        Some(at) => at.0 <= reading.0,
+        None => false,
+    }
+}

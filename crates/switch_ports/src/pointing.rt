@@ -1,0 +1,65 @@
+ghost use Rattle.std.specs.Prelude.{◌≡◌, ◌*◌, ℕ, pos, ◌-ℤ◌, ◌+ℤ◌, ◌&&◌, int_lt};
+ghost use Rattle.std.specs.Int.{int_div_euclid};
+ghost use Rattle.clock_correction.specs.Deviation.{IsSmall};
+ghost use Rattle.net_plan.specs.Ranges.{IsInRange};
+ghost use Rattle.net_plan.specs.declared.ids.DeviceId.{DeviceId};
+ghost use Rattle.net_plan.specs.declared.network.Network.{Network};
+ghost use Rattle.run_law.specs.control.Collections.{dispatch_value, is_number, point_fault};
+ghost use Rattle.switch_ports.specs.Sites.{IsSiteOf};
+ghost use Rattle.switch_ports.specs.Standpoints.{IsAlive, IsPoint, IsSiteInRange};
+ghost use Rattle.tte_units.specs.Amount.{amount, units_of};
+
+use crate::hearing::shown;
+use crate::{Site, Standpoint};
+use run_law::Reason;
+use tte_units::Units;
+
+impl Site {
+    /// Why a synchronised compression master drops a frame at its point, if it does: the dispatch
+    /// lies too far from the beginning of a cycle, or is that of another cycle than the frame's.
+    pub(crate) fn point_fault(&self, at: &Standpoint, cycle: u32, point: Units) -> Option<Reason>
+        requires alive { IsAlive self.now at.now }
+        requires point { IsPoint point }
+        ensures { (network : Network) (device : DeviceId) → IsInRange network → IsSiteOf network device self.now
+            → result ≡ point_fault network at.now.state at.now.adjustment.0 point.0 cycle }
+    {
+        if !at.is_synchronised() {
+            return None;
+        }
+        let value = self.dispatch_value(point, at.adjustment);
+        if self.is_far(self.place_in_cycle(value)) {
+            Some(Reason::Gate)
+        } else if !self.is_of_cycle(value, cycle) {
+            Some(Reason::Cycle)
+        } else {
+            None
+        }
+    }
+
+    /// The local value at which the frame was dispatched, as it seems, and two precisions.
+    fn dispatch_value(&self, point: Units, adjustment: Units) -> Units
+        requires site { IsSiteInRange self.now }
+        requires small { IsSmall adjustment.0 }
+        requires point { IsPoint point }
+        ensures { result.0 ≡ (((point.0 +ℤ adjustment.0) -ℤ pos (amount self.now.dmax))
+            +ℤ pos (2 * amount self.now.precision)) }
+    {
+        Units(shown(point, adjustment).0 - self.dmax.0 + 2 * self.precision.0)
+    }
+
+    /// Is the place farther than four precisions from where the cycle seems to begin?
+    fn is_far(&self, place: Units) -> bool
+        requires { IsSiteInRange self.now }
+        ensures { result ≡ int_lt (pos (4 * amount self.now.precision)) place.0 }
+    {
+        4 * self.precision.0 < place.0
+    }
+
+    /// Is the value one of this cycle?
+    fn is_of_cycle(&self, value: Units, cycle: u32) -> bool
+        requires { IsSiteInRange self.now }
+        ensures { result ≡ is_number (int_div_euclid value.0 self.now.plan.cycle_length.0) cycle }
+    {
+        value.0.div_euclid(self.plan.cycle_length.0) == i64::from(cycle)
+    }
+}

@@ -1,0 +1,56 @@
+ghost use Rattle.std.specs.Prelude.{◌≡◌, ◌+◌, ◌^◌, ◌+ℤ◌};
+ghost use Rattle.clock_correction.specs.Deviation.{IsSmall};
+ghost use Rattle.net_plan.specs.Ranges.{IsWithin};
+ghost use Rattle.run_law.specs.device.States.{is_off, is_synchronised};
+
+use sync_state::State;
+use tte_units::Units;
+
+/// Where a switch stands when something comes to it.
+#[derive(Clone, Copy, Debug, PartialEq, Eq)]
+pub(crate) struct Standpoint {
+    pub(crate) state: State,
+    /// What its clock reads.
+    pub(crate) reading: Units,
+    pub(crate) adjustment: Units,
+}
+
+impl Standpoint {
+    /// What its local clock shows.
+    pub(crate) fn local(&self) -> Units
+        requires reading { IsWithin 0 (2 ^ 60 + 2 ^ 51) self.now.reading }
+        requires small { IsSmall self.now.adjustment.0 }
+        ensures { result.0 ≡ self.now.reading.0 +ℤ self.now.adjustment.0 }
+    {
+        local(self.reading, self.adjustment)
+    }
+
+    /// Is it off?
+    pub(crate) fn is_off(&self) -> bool
+        ensures { result ≡ is_off self.now.state }
+    {
+        match self.state {
+            State::Off => true,
+            State::Integrating | State::Joining | State::Synchronised => false,
+        }
+    }
+
+    /// Has it the common time?
+    pub(crate) fn is_synchronised(&self) -> bool
+        ensures { result ≡ is_synchronised self.now.state }
+    {
+        match self.state {
+            State::Synchronised => true,
+            State::Off | State::Integrating | State::Joining => false,
+        }
+    }
+}
+
+/// What a local clock of this adjustment shows at the reading.
+pub(crate) fn local(reading: Units, adjustment: Units) -> Units
+    requires reading { IsWithin 0 (2 ^ 60 + 2 ^ 51) reading }
+    requires small { IsSmall adjustment.0 }
+    ensures { result.0 ≡ reading.0 +ℤ adjustment.0 }
+{
+    Units(reading.0 + adjustment.0)
+}
