@@ -1,4 +1,5 @@
-//! That frames of the schedule meet no other frame on a port, and come in time, in each run within the fault hypothesis.
+//! That frames of the schedule meet no other frame on a port, and come in time, in each run within the fault
+//! hypothesis.
 #![tactic(auto)]
 
 mod laws;
