@@ -1,0 +1,178 @@
+-- The rough day of the worked network is one of which the laws on runs speak.
+use Rattle.std.proofs.Common.{◌≡◌, ℕ, ◌+◌, ◌*◌, ◌-◌, ◌^◌, pos, ◌≤◌, ◌<◌, true, refl, sym, ap, subst, ◌∙◌, inl, inr, arith, List, [], ◌∷◌, ◌++◌}
+use Rattle.net_plan.specs.declared.event.Event.{Event}
+use Rattle.net_plan.specs.Places.{device_at, is_master}
+use Rattle.net_plan.specs.declared.event.What.TheVariants as events
+use Rattle.net_plan.specs.declared.event.What.{What}
+use Rattle.net_plan.specs.declared.ids.DeviceId.{DeviceId}
+use Rattle.net_plan.specs.declared.ids.LinkId.{LinkId}
+use Rattle.net_plan.specs.declared.tables.Way.TheVariants.{Up}
+use Rattle.net_plan.specs.declared.tables.Way.{Way}
+use Rattle.tte_units.specs.Amount.{units_of}
+use Rattle.tte_units.specs.declared.units.Units.{Units}
+use Rattle.pcf_values.specs.declared.channel.Channel.{Channel}
+use Rattle.run_law.specs.law.FirstLaws.{IsEventInRange, IsLawful}
+use Rattle.run_law.specs.records.Order.{IsIn}
+use Rattle.run_law.specs.scenario.Faults.{Cuts, IsBroken, IsFaulty}
+use Rattle.run_law.specs.scenario.Hypothesis.{AreWithinHypothesis, IsWithinHypothesis}
+use Rattle.run_law.specs.declared.outside.Outside.TheVariants.{Order, Late, Rate, Wire, Hold, Channel as OtherChannel, NotMaster, SecondBreak, TooFewMasters, NotBroken, NotOff}
+use Rattle.std.specs.Prelude.{◌<ℤ◌, IsSomeAnd}
+use Rattle.std.specs.Int.{abs_diff}
+use Rattle.std.proofs.Math.Nat.{sub_self}
+use Rattle.std.proofs.lemmas.Int.{ints}
+use Rattle.worked_network.proofs.Accepted.{worked_keeps_rules}
+use Rattle.worked_network.proofs.InRange.{worked_in_range}
+use Rattle.worked_network.proofs.Lists.{all_each, le_by}
+use Rattle.worked_network.proofs.Shape.{no_off_switch}
+use Rattle.worked_network.specs.Worked.{rough_day, rough_events, worked}
+
+abbrev the_break : Event
+the_break = record { time = units_of 131072000000; what = events.Break (record { 0 = 3 }) }
+
+abbrev the_cut : Event
+the_cut = record { time = units_of 200000000000; what = events.Cut (record { 0 = 11 }) Up }
+
+abbrev the_end : Event
+the_end = record { time = units_of (20 * 131072000000 - 1); what = events.End }
+
+-- ---- lists of one and two events
+
+no_part : (front behind : List Event) (e : Event) → [] ≡ front ++ e ∷ behind → ⊥
+no_part [] behind e same = cc
+no_part (f ∷ front) behind e same = cc
+
+last_of_one : (x : Event) (front behind : List Event) (last : Event) → x ∷ [] ≡ front ++ last ∷ behind → x ≡ last
+last_of_one x [] behind last same = let it : x ∷ [] ≡ last ∷ behind = same in cc
+last_of_one x (f ∷ front) behind last same =
+    let it : x ∷ [] ≡ f ∷ (front ++ last ∷ behind) = same in
+    let rest : [] ≡ front ++ last ∷ behind = cc in
+    absurd (no_part front behind last rest)
+
+last_of_two : (x y : Event) (front : List Event) (last : Event) → x ∷ y ∷ [] ≡ front ++ last ∷ [] → y ≡ last
+last_of_two x y [] last same = let it : x ∷ y ∷ [] ≡ last ∷ [] = same in absurd cc
+last_of_two x y (f ∷ front) last same =
+    let it : x ∷ y ∷ [] ≡ f ∷ (front ++ last ∷ []) = same in
+    let rest : y ∷ [] ≡ front ++ last ∷ [] = cc in
+    last_of_one y front [] last rest
+
+-- ---- each event is within the hypothesis, given those before it
+
+none_broken : (device : DeviceId) → IsBroken [] device → ⊥
+none_broken device broken = let lt = broken.2 in omega (arith, lt)
+
+break_within : IsWithinHypothesis worked [] the_break
+break_within Order v = no_part v.front [] v.last v.order
+break_within Late v = let late : pos (2 ^ 20 * 131072000000) <ℤ pos 131072000000 = v in omega (arith, ints, late)
+break_within Rate v = absurd (let bad : events.Break (record { 0 = 3 }) ≡ events.Rate v.device v.rate = v.what in cc)
+break_within Wire v = absurd (let bad : events.Break (record { 0 = 3 }) ≡ events.Wire v.link v.way v.delay = v.what in cc)
+break_within Hold v = absurd (let bad : events.Break (record { 0 = 3 }) ≡ events.Hold v.link v.way v.delay = v.what in cc)
+break_within OtherChannel v = absurd (let bad : events.Break (record { 0 = 3 }) ≡ events.Cut v.link v.way = v.what in cc)
+break_within NotMaster v =
+    let it : events.Break (record { 0 = 3 }) ≡ events.Break v.device = v.breaks in
+    let same : record { 0 = 3 } ≡ v.device = cc in
+    v.no_master (subst (λ (d : DeviceId). IsSomeAnd (device_at worked d) (λ x. is_master x.role ≡ true)) same refl)
+break_within SecondBreak v = none_broken v.broken v.is_broken
+break_within TooFewMasters v = let few : 3 < 3 = v.few in omega (arith, few)
+break_within NotBroken v = absurd (let bad : events.Break (record { 0 = 3 }) ≡ events.Send v.link v.octets = v.what in cc)
+break_within NotOff v = absurd (let bad : events.Break (record { 0 = 3 }) ≡ events.On v.device = v.what in cc)
+
+-- before the cut no channel is the faulty one
+none_faulty : (channel : Channel) → IsFaulty worked (the_break ∷ []) channel → ⊥
+none_faulty channel (inl off) = no_off_switch channel off
+none_faulty channel (inr it) =
+    let first = it.1 in
+    let same = last_of_one the_break first.before first.behind first.cut first.order in
+    let cuts : first.cut.what ≡ events.Cut first.cuts.0 first.cuts.1.0 = first.cuts.1.1 in
+    let bad : events.Break (record { 0 = 3 }) ≡ events.Cut first.cuts.0 first.cuts.1.0 = ap (λ (e : Event). e.what) same ∙ cuts in
+    absurd cc
+
+cut_within : IsWithinHypothesis worked (the_break ∷ []) the_cut
+cut_within Order v =
+    let same = last_of_one the_break v.front [] v.last v.order in
+    let later : pos 200000000000 <ℤ v.last.time.0 = v.later in
+    let time : pos 131072000000 ≡ v.last.time.0 = ap (λ (e : Event). e.time.0) same in
+    omega (arith, ints, later, time)
+cut_within Late v = let late : pos (2 ^ 20 * 131072000000) <ℤ pos 200000000000 = v in omega (arith, ints, late)
+cut_within Rate v = absurd (let bad : events.Cut (record { 0 = 11 }) Up ≡ events.Rate v.device v.rate = v.what in cc)
+cut_within Wire v = absurd (let bad : events.Cut (record { 0 = 11 }) Up ≡ events.Wire v.link v.way v.delay = v.what in cc)
+cut_within Hold v = absurd (let bad : events.Cut (record { 0 = 11 }) Up ≡ events.Hold v.link v.way v.delay = v.what in cc)
+cut_within OtherChannel v = none_faulty v.faulty v.is_faulty
+cut_within NotMaster v = absurd (let bad : events.Cut (record { 0 = 11 }) Up ≡ events.Break v.device = v.breaks in cc)
+cut_within SecondBreak v = absurd (let bad : events.Cut (record { 0 = 11 }) Up ≡ events.Break v.device = v.breaks in cc)
+cut_within TooFewMasters v = absurd (let bad : events.Cut (record { 0 = 11 }) Up ≡ events.Break v.device = v.breaks in cc)
+cut_within NotBroken v = absurd (let bad : events.Cut (record { 0 = 11 }) Up ≡ events.Send v.link v.octets = v.what in cc)
+cut_within NotOff v = absurd (let bad : events.Cut (record { 0 = 11 }) Up ≡ events.On v.device = v.what in cc)
+
+end_within : IsWithinHypothesis worked (the_break ∷ the_cut ∷ []) the_end
+end_within Order v =
+    let same = last_of_two the_break the_cut v.front v.last v.order in
+    let later : pos (20 * 131072000000 - 1) <ℤ v.last.time.0 = v.later in
+    let time : pos 200000000000 ≡ v.last.time.0 = ap (λ (e : Event). e.time.0) same in
+    omega (arith, ints, later, time)
+end_within Late v = let late : pos (2 ^ 20 * 131072000000) <ℤ pos (20 * 131072000000 - 1) = v in omega (arith, ints, late)
+end_within Rate v = absurd (let bad : events.End ≡ events.Rate v.device v.rate = v.what in cc)
+end_within Wire v = absurd (let bad : events.End ≡ events.Wire v.link v.way v.delay = v.what in cc)
+end_within Hold v = absurd (let bad : events.End ≡ events.Hold v.link v.way v.delay = v.what in cc)
+end_within OtherChannel v = absurd (let bad : events.End ≡ events.Cut v.link v.way = v.what in cc)
+end_within NotMaster v = absurd (let bad : events.End ≡ events.Break v.device = v.breaks in cc)
+end_within SecondBreak v = absurd (let bad : events.End ≡ events.Break v.device = v.breaks in cc)
+end_within TooFewMasters v = absurd (let bad : events.End ≡ events.Break v.device = v.breaks in cc)
+end_within NotBroken v = absurd (let bad : events.End ≡ events.Send v.link v.octets = v.what in cc)
+end_within NotOff v = absurd (let bad : events.End ≡ events.On v.device = v.what in cc)
+
+all_within : AreWithinHypothesis worked rough_events
+all_within [] behind e same =
+    let it : the_break ∷ the_cut ∷ the_end ∷ [] ≡ e ∷ behind = same in
+    let one : the_break ≡ e = cc in
+    subst (IsWithinHypothesis worked []) one break_within
+all_within (b ∷ []) behind e same =
+    let it : the_break ∷ the_cut ∷ the_end ∷ [] ≡ b ∷ e ∷ behind = same in
+    let first : the_break ≡ b = cc in
+    let one : the_cut ≡ e = cc in
+    subst (λ (x : Event). IsWithinHypothesis worked (x ∷ []) e) first (subst (IsWithinHypothesis worked (the_break ∷ [])) one cut_within)
+all_within (b ∷ c ∷ []) behind e same =
+    let it : the_break ∷ the_cut ∷ the_end ∷ [] ≡ b ∷ c ∷ e ∷ behind = same in
+    let two : the_break ∷ the_cut ∷ [] ≡ b ∷ c ∷ [] = cc in
+    let one : the_end ≡ e = cc in
+    subst (λ (l : List Event). IsWithinHypothesis worked l e) two (subst (IsWithinHypothesis worked (the_break ∷ the_cut ∷ [])) one end_within)
+all_within (b ∷ c ∷ d ∷ before) behind e same =
+    let it : the_break ∷ the_cut ∷ the_end ∷ [] ≡ b ∷ c ∷ d ∷ (before ++ e ∷ behind) = same in
+    let rest : [] ≡ before ++ e ∷ behind = cc in
+    absurd (no_part before behind e rest)
+
+-- ---- the rest
+
+in_range : (t : ℕ) (what : What) → ((link : LinkId) (way : Way) (delay : Units) → what ≡ events.Hold link way delay → ⊥)
+    → IsEventInRange (record { time = units_of t; what = what })
+in_range t what no_hold = record { time = omega (arith, ints); hold = λ link way delay is. absurd (no_hold link way delay is) }
+
+cuts_one : (e : Event) (link : LinkId) → IsIn e rough_events → Cuts link e → link.0 < 12
+cuts_one e link (inl same) cuts =
+    let bad : events.Break (record { 0 = 3 }) ≡ events.Cut link cuts.0 = sym (ap (λ (x : Event). x.what) same) ∙ cuts.1 in
+    absurd cc
+cuts_one e link (inr (inl same)) cuts =
+    let is : events.Cut (record { 0 = 11 }) Up ≡ events.Cut link cuts.0 = sym (ap (λ (x : Event). x.what) same) ∙ cuts.1 in
+    let one : record { 0 = 11 } ≡ link = cc in
+    subst (λ (l : LinkId). l.0 < 12) one (le_by 12 12 refl)
+cuts_one e link (inr (inr (inl same))) cuts =
+    let bad : events.End ≡ events.Cut link cuts.0 = sym (ap (λ (x : Event). x.what) same) ∙ cuts.1 in
+    absurd cc
+cuts_one e link (inr (inr (inr none))) cuts = absurd none
+
+no_difference : (x : ℕ) → abs_diff x x ≡ 0
+no_difference x = ap (λ (n : ℕ). n + n) (sub_self x)
+
+measures : (x : ℕ) → 10 ^ 9 * abs_diff x x ≤ 50000 * x + 2 * 1 * 10 ^ 9
+measures x = subst (λ (d : ℕ). 10 ^ 9 * d ≤ 50000 * x + 2 * 1 * 10 ^ 9) (sym (no_difference x)) (omega arith)
+
+pub rough_day_lawful : IsLawful rough_day
+rough_day_lawful = record {
+  range = worked_in_range;
+  rules = worked_keeps_rules;
+  events = all_each IsEventInRange rough_events
+      (in_range 131072000000 _ (λ link way delay is. cc), (in_range 200000000000 _ (λ link way delay is. cc), (in_range _ _ (λ link way delay is. cc), tt)));
+  named = cuts_one;
+  within = all_within;
+  clocks = λ device. record { never_falls = λ s t le. le; drifts = λ s t le. measures (t - s) };
+  begins = λ device. refl;
+}
