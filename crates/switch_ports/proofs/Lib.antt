@@ -21,3 +21,4 @@ pub mod CmLinks
 pub mod Collected
 pub mod Entrances
 pub mod Takings
+pub mod Departing

@@ -2,6 +2,7 @@ pub mod Sites
 pub mod Standpoints
 pub mod Arrivals
 pub mod Intakes
+pub mod Leaving
 pub mod Corrections
 pub mod Steps
 pub mod Members

@@ -4,6 +4,7 @@
 
 mod arriving;
 mod correcting;
+mod departures;
 mod hearing;
 mod intake;
 mod machine;
