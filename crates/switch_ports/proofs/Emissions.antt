@@ -46,7 +46,6 @@ pub sent_stands : (s : Switch) (collector : Collecting) (network : Network) (dev
     → StandsAs (record s { collector = collector }) network device (with_sent node sent)
 sent_stands s collector network device node sent st kept stands = record {
   accepted = st.accepted;
-  leaves = st.leaves;
   intake = st.intake;
   site = st.site;
   sound = st.sound;
@@ -72,6 +71,8 @@ sent_stands s collector network device node sent st kept stands = record {
     masters = st.collects.masters;
     from_zero = st.collects.from_zero;
   };
+  departs = st.departs;
+  awaits = st.awaits;
 }
 
 -- what is left to do then was to be done before

@@ -22,3 +22,4 @@ pub mod Collected
 pub mod Entrances
 pub mod Takings
 pub mod Departing
+pub mod Awaiting

@@ -1,6 +1,6 @@
 //! The rows that leave a switch, and the frames that they have still to dispatch.
 
-ghost use Rattle.std.specs.Prelude.{length, ◌+◌, ◌≡◌, ◌↔◌, ◌≤◌, ◌*◌, ◌^◌, ◌%◌, ◌==◌, ◌&&◌, nat_le, int_lt, IfOk, OnOk, IsTrue, ℕ, List, [], None, pos, ◌≤ℤ◌, ◌-ℤ◌, All};
+ghost use Rattle.std.specs.Prelude.{length, option_map, ◌+◌, ◌≡◌, ◌↔◌, ◌≤◌, ◌*◌, ◌^◌, ◌%◌, ◌==◌, ◌&&◌, nat_le, int_lt, IfOk, OnOk, IsTrue, ℕ, List, [], None, pos, ◌≤ℤ◌, ◌-ℤ◌, All};
 ghost use Rattle.clock_correction.specs.Deviation.{IsSmall};
 ghost use Rattle.net_plan.specs.Ranges.{IsInRange, IsWithin};
 ghost use Rattle.net_plan.specs.declared.network.Network.{Network as NetworkValue};
@@ -136,6 +136,16 @@ impl Departures {
         self.next = None;
     }
 
+    /// The reading at which the next dispatch comes, if one does.
+    pub(crate) fn due(&self) -> Option<Units>
+        ensures { result ≡ option_map (λ next. next.at) self.now.next }
+    {
+        match self.next {
+            Some(next) => Some(next.at),
+            None => None,
+        }
+    }
+
     /// The dispatch that comes first.
     fn first(&self, adjustment: Units) -> Option<Dispatch>
         requires fit { All IsFit self.now.rows.items }
@@ -222,7 +232,7 @@ impl LeavingRow {
     fn value_in(&self, length: Units, cycle: u32) -> Units
         requires offset { self.now.offset ≤ 2 ^ 40 }
         requires length { pos 0 ≤ℤ length.0 }
-        requires cycle { cycle * amount length ≤ 2 ^ 61 }
+        requires cycle { cycle * amount length ≤ 2 ^ 62 }
         ensures { result.0 ≡ value_in (amount length) self.now cycle }
     {
         Units::from_amount(u64::from(cycle) * length.amount() + self.offset)
@@ -295,7 +305,7 @@ fn awaited_of(held: Option<Held>, changed: Units) -> Option<Held>
 
 /// The reading at which a clock of this adjustment shows the value.
 fn reading_of(value: Units, adjustment: Units) -> Units
-    requires value { IsWithin 0 (2 ^ 62) value }
+    requires value { IsWithin 0 (2 ^ 62 + 2 ^ 40) value }
     requires small { IsSmall adjustment.0 }
     ensures { result.0 ≡ (value.0 -ℤ adjustment.0) }
 {

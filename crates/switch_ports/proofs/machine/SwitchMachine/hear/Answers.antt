@@ -6,6 +6,7 @@ use Rattle.run_law.specs.device.Standpoints.{Standpoint as Point}
 use Rattle.run_law.specs.machines.Answers.{after_arrival, arrival_at, called}
 use Rattle.run_law.specs.machines.Nodes.{Node, arriving, last_taken_by, standpoint_at}
 use Rattle.run_law.specs.timed.Arrivals.{timed_arrival}
+use Rattle.switch_ports.proofs.Awaiting.{are_fit}
 use Rattle.switch_ports.proofs.Standings.{alive, called_stands, control_none, is_no_type, is_type, point_same}
 use Rattle.switch_ports.proofs.Takings.{arrival_stands, is_whole}
 use Rattle.switch_ports.proofs.machine.SwitchMachine.hear.Goals as goal
@@ -57,5 +58,11 @@ returns-else-is_pcf c network device node st may arrives =
     rw (is_no_type octets (λ e. let f = c.is_pcf.ensures.1 (enough arrives.least, e) in let g = c.if-is_pcf.false in cc)) refl in (
       is ∙ ap (arrival_at network device node c.args.moment c.args.link) (sym signal),
       subst (λ (s : Switch). StandsAs s network device (called c.args.moment arriving (after_arrival node c.args.moment c.hear_timed.result))) (sym heard.rest)
-          (arrival_stands c.args.self.now c.hear_timed.new.self.intake network device node c.args.moment c.hear_timed.result st may.later.reading heard.kept),
+          (arrival_stands c.args.self.now c.hear_timed.new.self.intake c.hear_timed.new.self.departures network device node c.args.moment c.standpoint-at.result
+          c.hear_timed.result st may.later.reading
+          (record { state = c.standpoint-at.ensures.state; reading = c.standpoint-at.ensures.reading; adjustment = c.standpoint-at.ensures.adjustment })
+          heard.kept heard.departs),
     )
+
+pub hear_timed-requires-clause-fit : goal.hear_timed-requires-clause-fit
+hear_timed-requires-clause-fit c = let r = c.requires in are_fit r.0 r.1 c.args.self.now.departures.rows.items r.2.taken r.3.departs
