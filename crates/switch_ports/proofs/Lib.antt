@@ -14,6 +14,7 @@ pub mod HeardKinds
 pub mod CorrectionPoints
 pub mod CorrectedStands
 pub mod FirstActs
+pub mod DispatchStands
 pub mod Beginning
 pub mod Emissions
 pub mod MasterBits
@@ -23,3 +24,4 @@ pub mod Entrances
 pub mod Takings
 pub mod Departing
 pub mod Awaiting
+pub mod Dispatching
