@@ -1,38 +1,35 @@
 -- What a switch has still to dispatch, from call to call.
-use Rattle.std.proofs.Common.{◌≡◌, ◌∙◌, ◌⊎◌, inl, inr, ℕ, ◌<◌, ◌≤◌, ◌+◌, ◌^◌, ◌*◌, ℤ, pos, ◌≤ℤ◌, ◌+ℤ◌, ◌-ℤ◌, ◌<ℤ◌, Bool, true, false, ◌&&◌, ◌==◌, List, [], ◌∷◌, ◌++◌, length, get_or, slice_get, Option, Some, None, refl, sym, subst, ap, arith}
+use Rattle.std.proofs.Common.{◌≡◌, ◌∙◌, inl, inr, ℕ, ◌<◌, ◌≤◌, ◌+◌, ◌^◌, ◌*◌, ℤ, pos, ◌≤ℤ◌, ◌+ℤ◌, ◌<ℤ◌, Bool, true, false, ◌&&◌, ◌==◌, List, [], ◌∷◌, ◌++◌, length, get_or, slice_get, Option, Some, None, refl, sym, subst, ap, arith}
 use Rattle.std.proofs.lemmas.Int.{ints}
 use Rattle.std.proofs.lemmas.Option.{slice_get_within}
 use Rattle.std.proofs.lemmas.Bool.{cases_Bool, eqb-true}
-use Rattle.std.proofs.lemmas.List.Elements.{All-contains, Contains-append_left, Contains-get_or, filter-append}
-use Rattle.std.specs.Prelude.{if◌then◌else◌, ⊤, not, nat_le, IsSomeAnd, ◌%◌, option_map, IfSome, int_lt, ◌↔◌, filter, option_and_then}
+use Rattle.std.proofs.lemmas.List.Elements.{Contains-get_or, filter-append}
+use Rattle.std.specs.Prelude.{if◌then◌else◌, ⊤, option_map, IfSome, int_lt, filter, option_and_then}
 use Rattle.std.specs.List.{All, Contains, last_or}
 use Rattle.std.specs.Option.{option_map_or}
 use Rattle.compression.proofs.Elements.{in_none}
-use Rattle.net_plan.specs.Ranges.{IsInRange, IsWithin}
+use Rattle.net_plan.specs.Ranges.{IsInRange}
 use Rattle.net_plan.specs.declared.ids.DeviceId.{DeviceId}
 use Rattle.net_plan.specs.declared.ids.RowId.{RowId}
 use Rattle.net_plan.specs.declared.ids.VlId.{VlId}
 use Rattle.net_plan.specs.declared.network.Network.{Network}
 use Rattle.net_plan.specs.declared.tables.Row.{Row}
 use Rattle.run_law.specs.declared.steps.Moment.{Moment}
-use Rattle.run_law.specs.machines.Nodes.{ClockTask, Node, TakenFrame, correcting, dispatching}
+use Rattle.run_law.specs.machines.Nodes.{ClockTask, Node, TakenFrame, dispatching}
 use Rattle.run_law.specs.machines.Tasks.{offset_of, value_of}
-use Rattle.schedule_tables.specs.Entries.{IsEntry, source_of}
 use Rattle.schedule_tables.proofs.EntryLemmas.{in_range}
 use Rattle.switch_ports.proofs.Amounts.{amount_most}
 use Rattle.switch_ports.proofs.Departing.{all_each}
-use Rattle.switch_ports.specs.Leaving.{IsFirstOf, AreLeaving, IsFresh, dispatch_at, dispatch_by, AreEach, Awaits, AwaitsIn, AwaitsSo, HasDepartures, HasRow, IsDeparture, IsFit, IsHeldFit, IsLeaving, IsToCome, Reopens, awaited_of, held_by, held_in, is_dispatch_in, last_of, reopened, value_in, with_held, with_taking}
+use Rattle.switch_ports.specs.Leaving.{IsFirstOf, AreLeaving, IsFresh, dispatch_at, dispatch_by, AreEach, Awaits, AwaitsIn, AwaitsSo, HasDepartures, HasRow, IsDeparture, IsFit, IsHeldFit, IsLeaving, Reopens, awaited_of, held_by, held_in, is_dispatch_in, last_of, reopened, value_in, with_held, with_taking}
 use Rattle.switch_ports.specs.Standing.{StandsAs}
 use Rattle.switch_ports.specs.declared.departures.Departure.{Departure}
 use Rattle.switch_ports.specs.declared.departures.Departures.{Departures}
 use Rattle.switch_ports.specs.declared.departures.Held.{Held}
 use Rattle.switch_ports.specs.declared.departures.LeavingRow.{LeavingRow}
-use Rattle.switch_ports.specs.declared.departures.Taking.{Taking}
 use Rattle.switch_ports.specs.declared.switch.Switch.{Switch}
 use Rattle.sync_state.specs.declared.state.State.TheVariants.{Off, Integrating, Joining, Synchronised}
 use Rattle.sync_state.specs.declared.state.State.{State}
 use Rattle.tte_units.specs.Amount.{amount}
-use Rattle.tte_units.specs.declared.units.Units.{Units}
 
 -- ---- the clock goes on
 

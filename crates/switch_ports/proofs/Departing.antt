@@ -1,25 +1,20 @@
 -- Rows that leave a switch, one by one.
-use Rattle.std.proofs.Common.{◌≡◌, ◌∙◌, ◌⊎◌, inl, inr, ℕ, ◌<◌, ◌≤◌, ◌+◌, ◌^◌, ◌*◌, ℤ, pos, ◌≤ℤ◌, ◌-ℤ◌, ◌<ℤ◌, Bool, true, false, ◌&&◌, ◌==◌, List, [], ◌∷◌, ◌++◌, length, take, get_or, get_or-set_other, get_or-set_same, slice_index_or, slice_set, Option, Some, None, refl, sym, subst, ap, arith, ◌≢◌}
+use Rattle.std.proofs.Common.{◌≡◌, ◌∙◌, inl, inr, ℕ, ◌<◌, ◌≤◌, ◌+◌, ℤ, ◌==◌, List, [], ◌∷◌, ◌++◌, length, take, get_or, get_or-set_other, get_or-set_same, slice_set, Option, Some, None, refl, sym, subst, ap, arith, ◌≢◌}
 use Rattle.std.proofs.lemmas.Int.{ints}
 use Rattle.std.proofs.lemmas.Bool.{cases_Bool, eqb-true}
-use Rattle.std.proofs.lemmas.List.Elements.{All-contains, All-more, All-push, Contains-append_left, Contains-get_or, Contains-push}
+use Rattle.std.proofs.lemmas.List.Elements.{All-push, Contains-append_left, Contains-push}
 use Rattle.std.proofs.lemmas.List.{length-set, take_more}
-use Rattle.std.specs.Prelude.{IfSome, int_lt}
-use Rattle.std.specs.List.{All, Contains}
+use Rattle.std.specs.Prelude.{IfSome}
+use Rattle.std.specs.List.{All}
 use Rattle.net_plan.specs.declared.ids.DeviceId.{DeviceId}
 use Rattle.net_plan.specs.declared.ids.RowId.{RowId}
 use Rattle.net_plan.specs.declared.network.Network.{Network}
 use Rattle.schedule_tables.proofs.EntryLemmas.{one_entry}
 use Rattle.schedule_tables.specs.Entries.{IsEntry, source_of}
 use Rattle.schedule_tables.specs.declared.entry.Entry.{Entry}
-use Rattle.switch_ports.specs.Leaving.{AreLeaving, HasRow, IsFresh, IsLeaving, leaving_by, AreEach, AreEachUpTo, IsEarlier, IsFirstOf, IsFit, IsHeldFit, IsOf, IsTakingFit, Precedes, awaited_of, closed, dispatch_by, held_by, held_in, reopened, value_in, with_taking}
+use Rattle.switch_ports.specs.Leaving.{AreLeaving, HasRow, IsFresh, leaving_by, AreEach, AreEachUpTo, IsEarlier, IsFirstOf, Precedes, dispatch_by}
 use Rattle.switch_ports.specs.declared.departures.Departure.{Departure}
 use Rattle.switch_ports.specs.declared.departures.Dispatch.{Dispatch}
-use Rattle.switch_ports.specs.declared.departures.Held.{Held}
-use Rattle.switch_ports.specs.declared.departures.LeavingRow.{LeavingRow}
-use Rattle.switch_ports.specs.declared.departures.Taking.{Taking}
-use Rattle.tte_units.specs.Amount.{amount}
-use Rattle.tte_units.specs.declared.units.Units.{Units}
 
 -- ---- each row by itself
 

@@ -1,14 +1,12 @@
 -- How a switch stands when it has dispatched a row's frame.
-use Rattle.std.proofs.Common.{◌≡◌, ◌∙◌, ◌⊎◌, inl, inr, ℕ, ◌<◌, ℤ, ◌≤ℤ◌, ◌+ℤ◌, ◌-ℤ◌, ◌<ℤ◌, Bool, true, false, ◌==◌, List, [], ◌∷◌, ◌++◌, Option, Some, None, refl, sym, subst, ap, arith}
-use Rattle.std.proofs.lemmas.Int.{ints}
+use Rattle.std.proofs.Common.{◌≡◌, ◌∙◌, inl, inr, ℕ, ◌<◌, ℤ, ◌≤ℤ◌, ◌<ℤ◌, Bool, true, false, ◌==◌, List, [], ◌∷◌, ◌++◌, Option, Some, None, refl, sym, subst, ap, arith}
 use Rattle.std.proofs.lemmas.Bool.{eqb-true}
 use Rattle.std.proofs.lemmas.List.Elements.{All-contains, Contains-append_left, Contains-push, Contains-push_cases}
-use Rattle.std.specs.Prelude.{IfSome, IsNone, ◌↔◌, if◌then◌else◌, option_and_then}
+use Rattle.std.specs.Prelude.{IfSome, if◌then◌else◌, option_and_then}
 use Rattle.std.specs.List.{Contains}
 use Rattle.net_plan.specs.declared.ids.DeviceId.{DeviceId}
 use Rattle.net_plan.specs.declared.ids.RowId.{RowId}
 use Rattle.net_plan.specs.declared.network.Network.{Network}
-use Rattle.run_law.specs.declared.steps.Act.TheVariants as acts
 use Rattle.run_law.specs.declared.steps.Act.{Act}
 use Rattle.run_law.specs.declared.steps.Moment.{Moment}
 use Rattle.run_law.specs.machines.Answers.{IsActOf, called, with_done}
@@ -17,13 +15,12 @@ use Rattle.run_law.specs.machines.Nodes.{ClockTask, Node, TakenFrame, acting, co
 use Rattle.run_law.specs.machines.Tasks.{doing, reading_for, value_of}
 use Rattle.schedule_tables.proofs.EntryLemmas.{one_entry}
 use Rattle.schedule_tables.specs.Entries.{IsEntry}
-use Rattle.schedule_tables.specs.declared.entry.Entry.{Entry}
 use Rattle.switch_ports.proofs.Awaiting.{departs_each, later_by}
 use Rattle.switch_ports.proofs.Departing.{all_each}
-use Rattle.switch_ports.proofs.Dispatching.{IsNextOf, its_awaits, leaves_so, next_of}
+use Rattle.switch_ports.proofs.Dispatching.{IsNextOf, its_awaits, next_of}
 use Rattle.switch_ports.proofs.FirstActs.{EmitsNone, first_dispatch, nothing_due, value_reached}
 use Rattle.switch_ports.proofs.Standings.{further, through}
-use Rattle.switch_ports.specs.Leaving.{AreEach, Awaits, AwaitsIn, AwaitsSo, HasDepartures, IsDeparture, IsFirstOf, IsLeaving, IsToCome, closed, held_by, held_in, last_of, leaving_by}
+use Rattle.switch_ports.specs.Leaving.{AreEach, Awaits, AwaitsIn, AwaitsSo, HasDepartures, IsDeparture, IsFirstOf, IsLeaving, closed, held_by, held_in, last_of, leaving_by}
 use Rattle.switch_ports.specs.Standing.{StandsAs}
 use Rattle.switch_ports.specs.Steps.{Dispatches, DispatchesSo}
 use Rattle.switch_ports.specs.declared.departures.Departure.{Departure}

@@ -1,7 +1,6 @@
 -- The rows' frames that a switch has still to dispatch.
-use Rattle.std.proofs.Common.{◌≡◌, ◌∙◌, ◌⊎◌, inl, inr, ℕ, ◌<◌, ◌≤◌, ◌%◌, ℤ, pos, ◌≤ℤ◌, ◌+ℤ◌, ◌-ℤ◌, ◌<ℤ◌, Bool, true, false, ◌&&◌, ◌==◌, List, [], Option, Some, None, refl, sym, subst, ap, arith}
+use Rattle.std.proofs.Common.{◌≡◌, ◌∙◌, ◌⊎◌, inl, inr, ℕ, ◌%◌, ℤ, ◌≤ℤ◌, ◌+ℤ◌, ◌-ℤ◌, ◌<ℤ◌, Bool, true, false, ◌&&◌, ◌==◌, Option, Some, None, refl, sym, subst, ap, arith}
 use Rattle.std.proofs.lemmas.Int.{ints}
-use Rattle.std.proofs.lemmas.Bool.{eqb-true}
 use Rattle.std.proofs.lemmas.List.Elements.{All-contains}
 use Rattle.std.specs.Prelude.{IfSome, IsSomeAnd, nat_le, option_map, option_and_then}
 use Rattle.std.specs.List.{Contains}
@@ -22,7 +21,7 @@ use Rattle.schedule_tables.specs.Windows.{OccursIn}
 use Rattle.schedule_tables.specs.declared.entry.Entry.{Entry}
 use Rattle.schedule_tables.specs.declared.rule.Rule.TheVariants as rules
 use Rattle.switch_ports.proofs.Awaiting.{held_of, held_so, value_is}
-use Rattle.switch_ports.specs.Leaving.{Awaits, AwaitsIn, AwaitsSo, IsDeparture, IsFirstOf, IsLeaving, IsToCome, Precedes, dispatch_at, dispatch_by, held_by, held_in, is_dispatch_in, last_of, leaving_by, value_in}
+use Rattle.switch_ports.specs.Leaving.{Awaits, AwaitsIn, AwaitsSo, IsDeparture, IsFirstOf, IsLeaving, Precedes, dispatch_at, dispatch_by, held_by, held_in, is_dispatch_in, last_of, value_in}
 use Rattle.switch_ports.specs.Standing.{IsAccepted, StandsAs}
 use Rattle.switch_ports.specs.declared.departures.Departure.{Departure}
 use Rattle.switch_ports.specs.declared.departures.Departures.{Departures}
@@ -33,7 +32,6 @@ use Rattle.switch_ports.specs.declared.switch.Switch.{Switch}
 use Rattle.sync_state.specs.declared.state.State.TheVariants.{Off, Integrating, Joining, Synchronised}
 use Rattle.sync_state.specs.declared.state.State.{State}
 use Rattle.tte_units.specs.Amount.{amount}
-use Rattle.tte_units.specs.declared.units.Units.{Units}
 
 -- ---- no switch is a sender
 

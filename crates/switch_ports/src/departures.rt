@@ -75,7 +75,11 @@ impl Departures {
     /// The rows that leave the device, which has taken no frame.
     ///
     /// Fails when memory runs out.
-    pub(crate) fn new(alloc: Global, network: &Network, device: DeviceId) -> Result<Departures, OutOfMemory>
+    pub(crate) fn new(
+        alloc: Global,
+        network: &Network,
+        device: DeviceId,
+    ) -> Result<Departures, OutOfMemory>
         requires { IsInRange network.now }
         ensures rows { IfOk result (λ departures. AreLeaving network.now device (length network.now.row) departures.rows.items) }
         ensures next { IfOk result (λ departures. departures.next ≡ None) }
@@ -162,7 +166,7 @@ impl Departures {
 
 impl Departure {
     /// Keeps the frame, if it is one of the row's virtual link.
-    fn take(&mut self, length: Units, taking: &Taking, changed: Units)
+    pub(crate) fn take(&mut self, length: Units, taking: &Taking, changed: Units)
         requires fit { IsFit self.old }
         requires taking { IsTakingFit length taking.now }
         ensures { self.new ≡ with_taking (amount length) changed.0 taking.now self.old }
@@ -175,14 +179,14 @@ impl Departure {
     }
 
     /// Tells anew whether the frame is to be dispatched.
-    fn reopen(&mut self, changed: Units)
+    pub(crate) fn reopen(&mut self, changed: Units)
         ensures { self.new ≡ reopened changed.0 self.old }
     {
         self.awaited = awaited_of(self.held, changed);
     }
 
     /// Ends what is to come, if it is of this row.
-    fn close(&mut self, row: RowId)
+    pub(crate) fn close(&mut self, row: RowId)
         ensures { self.new ≡ closed row self.old }
     {
         if self.of.row.0 == row.0 {
@@ -211,7 +215,7 @@ impl Departure {
 impl LeavingRow {
     /// The frame that is taken, as the row dispatches it. It is None where the row's place has passed,
     /// or the virtual link does not occur in the cycle.
-    fn held(&self, length: Units, taking: &Taking) -> Option<Held>
+    pub(crate) fn held(&self, length: Units, taking: &Taking) -> Option<Held>
         requires offset { self.now.offset ≤ 2 ^ 40 }
         requires period { 1 ≤ self.now.period }
         requires taking { IsTakingFit length taking.now }
@@ -249,7 +253,7 @@ impl LeavingRow {
 
 impl Dispatch {
     /// Does it come before the other? At one reading they come by links, then by rows.
-    fn precedes(&self, other: &Dispatch) -> bool
+    pub(crate) fn precedes(&self, other: &Dispatch) -> bool
         ensures { IsTrue result ↔ Precedes self.now other.now }
     {
         if self.at.0 != other.at.0 {
@@ -263,7 +267,12 @@ impl Dispatch {
 }
 
 /// Keeps a further row, if it leaves the device.
-fn add_row(rows: &mut Vec<Departure>, device: DeviceId, row: RowId, entry: &Entry) -> Result<(), AllocError>
+fn add_row(
+    rows: &mut Vec<Departure>,
+    device: DeviceId,
+    row: RowId,
+    entry: &Entry,
+) -> Result<(), AllocError>
     requires { IsWithin 0 (2 ^ 40) entry.now.row.offset }
     ensures { (network : NetworkValue) → IsEntry network row.0 entry.now → AreLeaving network device row.0 rows.old.items
         → OnOk result (AreLeaving network device (row.0 + 1) rows.new.items) }
@@ -313,7 +322,7 @@ fn reading_of(value: Units, adjustment: Units) -> Units
 }
 
 /// The earlier of two dispatches that may be there.
-fn earlier(a: Option<Dispatch>, b: Option<Dispatch>) -> Option<Dispatch>
+pub(crate) fn earlier(a: Option<Dispatch>, b: Option<Dispatch>) -> Option<Dispatch>
     ensures { IsEarlier a b result }
 {
     match (a, b) {

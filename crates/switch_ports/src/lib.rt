@@ -1,5 +1,5 @@
 //! A switch as it behaves by itself: a relay or a compression master. It passes, collects and hears
-//! control frames, corrects its clock, and takes time-triggered frames. It does not yet dispatch rows.
+//! control frames, corrects its clock, and takes time-triggered frames and dispatches them.
 #![tactic(auto)]
 
 mod arriving;

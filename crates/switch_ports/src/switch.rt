@@ -244,9 +244,7 @@ impl Switch {
             self.new.departures }
     {
         match verdict {
-            Verdict::Corrected(_) => self
-                .departures
-                .reopen(self.changed, self.sync.adjustment()),
+            Verdict::Corrected(_) => self.departures.reopen(self.changed, self.sync.adjustment()),
             Verdict::SyncClique => self.departures.stop(),
             Verdict::AsyncClique => self.departures.stop(),
             Verdict::Cleared => {}

@@ -1,11 +1,12 @@
-ghost use Rattle.std.specs.Prelude.{IfOk, ◌^◌};
+ghost use Rattle.std.specs.Prelude.{◌≡◌, IfOk, ◌^◌};
 ghost use Rattle.net_plan.specs.Ranges.{IsWithin};
 ghost use Rattle.switch_ports.specs.Standpoints.{IsSiteInRange};
 
+use crate::departures::{Departure, Dispatch, Held, LeavingRow, Taking, earlier};
 use crate::intake::EnteringRow;
 use crate::site::{Peer, Port, Site};
 use crate::standpoint::Standpoint;
-use net_plan::{LinkId, VlId, Way};
+use net_plan::{LinkId, RowId, VlId, Way};
 use pcf_values::{Channel, Mac, Members, Pcf, PcfKind};
 use run_law::{Arrival, Reason};
 use schedule_tables::Window;
@@ -122,5 +123,124 @@ fn a_row_judges_frames(rt: HostRuntime) -> Result<(), Fail> {
     assert!(rt; row.fault(200, 3, Units(99), None) == Some(Reason::Early));
     assert!(rt; row.fault(200, 3, Units(301), None) == Some(Reason::Late));
     assert!(rt; row.fault(200, 3, Units(200), Some(3)) == Some(Reason::Repeat));
+    Ok(())
+}
+
+fn leaving_row(row: u32, offset: u64) -> LeavingRow
+    ensures offset { result.offset ≡ offset }
+    ensures period { result.period ≡ 2 }
+{
+    LeavingRow {
+        row: RowId(row),
+        link: LinkId(2),
+        vl: VlId(5),
+        offset,
+        period: 2,
+        phase: 1,
+    }
+}
+
+fn taking(vl: u32, cycle: u32, at: i64) -> Taking
+    ensures { result.cycle ≡ cycle }
+{
+    Taking {
+        vl: VlId(vl),
+        cycle,
+        at: Units(at),
+    }
+}
+
+const CYCLE: Units = Units(10_000);
+
+#[test]
+fn a_row_dispatches_what_is_taken_before_its_place(rt: HostRuntime) -> Result<(), Fail> {
+    let row = leaving_row(7, 500);
+    let held = Held {
+        cycle: 3,
+        value: Units(30_500),
+    };
+    assert!(rt; row.held(CYCLE, &taking(5, 3, 30_499)) == Some(held));
+    assert!(rt; row.held(CYCLE, &taking(5, 3, 30_500)) == None);
+    assert!(rt; row.held(CYCLE, &taking(5, 2, 20_100)) == None);
+    assert!(rt; row.held(CYCLE, &taking(5, 0, 100)) == None);
+    Ok(())
+}
+
+#[test]
+fn a_new_frame_takes_the_place_of_the_last(rt: HostRuntime) -> Result<(), Fail> {
+    let first = Some(Held {
+        cycle: 1,
+        value: Units(10_500),
+    });
+    let before = Departure {
+        of: leaving_row(7, 500),
+        held: first,
+        awaited: first,
+    };
+    let mut departure = before;
+    departure.take(CYCLE, &taking(6, 3, 30_400), Units(0));
+    assert!(rt; departure == before);
+    let mut departure = before;
+    departure.take(CYCLE, &taking(5, 3, 30_400), Units(0));
+    let last = Some(Held {
+        cycle: 3,
+        value: Units(30_500),
+    });
+    assert!(rt; departure.held == last && departure.awaited == last);
+    let mut departure = before;
+    departure.take(CYCLE, &taking(5, 3, 30_600), Units(0));
+    assert!(rt; departure.held == None && departure.awaited == None);
+    Ok(())
+}
+
+#[test]
+fn a_dispatch_is_awaited_until_it_comes(rt: HostRuntime) -> Result<(), Fail> {
+    let held = Some(Held {
+        cycle: 3,
+        value: Units(30_500),
+    });
+    let mut departure = Departure {
+        of: leaving_row(7, 500),
+        held,
+        awaited: held,
+    };
+    departure.close(RowId(8));
+    assert!(rt; departure.awaited == held);
+    departure.close(RowId(7));
+    assert!(rt; departure.awaited == None);
+    departure.reopen(Units(30_499));
+    assert!(rt; departure.awaited == held);
+    departure.reopen(Units(30_500));
+    assert!(rt; departure.awaited == None && departure.held == held);
+    Ok(())
+}
+
+#[test]
+fn dispatches_come_by_readings_links_and_rows(rt: HostRuntime) -> Result<(), Fail> {
+    let next = Dispatch {
+        at: Units(100),
+        link: LinkId(2),
+        row: RowId(7),
+        cycle: 1,
+    };
+    let sooner = Dispatch {
+        at: Units(99),
+        link: LinkId(3),
+        ..next
+    };
+    let left = Dispatch {
+        link: LinkId(1),
+        row: RowId(9),
+        ..next
+    };
+    let above = Dispatch {
+        row: RowId(6),
+        ..next
+    };
+    assert!(rt; sooner.precedes(&next) && left.precedes(&next) && above.precedes(&next));
+    assert!(rt; !next.precedes(&next) && !next.precedes(&sooner));
+    assert!(rt; earlier(Some(next), Some(left)) == Some(left));
+    assert!(rt; earlier(Some(left), Some(next)) == Some(left));
+    assert!(rt; earlier(None, Some(next)) == Some(next));
     Ok(())
 }

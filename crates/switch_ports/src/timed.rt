@@ -57,8 +57,12 @@ impl Switch {
                 cycle,
                 at: at.local(),
             };
-            self.departures
-                .take(self.site.plan.cycle_length, taking, self.changed, at.adjustment);
+            self.departures.take(
+                self.site.plan.cycle_length,
+                taking,
+                self.changed,
+                at.adjustment,
+            );
         }
         arrival
     }

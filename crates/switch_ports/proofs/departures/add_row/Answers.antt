@@ -1,4 +1,4 @@
-use Rattle.std.proofs.Common.{List, subst, sym, ap, ◌+◌, ◌∙◌, ◌++◌, ◌∷◌, []}
+use Rattle.std.proofs.Common.{subst, sym, ap, ◌+◌, ◌∙◌, ◌++◌, ◌∷◌, []}
 use Rattle.switch_ports.proofs.Departing.{row_kept, same_device}
 use Rattle.switch_ports.proofs.departures.add_row.Goals as goal
 use Rattle.switch_ports.specs.Leaving.{AreLeaving}

@@ -1,9 +1,8 @@
-use Rattle.std.proofs.Common.{◌∙◌, Option, ap, subst, sym}
+use Rattle.std.proofs.Common.{◌∙◌, ap, subst, sym}
 use Rattle.run_law.specs.machines.Tasks.{IsDueReading}
 use Rattle.switch_ports.proofs.Pending.{is_due}
 use Rattle.switch_ports.proofs.machine.SwitchMachine.due.Goals as goal
 use Rattle.switch_ports.specs.Due.{least_of}
-use Rattle.tte_units.specs.declared.units.Units.{Units}
 
 pub returns : goal.returns
 returns c network device node st =
