@@ -53,12 +53,12 @@ all_each P Q f old new h step all k d lt =
 
 -- ---- the first dispatch
 
-before_itself : (a : Dispatch) → Precedes a a → ⊥
+pub before_itself : (a : Dispatch) → Precedes a a → ⊥
 before_itself a (inl lt) = omega (arith, ints, lt)
 before_itself a (inr (e, inl lt)) = omega (arith, lt)
 before_itself a (inr (e, inr (f, lt))) = omega (arith, lt)
 
-precedes_on : (a b c : Dispatch) → Precedes a b → Precedes b c → Precedes a c
+pub precedes_on : (a b c : Dispatch) → Precedes a b → Precedes b c → Precedes a c
 precedes_on a b c (inl x) (inl y) = inl (omega (arith, ints, x, y))
 precedes_on a b c (inl x) (inr (y, z)) = inl (omega (arith, ints, x, y))
 precedes_on a b c (inr (x, z)) (inl y) = inl (omega (arith, ints, x, y))

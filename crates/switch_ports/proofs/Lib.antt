@@ -23,5 +23,6 @@ pub mod Collected
 pub mod Entrances
 pub mod Takings
 pub mod Departing
+pub mod Trees
 pub mod Awaiting
 pub mod Dispatching

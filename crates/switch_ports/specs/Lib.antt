@@ -3,6 +3,7 @@ pub mod Standpoints
 pub mod Arrivals
 pub mod Intakes
 pub mod Leaving
+pub mod Tournaments
 pub mod Corrections
 pub mod Steps
 pub mod Members

@@ -13,6 +13,7 @@ mod site;
 mod standpoint;
 mod switch;
 mod timed;
+mod tournament;
 
 pub(crate) use site::{Peer, Port, Site};
 pub(crate) use standpoint::Standpoint;
