@@ -19,7 +19,7 @@ use Rattle.run_law.specs.machines.Nodes.{ClockTask, Node, TakenFrame, dispatchin
 use Rattle.run_law.specs.machines.Tasks.{offset_of, value_of}
 use Rattle.schedule_tables.proofs.EntryLemmas.{in_range}
 use Rattle.switch_ports.proofs.Amounts.{amount_most}
-use Rattle.switch_ports.proofs.Departing.{all_each}
+use Rattle.switch_ports.proofs.EachRow.{all_each}
 use Rattle.switch_ports.specs.Leaving.{IsFirstOf, AreLeaving, IsFresh, dispatch_at, dispatch_by, AreEach, Awaits, AwaitsIn, AwaitsSo, HasDepartures, HasRow, IsDeparture, IsFit, IsHeldFit, IsLeaving, Reopens, awaited_of, held_by, held_in, is_dispatch_in, last_of, reopened, value_in, with_held, with_taking}
 use Rattle.switch_ports.specs.Standing.{StandsAs}
 use Rattle.switch_ports.specs.declared.departures.Departure.{Departure}

@@ -16,7 +16,7 @@ use Rattle.run_law.specs.machines.Tasks.{doing, reading_for, value_of}
 use Rattle.schedule_tables.proofs.EntryLemmas.{one_entry}
 use Rattle.schedule_tables.specs.Entries.{IsEntry}
 use Rattle.switch_ports.proofs.Awaiting.{departs_each, later_by}
-use Rattle.switch_ports.proofs.Departing.{all_each}
+use Rattle.switch_ports.proofs.EachRow.{all_each}
 use Rattle.switch_ports.proofs.Dispatching.{IsNextOf, its_awaits, next_of}
 use Rattle.switch_ports.proofs.FirstActs.{EmitsNone, first_dispatch, nothing_due, value_reached}
 use Rattle.switch_ports.proofs.Standings.{further, through}

@@ -22,7 +22,8 @@ pub mod CmLinks
 pub mod Collected
 pub mod Entrances
 pub mod Takings
-pub mod Departing
+pub mod EachRow
+pub mod RowOrder
 pub mod Trees
 pub mod Awaiting
 pub mod Dispatching

@@ -1,16 +1,20 @@
 -- Trees that have the first of many dispatches.
-use Rattle.std.proofs.Common.{◌≡◌, ◌≢◌, ◌∙◌, ◌⊎◌, inl, inr, ℕ, zero, suc, ◌<◌, ◌≤◌, ◌+◌, ◌*◌, ◌-◌, ◌/◌, ℤ, Bool, true, false, List, [], ◌∷◌, length, get_or, get_or-set_other, slice_set, Option, Some, None, refl, sym, subst, ap, arith}
+use Rattle.std.proofs.Common.{◌≡◌, ◌≢◌, ◌∙◌, ◌⊎◌, inl, inr, ℕ, zero, suc, ◌<◌, ◌≤◌, ◌+◌, ◌*◌, ◌-◌, ◌/◌, ℤ, Bool, true, false, List, [], ◌∷◌, length, get_or, get_or-set_other, get_or-set_same, slice_set, ◌==◌, Option, Some, None, refl, sym, subst, ap, arith}
 use Rattle.std.proofs.lemmas.Int.{ints}
-use Rattle.std.proofs.lemmas.Bool.{cases_Bool}
+use Rattle.std.proofs.lemmas.Bool.{cases_Bool, eqb-true}
+use Rattle.std.proofs.lemmas.List.{get_or_default, length-set}
 use Rattle.std.proofs.lemmas.List.Elements.{Contains-get_or}
 use Rattle.std.proofs.Math.ListN.{get_or-eq_default}
 use Rattle.std.specs.Prelude.{IfSome, nat_lt, nat_le, int_lt, nat_eq}
 use Rattle.std.specs.List.{All, Contains}
-use Rattle.switch_ports.proofs.Departing.{before_itself, precedes_on}
-use Rattle.switch_ports.specs.Leaving.{IsEarlier, IsFirstOf, IsOf, Precedes, dispatch_by}
+use Rattle.switch_ports.proofs.EachRow.{before_itself, precedes_on}
+use Rattle.switch_ports.specs.Departing.{Changes, IsTakingAt, KnowsNext, Sets, bound_of}
+use Rattle.switch_ports.specs.Leaving.{AreChained, IsLast, with_taking, IsEarlier, IsFirstOf, IsOf, Precedes, dispatch_by}
 use Rattle.switch_ports.specs.Tournaments.{AreLeaves, IsClimbing, IsInner, IsTree, Puts, node_at}
 use Rattle.switch_ports.specs.declared.departures.Departure.{Departure}
+use Rattle.switch_ports.specs.declared.departures.Departures.{Departures}
 use Rattle.switch_ports.specs.declared.departures.Dispatch.{Dispatch}
+use Rattle.switch_ports.specs.declared.departures.Taking.{Taking}
 use Rattle.switch_ports.specs.declared.tournament.Tournament.{Tournament}
 
 -- ---- a leaf is put
@@ -164,7 +168,7 @@ from_leaf tree (suc fuel) k n is le from lt e = elim (cases_Bool (nat_lt k tree.
 
 no_departure : Departure
 no_departure = record {
-  of = record { row = record { 0 = 0 }; link = record { 0 = 0 }; vl = record { 0 = 0 }; offset = 0; period = 0; phase = 0 };
+  of = record { row = record { 0 = 0 }; link = record { 0 = 0 }; vl = record { 0 = 0 }; offset = 0; period = 0; phase = 0; place = 0; before = None };
   held = None;
   awaited = None;
 }
@@ -200,3 +204,147 @@ root_first tree adjustment [] is count leaves =
     subst (IsFirstOf adjustment []) (sym (get_or-eq_default tree.nodes.items None size)) (λ k d lt. absurd (omega (arith, lt)))
 root_first tree adjustment (d ∷ rows) is count leaves =
     root_of tree adjustment (d ∷ rows) (node_at tree.nodes.items 1) is count leaves refl (omega arith)
+
+-- the dispatch of the root comes next
+pub knows_next : (adjustment : ℤ) (ds : Departures) → IsTree ds.tree → ds.tree.count ≡ length ds.rows.items
+    → AreLeaves adjustment ds.rows.items ds.tree.nodes.items → ds.next ≡ node_at ds.tree.nodes.items 1 → KnowsNext adjustment ds
+knows_next adjustment ds is count leaves next = record {
+  leaves = leaves;
+  first = subst (IsFirstOf adjustment ds.rows.items) (sym next) (root_first ds.tree adjustment ds.rows.items is count leaves);
+}
+
+-- ---- one departure is another
+
+pub set_long : (adjustment : ℤ) (place : ℕ) (d : Departure) (old new : Departures) → Sets adjustment place d old new
+    → length new.rows.items ≡ length old.rows.items
+set_long adjustment place d old new h = ap (λ (ds : List Departure). length ds) h.rows ∙ length-set old.rows.items place d
+
+set_here : (adjustment : ℤ) (place : ℕ) (d e : Departure) (old new : Departures) → Sets adjustment place d old new → place < length old.rows.items
+    → get_or new.rows.items place e ≡ d
+set_here adjustment place d e old new h lt = ap (λ (ds : List Departure). get_or ds place e) h.rows ∙ get_or-set_same old.rows.items place d e lt
+
+set_other : (adjustment : ℤ) (place k : ℕ) (d e : Departure) (old new : Departures) → Sets adjustment place d old new → k ≢ place
+    → get_or new.rows.items k e ≡ get_or old.rows.items k e
+set_other adjustment place k d e old new h apart =
+    ap (λ (ds : List Departure). get_or ds k e) h.rows ∙ get_or-set_other old.rows.items place k d e apart
+
+-- the leaf of the row at the place, and those of the others
+leaf_here : (adjustment : ℤ) (place : ℕ) (d e : Departure) (old new : Departures) → Sets adjustment place d old new → old.tree.count ≡ length old.rows.items
+    → place < length old.rows.items
+    → node_at new.tree.nodes.items (length new.rows.items + place) ≡ dispatch_by adjustment (get_or new.rows.items place e)
+leaf_here adjustment place d e old new h count lt =
+    ap (λ n. node_at new.tree.nodes.items (n + place)) (set_long adjustment place d old new h ∙ sym count) ∙ h.tree.is
+    ∙ ap (dispatch_by adjustment) (sym (set_here adjustment place d e old new h lt))
+
+leaf_other : (adjustment : ℤ) (place k : ℕ) (d e : Departure) (old new : Departures) → Sets adjustment place d old new
+    → old.tree.count ≡ length old.rows.items → k ≢ place → k < length old.rows.items
+    → node_at old.tree.nodes.items (length old.rows.items + k) ≡ dispatch_by adjustment (get_or old.rows.items k e)
+    → node_at new.tree.nodes.items (length new.rows.items + k) ≡ dispatch_by adjustment (get_or new.rows.items k e)
+leaf_other adjustment place k d e old new h count apart lt is =
+    ap (λ n. node_at new.tree.nodes.items (n + k)) (set_long adjustment place d old new h ∙ sym count)
+    ∙ h.tree.others k (subst (λ n. k < n) (sym count) lt) apart ∙ ap (λ n. node_at old.tree.nodes.items (n + k)) count ∙ is
+    ∙ ap (dispatch_by adjustment) (sym (set_other adjustment place k d e old new h apart))
+
+pub leaves_set : (adjustment : ℤ) (place : ℕ) (d : Departure) (old new : Departures) → Sets adjustment place d old new
+    → old.tree.count ≡ length old.rows.items → place < length old.rows.items → AreLeaves adjustment old.rows.items old.tree.nodes.items
+    → AreLeaves adjustment new.rows.items new.tree.nodes.items
+leaves_set adjustment place d old new h count inside leaves k e lt = elim (cases_Bool (nat_eq k place)) [
+  | inl y ↦
+      let same : k ≡ place = grind (arith, y) in
+      subst (λ n. node_at new.tree.nodes.items (length new.rows.items + n) ≡ dispatch_by adjustment (get_or new.rows.items n e)) (sym same)
+      (leaf_here adjustment place d e old new h count inside)
+  | inr n ↦
+      let apart : k ≢ place = grind (arith, n) in
+      let lt' : k < length old.rows.items = subst (λ n. k < n) (set_long adjustment place d old new h) lt in
+      leaf_other adjustment place k d e old new h count apart lt' (leaves k e lt')
+]
+
+-- ---- the rows of a virtual link, from the last one down
+
+rest_below : (at : Option ℕ) (vl place k : ℕ) (rows : List Departure) → IsLast rows vl place at → k < bound_of at → k < place
+rest_below None vl place k rows link less = absurd (omega (arith, less))
+rest_below (Some m) vl place k rows link less = let lt = link.0 in omega (arith, lt, less)
+
+next_by : (at : Option ℕ) (vl place : ℕ) (rows : List Departure) → place < length rows → IsLast rows vl place at
+    → IfSome at (λ m. (m < length rows) × ((d : Departure) → (get_or rows m d).of.vl.0 ≡ vl))
+next_by None vl place rows inside link = tt
+next_by (Some m) vl place rows inside link = ((let lt = link.0 in omega (arith, lt, inside)), link.1)
+
+skipped : (at : Option ℕ) (vl place k : ℕ) (rows : List Departure) (d : Departure) → IsLast rows vl place at → bound_of at ≤ k → k < place
+    → (get_or rows k d).of.vl.0 ≡ vl → ⊥
+skipped None vl place k rows d link from lt is = link k d lt is
+skipped (Some m) vl place k rows d link from lt is = link.2 k d (omega (arith, from)) lt is
+
+taken_at : (f : Departure → Departure) (vl place k : ℕ) (adjustment : ℤ) (old mid new : Departures) (e d : Departure) (at : Option ℕ)
+    → ((d : Departure) → (d.of.vl.0 ≡ vl → ⊥) → f d ≡ d) → IsTakingAt f vl (Some place) adjustment old mid
+    → Sets adjustment place (f (get_or mid.rows.items place e)) mid new → get_or mid.rows.items place e ≡ get_or old.rows.items place e
+    → place < length mid.rows.items → IsLast old.rows.items vl place at → bound_of at ≤ k → k < length old.rows.items
+    → get_or new.rows.items k d ≡ f (get_or old.rows.items k d)
+taken_at f vl place k adjustment old mid new e d at other h sets was inside link from lt = elim (cases_Bool (nat_eq k place)) [
+  | inl y ↦
+      let same : k ≡ place = grind (arith, y) in
+      subst (λ n. get_or new.rows.items n d ≡ f (get_or old.rows.items n d)) (sym same)
+      (set_here adjustment place _ d mid new sets inside ∙ ap f was ∙ ap f (get_or_default old.rows.items place e d h.next.0))
+  | inr n ↦
+      let apart : k ≢ place = grind (arith, n) in
+      set_other adjustment place k _ d mid new sets apart ∙ elim (cases_Bool (nat_lt k place)) [
+        | inl y ↦
+            let below : k < place = grind (arith, y) in
+            h.rows.rest k d (omega (arith, below)) lt
+            ∙ sym (other (get_or old.rows.items k d) (λ is. skipped at vl place k old.rows.items d link from below is))
+        | inr m ↦ h.rows.done k d (grind (arith, n, m)) lt
+      ]
+]
+
+taking_by : (f : Departure → Departure) (vl place : ℕ) (adjustment : ℤ) (old mid new : Departures) (e : Departure) (at : Option ℕ)
+    → old.tree.count ≡ length old.rows.items → ((d : Departure) → (d.of.vl.0 ≡ vl → ⊥) → f d ≡ d) → IsTakingAt f vl (Some place) adjustment old mid
+    → Sets adjustment place (f (get_or mid.rows.items place e)) mid new → get_or mid.rows.items place e ≡ get_or old.rows.items place e
+    → place < length mid.rows.items → IsLast old.rows.items vl place at → IsTakingAt f vl at adjustment old new
+taking_by f vl place adjustment old mid new e at count other h sets was inside link =
+    let mid_count : mid.tree.count ≡ length mid.rows.items = h.count ∙ count ∙ sym h.rows.count in
+    record {
+      rows = record {
+        count = set_long adjustment place _ mid new sets ∙ h.rows.count;
+        done = λ k d from lt. taken_at f vl place k adjustment old mid new e d at other h sets was inside link from lt;
+        rest = λ k d less lt.
+            let below : k < place = rest_below at vl place k old.rows.items link less in
+            let apart : k ≢ place = omega (arith, below) in
+            set_other adjustment place k _ d mid new sets apart ∙ h.rows.rest k d (omega (arith, below)) lt;
+      };
+      next = next_by at vl place old.rows.items h.next.0 link;
+      lasts = sets.lasts ∙ h.lasts;
+      tree = sets.tree.tree;
+      count = sets.tree.count ∙ h.count;
+      leaves = λ leaves. leaves_set adjustment place _ mid new sets mid_count inside (h.leaves leaves);
+    }
+
+-- one of them is done
+pub taking_on : (f : Departure → Departure) (vl place : ℕ) (adjustment : ℤ) (old mid new : Departures) (e : Departure)
+    → old.tree.count ≡ length old.rows.items → AreChained old.rows.items old.lasts.items → ((d : Departure) → (d.of.vl.0 ≡ vl → ⊥) → f d ≡ d)
+    → IsTakingAt f vl (Some place) adjustment old mid → Sets adjustment place (f (get_or mid.rows.items place e)) mid new
+    → IsTakingAt f vl (get_or mid.rows.items place e).of.before adjustment old new
+taking_on f vl place adjustment old mid new e count chained other h sets =
+    let inside = h.next.0 in
+    let was : get_or mid.rows.items place e ≡ get_or old.rows.items place e = h.rows.rest place e (omega arith) inside in
+    let mid_inside : place < length mid.rows.items = subst (λ n. place < n) (sym h.rows.count) inside in
+    let link : IsLast old.rows.items vl place (get_or mid.rows.items place e).of.before =
+    subst (λ (x : Departure). IsLast old.rows.items vl place x.of.before) (sym was)
+    (subst (λ n. IsLast old.rows.items n place (get_or old.rows.items place e).of.before) (h.next.1 e) (chained.before place e inside)) in
+    taking_by f vl place adjustment old mid new e (get_or mid.rows.items place e).of.before count other h sets was mid_inside link
+
+pub taking_ended : (f : Departure → Departure) (vl : ℕ) (adjustment : ℤ) (old new : Departures) → IsTakingAt f vl None adjustment old new → Changes f old new
+taking_ended f vl adjustment old new h = record {
+  rows = record { count = h.rows.count; each = λ k d lt. h.rows.done k d (omega arith) lt };
+  lasts = h.lasts;
+  tree = h.tree;
+  count = h.count;
+}
+
+-- a frame of another virtual link changes nothing
+pub other_same : (length : ℕ) (changed : ℤ) (taking : Taking) (d : Departure) → (d.of.vl.0 ≡ taking.vl.0 → ⊥) → with_taking length changed taking d ≡ d
+other_same length changed taking d other =
+    let n : (d.of.vl.0 == taking.vl.0) ≡ false = elim (cases_Bool (d.of.vl.0 == taking.vl.0)) [
+      | inl y ↦ absurd (other (eqb-true d.of.vl.0 taking.vl.0 y))
+      | inr n ↦ n
+    ] in
+    rw n refl

@@ -1,5 +1,5 @@
 -- The rows that leave a switch, and what they have still to dispatch.
-use Rattle.std.specs.Prelude.{◌≡◌, ◌⊎◌, ℕ, ◌+◌, ◌*◌, ◌^◌, ◌%◌, ◌<◌, ◌≤◌, nat_le, ℤ, pos, ◌-ℤ◌, ◌<ℤ◌, ◌≤ℤ◌, int_lt, Bool, ◌&&◌, ◌==◌, List, length, slice_index_or, Option, Some, None, option_map, option_and_then, filter, ◌↔◌, ◌+ℤ◌, IfSome, if◌then◌else◌}
+use Rattle.std.specs.Prelude.{◌≡◌, ◌⊎◌, ℕ, ◌+◌, ◌*◌, ◌^◌, ◌%◌, ◌<◌, ◌≤◌, nat_le, ℤ, pos, ◌-ℤ◌, ◌<ℤ◌, ◌≤ℤ◌, int_lt, Bool, ◌&&◌, ◌==◌, List, length, slice_get, slice_index_or, unwrap_or, Option, Some, None, option_map, IfSome, if◌then◌else◌}
 use Rattle.std.specs.List.{All, Contains}
 use Rattle.net_plan.specs.Ranges.{IsWithin}
 use Rattle.net_plan.specs.declared.ids.DeviceId.{DeviceId}
@@ -7,18 +7,6 @@ use Rattle.net_plan.specs.declared.ids.RowId.{RowId}
 use Rattle.net_plan.specs.declared.network.Network.{Network}
 use Rattle.schedule_tables.specs.Entries.{IsEntry, source_of}
 use Rattle.schedule_tables.specs.declared.entry.Entry.{Entry}
-use Rattle.net_plan.specs.declared.ids.VlId.{VlId}
-use Rattle.run_law.specs.declared.steps.Arrival.TheVariants as arrivals
-use Rattle.run_law.specs.declared.steps.Arrival.{Arrival}
-use Rattle.run_law.specs.machines.Nodes.{ClockTask, TakenFrame, dispatching}
-use Rattle.run_law.specs.machines.Tasks.{value_of}
-use Rattle.std.specs.List.{last_or}
-use Rattle.switch_ports.specs.declared.departures.Departures.{Departures}
-use Rattle.switch_ports.specs.declared.standpoint.Standpoint.{Standpoint}
-use Rattle.sync_state.specs.declared.answers.Verdict.TheVariants.{Corrected, SyncClique, AsyncClique, Cleared}
-use Rattle.sync_state.specs.declared.answers.Verdict.{Verdict}
-use Rattle.sync_state.specs.declared.state.State.TheVariants.{Synchronised}
-use Rattle.sync_state.specs.declared.state.State.{State}
 use Rattle.switch_ports.specs.declared.departures.Departure.{Departure}
 use Rattle.switch_ports.specs.declared.departures.Dispatch.{Dispatch}
 use Rattle.switch_ports.specs.declared.departures.Held.{Held}
@@ -30,26 +18,54 @@ use Rattle.tte_units.specs.declared.units.Units.{Units}
 -- ---- rows
 
 -- what is kept of the entry of a row
-abbrev pub leaving_by : RowId → Entry → LeavingRow
-leaving_by row entry = record {
+abbrev pub leaving_by : ℕ → Option ℕ → RowId → Entry → LeavingRow
+leaving_by place before row entry = record {
   row = row;
   link = entry.row.link;
   vl = entry.row.vl;
   offset = amount entry.row.offset;
   period = entry.vl.period;
   phase = entry.vl.phase;
+  place = place;
+  before = before;
 }
+
+-- the row of the entry, of which no frame has been taken
+abbrev pub fresh_row : ℕ → Option ℕ → RowId → Entry → Departure
+fresh_row place before row entry = record { of = leaving_by place before row entry; held = None; awaited = None }
 
 -- the row is kept as its entry says, and leaves the device
 pub record IsLeaving (network : Network) (device : DeviceId) (of : LeavingRow) : Type 0 where
   pub entry : Entry
   pub is : IsEntry network of.row.0 entry
   pub leaves : source_of entry ≡ device
-  pub kept : of ≡ leaving_by of.row entry
+  pub kept : of ≡ leaving_by of.place of.before of.row entry
 
 -- the row at the place is one of these
 abbrev pub HasRow : List Departure → ℕ → Type 0
 HasRow rows place = (d : Departure) × Contains rows d × (d.of.row.0 ≡ place)
+
+-- ---- the order of rows
+
+-- the place kept for the virtual link
+abbrev pub place_in : List (Option ℕ) → ℕ → Option ℕ
+place_in lasts vl = unwrap_or (slice_get lasts vl) None
+
+-- this is the place of the last row of the virtual link before the bound, if there is one
+abbrev pub IsLast : List Departure → ℕ → ℕ → Option ℕ → Type 0
+IsLast rows vl bound None = (k : ℕ) (d : Departure) → k < bound → (slice_index_or rows k d).of.vl.0 ≡ vl → ⊥
+IsLast rows vl bound (Some place) =
+    (place < bound) × ((d : Departure) → (slice_index_or rows place d).of.vl.0 ≡ vl)
+    × ((k : ℕ) (d : Departure) → place < k → k < bound → (slice_index_or rows k d).of.vl.0 ≡ vl → ⊥)
+
+-- the rows know their places, rise, and lead to those of the same virtual link, from the last one on
+pub record AreChained (rows : List Departure) (lasts : List (Option ℕ)) : Type 0 where
+  pub places : (k : ℕ) (d : Departure) → k < length rows → (slice_index_or rows k d).of.place ≡ k
+  pub rise : (j k : ℕ) (d : Departure) → j < k → k < length rows
+      → (slice_index_or rows j d).of.row.0 < (slice_index_or rows k d).of.row.0
+  pub before : (k : ℕ) (d : Departure) → k < length rows
+      → IsLast rows (slice_index_or rows k d).of.vl.0 k (slice_index_or rows k d).of.before
+  pub last : (vl : ℕ) → IsLast rows vl (length rows) (place_in lasts vl)
 
 -- ---- frames
 
@@ -88,9 +104,9 @@ with_taking length changed taking d =
 abbrev pub reopened : ℤ → Departure → Departure
 reopened changed d = record d { awaited = awaited_of changed d.held }
 
--- the row when this one's dispatch has come
-abbrev pub closed : RowId → Departure → Departure
-closed row d = if d.of.row.0 == row.0 then record d { awaited = None } else d
+-- the row when the dispatch of the one at the place has come
+abbrev pub closed : ℕ → Departure → Departure
+closed place d = if d.of.place == place then record d { awaited = None } else d
 
 -- each of the new rows is what this makes of the old one
 pub record AreEach (f : Departure → Departure) (old new : List Departure) : Type 0 where
@@ -128,10 +144,14 @@ pub record IsFresh (network : Network) (device : DeviceId) (d : Departure) : Typ
   pub awaited : d.awaited ≡ None
 
 -- these are all rows that leave the device and stand before the place, of which none has been taken
-pub record AreLeaving (network : Network) (device : DeviceId) (bound : ℕ) (rows : List Departure) : Type 0 where
+pub record AreLeaving (network : Network) (device : DeviceId) (bound : ℕ) (rows : List Departure)
+    (lasts : List (Option ℕ)) : Type 0 where
   pub each : All (IsFresh network device) rows
   pub complete : (place : ℕ) (entry : Entry) → IsEntry network place entry → source_of entry ≡ device → place < bound
       → HasRow rows place
+  pub chained : AreChained rows lasts
+  pub below : (k : ℕ) (d : Departure) → k < length rows → (slice_index_or rows k d).of.row.0 < bound
+  pub vls : length lasts ≡ length network.vl
 
 -- ---- dispatches
 
@@ -142,6 +162,7 @@ dispatch_at adjustment of held = record {
   link = of.link;
   row = of.row;
   cycle = held.cycle;
+  place = of.place;
 }
 
 -- the dispatch that the row has still to make
@@ -169,75 +190,3 @@ abbrev pub IsFirstOf : ℤ → List Departure → Option Dispatch → Type 0
 IsFirstOf adjustment rows None = All (λ d. dispatch_by adjustment d ≡ None) rows
 IsFirstOf adjustment rows (Some next) =
     IsOf adjustment rows next × All (λ d. IfSome (dispatch_by adjustment d) (λ other. Precedes other next → ⊥)) rows
-
--- ---- what is to come
-
--- the last frame of the virtual link that was taken
-abbrev pub last_of : List TakenFrame → VlId → Option TakenFrame
-last_of taken vl = last_or None (filter (λ taking. taking.vl.0 == vl.0) taken)
-
--- the row is one of the device, with the last frame of its virtual link among those taken
-pub record IsDeparture (network : Network) (device : DeviceId) (taken : List TakenFrame) (d : Departure) : Type 0 where
-  pub of : IsLeaving network device d.of
-  pub held : d.held
-      ≡ option_and_then (λ taking. held_by (amount network.cycle) d.of taking.cycle taking.at) (last_of taken d.of.vl)
-  pub fit : IsFit d
-
--- these are all rows that leave the device, with the last frames of their virtual links
-pub record HasDepartures (network : Network) (device : DeviceId) (rows : List Departure)
-    (taken : List TakenFrame) : Type 0 where
-  pub each : All (IsDeparture network device taken) rows
-  pub complete : (place : ℕ) (entry : Entry) → IsEntry network place entry → source_of entry ≡ device → HasRow rows place
-
--- the row has still to dispatch this frame
-pub record IsToCome (changed : ℤ) (done : List ClockTask) (d : Departure) (held : Held) : Type 0 where
-  pub is : d.held ≡ Some held
-  pub ahead : changed <ℤ held.value.0
-  pub not_yet : Contains done (dispatching d.of.row held.cycle) → ⊥
-
--- the row awaits the frame that it has still to dispatch, if there is one
-abbrev pub AwaitsSo : ℤ → List ClockTask → Departure → Type 0
-AwaitsSo changed done d = (held : Held) → (d.awaited ≡ Some held) ↔ IsToCome changed done d held
-
--- a synchronised switch knows which dispatch comes next, where its local clock shows this value
-pub record Awaits (network : Network) (departures : Departures) (adjustment changed : ℤ) (done : List ClockTask)
-    (local : ℤ) : Type 0 where
-  pub each : All (AwaitsSo changed done) departures.rows.items
-  pub first : IsFirstOf adjustment departures.rows.items departures.next
-  pub passed : (row : RowId) (cycle : ℕ) → Contains done (dispatching row cycle)
-      → value_of network (dispatching row cycle) ≤ℤ local
-
--- none comes in another state
-abbrev pub AwaitsIn : State → Network → Departures → ℤ → ℤ → List ClockTask → ℤ → Type 0
-AwaitsIn Synchronised network departures adjustment changed done local =
-    Awaits network departures adjustment changed done local
-AwaitsIn other network departures adjustment changed done local = departures.next ≡ None
-
--- ---- what a call changes
-
--- it has told anew what is to come, where the adjustment has changed at the local value
-pub record Reopens (old : Departures) (changed adjustment : ℤ) (new : Departures) : Type 0 where
-  pub rows : AreEach (reopened changed) old.rows.items new.rows.items
-  pub next : IsFirstOf adjustment new.rows.items new.next
-
--- it has told what is to come after a correction point that came to this
-abbrev pub IsAwaitedSo : Departures → ℤ → ℤ → Verdict → Departures → Type 0
-IsAwaitedSo old changed adjustment (Corrected by) new = Reopens old changed adjustment new
-IsAwaitedSo old changed adjustment SyncClique new = new ≡ record old { next = None }
-IsAwaitedSo old changed adjustment AsyncClique new = new ≡ record old { next = None }
-IsAwaitedSo old changed adjustment Cleared new = new ≡ old
-
--- a synchronised switch has kept the frame that it has taken for the rows of its virtual link
-pub record Keeps (old : Departures) (length : ℕ) (changed : ℤ) (at : Standpoint) (vl : VlId) (cycle : ℕ)
-    (new : Departures) : Type 0 where
-  pub synchronised : at.state ≡ Synchronised
-  pub in_range : cycle * length ≤ 2 ^ 62
-  pub rows : AreEach
-      (with_taking length changed (record { vl = vl; cycle = cycle; at = record { 0 = at.reading.0 +ℤ at.adjustment.0 } }))
-      old.rows.items new.rows.items
-  pub next : IsFirstOf at.adjustment.0 new.rows.items new.next
-
--- it has kept a frame of which this became
-abbrev pub IsKeptSo : Departures → ℕ → ℤ → Standpoint → Arrival → Departures → Type 0
-IsKeptSo old length changed at (arrivals.Accepted vl cycle) new = Keeps old length changed at vl cycle new
-IsKeptSo old length changed at other new = new ≡ old

@@ -4,6 +4,7 @@ pub mod Arrivals
 pub mod Intakes
 pub mod Leaving
 pub mod Tournaments
+pub mod Departing
 pub mod Corrections
 pub mod Steps
 pub mod Members

@@ -16,7 +16,7 @@ use Rattle.run_law.specs.scenario.Devices.{is_cm, plan_of}
 use Rattle.schedule_tables.specs.Rules.{KeepsRules}
 use Rattle.switch_ports.specs.Corrections.{correction_due}
 use Rattle.switch_ports.specs.Intakes.{AreEntrances, last_in}
-use Rattle.switch_ports.specs.Leaving.{AwaitsIn, HasDepartures}
+use Rattle.switch_ports.specs.Departing.{AwaitsIn, HasDepartures}
 use Rattle.switch_ports.specs.Members.{member_numbers}
 use Rattle.switch_ports.specs.Sites.{IsSiteOf}
 use Rattle.switch_ports.specs.Steady.{IsSteady, is_timed}
@@ -67,6 +67,6 @@ pub record StandsAs (switch : Switch) (network : Network) (device : DeviceId) (n
   pub steady : is_timed node.standing.state ≡ true → IsSteady network node switch.heard
   pub intake : HasTaken network device switch.intake node.taken
   pub collects : HasCollected switch.collector network device node.points node.emitted
-  pub departs : HasDepartures network device switch.departures.rows.items node.taken
+  pub departs : HasDepartures network device switch.departures node.taken
   pub awaits : AwaitsIn node.standing.state network switch.departures node.standing.adjustment.0 node.changed node.done
       (node.last.reading.0 +ℤ node.standing.adjustment.0)

@@ -21,7 +21,9 @@ use Rattle.run_law.specs.declared.steps.Ripe.{Ripe}
 use Rattle.run_law.specs.device.States.{is_synchronised}
 use Rattle.run_law.specs.machines.Answers.{hearings}
 use Rattle.switch_ports.specs.Corrections.{correction_at}
-use Rattle.switch_ports.specs.Leaving.{AreEach, IsAwaitedSo, IsFirstOf, closed}
+use Rattle.switch_ports.specs.Departing.{Changes, IsAwaitedSo, KnowsNext}
+use Rattle.switch_ports.specs.Leaving.{closed}
+use Rattle.switch_ports.specs.Tournaments.{AreLeaves}
 use Rattle.switch_ports.specs.declared.departures.Dispatch.{Dispatch}
 use Rattle.switch_ports.specs.declared.switch.Switch.{Switch}
 use Rattle.sync_state.specs.Calls.{after, heard_frame, reached_point}
@@ -98,8 +100,9 @@ pub record Corrects (old : Switch) (moment : Moment) (verdict : Verdict) (new : 
 -- it has done this dispatch
 pub record Dispatches (old : Switch) (next : Dispatch) (new : Switch) : Type 0 where
   pub rest : new ≡ record old { departures = new.departures }
-  pub rows : AreEach (closed next.row) old.departures.rows.items new.departures.rows.items
-  pub next_is : IsFirstOf old.sync.adjustment.0 new.departures.rows.items new.departures.next
+  pub changes : Changes (closed next.place) old.departures new.departures
+  pub knows : AreLeaves old.sync.adjustment.0 old.departures.rows.items old.departures.tree.nodes.items
+      → KnowsNext old.sync.adjustment.0 new.departures
 
 -- it has done the dispatch that came next, if one did
 abbrev pub DispatchesSo : Switch → Option Dispatch → Act → Switch → Type 0

@@ -1,13 +1,16 @@
 //! The rows that leave a switch, and the frames that they have still to dispatch.
 
-ghost use Rattle.std.specs.Prelude.{length, option_map, ◌+◌, ◌≡◌, ◌↔◌, ◌≤◌, ◌*◌, ◌^◌, ◌%◌, ◌==◌, ◌&&◌, nat_le, int_lt, IfOk, OnOk, IsTrue, ℕ, List, [], None, pos, ◌≤ℤ◌, ◌-ℤ◌, All};
+ghost use Rattle.std.specs.Prelude.{length, map, ◌+◌, option_map, ◌≡◌, ◌↔◌, ◌<◌, ◌≤◌, ◌*◌, ◌^◌, IfOk, OnOk, IsTrue, None, pos, ◌≤ℤ◌, ◌-ℤ◌, All};
 ghost use Rattle.clock_correction.specs.Deviation.{IsSmall};
 ghost use Rattle.net_plan.specs.Ranges.{IsInRange, IsWithin};
 ghost use Rattle.net_plan.specs.declared.network.Network.{Network as NetworkValue};
 ghost use Rattle.schedule_tables.specs.Entries.{IsEntry, IsEntryInRange, source_of};
-ghost use Rattle.switch_ports.specs.Leaving.{AreEach, AreLeaving, IsEarlier, IsFirstOf, IsFit, IsHeldFit, IsTakingFit, Precedes, awaited_of, closed, dispatch_at, dispatch_by, held_by, is_dispatch_in, leaving_by, reopened, value_in, with_held, with_taking};
+ghost use Rattle.switch_ports.specs.Departing.{Changes, IsBegun, IsReady, KnowsNext, Sets};
+ghost use Rattle.switch_ports.specs.Leaving.{AreLeaving, IsEarlier, IsFit, IsTakingFit, Precedes, awaited_of, closed, dispatch_by, fresh_row, held_by, is_dispatch_in, place_in, reopened, value_in, with_taking};
+ghost use Rattle.switch_ports.specs.Tournaments.{AreLeaves, IsTree};
 ghost use Rattle.tte_units.specs.Amount.{amount};
 
+use crate::tournament::Tournament;
 use net_plan::{DeviceId, LinkId, Network, RowId, VlId};
 use schedule_tables::{Entry, OutOfMemory, entry_of};
 use std::alloc::{AllocError, Global};
@@ -24,6 +27,10 @@ pub(crate) struct LeavingRow {
     /// The virtual link occurs in the cycles of this phase modulo the period.
     pub(crate) period: u32,
     pub(crate) phase: u32,
+    /// The row's place among those that leave the switch.
+    pub(crate) place: usize,
+    /// The place of the row of the same virtual link that comes before it, if there is one.
+    pub(crate) before: Option<usize>,
 }
 
 /// A frame that the switch took, as one row dispatches it.
@@ -61,12 +68,17 @@ pub(crate) struct Dispatch {
     pub(crate) link: LinkId,
     pub(crate) row: RowId,
     pub(crate) cycle: u32,
+    /// The row's place among those that leave the switch.
+    pub(crate) place: usize,
 }
 
 /// The rows that leave a switch, and which of their dispatches comes next.
 #[derive(Drop)]
 pub(crate) struct Departures {
     rows: Vec<Departure>,
+    /// The place of the last row of each virtual link.
+    lasts: Vec<Option<usize>>,
+    tree: Tournament,
     /// The dispatch that comes next. It is None while the switch has not the common time.
     pub(crate) next: Option<Dispatch>,
 }
@@ -81,56 +93,71 @@ impl Departures {
         device: DeviceId,
     ) -> Result<Departures, OutOfMemory>
         requires { IsInRange network.now }
-        ensures rows { IfOk result (λ departures. AreLeaving network.now device (length network.now.row) departures.rows.items) }
-        ensures next { IfOk result (λ departures. departures.next ≡ None) }
+        ensures { IfOk result (IsBegun network.now device) }
     {
         let mut rows = Vec::new(alloc);
+        let mut lasts = no_lasts(alloc, network)?;
         for place in 0..network.row.as_slice().len() {
             let row = RowId(place as u32);
             let entry = entry_of(network, row);
-            add_row(&mut rows, device, row, &entry)?;
+            add_row(&mut rows, &mut lasts, device, row, &entry)?;
         }
-        Ok(Departures { rows, next: None })
+        let tree = Tournament::new(alloc, rows.as_slice())?;
+        Ok(Departures {
+            rows,
+            lasts,
+            tree,
+            next: None,
+        })
     }
 
     /// Keeps a frame that is taken for the rows of its virtual link, in the place of an earlier one.
     pub(crate) fn take(&mut self, length: Units, taking: Taking, changed: Units, adjustment: Units)
-        requires fit { All IsFit self.old.rows.items }
+        requires ready { IsReady self.old }
         requires taking { IsTakingFit length taking }
         requires small { IsSmall adjustment.0 }
-        ensures rows { AreEach (with_taking (amount length) changed.0 taking) self.old.rows.items self.new.rows.items }
-        ensures next { IsFirstOf adjustment.0 self.new.rows.items self.new.next }
+        ensures changes { Changes (with_taking (amount length) changed.0 taking) self.old self.new }
+        ensures next { AreLeaves adjustment.0 self.old.rows.items self.old.tree.nodes.items
+            → KnowsNext adjustment.0 self.new }
     {
-        for departure in self.rows.iter_mut() {
+        let mut at = self.last_of(taking.vl);
+        'rows: while let Some(place) = at {
+            let mut departure = self.rows[place];
+            at = departure.of.before;
             departure.take(length, &taking, changed);
+            self.set(place, departure, adjustment);
         }
-        self.next = self.first(adjustment);
+        self.next = self.tree.first();
     }
 
     /// Tells anew what is to come, where the adjustment has changed at a local value.
     pub(crate) fn reopen(&mut self, changed: Units, adjustment: Units)
-        requires fit { All IsFit self.old.rows.items }
+        requires ready { IsReady self.old }
         requires small { IsSmall adjustment.0 }
-        ensures rows { AreEach (reopened changed.0) self.old.rows.items self.new.rows.items }
-        ensures next { IsFirstOf adjustment.0 self.new.rows.items self.new.next }
+        ensures changes { Changes (reopened changed.0) self.old self.new }
+        ensures next { KnowsNext adjustment.0 self.new }
     {
-        for departure in self.rows.iter_mut() {
+        for place in 0..self.rows.len() {
+            let mut departure = self.rows[place];
             departure.reopen(changed);
+            self.set(place, departure, adjustment);
         }
-        self.next = self.first(adjustment);
+        self.next = self.tree.first();
     }
 
-    /// Ends the dispatch of this row that was to come.
-    pub(crate) fn close(&mut self, row: RowId, adjustment: Units)
-        requires fit { All IsFit self.old.rows.items }
+    /// Ends the dispatch that was to come of the row at the place.
+    pub(crate) fn close(&mut self, place: usize, adjustment: Units)
+        requires place { place < length self.old.rows.items }
+        requires ready { IsReady self.old }
         requires small { IsSmall adjustment.0 }
-        ensures rows { AreEach (closed row) self.old.rows.items self.new.rows.items }
-        ensures next { IsFirstOf adjustment.0 self.new.rows.items self.new.next }
+        ensures changes { Changes (closed place) self.old self.new }
+        ensures next { AreLeaves adjustment.0 self.old.rows.items self.old.tree.nodes.items
+            → KnowsNext adjustment.0 self.new }
     {
-        for departure in self.rows.iter_mut() {
-            departure.close(row);
-        }
-        self.next = self.first(adjustment);
+        let mut departure = self.rows[place];
+        departure.awaited = None;
+        self.set(place, departure, adjustment);
+        self.next = self.tree.first();
     }
 
     /// Nothing comes while the switch has not the common time.
@@ -150,17 +177,27 @@ impl Departures {
         }
     }
 
-    /// The dispatch that comes first.
-    fn first(&self, adjustment: Units) -> Option<Dispatch>
-        requires fit { All IsFit self.now.rows.items }
-        requires small { IsSmall adjustment.0 }
-        ensures { IsFirstOf adjustment.0 self.now.rows.items result }
+    /// The place of the last row of the virtual link, if one leaves the switch.
+    fn last_of(&self, vl: VlId) -> Option<usize>
+        ensures { result ≡ place_in self.now.lasts.items vl.0 }
     {
-        let mut next = None;
-        for departure in self.rows.as_slice() {
-            next = earlier(next, departure.dispatch(adjustment));
+        match self.lasts.get(vl.0 as usize) {
+            Some(last) => *last,
+            None => None,
         }
-        next
+    }
+
+    /// Puts the departure at the place.
+    fn set(&mut self, place: usize, departure: Departure, adjustment: Units)
+        requires place { place < length self.old.rows.items }
+        requires fit { IsFit departure }
+        requires small { IsSmall adjustment.0 }
+        requires tree { IsTree self.old.tree }
+        requires count { self.old.tree.count ≡ length self.old.rows.items }
+        ensures { Sets adjustment.0 place departure self.old self.new }
+    {
+        self.rows[place] = departure;
+        self.tree.put(place, departure.dispatch(adjustment));
     }
 }
 
@@ -185,15 +222,6 @@ impl Departure {
         self.awaited = awaited_of(self.held, changed);
     }
 
-    /// Ends what is to come, if it is of this row.
-    pub(crate) fn close(&mut self, row: RowId)
-        ensures { self.new ≡ closed row self.old }
-    {
-        if self.of.row.0 == row.0 {
-            self.awaited = None;
-        }
-    }
-
     /// The row's dispatch that is to come.
     fn dispatch(&self, adjustment: Units) -> Option<Dispatch>
         requires fit { IsFit self.now }
@@ -206,6 +234,7 @@ impl Departure {
                 link: self.of.link,
                 row: self.of.row,
                 cycle: held.cycle,
+                place: self.of.place,
             }),
             None => None,
         }
@@ -266,27 +295,45 @@ impl Dispatch {
     }
 }
 
+/// No row of any virtual link has been found.
+fn no_lasts(alloc: Global, network: &Network) -> Result<Vec<Option<usize>>, AllocError>
+    ensures { IfOk result (λ lasts. lasts.items ≡ map (λ vl. None) network.now.vl) }
+{
+    let mut lasts = Vec::new(alloc);
+    for _ in network.vl.as_slice() {
+        lasts.push(None)?;
+    }
+    Ok(lasts)
+}
+
 /// Keeps a further row, if it leaves the device.
 fn add_row(
     rows: &mut Vec<Departure>,
+    lasts: &mut Vec<Option<usize>>,
     device: DeviceId,
     row: RowId,
     entry: &Entry,
 ) -> Result<(), AllocError>
-    requires { IsWithin 0 (2 ^ 40) entry.now.row.offset }
-    ensures { (network : NetworkValue) → IsEntry network row.0 entry.now → AreLeaving network device row.0 rows.old.items
-        → OnOk result (AreLeaving network device (row.0 + 1) rows.new.items) }
+    requires offset { IsWithin 0 (2 ^ 40) entry.now.row.offset }
+    requires vl { entry.now.row.vl.0 < length lasts.old.items }
+    ensures { (network : NetworkValue) → IsEntry network row.0 entry.now
+        → AreLeaving network device row.0 rows.old.items lasts.old.items
+        → OnOk result (AreLeaving network device (row.0 + 1) rows.new.items lasts.new.items) }
 {
-    if entry.source().0 == device.0 {
-        rows.push(departure_of(row, entry))?;
+    if entry.source().0 != device.0 {
+        return Ok(());
     }
+    let place = rows.len();
+    let vl = entry.row.vl.0 as usize;
+    rows.push(departure_of(place, lasts[vl], row, entry))?;
+    lasts[vl] = Some(place);
     Ok(())
 }
 
-/// The row of the entry, of which no frame has been taken.
-fn departure_of(row: RowId, entry: &Entry) -> Departure
+/// The row of the entry at the place, of which no frame has been taken.
+fn departure_of(place: usize, before: Option<usize>, row: RowId, entry: &Entry) -> Departure
     requires { IsWithin 0 (2 ^ 40) entry.now.row.offset }
-    ensures { result ≡ record { of = leaving_by row entry.now; held = None; awaited = None } }
+    ensures { result ≡ fresh_row place before row entry.now }
 {
     Departure {
         of: LeavingRow {
@@ -296,6 +343,8 @@ fn departure_of(row: RowId, entry: &Entry) -> Departure
             offset: entry.row.offset.amount(),
             period: entry.vl.period,
             phase: entry.vl.phase,
+            place,
+            before,
         },
         held: None,
         awaited: None,

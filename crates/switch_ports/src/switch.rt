@@ -11,7 +11,7 @@ ghost use Rattle.run_law.specs.machines.Nodes.{begun_node};
 ghost use Rattle.run_law.specs.control.Permanence.{ripe_as};
 ghost use Rattle.schedule_tables.specs.Schedule.{IsSwitch};
 ghost use Rattle.switch_ports.specs.Corrections.{correction_at};
-ghost use Rattle.switch_ports.specs.Leaving.{IsAwaitedSo, IsFit};
+ghost use Rattle.switch_ports.specs.Departing.{IsAwaitedSo, IsReady};
 ghost use Rattle.switch_ports.specs.Standing.{StandsAs};
 ghost use Rattle.switch_ports.specs.Standpoints.{IsPoint, IsSiteInRange};
 ghost use Rattle.switch_ports.specs.Steps.{CollectsSo, Corrects, DispatchesSo, Hears, HearsSo, IsChangedSo, IsClearedSo, Joins};
@@ -186,7 +186,7 @@ impl Switch {
         requires near_b { IfSome self.old.heard.best_b (IsNear self.old.sync) }
         requires small { IsSmall self.old.sync.adjustment.0 }
         requires reading { IsWithin 0 (2 ^ 60 + 2 ^ 51) moment.reading }
-        requires fit { All IsFit self.old.departures.rows.items }
+        requires ready { IsReady self.old.departures }
         ensures { Corrects self.old moment result self.new }
     {
         let was_synchronised = self.standpoint(moment).is_synchronised();
@@ -237,7 +237,7 @@ impl Switch {
 
     /// Tells which dispatch comes next, after a correction point.
     fn await_dispatch(&mut self, verdict: Verdict)
-        requires fit { All IsFit self.old.departures.rows.items }
+        requires ready { IsReady self.old.departures }
         requires small { IsSmall self.old.sync.adjustment.0 }
         ensures rest { self.new ≡ record self.old { departures = self.new.departures } }
         ensures is { IsAwaitedSo self.old.departures self.old.changed.0 self.old.sync.adjustment.0 verdict
@@ -253,14 +253,16 @@ impl Switch {
 
     /// Does the dispatch that comes next, where one does.
     pub(crate) fn dispatch(&mut self) -> Act
-        requires fit { All IsFit self.old.departures.rows.items }
+        requires place { IfSome self.old.departures.next
+            (λ next. next.place < length self.old.departures.rows.items) }
+        requires ready { IsReady self.old.departures }
         requires small { IsSmall self.old.sync.adjustment.0 }
         ensures { DispatchesSo self.old self.old.departures.next result self.new }
     {
         let Some(next) = self.departures.next else {
             return Act::Correct(0, Verdict::Cleared);
         };
-        self.departures.close(next.row, self.sync.adjustment());
+        self.departures.close(next.place, self.sync.adjustment());
         Act::Dispatch(next.row, next.cycle)
     }
 }

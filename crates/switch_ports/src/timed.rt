@@ -8,7 +8,7 @@ ghost use Rattle.net_plan.specs.declared.network.Network.{Network};
 ghost use Rattle.pcf_codec.specs.Fields.{field};
 ghost use Rattle.run_law.specs.timed.Arrivals.{octets_fault, timed_arrival};
 ghost use Rattle.switch_ports.specs.Intakes.{AreEntrances, IsTakenSo, IsWhole, last_in};
-ghost use Rattle.switch_ports.specs.Leaving.{IsFit, IsKeptSo};
+ghost use Rattle.switch_ports.specs.Departing.{IsKeptSo, IsReady};
 ghost use Rattle.switch_ports.specs.Sites.{IsSiteOf};
 ghost use Rattle.switch_ports.specs.Standpoints.{IsAlive, standpoint_of};
 ghost use Rattle.sync_state.specs.declared.state.State.TheVariants.{Synchronised};
@@ -30,7 +30,7 @@ impl Switch {
         requires octets { 60 ≤ length octets.now }
         requires alive { IsAlive self.old.site at.now }
         requires whole { IsWhole self.old.intake }
-        requires fit { All IsFit self.old.departures.rows.items }
+        requires ready { IsReady self.old.departures }
         ensures rest { self.new ≡ record self.old { intake = self.new.intake; departures = self.new.departures } }
         ensures kept { IsTakenSo self.old.intake self.new.intake result }
         ensures departs { IsKeptSo self.old.departures (amount self.old.site.plan.cycle_length) self.old.changed.0 at.now
