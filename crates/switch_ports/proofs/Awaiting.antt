@@ -1,11 +1,12 @@
 -- What a switch has still to dispatch, from call to call.
-use Rattle.std.proofs.Common.{◌≡◌, ◌∙◌, inl, inr, ℕ, ◌<◌, ◌≤◌, ◌+◌, ◌^◌, ◌*◌, ℤ, pos, ◌≤ℤ◌, ◌+ℤ◌, ◌<ℤ◌, Bool, true, false, ◌&&◌, ◌==◌, List, [], ◌∷◌, ◌++◌, length, get_or, slice_get, Option, Some, None, refl, sym, subst, ap, arith}
+use Rattle.std.proofs.Common.{Global, ◌≡◌, ◌∙◌, inl, inr, ℕ, ◌<◌, ◌≤◌, ◌+◌, ◌^◌, ◌*◌, ℤ, pos, ◌≤ℤ◌, ◌+ℤ◌, ◌<ℤ◌, Bool, true, false, ◌&&◌, ◌==◌, List, [], ◌∷◌, ◌++◌, length, get_or, slice_get, Option, Some, None, refl, sym, subst, ap, arith}
 use Rattle.std.proofs.lemmas.Int.{ints}
 use Rattle.std.proofs.lemmas.Option.{slice_get_within}
 use Rattle.std.proofs.lemmas.Bool.{cases_Bool, eqb-true}
 use Rattle.std.proofs.lemmas.List.Elements.{Contains-get_or, filter-append}
 use Rattle.std.specs.Prelude.{if◌then◌else◌, ⊤, option_map, IfSome, int_lt, filter, option_and_then}
 use Rattle.std.specs.List.{All, Contains, last_or}
+use Rattle.std.specs.declared.vec.Vec.{Vec}
 use Rattle.std.specs.Option.{option_map_or}
 use Rattle.compression.proofs.Elements.{in_none}
 use Rattle.net_plan.specs.Ranges.{IsInRange}
@@ -20,7 +21,11 @@ use Rattle.run_law.specs.machines.Tasks.{offset_of, value_of}
 use Rattle.schedule_tables.proofs.EntryLemmas.{in_range}
 use Rattle.switch_ports.proofs.Amounts.{amount_most}
 use Rattle.switch_ports.proofs.EachRow.{all_each}
-use Rattle.switch_ports.specs.Leaving.{IsFirstOf, AreLeaving, IsFresh, dispatch_at, dispatch_by, AreEach, Awaits, AwaitsIn, AwaitsSo, HasDepartures, HasRow, IsDeparture, IsFit, IsHeldFit, IsLeaving, Reopens, awaited_of, held_by, held_in, is_dispatch_in, last_of, reopened, value_in, with_held, with_taking}
+use Rattle.switch_ports.proofs.RowOrder.{chained_each}
+use Rattle.switch_ports.proofs.Trees.{knows_next}
+use Rattle.switch_ports.specs.Departing.{Awaits, AwaitsIn, AwaitsSo, Changes, HasDepartures, IsBegun, IsDeparture, IsReady, KnowsNext, Reopens, last_of}
+use Rattle.switch_ports.specs.Leaving.{AreChained, AreEach, AreLeaving, HasRow, IsFirstOf, IsFit, IsFresh, IsHeldFit, IsLeaving, awaited_of, dispatch_at, dispatch_by, fresh_row, held_by, held_in, is_dispatch_in, reopened, value_in, with_held, with_taking}
+use Rattle.switch_ports.specs.Tournaments.{AreLeaves, node_at}
 use Rattle.switch_ports.specs.Standing.{StandsAs}
 use Rattle.switch_ports.specs.declared.departures.Departure.{Departure}
 use Rattle.switch_ports.specs.declared.departures.Departures.{Departures}
@@ -42,7 +47,7 @@ later_by x y a h = omega (arith, ints, h)
 pub awaits_later : (state : State) (network : Network) (ds : Departures) (adjustment changed : ℤ) (done : List ClockTask) (x y : ℤ)
     → AwaitsIn state network ds adjustment changed done x → x ≤ℤ y → AwaitsIn state network ds adjustment changed done y
 awaits_later Synchronised network ds adjustment changed done x y h le =
-    record { each = h.each; first = h.first; passed = λ row cycle there. on_from _ _ _ (h.passed row cycle there) le }
+    record { each = h.each; next = h.next; passed = λ row cycle there. on_from _ _ _ (h.passed row cycle there) le }
 awaits_later Off network ds adjustment changed done x y h le = h
 awaits_later Integrating network ds adjustment changed done x y h le = h
 awaits_later Joining network ds adjustment changed done x y h le = h
@@ -118,30 +123,38 @@ has_row f old new place each of (d, (k, lt, at), is) =
     let same : get_or new k d ≡ f d = each.each k d lt ∙ ap f at in
     (f d, subst (Contains new) same (Contains-get_or new k d lt'), ap (λ (o : LeavingRow). o.row.0) (of d) ∙ is)
 
-pub departs_each : (network : Network) (device : DeviceId) (f : Departure → Departure) (old new : List Departure) (before after : List TakenFrame)
-    → AreEach f old new → ((d : Departure) → (f d).of ≡ d.of) → ((d : Departure) → IsDeparture network device before d → IsDeparture network device after (f d))
+pub departs_each : (network : Network) (device : DeviceId) (f : Departure → Departure) (old new : Departures) (before after : List TakenFrame)
+    → Changes f old new → ((d : Departure) → (f d).of ≡ d.of) → ((d : Departure) → IsDeparture network device before d → IsDeparture network device after (f d))
     → HasDepartures network device old before → HasDepartures network device new after
-departs_each network device f old new before after each of step h = record {
-  each = all_each (IsDeparture network device before) (IsDeparture network device after) f old new each step h.each;
-  complete = λ place entry is leaves. has_row f old new place each of (h.complete place entry is leaves);
-}
+departs_each network device f old new before after changes of step h =
+    let each = all_each (IsDeparture network device before) (IsDeparture network device after) f old.rows.items new.rows.items changes.rows step h.each in
+    record {
+      each = each;
+      complete = λ place entry is leaves. has_row f old.rows.items new.rows.items place changes.rows of (h.complete place entry is leaves);
+      ready = record {
+        fit = all_weaker (IsDeparture network device after) IsFit new.rows.items (λ d is. is.fit) each;
+        chained = subst (λ (v : Vec (Option ℕ) Global). AreChained new.rows.items v.items) (sym changes.lasts)
+            (chained_each f old.rows.items new.rows.items old.lasts.items changes.rows of h.ready.chained);
+        tree = changes.tree;
+        count = changes.count ∙ h.ready.count ∙ sym changes.rows.count;
+      };
+    }
 
 -- nothing comes
 pub departs_stopped : (network : Network) (device : DeviceId) (old new : Departures) (taken : List TakenFrame) → new ≡ record old { next = None }
-    → HasDepartures network device old.rows.items taken → HasDepartures network device new.rows.items taken
-departs_stopped network device old new taken same h = subst (λ (ds : Departures). HasDepartures network device ds.rows.items taken) (sym same) h
-
--- its numbers are in their ranges
-pub are_fit : (network : Network) (device : DeviceId) (rows : List Departure) (taken : List TakenFrame) → HasDepartures network device rows taken
-    → All IsFit rows
-are_fit network device rows taken h = all_weaker (IsDeparture network device taken) IsFit rows (λ d is. is.fit) h.each
+    → HasDepartures network device old taken → HasDepartures network device new taken
+departs_stopped network device old new taken same h = subst (λ (ds : Departures). HasDepartures network device ds taken) (sym same) (record {
+  each = h.each;
+  complete = h.complete;
+  ready = record { fit = h.ready.fit; chained = h.ready.chained; tree = h.ready.tree; count = h.ready.count };
+})
 
 -- ---- the adjustment has changed
 
-pub departs_reopened : (network : Network) (device : DeviceId) (changed : ℤ) (old new : List Departure) (taken : List TakenFrame)
-    → AreEach (reopened changed) old new → HasDepartures network device old taken → HasDepartures network device new taken
-departs_reopened network device changed old new taken each h =
-    departs_each network device (reopened changed) old new taken taken each (λ d. refl)
+pub departs_reopened : (network : Network) (device : DeviceId) (changed : ℤ) (old new : Departures) (taken : List TakenFrame)
+    → Changes (reopened changed) old new → HasDepartures network device old taken → HasDepartures network device new taken
+departs_reopened network device changed old new taken changes h =
+    departs_each network device (reopened changed) old new taken taken changes (λ d. refl)
     (λ d is. record {
       of = is.of;
       held = is.held;
@@ -162,8 +175,9 @@ awaits_anew changed d held = (
 pub awaits_reopened : (network : Network) (old new : Departures) (adjustment changed local : ℤ) → Reopens old changed adjustment new
     → Awaits network new adjustment changed [] local
 awaits_reopened network old new adjustment changed local h = record {
-  each = all_each (λ d. ⊤) (AwaitsSo changed []) (reopened changed) old.rows.items new.rows.items h.rows (λ d t. awaits_anew changed d) (λ k d lt. tt);
-  first = h.next;
+  each = all_each (λ d. ⊤) (AwaitsSo changed []) (reopened changed) old.rows.items new.rows.items h.changes.rows (λ d t. awaits_anew changed d)
+      (λ k d lt. tt);
+  next = h.next;
   passed = λ row cycle there. absurd (in_none (dispatching row cycle) there);
 }
 
@@ -186,12 +200,18 @@ fresh_fit network device d range is =
       awaited = rw is.awaited tt;
     }
 
-pub departs_fresh : (network : Network) (device : DeviceId) (rows : List Departure) → IsInRange network → AreLeaving network device (length network.row) rows
-    → HasDepartures network device rows []
-departs_fresh network device rows range are = record {
-  each = all_weaker (IsFresh network device) (IsDeparture network device []) rows
-      (λ d is. record { of = is.of; held = is.held; fit = fresh_fit network device d range is }) are.each;
-  complete = λ place entry is leaves. are.complete place entry is leaves (some_inside network.row place entry.row is.row);
+pub departs_fresh : (network : Network) (device : DeviceId) (ds : Departures) → IsInRange network → IsBegun network device ds
+    → HasDepartures network device ds []
+departs_fresh network device ds range begun = record {
+  each = all_weaker (IsFresh network device) (IsDeparture network device []) ds.rows.items
+      (λ d is. record { of = is.of; held = is.held; fit = fresh_fit network device d range is }) begun.rows.each;
+  complete = λ place entry is leaves. begun.rows.complete place entry is leaves (some_inside network.row place entry.row is.row);
+  ready = record {
+    fit = all_weaker (IsFresh network device) IsFit ds.rows.items (λ d is. fresh_fit network device d range is) begun.rows.each;
+    chained = begun.rows.chained;
+    tree = begun.tree;
+    count = begun.count;
+  };
 }
 
 none_to_come : (changed : ℤ) (done : List ClockTask) (d : Departure) → d.held ≡ None → d.awaited ≡ None → AwaitsSo changed done d
@@ -200,15 +220,19 @@ none_to_come changed done d none absent held = (
   λ is. absurd (let f = sym none ∙ is.is in cc),
 )
 
+fresh_leaves : (network : Network) (device : DeviceId) (ds : Departures) (adjustment : ℤ) → IsBegun network device ds
+    → AreLeaves adjustment ds.rows.items ds.tree.nodes.items
+fresh_leaves network device ds adjustment begun k d lt =
+    begun.none (length ds.rows.items + k) ∙ sym (ap (option_map (dispatch_at adjustment (get_or ds.rows.items k d).of)) (begun.rows.each k d lt).awaited)
+
 pub awaits_fresh : (state : State) (network : Network) (device : DeviceId) (ds : Departures) (adjustment changed local : ℤ)
-    → AreLeaving network device (length network.row) ds.rows.items → ds.next ≡ None → AwaitsIn state network ds adjustment changed [] local
-awaits_fresh Off network device ds adjustment changed local are next = next
-awaits_fresh Integrating network device ds adjustment changed local are next = next
-awaits_fresh Joining network device ds adjustment changed local are next = next
-awaits_fresh Synchronised network device ds adjustment changed local are next = record {
-  each = all_weaker (IsFresh network device) (AwaitsSo changed []) ds.rows.items (λ d is. none_to_come changed [] d is.held is.awaited) are.each;
-  first = rw next (all_weaker (IsFresh network device) (λ d. dispatch_by adjustment d ≡ None) ds.rows.items
-      (λ d is. ap (option_map (dispatch_at adjustment d.of)) is.awaited) are.each);
+    → IsBegun network device ds → AwaitsIn state network ds adjustment changed [] local
+awaits_fresh Off network device ds adjustment changed local begun = begun.next
+awaits_fresh Integrating network device ds adjustment changed local begun = begun.next
+awaits_fresh Joining network device ds adjustment changed local begun = begun.next
+awaits_fresh Synchronised network device ds adjustment changed local begun = record {
+  each = all_weaker (IsFresh network device) (AwaitsSo changed []) ds.rows.items (λ d is. none_to_come changed [] d is.held is.awaited) begun.rows.each;
+  next = knows_next adjustment ds begun.tree begun.count (fresh_leaves network device ds adjustment begun) (begun.next ∙ sym (begun.none 1));
   passed = λ row cycle there. absurd (in_none (dispatching row cycle) there);
 }
 
@@ -289,11 +313,11 @@ of_kept : (length : ℕ) (changed : ℤ) (t : TakenFrame) (d : Departure) (b : B
 of_kept length changed t d true = refl
 of_kept length changed t d false = refl
 
-pub departs_taken : (network : Network) (device : DeviceId) (old new : List Departure) (taken : List TakenFrame) (t : TakenFrame) (changed : ℤ)
-    → t.cycle * amount network.cycle ≤ 2 ^ 62 → AreEach (taken_as (amount network.cycle) changed t) old new → HasDepartures network device old taken
+pub departs_taken : (network : Network) (device : DeviceId) (old new : Departures) (taken : List TakenFrame) (t : TakenFrame) (changed : ℤ)
+    → t.cycle * amount network.cycle ≤ 2 ^ 62 → Changes (taken_as (amount network.cycle) changed t) old new → HasDepartures network device old taken
     → HasDepartures network device new (taken ++ t ∷ [])
-departs_taken network device old new taken t changed fits each h =
-    departs_each network device (taken_as (amount network.cycle) changed t) old new taken (taken ++ t ∷ []) each
+departs_taken network device old new taken t changed fits changes h =
+    departs_each network device (taken_as (amount network.cycle) changed t) old new taken (taken ++ t ∷ []) changes
     (λ d. of_kept (amount network.cycle) changed t d (d.of.vl.0 == t.vl.0))
     (λ d is. departure_kept network device taken t changed d (d.of.vl.0 == t.vl.0) refl fits is) h
 
@@ -320,17 +344,18 @@ awaits_kept network device t changed x done d true passed le is h held =
     )
 
 pub awaits_taken : (state : State) (network : Network) (device : DeviceId) (old new : Departures) (taken : List TakenFrame) (t : TakenFrame)
-    (adjustment changed x : ℤ) (done : List ClockTask) → state ≡ Synchronised → HasDepartures network device old.rows.items taken
-    → AreEach (taken_as (amount network.cycle) changed t) old.rows.items new.rows.items → IsFirstOf adjustment new.rows.items new.next
+    (adjustment changed x : ℤ) (done : List ClockTask) → state ≡ Synchronised → HasDepartures network device old taken
+    → Changes (taken_as (amount network.cycle) changed t) old new
+    → (AreLeaves adjustment old.rows.items old.tree.nodes.items → KnowsNext adjustment new)
     → AwaitsIn state network old adjustment changed done x → x ≤ℤ t.at → AwaitsIn state network new adjustment changed done t.at
-awaits_taken Off network device old new taken t adjustment changed x done is has each first h le = absurd cc
-awaits_taken Integrating network device old new taken t adjustment changed x done is has each first h le = absurd cc
-awaits_taken Joining network device old new taken t adjustment changed x done is has each first h le = absurd cc
-awaits_taken Synchronised network device old new taken t adjustment changed x done is has each first h le = record {
+awaits_taken Off network device old new taken t adjustment changed x done is has changes next h le = absurd cc
+awaits_taken Integrating network device old new taken t adjustment changed x done is has changes next h le = absurd cc
+awaits_taken Joining network device old new taken t adjustment changed x done is has changes next h le = absurd cc
+awaits_taken Synchronised network device old new taken t adjustment changed x done is has changes next h le = record {
   each = all_each (λ d. IsDeparture network device taken d × AwaitsSo changed done d) (AwaitsSo changed done) (taken_as (amount network.cycle) changed t)
-      old.rows.items new.rows.items each
+      old.rows.items new.rows.items changes.rows
       (λ d both. awaits_kept network device t changed x done d (d.of.vl.0 == t.vl.0) h.passed le both.0.of both.1)
       (λ k d lt. (has.each k d lt, h.each k d lt));
-  first = first;
+  next = next h.next.leaves;
   passed = λ row cycle there. on_from _ _ _ (h.passed row cycle there) le;
 }

@@ -19,7 +19,7 @@ use Rattle.switch_ports.proofs.Fair.{HasRoom}
 use Rattle.switch_ports.proofs.Hearings.{fresh_stands, nothing_done, silent, times_three, times_two}
 use Rattle.switch_ports.proofs.Rooms.{expected_is, room}
 use Rattle.switch_ports.specs.Corrections.{correction_at, reading_of}
-use Rattle.switch_ports.specs.Leaving.{AreLeaving}
+use Rattle.switch_ports.specs.Departing.{IsBegun}
 use Rattle.switch_ports.specs.Sites.{IsSiteOf}
 use Rattle.switch_ports.specs.Standing.{HasTaken, IsAccepted, StandsAs}
 use Rattle.switch_ports.specs.Steady.{IsFair}
@@ -61,11 +61,11 @@ few : (l : ℕ) → 1 ≤ l + 2
 few l = omega arith
 
 pub begun_stands : (s : Switch) (network : Network) (device : DeviceId) → IsAccepted network → IsSiteOf network device s.site
-    → HasTaken network device s.intake [] → AreLeaving network device (length network.row) s.departures.rows.items → s.departures.next ≡ None → s.sync ≡ begun s.site.plan (start_of network device) → IfSome (start_of network device) (IsWithin 0 (2 ^ 40))
+    → HasTaken network device s.intake [] → IsBegun network device s.departures → s.sync ≡ begun s.site.plan (start_of network device) → IfSome (start_of network device) (IsWithin 0 (2 ^ 40))
     → s.heard ≡ silence → s.collector ≡ fresh s.site.precision.0 s.site.calc.0 → s.changed ≡ s.sync.adjustment
     → s.corrects_at ≡ option_and_then (λ cycle. correction_at s.site cycle s.sync.adjustment.0 s.changed.0) (next_point s.sync)
     → StandsAs s network device (begun_node network device)
-begun_stands s network device accepted site intake rows next sync start heard collector changed corrects =
+begun_stands s network device accepted site intake rows sync start heard collector changed corrects =
     let standing : begun (plan_of network device) (start_of network device) ≡ s.sync =
     sym (sync ∙ ap (λ (p : SyncPlan). begun p (start_of network device)) site.plan) in
     let adjustment : s.sync.adjustment.0 ≡ (adjustment_at_start (start_of network device)).0 = ap (λ (x : Standing). x.adjustment.0) (sym standing) in
@@ -112,6 +112,6 @@ begun_stands s network device accepted site intake rows next sync start heard co
         masters = λ k d lt. absurd (omega (arith, lt));
         from_zero = λ k d lt. absurd (omega (arith, lt));
       });
-      departs = departs_fresh network device s.departures.rows.items accepted.range rows;
-      awaits = awaits_fresh (state_at_start (start_of network device)) network device s.departures _ _ _ rows next;
+      departs = departs_fresh network device s.departures accepted.range rows;
+      awaits = awaits_fresh (state_at_start (start_of network device)) network device s.departures _ _ _ rows;
     }

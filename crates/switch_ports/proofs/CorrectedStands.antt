@@ -36,7 +36,7 @@ use Rattle.switch_ports.specs.Standing.{HasCollected, HasTaken, StandsAs}
 use Rattle.switch_ports.specs.Steady.{IsFair, is_timed}
 use Rattle.switch_ports.specs.Steps.{Corrects}
 use Rattle.switch_ports.specs.declared.intake.Intake.{Intake}
-use Rattle.switch_ports.specs.Leaving.{Awaits, HasDepartures, Reopens}
+use Rattle.switch_ports.specs.Departing.{Awaits, HasDepartures, Reopens}
 use Rattle.switch_ports.specs.declared.departures.Departures.{Departures}
 use Rattle.switch_ports.specs.declared.switch.Switch.{Switch}
 use Rattle.sync_state.specs.Calls.{after, reached_point}
@@ -277,7 +277,7 @@ corrected s new network device node moment cycle by st later timed lt due h =
           kept_collects s new network device node (is_synchronised node.standing.state) st.collects
           (subst (λ (x : Standing). new.collector ≡ (if is_synchronised x.state then s.collector else fresh s.collector.ow s.collector.calc)) (sym st.standing)
           h.collector);
-      departs = departs_reopened network device new.changed.0 s.departures.rows.items new.departures.rows.items node.taken h.departures.rows st.departs;
+      departs = departs_reopened network device new.changed.0 s.departures new.departures node.taken h.departures.changes st.departs;
       awaits =
           subst (λ (z : ℤ). Awaits network new.departures standing.adjustment.0 z [] (moment.reading.0 +ℤ standing.adjustment.0))
           (h.changed ∙ ap (λ (z : ℤ). moment.reading.0 +ℤ z) adjustment)
@@ -344,7 +344,7 @@ cleared s new network device node moment cycle st later timed own h =
         fair = λ lt ch. silent (IsFair network standing) new.heard ch h.heard;
       };
       collects = subst (λ (c : Collecting). HasCollected c network device node.points node.emitted) (sym h.collector) st.collects;
-      departs = subst (λ (ds : Departures). HasDepartures network device ds.rows.items node.taken) (sym h.departures) st.departs;
+      departs = subst (λ (ds : Departures). HasDepartures network device ds node.taken) (sym h.departures) st.departs;
       awaits =
           awaits_cleared node.standing.state network s.departures new.departures node.standing.adjustment.0 node.changed node.done
           (node.done ++ correcting cycle ∷ []) _ _ at.joining h.departures st.awaits;

@@ -1,7 +1,8 @@
 -- How a switch stands when it has dispatched a row's frame.
-use Rattle.std.proofs.Common.{◌≡◌, ◌∙◌, inl, inr, ℕ, ◌<◌, ℤ, ◌≤ℤ◌, ◌<ℤ◌, Bool, true, false, ◌==◌, List, [], ◌∷◌, ◌++◌, Option, Some, None, refl, sym, subst, ap, arith}
+use Rattle.std.proofs.Common.{get_or, length, ◌≡◌, ◌∙◌, inl, inr, ℕ, ◌<◌, ℤ, ◌≤ℤ◌, ◌<ℤ◌, Bool, true, false, ◌==◌, List, [], ◌∷◌, ◌++◌, Option, Some, None, refl, sym, subst, ap, arith}
 use Rattle.std.proofs.lemmas.Bool.{eqb-true}
-use Rattle.std.proofs.lemmas.List.Elements.{All-contains, Contains-append_left, Contains-push, Contains-push_cases}
+use Rattle.std.proofs.lemmas.List.{get_or_default}
+use Rattle.std.proofs.lemmas.List.Elements.{All-contains, All-contains_itself, Contains-append_left, Contains-push, Contains-push_cases}
 use Rattle.std.specs.Prelude.{IfSome, if◌then◌else◌, option_and_then}
 use Rattle.std.specs.List.{Contains}
 use Rattle.net_plan.specs.declared.ids.DeviceId.{DeviceId}
@@ -17,10 +18,13 @@ use Rattle.schedule_tables.proofs.EntryLemmas.{one_entry}
 use Rattle.schedule_tables.specs.Entries.{IsEntry}
 use Rattle.switch_ports.proofs.Awaiting.{departs_each, later_by}
 use Rattle.switch_ports.proofs.EachRow.{all_each}
+use Rattle.switch_ports.proofs.RowOrder.{distinct}
 use Rattle.switch_ports.proofs.Dispatching.{IsNextOf, its_awaits, next_of}
 use Rattle.switch_ports.proofs.FirstActs.{EmitsNone, first_dispatch, nothing_due, value_reached}
 use Rattle.switch_ports.proofs.Standings.{further, through}
-use Rattle.switch_ports.specs.Leaving.{AreEach, Awaits, AwaitsIn, AwaitsSo, HasDepartures, IsDeparture, IsFirstOf, IsLeaving, closed, held_by, held_in, last_of, leaving_by}
+use Rattle.switch_ports.specs.Departing.{Awaits, AwaitsIn, AwaitsSo, Changes, HasDepartures, IsDeparture, IsToCome, KnowsNext}
+use Rattle.switch_ports.specs.Leaving.{AreChained, closed, held_in}
+use Rattle.switch_ports.specs.Tournaments.{AreLeaves}
 use Rattle.switch_ports.specs.Standing.{StandsAs}
 use Rattle.switch_ports.specs.Steps.{Dispatches, DispatchesSo}
 use Rattle.switch_ports.specs.declared.departures.Departure.{Departure}
@@ -50,58 +54,69 @@ departure_closed network device taken d true is = record {
   fit = record { offset = is.fit.offset; period = is.fit.period; held = is.fit.held; awaited = tt };
 }
 
-departs_closed : (network : Network) (device : DeviceId) (row : RowId) (old new : List Departure) (taken : List TakenFrame) → AreEach (closed row) old new
+departs_closed : (network : Network) (device : DeviceId) (place : ℕ) (old new : Departures) (taken : List TakenFrame) → Changes (closed place) old new
     → HasDepartures network device old taken → HasDepartures network device new taken
-departs_closed network device row old new taken each h =
-    departs_each network device (closed row) old new taken taken each (λ d. of_closed d (d.of.row.0 == row.0))
-    (λ d is. departure_closed network device taken d (d.of.row.0 == row.0) is) h
+departs_closed network device place old new taken changes h =
+    departs_each network device (closed place) old new taken taken changes (λ d. of_closed d (d.of.place == place))
+    (λ d is. departure_closed network device taken d (d.of.place == place) is) h
 
-same_of : (network : Network) (device : DeviceId) (a b : LeavingRow) → IsLeaving network device a → IsLeaving network device b → a.row.0 ≡ b.row.0 → a ≡ b
-same_of network device a b x y e =
-    let row : a.row ≡ b.row = ap (λ (n : ℕ). record { 0 = n }) e in
-    let entry : x.entry ≡ y.entry = one_entry network a.row.0 x.entry y.entry x.is (subst (λ (n : ℕ). IsEntry network n y.entry) (sym e) y.is) in
-    x.kept ∙ ap (λ (r : RowId). leaving_by r x.entry) row ∙ ap (leaving_by b.row) entry ∙ sym y.kept
+-- the place of a row that is there
+its_place : (rows : List Departure) (lasts : List (Option ℕ)) (d : Departure) → AreChained rows lasts → (there : Contains rows d) → d.of.place ≡ there.0
+its_place rows lasts d chained (k, lt, at) = ap (λ (x : Departure). x.of.place) (sym at) ∙ chained.places k d lt
 
--- rows of one place hold one frame
-same_held : (network : Network) (device : DeviceId) (taken : List TakenFrame) (a b : Departure) → IsDeparture network device taken a
-    → IsDeparture network device taken b → a.of.row.0 ≡ b.of.row.0 → a.held ≡ b.held
-same_held network device taken a b x y e =
-    x.held
-    ∙ ap (λ (o : LeavingRow). option_and_then (λ (t : TakenFrame). held_by (amount network.cycle) o t.cycle t.at) (last_of taken o.vl))
-    (same_of network device a.of b.of x.of y.of e) ∙ sym y.held
+-- one row is at a place
+one_place : (rows : List Departure) (lasts : List (Option ℕ)) (a b : Departure) → AreChained rows lasts → Contains rows a → Contains rows b
+    → a.of.place ≡ b.of.place → a ≡ b
+one_place rows lasts a b chained (k, lt, at) (j, inside, here) e =
+    let same : k ≡ j = sym (its_place rows lasts a chained (k, lt, at)) ∙ e ∙ its_place rows lasts b chained (j, inside, here) in
+    sym at ∙ ap (λ n. get_or rows n a) same ∙ get_or_default rows j a b inside ∙ here
+
+-- and a row is at one place
+one_row : (rows : List Departure) (lasts : List (Option ℕ)) (a b : Departure) → AreChained rows lasts → Contains rows a → Contains rows b
+    → a.of.row.0 ≡ b.of.row.0 → a.of.place ≡ b.of.place
+one_row rows lasts a b chained (k, lt, at) (j, inside, here) e =
+    let other : get_or rows j a ≡ b = get_or_default rows j a b inside ∙ here in
+    let same : k ≡ j = distinct rows lasts k j a chained lt inside
+    (ap (λ (x : Departure). x.of.row.0) at ∙ e ∙ ap (λ (x : Departure). x.of.row.0) (sym other)) in
+    its_place rows lasts a chained (k, lt, at) ∙ same ∙ sym (its_place rows lasts b chained (j, inside, here))
 
 not_equal : (a b : ℕ) → (a == b) ≡ false → a ≡ b → ⊥
 not_equal a b e h = grind (arith, e, h)
 
 awaits_closed : (s : Switch) (network : Network) (device : DeviceId) (node : Node) (next : Dispatch) (d : Departure) (b : Bool)
-    → StandsAs s network device node → IsNextOf s network node next → (d.of.row.0 == next.row.0) ≡ b → IsDeparture network device node.taken d
+    → StandsAs s network device node → IsNextOf s network node next → (d.of.place == next.place) ≡ b → Contains s.departures.rows.items d
     → AwaitsSo node.changed node.done d
     → AwaitsSo node.changed (node.done ++ dispatching next.row next.cycle ∷ []) (if b then record d { awaited = None } else d)
-awaits_closed s network device node next d true st n e is h held = (
+awaits_closed s network device node next d true st n e here h held = (
   λ f. absurd cc,
   λ come.
-      let mine = All-contains (IsDeparture network device node.taken) s.departures.rows.items n.d st.departs.each n.there in
+      let place : next.place ≡ n.d.of.place = ap (λ (x : Dispatch). x.place) n.is in
+      let mine : d ≡ n.d = one_place s.departures.rows.items s.departures.lasts.items d n.d st.departs.ready.chained here n.there
+      (eqb-true d.of.place next.place e ∙ place) in
       let awaits = its_awaits s network device node st n.sync in
       let first = held_in (amount network.cycle) n.d.of next.cycle in
       let there = (All-contains (AwaitsSo node.changed node.done) s.departures.rows.items n.d awaits.each n.there first).0 n.awaited in
-      let row : d.of.row.0 ≡ next.row.0 = eqb-true d.of.row.0 next.row.0 e in
-      let its_row : next.row.0 ≡ n.d.of.row.0 = ap (λ (x : Dispatch). x.row.0) n.is in
-      let same : Some held ≡ Some first = sym come.is ∙ same_held network device node.taken d n.d is mine (row ∙ its_row) ∙ there.is in
+      let same : Some held ≡ Some first = sym come.is ∙ ap (λ (x : Departure). x.held) mine ∙ there.is in
       let one : held ≡ first = cc in
+      let row : next.row ≡ d.of.row = ap (λ (x : Dispatch). x.row) n.is ∙ ap (λ (x : Departure). x.of.row) (sym mine) in
       let deed : dispatching next.row next.cycle ≡ dispatching d.of.row held.cycle =
-      ap (λ (r : RowId). dispatching r next.cycle) (ap (λ (m : ℕ). record { 0 = m }) (sym row))
-      ∙ ap (λ (x : Held). dispatching d.of.row x.cycle) (sym one) in
+      ap (λ (r : RowId). dispatching r next.cycle) row ∙ ap (λ (x : Held). dispatching d.of.row x.cycle) (sym one) in
       absurd (come.not_yet (subst (Contains (node.done ++ dispatching next.row next.cycle ∷ [])) deed
       (Contains-push node.done (dispatching next.row next.cycle)))),
 )
-awaits_closed s network device node next d false st n e is h held = (
+awaits_closed s network device node next d false st n e here h held = (
   λ f.
       let come = (h held).0 f in record {
         is = come.is;
         ahead = come.ahead;
         not_yet = λ there. elim (Contains-push_cases node.done (dispatching next.row next.cycle) (dispatching d.of.row held.cycle) there) [
           | inl old ↦ come.not_yet old
-          | inr new ↦ not_equal d.of.row.0 next.row.0 e (let same : next.row ≡ d.of.row = cc in ap (λ (r : RowId). r.0) (sym same))
+          | inr new ↦
+              let row : next.row ≡ d.of.row = cc in
+              let its_row : d.of.row.0 ≡ n.d.of.row.0 = ap (λ (r : RowId). r.0) (sym row) ∙ ap (λ (x : Dispatch). x.row.0) n.is in
+              not_equal d.of.place next.place e
+              (one_row s.departures.rows.items s.departures.lasts.items d n.d st.departs.ready.chained here n.there its_row
+              ∙ ap (λ (x : Dispatch). x.place) (sym n.is))
         ];
       },
   λ come. (h held).1 (record {
@@ -110,6 +125,16 @@ awaits_closed s network device node next d false st n e is h held = (
     not_yet = λ there. come.not_yet (Contains-append_left node.done (dispatching next.row next.cycle ∷ []) (dispatching d.of.row held.cycle) there);
   }),
 )
+
+-- the row that dispatches next is there
+pub next_inside : (s : Switch) (network : Network) (device : DeviceId) (node : Node) (o : Option Dispatch) → StandsAs s network device node
+    → s.departures.next ≡ o → IfSome o (λ next. next.place < length s.departures.rows.items)
+next_inside s network device node None st e = tt
+next_inside s network device node (Some next) st e =
+    let n = next_of s network device node next st e in
+    let place : next.place ≡ n.there.0 = ap (λ (x : Dispatch). x.place) n.is
+    ∙ its_place s.departures.rows.items s.departures.lasts.items n.d st.departs.ready.chained n.there in
+    subst (λ k. k < length s.departures.rows.items) (sym place) n.there.1
 
 passed_more : (network : Network) (node : Node) (next : Dispatch) (x y : ℤ) (row : RowId) (cycle : ℕ) → x ≤ℤ y
     → ((row : RowId) (cycle : ℕ) → Contains node.done (dispatching row cycle) → value_of network (dispatching row cycle) ≤ℤ x)
@@ -165,16 +190,17 @@ dispatched_stands s new network device node moment next st later e due h =
           };
       intake = st.intake;
       collects = st.collects;
-      departs = departs_closed network device next.row s.departures.rows.items new.departures.rows.items node.taken h.rows st.departs;
+      departs = departs_closed network device next.place s.departures new.departures node.taken h.changes st.departs;
       awaits =
           back_in node.standing.state network new.departures node.standing.adjustment.0 node.changed (node.done ++ dispatching next.row next.cycle ∷ []) _ n.sync
           (record {
-            each = all_each (λ d. IsDeparture network device node.taken d × AwaitsSo node.changed node.done d)
-                (AwaitsSo node.changed (node.done ++ dispatching next.row next.cycle ∷ [])) (closed next.row) s.departures.rows.items new.departures.rows.items
-                h.rows
-                (λ d both. awaits_closed s network device node next d (d.of.row.0 == next.row.0) st n refl both.0 both.1)
-                (λ k d lt. (st.departs.each k d lt, awaits.each k d lt));
-            first = subst (λ (z : ℤ). IsFirstOf z new.departures.rows.items new.departures.next) adjustment h.next_is;
+            each = all_each (λ d. Contains s.departures.rows.items d × AwaitsSo node.changed node.done d)
+                (AwaitsSo node.changed (node.done ++ dispatching next.row next.cycle ∷ [])) (closed next.place) s.departures.rows.items
+                new.departures.rows.items h.changes.rows
+                (λ d both. awaits_closed s network device node next d (d.of.place == next.place) st n refl both.0 both.1)
+                (λ k d lt. (All-contains_itself s.departures.rows.items k d lt, awaits.each k d lt));
+            next = subst (λ (z : ℤ). KnowsNext z new.departures) adjustment
+                (h.knows (subst (λ (z : ℤ). AreLeaves z s.departures.rows.items s.departures.tree.nodes.items) (sym adjustment) awaits.next.leaves));
             passed = λ row cycle there. passed_more network node next _ _ row cycle (later_by node.last.reading.0 moment.reading.0 node.standing.adjustment.0 later)
                 awaits.passed (value_reached _ node.standing.adjustment.0 moment.reading.0 due) there;
           });

@@ -21,7 +21,8 @@ use Rattle.schedule_tables.specs.Windows.{OccursIn}
 use Rattle.schedule_tables.specs.declared.entry.Entry.{Entry}
 use Rattle.schedule_tables.specs.declared.rule.Rule.TheVariants as rules
 use Rattle.switch_ports.proofs.Awaiting.{held_of, held_so, value_is}
-use Rattle.switch_ports.specs.Leaving.{Awaits, AwaitsIn, AwaitsSo, IsDeparture, IsFirstOf, IsLeaving, Precedes, dispatch_at, dispatch_by, held_by, held_in, is_dispatch_in, last_of, value_in}
+use Rattle.switch_ports.specs.Departing.{Awaits, AwaitsIn, AwaitsSo, IsDeparture, last_of}
+use Rattle.switch_ports.specs.Leaving.{IsFirstOf, IsLeaving, Precedes, dispatch_at, dispatch_by, held_by, held_in, is_dispatch_in, value_in}
 use Rattle.switch_ports.specs.Standing.{IsAccepted, StandsAs}
 use Rattle.switch_ports.specs.declared.departures.Departure.{Departure}
 use Rattle.switch_ports.specs.declared.departures.Departures.{Departures}
@@ -228,7 +229,7 @@ its_state s network device node next st e = elim (awaits_or_none node.standing.s
 pub its_first : (s : Switch) (network : Network) (device : DeviceId) (node : Node) (o : Option Dispatch) → StandsAs s network device node
     → node.standing.state ≡ Synchronised → s.departures.next ≡ o → IsFirstOf node.standing.adjustment.0 s.departures.rows.items o
 its_first s network device node o st sync e =
-    subst (IsFirstOf node.standing.adjustment.0 s.departures.rows.items) e (its_awaits s network device node st sync).first
+    subst (IsFirstOf node.standing.adjustment.0 s.departures.rows.items) e (its_awaits s network device node st sync).next.first
 
 -- the row that dispatches next
 pub record IsNextOf (s : Switch) (network : Network) (node : Node) (next : Dispatch) : Type 0 where

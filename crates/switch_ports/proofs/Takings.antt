@@ -28,7 +28,8 @@ use Rattle.switch_ports.proofs.Awaiting.{awaits_taken, departs_taken, later_by, 
 use Rattle.switch_ports.proofs.Entrances.{enters, find_of, some_at}
 use Rattle.switch_ports.proofs.Standings.{called_stands, further, through}
 use Rattle.switch_ports.specs.Intakes.{AreEntrances, IsTakenSo, IsWhole, Takes, cycle_of, entering_by, entrance_cmp, fault_arrival, fault_of, first_entering, last_in, row_arrival}
-use Rattle.switch_ports.specs.Leaving.{AreEach, AwaitsIn, HasDepartures, IsFirstOf, IsKeptSo, Keeps}
+use Rattle.switch_ports.specs.Departing.{AwaitsIn, Changes, HasDepartures, IsKeptSo, Keeps, KnowsNext}
+use Rattle.switch_ports.specs.Tournaments.{AreLeaves}
 use Rattle.switch_ports.specs.Standing.{HasTaken, StandsAs, last_by}
 use Rattle.switch_ports.specs.declared.departures.Departures.{Departures}
 use Rattle.switch_ports.specs.declared.standpoint.Standpoint.{Standpoint as Place}
@@ -149,7 +150,7 @@ not_accepted ds size changed at (arrivals.PassesAndWaits frame way point) never 
 
 with_intake : (s : Switch) (intake : Intake) (ds : Departures) (network : Network) (device : DeviceId) (node : Node) (moment : Moment)
     (taken : List TakenFrame) → StandsAs s network device node → node.last.reading.0 ≤ℤ moment.reading.0 → HasTaken network device intake taken
-    → HasDepartures network device ds.rows.items taken
+    → HasDepartures network device ds taken
     → AwaitsIn node.standing.state network ds node.standing.adjustment.0 node.changed node.done (moment.reading.0 +ℤ node.standing.adjustment.0)
     → StandsAs (record s { intake = intake; departures = ds }) network device (called moment arriving (record node { taken = taken }))
 with_intake s intake ds network device node moment taken st later has departs awaits = record {
@@ -195,18 +196,18 @@ accepted_stands s intake ds network device node moment at vl cycle st later here
     let length_is : amount s.site.plan.cycle_length ≡ amount network.cycle = ap (λ (p : SyncPlan). amount p.cycle_length) st.site.plan in
     let at_is : at.reading.0 +ℤ at.adjustment.0 ≡ local =
     ap (λ (u : Units). u.0 +ℤ at.adjustment.0) here.reading ∙ ap (λ (u : Units). moment.reading.0 +ℤ u.0) adjustment in
-    let rows : AreEach (taken_as (amount network.cycle) node.changed t) s.departures.rows.items ds.rows.items =
-    subst (λ (z : ℤ). AreEach (taken_as (amount network.cycle) z t) s.departures.rows.items ds.rows.items) (sym st.changed)
-    (subst (λ (n : ℕ). AreEach (taken_as n s.changed.0 t) s.departures.rows.items ds.rows.items) length_is
-    (subst (λ (z : ℤ). AreEach (taken_as (amount s.site.plan.cycle_length) s.changed.0 (record { vl = vl; cycle = cycle; at = z })) s.departures.rows.items
-    ds.rows.items) at_is keeps.rows)) in
+    let changes : Changes (taken_as (amount network.cycle) node.changed t) s.departures ds =
+    subst (λ (z : ℤ). Changes (taken_as (amount network.cycle) z t) s.departures ds) (sym st.changed)
+    (subst (λ (n : ℕ). Changes (taken_as n s.changed.0 t) s.departures ds) length_is
+    (subst (λ (z : ℤ). Changes (taken_as (amount s.site.plan.cycle_length) s.changed.0 (record { vl = vl; cycle = cycle; at = z })) s.departures ds) at_is
+    keeps.changes)) in
     let state : node.standing.state ≡ Synchronised = ap (λ (x : Standing). x.state) st.standing ∙ sym here.state ∙ keeps.synchronised in
     with_intake s intake ds network device node moment (node.taken ++ t ∷ []) st later (has_taken network device s.intake intake node.taken t st.intake takes)
-    (departs_taken network device s.departures.rows.items ds.rows.items node.taken t node.changed
-    (subst (λ (n : ℕ). cycle * n ≤ 2 ^ 62) length_is keeps.in_range) rows st.departs)
+    (departs_taken network device s.departures ds node.taken t node.changed
+    (subst (λ (n : ℕ). cycle * n ≤ 2 ^ 62) length_is keeps.in_range) changes st.departs)
     (awaits_taken node.standing.state network device s.departures ds node.taken t node.standing.adjustment.0 node.changed
-    (node.last.reading.0 +ℤ node.standing.adjustment.0) node.done state st.departs rows
-    (subst (λ (u : Units). IsFirstOf u.0 ds.rows.items ds.next) adjustment keeps.next) st.awaits
+    (node.last.reading.0 +ℤ node.standing.adjustment.0) node.done state st.departs changes
+    (subst (λ (u : Units). AreLeaves u.0 s.departures.rows.items s.departures.tree.nodes.items → KnowsNext u.0 ds) adjustment keeps.next) st.awaits
     (later_by node.last.reading.0 moment.reading.0 node.standing.adjustment.0 later))
 
 not_taken : (s : Switch) (intake : Intake) (ds : Departures) (network : Network) (device : DeviceId) (node : Node) (moment : Moment)

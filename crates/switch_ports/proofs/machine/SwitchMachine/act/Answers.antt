@@ -12,10 +12,9 @@ use Rattle.run_law.specs.machines.Nodes.{acting}
 use Rattle.run_law.specs.machines.Tasks.{emitting}
 use Rattle.run_law.specs.records.Frames.{integration_frame}
 use Rattle.run_law.specs.scenario.Devices.{plan_of}
-use Rattle.switch_ports.proofs.Awaiting.{are_fit}
 use Rattle.switch_ports.proofs.CorrectedStands.{corrects_stands}
 use Rattle.switch_ports.proofs.CorrectionPoints.{is_near, never_some, number_within, some_due, timed_next}
-use Rattle.switch_ports.proofs.DispatchStands.{dispatch_acts}
+use Rattle.switch_ports.proofs.DispatchStands.{dispatch_acts, next_inside}
 use Rattle.switch_ports.proofs.Emissions.{first_emission, may_before, reached_by, sent_stands, with_sent}
 use Rattle.switch_ports.proofs.FirstActs.{EmitsNone, first_correction, its_next, value_reached}
 use Rattle.switch_ports.proofs.HeardKinds.{heard_so, heard_stands}
@@ -70,11 +69,14 @@ returns-in-Some c network device node st may due =
           c.correct.ensures,
     )
 
-pub dispatch-requires-clause-fit : goal.dispatch-requires-clause-fit
-dispatch-requires-clause-fit c = let r = c.requires in are_fit r.0 r.1 c.args.self.now.departures.rows.items r.2.taken r.3.departs
+pub dispatch-requires-clause-place : goal.dispatch-requires-clause-place
+dispatch-requires-clause-place c = let r = c.requires in next_inside c.args.self.now r.0 r.1 r.2 c.args.self.now.departures.next r.3 refl
 
-pub correct-requires-clause-fit : goal.correct-requires-clause-fit
-correct-requires-clause-fit c = let r = c.requires in are_fit r.0 r.1 c.args.self.now.departures.rows.items r.2.taken r.3.departs
+pub dispatch-requires-clause-ready : goal.dispatch-requires-clause-ready
+dispatch-requires-clause-ready c = let r = c.requires in r.3.departs.ready
+
+pub correct-requires-clause-ready : goal.correct-requires-clause-ready
+correct-requires-clause-ready c = let r = c.requires in r.3.departs.ready
 
 pub returns-then-not-is_reached : goal.returns-then-not-is_reached
 returns-then-not-is_reached c network device node st may due =

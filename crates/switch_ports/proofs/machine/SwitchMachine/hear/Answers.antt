@@ -6,7 +6,6 @@ use Rattle.run_law.specs.device.Standpoints.{Standpoint as Point}
 use Rattle.run_law.specs.machines.Answers.{after_arrival, arrival_at, called}
 use Rattle.run_law.specs.machines.Nodes.{Node, arriving, last_taken_by, standpoint_at}
 use Rattle.run_law.specs.timed.Arrivals.{timed_arrival}
-use Rattle.switch_ports.proofs.Awaiting.{are_fit}
 use Rattle.switch_ports.proofs.Standings.{alive, called_stands, control_none, is_no_type, is_type, point_same}
 use Rattle.switch_ports.proofs.Takings.{arrival_stands, is_whole}
 use Rattle.switch_ports.proofs.machine.SwitchMachine.hear.Goals as goal
@@ -64,5 +63,5 @@ returns-else-is_pcf c network device node st may arrives =
           heard.kept heard.departs),
     )
 
-pub hear_timed-requires-clause-fit : goal.hear_timed-requires-clause-fit
-hear_timed-requires-clause-fit c = let r = c.requires in are_fit r.0 r.1 c.args.self.now.departures.rows.items r.2.taken r.3.departs
+pub hear_timed-requires-clause-ready : goal.hear_timed-requires-clause-ready
+hear_timed-requires-clause-ready c = let r = c.requires in r.3.departs.ready

@@ -7,7 +7,7 @@ use Rattle.switch_ports.proofs.Beginning.{begun_stands}
 use Rattle.switch_ports.proofs.Ranges.{calc_short, site_in_range}
 use Rattle.switch_ports.proofs.Takings.{taken_none}
 use Rattle.switch_ports.proofs.switch.Switch.new.Goals as goal
-use Rattle.switch_ports.specs.Leaving.{AreLeaving}
+use Rattle.switch_ports.specs.Departing.{IsBegun}
 use Rattle.switch_ports.specs.Sites.{IsSiteOf}
 use Rattle.switch_ports.specs.Standing.{HasTaken}
 use Rattle.sync_state.specs.Standing.{begun}
@@ -35,8 +35,7 @@ returns c =
     c.in_ok-intake.ensures.taken in
     begun_stands _ c.args.accepted.now c.args.device (record { range = e.range; rules = e.rules }) is
     (subst (λ (n : Network). HasTaken n c.args.device c.in_ok-intake.intake []) e.value taken)
-    (subst (λ (n : Network). AreLeaving n c.args.device (length n.row) c.in_ok-departures.departures.rows.items) e.value c.in_ok-departures.ensures.rows)
-    c.in_ok-departures.ensures.next
+    (subst (λ (n : Network). IsBegun n c.args.device c.in_ok-departures.departures) e.value c.in_ok-departures.ensures)
     (c.new-sync.ensures.value ∙ ap (begun c.in_ok-site.site.plan) start)
     (subst (λ (o : Option Units). IfSome o (IsWithin 0 (2 ^ 40))) start c.start_of.ensures.range)
     c.new-4.ensures.value c.new-collector.ensures.value c.adjustment-changed.ensures c.next_correction_at-corrects_at.ensures
