@@ -66,4 +66,3 @@ precedes_on a b c (inr (x, inl u)) (inr (y, inl v)) = inr (x ∙ y, inl (omega (
 precedes_on a b c (inr (x, inl u)) (inr (y, inr (f, v))) = inr (x ∙ y, inl (omega (arith, u, f)))
 precedes_on a b c (inr (x, inr (e, u))) (inr (y, inl v)) = inr (x ∙ y, inl (omega (arith, e, v)))
 precedes_on a b c (inr (x, inr (e, u))) (inr (y, inr (f, v))) = inr (x ∙ y, inr (e ∙ f, omega (arith, u, v)))
-

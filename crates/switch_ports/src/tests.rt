@@ -6,6 +6,7 @@ use crate::departures::{Departure, Dispatch, Held, LeavingRow, Taking, earlier};
 use crate::intake::EnteringRow;
 use crate::site::{Peer, Port, Site};
 use crate::standpoint::Standpoint;
+use crate::tournament::Tournament;
 use net_plan::{LinkId, RowId, VlId, Way};
 use pcf_values::{Channel, Mac, Members, Pcf, PcfKind};
 use run_law::{Arrival, Reason};
@@ -137,6 +138,8 @@ fn leaving_row(row: u32, offset: u64) -> LeavingRow
         offset,
         period: 2,
         phase: 1,
+        place: 0,
+        before: None,
     }
 }
 
@@ -194,7 +197,7 @@ fn a_new_frame_takes_the_place_of_the_last(rt: HostRuntime) -> Result<(), Fail> 
 }
 
 #[test]
-fn a_dispatch_is_awaited_until_it_comes(rt: HostRuntime) -> Result<(), Fail> {
+fn a_correction_tells_anew_what_is_awaited(rt: HostRuntime) -> Result<(), Fail> {
     let held = Some(Held {
         cycle: 3,
         value: Units(30_500),
@@ -202,12 +205,8 @@ fn a_dispatch_is_awaited_until_it_comes(rt: HostRuntime) -> Result<(), Fail> {
     let mut departure = Departure {
         of: leaving_row(7, 500),
         held,
-        awaited: held,
+        awaited: None,
     };
-    departure.close(RowId(8));
-    assert!(rt; departure.awaited == held);
-    departure.close(RowId(7));
-    assert!(rt; departure.awaited == None);
     departure.reopen(Units(30_499));
     assert!(rt; departure.awaited == held);
     departure.reopen(Units(30_500));
@@ -222,6 +221,7 @@ fn dispatches_come_by_readings_links_and_rows(rt: HostRuntime) -> Result<(), Fai
         link: LinkId(2),
         row: RowId(7),
         cycle: 1,
+        place: 0,
     };
     let sooner = Dispatch {
         at: Units(99),
@@ -242,5 +242,50 @@ fn dispatches_come_by_readings_links_and_rows(rt: HostRuntime) -> Result<(), Fai
     assert!(rt; earlier(Some(next), Some(left)) == Some(left));
     assert!(rt; earlier(Some(left), Some(next)) == Some(left));
     assert!(rt; earlier(None, Some(next)) == Some(next));
+    Ok(())
+}
+
+fn dispatch(at: i64) -> Option<Dispatch> {
+    Some(Dispatch {
+        at: Units(at),
+        link: LinkId(2),
+        row: RowId(7),
+        cycle: 1,
+        place: 0,
+    })
+}
+
+#[test]
+fn a_tree_has_the_first_dispatch(rt: HostRuntime) -> Result<(), Fail> {
+    let row = Departure {
+        of: leaving_row(7, 500),
+        held: None,
+        awaited: None,
+    };
+    let mut tree = Tournament::new(rt.alloc(), &[row, row, row, row, row])?;
+    assert!(rt; tree.first() == None);
+    tree.put(3, dispatch(500));
+    tree.put(4, dispatch(300));
+    tree.put(0, dispatch(400));
+    assert!(rt; tree.first() == dispatch(300));
+    tree.put(4, None);
+    assert!(rt; tree.first() == dispatch(400));
+    tree.put(0, dispatch(600));
+    assert!(rt; tree.first() == dispatch(500));
+    Ok(())
+}
+
+#[test]
+fn a_tree_over_one_row_is_its_leaf(rt: HostRuntime) -> Result<(), Fail> {
+    let row = Departure {
+        of: leaving_row(7, 500),
+        held: None,
+        awaited: None,
+    };
+    let mut tree = Tournament::new(rt.alloc(), &[row])?;
+    tree.put(0, dispatch(500));
+    assert!(rt; tree.first() == dispatch(500));
+    tree.put(0, None);
+    assert!(rt; tree.first() == None);
     Ok(())
 }
