@@ -23,9 +23,9 @@ use Rattle.switch_ports.proofs.Amounts.{amount_most}
 use Rattle.switch_ports.proofs.EachRow.{all_each}
 use Rattle.switch_ports.proofs.RowOrder.{chained_each}
 use Rattle.switch_ports.proofs.Trees.{knows_next}
-use Rattle.switch_ports.specs.Departing.{Awaits, AwaitsIn, AwaitsSo, Changes, HasDepartures, IsBegun, IsDeparture, IsReady, KnowsNext, Reopens, last_of}
-use Rattle.switch_ports.specs.Leaving.{AreChained, AreEach, AreLeaving, HasRow, IsFirstOf, IsFit, IsFresh, IsHeldFit, IsLeaving, awaited_of, dispatch_at, dispatch_by, fresh_row, held_by, held_in, is_dispatch_in, reopened, value_in, with_held, with_taking}
-use Rattle.switch_ports.specs.Tournaments.{AreLeaves, node_at}
+use Rattle.switch_ports.specs.Departing.{Awaits, AwaitsIn, AwaitsSo, Changes, HasDepartures, IsBegun, IsDeparture, KnowsNext, Reopens, last_of}
+use Rattle.switch_ports.specs.Leaving.{AreChained, AreEach, HasRow, IsFit, IsFresh, IsHeldFit, IsLeaving, awaited_of, dispatch_at, held_by, held_in, is_dispatch_in, reopened, value_in, with_held, with_taking}
+use Rattle.switch_ports.specs.Tournaments.{AreLeaves}
 use Rattle.switch_ports.specs.Standing.{StandsAs}
 use Rattle.switch_ports.specs.declared.departures.Departure.{Departure}
 use Rattle.switch_ports.specs.declared.departures.Departures.{Departures}

@@ -1,5 +1,5 @@
 -- How a switch stands at the beginning.
-use Rattle.std.proofs.Common.{◌≡◌, ◌∙◌, ℕ, ◌≤◌, ◌^◌, ◌+◌, ◌*◌, ℤ, pos, ◌+ℤ◌, ◌≤ℤ◌, [], length, Option, Some, None, refl, sym, ap, arith}
+use Rattle.std.proofs.Common.{◌≡◌, ◌∙◌, ℕ, ◌≤◌, ◌^◌, ◌+◌, ◌*◌, ℤ, pos, ◌+ℤ◌, ◌≤ℤ◌, [], Option, Some, None, refl, sym, ap, arith}
 use Rattle.std.proofs.lemmas.Int.{ints}
 use Rattle.std.specs.Prelude.{IfSome, option_and_then}
 use Rattle.clock_correction.specs.Deviation.{IsSmall}
@@ -61,7 +61,8 @@ few : (l : ℕ) → 1 ≤ l + 2
 few l = omega arith
 
 pub begun_stands : (s : Switch) (network : Network) (device : DeviceId) → IsAccepted network → IsSiteOf network device s.site
-    → HasTaken network device s.intake [] → IsBegun network device s.departures → s.sync ≡ begun s.site.plan (start_of network device) → IfSome (start_of network device) (IsWithin 0 (2 ^ 40))
+    → HasTaken network device s.intake [] → IsBegun network device s.departures → s.sync ≡ begun s.site.plan (start_of network device)
+    → IfSome (start_of network device) (IsWithin 0 (2 ^ 40))
     → s.heard ≡ silence → s.collector ≡ fresh s.site.precision.0 s.site.calc.0 → s.changed ≡ s.sync.adjustment
     → s.corrects_at ≡ option_and_then (λ cycle. correction_at s.site cycle s.sync.adjustment.0 s.changed.0) (next_point s.sync)
     → StandsAs s network device (begun_node network device)

@@ -3,7 +3,7 @@ use Rattle.std.proofs.Common.{get_or, length, ◌≡◌, ◌∙◌, inl, inr, �
 use Rattle.std.proofs.lemmas.Bool.{eqb-true}
 use Rattle.std.proofs.lemmas.List.{get_or_default}
 use Rattle.std.proofs.lemmas.List.Elements.{All-contains, All-contains_itself, Contains-append_left, Contains-push, Contains-push_cases}
-use Rattle.std.specs.Prelude.{IfSome, if◌then◌else◌, option_and_then}
+use Rattle.std.specs.Prelude.{IfSome, if◌then◌else◌}
 use Rattle.std.specs.List.{Contains}
 use Rattle.net_plan.specs.declared.ids.DeviceId.{DeviceId}
 use Rattle.net_plan.specs.declared.ids.RowId.{RowId}
@@ -14,15 +14,13 @@ use Rattle.run_law.specs.machines.Answers.{IsActOf, called, with_done}
 use Rattle.run_law.specs.machines.Calls.{HasDue, MayCall}
 use Rattle.run_law.specs.machines.Nodes.{ClockTask, Node, TakenFrame, acting, correcting, dispatching}
 use Rattle.run_law.specs.machines.Tasks.{doing, reading_for, value_of}
-use Rattle.schedule_tables.proofs.EntryLemmas.{one_entry}
-use Rattle.schedule_tables.specs.Entries.{IsEntry}
 use Rattle.switch_ports.proofs.Awaiting.{departs_each, later_by}
 use Rattle.switch_ports.proofs.EachRow.{all_each}
 use Rattle.switch_ports.proofs.RowOrder.{distinct}
 use Rattle.switch_ports.proofs.Dispatching.{IsNextOf, its_awaits, next_of}
 use Rattle.switch_ports.proofs.FirstActs.{EmitsNone, first_dispatch, nothing_due, value_reached}
 use Rattle.switch_ports.proofs.Standings.{further, through}
-use Rattle.switch_ports.specs.Departing.{Awaits, AwaitsIn, AwaitsSo, Changes, HasDepartures, IsDeparture, IsToCome, KnowsNext}
+use Rattle.switch_ports.specs.Departing.{Awaits, AwaitsIn, AwaitsSo, Changes, HasDepartures, IsDeparture, KnowsNext}
 use Rattle.switch_ports.specs.Leaving.{AreChained, closed, held_in}
 use Rattle.switch_ports.specs.Tournaments.{AreLeaves}
 use Rattle.switch_ports.specs.Standing.{StandsAs}
@@ -31,7 +29,6 @@ use Rattle.switch_ports.specs.declared.departures.Departure.{Departure}
 use Rattle.switch_ports.specs.declared.departures.Departures.{Departures}
 use Rattle.switch_ports.specs.declared.departures.Dispatch.{Dispatch}
 use Rattle.switch_ports.specs.declared.departures.Held.{Held}
-use Rattle.switch_ports.specs.declared.departures.LeavingRow.{LeavingRow}
 use Rattle.switch_ports.specs.declared.switch.Switch.{Switch}
 use Rattle.sync_state.specs.Standing.{Standing}
 use Rattle.sync_state.specs.declared.state.State.TheVariants.{Synchronised}
@@ -192,7 +189,8 @@ dispatched_stands s new network device node moment next st later e due h =
       collects = st.collects;
       departs = departs_closed network device next.place s.departures new.departures node.taken h.changes st.departs;
       awaits =
-          back_in node.standing.state network new.departures node.standing.adjustment.0 node.changed (node.done ++ dispatching next.row next.cycle ∷ []) _ n.sync
+          back_in node.standing.state network new.departures node.standing.adjustment.0 node.changed
+          (node.done ++ dispatching next.row next.cycle ∷ []) _ n.sync
           (record {
             each = all_each (λ d. Contains s.departures.rows.items d × AwaitsSo node.changed node.done d)
                 (AwaitsSo node.changed (node.done ++ dispatching next.row next.cycle ∷ [])) (closed next.place) s.departures.rows.items
@@ -201,7 +199,8 @@ dispatched_stands s new network device node moment next st later e due h =
                 (λ k d lt. (All-contains_itself s.departures.rows.items k d lt, awaits.each k d lt));
             next = subst (λ (z : ℤ). KnowsNext z new.departures) adjustment
                 (h.knows (subst (λ (z : ℤ). AreLeaves z s.departures.rows.items s.departures.tree.nodes.items) (sym adjustment) awaits.next.leaves));
-            passed = λ row cycle there. passed_more network node next _ _ row cycle (later_by node.last.reading.0 moment.reading.0 node.standing.adjustment.0 later)
+            passed = λ row cycle there. passed_more network node next _ _ row cycle
+                (later_by node.last.reading.0 moment.reading.0 node.standing.adjustment.0 later)
                 awaits.passed (value_reached _ node.standing.adjustment.0 moment.reading.0 due) there;
           });
     }

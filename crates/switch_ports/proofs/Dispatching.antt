@@ -99,7 +99,8 @@ frame_held network device node d cycle accepted not_end is f =
       | inr (y, has) ↦
           from_last (amount network.cycle) d.of cycle (value_of network (dispatching d.of.row cycle)) (last_of node.taken d.of.vl) occurs
           (value_is network device d.of cycle is.of)
-          (subst (λ (v : VlId). IsSomeAnd (last_of node.taken v) (λ t. (t.cycle ≡ cycle) × (t.at <ℤ value_of network (dispatching d.of.row cycle)))) vl has.last)
+          (subst (λ (v : VlId). IsSomeAnd (last_of node.taken v)
+          (λ t. (t.cycle ≡ cycle) × (t.at <ℤ value_of network (dispatching d.of.row cycle)))) vl has.last)
     ]
 
 pub held_frame : (network : Network) (device : DeviceId) (node : Node) (d : Departure) (h : Held) → is_end network device ≡ false
@@ -163,7 +164,8 @@ pending_dispatch s network device node row cycle st p =
     let awaits = its_awaits s network device node st p.1.own.0 in
     let h = held_in (amount network.cycle) d.of cycle in
     let so = All-contains (AwaitsSo node.changed node.done) s.departures.rows.items d awaits.each r.1 h in
-    let ahead = subst (λ (z : ℤ). node.changed <ℤ z) (ap (λ (x : RowId). value_of network (dispatching x cycle)) (sym same) ∙ value_is network device d.of cycle is.of)
+    let ahead = subst (λ (z : ℤ). node.changed <ℤ z)
+    (ap (λ (x : RowId). value_of network (dispatching x cycle)) (sym same) ∙ value_is network device d.of cycle is.of)
     p.1.ahead in (
       d,
       r.1,

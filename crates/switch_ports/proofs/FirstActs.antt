@@ -216,7 +216,8 @@ first_dispatch s network device node next moment o st may none later e due =
       first = λ other q here before. elim (kind_of s network device node other st q) [
         | inl x ↦ emits_none s network node moment.reading.0 o other none x here
         | inr (inl y) ↦ corrects_none s network device node moment.reading.0 s.corrects_at other st refl later y here
-        | inr (inr z) ↦ order_next s network device node next moment.reading.0 other st e (may.in_time (doing (dispatching next.row next.cycle)) pending) z here before
+        | inr (inr z) ↦ order_next s network device node next moment.reading.0 other st e (may.in_time (doing (dispatching next.row next.cycle)) pending)
+            z here before
       ];
     }
 

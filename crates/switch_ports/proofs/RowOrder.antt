@@ -1,9 +1,8 @@
 -- The order of the rows that leave a switch.
-use Rattle.std.proofs.Common.{◌≡◌, ◌≢◌, ◌∙◌, ◌⊎◌, inl, inr, ℕ, zero, suc, ◌<◌, ◌≤◌, ◌+◌, Bool, true, false, ◌==◌, List, [], ◌∷◌, ◌++◌, length, map, get_or, slice_get, slice_set, unwrap_or, Option, Some, None, refl, sym, subst, ap, arith}
+use Rattle.std.proofs.Common.{◌≡◌, ◌≢◌, ◌∙◌, ◌⊎◌, inl, inr, ℕ, zero, suc, ◌<◌, ◌≤◌, ◌+◌, ◌==◌, List, [], ◌∷◌, ◌++◌, length, map, get_or, slice_set, Option, Some, None, refl, sym, subst, ap, arith}
 use Rattle.std.proofs.lemmas.Bool.{cases_Bool, eqb-true}
 use Rattle.std.proofs.lemmas.List.{length-map, length-set}
 use Rattle.std.proofs.lemmas.List.Elements.{All-push, Contains-append_left, Contains-push}
-use Rattle.std.proofs.lemmas.Option.{slice_get-get_or, slice_get_past}
 use Rattle.std.specs.Prelude.{nat_lt}
 use Rattle.net_plan.specs.declared.ids.DeviceId.{DeviceId}
 use Rattle.net_plan.specs.declared.ids.RowId.{RowId}
@@ -11,7 +10,7 @@ use Rattle.net_plan.specs.declared.network.Network.{Network}
 use Rattle.schedule_tables.proofs.EntryLemmas.{one_entry}
 use Rattle.schedule_tables.specs.Entries.{IsEntry, source_of}
 use Rattle.schedule_tables.specs.declared.entry.Entry.{Entry}
-use Rattle.switch_ports.specs.Leaving.{AreChained, AreEach, AreLeaving, HasRow, IsFresh, IsLast, fresh_row, leaving_by, place_in}
+use Rattle.switch_ports.specs.Leaving.{AreChained, AreEach, AreLeaving, HasRow, IsFresh, IsLast, fresh_row, place_in}
 use Rattle.switch_ports.specs.declared.departures.Departure.{Departure}
 use Rattle.switch_ports.specs.declared.departures.LeavingRow.{LeavingRow}
 
@@ -132,7 +131,8 @@ none_in [] vl = refl
 none_in (x ∷ xs) zero = refl
 none_in (x ∷ xs) (suc vl) = none_in xs vl
 
-pub leaving_none : (network : Network) (device : DeviceId) (lasts : List (Option ℕ)) → lasts ≡ map (λ vl. None) network.vl → AreLeaving network device 0 [] lasts
+pub leaving_none : (network : Network) (device : DeviceId) (lasts : List (Option ℕ)) → lasts ≡ map (λ vl. None) network.vl
+    → AreLeaving network device 0 [] lasts
 leaving_none network device lasts none = record {
   each = λ k d lt. absurd (omega (arith, lt));
   complete = λ place entry is leaves lt. absurd (omega (arith, lt));
@@ -159,7 +159,8 @@ row_up_to network device row d rows place other before own is leaves lt = elim (
       (h.0, Contains-append_left rows (d ∷ []) h.0 h.1, h.2)
 ]
 
-below_more : (rows : List Departure) (d : Departure) (bound k : ℕ) (e : Departure) → ((k : ℕ) (e : Departure) → k < length rows → (get_or rows k e).of.row.0 < bound)
+below_more : (rows : List Departure) (d : Departure) (bound k : ℕ) (e : Departure)
+    → ((k : ℕ) (e : Departure) → k < length rows → (get_or rows k e).of.row.0 < bound)
     → d.of.row.0 ≡ bound → k < length rows + 1 → (get_or (rows ++ d ∷ []) k e).of.row.0 < bound + 1
 below_more rows d bound k e below own lt = elim (either k (length rows) lt) [
   | inl old ↦ let h = below k e old in subst (λ (x : Departure). x.of.row.0 < bound + 1) (sym (old_at rows d k e old)) (omega (arith, h))

@@ -1,16 +1,15 @@
 -- Trees that have the first of many dispatches.
-use Rattle.std.proofs.Common.{◌≡◌, ◌≢◌, ◌∙◌, ◌⊎◌, inl, inr, ℕ, zero, suc, ◌<◌, ◌≤◌, ◌+◌, ◌*◌, ◌-◌, ◌/◌, ℤ, Bool, true, false, List, [], ◌∷◌, length, get_or, get_or-set_other, get_or-set_same, slice_set, ◌==◌, Option, Some, None, refl, sym, subst, ap, arith}
+use Rattle.std.proofs.Common.{◌≡◌, ◌≢◌, ◌∙◌, ◌⊎◌, inl, inr, ℕ, zero, suc, ◌<◌, ◌≤◌, ◌+◌, ◌*◌, ◌-◌, ◌/◌, ℤ, true, false, List, [], ◌∷◌, length, get_or, get_or-set_other, get_or-set_same, slice_set, ◌==◌, Option, Some, None, refl, sym, subst, ap, arith}
 use Rattle.std.proofs.lemmas.Int.{ints}
 use Rattle.std.proofs.lemmas.Bool.{cases_Bool, eqb-true}
 use Rattle.std.proofs.lemmas.List.{get_or_default, length-set}
 use Rattle.std.proofs.lemmas.List.Elements.{Contains-get_or}
 use Rattle.std.proofs.Math.ListN.{get_or-eq_default}
 use Rattle.std.specs.Prelude.{IfSome, nat_lt, nat_le, int_lt, nat_eq}
-use Rattle.std.specs.List.{All, Contains}
 use Rattle.switch_ports.proofs.EachRow.{before_itself, precedes_on}
 use Rattle.switch_ports.specs.Departing.{Changes, IsTakingAt, KnowsNext, Sets, bound_of}
-use Rattle.switch_ports.specs.Leaving.{AreChained, IsLast, with_taking, IsEarlier, IsFirstOf, IsOf, Precedes, dispatch_by}
-use Rattle.switch_ports.specs.Tournaments.{AreLeaves, IsClimbing, IsInner, IsTree, Puts, node_at}
+use Rattle.switch_ports.specs.Leaving.{AreChained, IsLast, with_taking, IsEarlier, IsFirstOf, Precedes, dispatch_by, held_by, with_held}
+use Rattle.switch_ports.specs.Tournaments.{AreLeaves, IsClimbing, IsTree, Puts, node_at}
 use Rattle.switch_ports.specs.declared.departures.Departure.{Departure}
 use Rattle.switch_ports.specs.declared.departures.Departures.{Departures}
 use Rattle.switch_ports.specs.declared.departures.Dispatch.{Dispatch}
@@ -20,7 +19,8 @@ use Rattle.switch_ports.specs.declared.tournament.Tournament.{Tournament}
 -- ---- a leaf is put
 
 pub puts : (old new : Tournament) (place : ℕ) (leaf : Option Dispatch) (node : ℕ) → length old.nodes.items ≡ 2 * old.count → place < old.count → node ≤ 1
-    → new.count ≡ old.count → IsClimbing old.count (slice_set old.nodes.items (old.count + place) leaf) place leaf new.nodes.items node → Puts old place leaf new
+    → new.count ≡ old.count → IsClimbing old.count (slice_set old.nodes.items (old.count + place) leaf) place leaf new.nodes.items node
+    → Puts old place leaf new
 puts old new place leaf node size inside top count h = record {
   count = count;
   tree = record {
@@ -348,3 +348,14 @@ other_same length changed taking d other =
       | inr n ↦ n
     ] in
     rw n refl
+
+-- and one of its own is kept
+pub mine_held : (length : ℕ) (changed : ℤ) (taking : Taking) (d : Departure) → d.of.vl.0 ≡ taking.vl.0
+    → with_taking length changed taking d ≡ with_held changed (held_by length d.of taking.cycle taking.at.0) d
+mine_held length changed taking d same = let y : (d.of.vl.0 == taking.vl.0) ≡ true = grind (arith, same) in rw y refl
+
+-- the row that is next is of the virtual link
+pub own_row : (f : Departure → Departure) (vl place : ℕ) (adjustment : ℤ) (old mid : Departures) (d : Departure)
+    → IsTakingAt f vl (Some place) adjustment old mid → d ≡ get_or mid.rows.items place d → d.of.vl.0 ≡ vl
+own_row f vl place adjustment old mid d h is =
+    ap (λ (x : Departure). x.of.vl.0) (is ∙ h.rows.rest place d (omega arith) h.next.0) ∙ h.next.1 d

@@ -90,7 +90,8 @@ pub record IsReopeningAt (f : Departure → Departure) (place : ℕ) (adjustment
   pub tree : IsTree new.tree
   pub count : new.tree.count ≡ old.tree.count
   pub leaves : (k : ℕ) (d : Departure) → k < place → k < length new.rows.items
-      → node_at new.tree.nodes.items (length new.rows.items + k) ≡ dispatch_by adjustment (slice_index_or new.rows.items k d)
+      → node_at new.tree.nodes.items (length new.rows.items + k)
+      ≡ dispatch_by adjustment (slice_index_or new.rows.items k d)
 
 -- ---- what is to come
 
@@ -157,7 +158,8 @@ pub record Keeps (old : Departures) (length : ℕ) (changed : ℤ) (at : Standpo
   pub synchronised : at.state ≡ Synchronised
   pub in_range : cycle * length ≤ 2 ^ 62
   pub changes : Changes
-      (with_taking length changed (record { vl = vl; cycle = cycle; at = record { 0 = at.reading.0 +ℤ at.adjustment.0 } }))
+      (with_taking length changed
+      (record { vl = vl; cycle = cycle; at = record { 0 = at.reading.0 +ℤ at.adjustment.0 } }))
       old new
   pub next : AreLeaves at.adjustment.0 old.rows.items old.tree.nodes.items → KnowsNext at.adjustment.0 new
 

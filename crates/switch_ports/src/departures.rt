@@ -6,7 +6,7 @@ ghost use Rattle.net_plan.specs.Ranges.{IsInRange, IsWithin};
 ghost use Rattle.net_plan.specs.declared.network.Network.{Network as NetworkValue};
 ghost use Rattle.schedule_tables.specs.Entries.{IsEntry, IsEntryInRange, source_of};
 ghost use Rattle.switch_ports.specs.Departing.{Changes, IsBegun, IsReady, KnowsNext, Sets};
-ghost use Rattle.switch_ports.specs.Leaving.{AreLeaving, IsEarlier, IsFit, IsTakingFit, Precedes, awaited_of, closed, dispatch_by, fresh_row, held_by, is_dispatch_in, place_in, reopened, value_in, with_taking};
+ghost use Rattle.switch_ports.specs.Leaving.{AreLeaving, IsEarlier, IsFit, IsTakingFit, Precedes, awaited_of, closed, dispatch_by, fresh_row, held_by, is_dispatch_in, place_in, reopened, value_in, with_held, with_taking};
 ghost use Rattle.switch_ports.specs.Tournaments.{AreLeaves, IsTree};
 ghost use Rattle.tte_units.specs.Amount.{amount};
 
@@ -202,17 +202,16 @@ impl Departures {
 }
 
 impl Departure {
-    /// Keeps the frame, if it is one of the row's virtual link.
+    /// Keeps the frame, which is one of the row's virtual link.
     pub(crate) fn take(&mut self, length: Units, taking: &Taking, changed: Units)
         requires fit { IsFit self.old }
         requires taking { IsTakingFit length taking.now }
-        ensures { self.new ≡ with_taking (amount length) changed.0 taking.now self.old }
+        ensures { self.new ≡ with_held changed.0
+            (held_by (amount length) self.old.of taking.now.cycle taking.now.at.0) self.old }
     {
-        if self.of.vl.0 == taking.vl.0 {
-            let held = self.of.held(length, taking);
-            self.held = held;
-            self.awaited = awaited_of(held, changed);
-        }
+        let held = self.of.held(length, taking);
+        self.held = held;
+        self.awaited = awaited_of(held, changed);
     }
 
     /// Tells anew whether the frame is to be dispatched.

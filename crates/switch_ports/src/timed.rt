@@ -33,8 +33,8 @@ impl Switch {
         requires ready { IsReady self.old.departures }
         ensures rest { self.new ≡ record self.old { intake = self.new.intake; departures = self.new.departures } }
         ensures kept { IsTakenSo self.old.intake self.new.intake result }
-        ensures departs { IsKeptSo self.old.departures (amount self.old.site.plan.cycle_length) self.old.changed.0 at.now
-            result self.new.departures }
+        ensures departs { IsKeptSo self.old.departures (amount self.old.site.plan.cycle_length) self.old.changed.0
+            at.now result self.new.departures }
         ensures is { (network : Network) (device : DeviceId) (last : VlId → Option ℕ) → IsInRange network
             → IsSiteOf network device self.old.site
             → AreEntrances network device network.row self.old.intake.rows

@@ -1,5 +1,5 @@
-use Rattle.std.proofs.Common.{◌∙◌, ℕ, Option, Some, ap, subst, sym}
-use Rattle.switch_ports.proofs.Trees.{knows_next, other_same, taking_on}
+use Rattle.std.proofs.Common.{◌∙◌, ℕ, Option, ap, subst, sym}
+use Rattle.switch_ports.proofs.Trees.{knows_next, mine_held, other_same, own_row, taking_on}
 use Rattle.switch_ports.proofs.departures.Departures.take.Goals as goal
 use Rattle.switch_ports.specs.Departing.{IsTakingAt, Sets}
 use Rattle.switch_ports.specs.Leaving.{with_taking}
@@ -15,11 +15,14 @@ rows-preserved c =
     let f = with_taking (amount c.args.length) c.args.changed.0 c.args.taking in
     let vl = c.args.taking.vl.0 in
     let here = c.index.result.now in
-    let sets = subst (λ (d : Departure). Sets c.args.adjustment.0 place d mid new) (c.take.ensures ∙ ap f c.index.ensures) c.set.ensures in
+    let inv = subst (λ (at : Option ℕ). IsTakingAt f vl at c.args.adjustment.0 old mid) c.in-Some.is c.rows.invariant in
+    let mine = own_row f vl place c.args.adjustment.0 old mid here inv c.index.ensures in
+    let held = mine_held (amount c.args.length) c.args.changed.0 c.args.taking here mine in
+    let sets = subst (λ (d : Departure). Sets c.args.adjustment.0 place d mid new) (c.take.ensures ∙ sym held ∙ ap f c.index.ensures) c.set.ensures in
     subst (λ (d : Departure). IsTakingAt f vl d.of.before c.args.adjustment.0 old new) (sym c.index.ensures)
     (taking_on f vl place c.args.adjustment.0 old mid new here c.requires.ready.count c.requires.ready.chained
     (λ d other. other_same (amount c.args.length) c.args.changed.0 c.args.taking d other)
-    (subst (λ (at : Option ℕ). IsTakingAt f vl at c.args.adjustment.0 old mid) c.in-Some.is c.rows.invariant) sets)
+    inv sets)
 
 pub returns-clause-next : goal.returns-clause-next
 returns-clause-next c leaves =

@@ -37,12 +37,16 @@ correct-requires-clause-number c =
 
 pub correct-requires-clause-near_a : goal.correct-requires-clause-near_a
 correct-requires-clause-near_a c =
-    let r = c.requires in let o = some_due c.args.self.now.corrects_at _ (c.is_reached-2.ensures.reached c.if-not-is_reached.false) in is_near c.args.self.now r.0
+    let r = c.requires in
+    let o = some_due c.args.self.now.corrects_at _ (c.is_reached-2.ensures.reached c.if-not-is_reached.false) in
+    is_near c.args.self.now r.0
     r.1 r.2 o.0 A r.3 o.1
 
 pub correct-requires-clause-near_b : goal.correct-requires-clause-near_b
 correct-requires-clause-near_b c =
-    let r = c.requires in let o = some_due c.args.self.now.corrects_at _ (c.is_reached-2.ensures.reached c.if-not-is_reached.false) in is_near c.args.self.now r.0
+    let r = c.requires in
+    let o = some_due c.args.self.now.corrects_at _ (c.is_reached-2.ensures.reached c.if-not-is_reached.false) in
+    is_near c.args.self.now r.0
     r.1 r.2 o.0 B r.3 o.1
 
 pub returns-in-Some : goal.returns-in-Some

@@ -1,4 +1,4 @@
-use Rattle.std.proofs.Common.{◌≡◌, ◌∙◌, ap, subst, length, []}
+use Rattle.std.proofs.Common.{◌≡◌, ◌∙◌, ap, subst, []}
 use Rattle.std.specs.Prelude.{IfSome, Option, ◌^◌}
 use Rattle.net_plan.specs.Ranges.{IsWithin}
 use Rattle.net_plan.specs.declared.network.Network.{Network}
