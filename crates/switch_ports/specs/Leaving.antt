@@ -143,7 +143,7 @@ pub record IsFresh (network : Network) (device : DeviceId) (d : Departure) : Typ
   pub held : d.held ≡ None
   pub awaited : d.awaited ≡ None
 
--- these are all rows that leave the device and stand before the place, of which none has been taken
+-- these are all rows that leave the device and stand before the place, in their order, of which no frame has been taken
 pub record AreLeaving (network : Network) (device : DeviceId) (bound : ℕ) (rows : List Departure)
     (lasts : List (Option ℕ)) : Type 0 where
   pub each : All (IsFresh network device) rows
