@@ -13,13 +13,15 @@ use Rattle.run_law.specs.control.Hearing.{last_cycle}
 use Rattle.run_law.specs.machines.Nodes.{begun_node}
 use Rattle.run_law.specs.scenario.Devices.{expected_by, plan_of, start_of}
 use Rattle.switch_ports.proofs.Amounts.{its_amount}
+use Rattle.switch_ports.proofs.Awaiting.{awaits_fresh, departs_fresh}
 use Rattle.switch_ports.proofs.CorrectedStands.{and_then_same, silent_now}
 use Rattle.switch_ports.proofs.Fair.{HasRoom}
 use Rattle.switch_ports.proofs.Hearings.{fresh_stands, nothing_done, silent, times_three, times_two}
 use Rattle.switch_ports.proofs.Rooms.{expected_is, room}
 use Rattle.switch_ports.specs.Corrections.{correction_at, reading_of}
+use Rattle.switch_ports.specs.Departing.{IsBegun}
 use Rattle.switch_ports.specs.Sites.{IsSiteOf}
-use Rattle.switch_ports.specs.Standing.{HasTaken, IsAccepted, LeavesNone, StandsAs}
+use Rattle.switch_ports.specs.Standing.{HasTaken, IsAccepted, StandsAs}
 use Rattle.switch_ports.specs.Steady.{IsFair}
 use Rattle.switch_ports.specs.declared.switch.Switch.{Switch}
 use Rattle.sync_state.specs.Standing.{Standing, adjustment_at_start, begun, next_point, state_at_start}
@@ -58,12 +60,13 @@ lower_first r e k p x start three two h a b c d =
 few : (l : ℕ) → 1 ≤ l + 2
 few l = omega arith
 
-pub begun_stands : (s : Switch) (network : Network) (device : DeviceId) → IsAccepted network → LeavesNone network device → IsSiteOf network device s.site
-    → HasTaken network device s.intake [] → s.sync ≡ begun s.site.plan (start_of network device) → IfSome (start_of network device) (IsWithin 0 (2 ^ 40))
+pub begun_stands : (s : Switch) (network : Network) (device : DeviceId) → IsAccepted network → IsSiteOf network device s.site
+    → HasTaken network device s.intake [] → IsBegun network device s.departures → s.sync ≡ begun s.site.plan (start_of network device)
+    → IfSome (start_of network device) (IsWithin 0 (2 ^ 40))
     → s.heard ≡ silence → s.collector ≡ fresh s.site.precision.0 s.site.calc.0 → s.changed ≡ s.sync.adjustment
     → s.corrects_at ≡ option_and_then (λ cycle. correction_at s.site cycle s.sync.adjustment.0 s.changed.0) (next_point s.sync)
     → StandsAs s network device (begun_node network device)
-begun_stands s network device accepted leaves site intake sync start heard collector changed corrects =
+begun_stands s network device accepted site intake rows sync start heard collector changed corrects =
     let standing : begun (plan_of network device) (start_of network device) ≡ s.sync =
     sym (sync ∙ ap (λ (p : SyncPlan). begun p (start_of network device)) site.plan) in
     let adjustment : s.sync.adjustment.0 ≡ (adjustment_at_start (start_of network device)).0 = ap (λ (x : Standing). x.adjustment.0) (sym standing) in
@@ -72,7 +75,6 @@ begun_stands s network device accepted leaves site intake sync start heard colle
     let r = its_amount _ _ network.cycle accepted.range.cycle in
     record {
       accepted = accepted;
-      leaves = leaves;
       intake = intake;
       site = site;
       sound = refl;
@@ -111,4 +113,6 @@ begun_stands s network device accepted leaves site intake sync start heard colle
         masters = λ k d lt. absurd (omega (arith, lt));
         from_zero = λ k d lt. absurd (omega (arith, lt));
       });
+      departs = departs_fresh network device s.departures accepted.range rows;
+      awaits = awaits_fresh (state_at_start (start_of network device)) network device s.departures _ _ _ rows;
     }

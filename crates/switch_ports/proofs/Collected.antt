@@ -19,6 +19,7 @@ use Rattle.run_law.specs.declared.steps.Ripe.{Ripe}
 use Rattle.run_law.specs.machines.Answers.{after_permanence, called}
 use Rattle.run_law.specs.machines.Nodes.{Node, Phase}
 use Rattle.run_law.specs.scenario.Devices.{is_cm}
+use Rattle.switch_ports.proofs.Awaiting.{awaits_called}
 use Rattle.switch_ports.proofs.MasterBits.{IsBit, master_is}
 use Rattle.switch_ports.proofs.Pending.{window_is}
 use Rattle.switch_ports.specs.Members.{member_numbers}
@@ -95,7 +96,6 @@ with_collector : (s : Switch) (collector : Collecting) (network : Network) (devi
     → StandsAs (record s { collector = collector }) network device (called moment phase (record node { points = points }))
 with_collector s collector network device node moment phase points st later has = record {
   accepted = st.accepted;
-  leaves = st.leaves;
   site = st.site;
   sound = st.sound;
   standing = st.standing;
@@ -116,6 +116,8 @@ with_collector s collector network device node moment phase points st later has 
       };
   intake = st.intake;
   collects = has;
+  departs = st.departs;
+  awaits = awaits_called s network device node moment st later;
 }
 
 by_taken : (s new : Switch) (network : Network) (device : DeviceId) (node : Node) (moment : Moment) (phase : Phase) (channel : Option Channel) (frame : Pcf)

@@ -25,6 +25,7 @@ use Rattle.run_law.specs.machines.Answers.{after_correction, called}
 use Rattle.run_law.specs.machines.Nodes.{ClockTask, Node, acting, correcting}
 use Rattle.run_law.specs.scenario.Devices.{expected_by, is_cm}
 use Rattle.schedule_tables.specs.declared.rule.Rule.TheVariants as rules
+use Rattle.switch_ports.proofs.Awaiting.{awaits_cleared, awaits_reopened, departs_reopened, departs_stopped}
 use Rattle.switch_ports.proofs.Amounts.{its_amount}
 use Rattle.switch_ports.proofs.Hearings.{fresh_collects, site_due, silent, times_three, times_two}
 use Rattle.switch_ports.proofs.Rooms.{expected_is, small_expected}
@@ -35,6 +36,8 @@ use Rattle.switch_ports.specs.Standing.{HasCollected, HasTaken, StandsAs}
 use Rattle.switch_ports.specs.Steady.{IsFair, is_timed}
 use Rattle.switch_ports.specs.Steps.{Corrects}
 use Rattle.switch_ports.specs.declared.intake.Intake.{Intake}
+use Rattle.switch_ports.specs.Departing.{Awaits, HasDepartures, Reopens}
+use Rattle.switch_ports.specs.declared.departures.Departures.{Departures}
 use Rattle.switch_ports.specs.declared.switch.Switch.{Switch}
 use Rattle.sync_state.specs.Calls.{after, reached_point}
 use Rattle.sync_state.specs.Plan.{expected_at}
@@ -130,7 +133,6 @@ sync_clique : (s new : Switch) (network : Network) (device : DeviceId) (node : N
     → StandsAs new network device (called moment acting (after_correction node moment s.heard cycle SyncClique))
 sync_clique s new network device node moment cycle st later h = record {
   accepted = st.accepted;
-  leaves = st.leaves;
   intake = subst (λ (i : Intake). HasTaken network device i node.taken) (sym h.intake) st.intake;
   site = subst (IsSiteOf network device) (sym h.site) st.site;
   sound = st.sound;
@@ -146,6 +148,8 @@ sync_clique s new network device node moment cycle st later h = record {
   small = small_same s new network device node moment SyncClique st h;
   steady = λ timed. absurd (not_timed timed);
   collects = fresh_collects s.collector new.collector network device node.points node.emitted st.collects h.collector;
+  departs = departs_stopped network device s.departures new.departures node.taken h.departures st.departs;
+  awaits = ap (λ (ds : Departures). ds.next) h.departures;
 }
 
 async_clique : (s new : Switch) (network : Network) (device : DeviceId) (node : Node) (moment : Moment) (cycle : ℕ) → StandsAs s network device node
@@ -153,7 +157,6 @@ async_clique : (s new : Switch) (network : Network) (device : DeviceId) (node : 
     → StandsAs new network device (called moment acting (after_correction node moment s.heard cycle AsyncClique))
 async_clique s new network device node moment cycle st later h = record {
   accepted = st.accepted;
-  leaves = st.leaves;
   intake = subst (λ (i : Intake). HasTaken network device i node.taken) (sym h.intake) st.intake;
   site = subst (IsSiteOf network device) (sym h.site) st.site;
   sound = st.sound;
@@ -169,6 +172,8 @@ async_clique s new network device node moment cycle st later h = record {
   small = small_same s new network device node moment AsyncClique st h;
   steady = λ timed. absurd (not_timed timed);
   collects = fresh_collects s.collector new.collector network device node.points node.emitted st.collects h.collector;
+  departs = departs_stopped network device s.departures new.departures node.taken h.departures st.departs;
+  awaits = ap (λ (ds : Departures). ds.next) h.departures;
 }
 
 -- ---- a correction
@@ -245,7 +250,6 @@ corrected s new network device node moment cycle by st later timed lt due h =
     (st.accepted.rules rules.Correction 0) in
     record {
       accepted = st.accepted;
-      leaves = st.leaves;
       intake = subst (λ (i : Intake). HasTaken network device i node.taken) (sym h.intake) st.intake;
       site = subst (IsSiteOf network device) (sym h.site) st.site;
       sound = st.sound;
@@ -273,6 +277,12 @@ corrected s new network device node moment cycle by st later timed lt due h =
           kept_collects s new network device node (is_synchronised node.standing.state) st.collects
           (subst (λ (x : Standing). new.collector ≡ (if is_synchronised x.state then s.collector else fresh s.collector.ow s.collector.calc)) (sym st.standing)
           h.collector);
+      departs = departs_reopened network device new.changed.0 s.departures new.departures node.taken h.departures.changes st.departs;
+      awaits =
+          subst (λ (z : ℤ). Awaits network new.departures standing.adjustment.0 z [] (moment.reading.0 +ℤ standing.adjustment.0))
+          (h.changed ∙ ap (λ (z : ℤ). moment.reading.0 +ℤ z) adjustment)
+          (awaits_reopened network s.departures new.departures standing.adjustment.0 new.changed.0 (moment.reading.0 +ℤ standing.adjustment.0)
+          (subst (λ (z : ℤ). Reopens s.departures new.changed.0 z new.departures) adjustment h.departures));
     }
 
 -- ---- a joiner clears what it has heard
@@ -312,7 +322,6 @@ cleared s new network device node moment cycle st later timed own h =
     let en1 = ap (λ (q : SyncPlan). expected_at q (node.standing.number + 1)) st.plan ∙ expected_is network device (node.standing.number + 1) st.accepted in
     record {
       accepted = st.accepted;
-      leaves = st.leaves;
       intake = subst (λ (i : Intake). HasTaken network device i node.taken) (sym h.intake) st.intake;
       site = subst (IsSiteOf network device) (sym h.site) st.site;
       sound = st.sound;
@@ -335,6 +344,10 @@ cleared s new network device node moment cycle st later timed own h =
         fair = λ lt ch. silent (IsFair network standing) new.heard ch h.heard;
       };
       collects = subst (λ (c : Collecting). HasCollected c network device node.points node.emitted) (sym h.collector) st.collects;
+      departs = subst (λ (ds : Departures). HasDepartures network device ds node.taken) (sym h.departures) st.departs;
+      awaits =
+          awaits_cleared node.standing.state network s.departures new.departures node.standing.adjustment.0 node.changed node.done
+          (node.done ++ correcting cycle ∷ []) _ _ at.joining h.departures st.awaits;
     }
 
 -- the switch stands as the device whose correction point has come to this

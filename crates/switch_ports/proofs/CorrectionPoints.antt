@@ -1,8 +1,8 @@
 -- How a switch stands when its correction point has come.
-use Rattle.std.proofs.Common.{◌≡◌, ◌∙◌, ℕ, ◌≤◌, ◌^◌, ◌+◌, ◌*◌, ℤ, pos, neg_ℤ, ◌+ℤ◌, ◌-ℤ◌, ◌*ℤ◌, ◌≤ℤ◌, ◌<ℤ◌, Bool, true, false, not, Option, Some, None, IsSomeAnd, refl, sym, subst, ap, arith}
+use Rattle.std.proofs.Common.{◌≡◌, ◌∙◌, ℕ, ◌≤◌, ◌^◌, ◌+◌, ◌*◌, ℤ, pos, neg_ℤ, ◌+ℤ◌, ◌-ℤ◌, ◌*ℤ◌, ◌≤ℤ◌, ◌<ℤ◌, true, Option, Some, None, IsSomeAnd, refl, sym, subst, ap, arith}
 use Rattle.std.proofs.lemmas.Int.{ints}
 use Rattle.std.proofs.Math.Nat.{mul-le-mul_right}
-use Rattle.std.specs.Prelude.{IfSome, is_some}
+use Rattle.std.specs.Prelude.{IfSome}
 use Rattle.clock_correction.specs.Deviation.{IsSmall}
 use Rattle.membership.specs.Summary.{best_on}
 use Rattle.membership.specs.declared.frame.HeardFrame.{HeardFrame}
@@ -85,13 +85,10 @@ is_near s network device node at ch st e =
     (if_mapped (IsFair network node.standing) (IsNear node.standing) (best_on ch s.heard) (λ f fair. near_frame network device s node f st fair)
     ((st.steady t.0).fair lt ch))
 
-pub some_if : (o : Option Units) (b : Bool) → is_some o ≡ not b → b ≡ false → (at : Units) × (o ≡ Some at)
-some_if None b e t = absurd (let f : not b ≡ not false = ap not t in let g : false ≡ not false = e ∙ f in cc)
-some_if (Some at) b e t = (at, refl)
-
-pub none_if : (o : Option Units) (b : Bool) → is_some o ≡ not b → b ≡ true → o ≡ None
-none_if None b e t = refl
-none_if (Some at) b e t = absurd (let f : not b ≡ not true = ap not t in let g : true ≡ not true = e ∙ f in cc)
+-- the reading that is reached
+pub some_due : (o : Option Units) (reading : ℤ) → IsSomeAnd o (λ at. at.0 ≤ℤ reading) → (at : Units) × (o ≡ Some at) × (at.0 ≤ℤ reading)
+some_due None reading some = absurd some
+some_due (Some at) reading some = (at, refl, some)
 
 pub never_some : {X : Type 0} (x : X) → None ≡ Some x → ⊥
 never_some x e = cc

@@ -19,7 +19,7 @@ use Rattle.run_law.specs.machines.Calls.{MayCall}
 use Rattle.run_law.specs.machines.Nodes.{Node, Phase, sending, correcting, dispatching}
 use Rattle.run_law.specs.machines.Tasks.{IsFirstTask, IsPending, Task, emitting, doing, order_of, reading_for}
 use Rattle.run_law.specs.records.Order.{IsBefore}
-use Rattle.switch_ports.proofs.Pending.{IsCorrection, IsEmission, emission_pending, kind_of, some_window}
+use Rattle.switch_ports.proofs.Pending.{IsClocked, IsEmission, emission_pending, kind_of, some_window}
 use Rattle.switch_ports.proofs.Waiting.{first_opened, opened_beyond}
 use Rattle.switch_ports.specs.Standing.{StandsAs}
 use Rattle.switch_ports.specs.declared.switch.Switch.{Switch}
@@ -46,7 +46,6 @@ pub sent_stands : (s : Switch) (collector : Collecting) (network : Network) (dev
     → StandsAs (record s { collector = collector }) network device (with_sent node sent)
 sent_stands s collector network device node sent st kept stands = record {
   accepted = st.accepted;
-  leaves = st.leaves;
   intake = st.intake;
   site = st.site;
   sound = st.sound;
@@ -72,6 +71,8 @@ sent_stands s collector network device node sent st kept stands = record {
     masters = st.collects.masters;
     from_zero = st.collects.from_zero;
   };
+  departs = st.departs;
+  awaits = st.awaits;
 }
 
 -- what is left to do then was to be done before
@@ -180,13 +181,16 @@ order_first s network device node first rest (emitting sent) st is (c, at, e) be
     order_of_two (unsigned_abs sent.opened.0) (unsigned_abs first.opened)
     (λ lt. not_less first.opened c.opened zero_on le (subst (λ (z : ℤ). unsigned_abs z < unsigned_abs first.opened) opened lt)) before
 
-order_other : (network : Network) (device : DeviceId) (node : Node) (n : ℕ) (task : Task) → IsCorrection network device node task
+order_other : (s : Switch) (network : Network) (device : DeviceId) (node : Node) (n : ℕ) (task : Task) → IsClocked s network device node task
     → IsBefore (order_of network task) (0 ∷ n ∷ []) → ⊥
-order_other network device node n (doing (correcting cycle)) p (inl lt) = omega (arith, lt)
-order_other network device node n (doing (correcting cycle)) p (inr more) = omega (arith, more.0)
-order_other network device node n (emitting sent) p before = p
-order_other network device node n (doing (sending cycle)) p before = p
-order_other network device node n (doing (dispatching row cycle)) p before = p
+order_other s network device node n (doing (correcting cycle)) p (inl lt) = omega (arith, lt)
+order_other s network device node n (doing (correcting cycle)) p (inr more) = omega (arith, more.0)
+order_other s network device node n (doing (dispatching row cycle)) p (inl lt) = omega (arith, lt)
+order_other s network device node n (doing (dispatching row cycle)) p (inr more) = omega (arith, more.0)
+order_other s network device node n (emitting sent) (inl p) before = p
+order_other s network device node n (emitting sent) (inr p) before = p
+order_other s network device node n (doing (sending cycle)) (inl p) before = p
+order_other s network device node n (doing (sending cycle)) (inr p) before = p
 
 -- the first collection's frame is the first task
 pub first_emission : (s : Switch) (network : Network) (device : DeviceId) (node : Node) (sent : Compressed) (first : Cluster) (rest : List Cluster)
@@ -201,7 +205,7 @@ first_emission s network device node sent first rest reading st is e due = recor
   first = λ other q here before. elim (kind_of s network device node other st q) [
     | inl x ↦ order_first s network device node first rest other st is x
         (subst (λ (z : ℤ). IsBefore (order_of network other) (0 ∷ unsigned_abs z ∷ [])) (ap (λ (x : Compressed). x.opened.0) e) before)
-    | inr y ↦ order_other network device node _ other y before
+    | inr y ↦ order_other s network device node _ other y before
   ];
 }
 

@@ -1,8 +1,11 @@
 -- What a switch does first.
-use Rattle.std.proofs.Common.{◌≡◌, ◌∙◌, inl, inr, ℕ, ℤ, ◌+ℤ◌, ◌-ℤ◌, ◌≤ℤ◌, ◌<ℤ◌, List, [], ◌∷◌, Option, Some, None, refl, sym, subst, ap, arith}
+use Rattle.std.proofs.Common.{pos, ◌+◌, ◌*◌, ◌<◌, ◌≤◌, ◌≡◌, ◌∙◌, inl, inr, ℕ, ℤ, ◌+ℤ◌, ◌-ℤ◌, ◌≤ℤ◌, ◌<ℤ◌, List, [], ◌∷◌, Option, Some, None, refl, sym, subst, ap, arith}
 use Rattle.std.proofs.lemmas.Int.{ints}
 use Rattle.std.proofs.lemmas.List.Elements.{All-contains}
-use Rattle.std.specs.Prelude.{IfSome, IsNone, ◌↔◌}
+use Rattle.std.proofs.lemmas.Bool.{cases_Bool}
+use Rattle.std.proofs.Math.Nat.{mul-le-mul_right}
+use Rattle.std.specs.Option.{option_map_or}
+use Rattle.std.specs.Prelude.{nat_le, ◌⊎◌, IfSome, IsNone, ◌↔◌}
 use Rattle.std.specs.List.{Contains}
 use Rattle.compression.proofs.Elements.{in_none}
 use Rattle.compression.specs.Clusters.{Cluster}
@@ -12,11 +15,24 @@ use Rattle.compression.specs.Least.{IsLeast}
 use Rattle.compression.specs.declared.compressed.Compressed.{Compressed}
 use Rattle.net_plan.specs.declared.ids.DeviceId.{DeviceId}
 use Rattle.net_plan.specs.declared.network.Network.{Network}
-use Rattle.run_law.specs.machines.Calls.{HasDue}
-use Rattle.run_law.specs.machines.Nodes.{Node, sending, correcting, dispatching}
+use Rattle.run_law.specs.machines.Calls.{HasDue, MayCall}
+use Rattle.run_law.specs.machines.Nodes.{Node, acting, sending, correcting, dispatching}
 use Rattle.run_law.specs.machines.Tasks.{IsFirstTask, IsPending, Task, emitting, doing, order_of, reading_for}
 use Rattle.run_law.specs.records.Order.{IsBefore}
-use Rattle.switch_ports.proofs.Pending.{IsCorrection, IsEmission, correction_pending, emission_at, kind_of, pending_correction}
+use Rattle.schedule_tables.specs.Dispatches.{dispatch_order}
+use Rattle.schedule_tables.specs.declared.rule.Rule.TheVariants as rules
+use Rattle.switch_ports.proofs.Amounts.{its_amount}
+use Rattle.switch_ports.proofs.Awaiting.{value_is}
+use Rattle.switch_ports.proofs.Dispatching.{IsDispatch, dispatch_bound, dispatch_is, leaves_so, next_is, next_of, no_dispatch, not_sooner}
+use Rattle.switch_ports.proofs.Pending.{IsCorrection, IsEmission, correction_bound, correction_pending, emission_at, kind_of, no_correction, pending_correction}
+use Rattle.switch_ports.specs.Leaving.{IsLeaving, Precedes, dispatch_at, held_in}
+use Rattle.switch_ports.specs.Standing.{IsAccepted}
+use Rattle.switch_ports.specs.declared.departures.Dispatch.{Dispatch}
+use Rattle.switch_ports.specs.declared.departures.LeavingRow.{LeavingRow}
+use Rattle.tte_units.specs.Amount.{amount}
+use Rattle.net_plan.specs.declared.ids.RowId.{RowId}
+use Rattle.net_plan.specs.declared.tables.Row.{Row}
+use Rattle.run_law.specs.declared.steps.Moment.{Moment}
 use Rattle.switch_ports.specs.Standing.{StandsAs}
 use Rattle.switch_ports.specs.declared.switch.Switch.{Switch}
 use Rattle.sync_state.specs.Standing.{next_point}
@@ -56,51 +72,162 @@ order_last s network device node cycle (emitting sent) st next p before = p
 order_last s network device node cycle (doing (sending other)) st next p before = p
 order_last s network device node cycle (doing (dispatching row other)) st next p before = p
 
-due_of : (s : Switch) (network : Network) (device : DeviceId) (node : Node) (cycle : ℕ) (reading : ℤ) (task : Task) → StandsAs s network device node
-    → next_point node.standing ≡ Some cycle → IsCorrection network device node task → reading_for network node task ≤ℤ reading
-    → reading_for network node (doing (correcting cycle)) ≤ℤ reading
-due_of s network device node cycle reading (doing (correcting other)) st next p due =
-    subst (λ (n : ℕ). reading_for network node (doing (correcting n)) ≤ℤ reading)
-    (same_next (next_point node.standing) other cycle (pending_correction s network device node other st p).0 next) due
-due_of s network device node cycle reading (emitting sent) st next p due = absurd p
-due_of s network device node cycle reading (doing (sending other)) st next p due = absurd p
-due_of s network device node cycle reading (doing (dispatching row other)) st next p due = absurd p
+order_row : (s : Switch) (network : Network) (node : Node) (cycle : ℕ) (task : Task) → IsDispatch s network node task
+    → IsBefore (order_of network task) (2 ∷ cycle ∷ []) → ⊥
+order_row s network node cycle (doing (dispatching row other)) p (inl lt) = omega (arith, lt)
+order_row s network node cycle (doing (dispatching row other)) p (inr more) = omega (arith, more.0)
+order_row s network node cycle (doing (correcting other)) p before = p
+order_row s network node cycle (emitting sent) p before = p
+order_row s network node cycle (doing (sending other)) p before = p
 
--- where no collection is due, the correction is the first task
+-- where no collection is due, the correction that is due is the first task
 pub first_correction : (s : Switch) (network : Network) (device : DeviceId) (node : Node) (cycle : ℕ) (at : Units) (reading : ℤ) (o : Option Units)
-    → StandsAs s network device node → EmitsNone s reading o → s.corrects_at ≡ Some at → next_point node.standing ≡ Some cycle
-    → HasDue network device node reading
+    → StandsAs s network device node → EmitsNone s reading o → s.corrects_at ≡ Some at → next_point node.standing ≡ Some cycle → at.0 ≤ℤ reading
     → IsFirstTask network device node reading (doing (correcting cycle))
-first_correction s network device node cycle at reading o st none e next due =
+first_correction s network device node cycle at reading o st none e next reached =
     let p = correction_pending s network device node at st e in
     let same = same_next (next_point node.standing) p.0 cycle p.3 next in
     record {
       pending = subst (λ (n : ℕ). IsPending network device node (doing (correcting n))) same p.1;
-      due = elim (kind_of s network device node due.0 st due.1) [
-        | inl x ↦ absurd (emits_none s network node reading o due.0 none x due.2)
-        | inr y ↦ due_of s network device node cycle reading due.0 st next y due.2
-      ];
+      due = subst (λ (n : ℕ). reading_for network node (doing (correcting n)) ≤ℤ reading) same (subst (λ (z : ℤ). z ≤ℤ reading) (sym p.2) reached);
       first = λ other q here before. elim (kind_of s network device node other st q) [
         | inl x ↦ emits_none s network node reading o other none x here
-        | inr y ↦ order_last s network device node cycle other st next y before
+        | inr (inl y) ↦ order_last s network device node cycle other st next y before
+        | inr (inr z) ↦ order_row s network node cycle other z before
       ];
     }
 
-nothing_by : (s : Switch) (network : Network) (device : DeviceId) (node : Node) (task : Task) → StandsAs s network device node
-    → ((cycle : ℕ) (at : Units) → next_point s.sync ≡ Some cycle → s.corrects_at ≡ Some at → ⊥) → IsCorrection network device node task → ⊥
-nothing_by s network device node (doing (correcting cycle)) st never p =
-    let q = pending_correction s network device node cycle st p in
-    never cycle _ (ap next_point (sym st.standing) ∙ q.0) q.1
-nothing_by s network device node (emitting sent) st never p = p
-nothing_by s network device node (doing (sending other)) st never p = p
-nothing_by s network device node (doing (dispatching row other)) st never p = p
+-- a correction is to come where one is due
+pub its_next : (s : Switch) (network : Network) (device : DeviceId) (node : Node) (at : Units) → StandsAs s network device node → s.corrects_at ≡ Some at
+    → (cycle : ℕ) × (next_point s.sync ≡ Some cycle)
+its_next s network device node at st e =
+    let p = correction_pending s network device node at st e in (p.0, ap next_point (sym st.standing) ∙ p.3)
+
+-- ---- dispatches
+
+-- no correction is due
+pub corrects_none : (s : Switch) (network : Network) (device : DeviceId) (node : Node) (reading : ℤ) (o : Option Units) (task : Task)
+    → StandsAs s network device node → s.corrects_at ≡ o → IfSome o (λ at. reading <ℤ at.0) → IsCorrection network device node task
+    → reading_for network node task ≤ℤ reading → ⊥
+corrects_none s network device node reading None task st e later is due = no_correction s network device node task st e is
+corrects_none s network device node reading (Some at) task st e later is due =
+    too_late reading at.0 (reading_for network node task) later (correction_bound s network device node task at st e is) due
+
+on_from : (x y z : ℤ) → x ≤ℤ y → y ≤ℤ z → x ≤ℤ z
+on_from x y z a b = omega (arith, ints, a, b)
+
+from_not_less : (m n : ℕ) (adjustment : ℤ) → ((pos m -ℤ adjustment) <ℤ (pos n -ℤ adjustment) → ⊥) → n ≤ m
+from_not_less m n adjustment never = elim (cases_Bool (nat_le n m)) [
+  | inl y ↦ grind (arith, y)
+  | inr no_more ↦ let lt : m < n = grind (arith, no_more) in absurd (never (omega (arith, ints, lt)))
+]
+
+same_at : (o' o x y : ℕ) (adjustment : ℤ) → x ≤ y → y + o ≤ x + o' → o' ≡ o → pos (x + o') -ℤ adjustment ≡ pos (y + o) -ℤ adjustment
+same_at o' o x y adjustment le from e = let same : x + o' ≡ y + o = omega (arith, le, from, e) in ap (λ (n : ℕ). pos n -ℤ adjustment) same
+
+order_tie : (o' l' r' o l r x y : ℕ) (adjustment : ℤ) → x ≤ y → y + o ≤ x + o'
+    → (pos (x + o') -ℤ adjustment ≡ pos (y + o) -ℤ adjustment → (l' < l) ⊎ ((l' ≡ l) × (r' < r)) → ⊥)
+    → IsBefore (o' ∷ l' ∷ r' ∷ []) (o ∷ l ∷ r ∷ []) → ⊥
+order_tie o' l' r' o l r x y adjustment le from tie (inl lt) = omega (arith, le, from, lt)
+order_tie o' l' r' o l r x y adjustment le from tie (inr (e, inl lt)) = tie (same_at o' o x y adjustment le from e) (inl lt)
+order_tie o' l' r' o l r x y adjustment le from tie (inr (e, inr (f, inl lt))) = tie (same_at o' o x y adjustment le from e) (inr (f, lt))
+order_tie o' l' r' o l r x y adjustment le from tie (inr (e, inr (f, inr more))) = more.1
+
+-- one dispatch is not before the other by offsets, links and rows, if it is not by readings, links and rows, and both are due
+order_clash : (o' l' r' o l r c' c L p : ℕ) (adjustment reading precision : ℤ) → o + 4 * p ≤ L → precision ≡ pos p
+    → (pos (c' * L + o') -ℤ adjustment) ≤ℤ reading → reading <ℤ ((pos (c * L + o) -ℤ adjustment) +ℤ precision)
+    → ((pos (c' * L + o') -ℤ adjustment) <ℤ (pos (c * L + o) -ℤ adjustment) → ⊥)
+    → (pos (c' * L + o') -ℤ adjustment ≡ pos (c * L + o) -ℤ adjustment → (l' < l) ⊎ ((l' ≡ l) × (r' < r)) → ⊥)
+    → IsBefore (o' ∷ l' ∷ r' ∷ []) (o ∷ l ∷ r ∷ []) → ⊥
+order_clash o' l' r' o l r c' c L p adjustment reading precision ends prec due in_time never tie before =
+    let from : c * L + o ≤ c' * L + o' = from_not_less (c' * L + o') (c * L + o) adjustment never in
+    let to : c' * L + o' < c * L + o + p = omega (arith, ints, due, in_time, prec) in
+    elim (cases_Bool (nat_le c' c)) [
+      | inl y ↦
+          let le : c' ≤ c = grind (arith, y) in
+          let less : c' * L ≤ c * L = mul-le-mul_right L le in
+          order_tie o' l' r' o l r (c' * L) (c * L) adjustment less from tie before
+      | inr n ↦
+          let more : c + 1 ≤ c' = grind (arith, n) in
+          let far : (c + 1) * L ≤ c' * L = mul-le-mul_right L more in
+          omega (arith, far, to, ends)
+    ]
+
+order_is : (network : Network) (device : DeviceId) (of : LeavingRow) → IsLeaving network device of
+    → dispatch_order network of.row ≡ of.offset ∷ of.link.0 ∷ of.row.0 ∷ []
+order_is network device of is =
+    ap (λ (o : Option Row). option_map_or (λ r. amount r.offset ∷ r.link.0 ∷ of.row.0 ∷ []) o []) is.is.row
+    ∙ ap (λ (x : LeavingRow). x.offset ∷ x.link.0 ∷ of.row.0 ∷ []) (sym is.kept)
+
+ends_in : (network : Network) (device : DeviceId) (of : LeavingRow) → IsAccepted network → IsLeaving network device of
+    → of.offset + 4 * amount network.precision ≤ amount network.cycle
+ends_in network device of accepted is =
+    let ends = accepted.rules rules.WindowEnds of.row.0 is.entry is.is in
+    let offset : of.offset ≡ amount is.entry.row.offset = ap (λ (x : LeavingRow). x.offset) is.kept in
+    omega (arith, ends, offset)
+
+-- no other dispatch that is due is before the next
+order_next : (s : Switch) (network : Network) (device : DeviceId) (node : Node) (next : Dispatch) (reading : ℤ) (task : Task)
+    → StandsAs s network device node → s.departures.next ≡ Some next
+    → reading <ℤ (reading_for network node (doing (dispatching next.row next.cycle)) +ℤ network.precision.0)
+    → IsDispatch s network node task → reading_for network node task ≤ℤ reading
+    → IsBefore (order_of network task) (order_of network (doing (dispatching next.row next.cycle))) → ⊥
+order_next s network device node next reading (emitting sent) st e in_time is here before = is
+order_next s network device node next reading (doing (sending cycle)) st e in_time is here before = is
+order_next s network device node next reading (doing (correcting cycle)) st e in_time is here before = is
+order_next s network device node next reading (doing (dispatching row cycle)) st e in_time is here (inl lt) = omega (arith, lt)
+order_next s network device node next reading (doing (dispatching row cycle)) st e in_time (d, there, awaited, same, sync) here (inr (three, before)) =
+    let n = next_of s network device node next st e in
+    let L = amount network.cycle in
+    let mine = leaves_so s network device node n.d st n.there in
+    let other = leaves_so s network device node d st there in
+    let its_row : n.d.of.row ≡ next.row = sym (ap (λ (x : Dispatch). x.row) n.is) in
+    let never = not_sooner s network device node next d (held_in L d.of cycle) st e there awaited in
+    let apart = subst (λ (x : Dispatch). Precedes (dispatch_at node.standing.adjustment.0 d.of (held_in L d.of cycle)) x → ⊥) n.is never in
+    let at : next.at.0 ≡ pos (next.cycle * L + n.d.of.offset) -ℤ node.standing.adjustment.0 = ap (λ (x : Dispatch). x.at.0) n.is in
+    let its_at = (next_is s network device node next st e).1 ∙ at in
+    order_clash d.of.offset d.of.link.0 d.of.row.0 n.d.of.offset n.d.of.link.0 n.d.of.row.0 cycle next.cycle L (amount network.precision)
+    node.standing.adjustment.0 reading network.precision.0 (ends_in network device n.d.of st.accepted mine)
+    (its_amount _ _ network.precision st.accepted.range.precision)
+    (subst (λ (z : ℤ). (z -ℤ node.standing.adjustment.0) ≤ℤ reading) (value_is network device d.of cycle other)
+    (subst (λ (x : RowId). reading_for network node (doing (dispatching x cycle)) ≤ℤ reading) (sym same) here))
+    (subst (λ (z : ℤ). reading <ℤ (z +ℤ network.precision.0)) its_at in_time)
+    (λ lt. apart (inl lt)) (λ tie last. apart (inr (tie, last)))
+    (subst (λ (xs : List ℕ). IsBefore xs (n.d.of.offset ∷ n.d.of.link.0 ∷ n.d.of.row.0 ∷ [])) (order_is network device d.of other)
+    (subst (λ (x : RowId). IsBefore (dispatch_order network x) (n.d.of.offset ∷ n.d.of.link.0 ∷ n.d.of.row.0 ∷ [])) (sym same)
+    (subst (IsBefore (dispatch_order network row)) (order_is network device n.d.of mine)
+    (subst (λ (x : RowId). IsBefore (dispatch_order network row) (dispatch_order network x)) (sym its_row) before))))
+
+-- where no collection and no correction is due, the dispatch that comes next is the first task
+pub first_dispatch : (s : Switch) (network : Network) (device : DeviceId) (node : Node) (next : Dispatch) (moment : Moment) (o : Option Units)
+    → StandsAs s network device node → MayCall network device node moment acting → EmitsNone s moment.reading.0 o
+    → IfSome s.corrects_at (λ at. moment.reading.0 <ℤ at.0) → s.departures.next ≡ Some next → HasDue network device node moment.reading.0
+    → IsFirstTask network device node moment.reading.0 (doing (dispatching next.row next.cycle))
+first_dispatch s network device node next moment o st may none later e due =
+    let n = next_is s network device node next st e in
+    let pending = dispatch_is s network device node (doing (dispatching next.row next.cycle)) st n.0 in
+    record {
+      pending = pending;
+      due = subst (λ (z : ℤ). z ≤ℤ moment.reading.0) (sym n.1) (elim (kind_of s network device node due.0 st due.1) [
+        | inl x ↦ absurd (emits_none s network node moment.reading.0 o due.0 none x due.2)
+        | inr (inl y) ↦ absurd (corrects_none s network device node moment.reading.0 s.corrects_at due.0 st refl later y due.2)
+        | inr (inr z) ↦ on_from _ _ _ (dispatch_bound s network device node next due.0 st e z) due.2
+      ]);
+      first = λ other q here before. elim (kind_of s network device node other st q) [
+        | inl x ↦ emits_none s network node moment.reading.0 o other none x here
+        | inr (inl y) ↦ corrects_none s network device node moment.reading.0 s.corrects_at other st refl later y here
+        | inr (inr z) ↦ order_next s network device node next moment.reading.0 other st e (may.in_time (doing (dispatching next.row next.cycle)) pending)
+            z here before
+      ];
+    }
 
 -- and without one nothing is due
 pub nothing_due : (s : Switch) (network : Network) (device : DeviceId) (node : Node) (reading : ℤ) (o : Option Units) → StandsAs s network device node
-    → EmitsNone s reading o → ((cycle : ℕ) (at : Units) → next_point s.sync ≡ Some cycle → s.corrects_at ≡ Some at → ⊥) → HasDue network device node reading → ⊥
-nothing_due s network device node reading o st none never due = elim (kind_of s network device node due.0 st due.1) [
+    → EmitsNone s reading o → IfSome s.corrects_at (λ at. reading <ℤ at.0) → s.departures.next ≡ None → HasDue network device node reading → ⊥
+nothing_due s network device node reading o st none later absent due = elim (kind_of s network device node due.0 st due.1) [
   | inl x ↦ emits_none s network node reading o due.0 none x due.2
-  | inr y ↦ nothing_by s network device node due.0 st never y
+  | inr (inl y) ↦ corrects_none s network device node reading s.corrects_at due.0 st refl later y due.2
+  | inr (inr z) ↦ no_dispatch s network device node due.0 st absent z
 ]
 
 pub value_reached : (value adjustment reading : ℤ) → (value -ℤ adjustment) ≤ℤ reading → value ≤ℤ (reading +ℤ adjustment)

@@ -27,6 +27,7 @@ use Rattle.run_law.specs.machines.Calls.{MayCall}
 use Rattle.run_law.specs.machines.Nodes.{ClockTask, Node, Phase, correcting}
 use Rattle.run_law.specs.machines.Tasks.{doing}
 use Rattle.run_law.specs.scenario.Devices.{expected_by, plan_of}
+use Rattle.switch_ports.proofs.Awaiting.{awaits_called, departs_stopped}
 use Rattle.switch_ports.proofs.Amounts.{amount_most, its_amount}
 use Rattle.switch_ports.proofs.Fair.{HasRoom, IsHeardBefore, ahead, behind, kept, not_earlier, within_in}
 use Rattle.switch_ports.proofs.Ranges.{expected_most}
@@ -38,6 +39,7 @@ use Rattle.switch_ports.specs.Standpoints.{IsPoint}
 use Rattle.switch_ports.specs.Steady.{IsFair, is_timed}
 use Rattle.switch_ports.specs.Steps.{Hears, Joins}
 use Rattle.switch_ports.specs.declared.intake.Intake.{Intake}
+use Rattle.switch_ports.specs.declared.departures.Departures.{Departures}
 use Rattle.switch_ports.specs.declared.switch.Switch.{Switch}
 use Rattle.sync_state.specs.Calls.{after, heard_frame}
 use Rattle.sync_state.specs.Integration.{joined_by}
@@ -156,7 +158,6 @@ with_heard_list : (s new : Switch) (network : Network) (device : DeviceId) (node
     → StandsAs (record s { heard = new.heard }) network device (called moment phase (with_heard node channel frame point within))
 with_heard_list s new network device node moment phase channel frame point within st later h fair = record {
   accepted = st.accepted;
-  leaves = st.leaves;
   intake = st.intake;
   site = st.site;
   sound = st.sound;
@@ -176,6 +177,8 @@ with_heard_list s new network device node moment phase channel frame point withi
     fair = λ lt ch. kept (IsFair network node.standing) s.heard new.heard channel frame point within h.kept (fair timed lt) (o.fair lt) ch;
   };
   collects = st.collects;
+  departs = st.departs;
+  awaits = awaits_called s network device node moment st later;
 }
 
 -- it has heard one more frame
@@ -258,7 +261,6 @@ joins_stands s new network device node moment phase frame point st may is used h
     (omega (arith, ints, ec)) refl is.reached refl (times_three _ _ p) (times_two _ _ r) (eight _ _ _ _ (room network device st.accepted)) in
     record {
       accepted = st.accepted;
-      leaves = st.leaves;
       intake = subst (λ (i : Intake). HasTaken network device i node.taken) (sym h.intake) st.intake;
       site = subst (IsSiteOf network device) (sym h.site) st.site;
       sound = st.sound;
@@ -282,4 +284,6 @@ joins_stands s new network device node moment phase frame point st may is used h
         fair = λ lt ch. silent (IsFair network standing) new.heard ch h.heard;
       };
       collects = fresh_collects s.collector new.collector network device node.points node.emitted st.collects h.collector;
+      departs = departs_stopped network device s.departures new.departures node.taken h.departures st.departs;
+      awaits = ap (λ (ds : Departures). ds.next) h.departures;
     }

@@ -14,6 +14,7 @@ pub mod HeardKinds
 pub mod CorrectionPoints
 pub mod CorrectedStands
 pub mod FirstActs
+pub mod DispatchStands
 pub mod Beginning
 pub mod Emissions
 pub mod MasterBits
@@ -21,3 +22,8 @@ pub mod CmLinks
 pub mod Collected
 pub mod Entrances
 pub mod Takings
+pub mod EachRow
+pub mod RowOrder
+pub mod Trees
+pub mod Awaiting
+pub mod Dispatching

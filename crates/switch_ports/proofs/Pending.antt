@@ -1,6 +1,6 @@
 -- What a switch has still to do.
 use Rattle.std.proofs.Common.{◌≡◌, ◌∙◌, ◌⊎◌, inl, inr, ℕ, ◌<◌, ℤ, pos, ◌-ℤ◌, ◌≤ℤ◌, ◌<ℤ◌, Bool, true, false, List, [], ◌∷◌, ◌++◌, Option, Some, None, refl, sym, subst, ap, arith}
-use Rattle.std.specs.Prelude.{int_le, int_lt, IfSome, IsNone, ◌↔◌, option_and_then}
+use Rattle.std.specs.Prelude.{int_le, int_lt, IfSome, IsNone, ◌↔◌, option_and_then, option_map}
 use Rattle.std.specs.List.{Contains}
 use Rattle.std.proofs.lemmas.Int.{ints}
 use Rattle.std.proofs.lemmas.Bool.{cases_Bool}
@@ -19,10 +19,12 @@ use Rattle.run_law.specs.machines.Nodes.{Node, sending, correcting, dispatching}
 use Rattle.run_law.specs.machines.Tasks.{IsDueReading, IsPending, Task, emitting, doing, reading_for}
 use Rattle.run_law.specs.scenario.Devices.{is_cm}
 use Rattle.switch_ports.proofs.Amounts.{its_amount}
+use Rattle.switch_ports.proofs.Dispatching.{IsDispatch, dispatch_bound, dispatch_is, next_is, no_dispatch, pending_dispatch}
 use Rattle.switch_ports.proofs.Waiting.{in_map, to_map, unsent, waits}
 use Rattle.switch_ports.specs.Corrections.{reading_of}
 use Rattle.switch_ports.specs.Due.{least_of}
 use Rattle.switch_ports.specs.Standing.{StandsAs}
+use Rattle.switch_ports.specs.declared.departures.Dispatch.{Dispatch}
 use Rattle.switch_ports.specs.declared.switch.Switch.{Switch}
 use Rattle.sync_state.specs.Standing.{next_point, point_in}
 use Rattle.sync_state.specs.declared.state.State.TheVariants.{Off, Integrating, Joining, Synchronised}
@@ -157,12 +159,16 @@ abbrev pub IsCorrection : Network → DeviceId → Node → Task → Type 0
 IsCorrection network device node (doing (correcting cycle)) = IsPending network device node (doing (correcting cycle))
 IsCorrection network device node other = ⊥
 
+-- the task is done where the local clock reaches a value
+abbrev pub IsClocked : Switch → Network → DeviceId → Node → Task → Type 0
+IsClocked s network device node task = IsCorrection network device node task ⊎ IsDispatch s network node task
+
 pub kind_of : (s : Switch) (network : Network) (device : DeviceId) (node : Node) (task : Task) → StandsAs s network device node
-    → IsPending network device node task → IsEmission s task ⊎ IsCorrection network device node task
+    → IsPending network device node task → IsEmission s task ⊎ IsClocked s network device node task
 kind_of s network device node (emitting sent) st p = inl (pending_emission s network device node sent st p)
-kind_of s network device node (doing (correcting cycle)) st p = inr p
+kind_of s network device node (doing (correcting cycle)) st p = inr (inl p)
 kind_of s network device node (doing (sending cycle)) st p = absurd (not_both _ st.site.not_master p.1.own.0)
-kind_of s network device node (doing (dispatching row cycle)) st p = absurd (st.leaves row.0 p.1.own.1.entry p.1.own.1.is p.1.own.1.leaves)
+kind_of s network device node (doing (dispatching row cycle)) st p = inr (inr (pending_dispatch s network device node row cycle st p))
 
 pub emission_is : (s : Switch) (network : Network) (device : DeviceId) (node : Node) (task : Task) → StandsAs s network device node → IsEmission s task
     → IsPending network device node task
@@ -192,7 +198,7 @@ emission_bound s network node (emitting sent) at least (c, there, is) =
     subst (λ (e : Compressed). at.0 ≤ℤ e.at.0) (sym is) (All-contains (λ x. at.0 ≤ℤ x) (emissions s.collector) (emission s.collector.ow s.collector.calc c)
     least.bound (emission_at s c there))
 
-no_correction : (s : Switch) (network : Network) (device : DeviceId) (node : Node) (task : Task) → StandsAs s network device node → s.corrects_at ≡ None
+pub no_correction : (s : Switch) (network : Network) (device : DeviceId) (node : Node) (task : Task) → StandsAs s network device node → s.corrects_at ≡ None
     → IsCorrection network device node task → ⊥
 no_correction s network device node (doing (correcting cycle)) st e p = let f = sym e ∙ (pending_correction s network device node cycle st p).1 in cc
 no_correction s network device node (emitting sent) st e p = p
@@ -202,7 +208,7 @@ no_correction s network device node (doing (dispatching row cycle)) st e p = p
 its_number : (a b : Units) → Some a ≡ Some b → a.0 ≡ b.0
 its_number a b e = cc
 
-correction_bound : (s : Switch) (network : Network) (device : DeviceId) (node : Node) (task : Task) (at : Units) → StandsAs s network device node
+pub correction_bound : (s : Switch) (network : Network) (device : DeviceId) (node : Node) (task : Task) (at : Units) → StandsAs s network device node
     → s.corrects_at ≡ Some at → IsCorrection network device node task → at.0 ≤ℤ reading_for network node task
 correction_bound s network device node (doing (correcting cycle)) at st e p =
     let same = its_number at _ (sym e ∙ (pending_correction s network device node cycle st p).1) in omega (arith, ints, same)
@@ -250,12 +256,29 @@ is_least : (network : Network) (device : DeviceId) (node : Node) (o : Option Uni
 is_least network device node None h = h
 is_least network device node (Some at) h = h
 
--- the less of what the collector and the correction wait for is due
+clocked_is : (s : Switch) (network : Network) (device : DeviceId) (node : Node) (task : Task) → StandsAs s network device node
+    → IsClocked s network device node task → IsPending network device node task
+clocked_is s network device node task st (inl p) = correction_is network device node task p
+clocked_is s network device node task st (inr p) = dispatch_is s network device node task st p
+
+least_dispatch : (s : Switch) (network : Network) (device : DeviceId) (node : Node) (o : Option Dispatch) → StandsAs s network device node
+    → s.departures.next ≡ o → IsLeastOf (IsDispatch s network node) (reading_for network node) (option_map (λ next. next.at) o)
+least_dispatch s network device node None st e = λ task is. no_dispatch s network device node task st e is
+least_dispatch s network device node (Some next) st e =
+    let n = next_is s network device node next st e in
+    ((doing (dispatching next.row next.cycle), n.0, n.1), λ task is. dispatch_bound s network device node next task st e is)
+
+-- the least of what the collector, the correction and the rows wait for is due
 pub is_due : (s : Switch) (network : Network) (device : DeviceId) (node : Node) (o : Option Units) → StandsAs s network device node
     → (IsNone o ↔ (s.collector.waiting ≡ [])) → IfSome o (λ at. IsLeast at.0 (emissions s.collector))
-    → IsDueReading network device node (least_of o s.corrects_at)
+    → IsDueReading network device node (least_of o (least_of s.corrects_at (option_map (λ next. next.at) s.departures.next)))
 is_due s network device node o st none least =
-    is_least network device node (least_of o s.corrects_at)
-    (join_least (IsPending network device node) (IsEmission s) (IsCorrection network device node) (reading_for network node) o s.corrects_at
-    (λ task p. kind_of s network device node task st p) (λ task p. emission_is s network device node task st p) (correction_is network device node)
-    (least_emission s network node o none least) (least_correction s network device node s.corrects_at st refl))
+    let dispatches = option_map (λ (next : Dispatch). next.at) s.departures.next in
+    is_least network device node (least_of o (least_of s.corrects_at dispatches))
+    (join_least (IsPending network device node) (IsEmission s) (IsClocked s network device node) (reading_for network node) o
+    (least_of s.corrects_at dispatches)
+    (λ task p. kind_of s network device node task st p) (λ task p. emission_is s network device node task st p)
+    (λ task p. clocked_is s network device node task st p) (least_emission s network node o none least)
+    (join_least (IsClocked s network device node) (IsCorrection network device node) (IsDispatch s network node) (reading_for network node) s.corrects_at
+    dispatches (λ task p. p) (λ task p. inl p) (λ task p. inr p) (least_correction s network device node s.corrects_at st refl)
+    (least_dispatch s network device node s.departures.next st refl)))

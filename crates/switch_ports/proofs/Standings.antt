@@ -19,6 +19,7 @@ use Rattle.run_law.specs.machines.Answers.{after_arrival, called}
 use Rattle.run_law.specs.machines.Calls.{MayCall}
 use Rattle.run_law.specs.machines.Nodes.{Node, Phase, standpoint_at}
 use Rattle.run_law.specs.scenario.Devices.{is_parent_of, is_relay}
+use Rattle.switch_ports.proofs.Awaiting.{awaits_called}
 use Rattle.switch_ports.proofs.Ranges.{site_in_range}
 use Rattle.switch_ports.specs.Standing.{StandsAs}
 use Rattle.switch_ports.specs.Standpoints.{IsAlive, standpoint_of}
@@ -50,7 +51,6 @@ pub called_stands : (s : Switch) (network : Network) (device : DeviceId) (node :
     → node.last.reading.0 ≤ℤ moment.reading.0 → StandsAs s network device (called moment phase node)
 called_stands s network device node moment phase st later = record {
   accepted = st.accepted;
-  leaves = st.leaves;
   site = st.site;
   sound = st.sound;
   standing = st.standing;
@@ -71,6 +71,8 @@ called_stands s network device node moment phase st later = record {
       };
   intake = st.intake;
   collects = st.collects;
+  departs = st.departs;
+  awaits = awaits_called s network device node moment st later;
 }
 
 -- ---- arrivals

@@ -1,5 +1,5 @@
 -- Time-triggered frames that a switch takes.
-use Rattle.std.proofs.Common.{◌≡◌, ◌∙◌, ⊎_elim, ℕ, zero, suc, ◌<◌, ◌≤◌, ℤ, ◌≤ℤ◌, Bool, true, false, ◌==◌, cond, List, [], ◌∷◌, ◌++◌, length, map, Option, Some, None, refl, sym, subst, ap, arith}
+use Rattle.std.proofs.Common.{◌*◌, ◌^◌, ◌+ℤ◌, ◌≡◌, ◌∙◌, ⊎_elim, ℕ, zero, suc, ◌<◌, ◌≤◌, ℤ, ◌≤ℤ◌, Bool, true, false, ◌==◌, cond, List, [], ◌∷◌, ◌++◌, length, map, Option, Some, None, refl, sym, subst, ap, arith}
 use Rattle.std.specs.Prelude.{find, filter, slice_get, option_map, option_and_then, unwrap_or, IfSome}
 use Rattle.std.specs.Int.{int_rem_euclid}
 use Rattle.std.specs.List.{All, last_or}
@@ -18,19 +18,29 @@ use Rattle.run_law.specs.declared.steps.Arrival.TheVariants as arrivals
 use Rattle.run_law.specs.declared.steps.Arrival.{Arrival}
 use Rattle.run_law.specs.declared.steps.Moment.{Moment}
 use Rattle.run_law.specs.device.Standpoints.{Standpoint, clock_of}
-use Rattle.run_law.specs.machines.Answers.{after_arrival, called}
+use Rattle.run_law.specs.machines.Answers.{after_arrival, called, with_taken}
 use Rattle.run_law.specs.machines.Nodes.{Node, TakenFrame, arriving}
 use Rattle.run_law.specs.scenario.Devices.{is_end}
 use Rattle.run_law.specs.timed.Arrivals.{entry_arrival, entry_of, row_fault, taken_or_fault}
 use Rattle.schedule_tables.proofs.EntryLemmas.{all_at}
 use Rattle.schedule_tables.specs.declared.entry.Entry.{Entry}
+use Rattle.switch_ports.proofs.Awaiting.{awaits_taken, departs_taken, later_by, taken_as}
 use Rattle.switch_ports.proofs.Entrances.{enters, find_of, some_at}
 use Rattle.switch_ports.proofs.Standings.{called_stands, further, through}
 use Rattle.switch_ports.specs.Intakes.{AreEntrances, IsTakenSo, IsWhole, Takes, cycle_of, entering_by, entrance_cmp, fault_arrival, fault_of, first_entering, last_in, row_arrival}
+use Rattle.switch_ports.specs.Departing.{AwaitsIn, Changes, HasDepartures, IsKeptSo, Keeps, KnowsNext}
+use Rattle.switch_ports.specs.Tournaments.{AreLeaves}
 use Rattle.switch_ports.specs.Standing.{HasTaken, StandsAs, last_by}
+use Rattle.switch_ports.specs.declared.departures.Departures.{Departures}
+use Rattle.switch_ports.specs.declared.standpoint.Standpoint.{Standpoint as Place}
 use Rattle.switch_ports.specs.declared.intake.EnteringRow.{EnteringRow}
 use Rattle.switch_ports.specs.declared.intake.Intake.{Intake}
 use Rattle.switch_ports.specs.declared.switch.Switch.{Switch}
+use Rattle.sync_state.specs.Standing.{Standing}
+use Rattle.sync_state.specs.declared.plan.SyncPlan.{SyncPlan}
+use Rattle.sync_state.specs.declared.state.State.TheVariants.{Synchronised}
+use Rattle.tte_units.specs.Amount.{amount}
+use Rattle.tte_units.specs.declared.units.Units.{Units}
 
 -- ---- what is kept can be judged
 
@@ -128,12 +138,23 @@ has_taken network device old new taken t has takes = record {
       (cases_Bool (t.vl.0 == vl.0));
 }
 
-with_intake : (s : Switch) (intake : Intake) (network : Network) (device : DeviceId) (node : Node) (moment : Moment) (taken : List TakenFrame)
-    → StandsAs s network device node → node.last.reading.0 ≤ℤ moment.reading.0 → HasTaken network device intake taken
-    → StandsAs (record s { intake = intake }) network device (called moment arriving (record node { taken = taken }))
-with_intake s intake network device node moment taken st later has = record {
+-- a frame that is not taken is not kept
+pub not_accepted : (ds : Departures) (size : ℕ) (changed : ℤ) (at : Place) (is : Arrival)
+    → ((vl : VlId) (cycle : ℕ) → is ≡ arrivals.Accepted vl cycle → ⊥) → IsKeptSo ds size changed at is ds
+not_accepted ds size changed at (arrivals.Accepted vl cycle) never = absurd (never vl cycle refl)
+not_accepted ds size changed at (arrivals.Delivered vl cycle) never = refl
+not_accepted ds size changed at (arrivals.Dropped reason) never = refl
+not_accepted ds size changed at (arrivals.Waits frame point) never = refl
+not_accepted ds size changed at (arrivals.Passes frame way) never = refl
+not_accepted ds size changed at (arrivals.PassesAndWaits frame way point) never = refl
+
+with_intake : (s : Switch) (intake : Intake) (ds : Departures) (network : Network) (device : DeviceId) (node : Node) (moment : Moment)
+    (taken : List TakenFrame) → StandsAs s network device node → node.last.reading.0 ≤ℤ moment.reading.0 → HasTaken network device intake taken
+    → HasDepartures network device ds taken
+    → AwaitsIn node.standing.state network ds node.standing.adjustment.0 node.changed node.done (moment.reading.0 +ℤ node.standing.adjustment.0)
+    → StandsAs (record s { intake = intake; departures = ds }) network device (called moment arriving (record node { taken = taken }))
+with_intake s intake ds network device node moment taken st later has departs awaits = record {
   accepted = st.accepted;
-  leaves = st.leaves;
   site = st.site;
   sound = st.sound;
   standing = st.standing;
@@ -154,26 +175,65 @@ with_intake s intake network device node moment taken st later has = record {
       };
   intake = has;
   collects = st.collects;
+  departs = departs;
+  awaits = awaits;
 }
 
-not_taken : (s : Switch) (intake : Intake) (network : Network) (device : DeviceId) (node : Node) (moment : Moment) → StandsAs s network device node
-    → node.last.reading.0 ≤ℤ moment.reading.0 → intake ≡ s.intake → StandsAs (record s { intake = intake }) network device (called moment arriving node)
-not_taken s intake network device node moment st later same =
-    subst (λ (i : Intake). StandsAs (record s { intake = i }) network device (called moment arriving node)) (sym same)
-    (called_stands s network device node moment arriving st later)
+-- where the switch stands when the frame comes
+pub record IsHere (s : Switch) (moment : Moment) (at : Place) : Type 0 where
+  pub state : at.state ≡ s.sync.state
+  pub reading : at.reading ≡ moment.reading
+  pub adjustment : at.adjustment ≡ s.sync.adjustment
+
+accepted_stands : (s : Switch) (intake : Intake) (ds : Departures) (network : Network) (device : DeviceId) (node : Node) (moment : Moment) (at : Place)
+    (vl : VlId) (cycle : ℕ) → StandsAs s network device node → node.last.reading.0 ≤ℤ moment.reading.0 → IsHere s moment at
+    → Takes s.intake vl cycle intake → Keeps s.departures (amount s.site.plan.cycle_length) s.changed.0 at vl cycle ds
+    → StandsAs (record s { intake = intake; departures = ds }) network device (called moment arriving (with_taken node moment vl cycle))
+accepted_stands s intake ds network device node moment at vl cycle st later here takes keeps =
+    let local = moment.reading.0 +ℤ node.standing.adjustment.0 in
+    let t : TakenFrame = record { vl = vl; cycle = cycle; at = local } in
+    let adjustment : at.adjustment ≡ node.standing.adjustment = here.adjustment ∙ ap (λ (x : Standing). x.adjustment) (sym st.standing) in
+    let length_is : amount s.site.plan.cycle_length ≡ amount network.cycle = ap (λ (p : SyncPlan). amount p.cycle_length) st.site.plan in
+    let at_is : at.reading.0 +ℤ at.adjustment.0 ≡ local =
+    ap (λ (u : Units). u.0 +ℤ at.adjustment.0) here.reading ∙ ap (λ (u : Units). moment.reading.0 +ℤ u.0) adjustment in
+    let changes : Changes (taken_as (amount network.cycle) node.changed t) s.departures ds =
+    subst (λ (z : ℤ). Changes (taken_as (amount network.cycle) z t) s.departures ds) (sym st.changed)
+    (subst (λ (n : ℕ). Changes (taken_as n s.changed.0 t) s.departures ds) length_is
+    (subst (λ (z : ℤ). Changes (taken_as (amount s.site.plan.cycle_length) s.changed.0 (record { vl = vl; cycle = cycle; at = z })) s.departures ds) at_is
+    keeps.changes)) in
+    let state : node.standing.state ≡ Synchronised = ap (λ (x : Standing). x.state) st.standing ∙ sym here.state ∙ keeps.synchronised in
+    with_intake s intake ds network device node moment (node.taken ++ t ∷ []) st later (has_taken network device s.intake intake node.taken t st.intake takes)
+    (departs_taken network device s.departures ds node.taken t node.changed
+    (subst (λ (n : ℕ). cycle * n ≤ 2 ^ 62) length_is keeps.in_range) changes st.departs)
+    (awaits_taken node.standing.state network device s.departures ds node.taken t node.standing.adjustment.0 node.changed
+    (node.last.reading.0 +ℤ node.standing.adjustment.0) node.done state st.departs changes
+    (subst (λ (u : Units). AreLeaves u.0 s.departures.rows.items s.departures.tree.nodes.items → KnowsNext u.0 ds) adjustment keeps.next) st.awaits
+    (later_by node.last.reading.0 moment.reading.0 node.standing.adjustment.0 later))
+
+not_taken : (s : Switch) (intake : Intake) (ds : Departures) (network : Network) (device : DeviceId) (node : Node) (moment : Moment)
+    → StandsAs s network device node → node.last.reading.0 ≤ℤ moment.reading.0 → intake ≡ s.intake → ds ≡ s.departures
+    → StandsAs (record s { intake = intake; departures = ds }) network device (called moment arriving node)
+not_taken s intake ds network device node moment st later same as_before =
+    subst (λ (i : Intake). StandsAs (record s { intake = i; departures = ds }) network device (called moment arriving node)) (sym same)
+    (subst (λ (x : Departures). StandsAs (record s { departures = x }) network device (called moment arriving node)) (sym as_before)
+    (called_stands s network device node moment arriving st later))
 
 -- the switch of whose frame this became
-pub arrival_stands : (s : Switch) (intake : Intake) (network : Network) (device : DeviceId) (node : Node) (moment : Moment) (is : Arrival)
-    → StandsAs s network device node → node.last.reading.0 ≤ℤ moment.reading.0 → IsTakenSo s.intake intake is
-    → StandsAs (record s { intake = intake }) network device (called moment arriving (after_arrival node moment is))
-arrival_stands s intake network device node moment (arrivals.Accepted vl cycle) st later so =
-    with_intake s intake network device node moment _ st later (has_taken network device s.intake intake node.taken _ st.intake so)
-arrival_stands s intake network device node moment (arrivals.Delivered vl cycle) st later so = absurd so
-arrival_stands s intake network device node moment (arrivals.Dropped reason) st later so = not_taken s intake network device node moment st later so
-arrival_stands s intake network device node moment (arrivals.Waits frame point) st later so = not_taken s intake network device node moment st later so
-arrival_stands s intake network device node moment (arrivals.Passes frame way) st later so = not_taken s intake network device node moment st later so
-arrival_stands s intake network device node moment (arrivals.PassesAndWaits frame way point) st later so =
-    not_taken s intake network device node moment st later so
+pub arrival_stands : (s : Switch) (intake : Intake) (ds : Departures) (network : Network) (device : DeviceId) (node : Node) (moment : Moment) (at : Place)
+    (is : Arrival) → StandsAs s network device node → node.last.reading.0 ≤ℤ moment.reading.0 → IsHere s moment at → IsTakenSo s.intake intake is
+    → IsKeptSo s.departures (amount s.site.plan.cycle_length) s.changed.0 at is ds
+    → StandsAs (record s { intake = intake; departures = ds }) network device (called moment arriving (after_arrival node moment is))
+arrival_stands s intake ds network device node moment at (arrivals.Accepted vl cycle) st later here so kept =
+    accepted_stands s intake ds network device node moment at vl cycle st later here so kept
+arrival_stands s intake ds network device node moment at (arrivals.Delivered vl cycle) st later here so kept = absurd so
+arrival_stands s intake ds network device node moment at (arrivals.Dropped reason) st later here so kept =
+    not_taken s intake ds network device node moment st later so kept
+arrival_stands s intake ds network device node moment at (arrivals.Waits frame point) st later here so kept =
+    not_taken s intake ds network device node moment st later so kept
+arrival_stands s intake ds network device node moment at (arrivals.Passes frame way) st later here so kept =
+    not_taken s intake ds network device node moment st later so kept
+arrival_stands s intake ds network device node moment at (arrivals.PassesAndWaits frame way point) st later here so kept =
+    not_taken s intake ds network device node moment st later so kept
 
 get_nil : (n : ℕ) → slice_get {X = Option ℕ} [] n ≡ None
 get_nil zero = refl

@@ -1,5 +1,5 @@
 -- Which time-triggered frames a switch takes.
-use Rattle.std.specs.Prelude.{◌≡◌, ℕ, ◌≤◌, ◌<◌, ◌%◌, nat_le, int_lt, ℤ, Bool, not, ◌&&◌, ◌||◌, ◌==◌, List, [], ◌∷◌, length, Option, Some, None, option_map, option_and_then, find, slice_get, unwrap_or, IfSome, IsSome}
+use Rattle.std.specs.Prelude.{◌≡◌, ℕ, ◌≤◌, ◌<◌, ◌*◌, ◌^◌, ◌%◌, nat_le, int_lt, ℤ, Bool, not, ◌&&◌, ◌||◌, ◌==◌, List, [], ◌∷◌, length, Option, Some, None, option_map, option_and_then, find, slice_get, unwrap_or, IfSome, IsSome}
 use Rattle.std.specs.List.{All}
 use Rattle.std.specs.BTreeMap.{BTreeMap, get}
 use Rattle.std.specs.Int.{int_div_euclid}
@@ -94,6 +94,11 @@ row_arrival (Some row) size cycle place last = fault_arrival row.vl cycle (fault
 -- the cycle of a local value, which is 0 before the first cycle
 abbrev pub cycle_of : ℤ → ℤ → ℕ
 cycle_of value length = natural (int_div_euclid value length)
+
+-- the cycle of a frame that was taken begins in the range of runs, in cycles of this length
+abbrev pub IsCycleFit : ℕ → Arrival → Type 0
+IsCycleFit length (arrivals.Accepted vl cycle) = cycle * length ≤ 2 ^ 62
+IsCycleFit length other = Unit {0}
 
 -- the cycle of a frame that was taken is kept
 pub record Takes (old : Intake) (vl : VlId) (cycle : ℕ) (new : Intake) : Type 0 where

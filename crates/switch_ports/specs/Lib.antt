@@ -2,6 +2,9 @@ pub mod Sites
 pub mod Standpoints
 pub mod Arrivals
 pub mod Intakes
+pub mod Leaving
+pub mod Tournaments
+pub mod Departing
 pub mod Corrections
 pub mod Steps
 pub mod Members

@@ -1,5 +1,5 @@
 -- How a switch stands to what it was given and has done.
-use Rattle.std.specs.Prelude.{◌≡◌, ℕ, ◌<◌, ℤ, pos, ◌≤ℤ◌, true, false, ◌==◌, List, [], length, filter, Option, None, option_map, All}
+use Rattle.std.specs.Prelude.{◌≡◌, ℕ, ◌<◌, ℤ, pos, ◌+ℤ◌, ◌≤ℤ◌, true, false, ◌==◌, List, [], length, filter, Option, None, option_map, All}
 use Rattle.std.specs.List.{Contains, last_or}
 use Rattle.clock_correction.specs.Deviation.{IsSmall}
 use Rattle.compression.specs.Clusters.{Point}
@@ -13,11 +13,10 @@ use Rattle.net_plan.specs.declared.ids.VlId.{VlId}
 use Rattle.net_plan.specs.declared.network.Network.{Network}
 use Rattle.run_law.specs.machines.Nodes.{Node, TakenFrame, correcting}
 use Rattle.run_law.specs.scenario.Devices.{is_cm, plan_of}
-use Rattle.schedule_tables.specs.Entries.{IsEntry, source_of}
 use Rattle.schedule_tables.specs.Rules.{KeepsRules}
-use Rattle.schedule_tables.specs.declared.entry.Entry.{Entry}
 use Rattle.switch_ports.specs.Corrections.{correction_due}
 use Rattle.switch_ports.specs.Intakes.{AreEntrances, last_in}
+use Rattle.switch_ports.specs.Departing.{AwaitsIn, HasDepartures}
 use Rattle.switch_ports.specs.Members.{member_numbers}
 use Rattle.switch_ports.specs.Sites.{IsSiteOf}
 use Rattle.switch_ports.specs.Steady.{IsSteady, is_timed}
@@ -29,11 +28,6 @@ use Rattle.tte_units.specs.Reading.{least_reading}
 pub record IsAccepted (network : Network) : Type 0 where
   pub range : IsInRange network
   pub rules : KeepsRules network
-
--- no row leaves the device
-abbrev pub LeavesNone : Network → DeviceId → Type 0
-LeavesNone network device =
-    (place : ℕ) (entry : Entry) → IsEntry network place entry → source_of entry ≡ device → ⊥
 
 -- the cycle in which the last frame of the virtual link was taken
 abbrev pub last_by : List TakenFrame → VlId → Option ℕ
@@ -60,7 +54,6 @@ pub record HasCollected (collector : Collecting) (network : Network) (device : D
 -- the switch stands as this device of this network
 pub record StandsAs (switch : Switch) (network : Network) (device : DeviceId) (node : Node) : Type 0 where
   pub accepted : IsAccepted network
-  pub leaves : LeavesNone network device
   pub site : IsSiteOf network device switch.site
   pub sound : node.broken ≡ false
   pub standing : node.standing ≡ switch.sync
@@ -74,3 +67,6 @@ pub record StandsAs (switch : Switch) (network : Network) (device : DeviceId) (n
   pub steady : is_timed node.standing.state ≡ true → IsSteady network node switch.heard
   pub intake : HasTaken network device switch.intake node.taken
   pub collects : HasCollected switch.collector network device node.points node.emitted
+  pub departs : HasDepartures network device switch.departures node.taken
+  pub awaits : AwaitsIn node.standing.state network switch.departures node.standing.adjustment.0 node.changed node.done
+      (node.last.reading.0 +ℤ node.standing.adjustment.0)

@@ -13,12 +13,18 @@ use Rattle.membership.specs.Summary.{Hears as Keeps, Summarizes, Summary, silenc
 use Rattle.pcf_values.specs.declared.channel.Channel.{Channel}
 use Rattle.pcf_values.specs.declared.pcf.Pcf.{Pcf}
 use Rattle.run_law.specs.control.Collections.{master_of, ripe_by_role}
+use Rattle.run_law.specs.declared.steps.Act.TheVariants as acts
+use Rattle.run_law.specs.declared.steps.Act.{Act}
 use Rattle.run_law.specs.declared.steps.Moment.{Moment}
 use Rattle.run_law.specs.declared.steps.Ripe.TheVariants as ripe
 use Rattle.run_law.specs.declared.steps.Ripe.{Ripe}
 use Rattle.run_law.specs.device.States.{is_synchronised}
 use Rattle.run_law.specs.machines.Answers.{hearings}
 use Rattle.switch_ports.specs.Corrections.{correction_at}
+use Rattle.switch_ports.specs.Departing.{Changes, IsAwaitedSo, KnowsNext}
+use Rattle.switch_ports.specs.Leaving.{closed}
+use Rattle.switch_ports.specs.Tournaments.{AreLeaves}
+use Rattle.switch_ports.specs.declared.departures.Dispatch.{Dispatch}
 use Rattle.switch_ports.specs.declared.switch.Switch.{Switch}
 use Rattle.sync_state.specs.Calls.{after, heard_frame, reached_point}
 use Rattle.sync_state.specs.Integration.{joined_by}
@@ -55,6 +61,7 @@ pub record Joins (old : Switch) (moment : Moment) (frame : Pcf) (point : Units) 
   pub collector : new.collector ≡ fresh old.collector.ow old.collector.calc
   pub changed : new.changed.0 ≡ moment.reading.0 +ℤ new.sync.adjustment.0
   pub corrects : new.corrects_at ≡ correction_at old.site frame.cycle new.sync.adjustment.0 new.changed.0
+  pub departures : new.departures ≡ record old.departures { next = None }
 
 -- it has heard a frame so
 abbrev pub HearsSo : Switch → Moment → Option Channel → Pcf → Units → Switch → Ripe → Type 0
@@ -88,6 +95,19 @@ pub record Corrects (old : Switch) (moment : Moment) (verdict : Verdict) (new : 
   pub corrects : new.corrects_at
       ≡ option_and_then (λ cycle. correction_at old.site cycle new.sync.adjustment.0 new.changed.0)
       (next_point new.sync)
+  pub departures : IsAwaitedSo old.departures new.changed.0 new.sync.adjustment.0 verdict new.departures
+
+-- it has done this dispatch
+pub record Dispatches (old : Switch) (next : Dispatch) (new : Switch) : Type 0 where
+  pub rest : new ≡ record old { departures = new.departures }
+  pub changes : Changes (closed next.place) old.departures new.departures
+  pub knows : AreLeaves old.sync.adjustment.0 old.departures.rows.items old.departures.tree.nodes.items
+      → KnowsNext old.sync.adjustment.0 new.departures
+
+-- it has done the dispatch that came next, if one did
+abbrev pub DispatchesSo : Switch → Option Dispatch → Act → Switch → Type 0
+DispatchesSo old None act new = Unit {0}
+DispatchesSo old (Some next) act new = (act ≡ acts.Dispatch next.row next.cycle) × Dispatches old next new
 
 -- it has collected the frame, and this became of it
 pub record CollectsSo (old : Switch) (frame : Pcf) (point : Units) (new : Switch) (is : Ripe) : Type 0 where

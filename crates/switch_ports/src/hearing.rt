@@ -63,7 +63,8 @@ impl Site {
     /// Is the cycle one that is used, and the local value in its time?
     fn is_timely(&self, cycle: u32, value: Units) -> bool
         requires site { IsSiteInRange self.now }
-        ensures { result ≡ (nat_le cycle last_cycle && is_in_schedule self.now.plan self.now.precision.0 cycle value.0) }
+        ensures { result ≡ (nat_le cycle last_cycle
+            && is_in_schedule self.now.plan self.now.precision.0 cycle value.0) }
     {
         cycle <= LAST_CYCLE && self.is_in_time(cycle, value)
     }

@@ -1,4 +1,4 @@
-ghost use Rattle.std.specs.Prelude.{◌≡◌, ◌≤◌, ◌<◌, ◌^◌, ◌%◌, ◌==◌, ◌&&◌, nat_le, ◌≤ℤ◌, pos, neg_ℤ, IfOk, OnOk, List, ◌++◌, ◌∷◌, [], ℕ, length, map, None};
+ghost use Rattle.std.specs.Prelude.{◌*◌, ◌≡◌, ◌≤◌, ◌<◌, ◌^◌, ◌%◌, ◌==◌, ◌&&◌, nat_le, ◌≤ℤ◌, pos, neg_ℤ, IfOk, OnOk, List, ◌++◌, ◌∷◌, [], ℕ, length, map, None};
 ghost use Rattle.std.specs.BTreeMap.{get};
 ghost use Rattle.std.specs.Int.{int_rem_euclid};
 ghost use Rattle.net_plan.specs.Ranges.{IsInRange, IsWithin};
@@ -7,9 +7,10 @@ ghost use Rattle.run_law.specs.timed.Arrivals.{is_taken_in};
 ghost use Rattle.net_plan.specs.declared.ids.DeviceId.{DeviceId as DeviceIdValue};
 ghost use Rattle.net_plan.specs.declared.tables.Row.{Row};
 ghost use Rattle.schedule_tables.specs.Entries.{IsEntry, IsEntryInRange};
-ghost use Rattle.switch_ports.specs.Intakes.{AreEntrances, HaveEntries, IsTakenSo, IsWhole, Takes, comes_to, cycle_of, entering_by, entrance_cmp, entrance_of, fault_of, last_in, row_arrival};
+ghost use Rattle.switch_ports.specs.Intakes.{AreEntrances, HaveEntries, IsCycleFit, IsTakenSo, IsWhole, Takes, comes_to, cycle_of, entering_by, entrance_cmp, entrance_of, fault_of, last_in, row_arrival};
 ghost use Rattle.switch_ports.specs.Sites.{IsSiteOf};
 ghost use Rattle.switch_ports.specs.Standpoints.{IsSiteInRange};
+ghost use Rattle.tte_units.specs.Amount.{amount};
 
 use crate::Site;
 use net_plan::{LinkId, Network, RowId, VlId, Way};
@@ -78,6 +79,7 @@ impl Intake {
         ensures is { result ≡ row_arrival (get entrance_cmp self.old.rows entrance) size
             (cycle_of local.0 site.now.plan.cycle_length.0) (int_rem_euclid local.0 site.now.plan.cycle_length.0)
             (last_in self.old.taken.items) }
+        ensures cycle { IsCycleFit (amount site.now.plan.cycle_length) result }
         ensures kept { IsTakenSo self.old self.new result }
     {
         let Some(row) = self.row_at(entrance) else {
@@ -170,7 +172,8 @@ fn cycle_of(local: Units, length: Units) -> u32
     requires length { IsWithin (2 ^ 32) (2 ^ 40) length }
     requires low { neg_ℤ (pos (2 ^ 62)) ≤ℤ local.0 }
     requires high { local.0 ≤ℤ pos (2 ^ 62) }
-    ensures { result ≡ cycle_of local.0 length.0 }
+    ensures is { result ≡ cycle_of local.0 length.0 }
+    ensures fit { result * amount length ≤ 2 ^ 62 }
 {
     if local.0 < 0 {
         0

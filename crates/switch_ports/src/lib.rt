@@ -1,9 +1,12 @@
 //! A switch as it behaves by itself: a relay or a compression master. It passes, collects and hears
-//! control frames, corrects its clock, and takes time-triggered frames. It does not yet dispatch rows.
+//! control frames, corrects its clock, and takes time-triggered frames and dispatches them. Only at a
+//! correction does it go through all rows that leave it: a taking looks at those of one virtual link,
+//! and the next dispatch is found in as many steps as their number has binary digits.
 #![tactic(auto)]
 
 mod arriving;
 mod correcting;
+mod departures;
 mod hearing;
 mod intake;
 mod machine;
@@ -12,6 +15,7 @@ mod site;
 mod standpoint;
 mod switch;
 mod timed;
+mod tournament;
 
 pub(crate) use site::{Peer, Port, Site};
 pub(crate) use standpoint::Standpoint;

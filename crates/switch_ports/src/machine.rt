@@ -19,7 +19,8 @@ impl Machine for Switch {
     ghost stands = { StandsAs };
 
     fn due(&self) -> Option<Units> {
-        least(self.collector.due(), self.corrects_at)
+        let clocked = least(self.corrects_at, self.departures.due());
+        least(self.collector.due(), clocked)
     }
 
     fn act(&mut self, moment: Moment) -> Act {
@@ -30,8 +31,8 @@ impl Machine for Switch {
             let heard = self.hear_frame(moment, channel, &frame, sent.at);
             return Act::Emit(sent, heard);
         }
-        if self.corrects_at.is_none() {
-            return Act::Correct(0, Verdict::Cleared);
+        if !is_reached(self.corrects_at, moment.reading) {
+            return self.dispatch();
         }
         match self.sync.next_correction() {
             Some(cycle) => Act::Correct(cycle, self.correct(moment)),

@@ -11,13 +11,15 @@ ghost use Rattle.run_law.specs.machines.Nodes.{begun_node};
 ghost use Rattle.run_law.specs.control.Permanence.{ripe_as};
 ghost use Rattle.schedule_tables.specs.Schedule.{IsSwitch};
 ghost use Rattle.switch_ports.specs.Corrections.{correction_at};
-ghost use Rattle.switch_ports.specs.Standing.{LeavesNone, StandsAs};
+ghost use Rattle.switch_ports.specs.Departing.{IsAwaitedSo, IsReady};
+ghost use Rattle.switch_ports.specs.Standing.{StandsAs};
 ghost use Rattle.switch_ports.specs.Standpoints.{IsPoint, IsSiteInRange};
-ghost use Rattle.switch_ports.specs.Steps.{CollectsSo, Corrects, Hears, HearsSo, IsChangedSo, IsClearedSo, Joins};
+ghost use Rattle.switch_ports.specs.Steps.{CollectsSo, Corrects, DispatchesSo, Hears, HearsSo, IsChangedSo, IsClearedSo, Joins};
 ghost use Rattle.sync_state.specs.Integration.{Integrates};
 ghost use Rattle.sync_state.specs.Standing.{next_point};
 ghost use Rattle.sync_state.specs.Verdicts.{IsNear};
 
+use crate::departures::Departures;
 use crate::intake::Intake;
 use crate::standpoint::local;
 use crate::{Site, Standpoint};
@@ -25,7 +27,7 @@ use compression::{Collector, Taken};
 use membership::{Heard, HeardFrame};
 use net_plan::{DeviceId, Network};
 use pcf_values::{Channel, Pcf};
-use run_law::{Moment, Reason, Ripe};
+use run_law::{Act, Moment, Reason, Ripe};
 use schedule_tables::{Accepted, OutOfMemory};
 use std::alloc::Global;
 use sync_state::{Sync, Verdict};
@@ -45,21 +47,22 @@ pub struct Switch {
     pub(crate) changed: Units,
     /// The reading at which the next correction point comes, if it does.
     pub(crate) corrects_at: Option<Units>,
+    /// The rows that it dispatches.
+    pub(crate) departures: Departures,
 }
 
 impl Switch {
-    /// The switch of an accepted network, at the beginning. It judges and takes time-triggered frames,
-    /// but dispatches none: what is said of it holds where no row leaves the switch.
+    /// The switch of an accepted network, at the beginning.
     ///
     /// Fails when memory runs out. No later call takes memory.
     pub fn new(alloc: Global, accepted: &Accepted, device: DeviceId) -> Result<Switch, OutOfMemory>
         requires { IsSwitch accepted.now device }
-        ensures { IfOk result (λ switch. LeavesNone accepted.now device
-            → StandsAs switch accepted.now device (begun_node accepted.now device)) }
+        ensures { IfOk result (λ switch. StandsAs switch accepted.now device (begun_node accepted.now device)) }
     {
         let network = accepted.network();
         let site = Site::new(alloc, network, device)?;
         let intake = Intake::new(alloc, network, &site)?;
+        let departures = Departures::new(alloc, network, device)?;
         let sync = Sync::new(site.plan, start_of(network, device));
         let collector = Collector::new(site.precision, site.calc);
         let changed = sync.adjustment();
@@ -72,6 +75,7 @@ impl Switch {
             collector,
             changed,
             corrects_at,
+            departures,
         })
     }
 
@@ -148,6 +152,7 @@ impl Switch {
         };
         self.heard.clear();
         self.collector.clear();
+        self.departures.stop();
         self.changed = local(moment.reading, joined.adjustment);
         self.corrects_at = self
             .site
@@ -181,6 +186,7 @@ impl Switch {
         requires near_b { IfSome self.old.heard.best_b (IsNear self.old.sync) }
         requires small { IsSmall self.old.sync.adjustment.0 }
         requires reading { IsWithin 0 (2 ^ 60 + 2 ^ 51) moment.reading }
+        requires ready { IsReady self.old.departures }
         ensures { Corrects self.old moment result self.new }
     {
         let was_synchronised = self.standpoint(moment).is_synchronised();
@@ -188,6 +194,7 @@ impl Switch {
         self.heard.clear();
         self.follow(moment, verdict, was_synchronised);
         self.await_correction();
+        self.await_dispatch(verdict);
         verdict
     }
 
@@ -226,6 +233,37 @@ impl Switch {
         } }
     {
         self.corrects_at = self.site.next_correction_at(&self.sync, self.changed);
+    }
+
+    /// Tells which dispatch comes next, after a correction point.
+    fn await_dispatch(&mut self, verdict: Verdict)
+        requires ready { IsReady self.old.departures }
+        requires small { IsSmall self.old.sync.adjustment.0 }
+        ensures rest { self.new ≡ record self.old { departures = self.new.departures } }
+        ensures is { IsAwaitedSo self.old.departures self.old.changed.0 self.old.sync.adjustment.0 verdict
+            self.new.departures }
+    {
+        match verdict {
+            Verdict::Corrected(_) => self.departures.reopen(self.changed, self.sync.adjustment()),
+            Verdict::SyncClique => self.departures.stop(),
+            Verdict::AsyncClique => self.departures.stop(),
+            Verdict::Cleared => {}
+        }
+    }
+
+    /// Does the dispatch that comes next, where one does.
+    pub(crate) fn dispatch(&mut self) -> Act
+        requires place { IfSome self.old.departures.next
+            (λ next. next.place < length self.old.departures.rows.items) }
+        requires ready { IsReady self.old.departures }
+        requires small { IsSmall self.old.sync.adjustment.0 }
+        ensures { DispatchesSo self.old self.old.departures.next result self.new }
+    {
+        let Some(next) = self.departures.next else {
+            return Act::Correct(0, Verdict::Cleared);
+        };
+        self.departures.close(next.place, self.sync.adjustment());
+        Act::Dispatch(next.row, next.cycle)
     }
 }
 

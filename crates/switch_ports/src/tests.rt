@@ -1,11 +1,13 @@
-ghost use Rattle.std.specs.Prelude.{IfOk, ◌^◌};
+ghost use Rattle.std.specs.Prelude.{◌≡◌, IfOk, ◌^◌};
 ghost use Rattle.net_plan.specs.Ranges.{IsWithin};
 ghost use Rattle.switch_ports.specs.Standpoints.{IsSiteInRange};
 
+use crate::departures::{Departure, Dispatch, Held, LeavingRow, Taking, earlier};
 use crate::intake::EnteringRow;
 use crate::site::{Peer, Port, Site};
 use crate::standpoint::Standpoint;
-use net_plan::{LinkId, VlId, Way};
+use crate::tournament::Tournament;
+use net_plan::{LinkId, RowId, VlId, Way};
 use pcf_values::{Channel, Mac, Members, Pcf, PcfKind};
 use run_law::{Arrival, Reason};
 use schedule_tables::Window;
@@ -122,5 +124,165 @@ fn a_row_judges_frames(rt: HostRuntime) -> Result<(), Fail> {
     assert!(rt; row.fault(200, 3, Units(99), None) == Some(Reason::Early));
     assert!(rt; row.fault(200, 3, Units(301), None) == Some(Reason::Late));
     assert!(rt; row.fault(200, 3, Units(200), Some(3)) == Some(Reason::Repeat));
+    Ok(())
+}
+
+fn leaving_row(row: u32, offset: u64) -> LeavingRow
+    ensures offset { result.offset ≡ offset }
+    ensures period { result.period ≡ 2 }
+{
+    LeavingRow {
+        row: RowId(row),
+        link: LinkId(2),
+        vl: VlId(5),
+        offset,
+        period: 2,
+        phase: 1,
+        place: 0,
+        before: None,
+    }
+}
+
+fn taking(cycle: u32, at: i64) -> Taking
+    ensures { result.cycle ≡ cycle }
+{
+    Taking {
+        vl: VlId(5),
+        cycle,
+        at: Units(at),
+    }
+}
+
+const CYCLE: Units = Units(10_000);
+
+#[test]
+fn a_row_dispatches_what_is_taken_before_its_place(rt: HostRuntime) -> Result<(), Fail> {
+    let row = leaving_row(7, 500);
+    let held = Held {
+        cycle: 3,
+        value: Units(30_500),
+    };
+    assert!(rt; row.held(CYCLE, &taking(3, 30_499)) == Some(held));
+    assert!(rt; row.held(CYCLE, &taking(3, 30_500)) == None);
+    assert!(rt; row.held(CYCLE, &taking(2, 20_100)) == None);
+    assert!(rt; row.held(CYCLE, &taking(0, 100)) == None);
+    Ok(())
+}
+
+#[test]
+fn a_new_frame_takes_the_place_of_the_last(rt: HostRuntime) -> Result<(), Fail> {
+    let first = Some(Held {
+        cycle: 1,
+        value: Units(10_500),
+    });
+    let before = Departure {
+        of: leaving_row(7, 500),
+        held: first,
+        awaited: first,
+    };
+    let mut departure = before;
+    departure.take(CYCLE, &taking(3, 30_400), Units(0));
+    let last = Some(Held {
+        cycle: 3,
+        value: Units(30_500),
+    });
+    assert!(rt; departure.held == last && departure.awaited == last);
+    let mut departure = before;
+    departure.take(CYCLE, &taking(3, 30_600), Units(0));
+    assert!(rt; departure.held == None && departure.awaited == None);
+    Ok(())
+}
+
+#[test]
+fn a_correction_tells_anew_what_is_awaited(rt: HostRuntime) -> Result<(), Fail> {
+    let held = Some(Held {
+        cycle: 3,
+        value: Units(30_500),
+    });
+    let mut departure = Departure {
+        of: leaving_row(7, 500),
+        held,
+        awaited: None,
+    };
+    departure.reopen(Units(30_499));
+    assert!(rt; departure.awaited == held);
+    departure.reopen(Units(30_500));
+    assert!(rt; departure.awaited == None && departure.held == held);
+    Ok(())
+}
+
+#[test]
+fn dispatches_come_by_readings_links_and_rows(rt: HostRuntime) -> Result<(), Fail> {
+    let next = Dispatch {
+        at: Units(100),
+        link: LinkId(2),
+        row: RowId(7),
+        cycle: 1,
+        place: 0,
+    };
+    let sooner = Dispatch {
+        at: Units(99),
+        link: LinkId(3),
+        ..next
+    };
+    let left = Dispatch {
+        link: LinkId(1),
+        row: RowId(9),
+        ..next
+    };
+    let above = Dispatch {
+        row: RowId(6),
+        ..next
+    };
+    assert!(rt; sooner.precedes(&next) && left.precedes(&next) && above.precedes(&next));
+    assert!(rt; !next.precedes(&next) && !next.precedes(&sooner));
+    assert!(rt; earlier(Some(next), Some(left)) == Some(left));
+    assert!(rt; earlier(Some(left), Some(next)) == Some(left));
+    assert!(rt; earlier(None, Some(next)) == Some(next));
+    Ok(())
+}
+
+fn dispatch(at: i64) -> Option<Dispatch> {
+    Some(Dispatch {
+        at: Units(at),
+        link: LinkId(2),
+        row: RowId(7),
+        cycle: 1,
+        place: 0,
+    })
+}
+
+#[test]
+fn a_tree_has_the_first_dispatch(rt: HostRuntime) -> Result<(), Fail> {
+    let row = Departure {
+        of: leaving_row(7, 500),
+        held: None,
+        awaited: None,
+    };
+    let mut tree = Tournament::new(rt.alloc(), &[row, row, row, row, row])?;
+    assert!(rt; tree.first() == None);
+    tree.put(3, dispatch(500));
+    tree.put(4, dispatch(300));
+    tree.put(0, dispatch(400));
+    assert!(rt; tree.first() == dispatch(300));
+    tree.put(4, None);
+    assert!(rt; tree.first() == dispatch(400));
+    tree.put(0, dispatch(600));
+    assert!(rt; tree.first() == dispatch(500));
+    Ok(())
+}
+
+#[test]
+fn a_tree_over_one_row_is_its_leaf(rt: HostRuntime) -> Result<(), Fail> {
+    let row = Departure {
+        of: leaving_row(7, 500),
+        held: None,
+        awaited: None,
+    };
+    let mut tree = Tournament::new(rt.alloc(), &[row])?;
+    tree.put(0, dispatch(500));
+    assert!(rt; tree.first() == dispatch(500));
+    tree.put(0, None);
+    assert!(rt; tree.first() == None);
     Ok(())
 }

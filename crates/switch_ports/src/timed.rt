@@ -1,6 +1,6 @@
 //! Frames that are no control frames.
 
-ghost use Rattle.std.specs.Prelude.{◌≡◌, ◌≤◌, ◌+◌, length, ℕ, Option};
+ghost use Rattle.std.specs.Prelude.{◌≡◌, ◌≤◌, ◌+◌, length, ℕ, Option, None, All};
 ghost use Rattle.net_plan.specs.Ranges.{IsInRange};
 ghost use Rattle.net_plan.specs.declared.ids.DeviceId.{DeviceId};
 ghost use Rattle.net_plan.specs.declared.ids.VlId.{VlId};
@@ -8,9 +8,13 @@ ghost use Rattle.net_plan.specs.declared.network.Network.{Network};
 ghost use Rattle.pcf_codec.specs.Fields.{field};
 ghost use Rattle.run_law.specs.timed.Arrivals.{octets_fault, timed_arrival};
 ghost use Rattle.switch_ports.specs.Intakes.{AreEntrances, IsTakenSo, IsWhole, last_in};
+ghost use Rattle.switch_ports.specs.Departing.{IsKeptSo, IsReady};
 ghost use Rattle.switch_ports.specs.Sites.{IsSiteOf};
 ghost use Rattle.switch_ports.specs.Standpoints.{IsAlive, standpoint_of};
+ghost use Rattle.sync_state.specs.declared.state.State.TheVariants.{Synchronised};
+ghost use Rattle.tte_units.specs.Amount.{amount};
 
+use crate::departures::Taking;
 use crate::intake::Entrance;
 use crate::{Site, Standpoint, Switch};
 use byteorder::{BigEndian, ByteOrder};
@@ -26,8 +30,11 @@ impl Switch {
         requires octets { 60 ≤ length octets.now }
         requires alive { IsAlive self.old.site at.now }
         requires whole { IsWhole self.old.intake }
-        ensures rest { self.new ≡ record self.old { intake = self.new.intake } }
+        requires ready { IsReady self.old.departures }
+        ensures rest { self.new ≡ record self.old { intake = self.new.intake; departures = self.new.departures } }
         ensures kept { IsTakenSo self.old.intake self.new.intake result }
+        ensures departs { IsKeptSo self.old.departures (amount self.old.site.plan.cycle_length) self.old.changed.0
+            at.now result self.new.departures }
         ensures is { (network : Network) (device : DeviceId) (last : VlId → Option ℕ) → IsInRange network
             → IsSiteOf network device self.old.site
             → AreEntrances network device network.row self.old.intake.rows
@@ -41,8 +48,23 @@ impl Switch {
             link,
             id: two_octets(octets, 4),
         };
-        self.intake
-            .take(&self.site, entrance, octets.len(), at.local())
+        let arrival = self
+            .intake
+            .take(&self.site, entrance, octets.len(), at.local());
+        if let Arrival::Accepted(vl, cycle) = arrival {
+            let taking = Taking {
+                vl,
+                cycle,
+                at: at.local(),
+            };
+            self.departures.take(
+                self.site.plan.cycle_length,
+                taking,
+                self.changed,
+                at.adjustment,
+            );
+        }
+        arrival
     }
 }
 
@@ -51,8 +73,9 @@ impl Site {
     /// first reason in this order.
     fn octets_fault(&self, at: &Standpoint, octets: &[u8]) -> Option<Reason>
         requires { 60 ≤ length octets.now }
-        ensures { (network : Network) (device : DeviceId) → IsSiteOf network device self.now
+        ensures is { (network : Network) (device : DeviceId) → IsSiteOf network device self.now
             → result ≡ octets_fault network (standpoint_of at.now) octets.now }
+        ensures synchronised { result ≡ None → at.now.state ≡ Synchronised }
     {
         if at.is_off() {
             Some(Reason::Off)

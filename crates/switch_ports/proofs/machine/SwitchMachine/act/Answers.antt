@@ -13,9 +13,10 @@ use Rattle.run_law.specs.machines.Tasks.{emitting}
 use Rattle.run_law.specs.records.Frames.{integration_frame}
 use Rattle.run_law.specs.scenario.Devices.{plan_of}
 use Rattle.switch_ports.proofs.CorrectedStands.{corrects_stands}
-use Rattle.switch_ports.proofs.CorrectionPoints.{is_near, never_some, none_if, number_within, some_if, timed_next}
+use Rattle.switch_ports.proofs.CorrectionPoints.{is_near, never_some, number_within, some_due, timed_next}
+use Rattle.switch_ports.proofs.DispatchStands.{dispatch_acts, next_inside}
 use Rattle.switch_ports.proofs.Emissions.{first_emission, may_before, reached_by, sent_stands, with_sent}
-use Rattle.switch_ports.proofs.FirstActs.{EmitsNone, first_correction, nothing_due, value_reached}
+use Rattle.switch_ports.proofs.FirstActs.{EmitsNone, first_correction, its_next, value_reached}
 use Rattle.switch_ports.proofs.HeardKinds.{heard_so, heard_stands}
 use Rattle.switch_ports.proofs.Hearings.{IsComing, is_point}
 use Rattle.switch_ports.proofs.Ranges.{site_in_range}
@@ -36,26 +37,30 @@ correct-requires-clause-number c =
 
 pub correct-requires-clause-near_a : goal.correct-requires-clause-near_a
 correct-requires-clause-near_a c =
-    let r = c.requires in let o = some_if c.args.self.now.corrects_at c.is_none.result c.is_none.ensures c.if-is_none.false in is_near c.args.self.now r.0 r.1
-    r.2 o.0 A r.3 o.1
+    let r = c.requires in
+    let o = some_due c.args.self.now.corrects_at _ (c.is_reached-2.ensures.reached c.if-not-is_reached.false) in
+    is_near c.args.self.now r.0
+    r.1 r.2 o.0 A r.3 o.1
 
 pub correct-requires-clause-near_b : goal.correct-requires-clause-near_b
 correct-requires-clause-near_b c =
-    let r = c.requires in let o = some_if c.args.self.now.corrects_at c.is_none.result c.is_none.ensures c.if-is_none.false in is_near c.args.self.now r.0 r.1
-    r.2 o.0 B r.3 o.1
+    let r = c.requires in
+    let o = some_due c.args.self.now.corrects_at _ (c.is_reached-2.ensures.reached c.if-not-is_reached.false) in
+    is_near c.args.self.now r.0
+    r.1 r.2 o.0 B r.3 o.1
 
 pub returns-in-Some : goal.returns-in-Some
 returns-in-Some c network device node st may due =
     let old = c.args.self.now in
     let cycle = c.in-Some.cycle in
-    let o = some_if old.corrects_at c.is_none.result c.is_none.ensures c.if-is_none.false in
+    let o = some_due old.corrects_at c.args.moment.reading.0 (c.is_reached-2.ensures.reached c.if-not-is_reached.false) in
     let next : next_point node.standing ≡ Some cycle = ap next_point st.standing ∙ (sym c.next_correction.ensures ∙ c.in-Some.is) in
     let none : EmitsNone old c.args.moment.reading.0 c.due.result = record {
       none = c.due.ensures.none;
       least = c.due.ensures.least;
       later = c.is_reached.ensures.later c.if-is_reached.false;
     } in
-    let first = first_correction old network device node cycle o.0 c.args.moment.reading.0 c.due.result st none o.1 next due in
+    let first = first_correction old network device node cycle o.0 c.args.moment.reading.0 c.due.result st none o.1 next o.2 in
     let t = timed_next node.standing.state node.standing.number cycle next in
     let ahead = subst (λ (n : ℕ). node.changed <ℤ correction_value network n) (sym t.1) first.pending.1.ahead in
     let reached = subst (λ (n : ℕ). correction_value network n ≤ℤ (c.args.moment.reading.0 +ℤ node.standing.adjustment.0)) (sym t.1)
@@ -68,27 +73,32 @@ returns-in-Some c network device node st may due =
           c.correct.ensures,
     )
 
-pub returns-then-is_none : goal.returns-then-is_none
-returns-then-is_none c network device node st may due =
+pub dispatch-requires-clause-place : goal.dispatch-requires-clause-place
+dispatch-requires-clause-place c = let r = c.requires in next_inside c.args.self.now r.0 r.1 r.2 c.args.self.now.departures.next r.3 refl
+
+pub dispatch-requires-clause-ready : goal.dispatch-requires-clause-ready
+dispatch-requires-clause-ready c = let r = c.requires in r.3.departs.ready
+
+pub correct-requires-clause-ready : goal.correct-requires-clause-ready
+correct-requires-clause-ready c = let r = c.requires in r.3.departs.ready
+
+pub returns-then-not-is_reached : goal.returns-then-not-is_reached
+returns-then-not-is_reached c network device node st may due =
     let old = c.args.self.now in
     let none : EmitsNone old c.args.moment.reading.0 c.due.result = record {
       none = c.due.ensures.none;
       least = c.due.ensures.least;
       later = c.is_reached.ensures.later c.if-is_reached.false;
     } in
-    let absent = none_if old.corrects_at c.is_none.result c.is_none.ensures c.if-is_none.true in
-    absurd (nothing_due old network device node c.args.moment.reading.0 c.due.result st none (λ cycle at e f. never_some at (sym absent ∙ f)) due)
+    dispatch_acts old c.dispatch.new.self network device node c.args.moment c.dispatch.result c.due.result old.departures.next st may none
+    (c.is_reached-2.ensures.later c.if-not-is_reached.true) due refl c.dispatch.ensures
 
 pub returns-in-None : goal.returns-in-None
 returns-in-None c network device node st may due =
     let old = c.args.self.now in
-    let none : EmitsNone old c.args.moment.reading.0 c.due.result = record {
-      none = c.due.ensures.none;
-      least = c.due.ensures.least;
-      later = c.is_reached.ensures.later c.if-is_reached.false;
-    } in
-    absurd (nothing_due old network device node c.args.moment.reading.0 c.due.result st none
-    (λ cycle at e f. never_some cycle (sym (sym c.next_correction.ensures ∙ c.in-None.is) ∙ e)) due)
+    let o = some_due old.corrects_at c.args.moment.reading.0 (c.is_reached-2.ensures.reached c.if-not-is_reached.false) in
+    let next = its_next old network device node o.0 st o.1 in
+    absurd (never_some next.0 (sym (sym c.next_correction.ensures ∙ c.in-None.is) ∙ next.1))
 
 pub hear_frame-heard-requires-clause-point : goal.hear_frame-heard-requires-clause-point
 hear_frame-heard-requires-clause-point c =

@@ -57,5 +57,11 @@ returns-else-is_pcf c network device node st may arrives =
     rw (is_no_type octets (λ e. let f = c.is_pcf.ensures.1 (enough arrives.least, e) in let g = c.if-is_pcf.false in cc)) refl in (
       is ∙ ap (arrival_at network device node c.args.moment c.args.link) (sym signal),
       subst (λ (s : Switch). StandsAs s network device (called c.args.moment arriving (after_arrival node c.args.moment c.hear_timed.result))) (sym heard.rest)
-          (arrival_stands c.args.self.now c.hear_timed.new.self.intake network device node c.args.moment c.hear_timed.result st may.later.reading heard.kept),
+          (arrival_stands c.args.self.now c.hear_timed.new.self.intake c.hear_timed.new.self.departures network device node c.args.moment c.standpoint-at.result
+          c.hear_timed.result st may.later.reading
+          (record { state = c.standpoint-at.ensures.state; reading = c.standpoint-at.ensures.reading; adjustment = c.standpoint-at.ensures.adjustment })
+          heard.kept heard.departs),
     )
+
+pub hear_timed-requires-clause-ready : goal.hear_timed-requires-clause-ready
+hear_timed-requires-clause-ready c = let r = c.requires in r.3.departs.ready

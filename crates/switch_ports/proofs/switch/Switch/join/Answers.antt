@@ -25,4 +25,5 @@ returns c i =
       corrects =
           rw (sym adjustment)
           (c.correction_at-self.ensures ∙ ap (λ (j : Joined). correction_at old.site j.cycle c.in-Some.joined.adjustment.0 c.local-self.result.0) joined);
+      departures = c.stop.ensures;
     }

@@ -7,6 +7,7 @@ use Rattle.switch_ports.proofs.Beginning.{begun_stands}
 use Rattle.switch_ports.proofs.Ranges.{calc_short, site_in_range}
 use Rattle.switch_ports.proofs.Takings.{taken_none}
 use Rattle.switch_ports.proofs.switch.Switch.new.Goals as goal
+use Rattle.switch_ports.specs.Departing.{IsBegun}
 use Rattle.switch_ports.specs.Sites.{IsSiteOf}
 use Rattle.switch_ports.specs.Standing.{HasTaken}
 use Rattle.sync_state.specs.Standing.{begun}
@@ -25,15 +26,16 @@ next_correction_at-corrects_at-requires-clause-site c =
     site_in_range c.args.accepted.now c.args.device c.in_ok-site.site e.range is
 
 pub returns : goal.returns
-returns c leaves =
+returns c =
     let e = c.network-network.ensures in
     let is = subst (λ (n : Network). IsSiteOf n c.args.device c.in_ok-site.site) e.value c.in_ok-site.ensures in
     let start : c.start_of.result ≡ start_of c.args.accepted.now c.args.device = c.start_of.ensures.value
     ∙ ap (λ (n : Network). start_of n c.args.device) e.value in
     let taken = taken_none c.network-network.result.now c.args.device c.in_ok-intake.intake (c.in_ok-intake.ensures.rows c.args.device c.in_ok-site.ensures)
     c.in_ok-intake.ensures.taken in
-    begun_stands _ c.args.accepted.now c.args.device (record { range = e.range; rules = e.rules }) leaves is
+    begun_stands _ c.args.accepted.now c.args.device (record { range = e.range; rules = e.rules }) is
     (subst (λ (n : Network). HasTaken n c.args.device c.in_ok-intake.intake []) e.value taken)
+    (subst (λ (n : Network). IsBegun n c.args.device c.in_ok-departures.departures) e.value c.in_ok-departures.ensures)
     (c.new-sync.ensures.value ∙ ap (begun c.in_ok-site.site.plan) start)
     (subst (λ (o : Option Units). IfSome o (IsWithin 0 (2 ^ 40))) start c.start_of.ensures.range)
-    c.new-3.ensures.value c.new-collector.ensures.value c.adjustment-changed.ensures c.next_correction_at-corrects_at.ensures
+    c.new-4.ensures.value c.new-collector.ensures.value c.adjustment-changed.ensures c.next_correction_at-corrects_at.ensures

@@ -1,0 +1,11 @@
+use Rattle.std.proofs.Common.{◌≡◌}
+use Rattle.switch_ports.proofs.tournament.Tournament.put.Given as goal
+use Rattle.switch_ports.specs.Tournaments.{IsClimbing}
+
+abbrev pub invariant-up : goal.invariant-up
+invariant-up l =
+    (l.self.count ≡ l.initial.self.count)
+    × IsClimbing l.initial.self.count l.initial.self.nodes.items l.place l.fn.dispatch l.self.nodes.items l.node
+
+abbrev pub decreases-up : goal.decreases-up
+decreases-up l = l.node

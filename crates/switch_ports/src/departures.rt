@@ -1,0 +1,381 @@
+//! The rows that leave a switch, and the frames that they have still to dispatch.
+
+ghost use Rattle.std.specs.Prelude.{length, map, ◌+◌, option_map, ◌≡◌, ◌↔◌, ◌<◌, ◌≤◌, ◌*◌, ◌^◌, IfOk, OnOk, IsTrue, None, pos, ◌≤ℤ◌, ◌-ℤ◌, All};
+ghost use Rattle.clock_correction.specs.Deviation.{IsSmall};
+ghost use Rattle.net_plan.specs.Ranges.{IsInRange, IsWithin};
+ghost use Rattle.net_plan.specs.declared.network.Network.{Network as NetworkValue};
+ghost use Rattle.schedule_tables.specs.Entries.{IsEntry, IsEntryInRange, source_of};
+ghost use Rattle.switch_ports.specs.Departing.{Changes, IsBegun, IsReady, KnowsNext, Sets};
+ghost use Rattle.switch_ports.specs.Leaving.{AreLeaving, IsEarlier, IsFit, IsTakingFit, Precedes, awaited_of, closed, dispatch_by, fresh_row, held_by, is_dispatch_in, place_in, reopened, value_in, with_held, with_taking};
+ghost use Rattle.switch_ports.specs.Tournaments.{AreLeaves, IsTree};
+ghost use Rattle.tte_units.specs.Amount.{amount};
+
+use crate::tournament::Tournament;
+use net_plan::{DeviceId, LinkId, Network, RowId, VlId};
+use schedule_tables::{Entry, OutOfMemory, entry_of};
+use std::alloc::{AllocError, Global};
+use tte_units::Units;
+
+/// A row that leaves the switch.
+#[derive(Clone, Copy, Debug, PartialEq, Eq)]
+pub(crate) struct LeavingRow {
+    pub(crate) row: RowId,
+    pub(crate) link: LinkId,
+    pub(crate) vl: VlId,
+    /// Where in the switch's cycle its frame is dispatched, in units of 2^-16 ns.
+    pub(crate) offset: u64,
+    /// The virtual link occurs in the cycles of this phase modulo the period.
+    pub(crate) period: u32,
+    pub(crate) phase: u32,
+    /// The row's place among those that leave the switch.
+    pub(crate) place: usize,
+    /// The place of the row of the same virtual link that comes before it, if there is one.
+    pub(crate) before: Option<usize>,
+}
+
+/// A frame that the switch took, as one row dispatches it.
+#[derive(Clone, Copy, Debug, PartialEq, Eq)]
+pub(crate) struct Held {
+    /// The switch's cycle in which it was taken.
+    pub(crate) cycle: u32,
+    /// The local value at which it is dispatched.
+    pub(crate) value: Units,
+}
+
+/// A row that leaves the switch, and the frame that it dispatches.
+#[derive(Clone, Copy, Debug, PartialEq, Eq)]
+pub(crate) struct Departure {
+    pub(crate) of: LeavingRow,
+    /// The last frame of the virtual link that the switch took, if the row's place came behind.
+    pub(crate) held: Option<Held>,
+    /// The same, while it is still to be dispatched.
+    pub(crate) awaited: Option<Held>,
+}
+
+/// A frame of a virtual link that the switch takes, in a cycle of its own and at a local value.
+#[derive(Clone, Copy, Debug, PartialEq, Eq)]
+pub(crate) struct Taking {
+    pub(crate) vl: VlId,
+    pub(crate) cycle: u32,
+    pub(crate) at: Units,
+}
+
+/// A dispatch that is to come.
+#[derive(Clone, Copy, Debug, PartialEq, Eq)]
+pub(crate) struct Dispatch {
+    /// The reading at which it comes.
+    pub(crate) at: Units,
+    pub(crate) link: LinkId,
+    pub(crate) row: RowId,
+    pub(crate) cycle: u32,
+    /// The row's place among those that leave the switch.
+    pub(crate) place: usize,
+}
+
+/// The rows that leave a switch, and which of their dispatches comes next.
+#[derive(Drop)]
+pub(crate) struct Departures {
+    rows: Vec<Departure>,
+    /// The place of the last row of each virtual link.
+    lasts: Vec<Option<usize>>,
+    tree: Tournament,
+    /// The dispatch that comes next. It is None while the switch has not the common time.
+    pub(crate) next: Option<Dispatch>,
+}
+
+impl Departures {
+    /// The rows that leave the device, which has taken no frame.
+    ///
+    /// Fails when memory runs out.
+    pub(crate) fn new(
+        alloc: Global,
+        network: &Network,
+        device: DeviceId,
+    ) -> Result<Departures, OutOfMemory>
+        requires { IsInRange network.now }
+        ensures { IfOk result (IsBegun network.now device) }
+    {
+        let mut rows = Vec::new(alloc);
+        let mut lasts = no_lasts(alloc, network)?;
+        for place in 0..network.row.as_slice().len() {
+            let row = RowId(place as u32);
+            let entry = entry_of(network, row);
+            add_row(&mut rows, &mut lasts, device, row, &entry)?;
+        }
+        let tree = Tournament::new(alloc, rows.as_slice())?;
+        Ok(Departures {
+            rows,
+            lasts,
+            tree,
+            next: None,
+        })
+    }
+
+    /// Keeps a frame that is taken for the rows of its virtual link, in the place of an earlier one.
+    pub(crate) fn take(&mut self, length: Units, taking: Taking, changed: Units, adjustment: Units)
+        requires ready { IsReady self.old }
+        requires taking { IsTakingFit length taking }
+        requires small { IsSmall adjustment.0 }
+        ensures changes { Changes (with_taking (amount length) changed.0 taking) self.old self.new }
+        ensures next { AreLeaves adjustment.0 self.old.rows.items self.old.tree.nodes.items
+            → KnowsNext adjustment.0 self.new }
+    {
+        let mut at = self.last_of(taking.vl);
+        'rows: while let Some(place) = at {
+            let mut departure = self.rows[place];
+            at = departure.of.before;
+            departure.take(length, &taking, changed);
+            self.set(place, departure, adjustment);
+        }
+        self.next = self.tree.first();
+    }
+
+    /// Tells anew what is to come, where the adjustment has changed at a local value.
+    pub(crate) fn reopen(&mut self, changed: Units, adjustment: Units)
+        requires ready { IsReady self.old }
+        requires small { IsSmall adjustment.0 }
+        ensures changes { Changes (reopened changed.0) self.old self.new }
+        ensures next { KnowsNext adjustment.0 self.new }
+    {
+        for place in 0..self.rows.len() {
+            let mut departure = self.rows[place];
+            departure.reopen(changed);
+            self.set(place, departure, adjustment);
+        }
+        self.next = self.tree.first();
+    }
+
+    /// Ends the dispatch that was to come of the row at the place.
+    pub(crate) fn close(&mut self, place: usize, adjustment: Units)
+        requires place { place < length self.old.rows.items }
+        requires ready { IsReady self.old }
+        requires small { IsSmall adjustment.0 }
+        ensures changes { Changes (closed place) self.old self.new }
+        ensures next { AreLeaves adjustment.0 self.old.rows.items self.old.tree.nodes.items
+            → KnowsNext adjustment.0 self.new }
+    {
+        let mut departure = self.rows[place];
+        departure.awaited = None;
+        self.set(place, departure, adjustment);
+        self.next = self.tree.first();
+    }
+
+    /// Nothing comes while the switch has not the common time.
+    pub(crate) fn stop(&mut self)
+        ensures { self.new ≡ record self.old { next = None } }
+    {
+        self.next = None;
+    }
+
+    /// The reading at which the next dispatch comes, if one does.
+    pub(crate) fn due(&self) -> Option<Units>
+        ensures { result ≡ option_map (λ next. next.at) self.now.next }
+    {
+        match self.next {
+            Some(next) => Some(next.at),
+            None => None,
+        }
+    }
+
+    /// The place of the last row of the virtual link, if one leaves the switch.
+    fn last_of(&self, vl: VlId) -> Option<usize>
+        ensures { result ≡ place_in self.now.lasts.items vl.0 }
+    {
+        match self.lasts.get(vl.0 as usize) {
+            Some(last) => *last,
+            None => None,
+        }
+    }
+
+    /// Puts the departure at the place.
+    fn set(&mut self, place: usize, departure: Departure, adjustment: Units)
+        requires place { place < length self.old.rows.items }
+        requires fit { IsFit departure }
+        requires small { IsSmall adjustment.0 }
+        requires tree { IsTree self.old.tree }
+        requires count { self.old.tree.count ≡ length self.old.rows.items }
+        ensures { Sets adjustment.0 place departure self.old self.new }
+    {
+        self.rows[place] = departure;
+        self.tree.put(place, departure.dispatch(adjustment));
+    }
+}
+
+impl Departure {
+    /// Keeps the frame, which is one of the row's virtual link.
+    pub(crate) fn take(&mut self, length: Units, taking: &Taking, changed: Units)
+        requires fit { IsFit self.old }
+        requires taking { IsTakingFit length taking.now }
+        ensures { self.new ≡ with_held changed.0
+            (held_by (amount length) self.old.of taking.now.cycle taking.now.at.0) self.old }
+    {
+        let held = self.of.held(length, taking);
+        self.held = held;
+        self.awaited = awaited_of(held, changed);
+    }
+
+    /// Tells anew whether the frame is to be dispatched.
+    pub(crate) fn reopen(&mut self, changed: Units)
+        ensures { self.new ≡ reopened changed.0 self.old }
+    {
+        self.awaited = awaited_of(self.held, changed);
+    }
+
+    /// The row's dispatch that is to come.
+    fn dispatch(&self, adjustment: Units) -> Option<Dispatch>
+        requires fit { IsFit self.now }
+        requires small { IsSmall adjustment.0 }
+        ensures { result ≡ dispatch_by adjustment.0 self.now }
+    {
+        match self.awaited {
+            Some(held) => Some(Dispatch {
+                at: reading_of(held.value, adjustment),
+                link: self.of.link,
+                row: self.of.row,
+                cycle: held.cycle,
+                place: self.of.place,
+            }),
+            None => None,
+        }
+    }
+}
+
+impl LeavingRow {
+    /// The frame that is taken, as the row dispatches it. It is None where the row's place has passed,
+    /// or the virtual link does not occur in the cycle.
+    pub(crate) fn held(&self, length: Units, taking: &Taking) -> Option<Held>
+        requires offset { self.now.offset ≤ 2 ^ 40 }
+        requires period { 1 ≤ self.now.period }
+        requires taking { IsTakingFit length taking.now }
+        ensures { result ≡ held_by (amount length) self.now taking.now.cycle taking.now.at.0 }
+    {
+        let value = self.value_in(length, taking.cycle);
+        if self.occurs_in(taking.cycle) && taking.at.0 < value.0 {
+            Some(Held {
+                cycle: taking.cycle,
+                value,
+            })
+        } else {
+            None
+        }
+    }
+
+    /// The local value at which the row's frame of the cycle is dispatched.
+    fn value_in(&self, length: Units, cycle: u32) -> Units
+        requires offset { self.now.offset ≤ 2 ^ 40 }
+        requires length { pos 0 ≤ℤ length.0 }
+        requires cycle { cycle * amount length ≤ 2 ^ 62 }
+        ensures { result.0 ≡ value_in (amount length) self.now cycle }
+    {
+        Units::from_amount(u64::from(cycle) * length.amount() + self.offset)
+    }
+
+    /// Does the virtual link occur in the cycle?
+    fn occurs_in(&self, cycle: u32) -> bool
+        requires { 1 ≤ self.now.period }
+        ensures { result ≡ is_dispatch_in self.now cycle }
+    {
+        1 <= cycle && cycle % self.period == self.phase
+    }
+}
+
+impl Dispatch {
+    /// Does it come before the other? At one reading they come by links, then by rows.
+    pub(crate) fn precedes(&self, other: &Dispatch) -> bool
+        ensures { IsTrue result ↔ Precedes self.now other.now }
+    {
+        if self.at.0 != other.at.0 {
+            self.at.0 < other.at.0
+        } else if self.link.0 != other.link.0 {
+            self.link.0 < other.link.0
+        } else {
+            self.row.0 < other.row.0
+        }
+    }
+}
+
+/// No row of any virtual link has been found.
+fn no_lasts(alloc: Global, network: &Network) -> Result<Vec<Option<usize>>, AllocError>
+    ensures { IfOk result (λ lasts. lasts.items ≡ map (λ vl. None) network.now.vl) }
+{
+    let mut lasts = Vec::new(alloc);
+    for _ in network.vl.as_slice() {
+        lasts.push(None)?;
+    }
+    Ok(lasts)
+}
+
+/// Keeps a further row, if it leaves the device.
+fn add_row(
+    rows: &mut Vec<Departure>,
+    lasts: &mut Vec<Option<usize>>,
+    device: DeviceId,
+    row: RowId,
+    entry: &Entry,
+) -> Result<(), AllocError>
+    requires offset { IsWithin 0 (2 ^ 40) entry.now.row.offset }
+    requires vl { entry.now.row.vl.0 < length lasts.old.items }
+    ensures { (network : NetworkValue) → IsEntry network row.0 entry.now
+        → AreLeaving network device row.0 rows.old.items lasts.old.items
+        → OnOk result (AreLeaving network device (row.0 + 1) rows.new.items lasts.new.items) }
+{
+    if entry.source().0 != device.0 {
+        return Ok(());
+    }
+    let place = rows.len();
+    let vl = entry.row.vl.0 as usize;
+    rows.push(departure_of(place, lasts[vl], row, entry))?;
+    lasts[vl] = Some(place);
+    Ok(())
+}
+
+/// The row of the entry at the place, of which no frame has been taken.
+fn departure_of(place: usize, before: Option<usize>, row: RowId, entry: &Entry) -> Departure
+    requires { IsWithin 0 (2 ^ 40) entry.now.row.offset }
+    ensures { result ≡ fresh_row place before row entry.now }
+{
+    Departure {
+        of: LeavingRow {
+            row,
+            link: entry.row.link,
+            vl: entry.row.vl,
+            offset: entry.row.offset.amount(),
+            period: entry.vl.period,
+            phase: entry.vl.phase,
+            place,
+            before,
+        },
+        held: None,
+        awaited: None,
+    }
+}
+
+/// The frame, if it is dispatched behind the local value.
+fn awaited_of(held: Option<Held>, changed: Units) -> Option<Held>
+    ensures { result ≡ awaited_of changed.0 held }
+{
+    match held {
+        Some(held) if changed.0 < held.value.0 => Some(held),
+        Some(_) | None => None,
+    }
+}
+
+/// The reading at which a clock of this adjustment shows the value.
+fn reading_of(value: Units, adjustment: Units) -> Units
+    requires value { IsWithin 0 (2 ^ 62 + 2 ^ 40) value }
+    requires small { IsSmall adjustment.0 }
+    ensures { result.0 ≡ (value.0 -ℤ adjustment.0) }
+{
+    Units(value.0 - adjustment.0)
+}
+
+/// The earlier of two dispatches that may be there.
+pub(crate) fn earlier(a: Option<Dispatch>, b: Option<Dispatch>) -> Option<Dispatch>
+    ensures { IsEarlier a b result }
+{
+    match (a, b) {
+        (Some(a), Some(b)) if b.precedes(&a) => Some(b),
+        (Some(a), Some(_) | None) => Some(a),
+        (None, b) => b,
+    }
+}
