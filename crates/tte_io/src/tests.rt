@@ -107,7 +107,6 @@ fn a_whole_line_ahead_is_taken_without_a_read(rt: HostRuntime) -> Result<(), Fai
     assert!(rt; reader.line_ahead().is_none());
     expect_line(&rt, &mut reader, &mut source, b"first");
     assert!(rt; reader.line_ahead() == Some(LineTaken::Whole));
-    assert!(rt; reader.text() == b"".as_slice());
     assert!(rt; reader.line_ahead().is_none());
     assert!(rt; reader.next_line(&mut source) == Err(SourceFailed));
     assert!(rt; reader.line_ahead().is_none());

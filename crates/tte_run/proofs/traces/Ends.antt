@@ -25,7 +25,7 @@ use Rattle.tte_run.specs.declared.trace.steps.Running.{Running}
 use Rattle.tte_run.specs.declared.status.Status.{Status}
 use Rattle.tte_run.specs.declared.status.Status.TheVariants.{ReadFault, WriteFault, OutOfMemory}
 use Rattle.tte_run.proofs.traces.Answers.{IsAllAdmitted, all_records}
-use Rattle.tte_run.proofs.traces.Given.{cut_ended, cut_so_far, failed_ended, failed_so_far, fails_report, faulty_given, puts_report, stops_report, whole_given}
+use Rattle.tte_run.proofs.traces.Given.{cut_ended, cut_so_far, failed_ended, failed_so_far, faulty_given, puts_report, stops_report, whole_given}
 use Rattle.tte_run.proofs.traces.SilentRuns.{records_of_silent, so_far_of_silent}
 use Rattle.tte_run.proofs.traces.WorldMarks.{mark_within}
 use Rattle.tte_units.specs.Amount.{amount}
@@ -47,7 +47,7 @@ cut_given : (network : Network) (octets : List ℕ) (events : List Event) (notes
     → GivesOne (IsTraceAnswer network octets) status old new
 cut_given network octets events notes more status old now new built all run puts (inl f) =
     failed_so_far network octets events (notes ++ more) status old new built all (so_far_of_silent network octets events (notes ++ more) built all run) f.0
-    (inl (fails_report network notes more old now new puts f.1))
+    (stops_report network notes more old now new puts f.1)
 cut_given network octets events notes more status old now new built all run puts (inr m) =
     cut_so_far network octets events (notes ++ more) status old new built all (so_far_of_silent network octets events (notes ++ more) built all run) (inr m.0)
     (puts_report network notes more old now new puts m.1)

@@ -43,7 +43,7 @@ puts_report network notes more old now new p q =
     (PutsLines-append (report_of network notes) (report_of network more) old now new p q)
 
 -- the put of one of them failed
-pub fails_report : (network : Network) (notes more : List Note) (old now new : Shown) → PutsLines (report_of network notes) old now
+fails_report : (network : Network) (notes more : List Note) (old now new : Shown) → PutsLines (report_of network notes) old now
     → PutFails (report_of network more) now new → PutFails (report_of network (notes ++ more)) old new
 fails_report network notes more old now new p q =
     subst (λ (lines : List (List ℕ)). PutFails lines old new) (sym (report_more network notes more))

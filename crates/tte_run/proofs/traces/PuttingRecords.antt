@@ -21,7 +21,7 @@ use Rattle.schedule_tables.proofs.EntryLemmas.{all_at}
 use Rattle.net_plan.specs.Belonging.{IsOfNetwork}
 use Rattle.tte_io.specs.Faults.{next_count}
 use Rattle.tte_io.specs.Told.{AppendsFront}
-use Rattle.tte_run.specs.traces.Records.{AreSilentBefore, IsUnderway, PutsOr, PutsOrRest, PutsRest, PutsUntil, StandsExact}
+use Rattle.tte_run.specs.traces.Records.{AreSilentBefore, IsUnderway, PutsOr, PutsRest, PutsUntil, StandsExact}
 use Rattle.tte_run.specs.Putting.{Shown, PutsLines, PutFails}
 use Rattle.fault_hypothesis.specs.Watching.{AreOfNetwork}
 use Rattle.tte_run.specs.declared.status.Status.{Status}
@@ -134,11 +134,23 @@ until_all network events notes until world next old new same h all =
 
 pub until_fails : (network : Network) (events : List Event) (notes : List Note) (until : Units) (world : Progress Segment) (old new : Shown)
     → HasFailed network events notes world old new → PutsUntil {T = Unit {0}} network events notes until world (Err WriteFault) old new
-until_fails network events notes until world old new h = record { more = h.more; stands = h.stands; puts = inl (refl, h.fails); all = tt {0} }
+until_fails network events notes until world old new h = record { more = h.more; stands = h.stands; puts = inl (refl, inl h.fails); all = tt {0} }
 
-pub until_no_memory : (network : Network) (events : List Event) (notes : List Note) (until : Units) (world : Progress Segment) (old new : Shown)
-    → HasPut network events notes world old new → PutsUntil {T = Unit {0}} network events notes until world (Err OutOfMemory) old new
-until_no_memory network events notes until world old new h = record { more = h.more; stands = h.stands; puts = inr (refl, h.puts); all = tt {0} }
+-- memory ran out behind the lines, and all was passed on, or that failed
+pub no_memory : (lines : List (List ℕ)) (status : Status) (old now new : Shown) → PutsLines lines old now → Ends OutOfMemory status now new
+    → PutsOr {T = Unit {0}} (Err status) lines old new
+no_memory lines status old now new p (none, inl e) = inr (e.0, PutsLines-still lines old now new p none)
+no_memory lines status old now new p (none, inr e) = inl (e, inr (PutsLines-still lines old now new p none))
+
+pub until_no_memory : (network : Network) (events : List Event) (notes : List Note) (until : Units) (world : Progress Segment) (status : Status)
+    (old now new : Shown) → HasPut network events notes world old now → Ends OutOfMemory status now new
+    → PutsUntil {T = Unit {0}} network events notes until world (Err status) old new
+until_no_memory network events notes until world status old now new h ends = record {
+  more = h.more;
+  stands = h.stands;
+  puts = no_memory (report_of network h.more) status old now new h.puts ends;
+  all = tt {0};
+}
 
 -- ---- up to the end
 
@@ -167,8 +179,4 @@ rest_done network events notes end until world status old now new p begun same a
 
 pub rest_cut : (network : Network) (events : List Event) (notes : List Note) (end until : Units) (world : Progress Segment) (status : Status) (old new : Shown)
     → PutsUntil {T = Unit {0}} network events notes until world (Err status) old new → PutsRest network events notes end world status old new
-rest_cut network events notes end until world status old new p = record { more = p.more; stands = p.stands; puts = cut p.puts }
-  where
-    cut : PutsOr {T = Unit {0}} (Err status) (report_of network p.more) old new → PutsOrRest network events notes p.more end status old new
-    cut (inl f) = inr (inl (f.0, inl f.1))
-    cut (inr m) = inr (inr m)
+rest_cut network events notes end until world status old new p = record { more = p.more; stands = p.stands; puts = inr p.puts }

@@ -50,7 +50,7 @@ writes_failing lines old new (inl f) = writes_fails lines old new f
 writes_failing lines old new (inr p) = writes_lines p.done old new p.puts
 
 writes_or : (status : Status) (lines : List (List ℕ)) (old new : Shown) → PutsOr {T = Unit {0}} (Err status) lines old new → WritesSome old new
-writes_or status lines old new (inl f) = writes_fails lines old new f.1
+writes_or status lines old new (inl f) = writes_stops lines old new f.1
 writes_or status lines old new (inr m) = writes_lines lines old new m.1
 
 pub writes_event : (network : Network) (events : List Event) (notes : List Note) (event : Event) (world : Progress Segment) (status : Status) (old new : Shown)

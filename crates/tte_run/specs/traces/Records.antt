@@ -10,7 +10,7 @@ use Rattle.run_law.specs.scenario.Hypothesis.{SetsFastRate}
 use Rattle.run_law.specs.law.Silent.{IsSilentRunOf}
 use Rattle.run_law.specs.declared.note.Note.{Note}
 use Rattle.net_plan.specs.Belonging.{IsOfNetwork}
-use Rattle.tte_run.specs.Putting.{Shown, IsPassedOn, PutsLines, PutFails, StopsWriting}
+use Rattle.tte_run.specs.Putting.{Shown, IsPassedOn, PutsLines, StopsWriting}
 use Rattle.tte_run.specs.traces.Answer.{clock_reading}
 use Rattle.fault_hypothesis.specs.Watching.{AreOfNetwork}
 use Rattle.tte_run.specs.declared.status.Status.{Status}
@@ -50,11 +50,11 @@ pub record MayBefall (world : Progress Segment) (line : ℕ) (event : Event) : T
 abbrev pub IsCut : Status → Type 0 → Type 0
 IsCut status PutFails = ((status ≡ WriteFault) × PutFails) ⊎ (status ≡ OutOfMemory)
 
--- the lines were put; or the put of one failed, behind those before it; or memory ran out behind them
+-- the lines were put; or writing them failed; or memory ran out behind them
 abbrev pub PutsOr : {T : Type 0} → Result T Status → List (List ℕ) → Shown → Shown → Type 0
 PutsOr (Ok _) lines old new = PutsLines lines old new
 PutsOr (Err status) lines old new =
-    ((status ≡ WriteFault) × PutFails lines old new) ⊎ ((status ≡ OutOfMemory) × PutsLines lines old new)
+    ((status ≡ WriteFault) × StopsWriting lines old new) ⊎ ((status ≡ OutOfMemory) × PutsLines lines old new)
 
 -- the next records of the run were put: where all went well, each that is earlier than the time
 pub record PutsUntil {T : Type 0} (network : Network) (events : List Event) (notes : List Note) (until : Units)

@@ -22,7 +22,7 @@ pub(crate) type ExactWorld<'a> = World<'a, SegmentClock>;
 /// Puts the next records that are earlier than a time. Their lines are made in `text`, one after the
 /// other.
 ///
-/// The error is that a put failed or that memory ran out.
+/// The error is that writing failed, or that memory ran out; then all that was put is passed on.
 pub(crate) fn put_until<K: Sink>(
     world: &mut ExactWorld<'_>,
     network: &Network,
@@ -44,7 +44,7 @@ pub(crate) fn put_until<K: Sink>(
                 Err(_) => return Err(Status::WriteFault),
             },
             Ok(None) => return Ok(()),
-            Err(_) => return Err(Status::OutOfMemory),
+            Err(_) => return Err(end_with(Status::OutOfMemory, out)),
         }
     }
 }
@@ -52,7 +52,7 @@ pub(crate) fn put_until<K: Sink>(
 /// Puts the records that are earlier than the event of this line, lets it befall the network, and
 /// puts its record.
 ///
-/// The error is that a put failed or that memory ran out.
+/// The error is that writing failed, or that memory ran out; then all that was put is passed on.
 pub(crate) fn put_event<K: Sink>(
     world: &mut ExactWorld<'_>,
     network: &Network,
@@ -75,7 +75,7 @@ pub(crate) fn put_event<K: Sink>(
     }
     let note = match world.apply(line, event) {
         Ok(note) => note,
-        Err(_) => return Err(Status::OutOfMemory),
+        Err(_) => return Err(end_with(Status::OutOfMemory, out)),
     };
     match write(text, network, &note, out) {
         Ok(()) => Ok(()),
