@@ -99,23 +99,18 @@ fn try_failing_passes(
         try_runs(rt, alloc, UNCHANGED, &[cut])?;
     }
     let last = [reads.saturating_add(1)];
+    let unpassed = Run {
+        failing_passes: &last,
+        status: Status::WriteFault,
+        ..*run
+    };
+    try_runs(rt, alloc, UNCHANGED, &[unpassed])?;
     let behind = [reads.saturating_add(2)];
-    try_runs(
-        rt,
-        alloc,
-        UNCHANGED,
-        &[
-            Run {
-                failing_passes: &last,
-                status: Status::WriteFault,
-                ..*run
-            },
-            Run {
-                failing_passes: &behind,
-                ..*run
-            },
-        ],
-    )
+    let passed = Run {
+        failing_passes: &behind,
+        ..*run
+    };
+    try_runs(rt, alloc, UNCHANGED, &[passed])
 }
 
 #[test]
