@@ -1,6 +1,6 @@
 -- What was passed on of what was put.
-use Rattle.std.proofs.Common.{◌≡◌, ℕ, ◌≤◌, List, [], ◌++◌, length, take, drop, Option, Some, sym, ap, subst, ◌∙◌, append-nil, length-take-le}
-use Rattle.std.proofs.lemmas.List.{take-append-drop, take-append-le, take_all}
+use Rattle.std.proofs.Common.{◌≡◌, ℕ, ◌≤◌, List, [], ◌++◌, length, take, drop, Some, sym, ap, ◌∙◌, append-nil}
+use Rattle.std.proofs.lemmas.List.{take-append-drop, take-append-le}
 use Rattle.tte_io.specs.Told.{PassesSome}
 
 -- no more of it

@@ -25,7 +25,8 @@ returns-in-Ended-clause-found c left =
     let at = c.match-self.self-inside in
     let making : Making (pending c.args.self.now) left at.line at.ahead left =
     elim c.match-self.branch [
-      | in-Taken w ↦ rw w.self-inside-is (making_next r.progress r.line r.ahead w.clear.new.self c.args.self.now left c.self.view_is w.in-Taken.is w.clear.ensures)
+      | in-Taken w ↦
+          rw w.self-inside-is (making_next r.progress r.line r.ahead w.clear.new.self c.args.self.now left c.self.view_is w.in-Taken.is w.clear.ensures)
       | in-Unfinished w ↦ rw w.self-inside-is (making_on r.progress r.line r.ahead c.args.self.now left c.self.view_is w.in-Unfinished.is c.self.invariant.0)
     ] in
     taken_at_lf _ _ _ _ _ _ _ making c.in-Ended.ensures.advances
@@ -36,7 +37,8 @@ returns-in-TooLong-advance-clause-found c left =
     let at = c.match-self.self-inside in
     let making : Making (pending c.args.self.now) left at.line at.ahead left =
     elim c.match-self.branch [
-      | in-Taken w ↦ rw w.self-inside-is (making_next r.progress r.line r.ahead w.clear.new.self c.args.self.now left c.self.view_is w.in-Taken.is w.clear.ensures)
+      | in-Taken w ↦
+          rw w.self-inside-is (making_next r.progress r.line r.ahead w.clear.new.self c.args.self.now left c.self.view_is w.in-Taken.is w.clear.ensures)
       | in-Unfinished w ↦ rw w.self-inside-is (making_on r.progress r.line r.ahead c.args.self.now left c.self.view_is w.in-Unfinished.is c.self.invariant.0)
     ] in
     found_too_long _ _ _ _ _ _ _ making c.in-TooLong-advance.ensures.advances

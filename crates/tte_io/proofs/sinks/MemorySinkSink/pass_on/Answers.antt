@@ -1,4 +1,4 @@
-use Rattle.std.proofs.Common.{◌≡◌, ℕ, List, take, length, Some, ap, ◌∙◌, take_all, arith}
+use Rattle.std.proofs.Common.{◌≡◌, take, ap, take_all, arith}
 use Rattle.tte_io.specs.InMemory.{SinkState}
 use Rattle.tte_io.proofs.Passing.{passes_none, passes_all}
 use Rattle.tte_io.proofs.sinks.MemorySinkSink.pass_on.Goals as goal

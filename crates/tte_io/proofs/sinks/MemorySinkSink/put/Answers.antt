@@ -1,6 +1,5 @@
-use Rattle.std.proofs.Common.{◌≡◌, ℕ, List, take, Some, ap, subst, sym, ◌∙◌}
+use Rattle.std.proofs.Common.{◌≡◌, take, ap, ◌∙◌}
 use Rattle.tte_io.specs.InMemory.{SinkState}
-use Rattle.tte_io.specs.Told.{PassesSome}
 use Rattle.tte_io.proofs.Passing.{passes_none, passed_still}
 use Rattle.tte_io.proofs.sinks.MemorySinkSink.put.Goals as goal
 
