@@ -8,9 +8,8 @@ use Rattle.std.proofs.KnownBytes.{Appends-nil, Appends-trans}
 use Rattle.tte_io.specs.Faults.{next_count}
 use Rattle.tte_io.specs.Told.{AppendsFront}
 use Rattle.tte_run.specs.Answering.{Ends, Gives}
-use Rattle.tte_run.specs.Putting.{Shown, IsPassedOn, puts_after, PutsLines, PutsNone, PutsSome, PutFails, WriteFails}
+use Rattle.tte_run.specs.Putting.{Shown, puts_after, PutsLines, PutsNone, PutsSome, PutFails, WriteFails}
 use Rattle.tte_run.specs.declared.status.Status.{Status}
-use Rattle.tte_run.specs.declared.status.Status.TheVariants.{WriteFault}
 
 pub PutsLines-none : (s : Shown) → PutsLines [] s s
 PutsLines-none s = record { written = Appends-nil s.written; counted = refl }

@@ -13,7 +13,7 @@ use Rattle.tte_io.specs.ReaderState.{pending}
 use Rattle.tte_run.specs.Answering.{Answer, Gives}
 use Rattle.tte_run.specs.traces.Following.{TakesFew, TakesNext}
 use Rattle.tte_run.specs.traces.Records.{PutsEvent, PutsOr, PutsOrRest, PutsRest}
-use Rattle.tte_run.specs.Putting.{Shown, PutsLines, PutsNone, PutFails, StopsWriting, WriteFails}
+use Rattle.tte_run.specs.Putting.{Shown, PutsLines, PutFails, StopsWriting, WriteFails}
 use Rattle.tte_run.specs.traces.Steps.{IsRunning}
 use Rattle.tte_run.specs.traces.Streaming.{ForTrace, StopsBehindLines, TakesLittle, WritesSome}
 use Rattle.tte_run.specs.declared.trace.fault.TraceStop.{TraceStop}

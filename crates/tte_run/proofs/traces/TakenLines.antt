@@ -1,5 +1,5 @@
 -- A line taken from the octets ahead, or by reads.
-use Rattle.std.proofs.Common.{◌≡◌, ℕ, List, [], ◌++◌, Option, Ok, Err, refl, sym, ap, subst, ◌∙◌, append-nil, arith}
+use Rattle.std.proofs.Common.{◌≡◌, ℕ, List, [], Option, Ok, Err, refl, sym, ◌∙◌, append-nil, arith}
 use Rattle.std.proofs.KnownBytes.{Consumes-nil}
 use Rattle.tte_io.specs.NextLine.{KeepsLine, NextLine}
 use Rattle.tte_io.specs.ReaderState.{LineReaderState, pending}

@@ -1,7 +1,6 @@
 use Rattle.std.proofs.Common.{ℕ, List, Ok, Err, subst}
 use Rattle.tte_io.proofs.Coming.{outcome_told}
 use Rattle.tte_io.specs.NextLine.{NextLine}
-use Rattle.tte_io.specs.ReaderState.{pending}
 use Rattle.tte_run.specs.declared.trace.fault.TraceStop.{TraceStop}
 use Rattle.tte_run.specs.declared.trace.fault.TraceStop.TheVariants.{ReadFault, WriteFault}
 use Rattle.tte_run.proofs.traces.TakenLines.{failed_over, found_over, unread}
