@@ -16,7 +16,7 @@ use net_plan::{DeviceId, LinkId, Network, VlId, What};
 use pcf_values::Members;
 use run_law::{Judgement, NoteBody, Reason, Why};
 use sync_state::State;
-use trace_text::event_text;
+use trace_text::push_what;
 use tte_io::LineText;
 use tte_units::Units;
 
@@ -30,7 +30,7 @@ fn push_event(line: &mut LineText, network: &Network, of_trace: u64, what: &What
     line.push("event ");
     line.push_decimal(of_trace);
     line.push(" ");
-    line.append(event_text(network, what).as_slice());
+    push_what(line, network, what);
 }
 
 // Adds what the record of a collection begins with: the device, its opening point, and when it is sent.

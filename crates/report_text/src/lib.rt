@@ -10,7 +10,7 @@ mod writing;
 
 pub use laws::one_report;
 pub use words::{judgement_text, state_text, why_text};
-pub use writing::{note_line, write};
+pub use writing::{make_note_line, write};
 
 #[cfg(test)]
 mod tests;

@@ -12,7 +12,7 @@ use run_law::{Judgement, Note, NoteBody, Reason, Why};
 use std::alloc::Global;
 use std::test::Fail;
 use sync_state::State;
-use tte_io::{MemorySink, OutOfMemory, SinkFailed};
+use tte_io::{LineText, MemorySink, OutOfMemory, SinkFailed};
 use tte_units::Units;
 
 // Whether a record's line is this text, in one put.
@@ -33,7 +33,7 @@ fn shows(
         body,
     };
     let mut sink = MemorySink::new(alloc, 4096, &[2])?;
-    let written = write(network, &note, &mut sink);
+    let written = write(&mut LineText::new(), network, &note, &mut sink);
     Ok(written.is_ok() && sink.written() == line.as_bytes())
 }
 
@@ -585,8 +585,9 @@ fn a_failed_put_is_told(rt: HostRuntime) -> Result<(), Fail> {
     };
     let line = b"1 0 lost m1 m1_b 18446744073709551615\n".as_slice();
     let mut sink = MemorySink::new(rt.alloc(), 4096, &[2])?;
-    assert!(rt; write(&network, &lost, &mut sink) == Ok(()));
-    assert!(rt; write(&network, &lost, &mut sink) == Err(SinkFailed));
+    let mut text = LineText::new();
+    assert!(rt; write(&mut text, &network, &lost, &mut sink) == Ok(()));
+    assert!(rt; write(&mut text, &network, &lost, &mut sink) == Err(SinkFailed));
     assert!(rt; sink.written() == line);
     Ok(())
 }

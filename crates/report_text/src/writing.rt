@@ -12,28 +12,33 @@ use net_plan::Network;
 use run_law::Note;
 use tte_io::{LineText, Sink, SinkFailed};
 
-/// A record's line, ended by LF.
+/// Makes a record's line, ended by LF: its number, its time, and what it says.
 ///
 /// The network is in its ranges, and the record's devices, links and virtual links are its own.
-pub fn note_line(network: &Network, note: &Note) -> LineText
+pub fn make_note_line(line: &mut LineText, network: &Network, note: &Note)
     requires in_range { IsInRange network.now }
     requires of_network { IsNoteOf network.now note.now }
-    ensures { result ≡ note_line network.now note.now }
+    ensures { line.new ≡ note_line network.now note.now }
 {
-    let mut line = LineText::new();
+    line.clear();
     line.push_decimal(note.number);
     line.push(" ");
-    push_units(&mut line, note.time);
+    push_units(line, note.time);
     line.push(" ");
-    push_body(&mut line, network, &note.body);
+    push_body(line, network, &note.body);
     line.push("\n");
-    line
 }
 
-/// Puts a record's line, ended by LF, in one put: its number, its time, and what it says.
+/// Puts a record's line, ended by LF, in one put. It is made in `line`, which callers keep for the
+/// next one.
 ///
 /// The network is in its ranges, and the record's devices, links and virtual links are its own.
-pub fn write<K: Sink>(network: &Network, note: &Note, out: &mut K) -> Result<(), SinkFailed>
+pub fn write<K: Sink>(
+    line: &mut LineText,
+    network: &Network,
+    note: &Note,
+    out: &mut K,
+) -> Result<(), SinkFailed>
     requires in_range { IsInRange network.now }
     requires of_network { IsNoteOf network.now note.now }
 
@@ -45,6 +50,6 @@ pub fn write<K: Sink>(network: &Network, note: &Note, out: &mut K) -> Result<(),
     ensures ok_unchanged { OnOk result (K.faults out.new ≡ K.faults out.old) }
     ensures failed_rose { OnErr result (Rose (K.faults out.old) (K.faults out.new)) }
 {
-    let line = note_line(network, note);
+    make_note_line(line, network, note);
     out.put(line.as_slice())
 }

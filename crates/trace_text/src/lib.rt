@@ -13,7 +13,7 @@ mod words;
 
 pub use laws::{prints_back_law, reads_back_law};
 pub use names::{device_spelled, link_spelled};
-pub use printing::{EventText, event_text, print};
+pub use printing::{EventText, event_text, print, push_what};
 pub use reading::{line, what};
 pub use refusal::LineRefusal;
 pub use words::Words;

@@ -90,9 +90,11 @@ fn push_of_way(line: &mut LineText, word: EventWord, network: &Network, link: Li
     line.push(way_text(way));
 }
 
-// Adds an event's text, which takes at most 3,050 octets.
+/// Adds the text of what befalls the network, which takes at most 3,050 octets.
+///
+/// The network is in its ranges, and the device and the link are its own.
 #[tactic(auto, unfolding(crate::specs::EventLine::what_text))]
-fn push_what(line: &mut LineText, network: &Network, what: &What)
+pub fn push_what(line: &mut LineText, network: &Network, what: &What)
     requires in_range { IsInRange network.now }
     requires of_network { IsOfNetwork network.now what.now }
     requires room { length line.old + longest_text ≤ line_limit }

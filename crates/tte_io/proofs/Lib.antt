@@ -1,4 +1,5 @@
 pub mod Taken
+pub mod Passing
 pub mod Ranges
 pub mod LongLines
 pub mod Making

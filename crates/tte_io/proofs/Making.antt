@@ -4,7 +4,9 @@ use Rattle.std.specs.Io.KnownBytes.{Consumes, IsAtEnd}
 use Rattle.std.proofs.KnownBytes.{Consumes-nil, Consumes-trans}
 use Rattle.tte_io.specs.declared.lines.LineTaken.{LineTaken}
 use Rattle.tte_io.specs.declared.lines.LineTaken.TheVariants.{Whole, Long, End}
-use Rattle.tte_io.specs.declared.lines.Progress.TheVariants.{Unfinished, TooLong}
+use Rattle.tte_io.specs.declared.lines.Progress.{Progress}
+use Rattle.tte_io.specs.declared.lines.Progress.TheVariants.{Unfinished, Taken, TooLong}
+use Rattle.tte_io.specs.ReaderState.{LineReaderState, pending}
 use Rattle.tte_io.specs.declared.taking.Step.TheVariants as step
 use Rattle.tte_io.specs.Line.{lf, ahead_limit, IsLine, IsTooLong}
 use Rattle.tte_io.specs.NextLine.{NextLine}
@@ -174,3 +176,18 @@ still_too_long line ahead left long = record {
   nothing_lost = append-nil (line ++ ahead);
   answer = record { none = refl; line = long; reader = refl };
 }
+
+-- the next line begins behind one that was taken
+pub making_next : (progress : Progress) (line ahead cleared : List ℕ) (now : LineReaderState) (left : Option (List ℕ))
+    → reader_state progress line ahead ≡ now → progress ≡ Taken → cleared ≡ [] → Making (pending now) left cleared ahead left
+making_next progress line ahead cleared now left same is none =
+    let pending_is : pending now ≡ ahead = sym (ap pending same) ∙ ap (λ (p : Progress). pending (reader_state p line ahead)) is in
+    let empty : IsLine [] = record { unbroken = λ k octet within. absurd (omega (arith, within)); within = omega arith } in
+    rw (pending_is, none) (making_begun [] ahead left empty)
+
+-- an unfinished line goes on
+pub making_on : (progress : Progress) (line ahead : List ℕ) (now : LineReaderState) (left : Option (List ℕ))
+    → reader_state progress line ahead ≡ now → progress ≡ Unfinished → IsLine line → Making (pending now) left line ahead left
+making_on progress line ahead now left same is is_line =
+    let pending_is : pending now ≡ line ++ ahead = sym (ap pending same) ∙ ap (λ (p : Progress). pending (reader_state p line ahead)) is in
+    rw pending_is (making_begun line ahead left is_line)

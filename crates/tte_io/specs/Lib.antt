@@ -4,6 +4,7 @@ pub mod InMemory
 pub mod PutCounts
 pub mod Whole
 pub mod Line
+pub mod Holding
 pub mod ReaderState
 pub mod NextLine
 pub mod Outcome

@@ -1,5 +1,7 @@
-ghost use Rattle.std.specs.Prelude.{◌≡◌, IfOk, None};
+ghost use Rattle.std.specs.Prelude.{◌≡◌, ◌≤◌, false, IfOk, None, OnErr, OnOk};
+ghost use Rattle.tte_io.specs.Faults.{Rose};
 
+use crate::held::Held;
 use crate::{OutOfMemory, Sink, SinkFailed, Source, SourceFailed};
 use std::alloc::Global;
 use std::fs;
@@ -90,11 +92,13 @@ impl<'a, R: Files> Source for LazyFile<'a, R> {
     }
 }
 
-/// Standard output. What it shows is not told: contracts see it as the counts of its puts and of
-/// its faults.
+/// Standard output. It holds up to 16 KiB of what is put, and writes them when it is full or is to
+/// pass them on. What it shows is not told: contracts see it as the counts of its puts and of its
+/// faults.
 #[derive(Drop)]
 pub struct StdSink<'a, R: Print> {
     rt: &'a R,
+    held: Held,
     puts: u64,
     faults: u64,
 }
@@ -114,14 +118,32 @@ impl<'a, R: Print> StdSink<'a, R> {
     {
         StdSink {
             rt,
+            held: Held::new(),
             puts: 0,
             faults: 0,
         }
+    }
+
+    /// What a call answers, by whether it went well. One that did not is counted.
+    fn answer(&mut self, well: bool) -> Result<(), SinkFailed>
+        ensures puts { self.new.puts ≡ self.old.puts }
+        ensures never_falls { self.old.faults ≤ self.new.faults }
+        ensures ok_unchanged { OnOk result (self.new.faults ≡ self.old.faults) }
+        ensures failed_rose { OnErr result (Rose self.old.faults self.new.faults) }
+        ensures well { OnErr result (well ≡ false) }
+    {
+        if well {
+            return Ok(());
+        }
+        self.faults = self.faults.saturating_add(1);
+        Err(SinkFailed)
     }
 }
 
 impl<'a, R: Print> Sink for StdSink<'a, R> {
     ghost written = { λ _. None };
+
+    ghost passed = { λ _. None };
 
     ghost puts = { λ s. s.puts };
 
@@ -129,17 +151,13 @@ impl<'a, R: Print> Sink for StdSink<'a, R> {
 
     fn put(&mut self, bytes: &[u8]) -> Result<(), SinkFailed> {
         self.puts = self.puts.saturating_add(1);
-        let mut rest = bytes;
-        'pieces: while !rest.is_empty() {
-            match self.rt.write_some(rest) {
-                Ok(0) | Err(_) => {
-                    self.faults = self.faults.saturating_add(1);
-                    return Err(SinkFailed);
-                }
-                Ok(count) => rest = &rest[count..],
-            }
-        }
-        Ok(())
+        let well = self.held.take(self.rt, bytes);
+        self.answer(well)
+    }
+
+    fn pass_on(&mut self) -> Result<(), SinkFailed> {
+        let well = self.held.write_out(self.rt);
+        self.answer(well)
     }
 }
 
@@ -201,23 +219,57 @@ mod tests {
     }
 
     #[test]
-    fn standard_output_is_written_in_pieces(rt: HostRuntime) {
+    fn standard_output_holds_octets_until_they_are_passed_on(rt: HostRuntime) {
         let output = SlowPrint {
             room: Cell::new(10),
         };
         let mut out = StdSink::new(&output);
         assert!(rt; out.put(b"seven..") == Ok(()));
+        assert!(rt; output.room.get() == 10);
+        assert!(rt; out.pass_on() == Ok(()));
         assert!(rt; output.room.get() == 3);
+        assert!(rt; out.pass_on() == Ok(()));
         assert!(rt; out.put(b"") == Ok(()));
+        assert!(rt; out.put(b"four") == Ok(()));
         assert!(rt; out.faults == 0);
-        assert!(rt; out.put(b"four") == Err(SinkFailed));
+        assert!(rt; out.pass_on() == Err(SinkFailed));
         assert!(rt; output.room.get() == 0);
         assert!(rt; out.faults == 1);
+    }
+
+    #[test]
+    fn what_was_not_written_stays_held(rt: HostRuntime) {
+        let output = SlowPrint { room: Cell::new(2) };
+        let mut out = StdSink::new(&output);
+        assert!(rt; out.put(b"seven..") == Ok(()));
+        assert!(rt; out.pass_on() == Err(SinkFailed));
+        output.room.set(10);
+        assert!(rt; out.pass_on() == Ok(()));
+        assert!(rt; output.room.get() == 5);
+    }
+
+    #[test]
+    fn a_full_standard_output_writes(rt: HostRuntime) {
+        let output = SlowPrint {
+            room: Cell::new(40_000),
+        };
+        let mut out = StdSink::new(&output);
+        assert!(rt; out.put(&[b'a'; 16_000]) == Ok(()));
+        assert!(rt; out.put(&[b'b'; 384]) == Ok(()));
+        assert!(rt; output.room.get() == 40_000);
+        assert!(rt; out.put(b"c") == Ok(()));
+        assert!(rt; output.room.get() == 23_616);
+        // What is longer than the room goes straight out, behind what is held.
+        assert!(rt; out.put(&[b'd'; 16_385]) == Ok(()));
+        assert!(rt; output.room.get() == 7_230);
+        assert!(rt; out.put(&[b'e'; 16_385]) == Err(SinkFailed));
+        assert!(rt; output.room.get() == 0);
     }
 
     #[test]
     fn standard_output_takes_text(rt: HostRuntime) {
         let mut out = StdSink::new(&rt);
         assert!(rt; out.put(b"text\n") == Ok(()));
+        assert!(rt; out.pass_on() == Ok(()));
     }
 }

@@ -3,7 +3,7 @@ ghost use Rattle.std.specs.Io.{ReadsAtMost};
 ghost use Rattle.std.specs.Io.KnownBytes.{Appends, Keeps, ReadConsumes};
 ghost use Rattle.std.specs.declared.option.Option.{Option};
 ghost use Rattle.tte_io.specs.Faults.{Rose, next_count};
-ghost use Rattle.tte_io.specs.Told.{AppendsFront, IsZeroExactlyAtEnd};
+ghost use Rattle.tte_io.specs.Told.{AppendsFront, IsZeroExactlyAtEnd, PassesSome};
 
 /// A read failed.
 #[derive(Clone, Copy, Debug, PartialEq, Eq)]
@@ -33,22 +33,36 @@ pub trait Source {
         ensures failed_rose { OnErr result (Rose (faults self.old) (faults self.new)) };
 }
 
-/// Where octets go.
+/// Where octets go. Those that were put may be held until they are passed on.
 pub trait Sink {
-    /// The octets that were written, where they are told.
+    /// The octets that were put, where they are told.
     ghost written: { Self → Option (List ℕ) };
+
+    /// Those of them that were passed on, where they are told.
+    ghost passed: { Self → Option (List ℕ) };
 
     /// The count of the puts, which stands still at its last value, 2^64 - 1.
     ghost puts: { Self → ℕ };
 
-    /// The count of the puts that failed.
+    /// The count of the calls that failed.
     ghost faults: { Self → ℕ };
 
-    /// Writes all the octets, or fails after a front of them.
+    /// Takes all the octets, or fails after a front of them. What it takes it may hold.
     fn put(&mut self, bytes: &[u8]) -> Result<(), SinkFailed>
         ensures all { OnOk result (Appends (written self.old) (written self.new) bytes.now) }
         ensures front { OnErr result (AppendsFront (written self.old) (written self.new) bytes.now) }
+        ensures passes { PassesSome (passed self.old) (passed self.new) (written self.new) }
         ensures counted { puts self.new ≡ next_count (puts self.old) }
+
+        ensures never_falls { faults self.old ≤ faults self.new }
+        ensures ok_unchanged { OnOk result (faults self.new ≡ faults self.old) }
+        ensures failed_rose { OnErr result (Rose (faults self.old) (faults self.new)) };
+
+    /// Passes on all octets that were put and are still held, or fails after a front of them.
+    fn pass_on(&mut self) -> Result<(), SinkFailed>
+        ensures all { OnOk result (passed self.new ≡ written self.new) }
+        ensures passes { PassesSome (passed self.old) (passed self.new) (written self.new) }
+        ensures nothing_put { (written self.new ≡ written self.old) × (puts self.new ≡ puts self.old) }
 
         ensures never_falls { faults self.old ≤ faults self.new }
         ensures ok_unchanged { OnOk result (faults self.new ≡ faults self.old) }

@@ -4,6 +4,7 @@
 mod ahead;
 mod edge;
 mod ends;
+mod held;
 mod laws;
 mod line_text;
 mod lines;

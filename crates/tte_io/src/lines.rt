@@ -1,8 +1,8 @@
-ghost use Rattle.std.specs.Prelude.{◌≡◌, ◌≤◌, ◌<◌, ℕ, [], Some, Ok, true, length, IsSome, OnOk, OnErr};
+ghost use Rattle.std.specs.Prelude.{◌≡◌, ◌≤◌, ◌<◌, ℕ, List, [], Option, Some, Ok, true, length, IfNone, IfSome, IsSome, OnOk, OnErr};
 ghost use Rattle.tte_io.specs.Faults.{Rose};
 
 use crate::ahead::Ahead;
-use crate::taking::take_line;
+use crate::taking::{Step, advance, take_line};
 use crate::{LineText, Source, SourceFailed};
 use std::marker::Model;
 
@@ -49,7 +49,7 @@ impl Model for LineReader {
 
 impl LineReader {
     ghost use Rattle.tte_io.specs.Line.{line_limit, ahead_limit};
-    ghost use Rattle.tte_io.specs.NextLine.{NextLine};
+    ghost use Rattle.tte_io.specs.NextLine.{KeepsLine, NextLine};
     ghost use Rattle.tte_io.specs.Outcome.{TellsOutcome};
     ghost use Rattle.tte_io.specs.ReaderState.{at_rest, pending};
 
@@ -61,6 +61,36 @@ impl LineReader {
             ahead: Ahead::new(),
             line: LineText::new(),
             progress: Progress::Unfinished,
+        }
+    }
+
+    /// Takes the next line from the octets ahead, where they hold its end. It reads nothing.
+    ///
+    /// None where more is to be read: all octets ahead are then of one line, which `next_line` takes.
+    pub fn line_ahead(&mut self) -> Option<LineTaken>
+        ensures found { IfSome result (λ found. (left : Option (List ℕ))
+            → NextLine {E = SourceFailed} (pending self.old) left self.new left (Ok found)) }
+        ensures none { IfNone result ((pending self.new ≡ pending self.old) × KeepsLine [] self.new) }
+        ensures stays_long { self.old.long ≡ true → (result ≡ Some LineTaken.Long) × (self.new ≡ self.old) }
+        ensures kept_bound { length self.new.kept ≤ line_limit }
+        ensures ahead_bound { length self.new.ahead ≤ ahead_limit }
+    {
+        match self.progress {
+            Progress::TooLong => return Some(LineTaken::Long),
+            Progress::Taken => self.line.clear(),
+            Progress::Unfinished => (),
+        }
+        self.progress = Progress::Unfinished;
+        match advance(&mut self.ahead, &mut self.line) {
+            Step::Ended => {
+                self.progress = Progress::Taken;
+                Some(LineTaken::Whole)
+            }
+            Step::TooLong => {
+                self.progress = Progress::TooLong;
+                Some(LineTaken::Long)
+            }
+            Step::Unfinished => None,
         }
     }
 

@@ -31,7 +31,7 @@ fn before_lf(octets: &[u8]) -> usize
 
 /// Moves the octets ahead into the line, up to the LF, which it lets go. A line that they would
 /// make too long stays as it is.
-fn advance(ahead: &mut Ahead, line: &mut LineText) -> Step
+pub(crate) fn advance(ahead: &mut Ahead, line: &mut LineText) -> Step
     requires { IsLine line.old }
     ensures advances { Advances line.old ahead.old result line.new ahead.new }
     ensures shorter { length ahead.new ≤ length ahead.old }

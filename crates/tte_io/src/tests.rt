@@ -16,6 +16,10 @@ fn takes<K: Sink>(sink: &mut K, bytes: &[u8]) -> bool {
     sink.put(bytes) == Ok(())
 }
 
+fn passes<K: Sink>(sink: &mut K) -> bool {
+    sink.pass_on() == Ok(())
+}
+
 fn expect_line<S: Source>(rt: &impl Abort, reader: &mut LineReader, source: &mut S, text: &[u8]) {
     match reader.next_line(source) {
         Ok(LineTaken::Whole) => assert!(rt; reader.text() == text),
@@ -50,6 +54,20 @@ fn a_memory_sink_has_its_room(rt: HostRuntime) -> Result<(), Fail> {
 }
 
 #[test]
+fn a_memory_sink_holds_octets_until_they_are_passed_on(rt: HostRuntime) -> Result<(), Fail> {
+    let mut sink = MemorySink::with_failing_passes(rt.alloc(), 8, &[], &[2])?;
+    assert!(rt; takes(&mut sink, b"abc"));
+    assert!(rt; sink.passed() == b"".as_slice());
+    assert!(rt; passes(&mut sink));
+    assert!(rt; takes(&mut sink, b"de"));
+    assert!(rt; !passes(&mut sink));
+    assert!(rt; sink.passed() == b"abc".as_slice());
+    assert!(rt; passes(&mut sink));
+    assert!(rt; sink.passed() == b"abcde".as_slice());
+    Ok(())
+}
+
+#[test]
 fn a_source_is_read_up_to_its_limit(rt: HostRuntime) -> Result<(), Fail> {
     let whole = [7; 5000];
     for limit in [5000, 5001, u64::MAX] {
@@ -79,6 +97,20 @@ fn lines_go_on_after_a_failed_read(rt: HostRuntime) -> Result<(), Fail> {
     expect_line(&rt, &mut reader, &mut source, b"third");
     expect_line(&rt, &mut reader, &mut source, b"last");
     assert!(rt; reader.next_line(&mut source) == Ok(LineTaken::End));
+    Ok(())
+}
+
+#[test]
+fn a_whole_line_ahead_is_taken_without_a_read(rt: HostRuntime) -> Result<(), Fail> {
+    let mut source = MemorySource::new(rt.alloc(), b"first\n\nthird\n", 8, &[2])?;
+    let mut reader = LineReader::new();
+    assert!(rt; reader.line_ahead().is_none());
+    expect_line(&rt, &mut reader, &mut source, b"first");
+    assert!(rt; reader.line_ahead() == Some(LineTaken::Whole));
+    assert!(rt; reader.line_ahead().is_none());
+    assert!(rt; reader.next_line(&mut source) == Err(SourceFailed));
+    assert!(rt; reader.line_ahead().is_none());
+    expect_line(&rt, &mut reader, &mut source, b"third");
     Ok(())
 }
 

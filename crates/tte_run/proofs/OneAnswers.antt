@@ -1,6 +1,6 @@
 -- Answers that are one of those with a property.
 use Rattle.std.proofs.Common.{◌≡◌, ◌⊎◌, ℕ, List, [], ◌∷◌, ◌++◌, length, refl, sym, ap, ◌∙◌, subst, inl, inr, ⊎_elim, arith, length-append}
-use Rattle.tte_run.specs.Putting.{Shown, PutsLines, PutsSome, PutFails}
+use Rattle.tte_run.specs.Putting.{Shown, PutsLines, PutsSome, WriteFails}
 use Rattle.tte_run.specs.Answering.{Answer, Gives, GivesOne}
 use Rattle.tte_run.specs.declared.status.Status.{Status}
 use Rattle.tte_run.specs.declared.status.Status.TheVariants.{ReadFault, OutOfMemory}
@@ -8,14 +8,14 @@ use Rattle.tte_run.specs.declared.status.Status.TheVariants.{ReadFault, OutOfMem
 -- the one answer with the property was given
 pub one_given : (Is : Answer → Type 0) (a : Answer) (status : Status) (old new : Shown) → Is a → ((b : Answer) → Is b → b ≡ a) → Gives a status old new
     → GivesOne Is status old new
-one_given Is a status old new is one (inl g) = inl (a, is, g.0, g.1)
-one_given Is a status old new is one (inr (inl g)) = inr (inl (g.0, λ b h. subst (λ (x : Answer). PutFails x.lines old new) (sym (one b h)) g.1))
+one_given Is a status old new is one (inl g) = inl (a, is, g.0, g.1, g.2)
+one_given Is a status old new is one (inr (inl g)) = inr (inl (g.0, λ b h. subst (λ (x : Answer). WriteFails x.lines old new) (sym (one b h)) g.1))
 one_given Is a status old new is one (inr (inr g)) = inr (inr (g.0, λ b h. subst (λ (x : Answer). PutsSome x.lines old new) (sym (one b h)) g.1))
 
 -- an answer with a property has a wider one, and no others have that
 pub widened : (Is Wide : Answer → Type 0) (status : Status) (old new : Shown) → ((a : Answer) → Is a → Wide a) → ((a : Answer) → Wide a → Is a)
     → GivesOne Is status old new → GivesOne Wide status old new
-widened Is Wide status old new into back (inl g) = inl (g.0, into g.0 g.1, g.2, g.3)
+widened Is Wide status old new into back (inl g) = inl (g.0, into g.0 g.1, g.2, g.3, g.4)
 widened Is Wide status old new into back (inr (inl g)) = inr (inl (g.0, λ b h. g.1 b (back b h)))
 widened Is Wide status old new into back (inr (inr g)) = inr (inr (g.0, λ b h. g.1 b (back b h)))
 
@@ -30,12 +30,17 @@ nothing (x ∷ xs) ys e = absurd (omega (arith, ap length e))
 not_behind : {X : Type 0} (xs : List X) (y : X) (ys : List X) → [] ≡ xs ++ y ∷ ys → ⊥
 not_behind xs y ys e = omega (arith, ap length e, length-append xs (y ∷ ys))
 
+-- the first ones of no lines
+some_nothing : (lines : List (List ℕ)) (old new : Shown) → lines ≡ [] → PutsSome lines old new → PutsLines [] old new
+some_nothing lines old new e s =
+    let none = nothing s.done s.left (sym e ∙ s.order) in subst (λ (ls : List (List ℕ)). PutsLines ls old new) none s.puts
+
 -- an answer without lines puts nothing
 pub puts_nothing : (a : Answer) (status : Status) (old new : Shown) → a.lines ≡ [] → Gives a status old new → PutsLines [] old new
 puts_nothing a status old new e (inl g) = subst (λ (ls : List (List ℕ)). PutsLines ls old new) e g.1
-puts_nothing a status old new e (inr (inl g)) = absurd (not_behind g.1.done g.1.line g.1.left (sym e ∙ g.1.order))
-puts_nothing a status old new e (inr (inr g)) =
-    let none = nothing g.1.done g.1.left (sym e ∙ g.1.order) in subst (λ (ls : List (List ℕ)). PutsLines ls old new) none g.1.puts
+puts_nothing a status old new e (inr (inl (is, inl g))) = absurd (not_behind g.done g.line g.left (sym e ∙ g.order))
+puts_nothing a status old new e (inr (inl (is, inr g))) = some_nothing a.lines old new e g
+puts_nothing a status old new e (inr (inr g)) = some_nothing a.lines old new e g.1
 
 -- where a read failed or memory ran out before any put, a front of any answer was given
 pub cut_given : (Is : Answer → Type 0) (a : Answer) (status : Status) (old new : Shown) → a.lines ≡ [] → (a.status ≡ ReadFault) ⊎ (a.status ≡ OutOfMemory)
@@ -46,5 +51,6 @@ cut_given Is a status old new e cause (inl g) =
       λ b h. none_put b.lines old new
           (puts_nothing a status old new e (inl g)),
     ))
-cut_given Is a status old new e cause (inr (inl g)) = absurd (not_behind g.1.done g.1.line g.1.left (sym e ∙ g.1.order))
+cut_given Is a status old new e cause (inr (inl g)) =
+    inr (inl (g.0, λ b h. inr (none_put b.lines old new (puts_nothing a status old new e (inr (inl g))))))
 cut_given Is a status old new e cause (inr (inr g)) = inr (inr (g.0, λ b h. none_put b.lines old new (puts_nothing a status old new e (inr (inr g)))))

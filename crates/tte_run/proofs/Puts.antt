@@ -1,5 +1,5 @@
 -- Lines put one after another.
-use Rattle.std.proofs.Common.{◌≡◌, ℕ, List, [], ◌∷◌, ◌++◌, length, refl, sym, ap, ◌∙◌, append_assoc}
+use Rattle.std.proofs.Common.{◌≡◌, ℕ, List, [], ◌∷◌, ◌++◌, length, Option, refl, sym, ap, subst, ◌∙◌, inl, inr, append_assoc}
 use Rattle.std.specs.List.{concat}
 use Rattle.std.specs.Io.KnownBytes.{Appends}
 use Rattle.std.proofs.lemmas.List.{append-nil}
@@ -7,7 +7,9 @@ use Rattle.std.proofs.lemmas.List.Folds.{concat-append}
 use Rattle.std.proofs.KnownBytes.{Appends-nil, Appends-trans}
 use Rattle.tte_io.specs.Faults.{next_count}
 use Rattle.tte_io.specs.Told.{AppendsFront}
-use Rattle.tte_run.specs.Putting.{Shown, puts_after, PutsLines, PutsSome, PutFails}
+use Rattle.tte_run.specs.Answering.{Ends, Gives}
+use Rattle.tte_run.specs.Putting.{Shown, puts_after, PutsLines, PutsNone, PutsSome, PutFails, WriteFails}
+use Rattle.tte_run.specs.declared.status.Status.{Status}
 
 pub PutsLines-none : (s : Shown) → PutsLines [] s s
 PutsLines-none s = record { written = Appends-nil s.written; counted = refl }
@@ -63,3 +65,24 @@ PutFails-behind xs ys a b c p q = record {
   front = q.front;
   counted = q.counted;
 }
+
+pub WriteFails-behind : (xs ys : List (List ℕ)) (a b c : Shown) → PutsLines xs a b → WriteFails ys b c → WriteFails (xs ++ ys) a c
+WriteFails-behind xs ys a b c p (inl q) = inl (PutFails-behind xs ys a b c p q)
+WriteFails-behind xs ys a b c p (inr q) = inr (PutsSome-behind xs ys a b c p q)
+
+-- nothing more was put
+pub PutsLines-still : (lines : List (List ℕ)) (a b c : Shown) → PutsLines lines a b → PutsNone b c → PutsLines lines a c
+PutsLines-still lines a b c p none = record {
+  written = subst (λ (w : Option (List ℕ)). Appends a.written w (concat lines)) (sym none.0) p.written;
+  counted = none.1 ∙ p.counted;
+}
+
+-- all of these lines are the first ones of them
+pub PutsSome-all : (lines : List (List ℕ)) (a b : Shown) → PutsLines lines a b → PutsSome lines a b
+PutsSome-all lines a b p = record { done = lines; left = []; order = sym (append-nil lines); puts = p }
+
+-- lines were put, and then all was passed on, or that failed
+pub Ends-gives : (lines : List (List ℕ)) (wanted status : Status) (old now new : Shown) → PutsLines lines old now → Ends wanted status now new
+    → Gives (record { status = wanted; lines = lines }) status old new
+Ends-gives lines wanted status old now new p (none, inl e) = inl (e.0, PutsLines-still lines old now new p none, e.1)
+Ends-gives lines wanted status old now new p (none, inr e) = inr (inl (e, inr (PutsSome-all lines old new (PutsLines-still lines old now new p none))))

@@ -1,4 +1,5 @@
 -- A run under a trace: what is admitted, the records of the silent cycle, the one answer, and each step.
+pub mod TakenLines
 pub mod EventTimes
 pub mod Faults
 pub mod Admitted

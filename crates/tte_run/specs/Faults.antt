@@ -10,11 +10,11 @@ use Rattle.tte_run.specs.declared.status.Status.TheVariants.{ReadFault, WriteFau
 abbrev pub ReadFailed : {S : Type 0} → sources.Ghosts S → S → S → Type 0
 ReadFailed source old new = Rose (source.faults old) (source.faults new)
 
--- a put failed in the call
+-- a put failed in the call, or passing on did
 abbrev pub PutFailed : {K : Type 0} → sinks.Ghosts K → K → K → Type 0
 PutFailed sink old new = Rose (sink.faults old) (sink.faults new)
 
--- the wanted status, or that a put failed
+-- the wanted status, or that writing failed
 abbrev pub IsWanted : Status → Status → Type 0 → Type 0
 IsWanted wanted status PutFails = (status ≡ wanted) ⊎ ((status ≡ WriteFault) × PutFails)
 

@@ -1,23 +1,32 @@
 -- What a sink shows of the lines that were put.
-use Rattle.std.specs.Prelude.{◌≡◌, ℕ, zero, suc, List, ◌∷◌, ◌++◌, length, Option}
+use Rattle.std.specs.Prelude.{◌≡◌, ◌⊎◌, ℕ, zero, suc, List, ◌∷◌, ◌++◌, length, Option}
 use Rattle.std.specs.List.{concat}
 use Rattle.std.specs.Io.KnownBytes.{Appends}
 use Rattle.tte_io.specs.Faults.{next_count}
 use Rattle.tte_io.specs.Told.{AppendsFront}
 use Rattle.tte_io.specs.declared.ends.Sink.{Ghosts}
 
--- the octets written, where they are told, and the count of puts
+-- the octets that were put and those that were passed on, where they are told, and the count of puts
 pub record Shown : Type 0 where
   pub written : Option (List ℕ)
+  pub passed : Option (List ℕ)
   pub puts : ℕ
 
 -- what a sink shows
 abbrev pub shown_by : {K : Type 0} → Ghosts K → K → Shown
-shown_by sink out = record { written = sink.written out; puts = sink.puts out }
+shown_by sink out = record { written = sink.written out; passed = sink.passed out; puts = sink.puts out }
 
 -- from what a sink showed before a call to what it shows after it
 abbrev pub Over : {K : Type 0} → Ghosts K → K → K → (Shown → Shown → Type 0) → Type 0
 Over sink old new Leads = Leads (shown_by sink old) (shown_by sink new)
+
+-- all that was put was passed on
+abbrev pub IsPassedOn : Shown → Type 0
+IsPassedOn s = s.passed ≡ s.written
+
+-- nothing was put
+abbrev pub PutsNone : Shown → Shown → Type 0
+PutsNone old new = (new.written ≡ old.written) × (new.puts ≡ old.puts)
 
 -- the count of puts after n more
 abbrev pub puts_after : ℕ → ℕ → ℕ
@@ -46,3 +55,11 @@ pub record PutFails (lines : List (List ℕ)) (old new : Shown) : Type 0 where
   pub puts : PutsLines done old before
   pub front : AppendsFront before.written new.written line
   pub counted : new.puts ≡ next_count before.puts
+
+-- these lines were to be written: the put of one failed; or all were put, and passing them on failed
+abbrev pub StopsWriting : List (List ℕ) → Shown → Shown → Type 0
+StopsWriting lines old new = PutFails lines old new ⊎ PutsLines lines old new
+
+-- the same, where the first ones were to be passed on before the others were put
+abbrev pub WriteFails : List (List ℕ) → Shown → Shown → Type 0
+WriteFails lines old new = PutFails lines old new ⊎ PutsSome lines old new

@@ -9,7 +9,7 @@ ghost use Rattle.tte_run.specs.frames.Answer.{file_limit};
 pub(crate) mod network_line;
 
 use crate::Status;
-use crate::put_line::put_last;
+use crate::put_line::{end_with, put_last};
 use net_file::{FileRefusal, read_network};
 use network_line::{make_file_line, make_rule_line};
 use schedule_checker::{RuleBroken, Unfit, check};
@@ -77,7 +77,7 @@ pub(crate) fn put_no_network<K: Sink>(cause: NoNetwork, out: &mut K) -> Status
     let mut line = LineText::new();
     match cause {
         NoNetwork::ReadFault => Status::ReadFault,
-        NoNetwork::TooLong => Status::TooLong,
+        NoNetwork::TooLong => end_with(Status::TooLong, out),
         NoNetwork::OutOfMemory => Status::OutOfMemory,
         NoNetwork::File(refusal) => {
             make_file_line(&mut line, refusal);

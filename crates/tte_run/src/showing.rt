@@ -10,7 +10,7 @@ mod frame_line;
 
 use crate::Status;
 use crate::accepting::LIMIT;
-use crate::put_line::put_last;
+use crate::put_line::{end_with, put_last};
 use frame_line::{make_frame_line, make_refusal_line};
 use pcf_codec::{PCF_LENGTH, decode};
 use std::alloc::Global;
@@ -30,7 +30,7 @@ pub fn show<A: Source, K: Sink>(alloc: Global, source: &mut A, out: &mut K) -> S
     match read_all(alloc, source, LIMIT) {
         Ok(octets) => show_frames(octets.as_slice(), out),
         Err(ReadAll::Fault) => Status::ReadFault,
-        Err(ReadAll::TooLong) => Status::TooLong,
+        Err(ReadAll::TooLong) => end_with(Status::TooLong, out),
         Err(ReadAll::OutOfMemory) => Status::OutOfMemory,
     }
 }
@@ -58,7 +58,7 @@ fn show_frames<K: Sink>(octets: &[u8], out: &mut K) -> Status
             }
         }
     }
-    Status::Done
+    end_with(Status::Done, out)
 }
 
 // The octets of the frame behind `k` others, which are fewer than sixty where it is unfinished.

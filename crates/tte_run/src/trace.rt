@@ -3,6 +3,7 @@
 pub(crate) mod fault;
 mod fault_line;
 pub(crate) mod lines;
+mod reading;
 mod records;
 mod refusing;
 pub(crate) mod steps;

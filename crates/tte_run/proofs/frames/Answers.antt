@@ -13,13 +13,13 @@ use Rattle.pcf_codec.proofs.Outcomes.{spelt_read}
 use Rattle.pcf_codec.proofs.Sequences.{length-spelling}
 use Rattle.tte_run.specs.frames.FrameLine.{frame_line, refusal_line}
 use Rattle.tte_run.specs.Putting.{Shown}
-use Rattle.tte_run.specs.Answering.{Answer, Gives, Answers, IsDone, with_line}
+use Rattle.tte_run.specs.Answering.{Answer, Ends, Gives, Answers, IsDone, with_line}
 use Rattle.tte_run.specs.frames.Answer.{show_answer, file_limit, frames_answer, frame_count, frame_at, judgement_of}
 use Rattle.tte_run.specs.frames.Law.{ShowsFrames, frame_lines}
 use Rattle.tte_run.specs.declared.status.Status.{Status}
 use Rattle.tte_run.specs.declared.status.Status.TheVariants.{Done, FrameRefused, ReadFault, WriteFault, TooLong}
 use Rattle.tte_run.proofs.Octets.{for_read, for_too_many}
-use Rattle.tte_run.proofs.Puts.{PutsLines-none}
+use Rattle.tte_run.proofs.Puts.{PutsLines-none, Ends-gives}
 use Rattle.tte_run.proofs.frames.Frames.{behind, no_frame}
 
 pub show_answer-fits : (octets : List ℕ) → length octets ≤ file_limit → show_answer octets ≡ frames_answer 0 (frame_count octets) octets
@@ -37,10 +37,12 @@ answers-read left octets status old new all short g =
     for_read left octets (λ xs. Gives (show_answer xs) status old new) all
     (subst (λ (a : Answer). Gives a status old new) (sym (show_answer-fits octets short)) g)
 
-pub answers-long : (left : Option (List ℕ)) (s : Shown) → IfSome left (λ all. file_limit < length all) → Answers show_answer left TooLong s s
-answers-long left s long =
-    for_too_many left (λ xs. Gives (show_answer xs) TooLong s s) long
-    (λ xs many. subst (λ (a : Answer). Gives a TooLong s s) (sym (show_answer-long xs many)) (inl (refl, PutsLines-none s)))
+pub answers-long : (left : Option (List ℕ)) (status : Status) (old new : Shown) → IfSome left (λ all. file_limit < length all) → Ends TooLong status old new
+    → Answers show_answer left status old new
+answers-long left status old new long ends =
+    for_too_many left (λ xs. Gives (show_answer xs) status old new) long
+    (λ xs many. subst (λ (a : Answer). Gives a status old new) (sym (show_answer-long xs many))
+    (Ends-gives [] TooLong status old old new (PutsLines-none old) ends))
 
 frames_answer-next : (k n : ℕ) (octets : List ℕ) → frames_answer k (suc n) octets ≡ judgement_of (k + 1) (decoded (frame_at k octets))
     (frames_answer (k + 1) n octets)

@@ -6,14 +6,14 @@ use Rattle.pcf_codec.specs.declared.refusal.PcfRefusal.{PcfRefusal}
 use Rattle.pcf_codec.specs.Decoding.{decoded}
 use Rattle.tte_run.specs.frames.FrameLine.{frame_line, refusal_line}
 use Rattle.tte_run.specs.Putting.{Shown, PutsLines}
-use Rattle.tte_run.specs.Answering.{Answer, Gives, with_line}
+use Rattle.tte_run.specs.Answering.{Answer, Ends, Gives, with_line}
 use Rattle.tte_run.specs.frames.Answer.{frame_at, frames_answer, judgement_of}
 use Rattle.tte_run.specs.declared.status.Status.{Status}
 use Rattle.tte_run.specs.declared.status.Status.TheVariants.{Done, FrameRefused, WriteFault}
 use Rattle.tte_io.specs.Faults.{next_count}
 use Rattle.tte_io.specs.Told.{AppendsFront}
 use Rattle.std.specs.Io.KnownBytes.{Appends}
-use Rattle.tte_run.proofs.Puts.{PutsLines-none, PutsLines-more, PutsLines-fails, PutsLines-append, PutsSome-behind, PutFails-behind}
+use Rattle.tte_run.proofs.Puts.{PutsLines-none, PutsLines-more, PutsLines-fails, PutsLines-append, PutsSome-behind, WriteFails-behind, Ends-gives}
 
 -- an answer behind some lines
 abbrev pub behind : List (List ℕ) → Answer → Answer
@@ -52,12 +52,13 @@ IsShown-more n k octets p old now new s lt d w c = record {
 }
 
 -- all frames were shown
-pub IsShown-all : (n k : ℕ) (octets : List ℕ) (old now : Shown) → IsShown n k octets old now → n ≤ k → Gives (frames_answer 0 n octets) Done old now
-IsShown-all n k octets old now s le =
+pub IsShown-all : (n k : ℕ) (octets : List ℕ) (status : Status) (old now new : Shown) → IsShown n k octets old now → n ≤ k → Ends Done status now new
+    → Gives (frames_answer 0 n octets) status old new
+IsShown-all n k octets status old now new s le ends =
     let whole : frames_answer 0 n octets ≡ record { status = Done; lines = s.done } =
     s.rest ∙ ap (behind s.done) (no_frame k octets (n - k) (omega arith)) ∙ ap (λ (ls : List (List ℕ)). record { status = Done; lines = ls })
     (append-nil s.done) in
-    subst (λ (a : Answer). Gives a Done old now) (sym whole) (inl (refl, s.puts))
+    subst (λ (a : Answer). Gives a status old new) (sym whole) (Ends-gives s.done Done status old now new s.puts ends)
 
 -- the put of a frame's line failed
 pub IsShown-fails : (n k : ℕ) (octets : List ℕ) (p : Pcf) (old now new : Shown) → IsShown n k octets old now → k < n → decoded (frame_at k octets) ≡ Ok p
@@ -67,13 +68,13 @@ IsShown-fails n k octets p old now new s lt d w c =
     let whole : frames_answer 0 n octets ≡ behind s.done (with_line (frame_line (k + 1) p) rest) =
     s.rest ∙ ap (behind s.done) (next_frame k n octets lt ∙ ap (λ (r : Result Pcf PcfRefusal). judgement_of (k + 1) r rest) d) in
     subst (λ (a : Answer). Gives a WriteFault old new) (sym whole)
-    (inr (inl (refl, PutsLines-fails s.done (frame_line (k + 1) p) rest.lines old now new s.puts w c)))
+    (inr (inl (refl, inl (PutsLines-fails s.done (frame_line (k + 1) p) rest.lines old now new s.puts w c))))
 
 -- an answer's lines behind those that were put
 pub Gives-behind : (lines : List (List ℕ)) (a : Answer) (status : Status) (old now new : Shown) → PutsLines lines old now → Gives a status now new
     → Gives (behind lines a) status old new
-Gives-behind lines a status old now new p (inl g) = inl (g.0, PutsLines-append lines a.lines old now new p g.1)
-Gives-behind lines a status old now new p (inr (inl g)) = inr (inl (g.0, PutFails-behind lines a.lines old now new p g.1))
+Gives-behind lines a status old now new p (inl g) = inl (g.0, PutsLines-append lines a.lines old now new p g.1, g.2)
+Gives-behind lines a status old now new p (inr (inl g)) = inr (inl (g.0, WriteFails-behind lines a.lines old now new p g.1))
 Gives-behind lines a status old now new p (inr (inr g)) = inr (inr (g.0, PutsSome-behind lines a.lines old now new p g.1))
 
 -- a frame is refused

@@ -9,8 +9,9 @@ use Rattle.net_plan.specs.declared.network.Network.{Network}
 use Rattle.report_text.specs.NoteLine.{report_of}
 use Rattle.run_law.specs.declared.note.Note.{Note}
 use Rattle.tte_run.specs.Answering.{Gives, GivesOne}
+use Rattle.tte_run.specs.Faults.{HasCause}
 use Rattle.tte_run.specs.traces.Records.{AreSilentBefore, AreSilentSoFar, PutsEvent, PutsOr, PutsOrRest, PutsRest}
-use Rattle.tte_run.specs.Putting.{Shown, PutsLines}
+use Rattle.tte_run.specs.Putting.{Shown, IsPassedOn, PutsLines}
 use Rattle.tte_run.specs.traces.Refusing.{fault_answer}
 use Rattle.tte_run.specs.traces.Answer.{IsBuilt, IsTraceAnswer}
 use Rattle.tte_run.specs.traces.Steps.{IsRunning, ReadsFrom, RunEnds}
@@ -24,7 +25,7 @@ use Rattle.tte_run.specs.declared.trace.steps.Running.{Running}
 use Rattle.tte_run.specs.declared.status.Status.{Status}
 use Rattle.tte_run.specs.declared.status.Status.TheVariants.{ReadFault, WriteFault, OutOfMemory}
 use Rattle.tte_run.proofs.traces.Answers.{IsAllAdmitted, all_records}
-use Rattle.tte_run.proofs.traces.Given.{cut_ended, cut_so_far, failed_ended, failed_so_far, fails_report, faulty_given, puts_report, whole_given}
+use Rattle.tte_run.proofs.traces.Given.{cut_ended, cut_so_far, failed_ended, failed_so_far, faulty_given, puts_report, stops_report, whole_given}
 use Rattle.tte_run.proofs.traces.SilentRuns.{records_of_silent, so_far_of_silent}
 use Rattle.tte_run.proofs.traces.WorldMarks.{mark_within}
 use Rattle.tte_units.specs.Amount.{amount}
@@ -46,7 +47,7 @@ cut_given : (network : Network) (octets : List ℕ) (events : List Event) (notes
     → GivesOne (IsTraceAnswer network octets) status old new
 cut_given network octets events notes more status old now new built all run puts (inl f) =
     failed_so_far network octets events (notes ++ more) status old new built all (so_far_of_silent network octets events (notes ++ more) built all run) f.0
-    (fails_report network notes more old now new puts f.1)
+    (stops_report network notes more old now new puts f.1)
 cut_given network octets events notes more status old now new built all run puts (inr m) =
     cut_so_far network octets events (notes ++ more) status old new built all (so_far_of_silent network octets events (notes ++ more) built all run) (inr m.0)
     (puts_report network notes more old now new puts m.1)
@@ -69,6 +70,23 @@ fault_no_read Long status (inl e) is = cc
 fault_no_read (Line refusal) status (inl e) is = cc
 fault_no_read Early status (inl e) is = cc
 fault_no_read (Outlaw outside) status (inl e) is = cc
+
+fault_write : {X : Type 0} (fault : TraceFault) (status : Status) → IsStatusOf fault status X → status ≡ WriteFault → X
+fault_write fault status (inr w) is = w.1
+fault_write Missing status (inl e) is = absurd cc
+fault_write TooMany status (inl e) is = absurd cc
+fault_write After status (inl e) is = absurd cc
+fault_write Long status (inl e) is = absurd cc
+fault_write (Line refusal) status (inl e) is = absurd cc
+fault_write Early status (inl e) is = absurd cc
+fault_write (Outlaw outside) status (inl e) is = absurd cc
+
+-- what is answered about a fault has a cause where writing failed
+pub fault_cause : {X Y Z : Type 0} (fault : TraceFault) (status : Status) → IsStatusOf fault status X → (X → Z) → HasCause status Y Z
+fault_cause fault status which into = record {
+  read = λ is. absurd (fault_no_read fault status which is);
+  write = λ is. into (fault_write fault status which is);
+}
 
 rest_no_read : (network : Network) (events : List Event) (notes more : List Note) (end : Units) (status : Status) (old new : Shown)
     → PutsOrRest network events notes more end status old new → status ≡ ReadFault → ⊥
@@ -99,14 +117,27 @@ ends_at_event {network} {first} {old} {now} {new} trace {status} r reads p littl
 -- ---- where a read fails
 
 pub ends_at_read : {network : Network} {first left after : Option (List ℕ)} {old now : Shown} {run : Running} → IsRunning network first left old now run
-    → ForTrace first after (λ octets rest. StopsBehindLines network octets rest old now) → Little network first after old now
+    → IsPassedOn now → ForTrace first after (λ octets rest. StopsBehindLines network octets rest old now) → Little network first after old now
     → RunEnds (IsTraceAnswer network) network first after ReadFault old now
-ends_at_read {network} {first} {old} {now} r behind little = record {
+ends_at_read {network} {first} {old} {now} r passed behind little = record {
   general = for_told first (λ octets. GivesOne (IsTraceAnswer network octets) ReadFault old now) (λ octets told.
       let all = (r.reads octets told).2.admitted in
       cut_so_far network octets r.events r.notes ReadFault old now r.stands.built all
       (so_far_of_silent network octets r.events r.notes r.stands.built all r.stands.so_far) (inl refl) r.puts);
-  cut = λ is. behind;
+  cut = λ is. (passed, behind);
+  little = little;
+}
+
+-- ---- where passing on fails before a read
+
+pub ends_unpassed : {network : Network} {first left after : Option (List ℕ)} {old now : Shown} {run : Running} → IsRunning network first left old now run
+    → Little network first after old now → RunEnds (IsTraceAnswer network) network first after WriteFault old now
+ends_unpassed {network} {first} {old} {now} r little = record {
+  general = for_told first (λ octets. GivesOne (IsTraceAnswer network octets) WriteFault old now) (λ octets told.
+      let all = (r.reads octets told).2.admitted in
+      failed_so_far network octets r.events r.notes WriteFault old now r.stands.built all
+      (so_far_of_silent network octets r.events r.notes r.stands.built all r.stands.so_far) refl (inr r.puts));
+  cut = λ is. absurd (no_read {X = Unit {0}} {Y = Unit {0}} WriteFault (inl (refl, tt)) is);
   little = little;
 }
 
@@ -136,14 +167,14 @@ rest_given : (network : Network) (octets : List ℕ) (events : List Event) (note
     → PutsLines (report_of network notes) old now → (p : PutsRest network events notes time world status now new)
     → PutsOrRest network events notes p.more time status now new → GivesOne (IsTraceAnswer network octets) status old new
 rest_given network octets events notes time world status old now new built all last puts p (inl d) =
-    let silent = subst (λ (t : Units). AreSilentBefore network events ((amount t + 1) ∷ []) (notes ++ p.more)) last d.2 in
+    let silent = subst (λ (t : Units). AreSilentBefore network events ((amount t + 1) ∷ []) (notes ++ p.more)) last d.3 in
     let run = records_of_silent network octets events ((amount (last_time events) + 1) ∷ []) (notes ++ p.more) built all.admitted (λ q before. before) silent in
     whole_given network octets events (notes ++ p.more) status old new all (all_records events network octets (notes ++ p.more) all run) d.0
-    (puts_report network notes p.more old now new puts d.1)
+    (puts_report network notes p.more old now new puts d.1) d.2
 rest_given network octets events notes time world status old now new built all last puts p (inr (inl f)) =
     let up = mark_within network world events (notes ++ p.more) p.stands in
     let run = records_of_silent network octets events (mark_of world) (notes ++ p.more) built all.admitted up p.stands.run in
-    failed_ended network octets events (mark_of world) (notes ++ p.more) status old new all up run f.0 (fails_report network notes p.more old now new puts f.1)
+    failed_ended network octets events (mark_of world) (notes ++ p.more) status old new all up run f.0 (stops_report network notes p.more old now new puts f.1)
 rest_given network octets events notes time world status old now new built all last puts p (inr (inr m)) =
     let up = mark_within network world events (notes ++ p.more) p.stands in
     let run = records_of_silent network octets events (mark_of world) (notes ++ p.more) built all.admitted up p.stands.run in

@@ -1,5 +1,5 @@
 -- One more event of a trace that is taken line by line.
-use Rattle.std.proofs.Common.{◌≡◌, ◌≢◌, ◌↔◌, ℕ, ◌+◌, ◌^◌, ◌<◌, ◌≤◌, suc, Bool, true, false, List, [], ◌∷◌, ◌++◌, length, Option, Some, None, Result, Ok, Err, inl, inr, refl, sym, ap, subst, ◌∙◌, arith, length-append, append-nil}
+use Rattle.std.proofs.Common.{◌≡◌, ◌≢◌, ◌⊎◌, ◌↔◌, ℕ, ◌+◌, ◌^◌, ◌<◌, ◌≤◌, suc, Bool, true, false, List, [], ◌∷◌, ◌++◌, length, Option, Some, None, Result, Ok, Err, inl, inr, refl, sym, ap, subst, ◌∙◌, arith, length-append, append-nil}
 use Rattle.std.specs.Prelude.{IfSome, ◌==◌, if◌then◌else◌}
 use denote.Bor.{Bor}
 use Rattle.fault_hypothesis.proofs.Befalling.{any_last, any_none, any_parts, stands_where}
@@ -18,12 +18,12 @@ use Rattle.tte_io.specs.Line.{lf, line_limit, ahead_limit, IsUnbroken, first_lin
 use Rattle.tte_io.specs.NextLine.{NextLine}
 use Rattle.tte_io.specs.Outcome.{Outcome, TellsOutcome}
 use Rattle.tte_io.specs.ReaderState.{LineReaderState, pending}
-use Rattle.tte_io.specs.declared.ends.SourceFailed.{SourceFailed}
 use Rattle.tte_io.specs.declared.lines.LineTaken.{LineTaken}
 use Rattle.tte_io.specs.declared.lines.LineTaken.TheVariants as found
 use Rattle.tte_run.specs.traces.Following.{Follows, GoesOn, IsFound, Judges, Reads, ReadsOn, TakesFew}
 use Rattle.tte_run.specs.traces.Lines.{AreAdmitted, HaveEnded, IsAdmitted, IsFault, behind_lines}
 use Rattle.tte_run.specs.declared.trace.fault.TraceFault.{TraceFault}
+use Rattle.tte_run.specs.declared.trace.fault.TraceStop.{TraceStop}
 use Rattle.tte_run.specs.declared.trace.fault.TraceStop.TheVariants as stops
 use Rattle.tte_run.specs.declared.trace.lines.Trace.{Trace}
 
@@ -95,7 +95,7 @@ pub followed_with : (network : Network) (events : List Event) (trace : Trace) (r
 followed_with network events trace reader f = record { over = f.over; watch = f.watch; lines = f.lines; number = f.number; ended = f.ended }
 
 -- what comes of told octets
-told_outcome : (before left : List ℕ) (after : LineReaderState) (left_before left_after : Option (List ℕ)) (result : Result LineTaken SourceFailed)
+told_outcome : (before left : List ℕ) (after : LineReaderState) (left_before left_after : Option (List ℕ)) (result : Result LineTaken TraceStop)
     → left_before ≡ Some left → TellsOutcome before left_before after left_after result
     → (rest : List ℕ) × (left_after ≡ Some rest) × Outcome (before ++ left) result after (pending after ++ rest)
 told_outcome before left after None left_after result told o = absurd cc
@@ -105,7 +105,7 @@ told_outcome before left after (Some l) (Some rest) result told o =
     (rest, refl, subst (λ (t : List ℕ). Outcome (before ++ t) result after (pending after ++ rest)) same o)
 
 -- what is found in told octets
-found_of : (octets : List ℕ) (t : LineTaken) (after : LineReaderState) (rest : List ℕ) → Outcome {E = SourceFailed} octets (Ok t) after rest
+found_of : (octets : List ℕ) (t : LineTaken) (after : LineReaderState) (rest : List ℕ) → Outcome {E = TraceStop} octets (Ok t) after rest
     → IsFound octets t after
 found_of octets found.Whole after rest o = (o.0, o.1, o.2)
 found_of octets found.Long after rest o = o.0
@@ -113,7 +113,7 @@ found_of octets found.End after rest o = o.0
 
 -- something is found in some octets, also where they are not told
 pub some_found : (before : List ℕ) (left : Option (List ℕ)) (after : LineReaderState) (left_after : Option (List ℕ)) (t : LineTaken)
-    → NextLine {E = SourceFailed} before left after left_after (Ok t) → (rest : List ℕ) × IsFound rest t after
+    → NextLine {E = TraceStop} before left after left_after (Ok t) → (rest : List ℕ) × IsFound rest t after
 some_found before left after left_after found.Whole n =
     let text = n.answer.text in
     let first : first_line (text ++ lf ∷ []) ≡ text = first_line-append text (lf ∷ []) n.answer.line.unbroken ∙ append-nil text in (
@@ -144,7 +144,7 @@ goes_on network events rest (Some event) trace j of_network range = record {
 -- the same where the octets are told
 on_told : (network : Network) (octets : List ℕ) (events : List Event) (left : List ℕ) (old new : Trace) (reader : LineReaderState) (rest : List ℕ)
     (t : LineTaken) (event : Option Event) → Reads network octets events old left
-    → Outcome {E = SourceFailed} (pending old.reader ++ left) (Ok t) reader (pending reader ++ rest)
+    → Outcome {E = TraceStop} (pending old.reader ++ left) (Ok t) reader (pending reader ++ rest)
     → Judges network events (pending old.reader ++ left) (Ok event) new → new.reader ≡ reader → ReadsOn network octets events (Ok event) new rest
 on_told network octets events left old new reader rest t None r o j same = (r.coming ∙ j.0, j.1)
 on_told network octets events left old new reader rest found.Whole (Some event) r o j same = record {
@@ -157,7 +157,7 @@ on_told network octets events left old new reader rest found.End (Some event) r 
 
 pub reads_on : (network : Network) (octets : List ℕ) (events : List Event) (left : List ℕ) (old new : Trace) (reader : LineReaderState)
     (left_before left_after : Option (List ℕ)) (t : LineTaken) (event : Option Event) → left_before ≡ Some left → Reads network octets events old left
-    → TellsOutcome {E = SourceFailed} (pending old.reader) left_before reader left_after (Ok t)
+    → TellsOutcome {E = TraceStop} (pending old.reader) left_before reader left_after (Ok t)
     → ((rest : List ℕ) → IsFound rest t reader → Judges network events rest (Ok event) new) → new.reader ≡ reader
     → (rest : List ℕ) × (left_after ≡ Some rest) × ReadsOn network octets events (Ok event) new rest
 reads_on network octets events left old new reader left_before left_after t event told r outcome judged same =
@@ -170,7 +170,7 @@ reads_on network octets events left old new reader left_before left_after t even
 
 pub reads_fault : (network : Network) (octets : List ℕ) (events : List Event) (left : List ℕ) (old new : Trace) (reader : LineReaderState)
     (left_before left_after : Option (List ℕ)) (t : LineTaken) (fault : TraceFault) → left_before ≡ Some left → Reads network octets events old left
-    → TellsOutcome {E = SourceFailed} (pending old.reader) left_before reader left_after (Ok t)
+    → TellsOutcome {E = TraceStop} (pending old.reader) left_before reader left_after (Ok t)
     → ((rest : List ℕ) → IsFound rest t reader → Judges network events rest (Err fault) new)
     → (rest : List ℕ) × (left_after ≡ Some rest) × IsFault network events (behind_lines (length events) octets) fault
 reads_fault network octets events left old new reader left_before left_after t fault told r outcome judged =
@@ -178,24 +178,23 @@ reads_fault network octets events left old new reader left_before left_after t f
     let j = judged (pending old.reader ++ left) (found_of (pending old.reader ++ left) t reader (pending reader ++ o.0) o.2) in
     (o.0, o.1, subst (λ (coming : List ℕ). IsFault network events coming fault) (sym r.coming) j.0)
 
--- a failed read leaves the trace where it stands
+-- a failed read leaves the trace where it stands, and so does failing to pass on before one
 pub reads_same : (network : Network) (octets : List ℕ) (events : List Event) (left : List ℕ) (old : Trace) (reader : LineReaderState)
-    (left_before left_after : Option (List ℕ)) (e : SourceFailed) → left_before ≡ Some left → Reads network octets events old left
-    → NextLine {E = SourceFailed} (pending old.reader) left_before reader left_after (Err e)
-    → TellsOutcome {E = SourceFailed} (pending old.reader) left_before reader left_after (Err e)
-    → (rest : List ℕ) × (left_after ≡ Some rest) × ReadsOn network octets events (Err stops.ReadFault) (record old { reader = reader }) rest
-reads_same network octets events left old reader left_before left_after e told r n outcome =
-    let o = told_outcome (pending old.reader) left reader left_before left_after (Err e) told outcome in
+    (left_before left_after : Option (List ℕ)) (stop : TraceStop) → left_before ≡ Some left → Reads network octets events old left
+    → (stop ≡ stops.ReadFault) ⊎ (stop ≡ stops.WriteFault)
+    → NextLine {E = TraceStop} (pending old.reader) left_before reader left_after (Err stop)
+    → TellsOutcome {E = TraceStop} (pending old.reader) left_before reader left_after (Err stop)
+    → (rest : List ℕ) × (left_after ≡ Some rest) × ReadsOn network octets events (Err stop) (record old { reader = reader }) rest
+reads_same network octets events left old reader left_before left_after stop told r which n outcome =
+    let o = told_outcome (pending old.reader) left reader left_before left_after (Err stop) told outcome in
     let unread : reader.ahead ≡ [] = ap (λ (s : LineReaderState). s.ahead) n.answer.reader in
-    let line : pending reader ≡ reader.kept = ap (λ (a : List ℕ). reader.kept ++ a) unread ∙ append-nil reader.kept in (
-      o.0,
-      o.1,
-      (
-        record { follows = followed_with network events old reader r.follows; admitted = r.admitted; coming = r.coming ∙ sym o.2 },
-        subst IsUnbroken
-            (sym line) n.answer.line.unbroken,
-      ),
-    )
+    let line : pending reader ≡ reader.kept = ap (λ (a : List ℕ). reader.kept ++ a) unread ∙ append-nil reader.kept in
+    let next = record old { reader = reader } in
+    let reads : Reads network octets events next o.0 =
+    record { follows = followed_with network events old reader r.follows; admitted = r.admitted; coming = r.coming ∙ sym o.2 } in
+    let P : TraceStop → Type 0 = λ s. ReadsOn network octets events (Err s) next o.0 in
+    let same : P stops.ReadFault = (reads, subst IsUnbroken (sym line) n.answer.line.unbroken) in
+    (o.0, o.1, elim which [ inl e ↦ subst P (sym e) same | inr e ↦ subst P (sym e) same ])
 
 -- the octets of the first line and those behind it
 line_length : (octets : List ℕ) → length (first_line octets) + length (behind_line octets) ≤ length octets
@@ -207,7 +206,7 @@ line_length (x ∷ xs) =
     ]
 
 -- little more than the next line was taken
-few_told : (coming : List ℕ) (after : LineReaderState) (left : Option (List ℕ)) (rest before : List ℕ) (result : Result LineTaken SourceFailed)
+few_told : (coming : List ℕ) (after : LineReaderState) (left : Option (List ℕ)) (rest before : List ℕ) (result : Result LineTaken TraceStop)
     → NextLine before left after (Some rest) result → Outcome coming result after (pending after ++ rest) → length after.kept ≤ line_limit
     → length after.ahead ≤ ahead_limit → length (behind_line coming) ≤ length rest + ahead_limit
 few_told coming after left rest before (Ok found.Whole) n o kept ahead =
@@ -224,7 +223,7 @@ few_told coming after left rest before (Err e) n o kept ahead =
     omega (arith, ap length behind, line_length rest)
 
 pub takes_few : (octets : List ℕ) (lines : ℕ) (before left : List ℕ) (after : LineReaderState) (left_before left_after : Option (List ℕ))
-    (result : Result LineTaken SourceFailed) → left_before ≡ Some left → behind_lines lines octets ≡ before ++ left
+    (result : Result LineTaken TraceStop) → left_before ≡ Some left → behind_lines lines octets ≡ before ++ left
     → NextLine before left_before after left_after result → TellsOutcome before left_before after left_after result → length after.kept ≤ line_limit
     → length after.ahead ≤ ahead_limit → IfSome left_after (TakesFew octets lines)
 takes_few octets lines before left after left_before None result told coming n o kept ahead = tt

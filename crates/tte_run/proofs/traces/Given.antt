@@ -1,10 +1,10 @@
 -- What was put of the answer for a network under the octets of a trace. By the way in which a run ends:
 --
 --     a read fails, or memory runs out before the end       cut_so_far
---     the put of an event's record, or of one before, fails  failed_so_far
+--     writing up to an event's record fails                  failed_so_far
 --     the trace has a fault                                  faulty_given
 --     memory runs out behind the end                         cut_ended
---     the put of a clock's record fails                      failed_ended
+--     writing behind the end fails                           failed_ended
 --     all records were put                                   whole_given
 --
 -- Then built_given makes it the answer of `run`, and early_given where the run is not built yet.
@@ -17,7 +17,7 @@ use Rattle.report_text.specs.NoteLine.{note_line, report_of}
 use Rattle.run_law.specs.declared.note.Note.{Note}
 use Rattle.tte_run.specs.networks.Accepting.{refused_answer}
 use Rattle.tte_run.specs.Answering.{Answer, Gives, GivesOne}
-use Rattle.tte_run.specs.Putting.{Shown, PutsLines, PutFails}
+use Rattle.tte_run.specs.Putting.{Shown, IsPassedOn, PutsLines, PutFails, StopsWriting}
 use Rattle.tte_run.specs.traces.Answer.{AreAllRecords, AreRecordsBefore, AreRecordsSoFar, IsBuilt, IsRunAnswer, IsTraceAnswer, IsUnbuilt}
 use Rattle.tte_run.specs.traces.FaultLine.{fault_lines, fault_status}
 use Rattle.tte_run.specs.traces.Lines.{AreAdmitted}
@@ -43,11 +43,17 @@ puts_report network notes more old now new p q =
     (PutsLines-append (report_of network notes) (report_of network more) old now new p q)
 
 -- the put of one of them failed
-pub fails_report : (network : Network) (notes more : List Note) (old now new : Shown) → PutsLines (report_of network notes) old now
+fails_report : (network : Network) (notes more : List Note) (old now new : Shown) → PutsLines (report_of network notes) old now
     → PutFails (report_of network more) now new → PutFails (report_of network (notes ++ more)) old new
 fails_report network notes more old now new p q =
     subst (λ (lines : List (List ℕ)). PutFails lines old new) (sym (report_more network notes more))
     (PutFails-behind (report_of network notes) (report_of network more) old now new p q)
+
+-- writing them failed
+pub stops_report : (network : Network) (notes more : List Note) (old now new : Shown) → PutsLines (report_of network notes) old now
+    → StopsWriting (report_of network more) now new → StopsWriting (report_of network (notes ++ more)) old new
+stops_report network notes more old now new p (inl q) = inl (fails_report network notes more old now new p q)
+stops_report network notes more old now new p (inr q) = inr (puts_report network notes more old now new p q)
 
 -- ---- a front of each answer was put
 
@@ -70,11 +76,13 @@ front_given : (Is : Answer → Type 0) (lines : List (List ℕ)) (status : Statu
 front_given Is lines status old new begins cause puts =
     inr (inr (cause, λ a is. let b = begins a is in record { done = lines; left = b.0; order = b.1; puts = puts }))
 
--- where a put failed
+-- where writing failed
 front_failed : (Is : Answer → Type 0) (lines : List (List ℕ)) (status : Status) (old new : Shown) → ((a : Answer) → Is a → BeginWith a.lines lines)
-    → status ≡ WriteFault → PutFails lines old new → GivesOne Is status old new
-front_failed Is lines status old new begins cause fails =
-    inr (inl (cause, λ a is. let b = begins a is in subst (λ (ls : List (List ℕ)). PutFails ls old new) (sym b.1) (PutFails-more lines b.0 old new fails)))
+    → status ≡ WriteFault → StopsWriting lines old new → GivesOne Is status old new
+front_failed Is lines status old new begins cause (inl fails) =
+    inr (inl (cause, λ a is. let b = begins a is in inl (subst (λ (ls : List (List ℕ)). PutFails ls old new) (sym b.1) (PutFails-more lines b.0 old new fails))))
+front_failed Is lines status old new begins cause (inr puts) =
+    inr (inl (cause, λ a is. let b = begins a is in inr (record { done = lines; left = b.0; order = b.1; puts = puts })))
 
 -- ---- while events are admitted
 
@@ -86,10 +94,10 @@ cut_so_far network octets events notes status old new built all run cause puts =
     front_given (IsTraceAnswer network octets) (report_of network notes) status old new
     (λ a is. answer_begins network octets events notes a built all run is) cause puts
 
--- the put of one of the records so far failed
+-- writing the records so far failed
 pub failed_so_far : (network : Network) (octets : List ℕ) (events : List Event) (notes : List Note) (status : Status) (old new : Shown) → IsBuilt network
     → AreAdmitted network octets events → AreRecordsSoFar network events notes
-    → status ≡ WriteFault → PutFails (report_of network notes) old new → GivesOne (IsTraceAnswer network octets) status old new
+    → status ≡ WriteFault → StopsWriting (report_of network notes) old new → GivesOne (IsTraceAnswer network octets) status old new
 failed_so_far network octets events notes status old new built all run cause fails =
     front_failed (IsTraceAnswer network octets) (report_of network notes) status old new
     (λ a is. answer_begins network octets events notes a built all run is) cause fails
@@ -104,19 +112,19 @@ cut_ended network octets events mark notes status old new all up run cause puts 
     front_given (IsTraceAnswer network octets) (report_of network notes) status old new
     (λ a is. ended_begins network octets events mark notes a all up run is) cause puts
 
--- the put of one of them failed
+-- writing them failed
 pub failed_ended : (network : Network) (octets : List ℕ) (events : List Event) (mark : List ℕ) (notes : List Note) (status : Status) (old new : Shown)
     → IsAllAdmitted network octets events → IsUpToEnd events mark → AreRecordsBefore network events mark notes
-    → status ≡ WriteFault → PutFails (report_of network notes) old new → GivesOne (IsTraceAnswer network octets) status old new
+    → status ≡ WriteFault → StopsWriting (report_of network notes) old new → GivesOne (IsTraceAnswer network octets) status old new
 failed_ended network octets events mark notes status old new all up run cause fails =
     front_failed (IsTraceAnswer network octets) (report_of network notes) status old new
     (λ a is. ended_begins network octets events mark notes a all up run is) cause fails
 
--- all records were put
+-- all records were put and passed on
 pub whole_given : (network : Network) (octets : List ℕ) (events : List Event) (notes : List Note) (status : Status) (old new : Shown)
     → IsAllAdmitted network octets events → AreAllRecords network events notes
-    → status ≡ Done → PutsLines (report_of network notes) old new → GivesOne (IsTraceAnswer network octets) status old new
-whole_given network octets events notes status old new all records done puts =
+    → status ≡ Done → PutsLines (report_of network notes) old new → IsPassedOn new → GivesOne (IsTraceAnswer network octets) status old new
+whole_given network octets events notes status old new all records done puts passed =
     let a : Answer = record { status = Done; lines = report_of network notes } in
     inl (
       a,
@@ -128,6 +136,7 @@ whole_given network octets events notes status old new all records done puts =
       },
       done,
       puts,
+      passed,
     )
 
 -- ---- at a fault

@@ -17,7 +17,8 @@ use Rattle.tte_run.specs.Putting.{Shown, PutsLines, PutFails}
 use Rattle.tte_run.specs.declared.status.Status.{Status}
 use Rattle.tte_run.specs.declared.status.Status.TheVariants.{OutOfMemory, WriteFault}
 use Rattle.tte_run.proofs.Puts.{PutsLines-more, PutsLines-fails}
-use Rattle.tte_run.proofs.traces.PuttingRecords.{report_more, stands_more}
+use Rattle.tte_run.proofs.traces.PuttingRecords.{no_memory, report_more, stands_more}
+use Rattle.tte_run.specs.Answering.{Ends}
 use Rattle.tte_run.proofs.traces.WorldMarks.{go_on, so_far_event, so_far_open}
 use Rattle.tte_units.specs.declared.units.Units.{Units}
 
@@ -57,12 +58,12 @@ before_event network events notes until event first world status old new stands 
 }
 
 pub no_memory_for_event : (network : Network) (events : List Event) (notes : List Note) (until : Units) (event : Event) (first world next : Progress Segment)
-    (old new : Shown)
+    (status : Status) (old now new : Shown)
     → StandsExact network first events notes → first.ended ≡ false → next ≡ world
-    → PutsUntil {T = Unit {0}} network events notes until world (Ok (tt {0})) old new
-    → PutsEvent {T = Unit {0}} network events notes event next (Err OutOfMemory) old new
-no_memory_for_event network events notes until event first world next old new stands unended same p =
-    let here : PutsEvent {T = Unit {0}} network events notes event world (Err OutOfMemory) old new = record {
+    → PutsUntil {T = Unit {0}} network events notes until world (Ok (tt {0})) old now → Ends OutOfMemory status now new
+    → PutsEvent {T = Unit {0}} network events notes event next (Err status) old new
+no_memory_for_event network events notes until event first world next status old now new stands unended same p ends =
+    let here : PutsEvent {T = Unit {0}} network events notes event world (Err status) old new = record {
       befallen = events;
       whether = inl refl;
       befalls = tt {0};
@@ -71,9 +72,9 @@ no_memory_for_event network events notes until event first world next old new st
       so_far =
           so_far_open network world events (notes ++ p.more) p.stands
           ((go_on network first world events notes (notes ++ p.more) stands p.stands).unended unended);
-      puts = inr (refl, p.puts);
+      puts = no_memory (report_of network p.more) status old now new p.puts ends;
     } in
-    subst (λ (w : Progress Segment). PutsEvent {T = Unit {0}} network events notes event w (Err OutOfMemory) old new) (sym same) here
+    subst (λ (w : Progress Segment). PutsEvent {T = Unit {0}} network events notes event w (Err status) old new) (sym same) here
 
 pub event_put : (network : Network) (events : List Event) (notes : List Note) (until : Units) (event : Event) (world next : Progress Segment) (note : Note)
     (old now new : Shown)
@@ -115,7 +116,7 @@ event_fails network events notes until event world next note old now new p stand
       puts =
           inl (
             refl,
-            subst (λ (ls : List (List ℕ)). PutFails ls old new) (report_more network p.more note)
-                (PutsLines-fails (report_of network p.more) (note_line network note) [] old now new p.puts front counted),
+            inl (subst (λ (ls : List (List ℕ)). PutFails ls old new) (report_more network p.more note)
+                (PutsLines-fails (report_of network p.more) (note_line network note) [] old now new p.puts front counted)),
           );
     }

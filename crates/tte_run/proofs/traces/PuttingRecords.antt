@@ -21,12 +21,13 @@ use Rattle.schedule_tables.proofs.EntryLemmas.{all_at}
 use Rattle.net_plan.specs.Belonging.{IsOfNetwork}
 use Rattle.tte_io.specs.Faults.{next_count}
 use Rattle.tte_io.specs.Told.{AppendsFront}
-use Rattle.tte_run.specs.traces.Records.{AreSilentBefore, IsUnderway, PutsRest, PutsUntil, StandsExact}
+use Rattle.tte_run.specs.traces.Records.{AreSilentBefore, IsUnderway, PutsOr, PutsRest, PutsUntil, StandsExact}
 use Rattle.tte_run.specs.Putting.{Shown, PutsLines, PutFails}
 use Rattle.fault_hypothesis.specs.Watching.{AreOfNetwork}
 use Rattle.tte_run.specs.declared.status.Status.{Status}
 use Rattle.tte_run.specs.declared.status.Status.TheVariants.{Done, WriteFault, OutOfMemory}
-use Rattle.tte_run.proofs.Puts.{PutsLines-none, PutsLines-more, PutsLines-fails}
+use Rattle.tte_run.proofs.Puts.{PutsLines-none, PutsLines-more, PutsLines-fails, PutsLines-still}
+use Rattle.tte_run.specs.Answering.{Ends}
 use Rattle.tte_units.specs.Amount.{amount}
 use Rattle.tte_units.specs.declared.units.Units.{Units}
 
@@ -133,11 +134,23 @@ until_all network events notes until world next old new same h all =
 
 pub until_fails : (network : Network) (events : List Event) (notes : List Note) (until : Units) (world : Progress Segment) (old new : Shown)
     → HasFailed network events notes world old new → PutsUntil {T = Unit {0}} network events notes until world (Err WriteFault) old new
-until_fails network events notes until world old new h = record { more = h.more; stands = h.stands; puts = inl (refl, h.fails); all = tt {0} }
+until_fails network events notes until world old new h = record { more = h.more; stands = h.stands; puts = inl (refl, inl h.fails); all = tt {0} }
 
-pub until_no_memory : (network : Network) (events : List Event) (notes : List Note) (until : Units) (world : Progress Segment) (old new : Shown)
-    → HasPut network events notes world old new → PutsUntil {T = Unit {0}} network events notes until world (Err OutOfMemory) old new
-until_no_memory network events notes until world old new h = record { more = h.more; stands = h.stands; puts = inr (refl, h.puts); all = tt {0} }
+-- memory ran out behind the lines, and all was passed on, or that failed
+pub no_memory : (lines : List (List ℕ)) (status : Status) (old now new : Shown) → PutsLines lines old now → Ends OutOfMemory status now new
+    → PutsOr {T = Unit {0}} (Err status) lines old new
+no_memory lines status old now new p (none, inl e) = inr (e.0, PutsLines-still lines old now new p none)
+no_memory lines status old now new p (none, inr e) = inl (e, inr (PutsLines-still lines old now new p none))
+
+pub until_no_memory : (network : Network) (events : List Event) (notes : List Note) (until : Units) (world : Progress Segment) (status : Status)
+    (old now new : Shown) → HasPut network events notes world old now → Ends OutOfMemory status now new
+    → PutsUntil {T = Unit {0}} network events notes until world (Err status) old new
+until_no_memory network events notes until world status old now new h ends = record {
+  more = h.more;
+  stands = h.stands;
+  puts = no_memory (report_of network h.more) status old now new h.puts ends;
+  all = tt {0};
+}
 
 -- ---- up to the end
 
@@ -149,14 +162,20 @@ next_amount (negsuc n) begun = absurd (omega (arith, ints))
 pub amount_after : (time next : Units) → pos 0 ≤ℤ time.0 → next.0 ≡ time.0 +ℤ pos 1 → amount next ≡ amount time + 1
 amount_after time next begun is = ap unsigned_abs is ∙ next_amount time.0 begun
 
-pub rest_done : (network : Network) (events : List Event) (notes : List Note) (end until : Units) (world : Progress Segment) (old new : Shown)
-    → PutsUntil {T = Unit {0}} network events notes until world (Ok (tt {0})) old new
-    → pos 0 ≤ℤ end.0 → world.now ≡ end → until.0 ≡ end.0 +ℤ pos 1 → PutsRest network events notes end world Done old new
-rest_done network events notes end until world old new p begun same after =
+pub rest_done : (network : Network) (events : List Event) (notes : List Note) (end until : Units) (world : Progress Segment) (status : Status)
+    (old now new : Shown)
+    → PutsUntil {T = Unit {0}} network events notes until world (Ok (tt {0})) old now
+    → pos 0 ≤ℤ end.0 → world.now ≡ end → until.0 ≡ end.0 +ℤ pos 1 → Ends Done status now new → PutsRest network events notes end world status old new
+rest_done network events notes end until world status old now new p begun same after ends =
     let later : world.now.0 <ℤ until.0 = let now : world.now.0 ≡ end.0 = ap (λ (t : Units). t.0) same in omega (arith, ints, now, after) in
     let all : AreSilentBefore network events ((amount end + 1) ∷ []) (notes ++ p.more) =
     subst (λ (n : ℕ). AreSilentBefore network events (n ∷ []) (notes ++ p.more)) (amount_after end until begun after) (p.all later) in
-    record { more = p.more; stands = p.stands; puts = inl (refl, p.puts, all) }
+    let puts = PutsLines-still (report_of network p.more) old now new p.puts ends.0 in
+    record {
+      more = p.more;
+      stands = p.stands;
+      puts = elim ends.1 [ inl e ↦ inl (e.0, puts, e.1, all) | inr e ↦ inr (inl (e, inr puts)) ];
+    }
 
 pub rest_cut : (network : Network) (events : List Event) (notes : List Note) (end until : Units) (world : Progress Segment) (status : Status) (old new : Shown)
     → PutsUntil {T = Unit {0}} network events notes until world (Err status) old new → PutsRest network events notes end world status old new

@@ -15,7 +15,8 @@ use Rattle.net_plan.specs.Belonging.{IsOfNetwork}
 use Rattle.trace_text.specs.Ranges.{IsTime}
 use Rattle.tte_run.specs.traces.Following.{Follows, GivesEvent, GoesOn, ReadsOn, TakesNext}
 use Rattle.tte_run.specs.traces.Records.{AreSilentSoFar, IsUnderway, MayBefall, PutsEvent, StandsExact}
-use Rattle.tte_run.specs.Putting.{Shown}
+use Rattle.tte_run.specs.Putting.{Shown, PutsNone}
+use Rattle.report_text.specs.NoteLine.{report_of}
 use Rattle.tte_run.specs.traces.Answer.{IsBuilt, IsTraceAnswer, clock_reading}
 use Rattle.tte_run.specs.traces.Steps.{Begins, IsRunning, ReadsFrom, RunEnds, StandsBy}
 use Rattle.tte_run.specs.traces.Lines.{HaveEnded, IsFault, behind_lines}
@@ -26,7 +27,7 @@ use Rattle.tte_run.specs.declared.status.Status.{Status}
 use Rattle.tte_run.specs.declared.trace.lines.Trace.{Trace}
 use Rattle.tte_run.specs.declared.trace.steps.Running.{Running}
 use Rattle.tte_run.proofs.traces.Admitted.{admitted_in_order, admitted_none, have_ended, last_is}
-use Rattle.tte_run.proofs.Puts.{PutsLines-none}
+use Rattle.tte_run.proofs.Puts.{PutsLines-none, PutsLines-still}
 use Rattle.tte_run.proofs.traces.EventRecords.{events_run}
 use Rattle.tte_run.proofs.traces.Given.{puts_report}
 use Rattle.tte_units.specs.Amount.{units_of}
@@ -53,6 +54,17 @@ begins_running left s b = record {
   stands = b.stands;
   reads = λ octets told. (octets, told, b.reads octets);
   puts = PutsLines-none s;
+}
+
+-- where nothing more was put, it still is
+pub runs_still : {network : Network} {first left : Option (List ℕ)} {old now : Shown} (new : Shown) {run : Running}
+    → IsRunning network first left old now run → PutsNone now new → IsRunning network first left old new run
+runs_still {network} {old} {now} new r none = record {
+  events = r.events;
+  notes = r.notes;
+  stands = r.stands;
+  reads = r.reads;
+  puts = PutsLines-still (report_of network r.notes) old now new r.puts none;
 }
 
 -- ---- one network under two names

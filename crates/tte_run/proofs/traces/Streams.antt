@@ -13,7 +13,7 @@ use Rattle.tte_io.specs.ReaderState.{pending}
 use Rattle.tte_run.specs.Answering.{Answer, Gives}
 use Rattle.tte_run.specs.traces.Following.{TakesFew, TakesNext}
 use Rattle.tte_run.specs.traces.Records.{PutsEvent, PutsOr, PutsOrRest, PutsRest}
-use Rattle.tte_run.specs.Putting.{Shown, PutsLines, PutFails}
+use Rattle.tte_run.specs.Putting.{Shown, PutsLines, PutFails, StopsWriting, WriteFails}
 use Rattle.tte_run.specs.traces.Steps.{IsRunning}
 use Rattle.tte_run.specs.traces.Streaming.{ForTrace, StopsBehindLines, TakesLittle, WritesSome}
 use Rattle.tte_run.specs.declared.trace.fault.TraceStop.{TraceStop}
@@ -41,8 +41,16 @@ pub writes_fails : (lines : List (List ℕ)) (old new : Shown) → PutFails line
 writes_fails lines old new p =
     (concat p.done ++ p.front.0, Appends-trans old.written p.before.written new.written (concat p.done) p.front.0 p.puts.written p.front.3)
 
+writes_stops : (lines : List (List ℕ)) (old new : Shown) → StopsWriting lines old new → WritesSome old new
+writes_stops lines old new (inl f) = writes_fails lines old new f
+writes_stops lines old new (inr p) = writes_lines lines old new p
+
+writes_failing : (lines : List (List ℕ)) (old new : Shown) → WriteFails lines old new → WritesSome old new
+writes_failing lines old new (inl f) = writes_fails lines old new f
+writes_failing lines old new (inr p) = writes_lines p.done old new p.puts
+
 writes_or : (status : Status) (lines : List (List ℕ)) (old new : Shown) → PutsOr {T = Unit {0}} (Err status) lines old new → WritesSome old new
-writes_or status lines old new (inl f) = writes_fails lines old new f.1
+writes_or status lines old new (inl f) = writes_stops lines old new f.1
 writes_or status lines old new (inr m) = writes_lines lines old new m.1
 
 pub writes_event : (network : Network) (events : List Event) (notes : List Note) (event : Event) (world : Progress Segment) (status : Status) (old new : Shown)
@@ -52,7 +60,7 @@ writes_event network events notes event world status old new p = writes_or statu
 writes_or_rest : (network : Network) (events : List Event) (notes more : List Note) (end : Units) (status : Status) (old new : Shown)
     → PutsOrRest network events notes more end status old new → WritesSome old new
 writes_or_rest network events notes more end status old new (inl d) = writes_lines (report_of network more) old new d.1
-writes_or_rest network events notes more end status old new (inr (inl f)) = writes_fails (report_of network more) old new f.1
+writes_or_rest network events notes more end status old new (inr (inl f)) = writes_stops (report_of network more) old new f.1
 writes_or_rest network events notes more end status old new (inr (inr m)) = writes_lines (report_of network more) old new m.1
 
 pub writes_rest : (network : Network) (events : List Event) (notes : List Note) (end : Units) (world : Progress Segment) (status : Status) (old new : Shown)
@@ -61,7 +69,7 @@ writes_rest network events notes end world status old new p = writes_or_rest net
 
 pub writes_answer : (a : Answer) (status : Status) (old new : Shown) → Gives a status old new → WritesSome old new
 writes_answer a status old new (inl g) = writes_lines a.lines old new g.1
-writes_answer a status old new (inr (inl g)) = writes_fails a.lines old new g.1
+writes_answer a status old new (inr (inl g)) = writes_failing a.lines old new g.1
 writes_answer a status old new (inr (inr g)) = writes_lines g.1.done old new g.1.puts
 
 -- ---- what was taken

@@ -47,12 +47,14 @@ GoesOn network events (Ok (Some event)) trace = GivesEvent network events event 
 GoesOn network events (Ok None) trace = HaveEnded events × Follows network events trace
 GoesOn network events (Err _) trace = Follows network events trace
 
--- the same where the octets of the trace are told; after a failed read no line stands whole in those taken
--- behind the events' lines
+-- the same where the octets of the trace are told; after a failed read, or where nothing could be passed on before one,
+-- no line stands whole in those taken behind the events' lines
 abbrev pub ReadsOn : Network → List ℕ → List Event → Result (Option Event) TraceStop → Trace → List ℕ → Type 0
 ReadsOn network octets events (Ok (Some event)) trace left = Reads network octets (events ++ event ∷ []) trace left
 ReadsOn network octets events (Ok None) trace left = (behind_lines (length events) octets ≡ []) × HaveEnded events
 ReadsOn network octets events (Err stops.ReadFault) trace left =
+    Reads network octets events trace left × IsUnbroken (pending trace.reader)
+ReadsOn network octets events (Err stops.WriteFault) trace left =
     Reads network octets events trace left × IsUnbroken (pending trace.reader)
 ReadsOn network octets events (Err (stops.Fault fault)) trace left =
     IsFault network events (behind_lines (length events) octets) fault

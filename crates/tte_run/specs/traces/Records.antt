@@ -10,7 +10,7 @@ use Rattle.run_law.specs.scenario.Hypothesis.{SetsFastRate}
 use Rattle.run_law.specs.law.Silent.{IsSilentRunOf}
 use Rattle.run_law.specs.declared.note.Note.{Note}
 use Rattle.net_plan.specs.Belonging.{IsOfNetwork}
-use Rattle.tte_run.specs.Putting.{Shown, PutsLines, PutFails}
+use Rattle.tte_run.specs.Putting.{Shown, IsPassedOn, PutsLines, StopsWriting}
 use Rattle.tte_run.specs.traces.Answer.{clock_reading}
 use Rattle.fault_hypothesis.specs.Watching.{AreOfNetwork}
 use Rattle.tte_run.specs.declared.status.Status.{Status}
@@ -46,15 +46,15 @@ pub record MayBefall (world : Progress Segment) (line : ℕ) (event : Event) : T
   pub rate : SetsFastRate world.network event → ⊥
   pub unended : world.ended ≡ false
 
--- a put failed, or memory ran out
+-- writing failed, or memory ran out
 abbrev pub IsCut : Status → Type 0 → Type 0
 IsCut status PutFails = ((status ≡ WriteFault) × PutFails) ⊎ (status ≡ OutOfMemory)
 
--- the lines were put; or the put of one failed, behind those before it; or memory ran out behind them
+-- the lines were put; or writing them failed; or memory ran out behind them
 abbrev pub PutsOr : {T : Type 0} → Result T Status → List (List ℕ) → Shown → Shown → Type 0
 PutsOr (Ok _) lines old new = PutsLines lines old new
 PutsOr (Err status) lines old new =
-    ((status ≡ WriteFault) × PutFails lines old new) ⊎ ((status ≡ OutOfMemory) × PutsLines lines old new)
+    ((status ≡ WriteFault) × StopsWriting lines old new) ⊎ ((status ≡ OutOfMemory) × PutsLines lines old new)
 
 -- the next records of the run were put: where all went well, each that is earlier than the time
 pub record PutsUntil {T : Type 0} (network : Network) (events : List Event) (notes : List Note) (until : Units)
@@ -75,15 +75,15 @@ pub record PutsEvent {T : Type 0} (network : Network) (events : List Event) (not
   pub so_far : AreSilentSoFar network befallen (notes ++ more)
   pub puts : PutsOr result (report_of network more) old new
 
--- the records up to the end were put; or the put of one failed, behind those before it; or memory ran out behind some
+-- the records up to the end were put and passed on; or writing them failed; or memory ran out behind some
 abbrev pub PutsOrRest : Network → List Event → List Note → List Note → Units → Status → Shown → Shown → Type 0
 PutsOrRest network events notes more end status old new =
-    ((status ≡ Done) × PutsLines (report_of network more) old new
+    ((status ≡ Done) × PutsLines (report_of network more) old new × IsPassedOn new
     × AreSilentBefore network events ((amount end + 1) ∷ []) (notes ++ more))
-    ⊎ ((status ≡ WriteFault) × PutFails (report_of network more) old new)
+    ⊎ ((status ≡ WriteFault) × StopsWriting (report_of network more) old new)
     ⊎ ((status ≡ OutOfMemory) × PutsLines (report_of network more) old new)
 
--- the records that are left up to the end were put, or that was cut short
+-- the records that are left up to the end were put and passed on, or that was cut short
 pub record PutsRest (network : Network) (events : List Event) (notes : List Note) (end : Units)
     (world : Progress Segment) (status : Status) (old new : Shown) : Type 0 where
   pub more : List Note

@@ -9,7 +9,7 @@ use Rattle.trace_text.specs.Ranges.{IsTime}
 use Rattle.tte_run.specs.Answering.{Answer, GivesOne}
 use Rattle.tte_run.specs.traces.Following.{Follows, Reads}
 use Rattle.tte_run.specs.traces.Records.{AreSilentSoFar, StandsExact}
-use Rattle.tte_run.specs.Putting.{Shown, PutsLines}
+use Rattle.tte_run.specs.Putting.{Shown, IsPassedOn, PutsLines}
 use Rattle.tte_run.specs.traces.Answer.{IsBuilt, IsTraceAnswer}
 use Rattle.tte_run.specs.traces.Streaming.{ForTrace, StopsBehindLines, TakesLittle}
 use Rattle.tte_run.specs.declared.status.Status.{Status}
@@ -52,12 +52,14 @@ pub record IsRunning (network : Network) (first left : Option (List ℕ)) (old n
   pub reads : ReadsFrom first left network events run.trace
   pub puts : PutsLines (report_of network notes) old now
 
--- the run has ended: one of the answers was given, as far as the status tells; where a read failed, what was put stops
--- behind the lines that were taken; and of the trace little more was taken than the lines whose records were put
+-- the run has ended: one of the answers was given, as far as the status tells; where a read failed, all that was put
+-- was passed on, and it stops behind the lines that were taken; and of the trace little more was taken than the lines
+-- whose records were put
 pub record RunEnds (IsAnswer : List ℕ → Answer → Type 0) (network : Network) (first left : Option (List ℕ))
     (status : Status) (old new : Shown) : Type 0 where
   pub general : IfSome first (λ octets. GivesOne (IsAnswer octets) status old new)
-  pub cut : status ≡ ReadFault → ForTrace first left (λ octets rest. StopsBehindLines network octets rest old new)
+  pub cut : status ≡ ReadFault
+      → IsPassedOn new × ForTrace first left (λ octets rest. StopsBehindLines network octets rest old new)
   pub little : ForTrace first left (λ octets rest. TakesLittle network octets rest old new)
 
 -- after a step the run goes on, or has ended with a status

@@ -9,7 +9,7 @@ use Rattle.tte_io.specs.Line.{IsUnbroken}
 use Rattle.tte_run.specs.networks.Accepting.{MeansAccepted}
 use Rattle.tte_run.specs.Answering.{ForOctets}
 use Rattle.tte_run.specs.traces.Following.{TakesFew}
-use Rattle.tte_run.specs.Putting.{Shown, PutsLines}
+use Rattle.tte_run.specs.Putting.{Shown, IsPassedOn, PutsLines}
 use Rattle.tte_run.specs.traces.Answer.{AreRecordsSoFar}
 use Rattle.tte_run.specs.traces.Lines.{AreAdmitted, behind_lines}
 
@@ -51,10 +51,12 @@ pub record StopsBehindLines (network : Network) (octets left : List ℕ) (old ne
 abbrev pub ForAccepted : Option (List ℕ) → (Network → Type 0) → Type 0
 ForAccepted left P = (network : Network) × ForOctets left (λ octets. MeansAccepted octets network) × P network
 
--- a read of the trace of an accepted network failed, and what was put stops behind the lines that were taken
+-- a read of the trace of an accepted network failed: all that was put was passed on, and it stops behind the lines that
+-- were taken
 abbrev pub RunStops : Option (List ℕ) → Option (List ℕ) → Option (List ℕ) → Shown → Shown → Type 0
 RunStops first second left old new =
-    ForAccepted first (λ network. ForTrace second left (λ octets rest. StopsBehindLines network octets rest old new))
+    IsPassedOn new
+    × ForAccepted first (λ network. ForTrace second left (λ octets rest. StopsBehindLines network octets rest old new))
 
 -- little was taken of the trace of an accepted network
 abbrev pub RunTakesLittle : Option (List ℕ) → Option (List ℕ) → Option (List ℕ) → Shown → Shown → Type 0

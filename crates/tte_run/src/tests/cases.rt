@@ -38,5 +38,6 @@ pub(super) fn try_case(rt: &impl Abort, alloc: Global, case: &Case) -> Result<()
     }
     assert_eq!(rt; status, case.status, "for {}", case.text);
     assert!(rt; out.written() == case.text.as_bytes(), "for {}", case.text);
+    assert!(rt; status == Status::WriteFault || out.passed() == out.written());
     Ok(())
 }

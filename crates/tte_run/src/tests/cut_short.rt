@@ -74,6 +74,53 @@ fn try_failing_reads(
     )
 }
 
+// Lets each call to pass on fail in turn. There is one before each read, at which the records of the
+// lines that had come whole were put, and one at the end.
+fn try_failing_passes(
+    rt: &impl Abort,
+    alloc: Global,
+    run: &Run<'_>,
+    reads: u32,
+) -> Result<(), Fail> {
+    for pass in 1..=reads {
+        let came = run.trace.bytes().take(17 * (pass as usize - 1));
+        let text = first_lines(
+            alloc,
+            run.text,
+            came.filter(|octet| *octet == b'\n').count(),
+        )?;
+        let failing = [pass];
+        let cut = Run {
+            failing_passes: &failing,
+            text: text.as_str(),
+            status: Status::WriteFault,
+            ..*run
+        };
+        try_runs(rt, alloc, UNCHANGED, &[cut])?;
+    }
+    let last = [reads.saturating_add(1)];
+    let unpassed = Run {
+        failing_passes: &last,
+        status: Status::WriteFault,
+        ..*run
+    };
+    try_runs(rt, alloc, UNCHANGED, &[unpassed])?;
+    let behind = [reads.saturating_add(2)];
+    let passed = Run {
+        failing_passes: &behind,
+        ..*run
+    };
+    try_runs(rt, alloc, UNCHANGED, &[passed])
+}
+
+#[test]
+fn a_run_stops_where_passing_on_fails(rt: HostRuntime) -> Result<(), Fail> {
+    let alloc = rt.alloc();
+    try_failing_passes(&rt, alloc, &whole(RATES, RATES_REPORT, Status::Done), 5)?;
+    let outside = whole(CUTS, CUTS_REPORT, Status::OutsideHypothesis);
+    try_failing_passes(&rt, alloc, &outside, 4)
+}
+
 #[test]
 fn a_run_stops_at_a_failed_put(rt: HostRuntime) -> Result<(), Fail> {
     let alloc = rt.alloc();

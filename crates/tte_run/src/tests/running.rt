@@ -26,12 +26,14 @@ const WITHOUT_ROWS: Edit<'_> = (
     "",
 );
 
-// A run over a network: its trace, the reads of the trace and the puts that fail, and what it answers.
+// A run over a network: its trace, the reads of the trace, the puts and the calls to pass on that
+// fail, and what it answers.
 #[derive(Clone, Copy)]
 pub(super) struct Run<'a> {
     pub(super) trace: &'a str,
     pub(super) failing_reads: &'a [u32],
     pub(super) failing_puts: &'a [u32],
+    pub(super) failing_passes: &'a [u32],
     pub(super) text: &'a str,
     pub(super) status: Status,
 }
@@ -40,7 +42,13 @@ fn try_run(rt: &impl Abort, alloc: Global, network: &str, run: &Run) -> Result<(
     let words = words_of(alloc, &["run", "net.toml", "net.trace"])?;
     let mut first = SteadySource::new(alloc, network.as_bytes())?;
     let mut second = MemorySource::new(alloc, run.trace.as_bytes(), 17, run.failing_reads)?;
-    let mut out = MemorySink::new(alloc, run.text.len() as u64 + 4096, run.failing_puts)?;
+    let room = run.text.len() as u64 + 4096;
+    let mut out = MemorySink::with_failing_passes(
+        alloc,
+        room,
+        run.failing_puts,
+        run.failing_passes,
+    )?;
     let status = tte(alloc, &words, &mut first, &mut second, &mut out);
     if status == Status::OutOfMemory {
         assert!(rt; run.text.as_bytes().starts_with(out.written()));
@@ -48,6 +56,7 @@ fn try_run(rt: &impl Abort, alloc: Global, network: &str, run: &Run) -> Result<(
     }
     assert_eq!(rt; status, run.status, "for {}", run.text);
     assert!(rt; out.written() == run.text.as_bytes(), "for {}", run.text);
+    assert!(rt; status == Status::WriteFault || out.passed() == out.written());
     Ok(())
 }
 
@@ -74,6 +83,7 @@ pub(super) fn whole<'a>(trace: &'a str, text: &'a str, status: Status) -> Run<'a
         trace,
         failing_reads: &[],
         failing_puts: &[],
+        failing_passes: &[],
         text,
         status,
     }

@@ -8,7 +8,7 @@ use std::alloc::Global;
 use std::process::Abort;
 use std::test::Fail;
 use trace_text::LineRefusal;
-use tte_io::{MemorySource, OutOfMemory};
+use tte_io::{MemorySink, MemorySource, OutOfMemory};
 
 // What a trace gave: how many events, and why it stopped, if it did not end.
 type Given = (u32, Option<TraceStop>);
@@ -22,9 +22,9 @@ fn network(rt: &impl Abort, alloc: Global, text: &str) -> Result<Accepted, Fail>
 }
 
 // Takes events until the trace ends or stops.
-fn given(trace: &mut Trace, source: &mut MemorySource) -> Given {
+fn given(trace: &mut Trace, source: &mut MemorySource, out: &mut MemorySink) -> Given {
     for _ in 0..100 {
-        match trace.next_event(source) {
+        match trace.next_event(source, out) {
             Ok(Some(_)) => {}
             Ok(None) => return (trace.lines(), None),
             Err(stop) => return (trace.lines(), Some(stop)),
@@ -41,7 +41,8 @@ fn try_trace(
     wanted: Given,
 ) -> Result<(), Fail> {
     let mut source = MemorySource::new(alloc, text, 17, &[])?;
-    let found = given(&mut Trace::new(accepted), &mut source);
+    let mut out = MemorySink::new(alloc, 0, &[])?;
+    let found = given(&mut Trace::new(accepted), &mut source, &mut out);
     assert_eq!(rt; found, wanted);
     Ok(())
 }
@@ -113,15 +114,18 @@ fn too_few_masters_would_be_left(rt: HostRuntime) -> Result<(), Fail> {
 }
 
 #[test]
-fn a_trace_goes_on_after_a_failed_read(rt: HostRuntime) -> Result<(), Fail> {
+fn a_trace_goes_on_after_a_failed_read_or_pass(rt: HostRuntime) -> Result<(), Fail> {
     let alloc = rt.alloc();
     let accepted = network(&rt, alloc, WORKED)?;
     let mut source = MemorySource::new(alloc, b"1000 cut m1_a up\n2000 end\n", 10, &[2])?;
+    let mut out = MemorySink::with_failing_passes(alloc, 0, &[], &[3])?;
     let mut trace = Trace::new(&accepted);
-    assert_eq!(rt;
-        given(&mut trace, &mut source),
-        (0, Some(TraceStop::ReadFault))
-    );
-    assert_eq!(rt; given(&mut trace, &mut source), (2, None));
+    for wanted in [
+        (0, Some(TraceStop::ReadFault)),
+        (1, Some(TraceStop::WriteFault)),
+        (2, None),
+    ] {
+        assert_eq!(rt; given(&mut trace, &mut source, &mut out), wanted);
+    }
     Ok(())
 }

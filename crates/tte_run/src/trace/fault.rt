@@ -25,6 +25,8 @@ pub(crate) enum TraceFault {
 pub(crate) enum TraceStop {
     /// A read failed.
     ReadFault,
+    /// What was put could not be passed on before a read.
+    WriteFault,
     /// The trace is refused.
     Fault(TraceFault),
 }

@@ -4,16 +4,18 @@ ghost use Rattle.net_plan.specs.declared.event.Event.{Event as EventValue};
 ghost use Rattle.net_plan.specs.declared.network.Network.{Network as NetworkValue};
 ghost use Rattle.net_plan.specs.Belonging.{IsOfNetwork};
 ghost use Rattle.trace_text.specs.Ranges.{IsEventInRange};
-ghost use Rattle.tte_run.specs.Faults.{ReadFailed};
+ghost use Rattle.tte_run.specs.Faults.{PutFailed, ReadFailed};
+ghost use Rattle.tte_run.specs.Putting.{IsPassedOn, Over, PutsNone, shown_by};
 ghost use Rattle.tte_run.specs.traces.Following.{Follows, GoesOn, IsFound, Judges, Reads, TakesNext};
 ghost use Rattle.tte_run.specs.traces.Lines.{HasEvent, IsAdmitted, IsEarly, IsFault, IsOpen};
 
 use crate::trace::fault::{TraceFault, TraceStop};
+use crate::trace::reading::next_line;
 use fault_hypothesis::Watch;
 use net_plan::{Event, Network, What};
 use schedule_tables::Accepted;
 use trace_text::line;
-use tte_io::{LineReader, LineTaken, Source};
+use tte_io::{LineReader, LineTaken, Sink, Source};
 
 /// A trace that is taken line by line: each line's event is admitted by the fault hypothesis, given
 /// those before it, or the trace is refused.
@@ -58,13 +60,15 @@ impl<'a> Trace<'a> {
         self.lines
     }
 
-    /// The event of the next line, or None where the trace has ended.
+    /// The event of the next line, or None where the trace has ended. Before a read it passes on all
+    /// that was put.
     ///
-    /// After a failed read the next call goes on where this one stopped. After a fault of the trace
-    /// no call is to follow.
-    pub(crate) fn next_event<B: Source>(
+    /// After a failed read, and where passing on failed, the next call goes on where this one
+    /// stopped. After a fault of the trace no call is to follow.
+    pub(crate) fn next_event<B: Source, K: Sink>(
         &mut self,
         source: &mut B,
+        out: &mut K,
     ) -> Result<Option<Event>, TraceStop>
         ensures follows { (network : NetworkValue) (events : List EventValue) → Follows network events self.old
             → GoesOn network events result self.new }
@@ -74,13 +78,18 @@ impl<'a> Trace<'a> {
         ensures never_falls { B.faults source.old ≤ B.faults source.new }
         ensures unchanged { result ≢ Err TraceStop.ReadFault → B.faults source.new ≡ B.faults source.old }
         ensures failed_rose { result ≡ Err TraceStop.ReadFault → ReadFailed B.Source source.old source.new }
+
+        ensures nothing_put { Over K.Sink out.old out.new PutsNone }
+        ensures passed { result ≡ Err TraceStop.ReadFault → IsPassedOn (shown_by K.Sink out.new) }
+        ensures quiet { result ≢ Err TraceStop.WriteFault → K.faults out.new ≡ K.faults out.old }
+        ensures unpassed { result ≡ Err TraceStop.WriteFault → PutFailed K.Sink out.old out.new }
     {
-        match self.reader.next_line(source) {
+        match next_line(&mut self.reader, source, out) {
             Ok(found) => match self.judge(found) {
                 Ok(event) => Ok(event),
                 Err(fault) => Err(TraceStop::Fault(fault)),
             },
-            Err(_) => Err(TraceStop::ReadFault),
+            Err(stop) => Err(stop),
         }
     }
 

@@ -8,23 +8,26 @@ ghost use Rattle.tte_run.specs.Faults.{PutFailed};
 ghost use Rattle.tte_run.specs.Putting.{Over};
 
 use crate::Status;
+use crate::put_line::end_with;
 use drift_clock::SegmentClock;
 use drift_world::World;
 use net_plan::{Event, Network};
 use report_text::write;
-use tte_io::Sink;
+use tte_io::{LineText, Sink};
 use tte_units::Units;
 
 /// The world of the program, whose clocks are exact.
 pub(crate) type ExactWorld<'a> = World<'a, SegmentClock>;
 
-/// Puts the next records that are earlier than a time.
+/// Puts the next records that are earlier than a time. Their lines are made in `text`, one after the
+/// other.
 ///
-/// The error is that a put failed or that memory ran out.
+/// The error is that writing failed, or that memory ran out; then all that was put is passed on.
 pub(crate) fn put_until<K: Sink>(
     world: &mut ExactWorld<'_>,
     network: &Network,
     until: Units,
+    text: &mut LineText,
     out: &mut K,
 ) -> Result<(), Status>
     requires in_range { IsInRange network.now }
@@ -36,12 +39,12 @@ pub(crate) fn put_until<K: Sink>(
 {
     'notes: loop {
         match world.next(until) {
-            Ok(Some(note)) => match write(network, &note, out) {
+            Ok(Some(note)) => match write(text, network, &note, out) {
                 Ok(()) => (),
                 Err(_) => return Err(Status::WriteFault),
             },
             Ok(None) => return Ok(()),
-            Err(_) => return Err(Status::OutOfMemory),
+            Err(_) => return Err(end_with(Status::OutOfMemory, out)),
         }
     }
 }
@@ -49,12 +52,13 @@ pub(crate) fn put_until<K: Sink>(
 /// Puts the records that are earlier than the event of this line, lets it befall the network, and
 /// puts its record.
 ///
-/// The error is that a put failed or that memory ran out.
+/// The error is that writing failed, or that memory ran out; then all that was put is passed on.
 pub(crate) fn put_event<K: Sink>(
     world: &mut ExactWorld<'_>,
     network: &Network,
     line: u64,
     event: &Event,
+    text: &mut LineText,
     out: &mut K,
 ) -> Result<(), Status>
     requires in_range { IsInRange network.now }
@@ -65,27 +69,28 @@ pub(crate) fn put_event<K: Sink>(
     ensures quiet { OnOk result (K.faults out.new ≡ K.faults out.old) }
     ensures cause { IfErr result (λ status. IsCut status (PutFailed K.Sink out.old out.new)) }
 {
-    match put_until(world, network, event.time, out) {
+    match put_until(world, network, event.time, text, out) {
         Ok(()) => (),
         Err(status) => return Err(status),
     }
     let note = match world.apply(line, event) {
         Ok(note) => note,
-        Err(_) => return Err(Status::OutOfMemory),
+        Err(_) => return Err(end_with(Status::OutOfMemory, out)),
     };
-    match write(network, &note, out) {
+    match write(text, network, &note, out) {
         Ok(()) => Ok(()),
         Err(_) => Err(Status::WriteFault),
     }
 }
 
-/// Puts the records that are left, up to the end, which came at this time.
+/// Puts the records that are left, up to the end, which came at this time, and passes all on.
 ///
-/// The status is Done, or that a put failed or that memory ran out.
+/// The status is Done, or that writing failed or that memory ran out.
 pub(crate) fn put_rest<K: Sink>(
     world: &mut ExactWorld<'_>,
     network: &Network,
     end: Units,
+    text: &mut LineText,
     out: &mut K,
 ) -> Status
     requires in_range { IsInRange network.now }
@@ -96,8 +101,8 @@ pub(crate) fn put_rest<K: Sink>(
         → Over K.Sink out.old out.new (PutsRest network.now events notes end world.new result) }
     ensures cause { (result ≡ Status.Done) ⊎ IsCut result (PutFailed K.Sink out.old out.new) }
 {
-    match put_until(world, network, Units(end.0 + 1), out) {
-        Ok(()) => Status::Done,
+    match put_until(world, network, Units(end.0 + 1), text, out) {
+        Ok(()) => end_with(Status::Done, out),
         Err(status) => status,
     }
 }

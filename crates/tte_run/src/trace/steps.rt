@@ -13,7 +13,7 @@ use crate::trace::refusing::put_fault;
 use drift_world::{OutOfMemory, World};
 use schedule_tables::Accepted;
 use std::alloc::Global;
-use tte_io::{Sink, Source};
+use tte_io::{LineText, Sink, Source};
 use tte_units::Units;
 
 /// A run under a trace.
@@ -40,10 +40,16 @@ impl<'a> Running<'a> {
         })
     }
 
-    /// Takes the next line of the trace, and puts the records up to that of its event.
+    /// Takes the next line of the trace, and puts the records up to that of its event. Before a read
+    /// it passes on all that was put.
     ///
-    /// A status ends the run.
-    fn step<B: Source, K: Sink>(&mut self, second: &mut B, out: &mut K) -> Option<Status>
+    /// What is put is made in `text`. A status ends the run.
+    fn step<B: Source, K: Sink>(
+        &mut self,
+        second: &mut B,
+        text: &mut LineText,
+        out: &mut K,
+    ) -> Option<Status>
         requires { IsOngoing self.old }
         ensures steps { (network : NetworkValue) (first : Option (List ℕ)) (old : Shown)
             → IsRunning network first (B.left second.old) old (shown_by K.Sink out.old) self.old
@@ -58,10 +64,10 @@ impl<'a> Running<'a> {
             HasCause status (ReadFailed B.Source second.old second.new) (PutFailed K.Sink out.old out.new)) }
     {
         let network = self.trace.network();
-        match self.trace.next_event(second) {
+        match self.trace.next_event(second, out) {
             Ok(Some(event)) => {
                 let line = self.trace.lines().into();
-                match put_event(&mut self.world, network, line, &event, out) {
+                match put_event(&mut self.world, network, line, &event, text, out) {
                     Ok(()) => {
                         self.time = event.time;
                         None
@@ -69,12 +75,13 @@ impl<'a> Running<'a> {
                     Err(status) => Some(status),
                 }
             }
-            Ok(None) => Some(put_rest(&mut self.world, network, self.time, out)),
+            Ok(None) => Some(put_rest(&mut self.world, network, self.time, text, out)),
             Err(TraceStop::Fault(fault)) => {
                 let line = u64::from(self.trace.lines()) + 1;
-                Some(put_fault(fault, line, out))
+                Some(put_fault(fault, line, text, out))
             }
             Err(TraceStop::ReadFault) => Some(Status::ReadFault),
+            Err(TraceStop::WriteFault) => Some(Status::WriteFault),
         }
     }
 
@@ -86,8 +93,9 @@ impl<'a> Running<'a> {
         ensures statuses { IsRunStatus result }
         ensures cause { HasCause result (ReadFailed B.Source second.old second.new) (PutFailed K.Sink out.old out.new) }
     {
+        let mut text = LineText::new();
         'lines: loop {
-            match self.step(second, out) {
+            match self.step(second, &mut text, out) {
                 None => (),
                 Some(status) => return status,
             }

@@ -16,5 +16,5 @@ returns-in-Ok-clause-general g c =
 
 pub returns-in-Err-TooLong-clause-general : goal.returns-in-Err-TooLong-clause-general
 returns-in-Err-TooLong-clause-general g c =
-    answers-long (g.A.Source.left c.args.source.now) (shown_by g.K.Sink c.args.out.now)
-    (c.read_all.ensures.too_long_left (c.in-Err-TooLong.is ∙ ap Err c.in-Err-TooLong.field-0-is))
+    answers-long (g.A.Source.left c.args.source.now) c.end_with.result (shown_by g.K.Sink c.args.out.now) (shown_by g.K.Sink c.end_with.new.out)
+    (c.read_all.ensures.too_long_left (c.in-Err-TooLong.is ∙ ap Err c.in-Err-TooLong.field-0-is)) c.end_with.ensures.ends

@@ -50,4 +50,5 @@ frames-preserved g c =
 pub returns-clause-gives : goal.returns-clause-gives
 returns-clause-gives g c =
     let shown = shown_by g.K.Sink in
-    IsShown-all (frame_count c.args.octets.now) c.frames.k c.args.octets.now (shown c.args.out.now) (shown c.frames.out) c.frames.invariant.shown (omega arith)
+    IsShown-all (frame_count c.args.octets.now) c.frames.k c.args.octets.now c.end_with.result (shown c.args.out.now) (shown c.frames.out)
+    (shown c.end_with.new.out) c.frames.invariant.shown (omega arith) c.end_with.ensures.ends

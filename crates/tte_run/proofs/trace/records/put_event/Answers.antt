@@ -29,8 +29,8 @@ pub returns-in-Err-apply-clause-puts : goal.returns-in-Err-apply-clause-puts
 returns-in-Err-apply-clause-puts g c events notes stands =
     let shown = shown_by g.K.Sink in
     no_memory_for_event c.args.network.now events notes c.args.event.now.time c.args.event.now c.args.world.now c.put_until.new.world c.apply.new.self
-    (shown c.args.out.now) (shown c.put_until.new.out)
-    stands c.requires.next.unended c.in-Err-apply.ensures.err (c.in-Ok.ensures.puts events notes stands)
+    c.end_with.result (shown c.args.out.now) (shown c.put_until.new.out) (shown c.end_with.new.out)
+    stands c.requires.next.unended c.in-Err-apply.ensures.err (c.in-Ok.ensures.puts events notes stands) c.end_with.ensures.ends
 
 pub returns-in-Ok-write-clause-puts : goal.returns-in-Ok-write-clause-puts
 returns-in-Ok-write-clause-puts g c events notes stands =

@@ -11,8 +11,9 @@ returns-in-Ok-clause-puts g c events notes stands =
     let shown = shown_by g.K.Sink in
     let p = c.in-Ok.ensures.puts events notes stands in
     let still = go_on network c.args.world.now c.put_until.new.world events notes (notes ++ p.more) stands p.stands in
-    rest_done network events notes c.args.end _ c.put_until.new.world (shown c.args.out.now) (shown c.put_until.new.out) p c.requires.time.least
-    (still.now ∙ sym c.requires.last) (omega (arith, ints, c.requires.time.least, c.requires.time.most))
+    rest_done network events notes c.args.end _ c.put_until.new.world c.end_with.result (shown c.args.out.now) (shown c.put_until.new.out)
+    (shown c.end_with.new.out) p c.requires.time.least
+    (still.now ∙ sym c.requires.last) (omega (arith, ints, c.requires.time.least, c.requires.time.most)) c.end_with.ensures.ends
 
 pub returns-in-Err-clause-puts : goal.returns-in-Err-clause-puts
 returns-in-Err-clause-puts g c events notes stands =

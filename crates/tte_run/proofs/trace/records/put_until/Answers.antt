@@ -78,5 +78,5 @@ returns-in-Err-clause-puts g c events notes stands =
     let network = c.args.network.now in
     let shown = shown_by g.K.Sink in
     let h = c.notes.invariant.puts events notes stands in
-    until_no_memory network events notes c.args.until c.next.new.self (shown c.args.out.now) (shown c.notes.out)
-    (HasPut-same network events notes c.notes.world c.next.new.self (shown c.args.out.now) (shown c.notes.out) c.in-Err.ensures.err h)
+    until_no_memory network events notes c.args.until c.next.new.self c.end_with.result (shown c.args.out.now) (shown c.notes.out) (shown c.end_with.new.out)
+    (HasPut-same network events notes c.notes.world c.next.new.self (shown c.args.out.now) (shown c.notes.out) c.in-Err.ensures.err h) c.end_with.ensures.ends

@@ -10,7 +10,7 @@ use Rattle.tte_run.proofs.trace.lines.Trace.next_event.Goals as goal
 pub returns-in-Ok-judge-clause-follows : goal.returns-in-Ok-judge-clause-follows
 returns-in-Ok-judge-clause-follows g c network events f =
     let before = pending c.args.self.now.reader in
-    let reader = c.next_line.new.self in
+    let reader = c.next_line.new.reader in
     let found = some_found before (g.B.Source.left c.args.source.now) reader (g.B.Source.left c.next_line.new.source) c.in-Ok.found c.in-Ok.ensures.next in
     let judged = c.in-Ok-judge.ensures.judged network events found.0 (followed_with network events c.args.self.now reader f) found.1 in
     let of_network = subst (λ (n : Network). IfSome c.in-Ok-judge.event (λ (e : Event). IsOfNetwork n e.what)) f.over c.in-Ok-judge.ensures.of_network in
@@ -19,38 +19,39 @@ returns-in-Ok-judge-clause-follows g c network events f =
 pub returns-in-Err-judge-clause-follows : goal.returns-in-Err-judge-clause-follows
 returns-in-Err-judge-clause-follows g c network events f =
     let before = pending c.args.self.now.reader in
-    let reader = c.next_line.new.self in
+    let reader = c.next_line.new.reader in
     let found = some_found before (g.B.Source.left c.args.source.now) reader (g.B.Source.left c.next_line.new.source) c.in-Ok.found c.in-Ok.ensures.next in
     (c.in-Err-judge.ensures.judged network events found.0 (followed_with network events c.args.self.now reader f) found.1).1
 
 pub returns-in-Ok-judge-clause-takes : goal.returns-in-Ok-judge-clause-takes
 returns-in-Ok-judge-clause-takes g c = record {
   reads = λ network octets events left told r.
-      reads_on network octets events left c.args.self.now c.judge.new.self c.next_line.new.self _ _ c.in-Ok.found c.in-Ok-judge.event told r
+      reads_on network octets events left c.args.self.now c.judge.new.self c.next_line.new.reader _ _ c.in-Ok.found c.in-Ok-judge.event told r
       c.in-Ok.ensures.told
-      (λ rest found. c.in-Ok-judge.ensures.judged network events rest (followed_with network events c.args.self.now c.next_line.new.self r.follows) found)
+      (λ rest found. c.in-Ok-judge.ensures.judged network events rest (followed_with network events c.args.self.now c.next_line.new.reader r.follows) found)
       c.in-Ok-judge.ensures.reader;
   few =
-      λ network octets events left told r. takes_few octets (length events) (pending c.args.self.now.reader) left c.next_line.new.self _ _
+      λ network octets events left told r. takes_few octets (length events) (pending c.args.self.now.reader) left c.next_line.new.reader _ _
       (Ok c.in-Ok.found) told r.coming c.in-Ok.ensures.next c.in-Ok.ensures.told c.in-Ok.ensures.kept_bound c.in-Ok.ensures.ahead_bound;
 }
 
 pub returns-in-Err-judge-clause-takes : goal.returns-in-Err-judge-clause-takes
 returns-in-Err-judge-clause-takes g c = record {
   reads = λ network octets events left told r.
-      reads_fault network octets events left c.args.self.now c.judge.new.self c.next_line.new.self _ _ c.in-Ok.found c.in-Err-judge.fault told r
+      reads_fault network octets events left c.args.self.now c.judge.new.self c.next_line.new.reader _ _ c.in-Ok.found c.in-Err-judge.fault told r
       c.in-Ok.ensures.told
-      (λ rest found. c.in-Err-judge.ensures.judged network events rest (followed_with network events c.args.self.now c.next_line.new.self r.follows) found);
+      (λ rest found. c.in-Err-judge.ensures.judged network events rest (followed_with network events c.args.self.now c.next_line.new.reader r.follows) found);
   few =
-      λ network octets events left told r. takes_few octets (length events) (pending c.args.self.now.reader) left c.next_line.new.self _ _
+      λ network octets events left told r. takes_few octets (length events) (pending c.args.self.now.reader) left c.next_line.new.reader _ _
       (Ok c.in-Ok.found) told r.coming c.in-Ok.ensures.next c.in-Ok.ensures.told c.in-Ok.ensures.kept_bound c.in-Ok.ensures.ahead_bound;
 }
 
 pub returns-in-Err-clause-takes : goal.returns-in-Err-clause-takes
 returns-in-Err-clause-takes g c = record {
   reads = λ network octets events left told r.
-      reads_same network octets events left c.args.self.now c.next_line.new.self _ _ c.in-Err.field-0 told r c.in-Err.ensures.next c.in-Err.ensures.told;
+      reads_same network octets events left c.args.self.now c.next_line.new.reader _ _ c.in-Err.stop told r c.in-Err.ensures.stop c.in-Err.ensures.next
+      c.in-Err.ensures.told;
   few =
-      λ network octets events left told r. takes_few octets (length events) (pending c.args.self.now.reader) left c.next_line.new.self _ _
-      (Err c.in-Err.field-0) told r.coming c.in-Err.ensures.next c.in-Err.ensures.told c.in-Err.ensures.kept_bound c.in-Err.ensures.ahead_bound;
+      λ network octets events left told r. takes_few octets (length events) (pending c.args.self.now.reader) left c.next_line.new.reader _ _
+      (Err c.in-Err.stop) told r.coming c.in-Err.ensures.next c.in-Err.ensures.told c.in-Err.ensures.kept_bound c.in-Err.ensures.ahead_bound;
 }

@@ -1,0 +1,26 @@
+-- What was passed on of what was put.
+use Rattle.std.proofs.Common.{◌≡◌, ℕ, ◌≤◌, List, [], ◌++◌, length, take, drop, Some, sym, ap, ◌∙◌, append-nil}
+use Rattle.std.proofs.lemmas.List.{take-append-drop, take-append-le}
+use Rattle.tte_io.specs.Told.{PassesSome}
+
+-- no more of it
+pub passes_none : (passed written : List ℕ) (count : ℕ) → take count written ≡ passed → PassesSome (Some passed) (Some passed) (Some written)
+passes_none passed written count front = record {
+  more = [];
+  grown = sym (append-nil passed);
+  held = drop count written;
+  front = sym (take-append-drop count written) ∙ ap (λ (t : List ℕ). t ++ drop count written) front;
+}
+
+-- all of it
+pub passes_all : (passed written : List ℕ) (count : ℕ) → take count written ≡ passed → PassesSome (Some passed) (Some written) (Some written)
+passes_all passed written count front = record {
+  more = drop count written;
+  grown = sym (take-append-drop count written) ∙ ap (λ (t : List ℕ). t ++ drop count written) front;
+  held = [];
+  front = sym (append-nil written);
+}
+
+-- no more of it, where more was put
+pub passed_still : (written more : List ℕ) (count : ℕ) → count ≤ length written → take count (written ++ more) ≡ take count written
+passed_still written more count within = take-append-le count written more within

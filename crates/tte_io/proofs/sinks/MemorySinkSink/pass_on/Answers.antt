@@ -1,0 +1,18 @@
+use Rattle.std.proofs.Common.{◌≡◌, take, ap, take_all, arith}
+use Rattle.tte_io.specs.InMemory.{SinkState}
+use Rattle.tte_io.proofs.Passing.{passes_none, passes_all}
+use Rattle.tte_io.proofs.sinks.MemorySinkSink.pass_on.Goals as goal
+
+pub returns-then-next_fails-clause-passes : goal.returns-then-next_fails-clause-passes
+returns-then-next_fails-clause-passes c =
+    let r = c.self.inside in
+    let same = ap (λ (s : SinkState). s.passed) c.self.view_is in
+    rw same (passes_none c.args.self.now.passed r.written.items r.passed same)
+
+pub returns-clause-passes : goal.returns-clause-passes
+returns-clause-passes c =
+    let r = c.self.inside in
+    let same = ap (λ (s : SinkState). s.passed) c.self.view_is in
+    let all : take c.len-self-inside.result r.written.items ≡ r.written.items =
+    take_all c.len-self-inside.result r.written.items (omega (arith, c.len-self-inside.ensures)) in
+    rw all (passes_all c.args.self.now.passed r.written.items r.passed same)
