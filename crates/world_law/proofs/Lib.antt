@@ -1,0 +1,12 @@
+pub mod lists
+pub mod rows
+pub mod devices
+pub mod acts
+pub mod growing
+pub mod runs
+pub mod giving
+pub mod putting
+pub mod steps
+pub mod befalling
+pub mod hearing
+pub mod ripening

@@ -1,0 +1,306 @@
+-- After an act a device has the tasks that it had before, and such as are for later readings.
+use Rattle.std.proofs.Common.{◌≡◌, ℕ, ◌+◌, ◌*◌, ℤ, pos, ◌+ℤ◌, ◌-ℤ◌, ◌<ℤ◌, ◌≤ℤ◌, Bool, true, false, List, [], ◌∷◌, ◌++◌, Some, None, Contains, inl, inr, refl, sym, ap, subst, ◌∙◌, arith}
+use Rattle.std.specs.Prelude.{◌==◌, ◌&&◌, nat_le, IsSomeAnd, filter, if◌then◌else◌}
+use Rattle.std.specs.List.{last_or}
+use Rattle.std.proofs.lemmas.Int.{ints}
+use Rattle.std.proofs.lemmas.List.Elements.{Contains-append_left}
+use Rattle.compression.specs.Clusters.{AreClusters, Cluster}
+use Rattle.compression.specs.Emission.{compressed}
+use Rattle.compression.specs.declared.compressed.Compressed.{Compressed}
+use Rattle.membership.specs.Members.{count_of}
+use Rattle.membership.specs.Summary.{Summary}
+use Rattle.net_plan.specs.declared.ids.DeviceId.{DeviceId}
+use Rattle.net_plan.specs.declared.network.Network.{Network}
+use Rattle.pcf_values.specs.declared.members.Members.{Members}
+use Rattle.run_law.specs.machines.Calls.{MayCall}
+use Rattle.run_law.specs.control.Collections.{observation_window}
+use Rattle.run_law.specs.control.Corrections.{correction_value}
+use Rattle.run_law.specs.scenario.Devices.{is_cm, plan_of}
+use Rattle.run_law.specs.control.Hearing.{heard_as, heard_enough, heard_by_schedule, is_in_schedule, last_cycle}
+use Rattle.run_law.specs.machines.Answers.{IsActOf, after_correction, after_emission, called, own_hearing, with_clique, with_corrected, with_done}
+use Rattle.run_law.specs.machines.Nodes.{ClockTask, Node, acting, correcting, dispatching, sending}
+use Rattle.run_law.specs.control.Permanence.{ripe_as}
+use Rattle.run_law.specs.device.States.{is_synchronised}
+use Rattle.run_law.specs.machines.Tasks.{IsDeedOf, IsPending, IsUndone, IsWaiting, Task, doing, emitting, value_of}
+use Rattle.run_law.specs.declared.steps.Act.TheVariants as acts
+use Rattle.run_law.specs.declared.steps.Act.{Act}
+use Rattle.run_law.specs.declared.steps.Moment.{Moment}
+use Rattle.run_law.specs.declared.steps.Ripe.TheVariants as ripe
+use Rattle.run_law.specs.declared.steps.Ripe.{Ripe}
+use Rattle.sync_state.specs.Calls.{state_by}
+use Rattle.sync_state.specs.Standing.{Standing, next_point, point_in}
+use Rattle.sync_state.specs.declared.answers.Verdict.TheVariants.{Corrected, SyncClique, AsyncClique, Cleared}
+use Rattle.sync_state.specs.declared.answers.Verdict.{Verdict}
+use Rattle.sync_state.specs.declared.plan.SyncPlan.{SyncPlan}
+use Rattle.sync_state.specs.declared.state.State.TheVariants.{Off, Integrating, Joining, Synchronised}
+use Rattle.sync_state.specs.declared.state.State.{State}
+use Rattle.tte_units.specs.Amount.{amount}
+use Rattle.tte_units.specs.declared.units.Units.{Units}
+use Rattle.world_law.specs.device.Acted.{IsCarried}
+
+-- a device that stands as another but for what it has done and how it was called, and has taken the same frames, has
+-- the same deeds before it
+pub record IsAlike (node new : Node) : Type 0 where
+  pub standing : new.standing ≡ node.standing
+  pub broken : new.broken ≡ node.broken
+  pub changed : new.changed ≡ node.changed
+  pub taken : new.taken ≡ node.taken
+  pub done : (deed : ClockTask) → Contains node.done deed → Contains new.done deed
+
+pub deed_alike : (network : Network) (device : DeviceId) (node new : Node) (deed : ClockTask) → IsAlike node new → IsDeedOf network device new deed
+    → IsDeedOf network device node deed
+deed_alike network device node new (sending cycle) a own = (own.0, sym (ap (λ (x : Standing). x.state) a.standing) ∙ own.1, own.2)
+deed_alike network device node new (correcting cycle) a own = sym (ap next_point a.standing) ∙ own
+deed_alike network device node new (dispatching row cycle) a own = (
+  sym (ap (λ (x : Standing). x.state) a.standing) ∙ own.0,
+  record {
+    entry = own.1.entry;
+    is = own.1.is;
+    leaves = own.1.leaves;
+    occurs = own.1.occurs;
+    has = elim own.1.has [
+      | inl sender ↦ inl sender
+      | inr took ↦ inr (
+        took.0,
+        record {
+          last = subst (λ (l : List _). IsSomeAnd (last_or None (filter (λ taking. taking.vl.0 == own.1.entry.row.vl.0) l))
+              (λ taking. (taking.cycle ≡ cycle) × (taking.at <ℤ value_of network (dispatching row cycle)))) a.taken took.1.last;
+        },
+      )
+    ];
+  },
+)
+
+pub undone_alike : (network : Network) (device : DeviceId) (node new : Node) (deed : ClockTask) → IsAlike node new → IsUndone network device new deed
+    → IsUndone network device node deed
+undone_alike network device node new deed a u = record {
+  own = deed_alike network device node new deed a u.own;
+  ahead = subst (λ (z : ℤ). z <ℤ value_of network deed) a.changed u.ahead;
+  not_yet = λ there. u.not_yet (a.done deed there);
+}
+
+-- a device that has emitted no less, of the same points, has the same frames before it
+pub waiting_alike : (network : Network) (device : DeviceId) (node new : Node) (sent : Compressed) → new.points ≡ node.points
+    → ((c : Compressed) → Contains node.emitted c → Contains new.emitted c) → IsWaiting network device new sent → IsWaiting network device node sent
+waiting_alike network device node new sent points emitted w = record {
+  cm = w.cm;
+  clusters = w.clusters;
+  are = subst (λ ps. AreClusters (observation_window network) ps w.clusters) points w.are;
+  cluster = w.cluster;
+  there = w.there;
+  is = w.is;
+  not_yet = λ there. w.not_yet (emitted sent there);
+}
+
+pending_alike : (network : Network) (device : DeviceId) (node new : Node) (moment : Moment) (task : Task) → IsAlike node new → new.points ≡ node.points
+    → ((c : Compressed) → Contains node.emitted c → Contains new.emitted c)
+    → IsPending network device new task → IsCarried network device node new moment task
+pending_alike network device node new moment (emitting sent) a points emitted p =
+    inl ((sym a.broken ∙ p.0, waiting_alike network device node new sent points emitted p.1), refl)
+pending_alike network device node new moment (doing deed) a points emitted p =
+    inl ((sym a.broken ∙ p.0, undone_alike network device node new deed a p.1), ap (λ (x : Standing). value_of network deed -ℤ x.adjustment.0) a.standing)
+
+-- ---- the device begins anew
+
+pub no_cluster : (ow : ℤ) (clusters : List Cluster) (cluster : Cluster) → AreClusters ow [] clusters → Contains clusters cluster → ⊥
+no_cluster ow [] cluster are there = absurd (omega (arith, there.1))
+no_cluster ow (c ∷ cs) cluster are there = absurd are
+
+beyond_it : (changed reading adjustment value : ℤ) → changed ≡ (reading +ℤ adjustment) → changed <ℤ value → reading <ℤ (value -ℤ adjustment)
+beyond_it changed reading adjustment value is lt = omega (arith, ints, is, lt)
+
+-- where its clock showed this much after the change, and nothing is left of its points, all that it has before it is
+-- for later readings
+anew : (network : Network) (device : DeviceId) (node new : Node) (moment : Moment) (task : Task) → new.changed ≡ (moment.reading.0 +ℤ new.standing.adjustment.0)
+    → new.points ≡ [] → IsPending network device new task → IsCarried network device node new moment task
+anew network device node new moment (emitting sent) changed none p =
+    absurd (no_cluster (observation_window network) p.1.clusters p.1.cluster
+    (subst (λ ps. AreClusters (observation_window network) ps p.1.clusters) none p.1.are) p.1.there)
+anew network device node new moment (doing deed) changed none p = inr (beyond_it _ _ _ _ changed p.1.ahead)
+
+-- ---- the acts
+
+pub done_more : (node : Node) (moment : Moment) (deed : ClockTask) → IsAlike node (called moment acting (with_done node deed))
+done_more node moment deed = record {
+  standing = refl;
+  broken = refl;
+  changed = refl;
+  taken = refl;
+  done = λ d there. Contains-append_left node.done (deed ∷ [])
+      d there;
+}
+
+after_deed : (network : Network) (device : DeviceId) (node new : Node) (moment : Moment) (deed : ClockTask) (task : Task)
+    → new ≡ called moment acting (with_done node deed) → IsPending network device new task → IsCarried network device node new moment task
+after_deed network device node new moment deed task is p =
+    subst (λ (n : Node). IsPending network device n task → IsCarried network device node n moment task) (sym is)
+    (pending_alike network device node (called moment acting (with_done node deed)) moment task (done_more node moment deed) refl (λ c there. there)) p
+
+-- a device hears a frame as one of four things
+pub heard_so : (plan : SyncPlan) (precision : ℤ) (state : State) (adjustment point : ℤ) (cycle : ℕ) (members : Members) (P : Ripe → Type 0) → P ripe.Within
+    → P ripe.Outside → P ripe.Integrates → P ripe.Ignored
+    → P (ripe_as (heard_as plan precision state adjustment point cycle members))
+heard_so plan precision Off adjustment point cycle members P within outside integrates ignored = ignored
+heard_so plan precision Integrating adjustment point cycle members P within outside integrates ignored =
+    elim (nat_le plan.threshold (count_of members) && nat_le cycle last_cycle) as (λ b. P (ripe_as (heard_enough b))) [ true ↦ integrates | false ↦ ignored ]
+heard_so plan precision Joining adjustment point cycle members P within outside integrates ignored =
+    elim (nat_le cycle last_cycle && is_in_schedule plan precision cycle (point +ℤ adjustment)) as (λ b. P (ripe_as (heard_by_schedule b)))
+    [ true ↦ within | false ↦ outside ]
+heard_so plan precision Synchronised adjustment point cycle members P within outside integrates ignored =
+    elim (nat_le cycle last_cycle && is_in_schedule plan precision cycle (point +ℤ adjustment)) as (λ b. P (ripe_as (heard_by_schedule b)))
+    [ true ↦ within | false ↦ outside ]
+
+emitted_more : (node : Node) (sent c : Compressed) → Contains node.emitted c → Contains (node.emitted ++ sent ∷ []) c
+emitted_more node sent c there = Contains-append_left node.emitted (sent ∷ []) c there
+
+after_emission_by : (network : Network) (device : DeviceId) (node : Node) (moment : Moment) (sent : Compressed) (task : Task)
+    → IsPending network device (called moment acting (after_emission network device node moment sent (own_hearing network device node sent))) task
+    → IsCarried network device node (called moment acting (after_emission network device node moment sent (own_hearing network device node sent))) moment task
+after_emission_by network device node moment sent task =
+    heard_so (plan_of network device) (observation_window network) node.standing.state node.standing.adjustment.0 sent.at.0 sent.cycle sent.members
+    (λ heard. IsPending network device (called moment acting (after_emission network device node moment sent heard)) task
+    → IsCarried network device node (called moment acting (after_emission network device node moment sent heard)) moment task)
+    (pending_alike network device node (called moment acting (after_emission network device node moment sent ripe.Within)) moment task
+    (record { standing = refl; broken = refl; changed = refl; taken = refl; done = λ d there. there }) refl (emitted_more node sent))
+    (pending_alike network device node (called moment acting (after_emission network device node moment sent ripe.Outside)) moment task
+    (record { standing = refl; broken = refl; changed = refl; taken = refl; done = λ d there. there }) refl (emitted_more node sent))
+    (anew network device node (called moment acting (after_emission network device node moment sent ripe.Integrates)) moment task refl refl)
+    (pending_alike network device node (called moment acting (after_emission network device node moment sent ripe.Ignored)) moment task
+    (record { standing = refl; broken = refl; changed = refl; taken = refl; done = λ d there. there }) refl (emitted_more node sent))
+
+-- ---- the correction points
+
+kept_waiting : (network : Network) (device : DeviceId) (node : Node) (b : Bool) (sent : Compressed) (cm : is_cm network device ≡ true) (clusters : List Cluster)
+    → AreClusters (observation_window network) (if b then node.points else []) clusters → (cluster : Cluster) → Contains clusters cluster
+    → sent ≡ compressed (observation_window network) (pos (amount network.calc)) cluster → (Contains (if b then node.emitted else []) sent → ⊥)
+    → IsWaiting network device node sent
+kept_waiting network device node true sent cm clusters are cluster there is not_yet = record {
+  cm = cm;
+  clusters = clusters;
+  are = are;
+  cluster = cluster;
+  there = there;
+  is = is;
+  not_yet = not_yet;
+}
+kept_waiting network device node false sent cm clusters are cluster there is not_yet =
+    absurd (no_cluster (observation_window network) clusters cluster are there)
+
+never_both : Integrating ≡ Synchronised → ⊥
+never_both e = cc
+
+none_in : (number cycle : ℕ) → point_in Integrating number ≡ Some cycle → ⊥
+none_in number cycle e = cc
+
+none_next : (state : State) (number cycle : ℕ) → state ≡ Integrating → point_in state number ≡ Some cycle → ⊥
+none_next state number cycle is next = none_in number cycle (subst (λ (x : State). point_in x number ≡ Some cycle) is next)
+
+one_more : (state : State) (number cycle n : ℕ) → point_in state number ≡ Some cycle → point_in state (number + 1) ≡ Some n → n ≡ cycle + 1
+one_more Off number cycle n e f = absurd cc
+one_more Integrating number cycle n e f = absurd cc
+one_more Joining number cycle n e f = let a : number ≡ cycle = cc in let b : number + 1 ≡ n = cc in omega (arith, a, b)
+one_more Synchronised number cycle n e f = let a : number ≡ cycle = cc in let b : number + 1 ≡ n = cc in omega (arith, a, b)
+
+next_turn : (r c cycle n : ℕ) (a reading precision : ℤ) → n ≡ cycle + 1 → reading <ℤ ((pos (cycle * r + c) -ℤ a) +ℤ precision) → precision ≤ℤ pos r
+    → reading <ℤ (pos (n * r + c) -ℤ a)
+next_turn r c cycle n a reading precision is lt wide = let more : n * r ≡ (cycle + 1) * r = ap (λ (k : ℕ). k * r) is in omega (arith, ints, lt, wide, more)
+
+corrected_by : (network : Network) (device : DeviceId) (node : Node) (moment : Moment) (heard : Summary) (by : Units) (task : Task)
+    → IsPending network device (called moment acting (with_corrected node moment heard by)) task
+    → IsCarried network device node (called moment acting (with_corrected node moment heard by)) moment task
+corrected_by network device node moment heard by (doing deed) p = inr (beyond_it _ _ _ _ refl p.1.ahead)
+corrected_by network device node moment heard by (emitting sent) p =
+    inl (
+      (
+        p.0,
+        kept_waiting network device node (is_synchronised node.standing.state) sent p.1.cm p.1.clusters p.1.are p.1.cluster p.1.there p.1.is
+            p.1.not_yet,
+      ),
+      refl,
+    )
+
+clique_by : (network : Network) (device : DeviceId) (node : Node) (moment : Moment) (heard : Summary) (verdict : Verdict) (task : Task)
+    → state_by node.standing.state verdict ≡ Integrating
+    → IsPending network device (called moment acting (with_clique node heard verdict)) task
+    → IsCarried network device node (called moment acting (with_clique node heard verdict)) moment task
+clique_by network device node moment heard verdict (emitting sent) lost p =
+    absurd (no_cluster (observation_window network) p.1.clusters p.1.cluster p.1.are p.1.there)
+clique_by network device node moment heard verdict (doing (sending cycle)) lost p = absurd (never_both (sym lost ∙ p.1.own.1))
+clique_by network device node moment heard verdict (doing (dispatching row cycle)) lost p = absurd (never_both (sym lost ∙ p.1.own.0))
+clique_by network device node moment heard verdict (doing (correcting cycle)) lost p = absurd (none_next _ _ _ lost p.1.own)
+
+cleared_by : (network : Network) (device : DeviceId) (node : Node) (moment : Moment) (heard : Summary) (cycle : ℕ) (task : Task)
+    → next_point node.standing ≡ Some cycle
+    → moment.reading.0 <ℤ ((correction_value network cycle -ℤ node.standing.adjustment.0) +ℤ network.precision.0)
+    → network.precision.0 ≤ℤ pos (amount network.cycle)
+    → IsPending network device (called moment acting (after_correction node moment heard cycle Cleared)) task
+    → IsCarried network device node (called moment acting (after_correction node moment heard cycle Cleared)) moment task
+cleared_by network device node moment heard cycle (emitting sent) next in_time wide p =
+    inl (
+      (p.0, record { cm = p.1.cm; clusters = p.1.clusters; are = p.1.are; cluster = p.1.cluster; there = p.1.there; is = p.1.is; not_yet = p.1.not_yet }),
+      refl,
+    )
+cleared_by network device node moment heard cycle (doing (sending n)) next in_time wide p =
+    inl (
+      (
+        p.0,
+        record {
+          own = p.1.own;
+          ahead = p.1.ahead;
+          not_yet = λ there. p.1.not_yet (Contains-append_left node.done (correcting cycle ∷ []) (sending n) there);
+        },
+      ),
+      refl,
+    )
+cleared_by network device node moment heard cycle (doing (dispatching row n)) next in_time wide p =
+    inl (
+      (
+        p.0,
+        record {
+          own = (
+            p.1.own.0,
+            record {
+              entry = p.1.own.1.entry;
+              is = p.1.own.1.is;
+              leaves = p.1.own.1.leaves;
+              occurs = p.1.own.1.occurs;
+              has = elim p.1.own.1.has [ inl sender ↦ inl sender | inr took ↦ inr (took.0, record { last = took.1.last }) ];
+            },
+          );
+          ahead = p.1.ahead;
+          not_yet = λ there. p.1.not_yet (Contains-append_left node.done (correcting cycle ∷ []) (dispatching row n) there);
+        },
+      ),
+      refl,
+    )
+cleared_by network device node moment heard cycle (doing (correcting n)) next in_time wide p =
+    inr (next_turn (amount network.cycle) (amount network.correction) cycle n node.standing.adjustment.0 moment.reading.0 network.precision.0
+    (one_more node.standing.state node.standing.number cycle n next p.1.own) in_time wide)
+
+after_point : (network : Network) (device : DeviceId) (node : Node) (moment : Moment) (heard : Summary) (cycle : ℕ) (verdict : Verdict) (task : Task)
+    → next_point node.standing ≡ Some cycle
+    → moment.reading.0 <ℤ ((correction_value network cycle -ℤ node.standing.adjustment.0) +ℤ network.precision.0)
+    → network.precision.0 ≤ℤ pos (amount network.cycle)
+    → IsPending network device (called moment acting (after_correction node moment heard cycle verdict)) task
+    → IsCarried network device node (called moment acting (after_correction node moment heard cycle verdict)) moment task
+after_point network device node moment heard cycle (Corrected by) task next in_time wide p = corrected_by network device node moment heard by task p
+after_point network device node moment heard cycle SyncClique task next in_time wide p = clique_by network device node moment heard SyncClique task refl p
+after_point network device node moment heard cycle AsyncClique task next in_time wide p = clique_by network device node moment heard AsyncClique task refl p
+after_point network device node moment heard cycle Cleared task next in_time wide p = cleared_by network device node moment heard cycle task next in_time wide p
+
+-- after an act a device has the tasks that it had before, and such as are for later readings
+pub acted : (network : Network) (device : DeviceId) (node : Node) (moment : Moment) (act : Act) (new : Node) → MayCall network device node moment acting
+    → network.precision.0 ≤ℤ pos (amount network.cycle)
+    → IsActOf network device node moment act new → (task : Task) → IsPending network device new task → IsCarried network device node new moment task
+acted network device node moment (acts.Send frame) new may wide (cycle, first, of_frame, is) task p =
+    after_deed network device node new moment (sending cycle) task is p
+acted network device node moment (acts.Dispatch row cycle) new may wide (first, is) task p =
+    after_deed network device node new moment (dispatching row cycle) task is p
+acted network device node moment (acts.Emit sent heard) new may wide (first, so, is) task p =
+    let whole : new ≡ called moment acting (after_emission network device node moment sent (own_hearing network device node sent)) = is
+    ∙ ap (λ (r : Ripe). called moment acting (after_emission network device node moment sent r)) so in
+    subst (λ (n : Node). IsPending network device n task → IsCarried network device node n moment task) (sym whole)
+    (after_emission_by network device node moment sent task) p
+acted network device node moment (acts.Correct cycle verdict) new may wide (first, (heard, comes, is)) task p =
+    subst (λ (n : Node). IsPending network device n task → IsCarried network device node n moment task) (sym is)
+    (after_point network device node moment heard cycle verdict task first.pending.1.own (may.in_time (doing (correcting cycle)) first.pending) wide) p

@@ -1,0 +1,244 @@
+-- When a device acts by itself, it has a task that is due.
+use Rattle.std.proofs.Common.{◌≡◌, ℕ, ◌+◌, ◌-◌, ◌≤◌, ◌<◌, ℤ, pos, ◌+ℤ◌, ◌-ℤ◌, ◌<ℤ◌, ◌≤ℤ◌, Bool, true, false, if◌then◌else◌, int_lt, int_le, List, Some, inl, inr, refl, sym, ap, subst, ◌∙◌, arith}
+use Rattle.std.proofs.lemmas.Bool.{and_from, and_parts, both_ways, cases_Bool}
+use Rattle.std.proofs.lemmas.Int.{ints}
+use Rattle.compression.proofs.Held.{int_le-false, int_le-true, int_lt-false}
+use Rattle.compression.specs.Clusters.{AreClusters}
+use Rattle.compression.specs.declared.compressed.Compressed.{Compressed}
+use Rattle.net_plan.specs.declared.ids.DeviceId.{DeviceId}
+use Rattle.run_law.specs.device.LocalClocks.{Reaches, changed_at, local_at_change}
+use Rattle.run_law.specs.control.Collections.{observation_window}
+use Rattle.run_law.specs.control.Corrections.{correction_value, has_cleared, is_integration_cycle, next_cycle, recorded_cycle}
+use Rattle.run_law.specs.timed.Dispatching.{Sends}
+use Rattle.run_law.specs.control.Emissions.{Emits}
+use Rattle.run_law.specs.records.Happenings.{Happening, earlier}
+use Rattle.run_law.specs.machines.Nodes.{ClockTask, Node, correcting, sending}
+use Rattle.run_law.specs.scenario.Scenarios.{Scenario, is_broken, is_turned_on_at}
+use Rattle.run_law.specs.device.States.{adjustment_before, state_before}
+use Rattle.run_law.specs.machines.Tasks.{IsDeedOf, IsUndone, doing, emitting, value_of}
+use Rattle.run_law.specs.declared.judgement.Judgement.{Judgement}
+use Rattle.sync_state.specs.Standing.{point_in}
+use Rattle.sync_state.specs.declared.state.State.TheVariants.{Off, Integrating, Joining, Synchronised}
+use Rattle.sync_state.specs.declared.state.State.{State}
+use Rattle.tte_units.specs.declared.units.Units.{Units}
+use Rattle.world_law.proofs.devices.OwnRecords.{adjustment_still, change_still, state_still}
+use Rattle.world_law.proofs.devices.Passes.{cleared_still, local_still, next_still, not_turned_on}
+use Rattle.world_law.proofs.lists.Orders.{cases_int}
+use Rattle.world_law.specs.device.Left.{HasDone, HasSent, HasTaskBy, IsLeft, is_timed}
+use Rattle.world_law.specs.device.Own.{IsStill}
+use Rattle.world_law.specs.source.Sources.{IsAtCorrection}
+
+-- nothing moves the device from the time on, up to another: no record, and no event
+pub record IsUnmoved (s : Scenario) (hs : List Happening) (device : DeviceId) (t later : ℕ) : Type 0 where
+  pub le : t ≤ later
+  pub still : IsStill hs device t later
+  pub not_on : is_turned_on_at s device t ≡ false
+  pub not_on_later : is_turned_on_at s device later ≡ false
+  pub not_broken : is_broken s device later ≡ is_broken s device t
+  pub never_falls : (x y : ℕ) → x ≤ y → s.reading device x ≤ s.reading device y
+
+-- its clock comes to the value, as the node counts
+pub record Comes (s : Scenario) (hs : List Happening) (device : DeviceId) (t later : ℕ) (node : Node) (v : ℤ) : Type 0 where
+  pub ahead : node.changed <ℤ v
+  pub reached : (v -ℤ node.standing.adjustment.0) ≤ℤ pos (s.reading device later)
+  pub not_before : (x : ℕ) → changed_at hs device t ≤ x → x < later → pos (s.reading device x) <ℤ (v -ℤ node.standing.adjustment.0)
+
+pub comes_so : (s : Scenario) (hs : List Happening) (device : DeviceId) (t later : ℕ) (node : Node) (v : ℤ) → IsUnmoved s hs device t later
+    → IsLeft s hs device t node → Reaches s hs device v later → Comes s hs device t later node v
+comes_so s hs device t later node v u left r =
+    let adjusted : adjustment_before s hs device later ≡ node.standing.adjustment = adjustment_still s hs device t later u.le u.still
+    ∙ sym left.counted.adjustment in
+    let local : local_at_change s hs device later ≡ node.changed = local_still s hs device t later u.le u.still ∙ sym left.counted.changed in
+    let change = change_still hs device t later u.le u.still in
+    record {
+      ahead = subst (λ (z : ℤ). z <ℤ v) local r.below;
+      reached = subst (λ (a : Units). (v -ℤ a.0) ≤ℤ pos (s.reading device later)) adjusted r.reach.reached;
+      not_before = λ x from lt.
+          subst (λ (a : Units). pos (s.reading device x) <ℤ (v -ℤ a.0)) adjusted
+          (r.reach.not_before x (omega (arith, ints, from, change)) (omega (arith, ints, lt)));
+    }
+
+never_both : (a b : ℤ) → a <ℤ b → b ≤ℤ a → ⊥
+never_both a b lt le = omega (arith, ints, lt, le)
+
+-- a deed of the device to whose value its clock comes is to be done
+pub undone_so : (s : Scenario) (hs : List Happening) (device : DeviceId) (t later : ℕ) (node : Node) (deed : ClockTask) → t ≤ later → HasDone s hs device t node
+    → IsDeedOf s.network device node deed → Comes s hs device t later node (value_of s.network deed) → IsUndone s.network device node deed
+undone_so s hs device t later node deed le has own c = record {
+  own = own;
+  ahead = c.ahead;
+  not_yet = λ there.
+      let x = has.done deed there in
+      never_both _ _ (c.not_before x.0 x.1 (omega (arith, x.2, le))) x.3;
+}
+
+-- ---- a master that sends
+
+pub sending_task : (s : Scenario) (hs : List Happening) (device : DeviceId) (t later : ℕ) (node : Node) (cycle : ℕ) → IsUnmoved s hs device t later
+    → IsLeft s hs device t node → HasDone s hs device t node → Sends s hs device later cycle → HasTaskBy s device node later
+sending_task s hs device t later node cycle u left has sent =
+    let c = comes_so s hs device t later node (value_of s.network (sending cycle)) u left sent.reached in
+    let state : node.standing.state ≡ Synchronised =
+    left.state ∙ not_turned_on s hs device t u.not_on ∙ sym (state_still s hs device t later u.le u.still)
+    ∙ sym (not_turned_on s hs device later u.not_on_later) ∙ sent.up.synchronised in (
+      doing (sending cycle),
+      (
+        left.counted.broken ∙ sym u.not_broken ∙ sent.up.correct,
+        undone_so s hs device t later node (sending cycle) u.le has
+            (sent.master, state, sent.begun) c,
+      ),
+      c.reached,
+    )
+
+-- ---- a compression master that emits
+
+pub emitting_task : (s : Scenario) (hs : List Happening) (device : DeviceId) (t later : ℕ) (node : Node) (sent : Compressed) (verdict : Judgement)
+    → IsUnmoved s hs device t later → IsLeft s hs device t node → HasSent s device t node → Emits s hs device later sent verdict → HasTaskBy s device node later
+emitting_task s hs device t later node sent verdict u left has e = (
+  emitting sent,
+  (
+    left.counted.broken ∙ sym u.not_broken ∙ e.correct,
+    record {
+      cm = e.cm;
+      clusters = e.clusters;
+      are = subst (λ ps. AreClusters (observation_window s.network) ps e.clusters) (sym (left.points e.cm)) e.are;
+      cluster = e.cluster;
+      there = e.there;
+      is = e.is;
+      not_yet =
+          λ there. let x = has.sent sent there in let le = u.le in never_both _ _
+          (e.reached.not_before x.0 (omega (arith, ints)) (omega (arith, ints, x.1, le))) x.2;
+    },
+  ),
+  e.reached.reached,
+)
+
+-- ---- a correction point
+
+less_is : (a b : ℤ) → int_lt a b ≡ true → a <ℤ b
+less_is a b e = elim (cases_int a b) [ inl lt ↦ lt | inr ge ↦ absurd (both_ways _ (int_lt-false a b ge) e) ]
+
+at_most_is : (a b : ℤ) → int_le a b ≡ true → a ≤ℤ b
+at_most_is a b e = elim (cases_int b a) [ inl lt ↦ absurd (both_ways _ (int_le-false a b lt) e) | inr ge ↦ ge ]
+
+point_number : (state : State) (number cycle : ℕ) → point_in state number ≡ Some cycle → (is_timed state ≡ true) × (number ≡ cycle)
+point_number Off number cycle e = absurd cc
+point_number Integrating number cycle e = absurd cc
+point_number Joining number cycle e = (refl, cc)
+point_number Synchronised number cycle e = (refl, cc)
+
+point_of_timed : (state : State) (number : ℕ) → is_timed state ≡ true → point_in state number ≡ Some number
+point_of_timed Off number e = absurd cc
+point_of_timed Integrating number e = absurd cc
+point_of_timed Joining number e = refl
+point_of_timed Synchronised number e = refl
+
+come_back : (v a : ℤ) (r m : ℕ) → v ≤ℤ (pos r +ℤ a) → r ≤ m → (v -ℤ a) ≤ℤ pos m
+come_back v a r m le fell = omega (arith, ints, le, fell)
+
+come_there : (v a : ℤ) (r m : ℕ) → (v -ℤ a) ≤ℤ pos r → r ≤ m → v ≤ℤ (pos m +ℤ a)
+come_there v a r m le fell = omega (arith, ints, le, fell)
+
+before_one : (t later : ℕ) → t ≤ later → t - 1 ≤ later - 1
+before_one t later le = omega (arith, le)
+
+onward : (v a : ℤ) (r m : ℕ) → v ≤ℤ (pos r +ℤ a) → r ≤ m → v ≤ℤ (pos m +ℤ a)
+onward v a r m le fell = omega (arith, ints, le, fell)
+
+-- what a clock had come to at an earlier time, it had come to before this one
+cleared_by_then : (s : Scenario) (hs : List Happening) (device : DeviceId) (t : ℕ) (node : Node) (x : ℕ) → IsLeft s hs device t node
+    → is_timed node.standing.state ≡ true → node.standing.number ≡ recorded_cycle (earlier t hs) device
+    → is_integration_cycle (earlier t hs) device ≡ true
+    → int_lt (local_at_change s hs device t) (correction_value s.network (recorded_cycle (earlier t hs) device)) ≡ true
+    → ((a b : ℕ) → a ≤ b → s.reading device a ≤ s.reading device b) → x < t
+    → (correction_value s.network node.standing.number -ℤ node.standing.adjustment.0) ≤ℤ pos (s.reading device x) → has_cleared s hs device t t ≡ true
+cleared_by_then s hs device t node x left timed number joining ahead never_falls lt at =
+    let fell = never_falls x (t - 1) (omega (arith, lt)) in
+    let there : correction_value s.network node.standing.number ≤ℤ (pos (s.reading device (t - 1)) +ℤ node.standing.adjustment.0) =
+    come_there (correction_value s.network node.standing.number) node.standing.adjustment.0 (s.reading device x) (s.reading device (t - 1)) at fell in
+    let moved : correction_value s.network (recorded_cycle (earlier t hs) device) ≤ℤ (pos (s.reading device (t - 1)) +ℤ (adjustment_before s hs device t).0) =
+    subst (λ (a : Units). correction_value s.network (recorded_cycle (earlier t hs) device) ≤ℤ (pos (s.reading device (t - 1)) +ℤ a.0)) left.counted.adjustment
+    (subst (λ (n : ℕ). correction_value s.network n ≤ℤ (pos (s.reading device (t - 1)) +ℤ node.standing.adjustment.0)) number there) in
+    and_from _ _ joining (and_from _ _ ahead (int_le-true _ _ moved))
+
+-- what a device has cleared stays so
+pub cleared_on : (s : Scenario) (hs : List Happening) (device : DeviceId) (t later : ℕ) → IsUnmoved s hs device t later → has_cleared s hs device t t ≡ true
+    → has_cleared s hs device later later ≡ true
+cleared_on s hs device t later u did =
+    let joining = and_parts (is_integration_cycle (earlier t hs) device) _ did in
+    let came = and_parts (int_lt (local_at_change s hs device t) (correction_value s.network (recorded_cycle (earlier t hs) device))) _ joining.1 in
+    let there : correction_value s.network (recorded_cycle (earlier t hs) device) ≤ℤ (pos (s.reading device (t - 1)) +ℤ (adjustment_before s hs device t).0) =
+    at_most_is _ _ came.1 in
+    let fell = u.never_falls (t - 1) (later - 1) (before_one t later u.le) in
+    cleared_still s hs device t later later u.le u.still
+    ∙ and_from _ _ joining.0 (and_from _ _ came.0 (int_le-true _ _ (onward _ (adjustment_before s hs device t).0 _ _ there fell)))
+
+-- a device with a next correction point, whose clock had come to it before a time, has a task that was due before it
+pub had_come_before : (s : Scenario) (hs : List Happening) (device : DeviceId) (t later : ℕ) (node : Node) → IsUnmoved s hs device t later
+    → IsLeft s hs device t node → HasDone s hs device t node → is_timed node.standing.state ≡ true
+    → has_cleared s hs device t t ≡ false → has_cleared s hs device later later ≡ true → node.broken ≡ false → HasTaskBy s device node (later - 1)
+had_come_before s hs device t later node u left has timed not_yet cleared sound =
+    let moved : has_cleared s hs device t later ≡ true = sym (cleared_still s hs device t later later u.le u.still) ∙ cleared in
+    let joining = and_parts (is_integration_cycle (earlier t hs) device) _ moved in
+    let came = and_parts (int_lt (local_at_change s hs device t) (correction_value s.network (recorded_cycle (earlier t hs) device))) _ joining.1 in
+    let number : node.standing.number ≡ recorded_cycle (earlier t hs) device = left.counted.number timed
+    ∙ ap (λ (b : Bool). if b then recorded_cycle (earlier t hs) device + 1 else recorded_cycle (earlier t hs) device) not_yet in
+    let ahead : local_at_change s hs device t <ℤ correction_value s.network (recorded_cycle (earlier t hs) device) = less_is _ _ came.0 in
+    let there : correction_value s.network (recorded_cycle (earlier t hs) device) ≤ℤ (pos (s.reading device (later - 1)) +ℤ (adjustment_before s hs device t).0)
+    = at_most_is _ _ came.1 in
+    let v = correction_value s.network node.standing.number in
+    let same : correction_value s.network (recorded_cycle (earlier t hs) device) ≡ v = ap (correction_value s.network) (sym number) in
+    let before : node.changed <ℤ v = subst (λ (z : ℤ). z <ℤ v) (sym left.counted.changed) (subst (λ (z : ℤ). local_at_change s hs device t <ℤ z) same ahead) in
+    let reached : v ≤ℤ (pos (s.reading device (later - 1)) +ℤ node.standing.adjustment.0) =
+    subst (λ (a : Units). v ≤ℤ (pos (s.reading device (later - 1)) +ℤ a.0)) (sym left.counted.adjustment)
+    (subst (λ (z : ℤ). z ≤ℤ (pos (s.reading device (later - 1)) +ℤ (adjustment_before s hs device t).0)) same there) in
+    let own = point_of_timed node.standing.state node.standing.number timed in (
+      doing (correcting node.standing.number),
+      (
+        sound,
+        record {
+          own = own;
+          ahead = before;
+          not_yet = λ did.
+              let x = has.done (correcting node.standing.number) did in
+              both_ways _ not_yet (cleared_by_then s hs device t node x.0 left timed number joining.0 came.0 u.never_falls x.2 x.3);
+        },
+      ),
+      come_back v node.standing.adjustment.0 (s.reading device (later - 1)) (s.reading device (later - 1)) reached (omega arith),
+    )
+
+later_still : (z : ℤ) (r m : ℕ) → z ≤ℤ pos r → r ≤ m → z ≤ℤ pos m
+later_still z r m le fell = omega (arith, ints, le, fell)
+
+had_come_task : (s : Scenario) (hs : List Happening) (device : DeviceId) (t later : ℕ) (node : Node) → IsUnmoved s hs device t later → IsLeft s hs device t node
+    → HasDone s hs device t node → is_timed node.standing.state ≡ true
+    → has_cleared s hs device t t ≡ false → has_cleared s hs device later later ≡ true → node.broken ≡ false → HasTaskBy s device node later
+had_come_task s hs device t later node u left has timed not_yet cleared sound =
+    let x = had_come_before s hs device t later node u left has timed not_yet cleared sound in
+    (x.0, x.1, later_still _ (s.reading device (later - 1)) (s.reading device later) x.2 (u.never_falls (later - 1) later (omega arith)))
+
+-- a device that comes to its correction point has a task that is due
+pub correcting_task : (s : Scenario) (hs : List Happening) (device : DeviceId) (t later : ℕ) (node : Node) (cycle : ℕ) → IsUnmoved s hs device t later
+    → IsLeft s hs device t node → HasDone s hs device t node
+    → IsAtCorrection s hs later device cycle → HasTaskBy s device node later
+correcting_task s hs device t later node cycle u left has c =
+    let point = point_number (state_before s hs device later) (next_cycle s hs device later) cycle c.next in
+    let state : node.standing.state ≡ state_before s hs device later =
+    left.state ∙ not_turned_on s hs device t u.not_on ∙ sym (state_still s hs device t later u.le u.still)
+    ∙ sym (not_turned_on s hs device later u.not_on_later) in
+    let timed : is_timed node.standing.state ≡ true = ap is_timed state ∙ point.0 in
+    let sound = left.counted.broken ∙ sym u.not_broken ∙ c.correct in
+    let here = comes_so s hs device t later node (correction_value s.network cycle) u left c.reached in
+    let as_before : has_cleared s hs device later later ≡ has_cleared s hs device t t → HasTaskBy s device node later = λ flag.
+    let number : node.standing.number ≡ cycle = left.counted.number timed ∙ sym (next_still s hs device t later u.le u.still flag) ∙ point.1 in
+    let own : point_in node.standing.state node.standing.number ≡ Some cycle = point_of_timed node.standing.state node.standing.number timed
+    ∙ ap (λ (n : ℕ). Some n) number in
+    (doing (correcting cycle), (sound, undone_so s hs device t later node (correcting cycle) u.le has own here), here.reached) in
+    elim (cases_Bool (has_cleared s hs device t t)) [
+      | inl did ↦ as_before (cleared_on s hs device t later u did ∙ sym did)
+      | inr not_yet ↦
+          elim (cases_Bool (has_cleared s hs device later later)) [
+            | inl cleared ↦ had_come_task s hs device t later node u left has timed not_yet cleared sound
+            | inr still_not ↦ as_before (still_not ∙ sym not_yet)
+          ]
+    ]

@@ -1,0 +1,387 @@
+-- Where nothing that a world has under way is before a place, and nothing to come, no act of a device that is not worked off
+-- is before it.
+use Rattle.std.proofs.Common.{◌≡◌, ℕ, ◌≤◌, ◌<◌, pos, ◌<ℤ◌, ◌≤ℤ◌, ℤ, Bool, true, false, if◌then◌else◌, List, [], ◌∷◌, ◌++◌, append_assoc, filter_map, length, map, Some, None, inl, inr, refl, sym, ap, subst, ◌∙◌, arith}
+use Rattle.std.specs.List.{after_last}
+use Rattle.std.specs.Option.{option_map_or}
+use Rattle.std.proofs.lemmas.Bool.{cases_Bool, cases_lt}
+use Rattle.std.proofs.lemmas.Int.{ints}
+use Rattle.std.proofs.lemmas.List.{append-nil}
+use Rattle.std.proofs.lemmas.Option.{slice_get_within}
+use Rattle.std.specs.Prelude.{nat_lt}
+use Rattle.compression.specs.Clusters.{AreClusters, Point}
+use Rattle.compression.specs.declared.compressed.Compressed.{Compressed}
+use Rattle.net_plan.specs.Places.{device_at}
+use Rattle.net_plan.specs.declared.ids.DeviceId.{DeviceId}
+use Rattle.net_plan.specs.declared.network.Network.{Network}
+use Rattle.net_plan.specs.declared.tables.Device.{Device}
+use Rattle.net_plan.specs.declared.tables.Role.{Role}
+use Rattle.run_law.proofs.law.FirstPlaces.{in_filter}
+use Rattle.run_law.proofs.runs.Places.{chain, in_left, in_parts, in_right}
+use Rattle.run_law.specs.device.LocalClocks.{changed_at}
+use Rattle.run_law.specs.control.Collections.{ends_stretch, point_by, points_of, observation_window}
+use Rattle.run_law.specs.control.Corrections.{next_cycle}
+use Rattle.run_law.specs.scenario.Devices.{has_role, start_of}
+use Rattle.run_law.specs.control.Emissions.{Emits}
+use Rattle.run_law.specs.records.Happenings.{Happening, earlier, happenings, time_of}
+use Rattle.run_law.specs.machines.Nodes.{Node}
+use Rattle.run_law.specs.records.Order.{IsBefore, IsIn}
+use Rattle.run_law.specs.records.Ranks.{place_of, rank}
+use Rattle.run_law.specs.scenario.Scenarios.{Scenario, is_broken, is_turned_on_at}
+use Rattle.run_law.specs.device.States.{state_after, state_before, state_with}
+use Rattle.run_law.specs.machines.Tasks.{emitting, reading_for}
+use Rattle.run_law.specs.declared.judgement.Judgement.{Judgement}
+use Rattle.run_law.specs.declared.judgement.Why.TheVariants.{On}
+use Rattle.run_law.specs.declared.note.Note.{Note}
+use Rattle.run_law.specs.declared.note.NoteBody.TheVariants as notes
+use Rattle.run_law.specs.declared.note.NoteBody.{NoteBody}
+use Rattle.sync_state.specs.Standing.{next_point, point_in, state_at_start}
+use Rattle.sync_state.specs.declared.state.State.TheVariants.{Integrating, Off, Synchronised}
+use Rattle.sync_state.specs.declared.state.State.{State}
+use Rattle.world_law.proofs.acts.Acting.{IsUnmoved, correcting_task, sending_task}
+use Rattle.world_law.proofs.devices.Deeds.{rests}
+use Rattle.world_law.proofs.devices.OwnRecords.{keeps_state}
+use Rattle.world_law.proofs.devices.Resting.{IsPast, IsWorked, are_past, at_rest}
+use Rattle.world_law.proofs.devices.TurnedOn.{IsQuiet, quiet_rest}
+use Rattle.world_law.proofs.giving.Given.{no_later_breaks}
+use Rattle.world_law.proofs.lists.Lists.{behind_no, map_none}
+use Rattle.world_law.proofs.lists.Orders.{cases_int}
+use Rattle.world_law.proofs.putting.StandsOn.{in_mapped}
+use Rattle.world_law.proofs.rows.Dispatching.{IsLawful, dispatching_task, lawful}
+use Rattle.world_law.proofs.runs.Foremost.{NoActBefore, acting_task, none_but_acts, not_on_after}
+use Rattle.world_law.proofs.runs.SourcesBack.{dispatches_back, earlier_still, reaches_back, standing_in, up_back}
+use Rattle.world_law.specs.device.Deeds.{HasDoneFrom}
+use Rattle.world_law.specs.device.Left.{HasDone, HasSent, HasTaskBy, IsLeft}
+use Rattle.world_law.specs.device.Own.{moves}
+use Rattle.world_law.specs.device.Takings.{frames_taken}
+use Rattle.world_law.specs.source.Sources.{IsActing}
+use Rattle.world_law.specs.world.Steps.{NothingBefore, NothingComesBefore}
+use Rattle.world_law.specs.world.World.{AreOfNetwork, HaveBefallen, IsHeld, IsKept, Stands, World, act_place, hidden, hidden_body, is_turning}
+
+-- ---- records behind the acts of their instant, which leave the device at rest, do not change its points
+
+unmoved_stretch : (device : DeviceId) (body : NoteBody) → moves device body ≡ false → ends_stretch device body ≡ false
+unmoved_stretch device (notes.State other state cause On) e = refl
+unmoved_stretch device (notes.State other state cause why) e = e
+unmoved_stretch device (notes.Corrected other cycle by adjustment) e = refl
+unmoved_stretch device other e = e
+
+turning_stretch : (device : DeviceId) (body : NoteBody) → is_turning device body ≡ true → ends_stretch device body ≡ false
+turning_stretch device (notes.State other Integrating cause On) e = refl
+turning_stretch device other e = absurd cc
+
+quiet_stretch : (device : DeviceId) (body : NoteBody) → IsQuiet device body → ends_stretch device body ≡ false
+quiet_stretch device body (inl e) = unmoved_stretch device body e
+quiet_stretch device body (inr e) = turning_stretch device body e
+
+no_point : (device : DeviceId) (z : Happening) (body : NoteBody) → 4 ≤ rank body → point_by device z body ≡ None
+no_point device z (notes.Permanent other link cause point verdict) high = absurd (omega (arith, high))
+no_point device z other high = refl
+
+points_same : (zs hs : List Happening) (device : DeviceId) → ((z : Happening) → IsIn z zs → IsQuiet device z.note.body × (4 ≤ rank z.note.body))
+    → points_of (hs ++ zs) device ≡ points_of hs device
+points_same [] hs device quiet = ap (λ (l : List Happening). points_of l device) (append-nil hs)
+points_same (z ∷ zs) hs device quiet =
+    let at = quiet z (inl refl) in
+    let f = λ (h : Happening). point_by device h h.note.body in
+    let p = λ (h : Happening). ends_stretch device h.note.body in
+    ap (λ (l : List Happening). points_of l device) (sym (append_assoc hs (z ∷ []) zs))
+    ∙ points_same zs (hs ++ z ∷ []) device (λ y i. quiet y (inr i))
+    ∙ ap (filter_map f) (behind_no p hs z (quiet_stretch device z.note.body at.0))
+    ∙ map_none f (after_last p hs) z (no_point device z z.note.body at.1)
+
+-- ---- a device that the network does not have does nothing
+
+no_device : (network : Network) (device : DeviceId) (is : Device) → length network.device ≤ device.0 → device_at network device ≡ Some is → ⊥
+no_device network device is le there = let lt = slice_get_within network.device device.0 is there in omega (arith, lt, le)
+
+no_role : (network : Network) (kind : Role → Bool) (device : DeviceId) → length network.device ≤ device.0 → has_role network kind device ≡ true → ⊥
+no_role network kind device le = from (device_at network device) refl
+  where
+    from : (o : _) → device_at network device ≡ o → option_map_or (λ d. kind d.role) (device_at network device) false ≡ true → ⊥
+    from None e has = let bad : false ≡ true = sym (ap (λ (p : _). option_map_or (λ d. kind d.role) p false) e) ∙ has in cc
+    from (Some is) e has = no_device network device is le e
+
+off_of_none : (network : Network) (device : DeviceId) → length network.device ≤ device.0 → state_at_start (start_of network device) ≡ Off
+off_of_none network device le = from (device_at network device) refl
+  where
+    from : (o : _) → device_at network device ≡ o → state_at_start (start_of network device) ≡ Off
+    from None e = ap (λ (p : _). state_at_start (Rattle.std.specs.Prelude.option_and_then (λ (d : Device). d.start) p)) e
+    from (Some is) e = absurd (no_device network device is le e)
+
+never_moved : (device : DeviceId) (old : State) (hs : List Happening) → ((h : Happening) → IsIn h hs → moves device h.note.body ≡ false)
+    → Rattle.std.specs.Prelude.fold (λ state h. state_with device state h.note.body) old hs ≡ old
+never_moved device old [] still = refl
+never_moved device old (h ∷ hs) still =
+    ap (λ (z : State). Rattle.std.specs.Prelude.fold (λ state g. state_with device state g.note.body) z hs)
+    (keeps_state device old h.note.body (still h (inl refl))) ∙ never_moved device old hs (λ g i. still g (inr i))
+
+state_of_none : (s : Scenario) (hs : List Happening) (device : DeviceId) (t : ℕ) → length s.network.device ≤ device.0 → AreOfNetwork s hs
+    → state_before s hs device t ≡ Off
+state_of_none s hs device t le known =
+    ap (λ (b : Bool). if b then Integrating else state_after s (earlier t hs) device) (known.never_on device le t)
+    ∙ never_moved device (state_at_start (start_of s.network device)) (earlier t hs)
+    (λ h i. known.unmoved device le h (in_filter (λ g. nat_lt (time_of g) t) hs h i))
+    ∙ off_of_none s.network device le
+
+pub none_acts : (s : Scenario) (hs : List Happening) (device : DeviceId) (t : ℕ) → length s.network.device ≤ device.0 → AreOfNetwork s hs
+    → IsActing s hs t device → ⊥
+none_acts s hs device t le known (IsActing.sending cycle d) = no_role s.network _ device le d.master
+none_acts s hs device t le known (IsActing.emitting sent verdict e) = no_role s.network _ device le e.cm
+none_acts s hs device t le known (IsActing.correcting cycle c) =
+    let none : None ≡ Some cycle = sym (ap (λ (z : State). point_in z (next_cycle s hs device t)) (state_of_none s hs device t le known)) ∙ c.next in cc
+none_acts s hs device t le known (IsActing.dispatching link cause vl cycle d) =
+    let bad : Off ≡ Synchronised = sym (state_of_none s hs device t le known) ∙ d.up.synchronised in cc
+
+-- ---- nor does a broken one
+
+pub broken_acts : (s : Scenario) (hs : List Happening) (device : DeviceId) (t : ℕ) → is_broken s device t ≡ true → IsActing s hs t device → ⊥
+broken_acts s hs device t broken (IsActing.sending cycle d) = let bad : true ≡ false = sym broken ∙ d.up.correct in cc
+broken_acts s hs device t broken (IsActing.emitting sent verdict e) = let bad : true ≡ false = sym broken ∙ e.correct in cc
+broken_acts s hs device t broken (IsActing.correcting cycle c) = let bad : true ≡ false = sym broken ∙ c.correct in cc
+broken_acts s hs device t broken (IsActing.dispatching link cause vl cycle d) = let bad : true ≡ false = sym broken ∙ d.up.correct in cc
+
+-- ---- and one that looks for the common time acts only by emissions
+
+looking_acts : (s : Scenario) (hs : List Happening) (device : DeviceId) (t : ℕ) → state_before s hs device t ≡ Integrating → IsActing s hs t device
+    → (sent : Compressed) × (verdict : Judgement) × Emits s hs device t sent verdict
+looking_acts s hs device t looking (IsActing.emitting sent verdict e) = (sent, verdict, e)
+looking_acts s hs device t looking (IsActing.sending cycle d) = absurd (let bad : Integrating ≡ Synchronised = sym looking ∙ d.up.synchronised in cc)
+looking_acts s hs device t looking (IsActing.correcting cycle c) =
+    absurd (let none : None ≡ Some cycle = sym (ap (λ (z : State). point_in z (next_cycle s hs device t)) looking) ∙ c.next in cc)
+looking_acts s hs device t looking (IsActing.dispatching link cause vl cycle d) =
+    absurd (let bad : Integrating ≡ Synchronised = sym looking ∙ d.up.synchronised in cc)
+
+-- ---- at the present instant, what acts by the records given is a task, where what is to come leaves the device at rest
+
+never_both : (a b : ℤ) → a <ℤ b → b ≤ℤ a → ⊥
+never_both a b lt le = omega (arith, ints, lt, le)
+
+emission_now : (s : Scenario) (hs zs : List Happening) (device : DeviceId) (t : ℕ) (node : Node) (sent : Compressed) (verdict : Judgement)
+    → points_of (hs ++ zs) device ≡ points_of hs device → IsLeft s (hs ++ zs) device t node → HasSent s device t node → Emits s hs device t sent verdict
+    → HasTaskBy s device node t
+emission_now s hs zs device t node sent verdict same left has e = (
+  emitting sent,
+  (
+    left.counted.broken ∙ e.correct,
+    record {
+      cm = e.cm;
+      clusters = e.clusters;
+      are = subst (λ (ps : List Point). AreClusters (observation_window s.network) ps e.clusters) (sym (left.points e.cm ∙ same)) e.are;
+      cluster = e.cluster;
+      there = e.there;
+      is = e.is;
+      not_yet = λ there. let x = has.sent sent there in never_both _ _ (e.reached.not_before x.0 (omega (arith, ints)) (omega (arith, ints, x.1))) x.2;
+    },
+  ),
+  e.reached.reached,
+)
+
+-- the device is not turned on at the time, so its state is that of the records before
+deeds_now : (s : Scenario) (hs zs : List Happening) (device : DeviceId) (t : ℕ) (node : Node) → IsLawful s (hs ++ zs) device
+    → ((h : Happening) → IsIn h (hs ++ zs) → time_of h ≤ t) → node.taken ≡ frames_taken s (hs ++ zs) device → earlier t (hs ++ zs) ≡ earlier t hs
+    → points_of (hs ++ zs) device ≡ points_of hs device → ((x y : ℕ) → x ≤ y → s.reading device x ≤ s.reading device y)
+    → is_turned_on_at s device t ≡ false → IsLeft s (hs ++ zs) device t node → HasDone s (hs ++ zs) device t node → HasSent s device t node
+    → IsActing s hs t device → HasTaskBy s device node t
+deeds_now s hs zs device t node law past taken same points falls off left done sent a =
+    let js = hs ++ zs in
+    let u : IsUnmoved s js device t t = record {
+      le = omega arith;
+      still = λ h i from lt. absurd (omega (arith, from, lt));
+      not_on = off;
+      not_on_later = off;
+      not_broken = refl;
+      never_falls = falls;
+    } in
+    let back = sym same in
+    from u back a
+  where
+    from : IsUnmoved s (hs ++ zs) device t t → earlier t hs ≡ earlier t (hs ++ zs) → IsActing s hs t device → HasTaskBy s device node t
+    from u back (IsActing.emitting emission verdict e) = emission_now s hs zs device t node emission verdict points left sent e
+    from u back (IsActing.sending cycle d) =
+        sending_task s (hs ++ zs) device t t node cycle u left done
+        (record {
+          master = d.master;
+          up = up_back s hs (hs ++ zs) t device back d.up;
+          begun = d.begun;
+          reached = reaches_back s hs (hs ++ zs) t device _
+              back d.reached;
+        })
+    from u back (IsActing.correcting cycle c) =
+        correcting_task s (hs ++ zs) device t t node cycle u left done
+        (record {
+          next = subst (λ (w : List Happening). next_point (standing_in s device t w) ≡ Some cycle) back c.next;
+          reached = reaches_back s hs (hs ++ zs)
+              t device _ back c.reached;
+          correct = c.correct;
+        })
+    from u back (IsActing.dispatching link cause vl cycle d) =
+        dispatching_task s (hs ++ zs) device t t node link cause vl cycle u left done law past taken
+        (dispatches_back s hs (hs ++ zs) t device link cause vl cycle back d)
+
+-- ---- a device that is kept
+
+hidden_rank : (given : ℕ) (body : NoteBody) → rank (hidden_body given body) ≡ rank body
+hidden_rank given (notes.State device state cause why) = refl
+hidden_rank given other = refl
+
+earlier_act : (now t : ℕ) (device : DeviceId) (p : List ℕ) → now ≤ t → IsBefore (act_place t device) p → IsBefore (act_place now device) p
+earlier_act now t device p le b = elim (cases_lt now t) [
+  | inl lt ↦ chain (act_place now device) (act_place t device) p (inl lt) b
+  | inr ge ↦ let same : t ≡ now = omega (arith, ge, le) in subst (λ (n : ℕ). IsBefore (act_place n device) p) same b
+]
+
+-- what is looked at: a task of the device is not due before the place
+abbrev IsIdleBefore : Scenario → DeviceId → ℕ → Node → List ℕ → Type 0
+IsIdleBefore s device now node p = (t : ℕ) → now ≤ t → HasTaskBy s device node t → IsBefore (act_place t device) p → ⊥
+
+-- and what is to come is behind all acts of the instant that are before it
+pub record IsBehind (coming : List Happening) (now : ℕ) (p : List ℕ) : Type 0 where
+  pub of_now : (z : Happening) → IsIn z coming → time_of z ≡ now
+  pub late : (z : Happening) → IsIn z coming → (device : DeviceId) → IsBefore (act_place now device) p → 4 ≤ rank z.note.body
+  pub none : (t : ℕ) (device : DeviceId) → now < t → IsBefore (act_place t device) p → coming ≡ []
+
+act_now : {M : Type 0} (stands : M → Network → DeviceId → Node → Type 0) (s : Scenario) (hs coming : List Happening) (cursor p : List ℕ) (now : ℕ)
+    (device : DeviceId) (machine : M) (k : IsKept stands s hs coming cursor now device machine) → IsLawful s (hs ++ coming) device → IsBehind coming now p
+    → IsPast hs now → k.up ≡ now → k.high ≡ now → IsActing s hs now device → IsBefore (act_place now device) p → HasTaskBy s device k.node now
+act_now stands s hs coming cursor p now device machine k law behind_it past up high a b =
+    let js = hs ++ coming in
+    let past_all : (h : Happening) → IsIn h js → time_of h ≤ now = λ h i. elim (in_parts h hs coming i) [
+      | inl given ↦ past.past h given
+      | inr fresh ↦ let at = behind_it.of_now h fresh in omega (arith, at)
+    ] in
+    let same : earlier now js ≡ earlier now hs = earlier_still now hs coming (λ z i. let at = behind_it.of_now z i in omega (arith, at)) in
+    let points : points_of js device ≡ points_of hs device = points_same coming hs device
+    (λ z i. (quiet_rest s device now z.note.body (k.still up z (in_right z hs coming i) (behind_it.of_now z i)), behind_it.late z i device b)) in
+    let left : IsLeft s js device now k.node = subst (λ (n : ℕ). IsLeft s js device n k.node) up k.left in
+    let done : HasDoneFrom s.network (s.reading device) device k.node (changed_at js device now) now now =
+    subst (λ (n : ℕ). HasDoneFrom s.network (s.reading device) device k.node (changed_at js device now) now n) high
+    (subst (λ (n : ℕ). HasDoneFrom s.network (s.reading device) device k.node (changed_at js device n) n k.high) up k.done) in
+    let has = rests s js device now (changed_at js device now) k.node done refl in
+    let sent : HasSent s device now k.node = record {
+      unsent = λ c w x lt. k.sent.unsent c w x (omega (arith, lt, up));
+      sent = λ c there_is. let x = k.sent.sent c there_is in (x.0, omega (arith, x.1, high), x.2);
+    } in
+    elim (cases_Bool (is_turned_on_at s device now)) [
+      | inr off ↦ deeds_now s hs coming device now k.node law past_all k.taken same points law.steady.never_falls off left has sent a
+      | inl on ↦
+          let e = looking_acts s hs device now (ap (λ (c : Bool). if c then Integrating else state_after s (earlier now hs) device) on) a in
+          emission_now s hs coming device now k.node e.0 e.1 points left sent e.2
+    ]
+
+pub kept_no_act : {M : Type 0} (stands : M → Network → DeviceId → Node → Type 0) (s : Scenario) (hs coming : List Happening) (mark cursor p : List ℕ)
+    (now t : ℕ) (device : DeviceId) (machine : M) (k : IsKept stands s hs coming cursor now device machine)
+    → IsLawful s (hs ++ coming) device → IsBehind coming now p → IsPast hs now → (IsBefore (now ∷ 2 ∷ []) p → IsWorked hs cursor now) → HaveBefallen s mark now
+    → now ≤ t → IsIdleBefore s device now k.node p → IsActing s hs t device
+    → (IsBefore (act_place t device) cursor → ⊥) → IsBefore (act_place t device) p → ⊥
+kept_no_act {M} stands s hs coming mark cursor p now t device machine k law behind_it past worked befallen le idle a not b =
+    elim (cases_lt now t) [
+      | inr ge ↦ let same : t ≡ now =
+          omega (arith, ge, le) in at_once (subst (λ (n : ℕ). IsActing s hs n device) same a)
+          (subst (λ (n : ℕ). IsBefore (act_place n device) cursor → ⊥) same not) (subst (λ (n : ℕ). IsBefore (act_place n device) p) same b)
+      | inl lt ↦
+          let empty = behind_it.none t device lt b in
+          let k0 : (x : IsKept stands s hs [] cursor now device machine)
+          × (x.node ≡ k.node) = subst (λ (l : List Happening). (x : IsKept stands s hs l cursor now device machine) × (x.node ≡ k.node)) empty (k, refl)
+          in
+          let idle0 : IsIdleBefore s device now k0.0.node p = subst (λ (n : Node). IsIdleBefore s device now n p) (sym k0.1) idle in
+          let law0 : IsLawful s hs device = subst (λ (l : List Happening). IsLawful s l device)
+          (ap (λ (l : List Happening). hs ++ l) empty ∙ append-nil hs) law in
+          afterwards lt k0.0 idle0 law0
+    ]
+  where
+    at_once : IsActing s hs now device → (IsBefore (act_place now device) cursor → ⊥) → IsBefore (act_place now device) p → ⊥
+    at_once a not b = elim k.doing [
+      | inr d ↦ idle now (omega arith) d.3 b
+      | inl rested ↦ elim k.acted [
+        | inl yet ↦ idle now (omega arith) (act_now stands s hs coming cursor p now device machine k law behind_it past yet.0 (rested ∙ yet.0) a b) b
+        | inr done ↦ elim (k.told done.0) [
+          | inl gone ↦ not gone
+          | inr just ↦
+              let same : earlier now (hs ++ coming) ≡ earlier now hs = earlier_still now hs coming (λ z i. let at = behind_it.of_now z i in omega (arith, at))
+              in
+              let looking : state_before s hs device now ≡ Integrating = ap (λ (w : List Happening). if is_turned_on_at s device now then Integrating
+              else state_after s w device) (sym same) ∙ just.looking in
+              let e = looking_acts s hs device now looking a in
+              let bad : true ≡ false = sym e.2.cm ∙ just.other in cc
+        ]
+      ]
+    ]
+
+    afterwards : now < t → (k0 : IsKept stands s hs [] cursor now device machine) → IsIdleBefore s device now k0.node p → IsLawful s hs device → ⊥
+    afterwards lt k0 idle0 law0 =
+        let rest = at_rest stands s hs mark cursor now device machine k0 befallen past (worked (chain (now ∷ 2 ∷ []) (act_place t device) p (inl lt) b))
+        (λ task pending. elim (cases_int (pos (s.reading device now)) (reading_for s.network k0.node task)) [
+          | inl less ↦ less
+          | inr ge ↦ absurd (idle0 now (omega arith) (task, pending, ge) (earlier_act now t device p le b))
+        ]) in
+        let few = rest.soon in
+        let u : IsUnmoved s hs device rest.from t = record {
+          le = omega (arith, few, lt);
+          still = λ h i from before. rest.still h i from;
+          not_on = rest.off;
+          not_on_later = not_on_after s mark now t device befallen lt;
+          not_broken = no_later_breaks s mark now t device befallen le ∙ sym (no_later_breaks s mark now rest.from device befallen rest.le);
+          never_falls = law0.steady.never_falls;
+        } in
+        let taken = k0.taken ∙ ap (λ (l : List Happening). frames_taken s l device) (append-nil hs) in
+        idle0 t le (acting_task s hs device rest.from t k0.node u rest.left rest.done rest.sent
+        (λ link cause vl cycle d. dispatching_task s hs device rest.from t k0.node link cause vl cycle u rest.left rest.done law0
+        (λ h i. let early = past.past h i in omega (arith, early, le)) taken d) a) b
+
+-- ---- all devices
+
+behind_of : (given : ℕ) (coming settled : List Happening) (now : ℕ) (p : List ℕ) → settled ≡ map (hidden given) coming
+    → ((z : Happening) → IsIn z coming → time_of z ≡ now) → ((z : Happening) → IsIn z settled → IsBefore (place_of z) p → ⊥) → IsBehind coming now p
+behind_of given coming settled now p shows of after =
+    let seen : (z : Happening) → IsIn z coming → IsBefore (place_of (hidden given z)) p
+    → ⊥ = λ z i. after (hidden given z) (subst (λ (l : List Happening). IsIn (hidden given z) l) (sym shows) (in_mapped (hidden given) coming z i)) in
+    record {
+      of_now = of;
+      late = λ z i device b. elim (cases_lt (rank z.note.body) 4) [
+        | inr ge ↦ ge
+        | inl low ↦
+            let at = of z i in
+            let same = hidden_rank given z.note.body in
+            absurd (seen z i (chain (place_of (hidden given z)) (act_place now device) p (inr (at, inl (omega (arith, low, same)))) b))
+      ];
+      none = λ t device lt b. from t device lt b coming of seen;
+    }
+  where
+    from : (t : ℕ) (device : DeviceId) → now < t → IsBefore (act_place t device) p → (l : List Happening) → ((z : Happening) → IsIn z l → time_of z ≡ now)
+        → ((z : Happening) → IsIn z l → IsBefore (place_of (hidden given z)) p → ⊥) → l ≡ []
+    from t device lt b [] of_l seen = refl
+    from t device lt b (z ∷ l) of_l seen =
+        let at = of_l z (inl refl) in absurd (seen z (inl refl) (chain (place_of (hidden given z)) (act_place t device) p (inl (omega (arith, lt, at))) b))
+
+held_no_act : {M : Type 0} (stands : M → Network → DeviceId → Node → Type 0) (s : Scenario) (hs coming : List Happening) (mark cursor p : List ℕ) (now t : ℕ)
+    (device : DeviceId) (machine : M) → IsHeld stands s hs coming cursor now device machine
+    → IsLawful s (hs ++ coming) device → IsBehind coming now p → IsPast hs now → (IsBefore (now ∷ 2 ∷ []) p → IsWorked hs cursor now) → HaveBefallen s mark now
+    → now ≤ t → ((node : Node) → stands machine s.network device node → IsIdleBefore s device now node p)
+    → IsActing s hs t device → (IsBefore (act_place t device) cursor → ⊥) → IsBefore (act_place t device) p → ⊥
+held_no_act stands s hs coming mark cursor p now t device machine (inl k) law behind_it past worked befallen le idle a not b =
+    kept_no_act stands s hs coming mark cursor p now t device machine k law behind_it past worked befallen le (idle k.node k.is) a not b
+held_no_act stands s hs coming mark cursor p now t device machine (inr k) law behind_it past worked befallen le idle a not b =
+    broken_acts s hs device t (no_later_breaks s mark now t device befallen le ∙ k.broken) a
+
+no_acts : {C M : Type 0} (reading : C → ℕ → ℕ) (stands : M → Network → DeviceId → Node → Type 0) (s : Scenario) (world : World C M) (notes : List Note)
+    (p : List ℕ) (old : Stands reading stands s world notes)
+    → ((z : Happening) → IsIn z world.settled → IsBefore (place_of z) p → ⊥) → NothingBefore stands s world p
+    → NoActBefore s (happenings s.network notes) old.cursor p
+no_acts reading stands s world notes p old after none t device a not b =
+    let hs = happenings s.network notes in
+    let over : (q : List ℕ) → IsBefore q (world.now ∷ []) → IsBefore q old.cursor = λ q x. old.ahead q (old.of_now q x) in
+    let le : world.now ≤ t = elim (cases_lt t world.now) [ inl lt ↦ absurd (not (over (act_place t device) (inl lt))) | inr ge ↦ ge ] in
+    elim (cases_lt device.0 (length s.network.device)) [
+      | inl lt ↦
+          let m = old.devices device lt in
+          held_no_act stands s hs old.coming old.mark old.cursor p world.now t device m.0 m.2 (lawful reading stands s world notes old device)
+          (behind_of (length notes) old.coming world.settled world.now p old.settled old.are.of_now after) (are_past reading stands s world notes old)
+          (λ two. elim (cases_Bool world.pending) [ inr told ↦ old.untold.done told | inl open_ ↦ absurd (none.befell open_ two) ]) old.befallen le
+          (λ node is u from task. none.acting device m.0 node task.0 m.1 is task.1 u from task.2) a not b
+      | inr ge ↦ none_acts s hs device t ge
+          (record { unmoved = λ d far h i. old.known.unmoved d far h (in_left h hs old.coming i); never_on = old.known.never_on }) a
+    ]
+
+pub nothing_comes_before : {C M : Type 0} (reading : C → ℕ → ℕ) (stands : M → Network → DeviceId → Node → Type 0) → NothingComesBefore reading stands
+nothing_comes_before {C} {M} reading stands s world notes p old after none w source not b =
+    none_but_acts reading stands s world notes p old none (no_acts reading stands s world notes p old after none) w source not b

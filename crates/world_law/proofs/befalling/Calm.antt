@@ -1,0 +1,148 @@
+-- The record of what comes of an event leaves a device as it was, but for its state.
+use Rattle.std.proofs.Common.{◌≡◌, ℕ, ◌≤◌, Bool, true, false, not, ◌||◌, ◌&&◌, if◌then◌else◌, List, [], ◌∷◌, ◌++◌, Option, None, IfSome, filter, filter_map, fold, inl, inr, refl, sym, ap, subst, ◌∙◌, append_assoc}
+use Rattle.std.specs.Prelude.{nat_le, nat_lt}
+use Rattle.std.specs.List.{after_last}
+use Rattle.std.proofs.lemmas.Bool.{cases_Bool}
+use Rattle.std.proofs.lemmas.List.{append-nil}
+use Rattle.std.proofs.lemmas.List.Sums.{fold-append}
+use Rattle.net_plan.specs.declared.ids.DeviceId.{DeviceId}
+use Rattle.net_plan.specs.declared.network.Network.{Network}
+use Rattle.run_law.specs.control.Collections.{ends_stretch, point_by, points_of}
+use Rattle.run_law.specs.control.Corrections.{heard_since, hearing_by, integration_cycle, recorded_cycle}
+use Rattle.run_law.specs.declared.judgement.Why.TheVariants.{On}
+use Rattle.run_law.specs.declared.note.NoteBody.TheVariants as notes
+use Rattle.run_law.specs.declared.note.NoteBody.{NoteBody}
+use Rattle.run_law.specs.device.LocalClocks.{changes_adjustment}
+use Rattle.run_law.specs.device.States.{adjustment_after, adjustment_with, cycle_in, is_joined_by, state_after, state_with}
+use Rattle.run_law.specs.machines.Nodes.{Node}
+use Rattle.run_law.specs.records.Happenings.{Happening, earlier, time_of, up_to}
+use Rattle.run_law.specs.records.Order.{IsIn}
+use Rattle.run_law.specs.scenario.Scenarios.{Scenario, is_turned_on_at}
+use Rattle.sync_state.specs.declared.state.State.TheVariants.{Integrating}
+use Rattle.sync_state.specs.declared.state.State.{State}
+use Rattle.tte_units.specs.declared.units.Units.{Units}
+use Rattle.world_law.proofs.devices.OwnRecords.{keeps_adjustment, keeps_state, same_before}
+use Rattle.world_law.proofs.lists.Lists.{behind_no, filter_no, filter_yes, map_none}
+use Rattle.world_law.specs.device.Left.{IsLeft}
+use Rattle.world_law.specs.device.Own.{moves}
+use Rattle.world_law.specs.device.Told.{cleared_in, local_in, next_in}
+
+-- is it the record that a device was turned on, or that what was sent met a cut way?
+abbrev pub is_calm : NoteBody → Bool
+is_calm (notes.State device Integrating cause On) = true
+is_calm (notes.Lost device link cause) = true
+is_calm other = false
+
+calm_changes : (device : DeviceId) (body : NoteBody) → is_calm body ≡ true → changes_adjustment device body ≡ false
+calm_changes device (notes.State other Integrating cause On) e = refl
+calm_changes device (notes.Lost other link cause) e = refl
+calm_changes device other e = absurd cc
+
+calm_ends : (device : DeviceId) (body : NoteBody) → is_calm body ≡ true → ends_stretch device body ≡ false
+calm_ends device (notes.State other Integrating cause On) e = refl
+calm_ends device (notes.Lost other link cause) e = refl
+calm_ends device other e = absurd cc
+
+calm_point : (device : DeviceId) (h : Happening) (body : NoteBody) → is_calm body ≡ true → point_by device h body ≡ None
+calm_point device h (notes.State other Integrating cause On) e = refl
+calm_point device h (notes.Lost other link cause) e = refl
+calm_point device h other e = absurd cc
+
+calm_hears : (network : Network) (device : DeviceId) (h : Happening) (body : NoteBody) → is_calm body ≡ true → hearing_by network device h body ≡ None
+calm_hears network device h (notes.State other Integrating cause On) e = refl
+calm_hears network device h (notes.Lost other link cause) e = refl
+calm_hears network device h other e = absurd cc
+
+pub calm_joins : (device : DeviceId) (body : NoteBody) → is_calm body ≡ true → is_joined_by device body ≡ false
+calm_joins device (notes.State other Integrating cause On) e = refl
+calm_joins device (notes.Lost other link cause) e = refl
+calm_joins device other e = absurd cc
+
+-- ---- a node
+
+filtered_none : {X Y : Type 0} (f : X → Option Y) (k : X → Bool) (xs : List X) (x : X) → f x ≡ None
+    → filter_map f (filter k (xs ++ x ∷ [])) ≡ filter_map f (filter k xs)
+filtered_none f k xs x e =
+    elim (cases_Bool (k x)) [
+      | inl kept ↦ ap (filter_map f) (filter_yes k xs x kept) ∙ map_none f (filter k xs) x e
+      | inr lost ↦ ap (filter_map f) (filter_no k xs x lost)
+    ]
+
+heard_calm : (s : Scenario) (hs : List Happening) (z : Happening) (device : DeviceId) (t : ℕ) → t ≤ time_of z → is_calm z.note.body ≡ true
+    → heard_since s (hs ++ z ∷ []) device t ≡ heard_since s hs device t
+heard_calm s hs z device t late calm =
+    let f = λ (h : Happening). hearing_by s.network device h h.note.body in
+    let k = λ (w : List Happening) (h : Happening). not (cleared_in s device w t) || cleared_in s device w (time_of h) in
+    let p = λ (h : Happening). nat_lt (time_of h) t && changes_adjustment device h.note.body in
+    let none : p z ≡ false = both_no (nat_lt (time_of z) t) (changes_adjustment device z.note.body) (calm_changes device z.note.body calm) in
+    ap (λ (l : List Happening). filter_map f (filter (k (earlier t (hs ++ z ∷ []))) l)) (behind_no p hs z none)
+    ∙ ap (λ (w : List Happening). filter_map f (filter (k w) (after_last p hs ++ z ∷ []))) (same_before t hs z late)
+    ∙ filtered_none f (k (earlier t hs)) (after_last p hs) z (calm_hears s.network device z z.note.body calm)
+  where
+    both_no : (a b : Bool) → b ≡ false → (a && b) ≡ false
+    both_no true b e = e
+    both_no false b e = refl
+
+points_calm : (hs : List Happening) (z : Happening) (device : DeviceId) → is_calm z.note.body ≡ true → points_of (hs ++ z ∷ []) device ≡ points_of hs device
+points_calm hs z device calm =
+    let f = λ (h : Happening). point_by device h h.note.body in
+    let q = λ (h : Happening). ends_stretch device h.note.body in
+    ap (filter_map f) (behind_no q hs z (calm_ends device z.note.body calm)) ∙ map_none f (after_last q hs) z (calm_point device z z.note.body calm)
+
+-- what stood for the records before does so with such a record of the time, or of a later one
+left_calm : (s : Scenario) (hs : List Happening) (z : Happening) (device : DeviceId) (t : ℕ) (node : Node) → t ≤ time_of z → is_calm z.note.body ≡ true
+    → IsLeft s hs device t node → IsLeft s (hs ++ z ∷ []) device t node
+left_calm s hs z device t node late calm left =
+    let back : earlier t hs ≡ earlier t (hs ++ z ∷ []) = sym (same_before t hs z late) in
+    let c = left.counted in
+    record {
+      counted = record {
+        plan = c.plan;
+        adjustment = c.adjustment ∙ ap (λ (l : List Happening). adjustment_after s l device) back;
+        integrated = c.integrated ∙ ap (λ (l : List Happening). integration_cycle l device) back;
+        number = λ timed. c.number timed ∙ ap (λ (l : List Happening). next_in s device l t) back;
+        changed = c.changed ∙ ap (λ (l : List Happening). local_in s device l) back;
+        heard = λ timed. c.heard timed ∙ sym (heard_calm s hs z device t late calm);
+        started =
+            subst (λ (l : List Happening). IfSome (integration_cycle l device) (λ cycle. cycle ≤ recorded_cycle l device)) back c.started;
+        broken = c.broken;
+      };
+      state = left.state ∙ ap (λ (l : List Happening). if is_turned_on_at s device t then Integrating else state_after s l device) back;
+      points = λ cm. left.points cm ∙ sym (points_calm hs z device calm);
+    }
+
+-- the same with such records one after the other
+pub left_all_calm : (s : Scenario) (hs zs : List Happening) (device : DeviceId) (t : ℕ) (node : Node) → ((z : Happening) → IsIn z zs → t ≤ time_of z)
+    → ((z : Happening) → IsIn z zs → is_calm z.note.body ≡ true) → IsLeft s hs device t node → IsLeft s (hs ++ zs) device t node
+left_all_calm s hs [] device t node late calm left = subst (λ (l : List Happening). IsLeft s l device t node) (sym (append-nil hs)) left
+left_all_calm s hs (z ∷ zs) device t node late calm left =
+    subst (λ (l : List Happening). IsLeft s l device t node) (append_assoc hs (z ∷ []) zs)
+    (left_all_calm s (hs ++ z ∷ []) zs device t node (λ y i. late y (inr i)) (λ y i. calm y (inr i))
+    (left_calm s hs z device t node (late z (inl refl)) (calm z (inl refl)) left))
+
+-- ---- folds up to a time
+
+fold_up : {B : Type 0} (f : B → Happening → B) (b : B) (now : ℕ) (hs zs : List Happening) → ((z : Happening) → IsIn z zs → (y : B) → f y z ≡ y)
+    → fold f b (up_to now (hs ++ zs)) ≡ fold f b (up_to now hs)
+fold_up f b now hs [] none = ap (λ (l : List Happening). fold f b (up_to now l)) (append-nil hs)
+fold_up f b now hs (z ∷ zs) none =
+    let q = λ (h : Happening). nat_le (time_of h) now in
+    ap (λ (l : List Happening). fold f b (up_to now l)) (sym (append_assoc hs (z ∷ []) zs))
+    ∙ fold_up f b now (hs ++ z ∷ []) zs (λ y i. none y (inr i))
+    ∙ elim (cases_Bool (nat_le (time_of z) now)) [
+      | inl there ↦ ap (fold f b) (filter_yes q hs z there) ∙ fold-append f b (up_to now hs) (z ∷ []) ∙ none z (inl refl) (fold f b (up_to now hs))
+      | inr past ↦ ap (fold f b) (filter_no q hs z past)
+    ]
+
+-- records that do not move a device leave its state and its adjustment
+pub state_unmoved : (s : Scenario) (hs zs : List Happening) (device : DeviceId) (now : ℕ)
+    → ((z : Happening) → IsIn z zs → moves device z.note.body ≡ false) → state_after s (up_to now (hs ++ zs)) device ≡ state_after s (up_to now hs) device
+state_unmoved s hs zs device now none =
+    fold_up (λ (state : State) (h : Happening). state_with device state h.note.body) _ now hs zs (λ z i y. keeps_state device y z.note.body (none z i))
+
+pub adjustment_unmoved : (s : Scenario) (hs zs : List Happening) (device : DeviceId) (now : ℕ)
+    → ((z : Happening) → IsIn z zs → moves device z.note.body ≡ false) → adjustment_after s (up_to now (hs ++ zs)) device ≡ adjustment_after s (up_to now hs)
+    device
+adjustment_unmoved s hs zs device now none =
+    fold_up (λ (adjustment : Units) (h : Happening). adjustment_with s device (cycle_in h) adjustment h.note.body) _ now hs zs
+    (λ z i y. keeps_adjustment s device (cycle_in z) y z.note.body (none z i))

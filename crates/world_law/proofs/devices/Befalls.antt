@@ -1,0 +1,73 @@
+-- An event that does not turn a device on, and does not break it, leaves it as it was.
+use Rattle.std.proofs.Common.{◌≡◌, ℕ, ◌≤◌, Bool, true, false, if◌then◌else◌, List, refl, sym, ap, ◌∙◌, arith}
+use Rattle.net_plan.specs.declared.event.Event.{Event}
+use Rattle.net_plan.specs.declared.ids.DeviceId.{DeviceId}
+use Rattle.net_plan.specs.declared.network.Network.{Network}
+use Rattle.run_law.specs.records.Happenings.{Happening, earlier, time_of}
+use Rattle.run_law.specs.machines.Answers.{node_turned_on}
+use Rattle.run_law.specs.machines.Nodes.{Node}
+use Rattle.run_law.specs.records.Order.{IsIn}
+use Rattle.run_law.specs.scenario.Scenarios.{is_broken, is_turned_on_at}
+use Rattle.run_law.specs.device.States.{state_after}
+use Rattle.sync_state.specs.declared.state.State.TheVariants.{Integrating}
+use Rattle.world_law.proofs.runs.Agreement.{heard_same, local_same, next_same}
+use Rattle.world_law.specs.device.Left.{IsCounted, IsLeft, is_timed}
+use Rattle.world_law.specs.source.Agreeing.{Agree, scenario}
+
+-- the clocks read the same up to the time
+abbrev pub ReadAlike : (DeviceId → ℕ → ℕ) → (DeviceId → ℕ → ℕ) → ℕ → Type 0
+ReadAlike f g t = (device : DeviceId) (x : ℕ) → x ≤ t → f device x ≡ g device x
+
+same_events : (n : Network) (f g : DeviceId → ℕ → ℕ) (events : List Event) (t : ℕ) → ReadAlike f g t → Agree n f g events events t
+same_events n f g events t reads = record { reads = reads; befell = λ u le. refl }
+
+pub counts_still : (n : Network) (f g : DeviceId → ℕ → ℕ) (events more : List Event) (hs : List Happening) (device : DeviceId) (t : ℕ) (node : Node)
+    → ReadAlike f g t → ((h : Happening) → IsIn h hs → time_of h ≤ t)
+    → is_broken (scenario n f events) device t ≡ is_broken (scenario n g more) device t → IsCounted (scenario n f events) hs device t node
+    → IsCounted (scenario n g more) hs device t node
+counts_still n f g events more hs device t node reads all sound left =
+    let a = same_events n f g events t reads in
+    record {
+      plan = left.plan;
+      adjustment = left.adjustment;
+      integrated = left.integrated;
+      number = λ timed. left.number timed ∙ next_same n f g events events hs t t device a (omega arith);
+      changed = left.changed ∙ local_same n f g events events hs t t device a (omega arith);
+      heard = λ timed. left.heard timed ∙ heard_same n f g events events hs t t device a (omega arith) all;
+      started = left.started;
+      broken = left.broken ∙ sound;
+    }
+
+pub stands_still : (n : Network) (f g : DeviceId → ℕ → ℕ) (events more : List Event) (hs : List Happening) (device : DeviceId) (t : ℕ) (node : Node)
+    → ReadAlike f g t → ((h : Happening) → IsIn h hs → time_of h ≤ t)
+    → is_broken (scenario n f events) device t ≡ is_broken (scenario n g more) device t → is_turned_on_at (scenario n f events) device t ≡ is_turned_on_at
+    (scenario n g more) device t
+    → IsLeft (scenario n f events) hs device t node → IsLeft (scenario n g more) hs device t node
+stands_still n f g events more hs device t node reads all sound same left = record {
+  counted = counts_still n f g events more hs device t node reads all sound left.counted;
+  state = left.state ∙ ap (λ (b : Bool). if b then Integrating else state_after (scenario n f events) (earlier t hs) device) same;
+  points = left.points;
+}
+
+-- an event turns it on
+pub is_turned_on : (n : Network) (f g : DeviceId → ℕ → ℕ) (events more : List Event) (hs : List Happening) (device : DeviceId) (t : ℕ) (node : Node)
+    → ReadAlike f g t → ((h : Happening) → IsIn h hs → time_of h ≤ t)
+    → is_broken (scenario n f events) device t ≡ is_broken (scenario n g more) device t → is_turned_on_at (scenario n g more) device t ≡ true
+    → is_timed node.standing.state ≡ false
+    → IsLeft (scenario n f events) hs device t node → IsLeft (scenario n g more) hs device t (node_turned_on node)
+is_turned_on n f g events more hs device t node reads all sound on off left =
+    let c = counts_still n f g events more hs device t node reads all sound left.counted in
+    record {
+      counted = record {
+        plan = c.plan;
+        adjustment = c.adjustment;
+        integrated = c.integrated;
+        number = λ timed. absurd cc;
+        changed = c.changed;
+        heard = λ timed. absurd cc;
+        started = c.started;
+        broken = c.broken;
+      };
+      state = sym (ap (λ (b : Bool). if b then Integrating else state_after (scenario n g more) (earlier t hs) device) on);
+      points = left.points;
+    }

@@ -1,0 +1,280 @@
+-- A device stands by the records that bear on it, wherever others stand between them.
+use Rattle.std.proofs.Common.{◌≡◌, IfSome, ℕ, ◌+◌, ◌-◌, ◌≤◌, pos, ◌+ℤ◌, int_lt, int_le, Bool, true, false, not, ◌&&◌, ◌||◌, ◌==◌, if◌then◌else◌, List, [], ◌∷◌, ◌++◌, Option, Some, None, filter, filter_map, fold, option_map, inl, inr, refl, sym, ap, subst, ◌∙◌, append_assoc}
+use Rattle.std.specs.Prelude.{nat_lt}
+use Rattle.std.specs.List.{after_last, cons_option, last_or}
+use Rattle.std.specs.Option.{option_map_or}
+use Rattle.std.proofs.lemmas.Bool.{and_right, cases_Bool}
+use Rattle.std.proofs.lemmas.List.{append-nil}
+use Rattle.std.proofs.lemmas.List.Elements.{filter-append}
+use Rattle.compression.specs.Clusters.{point_at}
+use Rattle.membership.specs.Hearing.{Hearing}
+use Rattle.net_plan.specs.declared.ids.DeviceId.{DeviceId}
+use Rattle.net_plan.specs.declared.network.Network.{Network}
+use Rattle.run_law.specs.device.LocalClocks.{changed_at, changes_adjustment}
+use Rattle.run_law.specs.control.Collections.{ends_stretch, master_of, point_by, points_of}
+use Rattle.run_law.specs.control.Corrections.{correction_value, cycle_after, has_cleared, heard_by, hearing_by, heard_since, integration_cycle, recorded_cycle}
+use Rattle.run_law.specs.scenario.Devices.{channel_of, channel_of_link}
+use Rattle.run_law.specs.records.Happenings.{Happening, earlier, time_of}
+use Rattle.run_law.specs.machines.Nodes.{Node}
+use Rattle.run_law.specs.records.Ranks.{members_in}
+use Rattle.run_law.specs.scenario.Scenarios.{Scenario, is_turned_on_at}
+use Rattle.run_law.specs.device.States.{adjustment_before, adjustment_with, cycle_in, is_joined_by, state_after, state_with}
+use Rattle.run_law.specs.declared.judgement.Judgement.TheVariants as judgements
+use Rattle.run_law.specs.declared.judgement.Why.TheVariants as whys
+use Rattle.run_law.specs.declared.note.NoteBody.TheVariants as notes
+use Rattle.run_law.specs.declared.note.NoteBody.{NoteBody}
+use Rattle.sync_state.specs.declared.state.State.TheVariants.{Integrating}
+use Rattle.tte_units.specs.declared.units.Units.{Units}
+use Rattle.world_law.proofs.devices.OwnRecords.{changes_no_other, joins_no_other, filter_own, fold_own, keeps_adjustment, keeps_cycle, keeps_integration, keeps_state, own_no}
+use Rattle.world_law.proofs.lists.Lists.{behind_no, behind_yes, filter_no, filter_same, filter_yes}
+use Rattle.world_law.specs.device.Left.{IsLeft}
+use Rattle.world_law.specs.device.Own.{bears_on, borne, moves, own}
+use Rattle.world_law.specs.device.Told.{since_at}
+
+-- ---- one record
+
+pub moves_no_other : (device : DeviceId) (body : NoteBody) → bears_on device body ≡ false → moves device body ≡ false
+moves_no_other device (notes.Permanent other link cause point judgements.Integrates) e = e
+moves_no_other device (notes.Compressed other opened at cycle members judgements.Integrates) e = e
+moves_no_other device (notes.Corrected other cycle by adjustment) e = e
+moves_no_other device (notes.State other state cause why) e = e
+moves_no_other device other e = refl
+
+pub ends_no_other : (device : DeviceId) (body : NoteBody) → bears_on device body ≡ false → ends_stretch device body ≡ false
+ends_no_other device (notes.State other state cause whys.On) e = refl
+ends_no_other device (notes.State other state cause why) e = e
+ends_no_other device other e = joins_no_other device other (moves_no_other device other e)
+
+off : {A : Type 0} (b : Bool) (x y : A) → b ≡ false → (if b then x else y) ≡ y
+off b x y e = ap (λ (c : Bool). if c then x else y) e
+
+pub gives_no_point : (device : DeviceId) (h : Happening) (body : NoteBody) → bears_on device body ≡ false → point_by device h body ≡ None
+gives_no_point device h (notes.Permanent other link cause point verdict) e =
+    off (device.0 == other.0) (Some (point_at point.0 (master_of (members_in h)) (cycle_in h))) None e
+gives_no_point device h other e = refl
+
+pub hears_nothing : (network : Network) (device : DeviceId) (h : Happening) (body : NoteBody) → bears_on device body ≡ false
+    → hearing_by network device h body ≡ None
+hears_nothing network device h (notes.Permanent other link cause point judgements.Within) e =
+    off (device.0 == other.0) (option_map (λ channel. heard_by channel h point true) (channel_of_link network link)) None e
+hears_nothing network device h (notes.Permanent other link cause point judgements.Outside) e =
+    off (device.0 == other.0) (option_map (λ channel. heard_by channel h point false) (channel_of_link network link)) None e
+hears_nothing network device h (notes.Compressed other opened at cycle members judgements.Within) e =
+    off (device.0 == other.0) (option_map (λ channel. heard_by channel h at true) (channel_of network device)) None e
+hears_nothing network device h (notes.Compressed other opened at cycle members judgements.Outside) e =
+    off (device.0 == other.0) (option_map (λ channel. heard_by channel h at false) (channel_of network device)) None e
+hears_nothing network device h other e = refl
+
+-- ---- lists
+
+from_last : {X : Type 0} (P : List X → Type 0) → ((xs : List X) (x : X) → P xs → P (xs ++ x ∷ [])) → (ps qs : List X) → P ps → P (ps ++ qs)
+from_last P step ps [] p = subst P (sym (append-nil ps)) p
+from_last P step ps (q ∷ qs) p = subst P (append_assoc ps (q ∷ []) qs) (from_last P step (ps ++ q ∷ []) qs (step ps q p))
+
+-- what holds of no record, and of one more, holds of all
+pub by_last : {X : Type 0} (P : List X → Type 0) → P [] → ((xs : List X) (x : X) → P xs → P (xs ++ x ∷ [])) → (xs : List X) → P xs
+by_last P none step xs = from_last P step [] xs none
+
+-- what stands behind the last that passes p, of those that pass q, where what passes p passes q
+behind_kept : {X : Type 0} (p q : X → Bool) → ((x : X) → q x ≡ false → p x ≡ false) → (xs : List X) → after_last p (filter q xs) ≡ filter q (after_last p xs)
+behind_kept {X} p q fails xs = by_last (λ (l : List X). after_last p (filter q l) ≡ filter q (after_last p l)) refl (λ l x same.
+    elim (cases_Bool (q x)) [
+      | inl kept ↦
+          ap (after_last p) (filter_yes q l x kept)
+          ∙ elim (cases_Bool (p x)) [
+            | inl passes ↦ behind_yes p (filter q l) x passes ∙ sym (ap (filter q) (behind_yes p l x passes))
+            | inr stays ↦ behind_no p (filter q l) x stays ∙ ap (λ (k : List X). k ++ x ∷ []) same ∙ sym (filter_yes q (after_last p l) x kept)
+                ∙ sym (ap (filter q) (behind_no p l x stays))
+          ]
+      | inr left ↦
+          ap (after_last p) (filter_no q l x left) ∙ same ∙ sym (filter_no q (after_last p l) x left) ∙ sym (ap (filter q) (behind_no p l x (fails x left)))
+    ]) xs
+
+-- a map that gives nothing for what is left out
+map_kept : {X Y : Type 0} (f : X → Option Y) (q : X → Bool) → ((x : X) → q x ≡ false → f x ≡ None) → (xs : List X)
+    → filter_map f xs ≡ filter_map f (filter q xs)
+map_kept f q nothing [] = refl
+map_kept {X} {Y} f q nothing (x ∷ xs) =
+    elim (cases_Bool (q x)) [
+      | inl kept ↦ ap (cons_option (f x)) (map_kept f q nothing xs) ∙ sym (ap (λ (b : Bool). filter_map f (if b then x ∷ filter q xs else filter q xs)) kept)
+      | inr left ↦ ap (λ (o : Option Y). cons_option o (filter_map f xs)) (nothing x left) ∙ map_kept f q nothing xs
+          ∙ sym (ap (λ (b : Bool). filter_map f (if b then x ∷ filter q xs else filter q xs)) left)
+    ]
+
+-- two filters may change places
+filters_swap : {X : Type 0} (p q : X → Bool) (xs : List X) → filter p (filter q xs) ≡ filter q (filter p xs)
+filters_swap p q [] = refl
+filters_swap {X} p q (x ∷ xs) =
+    elim (cases_Bool (q x)) [
+      | inl kept ↦
+          ap (λ (b : Bool). filter p (if b then x ∷ filter q xs else filter q xs)) kept
+          ∙ elim (cases_Bool (p x)) [
+            | inl both ↦
+                ap (λ (b : Bool). if b then x ∷ filter p (filter q xs) else filter p (filter q xs)) both
+                ∙ ap (λ (l : List X). x ∷ l) (filters_swap p q xs)
+                ∙ sym (ap (λ (b : Bool). if b then x ∷ filter q (filter p xs) else filter q (filter p xs)) kept)
+                ∙ sym (ap (λ (b : Bool). filter q (if b then x ∷ filter p xs else filter p xs)) both)
+            | inr one ↦
+                ap (λ (b : Bool). if b then x ∷ filter p (filter q xs) else filter p (filter q xs)) one
+                ∙ filters_swap p q xs
+                ∙ sym (ap (λ (b : Bool). filter q (if b then x ∷ filter p xs else filter p xs)) one)
+          ]
+      | inr left ↦
+          ap (λ (b : Bool). filter p (if b then x ∷ filter q xs else filter q xs)) left
+          ∙ filters_swap p q xs
+          ∙ elim (cases_Bool (p x)) [
+            | inl other ↦ sym (ap (λ (b : Bool). if b then x ∷ filter q (filter p xs) else filter q (filter p xs)) left)
+                ∙ sym (ap (λ (b : Bool). filter q (if b then x ∷ filter p xs else filter p xs)) other)
+            | inr none ↦ sym (ap (λ (b : Bool). filter q (if b then x ∷ filter p xs else filter p xs)) none)
+          ]
+    ]
+
+own_of_borne : (device : DeviceId) (hs : List Happening) → own device hs ≡ own device (borne device hs)
+own_of_borne device [] = refl
+own_of_borne device (h ∷ hs) =
+    elim (cases_Bool (bears_on device h.note.body)) [
+      | inl bears ↦ ap (λ (l : List Happening). if moves device h.note.body then h ∷ l else l) (own_of_borne device hs)
+          ∙ sym (ap (λ (b : Bool). own device (if b then h ∷ borne device hs else borne device hs)) bears)
+      | inr misses ↦
+          own_no device h hs (moves_no_other device h.note.body misses) ∙ own_of_borne device hs
+          ∙ sym (ap (λ (b : Bool). own device (if b then h ∷ borne device hs else borne device hs)) misses)
+    ]
+
+-- what moves the device before a time, of the records that bear on it
+own_before : (device : DeviceId) (t : ℕ) (hs : List Happening) → own device (earlier t hs) ≡ own device (earlier t (borne device hs))
+own_before device t hs = own_of_borne device (earlier t hs) ∙ ap (own device) (filters_swap (λ h. bears_on device h.note.body) (λ h. nat_lt (time_of h) t) hs)
+
+-- ---- a device
+
+-- of two lists with the same records that bear on the device, all is told alike
+pub record TellAlike (s : Scenario) (hs gs : List Happening) (device : DeviceId) (t : ℕ) : Type 0 where
+  pub state : state_after s (earlier t hs) device ≡ state_after s (earlier t gs) device
+  pub adjustment : adjustment_before s hs device t ≡ adjustment_before s gs device t
+  pub integration : integration_cycle (earlier t hs) device ≡ integration_cycle (earlier t gs) device
+  pub cycle : recorded_cycle (earlier t hs) device ≡ recorded_cycle (earlier t gs) device
+  pub change : changed_at hs device t ≡ changed_at gs device t
+
+-- it is where the same records move the device before the time
+pub tell_owned : (s : Scenario) (hs gs : List Happening) (device : DeviceId) (t : ℕ) → own device (earlier t hs) ≡ own device (earlier t gs)
+    → TellAlike s hs gs device t
+tell_owned s hs gs device t owned =
+    let states = fold_own device (λ state h. state_with device state h.note.body) (λ z h e. keeps_state device z h.note.body e) _ in
+    let adjustments = fold_own device (λ adjustment h. adjustment_with s device (cycle_in h) adjustment h.note.body)
+    (λ z h e. keeps_adjustment s device (cycle_in h) z h.note.body e) _ in
+    let integrations = fold_own device (λ last h. if is_joined_by device h.note.body then Some (cycle_in h) else last) (λ z h e. keeps_integration device z h e)
+    None in
+    let cycles = fold_own device (λ next h. cycle_after device next h h.note.body) (λ z h e. keeps_cycle device z h h.note.body e) 1 in
+    let changes = filter_own device (λ h. changes_adjustment device h.note.body) (λ h e. changes_no_other device h.note.body e) in
+    record {
+      state = states (earlier t hs) ∙ ap (fold _ _) owned ∙ sym (states (earlier t gs));
+      adjustment = adjustments (earlier t hs) ∙ ap (fold _ _) owned ∙ sym (adjustments (earlier t gs));
+      integration = integrations (earlier t hs) ∙ ap (fold _ _) owned ∙ sym (integrations (earlier t gs));
+      cycle = cycles (earlier t hs) ∙ ap (fold _ _) owned ∙ sym (cycles (earlier t gs));
+      change =
+          ap (λ (l : List Happening). option_map_or time_of (last_or None l) 0) (changes (earlier t hs) ∙ ap (filter _) owned ∙ sym (changes (earlier t gs)));
+    }
+
+pub tell_alike : (s : Scenario) (hs gs : List Happening) (device : DeviceId) (t : ℕ) → borne device hs ≡ borne device gs → TellAlike s hs gs device t
+tell_alike s hs gs device t same =
+    tell_owned s hs gs device t
+    (own_before device t hs ∙ ap (λ (l : List Happening). own device (earlier t l)) same ∙ sym (own_before device t gs))
+
+-- what a joiner has cleared, by its numbers
+abbrev cleared_as : Scenario → DeviceId → Option ℕ → ℕ → ℕ → Units → ℕ → Bool
+cleared_as s device integration cycle changed adjustment by =
+    option_map_or (λ c. cycle == c) integration false
+    && (int_lt (pos (s.reading device changed) +ℤ adjustment.0) (correction_value s.network cycle)
+    && int_le (correction_value s.network cycle) (pos (s.reading device (by - 1)) +ℤ adjustment.0))
+
+pub cleared_alike : (s : Scenario) (hs gs : List Happening) (device : DeviceId) (t by : ℕ) → TellAlike s hs gs device t
+    → has_cleared s hs device t by ≡ has_cleared s gs device t by
+cleared_alike s hs gs device t by a =
+    ap (λ (o : Option ℕ). cleared_as s device o (recorded_cycle (earlier t hs) device) (changed_at hs device t) (adjustment_before s hs device t) by)
+    a.integration
+    ∙ ap (λ (n : ℕ). cleared_as s device (integration_cycle (earlier t gs) device) n (changed_at hs device t) (adjustment_before s hs device t) by) a.cycle
+    ∙ ap (λ (n : ℕ). cleared_as s device (integration_cycle (earlier t gs) device) (recorded_cycle (earlier t gs) device) n (adjustment_before s hs device t)
+    by) a.change
+    ∙ ap (λ (u : Units). cleared_as s device (integration_cycle (earlier t gs) device) (recorded_cycle (earlier t gs) device) (changed_at gs device t) u by)
+    a.adjustment
+
+-- what was heard, by the flags of what is kept
+abbrev heard_of : Scenario → DeviceId → ℕ → (ℕ → Bool) → List Happening → List Hearing
+heard_of s device t cleared since = filter_map (λ h. hearing_by s.network device h h.note.body) (filter (λ h. not (cleared t) || cleared (time_of h)) since)
+
+changes_test : (device : DeviceId) (t : ℕ) (h : Happening) → bears_on device h.note.body ≡ false
+    → (nat_lt (time_of h) t && changes_adjustment device h.note.body) ≡ false
+changes_test device t h misses = and_right (nat_lt (time_of h) t) _ (changes_no_other device h.note.body (moves_no_other device h.note.body misses))
+
+-- what was heard of the records that bear on the device, is what was heard of all
+heard_borne : (s : Scenario) (device : DeviceId) (t : ℕ) (cleared : ℕ → Bool) (hs : List Happening)
+    → heard_of s device t cleared (since_at device t hs) ≡ heard_of s device t cleared (since_at device t (borne device hs))
+heard_borne s device t cleared hs =
+    let q = λ (h : Happening). bears_on device h.note.body in
+    let p = λ (h : Happening). nat_lt (time_of h) t && changes_adjustment device h.note.body in
+    let k = λ (h : Happening). not (cleared t) || cleared (time_of h) in
+    map_kept (λ h. hearing_by s.network device h h.note.body) q (λ h misses. hears_nothing s.network device h h.note.body misses)
+    (filter k (since_at device t hs))
+    ∙ ap (filter_map (λ h. hearing_by s.network device h h.note.body)) (filters_swap q k (since_at device t hs)
+    ∙ ap (filter k) (sym (behind_kept p q (changes_test device t) hs)))
+
+pub heard_alike : (s : Scenario) (hs gs : List Happening) (device : DeviceId) (t : ℕ) → borne device hs ≡ borne device gs
+    → heard_since s hs device t ≡ heard_since s gs device t
+heard_alike s hs gs device t same =
+    let a = tell_alike s hs gs device t same in
+    heard_borne s device t (has_cleared s hs device t) hs
+    ∙ ap (λ (l : List Happening). heard_of s device t (has_cleared s hs device t) (since_at device t l)) same
+    ∙ sym (heard_borne s device t (has_cleared s hs device t) gs)
+    ∙ ap (filter_map (λ h. hearing_by s.network device h h.note.body))
+    (filter_same (λ h. not (has_cleared s hs device t t) || has_cleared s hs device t (time_of h)) (λ h. not (has_cleared s gs device t t)
+    || has_cleared s gs device t (time_of h)) (since_at device t gs)
+    (λ h i. ap (λ (b : Bool). not b || has_cleared s hs device t (time_of h)) (cleared_alike s hs gs device t t a)
+    ∙ ap (λ (b : Bool). not (has_cleared s gs device t t) || b) (cleared_alike s hs gs device t (time_of h) a)))
+
+pub points_alike : (hs gs : List Happening) (device : DeviceId) → borne device hs ≡ borne device gs → points_of hs device ≡ points_of gs device
+points_alike hs gs device same =
+    let q = λ (h : Happening). bears_on device h.note.body in
+    let to = λ (l : List Happening).
+    map_kept (λ h. point_by device h h.note.body) q (λ h misses. gives_no_point device h h.note.body misses)
+    (after_last (λ h. ends_stretch device h.note.body) l)
+    ∙ ap (filter_map (λ h. point_by device h h.note.body))
+    (sym (behind_kept (λ h. ends_stretch device h.note.body) q (λ h misses. ends_no_other device h.note.body misses) l)) in
+    to hs ∙ ap (λ (l : List Happening). filter_map (λ h. point_by device h h.note.body) (after_last (λ h. ends_stretch device h.note.body) l)) same
+    ∙ sym (to gs)
+
+-- the device stands by the records that bear on it
+pub left_alike : (s : Scenario) (hs gs : List Happening) (device : DeviceId) (t : ℕ) (node : Node) → borne device hs ≡ borne device gs
+    → IsLeft s hs device t node → IsLeft s gs device t node
+left_alike s hs gs device t node same left =
+    let a = tell_alike s hs gs device t same in
+    record {
+      counted = record {
+        plan = left.counted.plan;
+        adjustment = left.counted.adjustment ∙ a.adjustment;
+        integrated = left.counted.integrated ∙ a.integration;
+        number = λ timed.
+            left.counted.number timed
+            ∙ ap (λ (b : Bool). if b then recorded_cycle (earlier t hs) device + 1 else recorded_cycle (earlier t hs) device)
+            (cleared_alike s hs gs device t t a)
+            ∙ ap (λ (n : ℕ). if has_cleared s gs device t t then n + 1 else n) a.cycle;
+        changed =
+            left.counted.changed
+            ∙ ap (λ (n : ℕ). pos (s.reading device n) +ℤ (adjustment_before s hs device t).0) a.change
+            ∙ ap (λ (u : Units). pos (s.reading device (changed_at gs device t)) +ℤ u.0) a.adjustment;
+        heard = λ timed. left.counted.heard timed ∙ heard_alike s hs gs device t same;
+        started =
+            subst (λ (o : Option ℕ). IfSome o (λ cycle. cycle ≤ recorded_cycle (earlier t gs) device)) a.integration
+            (subst (λ (n : ℕ). IfSome (integration_cycle (earlier t hs) device) (λ cycle. cycle ≤ n)) a.cycle left.counted.started);
+        broken = left.counted.broken;
+      };
+      state = left.state ∙ ap (λ x. if is_turned_on_at s device t then Integrating else x) a.state;
+      points = λ cm. left.points cm ∙ points_alike hs gs device same;
+    }
+
+-- so it does not matter to it where, before what it has yet to tell, another's record comes
+pub other_comes : (s : Scenario) (hs ahead : List Happening) (device : DeviceId) (t : ℕ) (node : Node) (h : Happening) → bears_on device h.note.body ≡ false
+    → IsLeft s (hs ++ ahead) device t node → IsLeft s ((hs ++ h ∷ []) ++ ahead) device t node
+other_comes s hs ahead device t node h misses left =
+    let q = λ (g : Happening). bears_on device g.note.body in
+    left_alike s (hs ++ ahead) ((hs ++ h ∷ []) ++ ahead) device t node
+    (filter-append q hs ahead ∙ ap (λ (l : List Happening). l ++ filter q ahead) (sym (filter_no q hs h misses)) ∙ sym (filter-append q (hs ++ h ∷ []) ahead))
+    left

@@ -1,0 +1,154 @@
+-- A record that does not bear on a device leaves it as it was.
+use Rattle.std.proofs.Common.{◌≡◌, ℕ, ◌+◌, ◌≤◌, ◌<◌, Bool, true, false, if◌then◌else◌, List, [], ◌∷◌, ◌++◌, nat_lt, Option, Some, None, filter, fold, inl, inr, refl, sym, ap, ◌∙◌, arith}
+use Rattle.std.specs.List.{last_or}
+use Rattle.std.specs.Option.{option_map_or}
+use Rattle.std.proofs.lemmas.Bool.{cases_lt, cases_Bool, le-ltb, lt-ltb}
+use Rattle.net_plan.specs.declared.ids.DeviceId.{DeviceId}
+use Rattle.run_law.specs.device.LocalClocks.{changed_at, changes_adjustment}
+use Rattle.run_law.specs.control.Corrections.{cycle_after, integration_cycle, recorded_cycle}
+use Rattle.run_law.specs.records.Happenings.{Happening, earlier, time_of}
+use Rattle.run_law.specs.scenario.Scenarios.{Scenario}
+use Rattle.run_law.specs.device.States.{adjustment_before, adjustment_with, cycle_in, is_joined_by, joined_adjustment, state_after, state_with}
+use Rattle.run_law.specs.declared.judgement.Judgement.TheVariants as judgements
+use Rattle.run_law.specs.declared.note.NoteBody.TheVariants as notes
+use Rattle.run_law.specs.declared.note.NoteBody.{NoteBody}
+use Rattle.sync_state.specs.declared.state.State.TheVariants.{Joining}
+use Rattle.sync_state.specs.declared.state.State.{State}
+use Rattle.tte_units.specs.declared.units.Units.{Units}
+use Rattle.world_law.proofs.lists.Lists.{filter_no}
+use Rattle.world_law.specs.device.Own.{IsStill, moves, own}
+
+-- ---- one record
+
+-- no frame of the record tells the device the time
+pub joins_no_other : (device : DeviceId) (body : NoteBody) → moves device body ≡ false → is_joined_by device body ≡ false
+joins_no_other device (notes.Corrected other cycle by adjustment) e = refl
+joins_no_other device (notes.State other state cause why) e = refl
+joins_no_other device other e = e
+
+pub keeps_state : (device : DeviceId) (old : State) (body : NoteBody) → moves device body ≡ false → state_with device old body ≡ old
+keeps_state device old (notes.State other state cause why) e = ap (λ (b : Bool). if b then state else old) e
+keeps_state device old other e = ap (λ (b : Bool). if b then Joining else old) (joins_no_other device other e)
+
+pub keeps_adjustment : (s : Scenario) (device : DeviceId) (cycle : ℕ) (old : Units) (body : NoteBody) → moves device body ≡ false
+    → adjustment_with s device cycle old body ≡ old
+keeps_adjustment s device cycle old (notes.Corrected other number by adjustment) e = ap (λ (b : Bool). if b then adjustment else old) e
+keeps_adjustment s device cycle old (notes.Permanent other link cause point judgements.Integrates) e =
+    ap (λ (b : Bool). if b then joined_adjustment s device cycle point else old) e
+keeps_adjustment s device cycle old (notes.Compressed other opened at of_cycle members judgements.Integrates) e =
+    ap (λ (b : Bool). if b then joined_adjustment s device of_cycle at else old) e
+keeps_adjustment s device cycle old other e = refl
+
+pub keeps_cycle : (device : DeviceId) (next : ℕ) (h : Happening) (body : NoteBody) → moves device body ≡ false → cycle_after device next h body ≡ next
+keeps_cycle device next h (notes.Corrected other cycle by adjustment) e = ap (λ (b : Bool). if b then cycle + 1 else next) e
+keeps_cycle device next h other e = ap (λ (b : Bool). if b then cycle_in h else next) (joins_no_other device other e)
+
+pub keeps_integration : (device : DeviceId) (last : Option ℕ) (h : Happening) → moves device h.note.body ≡ false
+    → (if is_joined_by device h.note.body then Some (cycle_in h) else last) ≡ last
+keeps_integration device last h e = ap (λ (b : Bool). if b then Some (cycle_in h) else last) (joins_no_other device h.note.body e)
+
+pub changes_no_other : (device : DeviceId) (body : NoteBody) → moves device body ≡ false → changes_adjustment device body ≡ false
+changes_no_other device (notes.Corrected other cycle by adjustment) e = e
+changes_no_other device other e = joins_no_other device other e
+
+-- ---- lists: what a fold or a filter makes of records, it makes of the device's own
+
+pub own_no : (device : DeviceId) (h : Happening) (hs : List Happening) → moves device h.note.body ≡ false → own device (h ∷ hs) ≡ own device hs
+own_no device h hs e = ap (λ (b : Bool). if b then h ∷ own device hs else own device hs) e
+
+pub own_yes : (device : DeviceId) (h : Happening) (hs : List Happening) → moves device h.note.body ≡ true → own device (h ∷ hs) ≡ h ∷ own device hs
+own_yes device h hs e = ap (λ (b : Bool). if b then h ∷ own device hs else own device hs) e
+
+pub fold_own : {B : Type 0} (device : DeviceId) (f : B → Happening → B) → ((z : B) (h : Happening) → moves device h.note.body ≡ false → f z h ≡ z)
+    → (z : B) (hs : List Happening) → fold f z hs ≡ fold f z (own device hs)
+fold_own device f stays z [] = refl
+fold_own {B} device f stays z (h ∷ hs) =
+    elim (cases_Bool (moves device h.note.body)) [
+      | inl bears ↦ fold_own device f stays (f z h) hs ∙ sym (ap (fold f z) (own_yes device h hs bears))
+      | inr misses ↦ ap (λ (y : B). fold f y hs) (stays z h misses) ∙ fold_own device f stays z hs ∙ sym (ap (fold f z) (own_no device h hs misses))
+    ]
+
+pub filter_own : (device : DeviceId) (p : Happening → Bool) → ((h : Happening) → moves device h.note.body ≡ false → p h ≡ false) → (hs : List Happening)
+    → filter p hs ≡ filter p (own device hs)
+filter_own device p fails [] = refl
+filter_own device p fails (h ∷ hs) =
+    elim (cases_Bool (moves device h.note.body)) [
+      | inl bears ↦ ap (λ (l : List Happening). if p h then h ∷ l else l) (filter_own device p fails hs) ∙ sym (ap (filter p) (own_yes device h hs bears))
+      | inr misses ↦ ap (λ (b : Bool). if b then h ∷ filter p hs else filter p hs) (fails h misses) ∙ filter_own device p fails hs
+          ∙ sym (ap (filter p) (own_no device h hs misses))
+    ]
+
+-- ---- times
+
+-- a record of a time does not change those before it
+pub same_before : (t : ℕ) (hs : List Happening) (h : Happening) → t ≤ time_of h → earlier t (hs ++ h ∷ []) ≡ earlier t hs
+same_before t hs h le = filter_no (λ g. nat_lt (time_of g) t) hs h (le-ltb (time_of h) t le)
+
+pub earlier_yes : (t : ℕ) (h : Happening) (hs : List Happening) → time_of h < t → earlier t (h ∷ hs) ≡ h ∷ earlier t hs
+earlier_yes t h hs lt = ap (λ (b : Bool). if b then h ∷ earlier t hs else earlier t hs) (lt-ltb (time_of h) t lt)
+
+pub earlier_no : (t : ℕ) (h : Happening) (hs : List Happening) → t ≤ time_of h → earlier t (h ∷ hs) ≡ earlier t hs
+earlier_no t h hs le = ap (λ (b : Bool). if b then h ∷ earlier t hs else earlier t hs) (le-ltb (time_of h) t le)
+
+own_kept : (device : DeviceId) (t later : ℕ) (h : Happening) (hs : List Happening) → own device (earlier later hs) ≡ own device (earlier t hs)
+    → own device (h ∷ earlier later hs) ≡ own device (h ∷ earlier t hs)
+own_kept device t later h hs e = ap (λ (l : List Happening). if moves device h.note.body then h ∷ l else l) e
+
+-- where none bears on the device from one time to another, its own records before the two are the same
+pub own_still : (device : DeviceId) (t later : ℕ) → t ≤ later → (hs : List Happening) → IsStill hs device t later
+    → own device (earlier later hs) ≡ own device (earlier t hs)
+own_still device t later le [] still = refl
+own_still device t later le (h ∷ hs) still =
+    let rest = own_still device t later le hs (λ g i. still g (inr i)) in
+    elim (cases_lt (time_of h) t) [
+      | inl lt ↦
+          ap (own device) (earlier_yes later h hs (omega (arith, lt, le)))
+          ∙ own_kept device t later h hs rest
+          ∙ sym (ap (own device) (earlier_yes t h hs lt))
+      | inr ge ↦
+          elim (cases_lt (time_of h) later) [
+            | inl lt ↦
+                ap (own device) (earlier_yes later h hs lt)
+                ∙ own_no device h (earlier later hs) (still h (inl refl) ge lt)
+                ∙ rest
+                ∙ sym (ap (own device) (earlier_no t h hs ge))
+            | inr far ↦
+                ap (own device) (earlier_no later h hs far)
+                ∙ rest
+                ∙ sym (ap (own device) (earlier_no t h hs ge))
+          ]
+    ]
+
+-- ---- so all that the records before a time say of a device stays while none bears on it
+
+pub state_still : (s : Scenario) (hs : List Happening) (device : DeviceId) (t later : ℕ) → t ≤ later → IsStill hs device t later
+    → state_after s (earlier later hs) device ≡ state_after s (earlier t hs) device
+state_still s hs device t later le still =
+    let same = fold_own device (λ state h. state_with device state h.note.body) (λ z h e. keeps_state device z h.note.body e) _ in
+    same (earlier later hs) ∙ ap (fold _ _) (own_still device t later le hs still) ∙ sym (same (earlier t hs))
+
+pub adjustment_still : (s : Scenario) (hs : List Happening) (device : DeviceId) (t later : ℕ) → t ≤ later → IsStill hs device t later
+    → adjustment_before s hs device later ≡ adjustment_before s hs device t
+adjustment_still s hs device t later le still =
+    let same = fold_own device (λ adjustment h. adjustment_with s device (cycle_in h) adjustment h.note.body)
+    (λ z h e. keeps_adjustment s device (cycle_in h) z h.note.body e) _ in
+    same (earlier later hs) ∙ ap (fold _ _) (own_still device t later le hs still) ∙ sym (same (earlier t hs))
+
+pub integration_still : (hs : List Happening) (device : DeviceId) (t later : ℕ) → t ≤ later → IsStill hs device t later
+    → integration_cycle (earlier later hs) device ≡ integration_cycle (earlier t hs) device
+integration_still hs device t later le still =
+    let same = fold_own device (λ last h. if is_joined_by device h.note.body then Some (cycle_in h) else last) (λ z h e. keeps_integration device z h e) None in
+    same (earlier later hs) ∙ ap (fold _ _) (own_still device t later le hs still) ∙ sym (same (earlier t hs))
+
+pub cycle_still : (hs : List Happening) (device : DeviceId) (t later : ℕ) → t ≤ later → IsStill hs device t later
+    → recorded_cycle (earlier later hs) device ≡ recorded_cycle (earlier t hs) device
+cycle_still hs device t later le still =
+    let same = fold_own device (λ next h. cycle_after device next h h.note.body) (λ z h e. keeps_cycle device z h h.note.body e) 1 in
+    same (earlier later hs) ∙ ap (fold _ _) (own_still device t later le hs still) ∙ sym (same (earlier t hs))
+
+pub change_still : (hs : List Happening) (device : DeviceId) (t later : ℕ) → t ≤ later → IsStill hs device t later
+    → changed_at hs device later ≡ changed_at hs device t
+change_still hs device t later le still =
+    let same = filter_own device (λ h. changes_adjustment device h.note.body) (λ h e. changes_no_other device h.note.body e) in
+    ap (λ (l : List Happening). option_map_or time_of (last_or None l) 0)
+    (same (earlier later hs) ∙ ap (filter _) (own_still device t later le hs still) ∙ sym (same (earlier t hs)))

@@ -1,0 +1,125 @@
+-- Time passes at a device that no record moves.
+use Rattle.std.proofs.Common.{true, ◌≡◌, IfSome, ℕ, ◌+◌, ◌-◌, ◌≤◌, pos, ◌+ℤ◌, Bool, false, not, ◌&&◌, ◌||◌, ◌==◌, if◌then◌else◌, int_lt, int_le, List, filter, filter_map, Option, inl, inr, sym, ap, subst, ◌∙◌, arith}
+use Rattle.std.specs.Prelude.{nat_lt}
+use Rattle.std.specs.List.{after_last}
+use Rattle.std.specs.Option.{option_map_or}
+use Rattle.std.proofs.lemmas.Bool.{cases_lt, le-ltb, lt-ltb}
+use Rattle.membership.specs.Hearing.{Hearing}
+use Rattle.net_plan.specs.declared.ids.DeviceId.{DeviceId}
+use Rattle.run_law.specs.device.LocalClocks.{changed_at, changes_adjustment, local_at_change}
+use Rattle.run_law.specs.control.Corrections.{correction_value, has_cleared, hearing_by, heard_since, integration_cycle, is_integration_cycle, next_cycle, recorded_cycle}
+use Rattle.run_law.specs.records.Happenings.{Happening, earlier, time_of}
+use Rattle.run_law.specs.machines.Nodes.{Node}
+use Rattle.run_law.specs.scenario.Scenarios.{Scenario, is_broken, is_turned_on_at}
+use Rattle.run_law.specs.device.States.{adjustment_before, state_after, state_before}
+use Rattle.sync_state.specs.declared.state.State.TheVariants.{Integrating}
+use Rattle.tte_units.specs.declared.units.Units.{Units}
+use Rattle.world_law.proofs.devices.OwnRecords.{adjustment_still, change_still, changes_no_other, cycle_still, integration_still, state_still}
+use Rattle.world_law.proofs.lists.Lists.{behind_same, filter_same}
+use Rattle.world_law.specs.device.Left.{IsLeft, is_timed}
+use Rattle.world_law.specs.device.Own.{IsStill}
+
+-- has a joiner cleared by the time, where its last adjustment came at `changed`?
+abbrev cleared_as : Scenario → DeviceId → Bool → ℕ → ℕ → Units → ℕ → Bool
+cleared_as s device joining cycle changed adjustment by =
+    joining
+    && (int_lt (pos (s.reading device changed) +ℤ adjustment.0) (correction_value s.network cycle)
+    && int_le (correction_value s.network cycle) (pos (s.reading device (by - 1)) +ℤ adjustment.0))
+
+pub joining_still : (hs : List Happening) (device : DeviceId) (t later : ℕ) → t ≤ later → IsStill hs device t later
+    → is_integration_cycle (earlier later hs) device ≡ is_integration_cycle (earlier t hs) device
+joining_still hs device t later le still =
+    ap (λ (o : Option ℕ). option_map_or (λ cycle. recorded_cycle (earlier later hs) device == cycle) o false) (integration_still hs device t later le still)
+    ∙ ap (λ (n : ℕ). option_map_or (λ cycle. n == cycle) (integration_cycle (earlier t hs) device) false) (cycle_still hs device t later le still)
+
+pub cleared_still : (s : Scenario) (hs : List Happening) (device : DeviceId) (t later by : ℕ) → t ≤ later → IsStill hs device t later
+    → has_cleared s hs device later by ≡ has_cleared s hs device t by
+cleared_still s hs device t later by le still =
+    ap (λ (b : Bool). cleared_as s device b (recorded_cycle (earlier later hs) device) (changed_at hs device later) (adjustment_before s hs device later) by)
+    (joining_still hs device t later le still)
+    ∙ ap (λ (n : ℕ). cleared_as s device (is_integration_cycle (earlier t hs) device) n (changed_at hs device later) (adjustment_before s hs device later) by)
+    (cycle_still hs device t later le still)
+    ∙ ap (λ (n : ℕ). cleared_as s device (is_integration_cycle (earlier t hs) device) (recorded_cycle (earlier t hs) device) n
+    (adjustment_before s hs device later) by) (change_still hs device t later le still)
+    ∙ ap (λ (u : Units). cleared_as s device (is_integration_cycle (earlier t hs) device) (recorded_cycle (earlier t hs) device) (changed_at hs device t) u by)
+    (adjustment_still s hs device t later le still)
+
+-- the records behind the last change before a time are those behind the last change before a later one
+pub since_still : (hs : List Happening) (device : DeviceId) (t later : ℕ) → t ≤ later → IsStill hs device t later
+    → after_last (λ h. nat_lt (time_of h) later && changes_adjustment device h.note.body) hs ≡ after_last
+    (λ h. nat_lt (time_of h) t && changes_adjustment device h.note.body) hs
+since_still hs device t later le still =
+    behind_same (λ h. nat_lt (time_of h) later && changes_adjustment device h.note.body) (λ h. nat_lt (time_of h) t && changes_adjustment device h.note.body) hs
+    (λ h i.
+    elim (cases_lt (time_of h) t) [
+      | inl lt ↦ ap (λ (b : Bool). b && changes_adjustment device h.note.body) (lt-ltb (time_of h) later (omega (arith, lt, le))
+          ∙ sym (lt-ltb (time_of h) t lt))
+      | inr ge ↦
+          elim (cases_lt (time_of h) later) [
+            | inl lt ↦
+                ap (λ (b : Bool). b && changes_adjustment device h.note.body) (lt-ltb (time_of h) later lt)
+                ∙ changes_no_other device h.note.body (still h i ge lt)
+                ∙ sym (ap (λ (b : Bool). b && changes_adjustment device h.note.body) (le-ltb (time_of h) t ge))
+            | inr far ↦ ap (λ (b : Bool). b && changes_adjustment device h.note.body) (le-ltb (time_of h) later far ∙ sym (le-ltb (time_of h) t ge))
+          ]
+    ])
+
+-- what was heard of these
+abbrev heard_of : Scenario → DeviceId → List Happening → List Hearing
+heard_of s device kept = filter_map (λ h. hearing_by s.network device h h.note.body) kept
+
+pub heard_still : (s : Scenario) (hs : List Happening) (device : DeviceId) (t later : ℕ) → t ≤ later → IsStill hs device t later
+    → has_cleared s hs device later later ≡ has_cleared s hs device t t → heard_since s hs device later ≡ heard_since s hs device t
+heard_still s hs device t later le still flag =
+    let since = after_last (λ h. nat_lt (time_of h) t && changes_adjustment device h.note.body) hs in
+    ap (λ (l : List Happening). heard_of s device (filter (λ h. not (has_cleared s hs device later later) || has_cleared s hs device later (time_of h)) l))
+    (since_still hs device t later le still)
+    ∙ ap (λ (b : Bool). heard_of s device (filter (λ h. not b || has_cleared s hs device later (time_of h)) since)) flag
+    ∙ ap (heard_of s device)
+    (filter_same (λ h. not (has_cleared s hs device t t) || has_cleared s hs device later (time_of h)) (λ h. not (has_cleared s hs device t t)
+    || has_cleared s hs device t (time_of h)) since
+    (λ h i. ap (λ (b : Bool). not (has_cleared s hs device t t) || b) (cleared_still s hs device t later (time_of h) le still)))
+
+pub next_still : (s : Scenario) (hs : List Happening) (device : DeviceId) (t later : ℕ) → t ≤ later → IsStill hs device t later
+    → has_cleared s hs device later later ≡ has_cleared s hs device t t → next_cycle s hs device later ≡ next_cycle s hs device t
+next_still s hs device t later le still flag =
+    ap (λ (b : Bool). if b then recorded_cycle (earlier later hs) device + 1 else recorded_cycle (earlier later hs) device) flag
+    ∙ ap (λ (n : ℕ). if has_cleared s hs device t t then n + 1 else n) (cycle_still hs device t later le still)
+
+pub local_still : (s : Scenario) (hs : List Happening) (device : DeviceId) (t later : ℕ) → t ≤ later → IsStill hs device t later
+    → local_at_change s hs device later ≡ local_at_change s hs device t
+local_still s hs device t later le still =
+    ap (λ (n : ℕ). pos (s.reading device n) +ℤ (adjustment_before s hs device later).0) (change_still hs device t later le still)
+    ∙ ap (λ (u : Units). pos (s.reading device (changed_at hs device t)) +ℤ u.0) (adjustment_still s hs device t later le still)
+
+-- what no event turns on at the time stands as the records before it say
+pub not_turned_on : (s : Scenario) (hs : List Happening) (device : DeviceId) (t : ℕ) → is_turned_on_at s device t ≡ false
+    → state_before s hs device t ≡ state_after s (earlier t hs) device
+not_turned_on s hs device t off = ap (λ (b : Bool). if b then Integrating else state_after s (earlier t hs) device) off
+
+pub started_still : (hs : List Happening) (device : DeviceId) (t later : ℕ) → t ≤ later → IsStill hs device t later
+    → IfSome (integration_cycle (earlier t hs) device) (λ cycle. cycle ≤ recorded_cycle (earlier t hs) device)
+    → IfSome (integration_cycle (earlier later hs) device) (λ cycle. cycle ≤ recorded_cycle (earlier later hs) device)
+started_still hs device t later le still h =
+    subst (λ (o : Option ℕ). IfSome o (λ cycle. cycle ≤ recorded_cycle (earlier later hs) device)) (sym (integration_still hs device t later le still))
+    (subst (λ (n : ℕ). IfSome (integration_cycle (earlier t hs) device) (λ cycle. cycle ≤ n)) (sym (cycle_still hs device t later le still)) h)
+
+-- the same, where what it has cleared counts only if it has a next correction point
+pub passes_if : (s : Scenario) (hs : List Happening) (device : DeviceId) (t later : ℕ) (node : Node) → t ≤ later → IsStill hs device t later
+    → is_turned_on_at s device t ≡ false → is_turned_on_at s device later ≡ false → is_broken s device later ≡ is_broken s device t
+    → (is_timed node.standing.state ≡ true → has_cleared s hs device later later ≡ has_cleared s hs device t t) → IsLeft s hs device t node
+    → IsLeft s hs device later node
+passes_if s hs device t later node le still off off_later sound cleared left = record {
+  counted = record {
+    plan = left.counted.plan;
+    adjustment = left.counted.adjustment ∙ sym (adjustment_still s hs device t later le still);
+    integrated = left.counted.integrated ∙ sym (integration_still hs device t later le still);
+    number = λ timed. left.counted.number timed ∙ sym (next_still s hs device t later le still (cleared timed));
+    changed = left.counted.changed ∙ sym (local_still s hs device t later le still);
+    heard = λ timed. left.counted.heard timed ∙ sym (heard_still s hs device t later le still (cleared timed));
+    started = started_still hs device t later le still left.counted.started;
+    broken = left.counted.broken ∙ sym sound;
+  };
+  state = left.state ∙ not_turned_on s hs device t off ∙ sym (state_still s hs device t later le still) ∙ sym (not_turned_on s hs device later off_later);
+  points = left.points;
+}

@@ -1,0 +1,242 @@
+-- Where a device stands does not rest on the numbers of the records, nor on the causes of changes of state.
+use Rattle.std.proofs.Common.{◌≡◌, IfSome, ℕ, ◌+◌, ◌-◌, ◌≤◌, pos, ◌+ℤ◌, int_lt, int_le, Bool, true, false, not, ◌&&◌, ◌||◌, ◌==◌, if◌then◌else◌, List, [], ◌∷◌, ◌++◌, Option, Some, None, filter, filter_map, fold, inl, inr, refl, sym, ap, subst, ◌∙◌}
+use Rattle.std.specs.Prelude.{nat_lt}
+use Rattle.std.specs.List.{after_last, cons_option, last_or}
+use Rattle.std.specs.Option.{option_map_or}
+use Rattle.std.proofs.lemmas.Bool.{cases_Bool}
+use Rattle.std.proofs.lemmas.List.{map_push}
+use Rattle.net_plan.specs.declared.ids.DeviceId.{DeviceId}
+use Rattle.net_plan.specs.declared.network.Network.{Network}
+use Rattle.run_law.specs.device.LocalClocks.{changed_at, changes_adjustment}
+use Rattle.run_law.specs.control.Collections.{ends_stretch, point_by, points_of}
+use Rattle.run_law.specs.control.Corrections.{correction_value, cycle_after, has_cleared, hearing_by, heard_since, integration_cycle, recorded_cycle}
+use Rattle.run_law.specs.records.Happenings.{Happening, earlier, time_of}
+use Rattle.run_law.specs.machines.Nodes.{Node}
+use Rattle.run_law.specs.scenario.Scenarios.{Scenario, is_turned_on_at}
+use Rattle.run_law.specs.device.States.{adjustment_after, adjustment_before, adjustment_with, cycle_in, is_joined_by, state_after, state_with}
+use Rattle.run_law.specs.declared.judgement.Why.TheVariants as whys
+use Rattle.run_law.specs.declared.note.NoteBody.TheVariants as notes
+use Rattle.run_law.specs.declared.note.NoteBody.{NoteBody}
+use Rattle.sync_state.specs.declared.state.State.TheVariants.{Integrating}
+use Rattle.sync_state.specs.declared.state.State.{State}
+use Rattle.tte_units.specs.declared.units.Units.{Units}
+use Rattle.world_law.proofs.devices.Borne.{by_last}
+use Rattle.world_law.proofs.lists.Lists.{behind_no, behind_yes}
+use Rattle.world_law.specs.device.Left.{IsLeft}
+use Rattle.world_law.specs.device.Plain.{plain, plain_body, plains}
+
+-- ---- one body
+
+pub joined_plain : (device : DeviceId) (body : NoteBody) → is_joined_by device (plain_body body) ≡ is_joined_by device body
+joined_plain device (notes.State other state cause why) = refl
+joined_plain device other = refl
+
+state_plain : (device : DeviceId) (old : State) (body : NoteBody) → state_with device old (plain_body body) ≡ state_with device old body
+state_plain device old (notes.State other state cause why) = refl
+state_plain device old other = refl
+
+adjustment_plain : (s : Scenario) (device : DeviceId) (cycle : ℕ) (old : Units) (body : NoteBody)
+    → adjustment_with s device cycle old (plain_body body) ≡ adjustment_with s device cycle old body
+adjustment_plain s device cycle old (notes.State other state cause why) = refl
+adjustment_plain s device cycle old other = refl
+
+cycle_plain : (device : DeviceId) (next : ℕ) (h : Happening) (body : NoteBody) → cycle_after device next (plain h) (plain_body body) ≡ cycle_after device next h
+    body
+cycle_plain device next h (notes.State other state cause why) = refl
+cycle_plain device next h other = refl
+
+changes_plain : (device : DeviceId) (body : NoteBody) → changes_adjustment device (plain_body body) ≡ changes_adjustment device body
+changes_plain device (notes.State other state cause why) = refl
+changes_plain device other = refl
+
+ends_plain : (device : DeviceId) (body : NoteBody) → ends_stretch device (plain_body body) ≡ ends_stretch device body
+ends_plain device (notes.State other state cause whys.On) = refl
+ends_plain device (notes.State other state cause why) = refl
+ends_plain device other = refl
+
+point_plain : (device : DeviceId) (h : Happening) (body : NoteBody) → point_by device (plain h) (plain_body body) ≡ point_by device h body
+point_plain device h (notes.State other state cause why) = refl
+point_plain device h other = refl
+
+hearing_plain : (network : Network) (device : DeviceId) (h : Happening) (body : NoteBody) → hearing_by network device (plain h) (plain_body body) ≡ hearing_by
+    network device h body
+hearing_plain network device h (notes.State other state cause why) = refl
+hearing_plain network device h other = refl
+
+-- ---- lists
+
+fold_plain : {B : Type 0} (f : B → Happening → B) → ((b : B) (h : Happening) → f b (plain h) ≡ f b h) → (z : B) (hs : List Happening)
+    → fold f z (plains hs) ≡ fold f z hs
+fold_plain f same z [] = refl
+fold_plain {B} f same z (h ∷ hs) = ap (λ (b : B). fold f b (plains hs)) (same z h) ∙ fold_plain f same (f z h) hs
+
+pub filter_plain : (p q : Happening → Bool) → ((h : Happening) → p (plain h) ≡ q h) → (hs : List Happening) → filter p (plains hs) ≡ plains (filter q hs)
+filter_plain p q same [] = refl
+filter_plain p q same (h ∷ hs) =
+    ap (λ (b : Bool). if b then plain h ∷ filter p (plains hs) else filter p (plains hs)) (same h)
+    ∙ ap (λ (l : List Happening). if q h then plain h ∷ l else l) (filter_plain p q same hs)
+    ∙ elim (q h) as (λ b. (if b then plain h ∷ plains (filter q hs) else plains (filter q hs)) ≡ plains (if b then h ∷ filter q hs else filter q hs))
+    [ true ↦ refl | false ↦ refl ]
+
+map_plain : {Y : Type 0} (f : Happening → Option Y) → ((h : Happening) → f (plain h) ≡ f h) → (hs : List Happening) → filter_map f (plains hs) ≡ filter_map f hs
+map_plain f same [] = refl
+map_plain {Y} f same (h ∷ hs) = ap (λ (o : Option Y). cons_option o (filter_map f (plains hs))) (same h) ∙ ap (cons_option (f h)) (map_plain f same hs)
+
+last_plain : (o : Option Happening) (other : Option Happening) (hs : List Happening) → option_map_or time_of o 0 ≡ option_map_or time_of other 0
+    → option_map_or time_of (last_or o (plains hs)) 0 ≡ option_map_or time_of (last_or other hs) 0
+last_plain o other [] same = same
+last_plain o other (h ∷ hs) same = last_plain (Some (plain h)) (Some h) hs refl
+
+behind_plain : (p q : Happening → Bool) → ((h : Happening) → p (plain h) ≡ q h) → (hs : List Happening) → after_last p (plains hs) ≡ plains (after_last q hs)
+behind_plain p q same hs = by_last (λ (l : List Happening). after_last p (plains l) ≡ plains (after_last q l)) refl (λ l h e.
+    ap (after_last p) (map_push plain l h)
+    ∙ elim (cases_Bool (q h)) [
+      | inl passes ↦ behind_yes p (plains l) (plain h) (same h ∙ passes) ∙ sym (ap plains (behind_yes q l h passes))
+      | inr stays ↦
+          behind_no p (plains l) (plain h) (same h ∙ stays)
+          ∙ ap (λ (k : List Happening). k ++ plain h ∷ []) e
+          ∙ sym (map_push plain (after_last q l) h)
+          ∙ sym (ap plains (behind_no q l h stays))
+    ]) hs
+
+-- ---- what the records tell
+
+pub earlier_plain : (t : ℕ) (hs : List Happening) → earlier t (plains hs) ≡ plains (earlier t hs)
+earlier_plain t hs = filter_plain (λ h. nat_lt (time_of h) t) (λ h. nat_lt (time_of h) t) (λ h. refl) hs
+
+pub states_plain : (s : Scenario) (hs : List Happening) (device : DeviceId) → state_after s (plains hs) device ≡ state_after s hs device
+states_plain s hs device = fold_plain (λ state h. state_with device state h.note.body) (λ b h. state_plain device b h.note.body) _ hs
+
+pub adjustments_plain : (s : Scenario) (hs : List Happening) (device : DeviceId) → adjustment_after s (plains hs) device ≡ adjustment_after s hs device
+adjustments_plain s hs device =
+    fold_plain (λ adjustment h. adjustment_with s device (cycle_in h) adjustment h.note.body) (λ b h. adjustment_plain s device (cycle_in h) b h.note.body) _ hs
+
+pub integrations_plain : (hs : List Happening) (device : DeviceId) → integration_cycle (plains hs) device ≡ integration_cycle hs device
+integrations_plain hs device =
+    fold_plain (λ last h. if is_joined_by device h.note.body then Some (cycle_in h) else last)
+    (λ b h. ap (λ (x : Bool). if x then Some (cycle_in h) else b) (joined_plain device h.note.body)) None hs
+
+pub cycles_plain : (hs : List Happening) (device : DeviceId) → recorded_cycle (plains hs) device ≡ recorded_cycle hs device
+cycles_plain hs device = fold_plain (λ next h. cycle_after device next h h.note.body) (λ b h. cycle_plain device b h h.note.body) 1 hs
+
+pub changes_at_plain : (hs : List Happening) (device : DeviceId) (t : ℕ) → changed_at (plains hs) device t ≡ changed_at hs device t
+changes_at_plain hs device t =
+    ap (λ (l : List Happening). option_map_or time_of (last_or None (filter (λ h. changes_adjustment device h.note.body) l)) 0) (earlier_plain t hs)
+    ∙ ap (λ (l : List Happening). option_map_or time_of (last_or None l) 0)
+    (filter_plain (λ h. changes_adjustment device h.note.body) (λ h. changes_adjustment device h.note.body) (λ h. changes_plain device h.note.body)
+    (earlier t hs))
+    ∙ last_plain None None (filter (λ h. changes_adjustment device h.note.body) (earlier t hs)) refl
+
+pub points_plain : (hs : List Happening) (device : DeviceId) → points_of (plains hs) device ≡ points_of hs device
+points_plain hs device =
+    ap (filter_map (λ h. point_by device h h.note.body)) (behind_plain (λ h. ends_stretch device h.note.body) (λ h. ends_stretch device h.note.body)
+    (λ h. ends_plain device h.note.body) hs)
+    ∙ map_plain (λ h. point_by device h h.note.body) (λ h. point_plain device h h.note.body) (after_last (λ h. ends_stretch device h.note.body) hs)
+
+-- what a joiner has cleared, by its numbers
+abbrev cleared_as : Scenario → DeviceId → Option ℕ → ℕ → ℕ → Units → ℕ → Bool
+cleared_as s device integration cycle changed adjustment by =
+    option_map_or (λ c. cycle == c) integration false
+    && (int_lt (pos (s.reading device changed) +ℤ adjustment.0) (correction_value s.network cycle)
+    && int_le (correction_value s.network cycle) (pos (s.reading device (by - 1)) +ℤ adjustment.0))
+
+integration_plain : (hs : List Happening) (device : DeviceId) (t : ℕ) → integration_cycle (earlier t (plains hs)) device ≡ integration_cycle (earlier t hs)
+    device
+integration_plain hs device t = ap (λ (l : List Happening). integration_cycle l device) (earlier_plain t hs) ∙ integrations_plain (earlier t hs) device
+
+recorded_plain : (hs : List Happening) (device : DeviceId) (t : ℕ) → recorded_cycle (earlier t (plains hs)) device ≡ recorded_cycle (earlier t hs) device
+recorded_plain hs device t = ap (λ (l : List Happening). recorded_cycle l device) (earlier_plain t hs) ∙ cycles_plain (earlier t hs) device
+
+before_plain : (s : Scenario) (hs : List Happening) (device : DeviceId) (t : ℕ) → adjustment_before s (plains hs) device t ≡ adjustment_before s hs device t
+before_plain s hs device t = ap (λ (l : List Happening). adjustment_after s l device) (earlier_plain t hs) ∙ adjustments_plain s (earlier t hs) device
+
+cleared_plain : (s : Scenario) (hs : List Happening) (device : DeviceId) (t by : ℕ) → has_cleared s (plains hs) device t by ≡ has_cleared s hs device t by
+cleared_plain s hs device t by =
+    ap (λ (o : Option ℕ). cleared_as s device o (recorded_cycle (earlier t (plains hs)) device) (changed_at (plains hs) device t)
+    (adjustment_before s (plains hs) device t) by) (integration_plain hs device t)
+    ∙ ap (λ (n : ℕ). cleared_as s device (integration_cycle (earlier t hs) device) n (changed_at (plains hs) device t)
+    (adjustment_before s (plains hs) device t) by) (recorded_plain hs device t)
+    ∙ ap (λ (n : ℕ). cleared_as s device (integration_cycle (earlier t hs) device) (recorded_cycle (earlier t hs) device) n
+    (adjustment_before s (plains hs) device t) by) (changes_at_plain hs device t)
+    ∙ ap (λ (u : Units). cleared_as s device (integration_cycle (earlier t hs) device) (recorded_cycle (earlier t hs) device) (changed_at hs device t) u by)
+    (before_plain s hs device t)
+
+pub heard_plain : (s : Scenario) (hs : List Happening) (device : DeviceId) (t : ℕ) → heard_since s (plains hs) device t ≡ heard_since s hs device t
+heard_plain s hs device t =
+    let p = λ (h : Happening). nat_lt (time_of h) t && changes_adjustment device h.note.body in
+    let k = λ (h : Happening). not (has_cleared s (plains hs) device t t) || has_cleared s (plains hs) device t (time_of h) in
+    let m = λ (h : Happening). not (has_cleared s hs device t t) || has_cleared s hs device t (time_of h) in
+    let since = after_last p hs in
+    ap (λ (l : List Happening). filter_map (λ h. hearing_by s.network device h h.note.body) (filter k l))
+    (behind_plain p p (λ h. ap (λ (b : Bool). nat_lt (time_of h) t && b) (changes_plain device h.note.body)) hs)
+    ∙ ap (filter_map (λ h. hearing_by s.network device h h.note.body))
+    (filter_plain k m (λ h. ap (λ (b : Bool). not b || has_cleared s (plains hs) device t (time_of h)) (cleared_plain s hs device t t)
+    ∙ ap (λ (b : Bool). not (has_cleared s hs device t t) || b) (cleared_plain s hs device t (time_of h))) since)
+    ∙ map_plain (λ h. hearing_by s.network device h h.note.body) (λ h. hearing_plain s.network device h h.note.body) (filter m since)
+
+-- the device stands by the records without their numbers and these causes
+pub left_plain : (s : Scenario) (hs : List Happening) (device : DeviceId) (t : ℕ) (node : Node) → IsLeft s hs device t node → IsLeft s (plains hs) device t node
+left_plain s hs device t node left = record {
+  counted = record {
+    plan = left.counted.plan;
+    adjustment = left.counted.adjustment ∙ sym (before_plain s hs device t);
+    integrated = left.counted.integrated ∙ sym (integration_plain hs device t);
+    number = λ timed.
+        left.counted.number timed
+        ∙ sym (ap (λ (b : Bool). if b then recorded_cycle (earlier t (plains hs)) device + 1 else recorded_cycle (earlier t (plains hs)) device)
+        (cleared_plain s hs device t t)
+        ∙ ap (λ (n : ℕ). if has_cleared s hs device t t then n + 1 else n) (recorded_plain hs device t));
+    changed =
+        left.counted.changed
+        ∙ sym (ap (λ (n : ℕ). pos (s.reading device n) +ℤ (adjustment_before s (plains hs) device t).0) (changes_at_plain hs device t)
+        ∙ ap (λ (u : Units). pos (s.reading device (changed_at hs device t)) +ℤ u.0) (before_plain s hs device t));
+    heard = λ timed. left.counted.heard timed ∙ sym (heard_plain s hs device t);
+    started =
+        subst (λ (o : Option ℕ). IfSome o (λ cycle. cycle ≤ recorded_cycle (earlier t (plains hs)) device)) (sym (integration_plain hs device t))
+        (subst (λ (n : ℕ). IfSome (integration_cycle (earlier t hs) device) (λ cycle. cycle ≤ n)) (sym (recorded_plain hs device t)) left.counted.started);
+    broken = left.counted.broken;
+  };
+  state =
+      left.state ∙ ap (λ (x : State). if is_turned_on_at s device t then Integrating else x)
+      (sym (ap (λ (l : List Happening). state_after s l device) (earlier_plain t hs) ∙ states_plain s (earlier t hs) device));
+  points = λ cm. left.points cm ∙ sym (points_plain hs device);
+}
+
+pub left_numbered : (s : Scenario) (hs : List Happening) (device : DeviceId) (t : ℕ) (node : Node) → IsLeft s (plains hs) device t node
+    → IsLeft s hs device t node
+left_numbered s hs device t node left = record {
+  counted = record {
+    plan = left.counted.plan;
+    adjustment = left.counted.adjustment ∙ before_plain s hs device t;
+    integrated = left.counted.integrated ∙ integration_plain hs device t;
+    number = λ timed.
+        left.counted.number timed
+        ∙ ap (λ (b : Bool). if b then recorded_cycle (earlier t (plains hs)) device + 1 else recorded_cycle (earlier t (plains hs)) device)
+        (cleared_plain s hs device t t)
+        ∙ ap (λ (n : ℕ). if has_cleared s hs device t t then n + 1 else n) (recorded_plain hs device t);
+    changed =
+        left.counted.changed
+        ∙ ap (λ (n : ℕ). pos (s.reading device n) +ℤ (adjustment_before s (plains hs) device t).0) (changes_at_plain hs device t)
+        ∙ ap (λ (u : Units). pos (s.reading device (changed_at hs device t)) +ℤ u.0) (before_plain s hs device t);
+    heard = λ timed. left.counted.heard timed ∙ heard_plain s hs device t;
+    started =
+        subst (λ (n : ℕ). IfSome (integration_cycle (earlier t hs) device) (λ cycle. cycle ≤ n)) (recorded_plain hs device t)
+        (subst (λ (o : Option ℕ). IfSome o (λ cycle. cycle ≤ recorded_cycle (earlier t (plains hs)) device)) (integration_plain hs device t)
+        left.counted.started);
+    broken = left.counted.broken;
+  };
+  state =
+      left.state ∙ ap (λ (x : State). if is_turned_on_at s device t then Integrating else x)
+      (ap (λ (l : List Happening). state_after s l device) (earlier_plain t hs) ∙ states_plain s (earlier t hs) device);
+  points = λ cm. left.points cm ∙ points_plain hs device;
+}
+
+-- so what was still to be told may be told by records that differ in their numbers and these causes
+pub told_by_others : (s : Scenario) (hs gs : List Happening) (device : DeviceId) (t : ℕ) (node : Node) → plains hs ≡ plains gs → IsLeft s hs device t node
+    → IsLeft s gs device t node
+told_by_others s hs gs device t node same left =
+    left_numbered s gs device t node (subst (λ (l : List Happening). IsLeft s l device t node) same (left_plain s hs device t node left))
+
+pub plains_parts : (hs gs : List Happening) → plains (hs ++ gs) ≡ plains hs ++ plains gs
+plains_parts [] gs = refl
+plains_parts (h ∷ hs) gs = ap (λ (l : List Happening). plain h ∷ l) (plains_parts hs gs)

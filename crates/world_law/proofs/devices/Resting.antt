@@ -1,0 +1,168 @@
+-- A device that has nothing due at the present instant, where nothing is to come: it rests from this instant on, or from the
+-- next.
+use Rattle.std.proofs.Common.{◌≡◌, ◌⊎◌, ℕ, ◌+◌, ◌≤◌, ◌<◌, pos, ◌<ℤ◌, ◌≤ℤ◌, Bool, true, false, List, [], ◌∷◌, ◌++◌, inl, inr, refl, sym, ap, subst, ◌∙◌, arith}
+use Rattle.std.proofs.lemmas.Bool.{cases_Bool, cases_lt}
+use Rattle.std.proofs.lemmas.Int.{ints}
+use Rattle.std.proofs.lemmas.List.{append-nil}
+use Rattle.net_plan.specs.declared.ids.DeviceId.{DeviceId}
+use Rattle.net_plan.specs.declared.network.Network.{Network}
+use Rattle.run_law.proofs.runs.Places.{in_left, in_right}
+use Rattle.run_law.specs.device.LocalClocks.{changed_at}
+use Rattle.run_law.specs.records.Happenings.{Happening, happenings, time_of}
+use Rattle.run_law.specs.machines.Nodes.{Node}
+use Rattle.run_law.specs.records.Order.{IsBefore, IsIn}
+use Rattle.run_law.specs.records.Ranks.{key, members_in, place_of, rank}
+use Rattle.run_law.specs.records.Causes.{IsOfThisTime}
+use Rattle.run_law.specs.runs.DueRecords.{IsDue}
+use Rattle.run_law.specs.runs.Runs.{IsFounded}
+use Rattle.run_law.specs.scenario.Scenarios.{Scenario, is_turned_on_at}
+use Rattle.run_law.specs.machines.Tasks.{IsPending, Task, doing, emitting, reading_for}
+use Rattle.run_law.specs.declared.note.Note.{Note}
+use Rattle.world_law.proofs.devices.Deeds.{rests}
+use Rattle.world_law.proofs.devices.TurnedOn.{IsInTime, IsQuietInstant, change_quiet, left_after_on, quiet_rest}
+use Rattle.world_law.proofs.giving.Given.{no_later_breaks}
+use Rattle.world_law.proofs.runs.Foremost.{not_on_after, unmoved_by}
+use Rattle.world_law.specs.device.Deeds.{HasDoneFrom}
+use Rattle.world_law.specs.device.Left.{HasDone, HasSent, IsLeft}
+use Rattle.world_law.specs.device.Own.{moves}
+use Rattle.world_law.specs.world.World.{HaveBefallen, IsTurnedOnBy, IsKept, Stands, World}
+
+-- it rests from this time on
+pub record Rests (s : Scenario) (hs : List Happening) (device : DeviceId) (now : ℕ) (node : Node) : Type 0 where
+  pub from : ℕ
+  pub le : now ≤ from
+  pub soon : from ≤ now + 1
+  pub left : IsLeft s hs device from node
+  pub done : HasDone s hs device from node
+  pub sent : HasSent s device from node
+  pub off : is_turned_on_at s device from ≡ false
+  pub still : (h : Happening) → IsIn h hs → from ≤ time_of h → moves device h.note.body ≡ false
+
+-- the records given are no later than the present instant, and in the order of their times
+pub record IsPast (hs : List Happening) (now : ℕ) : Type 0 where
+  pub past : (h : Happening) → IsIn h hs → time_of h ≤ now
+  pub in_time : IsInTime hs
+
+-- where a record is given at the instant, what follows events is settled
+abbrev pub IsWorked : List Happening → List ℕ → ℕ → Type 0
+IsWorked hs cursor now = (number : ℕ) (h : Happening) → IsOfThisTime hs now number h → IsBefore (now ∷ 2 ∷ []) cursor
+
+no_later_time : (t now : ℕ) (ws more : List ℕ) → IsBefore (t ∷ ws) (now ∷ more) → t ≤ now
+no_later_time t now ws more (inl lt) = omega (arith, lt)
+no_later_time t now ws more (inr (e, b)) = omega (arith, e)
+
+pub in_time_of : (s : Scenario) (hs : List Happening) → IsFounded place_of (IsDue s) hs → IsInTime hs
+in_time_of s hs founded front rest x e h i =
+    let at = Rattle.run_law.proofs.runs.Places.parted h rest i in
+    let split : hs ≡ (front ++ x ∷ at.0) ++ h ∷ at.1 = e ∙ ap (λ (l : List Happening). front ++ x ∷ l) at.2
+    ∙ sym (Rattle.std.proofs.Common.append_assoc front (x ∷ at.0) (h ∷ at.1)) in
+    no_later_time (time_of x) (time_of h) (rank x.note.body ∷ key (members_in x) x.note.body) (rank h.note.body ∷ key (members_in h) h.note.body)
+    ((founded (front ++ x ∷ at.0) at.1 h split).0 x (in_right x front (x ∷ at.0) (inl refl)))
+
+pub are_past : {C M : Type 0} (reading : C → ℕ → ℕ) (stands : M → Network → DeviceId → Node → Type 0) (s : Scenario) (world : World C M) (notes : List Note)
+    (old : Stands reading stands s world notes) → IsPast (happenings s.network notes) world.now
+are_past reading stands s world notes old = record {
+  past = λ h i. elim (old.not_later (place_of h) (old.ahead (place_of h) (old.run.within h i))) [ inl lt ↦ omega (arith, lt) | inr bad ↦ absurd bad.1 ];
+  in_time = in_time_of s (happenings s.network notes) old.run.founded;
+}
+
+-- ---- from the instant on, or from the next
+
+rests_now : {M : Type 0} (stands : M → Network → DeviceId → Node → Type 0) (s : Scenario) (hs : List Happening) (cursor : List ℕ) (now from : ℕ)
+    (device : DeviceId) (machine : M) (k : IsKept stands s hs [] cursor now device machine) → k.up ≡ from → k.high ≡ from → now ≤ from → from ≤ now + 1
+    → is_turned_on_at s device from ≡ false
+    → ((h : Happening) → IsIn h hs → from ≤ time_of h → moves device h.note.body ≡ false) → Rests s hs device now k.node
+rests_now stands s hs cursor now from device machine k up high le soon off still =
+    let whole : hs ++ [] ≡ hs = append-nil hs in
+    let left : IsLeft s hs device from k.node = subst (λ (l : List Happening). IsLeft s l device from k.node) whole
+    (subst (λ (n : ℕ). IsLeft s (hs ++ []) device n k.node) up k.left) in
+    let done : HasDoneFrom s.network (s.reading device) device k.node (changed_at (hs ++ []) device from) from from =
+    subst (λ (n : ℕ). HasDoneFrom s.network (s.reading device) device k.node (changed_at (hs ++ []) device from) from n) high
+    (subst (λ (n : ℕ). HasDoneFrom s.network (s.reading device) device k.node (changed_at (hs ++ []) device n) n k.high) up k.done) in
+    record {
+      from = from;
+      le = le;
+      soon = soon;
+      left = left;
+      done = rests s hs device from (changed_at (hs ++ []) device from) k.node done (sym (ap (λ (l : List Happening). changed_at l device from) whole));
+      sent = record {
+        unsent = λ c w x lt. k.sent.unsent c w x (omega (arith, lt, up));
+        sent = λ c there_is. let x = k.sent.sent c there_is in (x.0, omega (arith, x.1, high), x.2);
+      };
+      off = off;
+      still = still;
+    }
+
+-- it was turned on at the instant
+rests_on : {M : Type 0} (stands : M → Network → DeviceId → Node → Type 0) (s : Scenario) (hs : List Happening) (mark cursor : List ℕ) (now : ℕ)
+    (device : DeviceId) (machine : M) (k : IsKept stands s hs [] cursor now device machine) → k.up ≡ now → k.high ≡ now → is_turned_on_at s device now ≡ true
+    → HaveBefallen s mark now → IsPast hs now → IsWorked hs cursor now
+    → ((task : Task) → IsPending s.network device k.node task → pos (s.reading device now) <ℤ reading_for s.network k.node task) → Rests s hs device now k.node
+rests_on stands s hs mark cursor now device machine k up high on befallen past worked idle =
+    let whole : hs ++ [] ≡ hs = append-nil hs in
+    let was = k.turned on in
+    let turned : IsTurnedOnBy hs device now = subst (λ (l : List Happening). IsTurnedOnBy l device now) whole
+    (was.turned (worked was.number was.event was.befell)) in
+    let q : IsQuietInstant s hs device now = record {
+      past = past.past;
+      quiet = λ h i at. quiet_rest s device now h.note.body (k.still up h (subst (λ (l : List Happening). IsIn h l) (sym whole) i) at);
+      in_time = past.in_time;
+    } in
+    let left : IsLeft s hs device now k.node = subst (λ (l : List Happening). IsLeft s l device now k.node) whole
+    (subst (λ (n : ℕ). IsLeft s (hs ++ []) device n k.node) up k.left) in
+    let off = not_on_after s mark now (now + 1) device befallen (omega arith) in
+    let same = no_later_breaks s mark now (now + 1) device befallen (omega arith) in
+    let sound : k.node.broken ≡ false = left.counted.broken ∙ k.sound in
+    let change : changed_at hs device (now + 1) ≡ changed_at (hs ++ []) device k.up = change_quiet s hs device now q
+    ∙ ap (λ (n : ℕ). changed_at hs device n) (sym up) ∙ ap (λ (l : List Happening). changed_at l device k.up) (sym whole) in
+    record {
+      from = now + 1;
+      le = omega arith;
+      soon = omega arith;
+      left = left_after_on s hs device now k.node q on off same turned left;
+      done = record {
+        undone = λ deed u x from lt. elim (cases_lt x now) [
+          | inl before ↦ k.done.undone deed u x (omega (arith, from, change)) (omega (arith, before, up))
+          | inr ge ↦ let at : x ≡ now =
+              omega (arith, ge, lt) in subst (λ (n : ℕ). pos (s.reading device n) <ℤ reading_for s.network k.node (doing deed)) (sym at)
+              (idle (doing deed) (sound, u))
+        ];
+        done = λ deed there. let x = k.done.done deed there in (x.0, omega (arith, x.1, change), omega (arith, x.2, high), x.3);
+      };
+      sent = record {
+        unsent = λ c w x lt. elim (cases_lt x now) [
+          | inl before ↦ k.sent.unsent c w x (omega (arith, before, up))
+          | inr ge ↦ let at : x ≡ now =
+              omega (arith, ge, lt) in subst (λ (n : ℕ). pos (s.reading device n) <ℤ reading_for s.network k.node (emitting c)) (sym at)
+              (idle (emitting c) (sound, w))
+        ];
+        sent = λ c there. let x = k.sent.sent c there in (x.0, omega (arith, x.1, high), x.2);
+      };
+      off = off;
+      still = λ h i from. let early = past.past h i in absurd (omega (arith, early, from));
+    }
+
+-- where nothing of it is due at the instant
+pub at_rest : {M : Type 0} (stands : M → Network → DeviceId → Node → Type 0) (s : Scenario) (hs : List Happening) (mark cursor : List ℕ) (now : ℕ)
+    (device : DeviceId) (machine : M) (k : IsKept stands s hs [] cursor now device machine) → HaveBefallen s mark now → IsPast hs now → IsWorked hs cursor now
+    → ((task : Task) → IsPending s.network device k.node task → pos (s.reading device now) <ℤ reading_for s.network k.node task) → Rests s hs device now k.node
+at_rest stands s hs mark cursor now device machine k befallen past worked idle =
+    let inside : (h : Happening) → IsIn h hs → IsIn h (hs ++ []) = λ h i. subst (λ (l : List Happening). IsIn h l) (sym (append-nil hs)) i in
+    elim k.doing [
+      | inr d ↦ absurd (never_both _ _ (idle d.3.0 d.3.1) d.3.2)
+      | inl rested ↦ elim k.acted [
+        | inr over ↦
+            rests_now stands s hs cursor now (now + 1) device machine k over.0 (rested ∙ over.0) (omega arith) (omega arith)
+            (not_on_after s mark now (now + 1) device befallen (omega arith))
+            (λ h i from. let early = past.past h i in absurd (omega (arith, early, from)))
+        | inl yet ↦ elim (cases_Bool (is_turned_on_at s device now)) [
+          | inl on ↦ rests_on stands s hs mark cursor now device machine k yet.0 (rested ∙ yet.0) on befallen past worked idle
+          | inr off ↦
+              rests_now stands s hs cursor now now device machine k yet.0 (rested ∙ yet.0) (omega arith) (omega arith) off
+              (λ h i from. let early = past.past h i in unmoved_by s device now h.note.body off (k.still yet.0 h (inside h i) (omega (arith, early, from))))
+        ]
+      ]
+    ]
+  where
+    never_both : (a b : Rattle.std.proofs.Common.ℤ) → a <ℤ b → b ≤ℤ a → ⊥
+    never_both a b lt le = omega (arith, ints, lt, le)

@@ -1,0 +1,230 @@
+-- A device that was turned on at an instant, and has done nothing at it, stands right after it as one that looks for the
+-- common time.
+use Rattle.std.proofs.Common.{◌≡◌, ◌⊎◌, ℕ, ◌+◌, ◌≤◌, ◌<◌, pos, ◌+ℤ◌, Bool, true, false, List, [], ◌∷◌, ◌++◌, filter, fold, if◌then◌else◌, Option, Some, None, IfSome, inl, inr, refl, sym, ap, subst, ◌∙◌, arith}
+use Rattle.std.specs.Prelude.{nat_le, nat_lt}
+use Rattle.std.specs.List.{last_or}
+use Rattle.std.specs.Option.{option_map_or}
+use Rattle.std.proofs.lemmas.Bool.{cases_lt}
+use Rattle.net_plan.specs.declared.ids.DeviceId.{DeviceId}
+use Rattle.run_law.proofs.runs.Places.{in_right, parted}
+use Rattle.run_law.specs.device.LocalClocks.{changed_at, changes_adjustment, local_at_change}
+use Rattle.run_law.specs.control.Corrections.{cycle_after, integration_cycle, recorded_cycle}
+use Rattle.run_law.specs.scenario.Devices.{start_of}
+use Rattle.run_law.specs.records.Happenings.{Happening, earlier, time_of, up_to}
+use Rattle.run_law.specs.machines.Nodes.{Node}
+use Rattle.run_law.specs.records.Order.{IsIn}
+use Rattle.run_law.specs.scenario.Scenarios.{Scenario, is_broken, is_turned_on_at}
+use Rattle.run_law.specs.device.States.{adjustment_before, adjustment_with, cycle_in, is_joined_by, state_after, state_with}
+use Rattle.run_law.specs.declared.judgement.Why.TheVariants.{On}
+use Rattle.run_law.specs.declared.note.NoteBody.TheVariants as notes
+use Rattle.run_law.specs.declared.note.NoteBody.{NoteBody}
+use Rattle.sync_state.specs.Standing.{state_at_start}
+use Rattle.sync_state.specs.declared.state.State.TheVariants.{Integrating}
+use Rattle.sync_state.specs.declared.state.State.{State}
+use Rattle.tte_units.specs.declared.units.Units.{Units}
+use Rattle.world_law.proofs.devices.OwnRecords.{changes_no_other, earlier_no, earlier_yes, joins_no_other, keeps_adjustment, keeps_cycle, keeps_state}
+use Rattle.world_law.proofs.devices.Passes.{not_turned_on}
+use Rattle.world_law.specs.device.Left.{IsLeft, is_timed}
+use Rattle.world_law.specs.device.Own.{moves}
+use Rattle.world_law.specs.world.World.{IsAtRest, IsTurnedOnBy, is_turning}
+
+-- each record stands behind those of earlier times
+abbrev pub IsInTime : List Happening → Type 0
+IsInTime hs = (front rest : List Happening) (x : Happening) → hs ≡ front ++ x ∷ rest → (h : Happening) → IsIn h rest → time_of x ≤ time_of h
+
+-- a record leaves the device at rest
+abbrev pub IsQuiet : DeviceId → NoteBody → Type 0
+IsQuiet device body = (moves device body ≡ false) ⊎ (is_turning device body ≡ true)
+
+pub quiet_rest : (s : Scenario) (device : DeviceId) (now : ℕ) (body : NoteBody) → IsAtRest s device now body → IsQuiet device body
+quiet_rest s device now body (inl e) = inl e
+quiet_rest s device now body (inr on) = inr on.0
+
+-- ---- what such a record does not change
+
+turning_joins : (device : DeviceId) (body : NoteBody) → is_turning device body ≡ true → is_joined_by device body ≡ false
+turning_joins device (notes.State other Integrating cause On) e = refl
+turning_joins device other e = absurd cc
+
+pub quiet_joins : (device : DeviceId) (body : NoteBody) → IsQuiet device body → is_joined_by device body ≡ false
+quiet_joins device body (inl e) = joins_no_other device body e
+quiet_joins device body (inr e) = turning_joins device body e
+
+turning_changes : (device : DeviceId) (body : NoteBody) → is_turning device body ≡ true → changes_adjustment device body ≡ false
+turning_changes device (notes.State other Integrating cause On) e = refl
+turning_changes device other e = absurd cc
+
+pub quiet_changes : (device : DeviceId) (body : NoteBody) → IsQuiet device body → changes_adjustment device body ≡ false
+quiet_changes device body (inl e) = changes_no_other device body e
+quiet_changes device body (inr e) = turning_changes device body e
+
+turning_adjustment : (s : Scenario) (device : DeviceId) (cycle : ℕ) (old : Units) (body : NoteBody) → is_turning device body ≡ true
+    → adjustment_with s device cycle old body ≡ old
+turning_adjustment s device cycle old (notes.State other Integrating cause On) e = refl
+turning_adjustment s device cycle old other e = absurd cc
+
+quiet_adjustment : (s : Scenario) (device : DeviceId) (cycle : ℕ) (old : Units) (body : NoteBody) → IsQuiet device body
+    → adjustment_with s device cycle old body ≡ old
+quiet_adjustment s device cycle old body (inl e) = keeps_adjustment s device cycle old body e
+quiet_adjustment s device cycle old body (inr e) = turning_adjustment s device cycle old body e
+
+turning_cycle : (device : DeviceId) (next : ℕ) (h : Happening) (body : NoteBody) → is_turning device body ≡ true → cycle_after device next h body ≡ next
+turning_cycle device next h (notes.State other Integrating cause On) e = refl
+turning_cycle device next h other e = absurd cc
+
+quiet_cycle : (device : DeviceId) (next : ℕ) (h : Happening) (body : NoteBody) → IsQuiet device body → cycle_after device next h body ≡ next
+quiet_cycle device next h body (inl e) = keeps_cycle device next h body e
+quiet_cycle device next h body (inr e) = turning_cycle device next h body e
+
+pub turning_state : (device : DeviceId) (old : State) (body : NoteBody) → is_turning device body ≡ true → state_with device old body ≡ Integrating
+turning_state device old (notes.State other Integrating cause On) e = ap (λ (b : Bool). if b then Integrating else old) e
+turning_state device old other e = absurd cc
+
+-- ---- folds over the records before a time
+
+pub fold_still : {B : Type 0} (f : B → Happening → B) (t later : ℕ) → t ≤ later → (hs : List Happening)
+    → ((h : Happening) → IsIn h hs → t ≤ time_of h → time_of h < later → (z : B) → f z h ≡ z) → (z : B) → fold f z (earlier later hs) ≡ fold f z (earlier t hs)
+fold_still f t later le [] still z = refl
+fold_still {B} f t later le (h ∷ hs) still z =
+    let more = fold_still f t later le hs (λ g i. still g (inr i)) in
+    elim (cases_lt (time_of h) t) [
+      | inl lt ↦ ap (fold f z) (earlier_yes later h hs (omega (arith, lt, le))) ∙ more (f z h) ∙ sym (ap (fold f z) (earlier_yes t h hs lt))
+      | inr ge ↦ elim (cases_lt (time_of h) later) [
+        | inl lt ↦ ap (fold f z) (earlier_yes later h hs lt) ∙ ap (λ (y : B). fold f y (earlier later hs)) (still h (inl refl) ge lt z) ∙ more z
+            ∙ sym (ap (fold f z) (earlier_no t h hs ge))
+        | inr far ↦ ap (fold f z) (earlier_no later h hs far) ∙ more z ∙ sym (ap (fold f z) (earlier_no t h hs ge))
+      ]
+    ]
+
+filter_still : (p : Happening → Bool) (t later : ℕ) → t ≤ later → (hs : List Happening)
+    → ((h : Happening) → IsIn h hs → t ≤ time_of h → time_of h < later → p h ≡ false) → filter p (earlier later hs) ≡ filter p (earlier t hs)
+filter_still p t later le [] still = refl
+filter_still p t later le (h ∷ hs) still =
+    let more = filter_still p t later le hs (λ g i. still g (inr i)) in
+    elim (cases_lt (time_of h) t) [
+      | inl lt ↦ ap (filter p) (earlier_yes later h hs (omega (arith, lt, le))) ∙ ap (λ (l : List Happening). if p h then h ∷ l else l) more
+          ∙ sym (ap (filter p) (earlier_yes t h hs lt))
+      | inr ge ↦ elim (cases_lt (time_of h) later) [
+        | inl lt ↦ ap (filter p) (earlier_yes later h hs lt) ∙ ap (λ (b : Bool). if b then h ∷ filter p (earlier later hs) else filter p (earlier later hs))
+            (still h (inl refl) ge lt) ∙ more ∙ sym (ap (filter p) (earlier_no t h hs ge))
+        | inr far ↦ ap (filter p) (earlier_no later h hs far) ∙ more ∙ sym (ap (filter p) (earlier_no t h hs ge))
+      ]
+    ]
+
+-- what is before the next unit of time is what is up to this one
+pub next_is_up_to : (now : ℕ) (hs : List Happening) → earlier (now + 1) hs ≡ up_to now hs
+next_is_up_to now [] = refl
+next_is_up_to now (h ∷ hs) =
+    ap (λ (l : List Happening). if nat_lt (time_of h) (now + 1) then h ∷ l else l) (next_is_up_to now hs)
+    ∙ ap (λ (b : Bool). if b then h ∷ up_to now hs else up_to now hs) (one_more (time_of h) now)
+  where
+    one_more : (a b : ℕ) → nat_lt a (b + 1) ≡ nat_le a b
+    one_more a b = elim (cases_lt b a) [
+      | inl lt ↦ Rattle.std.proofs.lemmas.Bool.le-ltb a (b + 1) (omega (arith, lt)) ∙ sym (Rattle.std.proofs.lemmas.Bool.lt-leb a b lt)
+      | inr ge ↦ Rattle.std.proofs.lemmas.Bool.lt-ltb a (b + 1) (omega (arith, ge)) ∙ sym (Rattle.std.proofs.lemmas.Bool.le-leb a b ge)
+    ]
+
+pub all_up_to : (now : ℕ) (hs : List Happening) → ((h : Happening) → IsIn h hs → time_of h ≤ now) → up_to now hs ≡ hs
+all_up_to now [] past = refl
+all_up_to now (h ∷ hs) past =
+    ap (λ (b : Bool). if b then h ∷ up_to now hs else up_to now hs) (Rattle.std.proofs.lemmas.Bool.le-leb (time_of h) now (past h (inl refl)))
+    ∙ ap (λ (l : List Happening). h ∷ l) (all_up_to now hs (λ g i. past g (inr i)))
+
+fold_parts : {B : Type 0} (f : B → Happening → B) (z : B) (ps xs : List Happening) → fold f z (ps ++ xs) ≡ fold f (fold f z ps) xs
+fold_parts f z [] xs = refl
+fold_parts f z (p ∷ ps) xs = fold_parts f (f z p) ps xs
+
+-- ---- the state
+
+pub looking_on : (device : DeviceId) (hs : List Happening) → ((h : Happening) → IsIn h hs → IsQuiet device h.note.body)
+    → fold (λ state h. state_with device state h.note.body) Integrating hs ≡ Integrating
+looking_on device [] quiet = refl
+looking_on device (h ∷ hs) quiet =
+    ap (λ (z : State). fold (λ state g. state_with device state g.note.body) z hs) (elim (quiet h (inl refl)) [
+      | inl e ↦ keeps_state device Integrating h.note.body e
+      | inr e ↦ turning_state device Integrating h.note.body e
+    ])
+    ∙ looking_on device hs (λ g i. quiet g (inr i))
+
+-- what an instant's records are, at which the device was turned on and did nothing
+pub record IsQuietInstant (s : Scenario) (hs : List Happening) (device : DeviceId) (now : ℕ) : Type 0 where
+  pub past : (h : Happening) → IsIn h hs → time_of h ≤ now
+  pub quiet : (h : Happening) → IsIn h hs → time_of h ≡ now → IsQuiet device h.note.body
+  pub in_time : IsInTime hs
+
+pub on_state : (s : Scenario) (hs : List Happening) (device : DeviceId) (now : ℕ) → IsQuietInstant s hs device now → IsTurnedOnBy hs device now
+    → state_after s (up_to now hs) device ≡ Integrating
+on_state s hs device now q on =
+    let f = λ (state : State) (h : Happening). state_with device state h.note.body in
+    let at = parted on.by hs on.there in
+    let begun = fold f (state_at_start (start_of s.network device)) at.0 in
+    let rest : (h : Happening) → IsIn h at.1 → IsQuiet device h.note.body = λ h i.
+    let inside : IsIn h hs = subst (λ (l : List Happening). IsIn h l) (sym at.2) (in_right h at.0 (on.by ∷ at.1) (inr i)) in
+    let from = q.in_time at.0 at.1 on.by at.2 h i in
+    let to = q.past h inside in
+    let by_at = on.at in
+    q.quiet h inside (omega (arith, from, to, by_at)) in
+    ap (λ (l : List Happening). state_after s l device) (all_up_to now hs q.past ∙ at.2)
+    ∙ fold_parts f (state_at_start (start_of s.network device)) at.0 (on.by ∷ at.1)
+    ∙ ap (λ (z : State). fold f z at.1) (turning_state device begun on.by.note.body on.turning)
+    ∙ looking_on device at.1 rest
+
+-- ---- the node
+
+pub adjustment_quiet : (s : Scenario) (hs : List Happening) (device : DeviceId) (now : ℕ) → IsQuietInstant s hs device now
+    → adjustment_before s hs device (now + 1) ≡ adjustment_before s hs device now
+adjustment_quiet s hs device now q =
+    fold_still (λ adjustment h. adjustment_with s device (cycle_in h) adjustment h.note.body) now (now + 1) (omega arith) hs (λ h i from lt z.
+    let past = q.past h i in quiet_adjustment s device (cycle_in h) z h.note.body (q.quiet h i (omega (arith, from, past)))) _
+
+integration_quiet : (s : Scenario) (hs : List Happening) (device : DeviceId) (now : ℕ) → IsQuietInstant s hs device now
+    → integration_cycle (earlier (now + 1) hs) device ≡ integration_cycle (earlier now hs) device
+integration_quiet s hs device now q =
+    fold_still (λ last h. if is_joined_by device h.note.body then Some (cycle_in h) else last) now (now + 1) (omega arith) hs (λ h i from lt z.
+    let past = q.past h i in ap (λ (b : Bool). if b then Some (cycle_in h) else z) (quiet_joins device h.note.body (q.quiet h i (omega (arith, from, past)))))
+    None
+
+cycle_quiet : (s : Scenario) (hs : List Happening) (device : DeviceId) (now : ℕ) → IsQuietInstant s hs device now
+    → recorded_cycle (earlier (now + 1) hs) device ≡ recorded_cycle (earlier now hs) device
+cycle_quiet s hs device now q =
+    fold_still (λ next h. cycle_after device next h h.note.body) now (now + 1) (omega arith) hs (λ h i from lt z.
+    let past = q.past h i in quiet_cycle device z h h.note.body (q.quiet h i (omega (arith, from, past)))) 1
+
+pub change_quiet : (s : Scenario) (hs : List Happening) (device : DeviceId) (now : ℕ) → IsQuietInstant s hs device now
+    → changed_at hs device (now + 1) ≡ changed_at hs device now
+change_quiet s hs device now q =
+    ap (λ (l : List Happening). option_map_or time_of (last_or None l) 0)
+    (filter_still (λ h. changes_adjustment device h.note.body) now (now + 1) (omega arith) hs
+    (λ h i from lt. let past = q.past h i in quiet_changes device h.note.body (q.quiet h i (omega (arith, from, past)))))
+
+local_quiet : (s : Scenario) (hs : List Happening) (device : DeviceId) (now : ℕ) → IsQuietInstant s hs device now
+    → local_at_change s hs device (now + 1) ≡ local_at_change s hs device now
+local_quiet s hs device now q =
+    ap (λ (n : ℕ). pos (s.reading device n) +ℤ (adjustment_before s hs device (now + 1)).0) (change_quiet s hs device now q)
+    ∙ ap (λ (u : Units). pos (s.reading device (changed_at hs device now)) +ℤ u.0) (adjustment_quiet s hs device now q)
+
+pub left_after_on : (s : Scenario) (hs : List Happening) (device : DeviceId) (now : ℕ) (node : Node) → IsQuietInstant s hs device now
+    → is_turned_on_at s device now ≡ true → is_turned_on_at s device (now + 1) ≡ false → is_broken s device (now + 1) ≡ is_broken s device now
+    → IsTurnedOnBy hs device now → IsLeft s hs device now node → IsLeft s hs device (now + 1) node
+left_after_on s hs device now node q on off same turned left =
+    let looking : node.standing.state ≡ Integrating = left.state ∙ ap (λ (b : Bool). if b then Integrating else state_after s (earlier now hs) device) on in
+    let untimed : is_timed node.standing.state ≡ true → ⊥ = λ timed. let bad : false ≡ true = sym (ap is_timed looking) ∙ timed in cc in
+    record {
+      counted = record {
+        plan = left.counted.plan;
+        adjustment = left.counted.adjustment ∙ sym (adjustment_quiet s hs device now q);
+        integrated = left.counted.integrated ∙ sym (integration_quiet s hs device now q);
+        number = λ timed. absurd (untimed timed);
+        changed = left.counted.changed ∙ sym (local_quiet s hs device now q);
+        heard = λ timed. absurd (untimed timed);
+        started =
+            subst (λ (o : Option ℕ). IfSome o (λ cycle. cycle ≤ recorded_cycle (earlier (now + 1) hs) device)) (sym (integration_quiet s hs device now q))
+            (subst (λ (n : ℕ). IfSome (integration_cycle (earlier now hs) device) (λ cycle. cycle ≤ n)) (sym (cycle_quiet s hs device now q))
+            left.counted.started);
+        broken = left.counted.broken ∙ sym same;
+      };
+      state =
+          looking ∙ sym (on_state s hs device now q turned) ∙ ap (λ (l : List Happening). state_after s l device) (sym (next_is_up_to now hs))
+          ∙ sym (not_turned_on s hs device (now + 1) off);
+      points = left.points;
+    }

@@ -1,0 +1,4 @@
+-- The first of what is to come is given.
+pub mod GivenParts
+pub mod Naming
+pub mod Given

@@ -1,0 +1,9 @@
+-- What a device does at one moment comes in its order, and is bounded.
+pub mod Openings
+pub mod Growing
+pub mod Spans
+pub mod Few
+pub mod FromZero
+pub mod FewRows
+pub mod Acts
+pub mod Repeating

@@ -1,0 +1,316 @@
+-- Where a device has acted, each task that is still due at the moment stands behind what it did.
+use Rattle.std.proofs.Common.{◌≡◌, ◌⊎◌, ℕ, ◌+◌, ◌≤◌, ◌<◌, ℤ, pos, ◌+ℤ◌, ◌-ℤ◌, ◌<ℤ◌, ◌≤ℤ◌, List, [], ◌∷◌, ◌++◌, Option, Some, Contains, inl, inr, refl, sym, ap, subst, ◌∙◌, arith}
+use Rattle.std.specs.Option.{option_map_or}
+use Rattle.std.proofs.lemmas.Bool.{cases_lt, cases_order}
+use Rattle.std.proofs.lemmas.Int.{ints}
+use Rattle.std.proofs.lemmas.List.Elements.{Contains-append_right}
+use Rattle.compression.specs.declared.compressed.Compressed.{Compressed}
+use Rattle.compression.proofs.Elements.{in_head}
+use Rattle.membership.specs.Summary.{Summary}
+use Rattle.net_plan.specs.Ranges.{IsInRange}
+use Rattle.net_plan.specs.declared.ids.DeviceId.{DeviceId}
+use Rattle.net_plan.specs.declared.ids.RowId.{RowId}
+use Rattle.net_plan.specs.declared.network.Network.{Network}
+use Rattle.net_plan.specs.declared.tables.Row.{Row}
+use Rattle.pcf_values.specs.declared.pcf.Pcf.{Pcf}
+use Rattle.run_law.proofs.runs.Places.{either_way}
+use Rattle.run_law.specs.control.Collections.{observation_window}
+use Rattle.run_law.specs.control.Corrections.{correction_value}
+use Rattle.run_law.specs.machines.Answers.{IsActOf, after_correction, after_emission, called, own_hearing, with_done}
+use Rattle.run_law.specs.machines.Calls.{MayCall}
+use Rattle.run_law.specs.machines.Nodes.{ClockTask, Node, acting, correcting, dispatching, sending}
+use Rattle.run_law.specs.machines.Tasks.{IsFirstTask, IsPending, Task, doing, emitting, order_of, reading_for, value_of}
+use Rattle.run_law.specs.records.Order.{IsBefore}
+use Rattle.run_law.specs.scenario.Devices.{plan_of}
+use Rattle.run_law.specs.declared.steps.Act.TheVariants as acts
+use Rattle.run_law.specs.declared.steps.Act.{Act}
+use Rattle.run_law.specs.declared.steps.Moment.{Moment}
+use Rattle.run_law.specs.declared.steps.Ripe.{Ripe}
+use Rattle.schedule_tables.specs.Dispatches.{dispatch_order}
+use Rattle.schedule_tables.specs.Entries.{IsEntry}
+use Rattle.schedule_tables.specs.Rules.{KeepsRules}
+use Rattle.schedule_tables.specs.declared.entry.Entry.{Entry}
+use Rattle.schedule_tables.specs.declared.rule.Rule.TheVariants.{ScheduleStart}
+use Rattle.sync_state.specs.Standing.{next_point, point_in}
+use Rattle.sync_state.specs.declared.answers.Verdict.TheVariants.{AsyncClique, Cleared, Corrected, SyncClique}
+use Rattle.sync_state.specs.declared.answers.Verdict.{Verdict}
+use Rattle.sync_state.specs.declared.state.State.TheVariants.{Integrating}
+use Rattle.tte_units.specs.Amount.{amount}
+use Rattle.world_law.proofs.acts.Acted.{acted, heard_so, no_cluster}
+use Rattle.world_law.proofs.acts.Ready.{natural}
+use Rattle.world_law.proofs.growing.Openings.{from_zero, one_waiting}
+use Rattle.world_law.proofs.rows.Apart.{apart_so, precise, row_apart}
+use Rattle.world_law.proofs.rows.AtHand.{value_is}
+use Rattle.world_law.proofs.rows.Reached.{ShowsAt, cycles_apart}
+use Rattle.world_law.specs.device.Growing.{ActsGrow, IsFromZero, order_of_act}
+
+-- ---- the precision
+
+-- it is a number, and less than the cycle
+pub whole_precision : (network : Network) → IsInRange network → network.precision.0 ≡ pos (amount network.precision)
+whole_precision network range = let least = range.precision.least in natural network.precision.0 (omega (arith, ints, least))
+
+pub wide : (network : Network) → IsInRange network → KeepsRules network → network.precision.0 ≤ℤ pos (amount network.cycle)
+wide network range rules =
+    let whole = whole_precision network range in
+    let ends = (rules ScheduleStart 0).ends in
+    omega (arith, ints, whole, ends)
+
+-- what is due and has not waited for as long as the precision
+due_shows : (v a reading p : ℤ) (precision : ℕ) → p ≡ pos precision → (v -ℤ a) ≤ℤ reading → reading <ℤ ((v -ℤ a) +ℤ p) → ShowsAt (reading +ℤ a) v precision
+due_shows v a reading p precision whole reached late = record {
+  least = omega (arith, ints, reached);
+  most = omega (arith, ints, late, whole);
+}
+
+-- ---- places
+
+not_less : (k m n : ℕ) → (IsBefore (k ∷ m ∷ []) (k ∷ n ∷ []) → ⊥) → n ≤ m
+not_less k m n none = elim (cases_lt m n) [ inl lt ↦ absurd (none (inr (refl, inl lt))) | inr ge ↦ ge ]
+
+row_order : (network : Network) (row : RowId) (entry : Entry) → IsEntry network row.0 entry
+    → dispatch_order network row ≡ amount entry.row.offset ∷ entry.row.link.0 ∷ row.0 ∷ []
+row_order network row entry is = ap (λ (o : Option Row). option_map_or (λ (r : Row). amount r.offset ∷ r.link.0 ∷ row.0 ∷ []) o []) is.row
+
+third_of : (a b c d e f : ℕ) → ◌≡◌ {A = List ℕ} (a ∷ b ∷ c ∷ []) (d ∷ e ∷ f ∷ []) → c ≡ f
+third_of a b c d e f same = cc
+
+-- of two rows one is dispatched before the other
+rows_apart : (network : Network) (row other : RowId) (entry with : Entry) → IsEntry network row.0 entry → IsEntry network other.0 with → (row.0 ≡ other.0 → ⊥)
+    → (IsBefore (3 ∷ dispatch_order network other) (3 ∷ dispatch_order network row) → ⊥)
+    → IsBefore (3 ∷ dispatch_order network row) (3 ∷ dispatch_order network other)
+rows_apart network row other entry with is at apart none =
+    elim (either_way (dispatch_order network row) (dispatch_order network other)) [
+      | inl before ↦ inr (refl, before)
+      | inr rest ↦
+          elim rest [
+            | inl same ↦ absurd (apart (third_of _ _ row.0 _ _ other.0 (sym (row_order network row entry is) ∙ same ∙ row_order network other with at)))
+            | inr behind ↦ absurd (none (inr (refl, behind)))
+          ]
+    ]
+
+-- ---- what was done is not pending
+
+gone_deed : (network : Network) (device : DeviceId) (node new : Node) (moment : Moment) (deed : ClockTask) → new ≡ called moment acting (with_done node deed)
+    → IsPending network device new (doing deed) → ⊥
+gone_deed network device node new moment deed is =
+    subst (λ (n : Node). IsPending network device n (doing deed) → ⊥) (sym is)
+    (λ p. p.1.not_yet (Contains-append_right node.done (deed ∷ []) deed (in_head deed [])))
+
+gone_emission : (network : Network) (device : DeviceId) (node new : Node) (moment : Moment) (sent : Compressed) (heard : Ripe)
+    → heard ≡ own_hearing network device node sent → new ≡ called moment acting (after_emission network device node moment sent heard)
+    → IsPending network device new (emitting sent) → ⊥
+gone_emission network device node new moment sent heard so is =
+    let whole : new ≡ called moment acting (after_emission network device node moment sent (own_hearing network device node sent)) = is
+    ∙ ap (λ (r : Ripe). called moment acting (after_emission network device node moment sent r)) so in
+    let there : Contains (node.emitted ++ sent ∷ []) sent = Contains-append_right node.emitted (sent ∷ []) sent (in_head sent []) in
+    subst (λ (n : Node). IsPending network device n (emitting sent) → ⊥) (sym whole)
+    (heard_so (plan_of network device) (observation_window network) node.standing.state node.standing.adjustment.0 sent.at.0 sent.cycle sent.members
+    (λ (r : Ripe). IsPending network device (called moment acting (after_emission network device node moment sent r)) (emitting sent) → ⊥)
+    (λ p. p.1.not_yet there)
+    (λ p. p.1.not_yet there)
+    (λ p. no_cluster (observation_window network) p.1.clusters p.1.cluster p.1.are p.1.there)
+    (λ p. p.1.not_yet there))
+
+-- ---- what is behind each act, of the tasks that were pending before
+
+behind_emission : (network : Network) (device : DeviceId) (node new : Node) (reading : ℤ) (sent : Compressed) (task : Task) → IsFromZero network device node
+    → IsFirstTask network device node reading (emitting sent) → (IsPending network device new (emitting sent) → ⊥)
+    → IsPending network device new task → IsPending network device node task → reading_for network node task ≤ℤ reading
+    → IsBefore (0 ∷ amount sent.opened ∷ []) (order_of network task)
+behind_emission network device node new reading sent (doing (sending n)) zero_on first gone p q due = inl (omega arith)
+behind_emission network device node new reading sent (doing (correcting n)) zero_on first gone p q due = inl (omega arith)
+behind_emission network device node new reading sent (doing (dispatching row n)) zero_on first gone p q due = inl (omega arith)
+behind_emission network device node new reading sent (emitting other) zero_on first gone p q due =
+    let least = not_less 0 (amount other.opened) (amount sent.opened) (first.first (emitting other) q due) in
+    elim (cases_lt (amount sent.opened) (amount other.opened)) [
+      | inl lt ↦ inr (refl, inl lt)
+      | inr most ↦
+          let same : amount other.opened ≡ amount sent.opened = omega (arith, least, most) in
+          let one = one_waiting network device node other sent q.1 first.pending.1
+          (from_zero network device node other zero_on q.1 ∙ ap (λ (n : ℕ). pos n) same ∙ sym (from_zero network device node sent zero_on first.pending.1)) in
+          absurd (gone (subst (λ (c : Compressed). IsPending network device new (emitting c)) one p))
+    ]
+
+behind_sending : (network : Network) (device : DeviceId) (node new : Node) (reading : ℤ) (cycle : ℕ) (task : Task)
+    → IsFirstTask network device node reading (doing (sending cycle)) → (IsPending network device new (doing (sending cycle)) → ⊥)
+    → IsPending network device new task → IsPending network device node task → reading_for network node task ≤ℤ reading
+    → IsBefore (1 ∷ cycle ∷ []) (order_of network task)
+behind_sending network device node new reading cycle (emitting other) first gone p q due = absurd (first.first (emitting other) q due (inl (omega arith)))
+behind_sending network device node new reading cycle (doing (correcting n)) first gone p q due = inl (omega arith)
+behind_sending network device node new reading cycle (doing (dispatching row n)) first gone p q due = inl (omega arith)
+behind_sending network device node new reading cycle (doing (sending n)) first gone p q due =
+    let least = not_less 1 n cycle (first.first (doing (sending n)) q due) in
+    elim (cases_lt cycle n) [
+      | inl lt ↦ inr (refl, inl lt)
+      | inr most ↦
+          let same : n ≡ cycle = omega (arith, least, most) in
+          absurd (gone (subst (λ (k : ℕ). IsPending network device new (doing (sending k))) same p))
+    ]
+
+-- one row of two cycles is not due at once
+same_row : (network : Network) (node : Node) (reading : ℤ) (row : RowId) (m n : ℕ) → IsInRange network → KeepsRules network → m < n
+    → reading <ℤ (reading_for network node (doing (dispatching row m)) +ℤ network.precision.0)
+    → reading_for network node (doing (dispatching row n)) ≤ℤ reading → ⊥
+same_row network node reading row m n range rules lt late due =
+    let far = cycles_apart m n (amount network.cycle) lt in
+    let size = wide network range rules in
+    omega (arith, ints, far, size, late, due)
+
+behind_dispatch : (network : Network) (device : DeviceId) (node new : Node) (moment : Moment) (row : RowId) (cycle : ℕ) (task : Task) → IsInRange network
+    → KeepsRules network → MayCall network device node moment acting
+    → IsFirstTask network device node moment.reading.0 (doing (dispatching row cycle)) → (IsPending network device new (doing (dispatching row cycle)) → ⊥)
+    → IsPending network device new task → IsPending network device node task → reading_for network node task ≤ℤ moment.reading.0
+    → IsBefore (3 ∷ dispatch_order network row) (order_of network task)
+behind_dispatch network device node new moment row cycle (emitting other) range rules may first gone p q due =
+    absurd (first.first (emitting other) q due (inl (omega arith)))
+behind_dispatch network device node new moment row cycle (doing (sending n)) range rules may first gone p q due =
+    absurd (first.first (doing (sending n)) q due (inl (omega arith)))
+behind_dispatch network device node new moment row cycle (doing (correcting n)) range rules may first gone p q due =
+    absurd (first.first (doing (correcting n)) q due (inl (omega arith)))
+behind_dispatch network device node new moment row cycle (doing (dispatching other n)) range rules may first gone p q due =
+    let mine = first.pending.1.own.1 in
+    let its = q.1.own.1 in
+    rows_apart network row other mine.entry its.entry mine.is its.is apart (first.first (doing (dispatching other n)) q due)
+  where
+    of_row : IsPending network device new (doing (dispatching row n)) → IsPending network device node (doing (dispatching row n))
+        → reading_for network node (doing (dispatching row n)) ≤ℤ moment.reading.0 → (n ≡ cycle) ⊎ ((n < cycle) ⊎ (cycle < n)) → ⊥
+    of_row p_row q_row due_row (inl same) = gone (subst (λ (k : ℕ). IsPending network device new (doing (dispatching row k))) same p_row)
+    of_row p_row q_row due_row (inr (inl lt)) =
+        same_row network node moment.reading.0 row n cycle range rules lt (may.in_time (doing (dispatching row n)) q_row) first.due
+    of_row p_row q_row due_row (inr (inr gt)) =
+        same_row network node moment.reading.0 row cycle n range rules gt (may.in_time (doing (dispatching row cycle)) first.pending) due_row
+
+    apart : row.0 ≡ other.0 → ⊥
+    apart same =
+        let one : other ≡ row = ap (λ (k : ℕ). let r : RowId = record { 0 = k } in r) (sym same) in
+        of_row (subst (λ (r : RowId). IsPending network device new (doing (dispatching r n))) one p)
+        (subst (λ (r : RowId). IsPending network device node (doing (dispatching r n))) one q)
+        (subst (λ (r : RowId). reading_for network node (doing (dispatching r n)) ≤ℤ moment.reading.0) one due) (cases_order n cycle)
+
+-- ---- nothing is behind a correction
+
+not_ahead : (reading adjustment value : ℤ) → (reading +ℤ adjustment) <ℤ value → (value -ℤ adjustment) ≤ℤ reading → ⊥
+not_ahead reading adjustment value ahead due = omega (arith, ints, ahead, due)
+
+none_looking : (number n : ℕ) → point_in Integrating number ≡ Some n → ⊥
+none_looking number n e = cc
+
+one_some : (o : Option ℕ) (m n : ℕ) → o ≡ Some m → o ≡ Some n → m ≡ n
+one_some o m n e f = cc
+
+no_more_points : (network : Network) (device : DeviceId) (node : Node) (moment : Moment) (heard : Summary) (cycle n : ℕ) (verdict : Verdict)
+    → next_point node.standing ≡ Some cycle → next_point node.standing ≡ Some n
+    → IsPending network device (called moment acting (after_correction node moment heard cycle verdict)) (doing (correcting n))
+    → reading_for network (called moment acting (after_correction node moment heard cycle verdict)) (doing (correcting n)) ≤ℤ moment.reading.0 → ⊥
+no_more_points network device node moment heard cycle n (Corrected by) next own p due = not_ahead moment.reading.0 _ (correction_value network n) p.1.ahead due
+no_more_points network device node moment heard cycle n SyncClique next own p due = none_looking (node.standing.number + 1) n p.1.own
+no_more_points network device node moment heard cycle n AsyncClique next own p due = none_looking (node.standing.number + 1) n p.1.own
+no_more_points network device node moment heard cycle n Cleared next own p due =
+    p.1.not_yet (subst (λ (k : ℕ). Contains (node.done ++ correcting cycle ∷ []) (correcting k)) (one_some (next_point node.standing) cycle n next own)
+    (Contains-append_right node.done (correcting cycle ∷ []) (correcting cycle) (in_head (correcting cycle) [])))
+
+-- a row is not due where a correction is
+no_row_due : (network : Network) (device : DeviceId) (node : Node) (moment : Moment) (number cycle : ℕ) (row : RowId) → IsInRange network
+    → KeepsRules network → MayCall network device node moment acting → IsPending network device node (doing (correcting number))
+    → reading_for network node (doing (correcting number)) ≤ℤ moment.reading.0 → IsPending network device node (doing (dispatching row cycle))
+    → reading_for network node (doing (dispatching row cycle)) ≤ℤ moment.reading.0 → ⊥
+no_row_due network device node moment number cycle row range rules may corrects one dispatches two =
+    let frame = dispatches.1.own.1 in
+    let value = value_is network row frame.entry cycle frame.is in
+    let a = node.standing.adjustment.0 in
+    let whole = whole_precision network range in
+    let first : ShowsAt (moment.reading.0 +ℤ a) (correction_value network number) (amount network.precision) =
+    due_shows (correction_value network number) a moment.reading.0 network.precision.0 (amount network.precision) whole one
+    (may.in_time (doing (correcting number)) corrects) in
+    let second : ShowsAt (moment.reading.0 +ℤ a) (value_of network (dispatching row cycle)) (amount network.precision) =
+    due_shows (value_of network (dispatching row cycle)) a moment.reading.0 network.precision.0 (amount network.precision) whole two
+    (may.in_time (doing (dispatching row cycle)) dispatches) in
+    apart_so network (amount frame.entry.row.offset) (amount network.correction) number cycle (moment.reading.0 +ℤ a)
+    (row_apart network row.0 frame.entry rules frame.is) (omega arith) (precise network range) first
+    (subst (λ (v : ℤ). ShowsAt (moment.reading.0 +ℤ a) v (amount network.precision)) value second)
+
+behind_correction : (network : Network) (device : DeviceId) (node : Node) (moment : Moment) (heard : Summary) (cycle : ℕ) (verdict : Verdict) (task : Task)
+    → IsInRange network → KeepsRules network → MayCall network device node moment acting
+    → IsFirstTask network device node moment.reading.0 (doing (correcting cycle))
+    → IsPending network device (called moment acting (after_correction node moment heard cycle verdict)) task
+    → reading_for network (called moment acting (after_correction node moment heard cycle verdict)) task ≤ℤ moment.reading.0
+    → IsPending network device node task → reading_for network node task ≤ℤ moment.reading.0 → ⊥
+behind_correction network device node moment heard cycle verdict (emitting other) range rules may first p due q was =
+    first.first (emitting other) q was (inl (omega arith))
+behind_correction network device node moment heard cycle verdict (doing (sending n)) range rules may first p due q was =
+    first.first (doing (sending n)) q was (inl (omega arith))
+behind_correction network device node moment heard cycle verdict (doing (correcting n)) range rules may first p due q was =
+    no_more_points network device node moment heard cycle n verdict first.pending.1.own q.1.own p due
+behind_correction network device node moment heard cycle verdict (doing (dispatching row n)) range rules may first p due q was =
+    no_row_due network device node moment cycle n row range rules may first.pending first.due q was
+
+-- where a device has come to a correction point, nothing more is due at the moment
+pub nothing_behind_correction : (network : Network) (device : DeviceId) (node : Node) (moment : Moment) (cycle : ℕ) (verdict : Verdict) (new : Node)
+    (task : Task) → IsInRange network → KeepsRules network → MayCall network device node moment acting
+    → IsActOf network device node moment (acts.Correct cycle verdict) new → IsPending network device new task
+    → reading_for network new task ≤ℤ moment.reading.0 → ⊥
+nothing_behind_correction network device node moment cycle verdict new task range rules may (first, (heard, comes, is)) p due =
+    elim (acted network device node moment (acts.Correct cycle verdict) new may (wide network range rules) (first, (heard, comes, is)) task p) [
+      | inr far ↦ omega (arith, ints, far, due)
+      | inl old ↦
+          behind_correction network device node moment heard cycle verdict task range rules may first
+          (subst (λ (n : Node). IsPending network device n task) is p)
+          (subst (λ (n : Node). reading_for network n task ≤ℤ moment.reading.0) is due) old.0
+          (subst (λ (z : ℤ). z ≤ℤ moment.reading.0) old.1 due)
+    ]
+
+-- ---- no sending is behind a sending
+
+two_sendings : (network : Network) (node : Node) (reading : ℤ) (m n : ℕ) → IsInRange network → KeepsRules network → m < n
+    → reading <ℤ (reading_for network node (doing (sending m)) +ℤ network.precision.0) → reading_for network node (doing (sending n)) ≤ℤ reading → ⊥
+two_sendings network node reading m n range rules lt late due =
+    let far = cycles_apart m n (amount network.cycle) lt in
+    let size = wide network range rules in
+    omega (arith, ints, far, size, late, due)
+
+-- where a device has sent the frame of a cycle, that of no other is due at the moment
+pub nothing_sent_behind_sending : (network : Network) (device : DeviceId) (node : Node) (moment : Moment) (frame : Pcf) (new : Node) (n : ℕ)
+    → IsInRange network → KeepsRules network → MayCall network device node moment acting → IsActOf network device node moment (acts.Send frame) new
+    → IsPending network device new (doing (sending n)) → reading_for network new (doing (sending n)) ≤ℤ moment.reading.0 → ⊥
+nothing_sent_behind_sending network device node moment frame new n range rules may (cycle, first, of_frame, is) p due =
+    elim (acted network device node moment (acts.Send frame) new may (wide network range rules) (cycle, first, of_frame, is) (doing (sending n)) p) [
+      | inr far ↦ omega (arith, ints, far, due)
+      | inl old ↦ was old.0 (subst (λ (z : ℤ). z ≤ℤ moment.reading.0) old.1 due) (cases_order n cycle)
+    ]
+  where
+    was : IsPending network device node (doing (sending n)) → reading_for network node (doing (sending n)) ≤ℤ moment.reading.0
+        → (n ≡ cycle) ⊎ ((n < cycle) ⊎ (cycle < n)) → ⊥
+    was q here (inl same) =
+        gone_deed network device node new moment (sending cycle) is (subst (λ (k : ℕ). IsPending network device new (doing (sending k))) same p)
+    was q here (inr (inl lt)) =
+        two_sendings network node moment.reading.0 n cycle range rules lt (may.in_time (doing (sending n)) q) first.due
+    was q here (inr (inr gt)) =
+        two_sendings network node moment.reading.0 cycle n range rules gt (may.in_time (doing (sending cycle)) first.pending) here
+
+-- ---- all acts
+
+grown : (network : Network) (device : DeviceId) (node : Node) (moment : Moment) (act : Act) (new : Node) (task : Task) → IsInRange network → KeepsRules network
+    → IsFromZero network device node → MayCall network device node moment acting → IsActOf network device node moment act new
+    → IsPending network device new task → reading_for network new task ≤ℤ moment.reading.0
+    → IsPending network device node task → reading_for network node task ≤ℤ moment.reading.0
+    → IsBefore (order_of_act network act) (order_of network task)
+grown network device node moment (acts.Emit sent heard) new task range rules zero_on may (first, so, is) p due q was =
+    behind_emission network device node new moment.reading.0 sent task zero_on first (gone_emission network device node new moment sent heard so is) p q was
+grown network device node moment (acts.Send frame) new task range rules zero_on may (cycle, first, of_frame, is) p due q was =
+    subst (λ (k : ℕ). IsBefore (1 ∷ k ∷ []) (order_of network task)) (sym (ap (λ (f : Pcf). f.cycle) of_frame))
+    (behind_sending network device node new moment.reading.0 cycle task first (gone_deed network device node new moment (sending cycle) is) p q was)
+grown network device node moment (acts.Correct cycle verdict) new task range rules zero_on may is p due q was =
+    absurd (nothing_behind_correction network device node moment cycle verdict new task range rules may is p due)
+grown network device node moment (acts.Dispatch row cycle) new task range rules zero_on may (first, is) p due q was =
+    behind_dispatch network device node new moment row cycle task range rules may first
+    (gone_deed network device node new moment (dispatching row cycle) is) p q was
+
+-- where a device has acted, each task that is still due at the moment stands behind what it did
+pub acts_grow : ActsGrow
+acts_grow network device node moment act new task range rules zero_on may is p due =
+    elim (acted network device node moment act new may (wide network range rules) is task p) [
+      | inr far ↦ absurd (omega (arith, ints, far, due))
+      | inl old ↦
+          grown network device node moment act new task range rules zero_on may is p due old.0 (subst (λ (z : ℤ). z ≤ℤ moment.reading.0) old.1 due)
+    ]

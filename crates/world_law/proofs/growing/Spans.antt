@@ -1,0 +1,148 @@
+-- How far a cluster reaches, and how far its frame's emission lies behind its opening.
+use Rattle.std.proofs.Common.{◌≡◌, ℕ, ℤ, pos, ◌+ℤ◌, ◌-ℤ◌, ◌*ℤ◌, ◌≤ℤ◌, ◌<ℤ◌, true, false, ◌&&◌, List, [], ◌∷◌, Contains, map, length, inl, inr, sym, ap, subst, ◌∙◌, arith}
+use Rattle.std.specs.Prelude.{◌==◌, int_le, nat_le}
+use Rattle.std.specs.List.{AllByRecursion}
+use Rattle.std.proofs.lemmas.Bool.{and_parts, cases_Bool}
+use Rattle.std.proofs.lemmas.Int.{ints}
+use Rattle.compression.specs.Clusters.{AreClusters, Cluster, Point, beyond, cluster_of, end_of, firsts, has_master, of_cycle_within}
+use Rattle.compression.specs.Middle.{last_but_one, middle_of, relative}
+use Rattle.compression.proofs.Elements.{all_at, beyond-all, in_cases, in_none}
+use Rattle.compression.proofs.Firsts.{counts, firsts-start}
+use Rattle.compression.proofs.Growth.{counted, end_of-least}
+use Rattle.compression.proofs.Held.{held-start}
+use Rattle.compression.proofs.Times.{first_end, open_beyond}
+use Rattle.tte_units.proofs.Means.{mean_of-floor}
+use Rattle.tte_units.specs.Mean.{IsMean, mean_of}
+
+-- ---- the middle of numbers that lie from 0 to a bound
+
+abbrev LiesUpTo : ℤ → ℤ → Type 0
+LiesUpTo k x = (pos 0 ≤ℤ x) × (x ≤ℤ k)
+
+mean_up_to : (k a b : ℤ) → LiesUpTo k a → LiesUpTo k b → LiesUpTo k (mean_of a b)
+mean_up_to k a b x y = by (mean_of a b) (mean_of-floor a b)
+  where
+    by : (m : ℤ) → IsMean a b m → LiesUpTo k m
+    by m mean = (omega (arith, ints, mean.least, mean.most, x.0, y.0), omega (arith, ints, mean.least, mean.most, x.1, y.1))
+
+last_up_to : (k e f : ℤ) (more : List ℤ) → LiesUpTo k e → AllByRecursion (LiesUpTo k) (f ∷ more) → LiesUpTo k (last_but_one e f more)
+last_up_to k e f [] x all = x
+last_up_to k e f (g ∷ gs) x all = last_up_to k f g gs all.0 all.1
+
+middle_up_to : (k : ℤ) (xs : List ℤ) → pos 0 ≤ℤ k → AllByRecursion (LiesUpTo k) xs → LiesUpTo k (middle_of xs)
+middle_up_to k [] some all = (omega (arith, ints), some)
+middle_up_to k (a ∷ []) some all = all.0
+middle_up_to k (a ∷ b ∷ []) some all = mean_up_to k a b all.0 all.1.0
+middle_up_to k (a ∷ b ∷ c ∷ []) some all = all.1.0
+middle_up_to k (a ∷ b ∷ c ∷ d ∷ []) some all = mean_up_to k b c all.1.0 all.1.1.0
+middle_up_to k (a ∷ b ∷ c ∷ d ∷ e ∷ []) some all = mean_up_to k b d all.1.0 all.1.1.1.0
+middle_up_to k (a ∷ b ∷ c ∷ d ∷ e ∷ f ∷ more) some all =
+    mean_up_to k b (last_but_one e f more) all.1.0 (last_up_to k e f more all.1.1.1.1.0 all.1.1.1.1.1)
+
+-- ---- the points of a cluster
+
+abbrev LiesFrom : ℤ → ℤ → Point → Type 0
+LiesFrom from to q = (from ≤ℤ q.reading) × (q.reading ≤ℤ to)
+
+in_window : (q : Point) (cycle : ℕ) (from to : ℤ) → (q.cycle == cycle && (int_le from q.reading && int_le q.reading to)) ≡ true → LiesFrom from to q
+in_window q cycle from to pass =
+    let both = and_parts (q.cycle == cycle) (int_le from q.reading && int_le q.reading to) pass in
+    let parts = and_parts (int_le from q.reading) (int_le q.reading to) both.1 in
+    let low = parts.0 in
+    let high = parts.1 in
+    (grind (arith, ints, low), grind (arith, ints, high))
+
+held_from : (cycle : ℕ) (from to : ℤ) (ps : List Point) → AllByRecursion (LiesFrom from to) (of_cycle_within cycle from to ps)
+held_from cycle from to [] = tt
+held_from cycle from to (p ∷ ps) =
+    elim (cases_Bool (p.cycle == cycle && (int_le from p.reading && int_le p.reading to))) [
+      | inl pass ↦ rw pass (in_window p cycle from to pass, held_from cycle from to ps)
+      | inr fail ↦ rw fail (held_from cycle from to ps)
+    ]
+
+all_of : (P : Point → Type 0) (xs acc qs : List Point) → AllByRecursion P xs → AllByRecursion (λ q. Contains xs q × (has_master acc q.master ≡ false)) qs
+    → AllByRecursion P qs
+all_of P xs acc [] all each = tt
+all_of P xs acc (q ∷ qs) all each = (all_at P xs q all each.0.0, all_of P xs acc qs all each.1)
+
+firsts_all : (P : Point → Type 0) (xs : List Point) → AllByRecursion P xs → AllByRecursion P (firsts xs)
+firsts_all P xs all = let c = counts [] xs in subst (AllByRecursion P) (sym c.is) (all_of P xs [] c.more all c.each)
+
+relative_up_to : (from k : ℤ) (qs : List Point) → AllByRecursion (LiesFrom from (from +ℤ k)) qs
+    → AllByRecursion (LiesUpTo k) (map (λ x. x -ℤ from) (map (λ q. q.reading) qs))
+relative_up_to from k [] all = tt
+relative_up_to from k (q ∷ qs) all = ((omega (arith, ints, all.0.0), omega (arith, ints, all.0.1)), relative_up_to from k qs all.1)
+
+-- a list of points that begins with the opener and lies up to the end
+middle_from : (o : Point) (k : ℤ) (counts : List Point) (more : List Point) → pos 0 ≤ℤ k → counts ≡ o ∷ more
+    → AllByRecursion (LiesFrom o.reading (o.reading +ℤ k)) counts → LiesUpTo k (middle_of (relative (map (λ q. q.reading) counts)))
+middle_from o k counts more some is all =
+    subst (λ (qs : List Point). LiesUpTo k (middle_of (relative (map (λ q. q.reading) qs)))) (sym is)
+    (middle_up_to k (relative (map (λ q. q.reading) (o ∷ more))) some
+    (relative_up_to o.reading k (o ∷ more) (subst (AllByRecursion (LiesFrom o.reading (o.reading +ℤ k))) is all)))
+
+-- a cluster ends one or two windows after its opening, and the middle of its points lies up to there
+pub record IsSpan (ow : ℤ) (c : Cluster) : Type 0 where
+  pub one : (c.opened +ℤ ow) ≤ℤ c.end
+  pub two : c.end ≤ℤ (c.opened +ℤ (pos 2 *ℤ ow))
+  pub low : pos 0 ≤ℤ middle_of (relative c.points)
+  pub high : (c.opened +ℤ middle_of (relative c.points)) ≤ℤ c.end
+
+end_of-most : (ow : ℤ) (o : Point) (ps : List Point) → pos 0 ≤ℤ ow → end_of ow o ps ≤ℤ (o.reading +ℤ (pos 2 *ℤ ow))
+end_of-most ow o ps some =
+    elim (cases_Bool (nat_le 2 (length (counted (o.reading +ℤ ow) o ps)))) [
+      | inl two ↦ rw two (omega (arith, ints))
+      | inr one ↦ rw one (omega (arith, ints))
+    ]
+
+first_span : (ow : ℤ) (o : Point) (ps : List Point) → pos 0 ≤ℤ ow → IsSpan ow (cluster_of ow o (o ∷ ps))
+first_span ow o ps some =
+    let l : List Point = o ∷ ps in
+    let end = end_of ow o l in
+    let least = end_of-least ow o l some in
+    let most = end_of-most ow o l some in
+    let k = end -ℤ o.reading in
+    let whole : end ≡ (o.reading +ℤ k) = omega (arith, ints) in
+    let held = of_cycle_within o.cycle o.reading end l in
+    let begins = held-start o end ps (omega (arith, ints, least, some)) in
+    let rest = firsts-start o (of_cycle_within o.cycle o.reading end ps) in
+    let is : firsts held ≡ o ∷ rest.0 = ap firsts begins ∙ rest.1 in
+    let all : AllByRecursion (LiesFrom o.reading (o.reading +ℤ k)) (firsts held) = firsts_all (LiesFrom o.reading (o.reading +ℤ k)) held
+    (subst (λ (z : ℤ). AllByRecursion (LiesFrom o.reading z) held) whole (held_from o.cycle o.reading end l)) in
+    let middle = middle_from o k (firsts held) rest.0 (omega (arith, ints, least, some)) is all in
+    let high = middle.1 in
+    record { one = least; two = most; low = middle.0; high = omega (arith, ints, high) }
+
+pub span_of : (ow : ℤ) (ps : List Point) (cs : List Cluster) → pos 0 ≤ℤ ow → AreClusters ow ps cs → (c : Cluster) → Contains cs c → IsSpan ow c
+span_of ow [] [] some are c at = absurd (in_none c at)
+span_of ow [] (k ∷ ks) some are c at = absurd are
+span_of ow (o ∷ ps) [] some are c at = absurd are
+span_of ow (o ∷ ps) (k ∷ ks) some are c at =
+    elim (in_cases k c ks at) [
+      | inl e ↦ subst (IsSpan ow) (sym are.0 ∙ e) (first_span ow o ps some)
+      | inr there ↦ span_of ow (beyond k.end ps) ks some are.1 c there
+    ]
+
+-- a cluster that opens after another does so behind its end
+pub opens_behind : (ow : ℤ) (ps : List Point) (cs : List Cluster) → pos 0 ≤ℤ ow → AreClusters ow ps cs → (c d : Cluster) → Contains cs c → Contains cs d
+    → c.opened <ℤ d.opened → c.end <ℤ d.opened
+opens_behind ow [] [] some are c d at too lt = absurd (in_none c at)
+opens_behind ow [] (k ∷ ks) some are c d at too lt = absurd are
+opens_behind ow (o ∷ ps) [] some are c d at too lt = absurd are
+opens_behind ow (o ∷ ps) (k ∷ ks) some are c d at too lt =
+    let start = first_end ow o ps k some are.0 in
+    let all = open_beyond ow k.end (beyond k.end ps) ks are.1 (beyond-all k.end ps) in
+    let later : (x : Cluster) → Contains ks x → k.end <ℤ x.opened = λ x there. all_at (λ (y : Cluster). k.end <ℤ y.opened) ks x all there in
+    elim (in_cases k d ks too) [
+      | inl f ↦
+          let its : k.opened ≡ d.opened = ap (λ (x : Cluster). x.opened) f in
+          elim (in_cases k c ks at) [
+            | inl e ↦ let mine : k.opened ≡ c.opened = ap (λ (x : Cluster). x.opened) e in absurd (omega (arith, ints, lt, mine, its))
+            | inr here ↦ let past = later c here in absurd (omega (arith, ints, past, start.1, its, lt))
+          ]
+      | inr there ↦
+          elim (in_cases k c ks at) [
+            | inl e ↦ subst (λ (x : Cluster). x.end <ℤ d.opened) e (later d there)
+            | inr here ↦ opens_behind ow (beyond k.end ps) ks some are.1 c d here there lt
+          ]
+    ]

@@ -1,0 +1,17 @@
+-- A frame on a wire arrives: its device hears it.
+pub mod Calling
+pub mod Judging
+pub mod Called
+pub mod Receptions
+pub mod Known
+pub mod Putting
+pub mod Hearing
+pub mod Ranked
+pub mod Takings
+pub mod Timed
+pub mod Took
+pub mod Quiet
+pub mod Heard
+pub mod Settling
+pub mod HeardSteps
+pub mod OneMaster

@@ -1,0 +1,53 @@
+-- A device that a world keeps may be called, sound or broken, as its source comes.
+use Rattle.std.proofs.Common.{◌≡◌, ℕ, ◌+◌, ◌^◌, ◌≤◌, ◌<◌, ℤ, pos, ◌<ℤ◌, List, ◌∷◌, inl, inr, refl, sym, ap, subst, arith}
+use Rattle.std.proofs.lemmas.Bool.{cases_lt}
+use Rattle.std.proofs.lemmas.Int.{ints}
+use Rattle.net_plan.specs.declared.ids.DeviceId.{DeviceId}
+use Rattle.run_law.specs.machines.Calls.{MayCall, order_of_phase}
+use Rattle.run_law.specs.machines.Nodes.{Node, Phase, acting, arriving, ripening, turning_on}
+use Rattle.run_law.specs.machines.Tasks.{reading_for}
+use Rattle.run_law.specs.records.Order.{IsBefore}
+use Rattle.run_law.specs.scenario.Scenarios.{Scenario}
+use Rattle.tte_units.specs.Amount.{amount}
+use Rattle.world_law.proofs.acts.Ready.{natural}
+use Rattle.world_law.specs.device.Ready.{IsReadyAt, IsSteady}
+use Rattle.world_law.specs.world.Calls.{moment_of}
+use Rattle.world_law.specs.world.World.{IsCalledBy, rank_of_call}
+
+ranked_so : (phase : Phase) → rank_of_call phase ≡ order_of_phase phase + 1
+ranked_so turning_on = refl
+ranked_so arriving = refl
+ranked_so ripening = refl
+ranked_so acting = refl
+
+-- a node that is ready, and was called last not later than the cursor, may be called by a source that is not before it
+pub may_call : (s : Scenario) (cursor : List ℕ) (now : ℕ) (device : DeviceId) (node : Node) (phase : Phase) (more : List ℕ)
+    → IsReadyAt (s.reading device) s.network device node now → IsCalledBy node cursor now → IsSteady (s.reading device) (amount s.network.precision)
+    → now ≤ 2 ^ 60 → (IsBefore (now ∷ rank_of_call phase ∷ more) cursor → ⊥) → MayCall s.network device node (moment_of s device now) phase
+may_call s cursor now device node phase more ready by steady limit waits =
+    let last = natural node.last.time.0 ready.begun in
+    let time = ready.time in
+    let read = ready.last in
+    let sooner : amount node.last.time ≤ now = omega (arith, ints, last, time) in
+    let fell = steady.never_falls (amount node.last.time) now sooner in
+    let low = steady.low now limit in
+    record {
+      later = record {
+        time = time;
+        reading = omega (arith, ints, read, fell);
+        early_enough = omega (arith, ints, limit);
+        low_enough = omega (arith, ints, low);
+      };
+      in_order = λ same.
+          let at : node.last.time.0 ≡ pos now = sym (ap (λ (u : _). u.0) same) in
+          let a = ranked_so phase in
+          let b = ranked_so node.phase in
+          elim (cases_lt (order_of_phase phase) (order_of_phase node.phase)) [
+            | inr ge ↦ ge
+            | inl lt ↦ absurd (waits (by at (now ∷ rank_of_call phase ∷ more) (inr (refl, inl (omega (arith, lt, a, b))))))
+          ];
+      all_done = λ before task p.
+          let lt : amount node.last.time < now = omega (arith, ints, last, before) in
+          subst (λ (z : ℤ). z <ℤ reading_for s.network node task) (sym read) (ready.undone task p (amount node.last.time) lt);
+      in_time = λ task p. ready.in_time task p;
+    }

@@ -1,0 +1,124 @@
+-- A device judges a frame that arrives as the records say.
+use Rattle.std.proofs.Common.{◌≡◌, ℕ, Bool, true, false, not, ◌&&◌, ◌==◌, nat_lt, List, [], ◌∷◌, Option, Some, None, Result, Ok, Err, if◌then◌else◌, pos, unsigned_abs, refl, ap, ◌∙◌}
+use Rattle.net_plan.specs.declared.ids.DeviceId.{DeviceId}
+use Rattle.net_plan.specs.declared.ids.LinkId.{LinkId}
+use Rattle.net_plan.specs.declared.ids.VlId.{VlId}
+use Rattle.net_plan.specs.declared.network.Network.{Network}
+use Rattle.pcf_codec.specs.EtherType.{least_type}
+use Rattle.pcf_codec.specs.Fields.{field}
+use Rattle.pcf_codec.specs.declared.refusal.PcfRefusal.{PcfRefusal}
+use Rattle.pcf_values.specs.declared.pcf.Pcf.{Pcf}
+use Rattle.run_law.specs.control.Arrivals.{clock_on_arrival, control_arrival, frame_fault, frame_or_fault, is_cold_start, is_gate_shut, is_of_other_domain, is_of_other_member, refused}
+use Rattle.run_law.specs.control.Wires.{Signal, control, timed}
+use Rattle.run_law.specs.declared.judgement.Reason.TheVariants as reasons
+use Rattle.run_law.specs.declared.judgement.Reason.{Reason}
+use Rattle.run_law.specs.declared.steps.Arrival.TheVariants as arrivals
+use Rattle.run_law.specs.declared.steps.Arrival.{Arrival}
+use Rattle.run_law.specs.declared.steps.Moment.{Moment}
+use Rattle.run_law.specs.device.Standpoints.{Standpoint, first_reason, standpoint}
+use Rattle.run_law.specs.device.States.{is_off, is_synchronised, state_before}
+use Rattle.run_law.specs.machines.Answers.{after_arrival, arrival_at}
+use Rattle.run_law.specs.machines.Nodes.{Node, last_taken_by, standpoint_at}
+use Rattle.run_law.specs.records.Happenings.{Happening}
+use Rattle.run_law.specs.scenario.Devices.{is_parent_of, is_relay}
+use Rattle.run_law.specs.scenario.Scenarios.{Scenario, is_broken}
+use Rattle.run_law.specs.timed.Arrivals.{octets_fault, octets_or_fault, timed_arrival}
+use Rattle.run_law.specs.timed.Receptions.{arrival_of, last_taken}
+use Rattle.sync_state.specs.declared.state.State.{State}
+use Rattle.tte_units.specs.Amount.{amount}
+use Rattle.tte_units.specs.declared.units.Units.{Units}
+use Rattle.world_law.specs.device.Left.{IsLeft}
+
+-- ---- where the device stands
+
+-- the moment is that of the device at the time
+pub record IsMomentOf (s : Scenario) (device : DeviceId) (t : ℕ) (moment : Moment) : Type 0 where
+  pub time : moment.time.0 ≡ pos t
+  pub reading : moment.reading.0 ≡ pos (s.reading device t)
+
+amount_is : (u : Units) (n : ℕ) → u.0 ≡ pos n → amount u ≡ n
+amount_is u n e = ap unsigned_abs e
+
+-- the node stands where the records say
+pub same_standpoint : (s : Scenario) (hs : List Happening) (device : DeviceId) (t : ℕ) (node : Node) (moment : Moment) → IsLeft s hs device t node
+    → IsMomentOf s device t moment → standpoint_at node moment ≡ standpoint s hs device t
+same_standpoint s hs device t node moment left at =
+    let make = λ (state : State) (broken : Bool) (reading : ℕ) (adjustment : Units).
+    let p : Standpoint = record { takes_part = not (is_off state) && not broken; state = state; reading = reading; adjustment = adjustment.0 } in p in
+    ap (λ (x : State). make x node.broken (amount moment.reading) node.standing.adjustment) left.state
+    ∙ ap (λ (x : Bool). make (state_before s hs device t) x (amount moment.reading) node.standing.adjustment) left.counted.broken
+    ∙ ap (λ (x : ℕ). make (state_before s hs device t) (is_broken s device t) x node.standing.adjustment)
+    (amount_is moment.reading (s.reading device t) at.reading)
+    ∙ ap (λ (x : Units). make (state_before s hs device t) (is_broken s device t) (s.reading device t) x) left.counted.adjustment
+
+-- what becomes of a control frame is what the records say
+pub control_judged : (s : Scenario) (hs : List Happening) (device : DeviceId) (t : ℕ) (node : Node) (moment : Moment) (link : LinkId) (cause : ℕ)
+    (frame : Result Pcf PcfRefusal) → IsLeft s hs device t node → IsMomentOf s device t moment
+    → arrival_at s.network device node moment link (control frame) ≡ arrival_of s hs device t link cause (control frame)
+control_judged s hs device t node moment link cause frame left at =
+    ap (λ (p : Standpoint). control_arrival s.network device link p frame) (same_standpoint s hs device t node moment left at)
+
+-- ---- a device that takes no part drops all
+
+first_off : (b : Bool) (more : List (Bool × Reason)) → b ≡ false → first_reason ((not b, reasons.Off) ∷ more) ≡ Some reasons.Off
+first_off true more e = absurd cc
+first_off false more e = refl
+
+control_off : (network : Network) (device : DeviceId) (link : LinkId) (p : Standpoint) (frame : Result Pcf PcfRefusal) → p.takes_part ≡ false
+    → control_arrival network device link p frame ≡ arrivals.Dropped reasons.Off
+control_off network device link p (Err refusal) e = ap (λ (b : Bool). arrivals.Dropped (if b then refused refusal else reasons.Off)) e
+control_off network device link p (Ok frame) e =
+    ap (frame_or_fault network device link p frame) {x = frame_fault network device link p frame} {y = Some reasons.Off}
+    (first_off p.takes_part
+    ((is_cold_start frame.kind, reasons.ColdStart) ∷ (is_of_other_domain network frame, reasons.Domain)
+    ∷ (is_of_other_member network device link frame.members, reasons.Member)
+    ∷ (nat_lt (amount network.dmax) (clock_on_arrival network link frame), reasons.Old) ∷ (is_gate_shut network device p, reasons.Gate) ∷ []) e)
+
+timed_off : (network : Network) (device : DeviceId) (link : LinkId) (p : Standpoint) (octets : List ℕ) (last : VlId → Option ℕ) → p.takes_part ≡ false
+    → timed_arrival network device link p octets last ≡ arrivals.Dropped reasons.Off
+timed_off network device link p octets last e =
+    ap (octets_or_fault network device link p octets last) {x = octets_fault network p octets} {y = Some reasons.Off}
+    (first_off p.takes_part
+    ((nat_lt (field 12 2 octets) least_type, reasons.RefusedEtherType) ∷ (not (is_synchronised p.state), reasons.Unsynchronised)
+    ∷ (not (field 0 4 octets == network.marker), reasons.Unknown) ∷ []) e)
+
+no_part : (a b : Bool) → b ≡ true → (a && not b) ≡ false
+no_part true b e = ap not e
+no_part false b e = refl
+
+-- the records say that a broken device drops it
+pub broken_drops : (s : Scenario) (hs : List Happening) (device : DeviceId) (t : ℕ) (link : LinkId) (cause : ℕ) (signal : Signal) → is_broken s device t ≡ true
+    → arrival_of s hs device t link cause signal ≡ arrivals.Dropped reasons.Off
+broken_drops s hs device t link cause (control frame) e =
+    control_off s.network device link (standpoint s hs device t) frame (no_part (not (is_off (state_before s hs device t))) (is_broken s device t) e)
+broken_drops s hs device t link cause (timed octets) e =
+    timed_off s.network device link (standpoint s hs device t) octets (last_taken hs device t link cause)
+    (no_part (not (is_off (state_before s hs device t))) (is_broken s device t) e)
+
+-- and so does a node that is
+pub out_drops : (network : Network) (device : DeviceId) (node : Node) (moment : Moment) (link : LinkId) (signal : Signal) → node.broken ≡ true
+    → arrival_at network device node moment link signal ≡ arrivals.Dropped reasons.Off
+out_drops network device node moment link (control frame) e =
+    control_off network device link (standpoint_at node moment) frame (no_part (not (is_off node.standing.state)) node.broken e)
+out_drops network device node moment link (timed octets) e =
+    timed_off network device link (standpoint_at node moment) octets (last_taken_by node) (no_part (not (is_off node.standing.state)) node.broken e)
+
+-- ---- a control frame leaves the node as it is
+
+taken_leaves : (network : Network) (device : DeviceId) (link : LinkId) (node : Node) (moment : Moment) (frame : Pcf) (point : Units) (a b : Bool)
+    → (up : Arrival) (down : Arrival) (waits : Arrival) → after_arrival node moment up ≡ node → after_arrival node moment down ≡ node
+    → after_arrival node moment waits ≡ node → after_arrival node moment (if a then (if b then up else down) else waits) ≡ node
+taken_leaves network device link node moment frame point true true up down waits x y z = x
+taken_leaves network device link node moment frame point true false up down waits x y z = y
+taken_leaves network device link node moment frame point false b up down waits x y z = z
+
+fault_leaves : (network : Network) (device : DeviceId) (link : LinkId) (node : Node) (moment : Moment) (p : Standpoint) (frame : Pcf) (fault : Option Reason)
+    → after_arrival node moment (frame_or_fault network device link p frame fault) ≡ node
+fault_leaves network device link node moment p frame (Some reason) = refl
+fault_leaves network device link node moment p frame None =
+    taken_leaves network device link node moment frame (record { 0 = pos 0 }) (is_relay network device) (is_parent_of network device link) _ _ _ refl refl refl
+
+pub control_leaves : (network : Network) (device : DeviceId) (link : LinkId) (node : Node) (moment : Moment) (p : Standpoint) (frame : Result Pcf PcfRefusal)
+    → after_arrival node moment (control_arrival network device link p frame) ≡ node
+control_leaves network device link node moment p (Err refusal) = refl
+control_leaves network device link node moment p (Ok frame) = fault_leaves network device link node moment p frame (frame_fault network device link p frame)

@@ -1,0 +1,3 @@
+-- Lists, numbers and places.
+pub mod Lists
+pub mod Orders

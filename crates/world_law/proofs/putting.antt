@@ -1,0 +1,19 @@
+-- A source is worked off, and its records are put in among those to come.
+pub mod Renumbers
+pub mod Alike
+pub mod Idle
+pub mod PutIn
+pub mod Moving
+pub mod Putting
+pub mod HiddenLists
+pub mod Bumped
+pub mod Near
+pub mod NearPut
+pub mod Placing
+pub mod PutOne
+pub mod Bearing
+pub mod PutShown
+pub mod PutTwo
+pub mod StandsOn
+pub mod Coming
+pub mod PutAct

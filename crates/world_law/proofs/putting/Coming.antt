@@ -1,0 +1,269 @@
+-- The cursor comes to the source that comes first, and stays there: a device acts at it, and has more to do.
+use Rattle.std.proofs.Common.{◌≡◌, ℕ, ℤ, pos, ◌+◌, ◌<◌, Bool, true, false, List, [], ◌∷◌, ◌++◌, length, map, slice_get, Some, inl, inr, refl, sym, ap, subst, ◌∙◌, arith}
+use Rattle.net_plan.specs.declared.ids.DeviceId.{DeviceId}
+use Rattle.net_plan.specs.declared.network.Network.{Network}
+use Rattle.pcf_values.specs.declared.pcf.Pcf.{Pcf}
+use Rattle.net_plan.specs.declared.ids.LinkId.{LinkId}
+use Rattle.run_law.proofs.runs.Places.{before_behind, before_later, before_next_time, before_or_not}
+use Rattle.run_law.specs.declared.note.NoteBody.TheVariants as kinds
+use Rattle.transparent_clock.specs.Points.{point_of}
+use Rattle.tte_units.specs.declared.units.Units.{Units}
+use Rattle.run_law.specs.machines.Nodes.{Node}
+use Rattle.run_law.specs.records.Happenings.{Happening, happenings, numbered, time_of}
+use Rattle.run_law.specs.records.Order.{IsBefore, IsIn, behind}
+use Rattle.run_law.specs.scenario.Scenarios.{Scenario}
+use Rattle.run_law.specs.declared.note.Note.{Note}
+use Rattle.tte_units.specs.Amount.{amount}
+use Rattle.world_law.proofs.giving.Given.{some_same}
+use Rattle.world_law.proofs.putting.Moving.{IsMoving, out_moves, stays}
+use Rattle.world_law.proofs.giving.GivenParts.{up_to_place}
+use Rattle.world_law.proofs.putting.StandsOn.{source_told}
+use Rattle.world_law.proofs.runs.SourcesBack.{no_higher}
+use Rattle.world_law.specs.source.Sources.{IsRipening, IsSource}
+use Rattle.world_law.specs.world.Steps.{IsWithout, StandsBehind}
+use Rattle.world_law.specs.world.World.{AreAtPorts, AreOfNetwork, AreOnWires, AreSettled, AreWaiting, AtPort, HasTurnedOn, IsHeld, IsKept, OnWire, Stands, Waiting, World, act_place, clock_place, hidden, none_yet, port_place, ripe_place, wire_place}
+
+-- what is before the cursor stays so
+pub comes : (s : Scenario) (hs coming : List Happening) (mark cursor : List ℕ) (now r : ℕ) (more : List ℕ) → IsMoving s hs coming mark cursor now r more
+    → (p : List ℕ) → IsBefore p cursor → IsBefore p (now ∷ r ∷ more)
+comes s hs coming mark cursor now r more m p b = before_later p (now ∷ r ∷ more) cursor b m.waits
+
+-- a source before that place was worked off
+pub was_before : (s : Scenario) (hs coming : List Happening) (mark cursor : List ℕ) (now r : ℕ) (more : List ℕ) → IsMoving s hs coming mark cursor now r more
+    → (w : List ℕ) → IsSource s hs w → IsBefore w (now ∷ r ∷ more) → IsBefore w cursor
+was_before s hs coming mark cursor now r more m w source lt =
+    elim (before_or_not w cursor) [ inl yet ↦ yet | inr not ↦ absurd (m.first w source not lt) ]
+
+pub wires_come : (s : Scenario) (hs coming : List Happening) (mark cursor : List ℕ) (now r : ℕ) (more : List ℕ) (wires : List OnWire)
+    → IsMoving s hs coming mark cursor now r more → AreOnWires s hs cursor now false wires → AreOnWires s hs (now ∷ r ∷ more) now false wires
+wires_come s hs coming mark cursor now r more wires m are = record {
+  real = λ e i.
+      let it = are.real e i in (
+        it.0,
+        λ open_. absurd cc,
+        λ b. it.2 (was_before s hs coming mark cursor now r more m (wire_place e)
+            (IsSource.arriving e.at e.device e.link e.cause
+            (record { putting = it.0.putting; there = it.0.there; signal = e.signal; arrives = it.0.arrives })) b),
+      );
+  all = λ t device link cause a told not. are.all t device link cause a told (λ b. not (comes s hs coming mark cursor now r more m _ b));
+}
+
+pub ports_come : (s : Scenario) (hs coming : List Happening) (mark cursor : List ℕ) (now r : ℕ) (more : List ℕ) (ports : List AtPort)
+    → IsMoving s hs coming mark cursor now r more → AreAtPorts s hs cursor ports → AreAtPorts s hs (now ∷ r ∷ more) ports
+ports_come s hs coming mark cursor now r more ports m are = record {
+  real = λ e i.
+      let it = are.real e i in (
+        it.0,
+        λ b. it.1 (was_before s hs coming mark cursor now r more m (port_place e)
+            (IsSource.departing e.at e.device e.link e.cause
+            (record { giving = it.0.giving; there = it.0.there; gives = it.0.gave.gives; held = it.0.gave.held })) b),
+      );
+  all = λ t device link cause d not. are.all t device link cause d (λ b. not (comes s hs coming mark cursor now r more m _ b));
+}
+
+pub waiting_come : (s : Scenario) (hs coming : List Happening) (mark cursor : List ℕ) (now r : ℕ) (more : List ℕ) (waiting : List Waiting)
+    → IsMoving s hs coming mark cursor now r more → AreWaiting s hs cursor now waiting → AreWaiting s hs (now ∷ r ∷ more) now waiting
+waiting_come s hs coming mark cursor now r more waiting m are = record {
+  real = are.real;
+  later = λ e i t x b.
+      let it = are.real e i in
+      let p = x.permanent in
+      let arrival : it.arrival ≡ p.arrival = some_same it.arrival p.arrival _ it.there p.there in
+      let frame : x.frame ≡ e.frame = some_same x.frame e.frame _ p.of_frame (ap (λ (h : Happening). h.frame) (sym arrival) ∙ it.awaited.of_frame) in
+      let at : t ∷ 3 ∷ e.device.0 ∷ amount e.point ∷ x.frame.members.0 ∷ e.link.0 ∷ e.cause
+      ∷ [] ≡ ripe_place t e = ap (λ (f : Pcf). t ∷ 3 ∷ e.device.0 ∷ amount e.point ∷ f.members.0 ∷ e.link.0 ∷ e.cause ∷ []) frame in
+      are.later e i t x (subst (λ (q : List ℕ). IsBefore q cursor) at
+      (was_before s hs coming mark cursor now r more m _ (IsSource.ripening t e.device e.link e.cause e.point x)
+      (subst (λ (q : List ℕ). IsBefore q (now ∷ r ∷ more)) (sym at) b)));
+  sound = are.sound;
+  all = λ e it sound not. are.all e it sound (λ t x b. not t x (comes s hs coming mark cursor now r more m (ripe_place t e) b));
+}
+
+-- ---- the devices: each but the one that acts, and that one too while it is as it was
+
+pub turned_comes : (s : Scenario) (hs coming : List Happening) (mark cursor : List ℕ) (now r : ℕ) (more : List ℕ) (device : DeviceId)
+    → IsMoving s hs coming mark cursor now r more → HasTurnedOn s hs coming cursor device now → HasTurnedOn s hs coming (now ∷ r ∷ more) device now
+turned_comes s hs coming mark cursor now r more device m it = record {
+  off = it.off;
+  number = it.number;
+  event = it.event;
+  befell = it.befell;
+  turned = λ b. it.turned (was_before s hs coming mark cursor now r more m (now ∷ 2 ∷ []) (IsSource.following now it.number it.event it.befell) b);
+}
+
+pub kept_comes : {M : Type 0} (stands : M → Network → DeviceId → Node → Type 0) (s : Scenario) (hs coming : List Happening) (mark cursor : List ℕ) (now r : ℕ)
+    (more : List ℕ) (device : DeviceId) (machine : M) → IsMoving s hs coming mark cursor now r more
+    → IsKept stands s hs coming cursor now device machine → IsKept stands s hs coming (now ∷ r ∷ more) now device machine
+kept_comes stands s hs coming mark cursor now r more device machine m k = record {
+  node = k.node;
+  is = k.is;
+  sound = k.sound;
+  up = k.up;
+  acted = elim k.acted [
+    | inr over ↦ inr (over.0, λ p b. comes s hs coming mark cursor now r more m p (over.1 p b))
+    | inl still ↦ inl (still.0, λ b a. still.1 (was_before s hs coming mark cursor now r more m (act_place now device) (IsSource.acting now device a) b) a)
+  ];
+  high = k.high;
+  doing = elim k.doing [ inl e ↦ inl e | inr d ↦ inr (d.0, d.1, λ p b. comes s hs coming mark cursor now r more m p (d.2 p b), d.3) ];
+  told = λ over. elim (k.told over) [ inl past ↦ inl (comes s hs coming mark cursor now r more m (act_place now device) past) | inr just ↦ inr just ];
+  left = k.left;
+  taken = k.taken;
+  done = k.done;
+  sent = k.sent;
+  bare = k.bare;
+  ready = k.ready;
+  still = k.still;
+  turned = λ on. turned_comes s hs coming mark cursor now r more device m (k.turned on);
+  phase = λ at p b. comes s hs coming mark cursor now r more m p (k.phase at p b);
+}
+
+pub held_comes : {M : Type 0} (stands : M → Network → DeviceId → Node → Type 0) (s : Scenario) (hs coming : List Happening) (mark cursor : List ℕ) (now r : ℕ)
+    (more : List ℕ) (device : DeviceId) (machine : M) → IsMoving s hs coming mark cursor now r more
+    → IsHeld stands s hs coming cursor now device machine → IsHeld stands s hs coming (now ∷ r ∷ more) now device machine
+held_comes stands s hs coming mark cursor now r more device machine m (inl k) =
+    inl (kept_comes stands s hs coming mark cursor now r more device machine m k)
+held_comes stands s hs coming mark cursor now r more device machine m (inr k) =
+    inr (out_moves stands s hs coming cursor (now ∷ r ∷ more) now device machine (comes s hs coming mark cursor now r more m) k)
+
+-- ---- and the world stands there
+
+-- the world stands at the place of a device that acts: what is to come, what moves which device and where each device
+-- stands are given, as is what the machines are
+pub stands_at : {C M : Type 0} (reading : C → ℕ → ℕ) (stands : M → Network → DeviceId → Node → Type 0) (s : Scenario) (world : World C M) (notes : List Note)
+    (old : Stands reading stands s world notes) (device : DeviceId) (machines : List M) (settled coming : List Happening)
+    → IsMoving s (happenings s.network notes) old.coming old.mark old.cursor world.now 4 (device.0 ∷ [])
+    → settled ≡ map (hidden (length notes)) coming → length notes + length coming < none_yet
+    → AreSettled s (happenings s.network notes) coming old.mark (act_place world.now device) world.now
+    → AreOfNetwork s (happenings s.network notes ++ coming)
+    → ((other : DeviceId) → other.0 < length s.network.device → (machine : M) × (slice_get machines other.0 ≡ Some machine)
+    × IsHeld stands s (happenings s.network notes) coming (act_place world.now device) world.now other machine)
+    → StandsBehind reading stands s (record world { machines = machines; early = false; settled = settled }) notes (act_place world.now device)
+stands_at reading stands s world notes old device machines settled coming m shows room are known devices =
+    let hs = happenings s.network notes in
+    let now = world.now in
+    let more = device.0 ∷ [] in
+    let at = now ∷ 4 ∷ more in
+    let later : IsBefore (now ∷ 2 ∷ []) at = inr (refl, inl (omega arith)) in
+    let told = source_told reading stands s world notes old 4 more m later in (
+      record {
+        same = old.same;
+        range = old.range;
+        rules = old.rules;
+        forward = old.forward;
+        steady = old.steady;
+        precise = old.precise;
+        mark = old.mark;
+        cursor = at;
+        run = old.run;
+        ahead = λ p b. comes s hs old.coming old.mark old.cursor now 4 more m p (old.ahead p b);
+        of_now = old.of_now;
+        not_later = λ p b. before_next_time p now (4 ∷ more) b;
+        limit = old.limit;
+        lines = old.lines;
+        given = old.given;
+        ended = old.ended;
+        befallen = old.befallen;
+        clocks = old.clocks;
+        broken = old.broken;
+        ways = old.ways;
+        coming = coming;
+        room = room;
+        settled = shows;
+        known = known;
+        devices = devices;
+        early = λ fresh. absurd (let bad : false ≡ true = fresh in cc);
+        untold = record {
+          done = λ same number h it. later;
+          none = old.untold.none;
+          waits = λ open_. absurd (let bad : false ≡ true = sym told ∙ open_ in cc);
+          early = λ open_. absurd (let bad : false ≡ true = sym told ∙ open_ in cc);
+          real = old.untold.real;
+          in_order = old.untold.in_order;
+          all = λ open_. absurd (let bad : false ≡ true = sym told ∙ open_ in cc);
+        };
+        wires = subst (λ (b : Bool). AreOnWires s hs at now b world.wires) (sym told)
+            (wires_come s hs old.coming old.mark old.cursor now 4 more world.wires m
+            (subst (λ (b : Bool). AreOnWires s hs old.cursor now b world.wires) told old.wires));
+        ports = ports_come s hs old.coming old.mark old.cursor now 4 more world.ports m old.ports;
+        waiting = waiting_come s hs old.coming old.mark old.cursor now 4 more world.waiting m old.waiting;
+        are = are;
+        shown = λ other lt ended. (
+          λ b. absurd (elim (no_higher now 14 now 4 (other.0 ∷ []) more (inr b)) [ inl less ↦ omega (arith, less) | inr same ↦ omega (arith, same.1) ]),
+          λ less. comes s hs old.coming old.mark old.cursor now 4 more m (clock_place now other) ((old.shown other lt ended).1 less),
+        );
+      },
+      refl,
+    )
+
+-- ---- a frame that waits is permanent
+
+-- the numbers of the place are those of the frame
+record IsOneWaiting (f e : Waiting) : Type 0 where
+  devices : f.device ≡ e.device
+  links : f.link ≡ e.link
+  causes : f.cause ≡ e.cause
+
+one_waiting : (t : ℕ) (f e : Waiting) → ripe_place t f ≡ ripe_place t e → IsOneWaiting f e
+one_waiting t f e same =
+    let d : f.device.0 ≡ e.device.0 = cc in
+    let l : f.link.0 ≡ e.link.0 = cc in
+    let c : f.cause ≡ e.cause = cc in
+    record {
+      devices = ap (λ (n : ℕ). let x : DeviceId = record { 0 = n } in x) d;
+      links = ap (λ (n : ℕ). let x : LinkId = record { 0 = n } in x) l;
+      causes = c;
+    }
+
+-- the frames that wait but this one, as the cursor goes behind its place
+pub waiting_ripens : (s : Scenario) (hs coming : List Happening) (mark cursor : List ℕ) (now : ℕ) (e : Waiting) (waiting new : List Waiting)
+    → IsMoving s hs coming mark cursor now 3 (e.device.0 ∷ amount e.point ∷ e.frame.members.0 ∷ e.link.0 ∷ e.cause ∷ [])
+    → IsIn e waiting → IsRipening s hs now e.device e.link e.cause e.point → IsWithout (ripe_place now) (ripe_place now e) waiting new
+    → AreWaiting s hs cursor now waiting → AreWaiting s hs (behind (ripe_place now e)) now new
+waiting_ripens s hs coming mark cursor now e waiting new m here ripens without are =
+    let more = e.device.0 ∷ amount e.point ∷ e.frame.members.0 ∷ e.link.0 ∷ e.cause ∷ [] in
+    let at = now ∷ 3 ∷ more in
+    let mine = are.real e here in
+    record {
+      real = λ f i. are.real f ((without f).0 i).0;
+      later = λ f i t x b.
+          let was = (without f).0 i in
+          let it = are.real f was.0 in
+          let p = x.permanent in
+          let arrival : it.arrival ≡ p.arrival = some_same it.arrival p.arrival _ it.there p.there in
+          let frame : x.frame ≡ f.frame = some_same x.frame f.frame _ p.of_frame (ap (λ (h : Happening). h.frame) (sym arrival) ∙ it.awaited.of_frame) in
+          let place : t ∷ 3 ∷ f.device.0 ∷ amount f.point ∷ x.frame.members.0 ∷ f.link.0 ∷ f.cause
+          ∷ [] ≡ ripe_place t f = ap (λ (g : Pcf). t ∷ 3 ∷ f.device.0 ∷ amount f.point ∷ g.members.0 ∷ f.link.0 ∷ f.cause ∷ []) frame in
+          elim (up_to_place (ripe_place t f) at b) [
+            | inr lt ↦ are.later f was.0 t x (subst (λ (q : List ℕ). IsBefore q cursor) place
+                (was_before s hs coming mark cursor now 3 more m _ (IsSource.ripening t f.device f.link f.cause f.point x)
+                (subst (λ (q : List ℕ). IsBefore q at) (sym place) lt)))
+            | inl same ↦ was.1 (let times : t ≡ now = cc in subst (λ (u : ℕ). ripe_place u f ≡ at) times same)
+          ];
+      sound = λ f i. are.sound f ((without f).0 i).0;
+      all = λ f it sound not.
+          let old = are.all f it sound (λ t x b. not t x (stays s hs coming mark cursor now 3 more m (ripe_place t f) b)) in
+          (without f).1 (
+            old,
+            λ same.
+                let one = one_waiting now f e same in
+                let both : numbered hs e.cause ≡ Some it.arrival = ap (numbered hs) (sym one.causes) ∙ it.there in
+                let arrivals : it.arrival ≡ mine.arrival = some_same it.arrival mine.arrival _ both mine.there in
+                let bodies : kinds.Arrived f.device f.link it.awaited.from it.awaited.clock ≡ kinds.Arrived e.device e.link mine.awaited.from mine.awaited.clock
+                =
+                sym it.awaited.arrived ∙ ap (λ (h : Happening). h.note.body) arrivals ∙ mine.awaited.arrived in
+                let clocks : it.awaited.clock ≡ mine.awaited.clock = cc in
+                let at_point : f.point.0 ≡ e.point.0 =
+                it.awaited.at_point
+                ∙ ap (λ (d : DeviceId). point_of (pos (s.reading d (time_of it.arrival))) it.awaited.clock s.network.dmax.0) one.devices
+                ∙ ap (λ (h : Happening). point_of (pos (s.reading e.device (time_of h))) it.awaited.clock s.network.dmax.0) arrivals
+                ∙ ap (λ (c : ℕ). point_of (pos (s.reading e.device (time_of mine.arrival))) c s.network.dmax.0) clocks
+                ∙ sym mine.awaited.at_point in
+                let points : f.point ≡ e.point = ap (λ (z : ℤ). let u : Units = record { 0 = z } in u) at_point in
+                let same_ripens : IsRipening s hs now f.device f.link f.cause f.point =
+                subst (λ (d : DeviceId). IsRipening s hs now d f.link f.cause f.point) (sym one.devices)
+                (subst (λ (l : LinkId). IsRipening s hs now e.device l f.cause f.point) (sym one.links)
+                (subst (λ (c : ℕ). IsRipening s hs now e.device e.link c f.point) (sym one.causes)
+                (subst (λ (p : Units). IsRipening s hs now e.device e.link e.cause p) (sym points) ripens))) in
+                not now same_ripens (subst (λ (q : List ℕ). IsBefore q (behind at)) (sym same) (before_behind at)),
+          );
+    }

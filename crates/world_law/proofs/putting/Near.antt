@@ -1,0 +1,730 @@
+-- What is due by one of two lists of records that tell the same up to a source is due by the other.
+use Rattle.std.proofs.Common.{◌≡◌, ◌⊎◌, ℕ, suc, ◌+◌, ◌-◌, ◌≤◌, ◌<◌, ◌+ℤ◌, Bool, true, false, not, ◌==◌, if◌then◌else◌, List, [], ◌∷◌, ◌++◌, length, filter, Option, Some, None, option_map, inl, inr, refl, sym, ap, subst, ◌∙◌, arith}
+use Rattle.std.specs.List.{last_or}
+use Rattle.std.proofs.lemmas.Bool.{cases_lt, cases_order, eq-eqb}
+use Rattle.compression.specs.Clusters.{AreClusters, Point}
+use Rattle.compression.specs.declared.compressed.Compressed.{Compressed}
+use Rattle.membership.specs.Summary.{Summarizes}
+use Rattle.net_plan.specs.declared.ids.DeviceId.{DeviceId}
+use Rattle.net_plan.specs.declared.ids.LinkId.{LinkId}
+use Rattle.net_plan.specs.declared.ids.VlId.{VlId}
+use Rattle.net_plan.specs.declared.network.Network.{Network}
+use Rattle.pcf_values.specs.declared.pcf.Pcf.{Pcf}
+use Rattle.run_law.proofs.law.FirstPlaces.{by_number, in_filter, numbered_within}
+use Rattle.run_law.proofs.runs.Places.{chain}
+use Rattle.run_law.specs.control.Arrivals.{control_arrival}
+use Rattle.run_law.specs.control.Collections.{observation_window, points_of}
+use Rattle.run_law.specs.control.Corrections.{ComesToCorrection, heard_since, standing_before}
+use Rattle.run_law.specs.control.Emissions.{Emits}
+use Rattle.run_law.specs.control.Hearing.{heard_as}
+use Rattle.run_law.specs.control.Leaving.{Departs, Departure}
+use Rattle.run_law.specs.control.Losses.{IsDropped, IsLost, IsSendLost}
+use Rattle.run_law.specs.control.Permanence.{BecomesPermanent, IsJudgedBy, before_permanence}
+use Rattle.run_law.specs.control.Wires.{Signal, control, timed}
+use Rattle.run_law.specs.declared.judgement.Judgement.{Judgement}
+use Rattle.run_law.specs.declared.judgement.Reason.{Reason}
+use Rattle.run_law.specs.declared.judgement.Why.{Why}
+use Rattle.run_law.specs.declared.judgement.Why.TheVariants as whys
+use Rattle.run_law.specs.declared.note.Note.{Note}
+use Rattle.run_law.specs.declared.note.NoteBody.TheVariants as notes
+use Rattle.run_law.specs.declared.note.NoteBody.{NoteBody}
+use Rattle.run_law.specs.declared.steps.Arrival.{Arrival}
+use Rattle.run_law.specs.declared.steps.Ripe.{Ripe}
+use Rattle.run_law.specs.device.StateChanges.{ChangesState}
+use Rattle.run_law.specs.device.States.{adjustment_after, adjustment_at_hearing, is_joined_by, state_after, state_at_hearing}
+use Rattle.run_law.specs.records.Causes.{IsOfThisTime, cause_of}
+use Rattle.run_law.specs.records.Happenings.{Happening, earlier, frame_by, numbered, octets_by, time_of}
+use Rattle.run_law.specs.records.Order.{IsBefore, IsIn}
+use Rattle.run_law.specs.records.Ranks.{members_in, place_of, rank}
+use Rattle.run_law.specs.runs.DueRecords.{IsCaused, IsDue}
+use Rattle.run_law.specs.runs.Runs.{IsFounded}
+use Rattle.run_law.specs.scenario.Devices.{plan_of}
+use Rattle.run_law.specs.scenario.Scenarios.{Scenario, is_turned_on_at}
+use Rattle.run_law.specs.timed.Dispatching.{Dispatches, is_accepted}
+use Rattle.run_law.specs.timed.Receptions.{ArrivesAs, arrival_of, last_taken}
+use Rattle.run_law.specs.timed.Arrivals.{timed_arrival}
+use Rattle.sync_state.specs.Standing.{Standing, next_point}
+use Rattle.sync_state.specs.Verdicts.{HasVerdict}
+use Rattle.sync_state.specs.declared.answers.Verdict.{Verdict}
+use Rattle.sync_state.specs.declared.state.State.{State}
+use Rattle.sync_state.specs.declared.state.State.TheVariants.{Integrating, Joining}
+use Rattle.tte_units.specs.Amount.{amount}
+use Rattle.tte_units.specs.declared.units.Units.{Units}
+use Rattle.world_law.proofs.giving.Given.{same_permanent}
+use Rattle.world_law.proofs.putting.Alike.{frame_alike, octets_alike, standpoint_in}
+use Rattle.world_law.proofs.putting.Bumped.{bump_behind, down_high, down_low, down_number, lower_behind, lowered, raised, raised_joins, raised_low, raised_rank, raised_same, up_high, up_low, up_number}
+use Rattle.world_law.proofs.putting.PutIn.{at_place, last_in, late_source}
+use Rattle.world_law.proofs.putting.Renumbers.{timed_by}
+use Rattle.world_law.proofs.runs.SourcesBack.{arrives_later, dispatches_back, earlier_still, gives_rank, numbered_parts, reaches_back, standing_in, up_back}
+use Rattle.world_law.specs.device.Own.{bears_on}
+use Rattle.world_law.specs.source.Sources.{IsActing, IsOwnSource, IsSource}
+use Rattle.world_law.specs.world.World.{IsForward, is_at_source}
+
+-- ---- kinds of records
+
+-- does what is due rest on what the device hears and collects at the very instant?
+abbrev pub hears : DeviceId → NoteBody → Bool
+hears device (notes.Compressed other opened at cycle members verdict) = device.0 == other.0
+hears device (notes.Corrected other cycle by adjustment) = device.0 == other.0
+hears device (notes.State other state cause whys.SyncClique) = device.0 == other.0
+hears device (notes.State other state cause whys.AsyncClique) = device.0 == other.0
+hears device other = false
+
+-- does a change of state for this reason follow a record of its instant?
+abbrev pub is_following : Why → Bool
+is_following whys.On = true
+is_following whys.Frame = true
+is_following whys.Correction = true
+is_following other = false
+
+abbrev pub is_follower : NoteBody → Bool
+is_follower (notes.State device state cause why) = is_following why
+is_follower other = false
+
+pub record AsFollower (body : NoteBody) : Type 0 where
+  pub device : DeviceId
+  pub state : State
+  pub cause : ℕ
+  pub why : Why
+  pub is : body ≡ notes.State device state cause why
+  pub following : is_following why ≡ true
+
+pub follower_or_not : (body : NoteBody) → AsFollower body ⊎ (is_follower body ≡ false)
+follower_or_not (notes.State device state cause whys.On) =
+    inl (record { device = device; state = state; cause = cause; why = whys.On; is = refl; following = refl })
+follower_or_not (notes.State device state cause whys.Frame) =
+    inl (record { device = device; state = state; cause = cause; why = whys.Frame; is = refl; following = refl })
+follower_or_not (notes.State device state cause whys.Correction) =
+    inl (record { device = device; state = state; cause = cause; why = whys.Correction; is = refl; following = refl })
+follower_or_not (notes.State device state cause whys.SyncClique) = inr refl
+follower_or_not (notes.State device state cause whys.AsyncClique) = inr refl
+follower_or_not other = inr refl
+
+-- ---- lists that tell the same
+
+-- the device has heard and collected the same
+pub record HearsAlike (s : Scenario) (js gs : List Happening) (device : DeviceId) (t : ℕ) : Type 0 where
+  pub heard : heard_since s js device t ≡ heard_since s gs device t
+  pub points : points_of js device ≡ points_of gs device
+  pub state : state_at_hearing s js device t ≡ state_at_hearing s gs device t
+  pub adjustment : adjustment_at_hearing s js device t ≡ adjustment_at_hearing s gs device t
+
+-- the records agree at the time: in the first n of them, in those of earlier times, and up to the source at this place
+-- in what was taken and in what judges a frame that is permanent; and in what each device heard on which the record that
+-- is put in does not bear
+pub record AreNear (s : Scenario) (t n : ℕ) (at : List ℕ) (put : NoteBody) (js gs : List Happening) : Type 0 where
+  pub first : (i : ℕ) → i ≤ n → numbered js i ≡ numbered gs i
+  pub before : earlier t js ≡ earlier t gs
+  pub taken : (device : DeviceId) (link : LinkId) (cause : ℕ) (vl : VlId) → (IsBefore at (t ∷ 2 ∷ device.0 ∷ link.0 ∷ cause ∷ []) → ⊥)
+      → last_taken js device t link cause vl ≡ last_taken gs device t link cause vl
+  pub judged : (device : DeviceId) (link : LinkId) (cause : ℕ) (frame : Pcf) (point : Units)
+      → (IsBefore at (t ∷ 3 ∷ device.0 ∷ amount point ∷ frame.members.0 ∷ link.0 ∷ cause ∷ []) → ⊥)
+      → before_permanence js device t link cause frame point ≡ before_permanence gs device t link cause frame point
+  pub hearing : (device : DeviceId) → bears_on device put ≡ false → HearsAlike s js gs device t
+
+pub near_back : (s : Scenario) (t n : ℕ) (at : List ℕ) (put : NoteBody) (js gs : List Happening) → AreNear s t n at put js gs → AreNear s t n at put gs js
+near_back s t n at put js gs a = record {
+  first = λ i le. sym (a.first i le);
+  before = sym a.before;
+  taken = λ device link cause vl le. sym (a.taken device link cause vl le);
+  judged = λ device link cause frame point le. sym (a.judged device link cause frame point le);
+  hearing = λ device none.
+      let h = a.hearing device none in record { heard = sym h.heard; points = sym h.points; state = sym h.state; adjustment = sym h.adjustment };
+}
+
+-- ---- each kind
+
+comes_near : (s : Scenario) (js gs : List Happening) (t : ℕ) (device : DeviceId) (cycle : ℕ) (verdict : Verdict) → earlier t js ≡ earlier t gs
+    → HearsAlike s js gs device t → ComesToCorrection s js device t cycle verdict → ComesToCorrection s gs device t cycle verdict
+comes_near s js gs t device cycle verdict before h d =
+    let same : standing_before s js device t ≡ standing_before s gs device t = ap (standing_in s device t) before in
+    record {
+      next = subst (λ (x : Standing). next_point x ≡ Some cycle) same d.next;
+      reached = reaches_back s js gs t device _ before d.reached;
+      correct = d.correct;
+      summary = d.summary;
+      heard = subst (Summarizes d.summary) h.heard d.heard;
+      comes = subst (λ (x : Standing). HasVerdict x d.summary verdict) same d.comes;
+    }
+
+emits_near : (s : Scenario) (js gs : List Happening) (t : ℕ) (device : DeviceId) (sent : Compressed) (verdict : Judgement) → HearsAlike s js gs device t
+    → Emits s js device t sent verdict → Emits s gs device t sent verdict
+emits_near s js gs t device sent verdict h e = record {
+  cm = e.cm;
+  correct = e.correct;
+  clusters = e.clusters;
+  are = subst (λ (l : List Point). AreClusters (observation_window s.network) l e.clusters) h.points e.are;
+  cluster = e.cluster;
+  there = e.there;
+  is = e.is;
+  reached = e.reached;
+  heard =
+      e.heard
+      ∙ ap (λ (x : State). heard_as (plan_of s.network device) (observation_window s.network) x (adjustment_at_hearing s js device t).0 sent.at.0 sent.cycle
+      sent.members) h.state
+      ∙ ap (λ (u : Units). heard_as (plan_of s.network device) (observation_window s.network) (state_at_hearing s gs device t) u.0 sent.at.0 sent.cycle
+      sent.members) h.adjustment;
+}
+
+departs_near : (s : Scenario) (js gs : List Happening) (t : ℕ) (device : DeviceId) (link : LinkId) (cause : ℕ) (is : Departure)
+    → numbered js cause ≡ numbered gs cause → Departs s js device t link cause is → Departs s gs device t link cause is
+departs_near s js gs t device link cause is same d = record {
+  giving = d.giving;
+  there = sym same ∙ d.there;
+  gives = d.gives;
+  frame = d.frame;
+  of_frame = d.of_frame;
+  held = d.held;
+  correct = d.correct;
+  becomes = d.becomes;
+}
+
+arrival_near : (s : Scenario) (js gs : List Happening) (t : ℕ) (device : DeviceId) (link : LinkId) (cause : ℕ) (signal : Signal)
+    → earlier t js ≡ earlier t gs → ((vl : VlId) → last_taken js device t link cause vl ≡ last_taken gs device t link cause vl)
+    → arrival_of s js device t link cause signal ≡ arrival_of s gs device t link cause signal
+arrival_near s js gs t device link cause (control frame) before taken =
+    ap (λ (w : List Happening). control_arrival s.network device link (standpoint_in s device t w) frame) before
+arrival_near s js gs t device link cause (timed octets) before taken =
+    ap (λ (w : List Happening). timed_arrival s.network device link (standpoint_in s device t w) octets (last_taken js device t link cause)) before
+    ∙ timed_by s device link (standpoint_in s device t (earlier t gs)) octets (last_taken js device t link cause) (last_taken gs device t link cause) taken
+
+arrives_near : (s : Scenario) (t n : ℕ) (at : List ℕ) (put : NoteBody) (js gs : List Happening) (device : DeviceId) (link : LinkId) (cause : ℕ) (is : Arrival)
+    → AreNear s t n at put js gs → cause ≤ n → (IsBefore at (t ∷ 2 ∷ device.0 ∷ link.0 ∷ cause ∷ []) → ⊥) → ArrivesAs s js device t link cause is
+    → ArrivesAs s gs device t link cause is
+arrives_near s t n at put js gs device link cause is a le under x = record {
+  putting = x.putting;
+  there = sym (a.first cause le) ∙ x.there;
+  signal = x.signal;
+  arrives = x.arrives;
+  becomes = x.becomes ∙ arrival_near s js gs t device link cause x.signal a.before (λ vl. a.taken device link cause vl under);
+}
+
+ripens_near : (s : Scenario) (t n : ℕ) (at : List ℕ) (put : NoteBody) (js gs : List Happening) (device : DeviceId) (link : LinkId) (cause : ℕ) (point : Units)
+    (is : Ripe) → AreNear s t n at put js gs → cause ≤ n → (r : BecomesPermanent s js device t link cause point is)
+    → (IsBefore at (t ∷ 3 ∷ device.0 ∷ amount point ∷ r.frame.members.0 ∷ link.0 ∷ cause ∷ []) → ⊥)
+    → (other : BecomesPermanent s gs device t link cause point is) × (other.frame ≡ r.frame)
+ripens_near s t n at put js gs device link cause point is a le r under = (
+  record {
+    frame = r.frame;
+    permanent = same_permanent s gs js t device link cause r.frame point r.permanent (sym (a.first cause le) ∙ r.permanent.there);
+    becomes = subst (λ (l : List Happening). IsJudgedBy s l device t r.frame point is) (a.judged device link cause r.frame point under) r.becomes;
+  },
+  refl,
+)
+
+send_near : (s : Scenario) (js gs : List Happening) (t : ℕ) (device : DeviceId) (link : LinkId) (cause : ℕ) → numbered js cause ≡ numbered gs cause
+    → IsSendLost s js device t link cause → IsSendLost s gs device t link cause
+send_near s js gs t device link cause same l = record {
+  event = l.event;
+  is = record { there = sym same ∙ l.is.there; same_time = l.is.same_time };
+  line = l.line;
+  octets = l.octets;
+  sends = l.sends;
+  way = l.way;
+  there = l.there;
+  by = l.by;
+  cut = l.cut;
+}
+
+lost_near : (s : Scenario) (js gs : List Happening) (t : ℕ) (device : DeviceId) (link : LinkId) (cause : ℕ) → earlier t js ≡ earlier t gs
+    → numbered js cause ≡ numbered gs cause → IsLost s js device t link cause → IsLost s gs device t link cause
+lost_near s js gs t device link cause before same (inl d) = inl (departs_near s js gs t device link cause _ same d)
+lost_near s js gs t device link cause before same (inr (inl d)) =
+    inr (inl (d.0, d.1, dispatches_back s js gs t device link cause d.0 d.1 before d.2, d.3))
+lost_near s js gs t device link cause before same (inr (inr l)) = inr (inr (send_near s js gs t device link cause same l))
+
+-- a place of a lower rank is not behind the source either
+pub lower_rank : (at : List ℕ) (t k r : ℕ) (us ws : List ℕ) → k < r → (IsBefore at (t ∷ r ∷ ws) → ⊥) → IsBefore at (t ∷ k ∷ us) → ⊥
+lower_rank at t k r us ws lt not b = not (chain at (t ∷ k ∷ us) (t ∷ r ∷ ws) b (inr (refl, inl lt)))
+
+dropped_near : (s : Scenario) (t n m : ℕ) (at : List ℕ) (put : NoteBody) (js gs : List Happening) (device : DeviceId) (link : LinkId) (cause : ℕ)
+    (reason : Reason) (p : List ℕ) → AreNear s t n at put js gs → cause ≤ n → IsOwnSource s js t m (notes.Dropped device link cause reason) p
+    → (IsBefore at p → ⊥) → IsDropped s js device t link cause reason → IsDropped s gs device t link cause reason
+dropped_near s t n m at put js gs device link cause reason p a le (inl o) under c =
+    inl (arrives_near s t n at put js gs device link cause _ a le (subst (λ (q : List ℕ). IsBefore at q → ⊥) o.0 under) o.1)
+dropped_near s t n m at put js gs device link cause reason p a le (inr (inl o)) under c =
+    inr (inl (o.0, (ripens_near s t n at put js gs device link cause o.0 _ a le o.1 (subst (λ (q : List ℕ). IsBefore at q → ⊥) o.2 under)).0))
+dropped_near s t n m at put js gs device link cause reason p a le (inr (inr o)) under (inl c) =
+    inl (arrives_near s t n at put js gs device link cause _ a le
+    (lower_rank at t 2 8 (device.0 ∷ link.0 ∷ cause ∷ []) (device.0 ∷ link.0 ∷ cause ∷ []) (omega arith) (subst (λ (q : List ℕ). IsBefore at q → ⊥) o.0 under))
+    c)
+dropped_near s t n m at put js gs device link cause reason p a le (inr (inr o)) under (inr (inl c)) =
+    inr (inl (
+      c.0,
+      (ripens_near s t n at put js gs device link cause c.0 _ a le c.1
+          (lower_rank at t 3 8 (device.0 ∷ amount c.0 ∷ c.1.frame.members.0 ∷ link.0 ∷ cause ∷ []) (device.0 ∷ link.0 ∷ cause ∷ []) (omega arith)
+          (subst (λ (q : List ℕ). IsBefore at q → ⊥) o.0 under))).0,
+    ))
+dropped_near s t n m at put js gs device link cause reason p a le (inr (inr o)) under (inr (inr c)) =
+    inr (inr (departs_near s js gs t device link cause _ (a.first cause le) c.0, c.1))
+
+-- ---- what causes a record whose source is not behind the place
+
+pub caused_near : (s : Scenario) (n m : ℕ) (at : List ℕ) (put : NoteBody) (js gs : List Happening) (time : Units) (body : NoteBody) (p : List ℕ)
+    → AreNear s (amount time) n at put js gs → is_at_source body ≡ false → is_follower body ≡ false
+    → ((device : DeviceId) → hears device body ≡ true → bears_on device put ≡ false) → cause_of body ≤ n → IsOwnSource s js (amount time) m body p
+    → (IsBefore at p → ⊥) → IsCaused s js time body → IsCaused s gs time body
+caused_near s n m at put js gs time (notes.Event line what) p a there follows free le o under c = c
+caused_near s n m at put js gs time (notes.Arrived device link cause clock) p a there follows free le o under c = absurd cc
+caused_near s n m at put js gs time (notes.Permanent device link cause point verdict) p a there follows free le o under c = absurd cc
+caused_near s n m at put js gs time (notes.Left device link cause clock) p a there follows free le o under c = absurd cc
+caused_near s n m at put js gs time (notes.Clock device reading adjustment state) p a there follows free le o under c = absurd cc
+caused_near s n m at put js gs time (notes.Compressed device opened on cycle members verdict) p a there follows free le o under c =
+    emits_near s js gs (amount time) device _ verdict (a.hearing device (free device (eq-eqb device.0 device.0 refl))) c
+caused_near s n m at put js gs time (notes.Sent device cycle) p a there follows free le o under c = record {
+  master = c.master;
+  up = up_back s js gs (amount time) device a.before c.up;
+  begun = c.begun;
+  reached = reaches_back s js gs (amount time) device _ a.before c.reached;
+}
+caused_near s n m at put js gs time (notes.Corrected device cycle by adjustment) p a there follows free le o under c = record {
+  corrected = comes_near s js gs (amount time) device cycle _ a.before (a.hearing device (free device (eq-eqb device.0 device.0 refl))) c.corrected;
+  sum = subst (λ (w : List Happening). adjustment.0 ≡ ((adjustment_after s w device).0 +ℤ by.0)) a.before c.sum;
+}
+caused_near s n m at put js gs time (notes.State device state cause whys.SyncClique) p a there follows free le o under c = (
+  c.0,
+  c.1,
+  (c.2.0, comes_near s js gs (amount time) device c.2.0 _ a.before (a.hearing device (free device (eq-eqb device.0 device.0 refl))) c.2.1),
+)
+caused_near s n m at put js gs time (notes.State device state cause whys.AsyncClique) p a there follows free le o under c = (
+  c.0,
+  c.1,
+  (c.2.0, comes_near s js gs (amount time) device c.2.0 _ a.before (a.hearing device (free device (eq-eqb device.0 device.0 refl))) c.2.1),
+)
+caused_near s n m at put js gs time (notes.State device state cause whys.On) p a there follows free le o under c = absurd cc
+caused_near s n m at put js gs time (notes.State device state cause whys.Frame) p a there follows free le o under c = absurd cc
+caused_near s n m at put js gs time (notes.State device state cause whys.Correction) p a there follows free le o under c = absurd cc
+caused_near s n m at put js gs time (notes.Lost device link cause) p a there follows free le o under c =
+    lost_near s js gs (amount time) device link cause a.before (a.first cause le) c
+caused_near s n m at put js gs time (notes.TtSent device link cause vl cycle) p a there follows free le o under c =
+    record { dispatches = dispatches_back s js gs (amount time) device link cause vl cycle a.before c.dispatches; whole = c.whole }
+caused_near s n m at put js gs time (notes.Accepted device link cause vl cycle) p a there follows free le o under c =
+    arrives_near s (amount time) n at put js gs device link cause _ a le (subst (λ (q : List ℕ). IsBefore at q → ⊥) o under) c
+caused_near s n m at put js gs time (notes.Delivered device link cause vl cycle) p a there follows free le o under c =
+    arrives_near s (amount time) n at put js gs device link cause _ a le (subst (λ (q : List ℕ). IsBefore at q → ⊥) o under) c
+caused_near s n m at put js gs time (notes.Dropped device link cause reason) p a there follows free le o under c =
+    dropped_near s (amount time) n m at put js gs device link cause reason p a le o under c
+
+-- and its own source
+pub own_near : (s : Scenario) (t n m : ℕ) (at : List ℕ) (put : NoteBody) (js gs : List Happening) (body : NoteBody) (p : List ℕ)
+    → AreNear s t n at put js gs → cause_of body ≤ n → (IsBefore at p → ⊥) → IsOwnSource s js t m body p → IsOwnSource s gs t m body p
+own_near s t n m at put js gs (notes.Lost device link cause) p a le under (inl d) =
+    inl (d.0, departs_near s js gs t device link cause _ (a.first cause le) d.1)
+own_near s t n m at put js gs (notes.Lost device link cause) p a le under (inr (inl d)) =
+    inr (inl (d.0, (d.1.0, d.1.1, dispatches_back s js gs t device link cause d.1.0 d.1.1 a.before d.1.2)))
+own_near s t n m at put js gs (notes.Lost device link cause) p a le under (inr (inr l)) =
+    inr (inr (l.0, send_near s js gs t device link cause (a.first cause le) l.1))
+own_near s t n m at put js gs (notes.Dropped device link cause reason) p a le under (inl x) =
+    inl (x.0, arrives_near s t n at put js gs device link cause _ a le (subst (λ (q : List ℕ). IsBefore at q → ⊥) x.0 under) x.1)
+own_near s t n m at put js gs (notes.Dropped device link cause reason) p a le under (inr (inl x)) =
+    let r = ripens_near s t n at put js gs device link cause x.0 _ a le x.1 (subst (λ (q : List ℕ). IsBefore at q → ⊥) x.2 under) in
+    inr (inl (x.0, r.0, x.2 ∙ ap (λ (f : Pcf). t ∷ 3 ∷ device.0 ∷ amount x.0 ∷ f.members.0 ∷ link.0 ∷ cause ∷ []) (sym r.1)))
+own_near s t n m at put js gs (notes.Dropped device link cause reason) p a le under (inr (inr x)) =
+    inr (inr (x.0, departs_near s js gs t device link cause _ (a.first cause le) x.1))
+own_near s t n m at put js gs (notes.State device state cause whys.On) p a le under o = o
+own_near s t n m at put js gs (notes.State device state cause whys.Frame) p a le under o = o
+own_near s t n m at put js gs (notes.State device state cause whys.Correction) p a le under o = o
+own_near s t n m at put js gs (notes.State device state cause whys.SyncClique) p a le under o = o
+own_near s t n m at put js gs (notes.State device state cause whys.AsyncClique) p a le under o = o
+own_near s t n m at put js gs other p a le under o = o
+
+-- the own source of a record that is caused is a source
+pub own_source : (s : Scenario) (js : List Happening) (time : Units) (m : ℕ) (body : NoteBody) (p : List ℕ) → is_at_source body ≡ false
+    → IsCaused s js time body
+    → IsOwnSource s js (amount time) m body p → IsSource s js p
+own_source s js time m (notes.Event line what) p there c o = at_place s js p _ o (IsSource.befalling time line what c)
+own_source s js time m (notes.Arrived device link cause clock) p there c o = absurd cc
+own_source s js time m (notes.Permanent device link cause point verdict) p there c o = absurd cc
+own_source s js time m (notes.Left device link cause clock) p there c o = absurd cc
+own_source s js time m (notes.Clock device reading adjustment state) p there c o = absurd cc
+own_source s js time m (notes.Compressed device opened at cycle members verdict) p there c o =
+    at_place s js p _ o (IsSource.acting (amount time) device (IsActing.emitting _ verdict c))
+own_source s js time m (notes.Sent device cycle) p there c o = at_place s js p _ o (IsSource.acting (amount time) device (IsActing.sending cycle c))
+own_source s js time m (notes.Corrected device cycle by adjustment) p there c o =
+    at_place s js p _ o (IsSource.acting (amount time) device
+    (IsActing.correcting cycle (record { next = c.corrected.next; reached = c.corrected.reached; correct = c.corrected.correct })))
+own_source s js time m (notes.State device state cause whys.On) p there c o = at_place s js p _ o (IsSource.following (amount time) cause c.2.1 c.2.2)
+own_source s js time m (notes.State device state cause whys.Frame) p there c o = at_place s js p _ o (IsSource.following (amount time) cause c.1.0 c.1.1)
+own_source s js time m (notes.State device state cause whys.Correction) p there c o =
+    at_place s js p _ o (IsSource.following (amount time) cause c.2.3 c.2.4)
+own_source s js time m (notes.State device state cause whys.SyncClique) p there c o =
+    at_place s js p _ o (IsSource.acting (amount time) device
+    (IsActing.correcting c.2.0 (record { next = c.2.1.next; reached = c.2.1.reached; correct = c.2.1.correct })))
+own_source s js time m (notes.State device state cause whys.AsyncClique) p there c o =
+    at_place s js p _ o (IsSource.acting (amount time) device
+    (IsActing.correcting c.2.0 (record { next = c.2.1.next; reached = c.2.1.reached; correct = c.2.1.correct })))
+own_source s js time m (notes.Lost device link cause) p there c o = late_source s js time m (notes.Lost device link cause) p (omega arith) c o
+own_source s js time m (notes.TtSent device link cause vl cycle) p there c o =
+    late_source s js time m (notes.TtSent device link cause vl cycle) p (omega arith) c o
+own_source s js time m (notes.Accepted device link cause vl cycle) p there c o =
+    late_source s js time m (notes.Accepted device link cause vl cycle) p (omega arith) c o
+own_source s js time m (notes.Delivered device link cause vl cycle) p there c o =
+    late_source s js time m (notes.Delivered device link cause vl cycle) p (omega arith) c o
+own_source s js time m (notes.Dropped device link cause reason) p there c o =
+    late_source s js time m (notes.Dropped device link cause reason) p (omega arith) c o
+
+-- ---- causes are given
+
+-- records to come are of the time, and of this rank or a higher one
+abbrev pub AreFrom : ℕ → ℕ → List Happening → Type 0
+AreFrom now r zs = (z : Happening) → IsIn z zs → (time_of z ≡ now) × (r ≤ rank z.note.body)
+
+rank_up_to : (t r k : ℕ) (more ws : List ℕ) → (IsBefore (t ∷ r ∷ more) (t ∷ k ∷ ws) → ⊥) → k ≤ r
+rank_up_to t r k more ws not = elim (cases_lt r k) [ inl lt ↦ absurd (not (inr (refl, inl lt))) | inr le ↦ le ]
+
+departs_given : (s : Scenario) (hs zs : List Happening) (now r t : ℕ) (device : DeviceId) (link : LinkId) (cause : ℕ) (is : Departure) → AreFrom now r zs
+    → 8 ≤ r
+    → Departs s (hs ++ zs) device t link cause is → cause ≤ length hs
+departs_given s hs zs now r t device link cause is from high d =
+    elim (numbered_parts hs zs d.giving cause d.there) [
+      | inl old ↦ let lt = numbered_within hs cause d.giving old in omega (arith, lt)
+      | inr new ↦ let it = from d.giving new in let low = gives_rank s.network d.giving.note.body device link d.gives in absurd (omega (arith, it.1, low, high))
+    ]
+
+arrives_given : (s : Scenario) (hs zs : List Happening) (now r : ℕ) (device : DeviceId) (link : LinkId) (cause : ℕ) (is : Arrival) → IsForward s
+    → AreFrom now r zs
+    → ArrivesAs s (hs ++ zs) device now link cause is → cause ≤ length hs
+arrives_given s hs zs now r device link cause is forward from a =
+    elim (numbered_parts hs zs a.putting cause a.there) [
+      | inl old ↦ let lt = numbered_within hs cause a.putting old in omega (arith, lt)
+      | inr new ↦
+          let it = from a.putting new in
+          let later = arrives_later s a.putting device link now a.signal forward a.arrives in absurd (omega (arith, it.0, later))
+    ]
+
+ripens_given : (s : Scenario) (hs zs : List Happening) (now r t : ℕ) (device : DeviceId) (link : LinkId) (cause : ℕ) (point : Units) (is : Ripe)
+    → AreFrom now r zs → 3 ≤ r → BecomesPermanent s (hs ++ zs) device t link cause point is → cause ≤ length hs
+ripens_given s hs zs now r t device link cause point is from high x =
+    let p = x.permanent in
+    elim (numbered_parts hs zs p.arrival cause p.there) [
+      | inl old ↦ let lt = numbered_within hs cause p.arrival old in omega (arith, lt)
+      | inr new ↦ let it = from p.arrival new in let two : rank p.arrival.note.body ≡ 2 = ap rank p.arrived in absurd (omega (arith, it.1, two, high))
+    ]
+
+send_given : (s : Scenario) (hs zs : List Happening) (now r t : ℕ) (device : DeviceId) (link : LinkId) (cause : ℕ) → AreFrom now r zs → 2 ≤ r
+    → IsSendLost s (hs ++ zs) device t link cause → cause ≤ length hs
+send_given s hs zs now r t device link cause from high l =
+    elim (numbered_parts hs zs l.event cause l.is.there) [
+      | inl old ↦ let lt = numbered_within hs cause l.event old in omega (arith, lt)
+      | inr new ↦ let it = from l.event new in let one : rank l.event.note.body ≡ 1 = ap rank l.sends in absurd (omega (arith, it.1, one, high))
+    ]
+
+pub dispatches_given : (s : Scenario) (hs zs : List Happening) (now r : ℕ) (device : DeviceId) (link : LinkId) (cause : ℕ) (vl : VlId) (cycle : ℕ)
+    → IsFounded place_of (IsDue s) hs → AreFrom now r zs → Dispatches s (hs ++ zs) device now link cause vl cycle → cause ≤ length hs
+dispatches_given s hs zs now r device link cause vl cycle founded from d =
+    elim d.at_hand [
+      | inl sender ↦ omega (arith, sender.1)
+      | inr took ↦
+          let same = earlier_still now hs zs (λ z i. let it = from z i in omega (arith, it.0)) in
+          let last = subst (λ (l : List Happening). last_or None (filter (λ h. is_accepted device d.entry.row.vl h.note.body) l) ≡ Some took.1.taken) same
+          took.1.last in
+          elim (last_in None (filter (λ h. is_accepted device d.entry.row.vl h.note.body) (earlier now hs)) took.1.taken last) [
+            | inl none ↦ absurd cc
+            | inr i ↦
+                let there = in_filter _ hs took.1.taken (in_filter _ (earlier now hs) took.1.taken i) in
+                let lt = numbered_within hs took.1.taken.note.number took.1.taken (by_number s hs took.1.taken founded there) in
+                omega (arith, lt, took.1.number)
+          ]
+    ]
+
+-- the cause of a record whose source is not behind the place is given, if it does not follow a record of the instant
+pub known_near : (s : Scenario) (hs zs : List Happening) (time : Units) (m r : ℕ) (more : List ℕ) (body : NoteBody) (p : List ℕ) → IsForward s
+    → IsFounded place_of (IsDue s) hs → AreFrom (amount time) r zs → 2 ≤ r → is_at_source body ≡ false → is_follower body ≡ false
+    → IsOwnSource s (hs ++ zs) (amount time) m body p → (IsBefore (amount time ∷ r ∷ more) p → ⊥) → IsCaused s (hs ++ zs) time body
+    → cause_of body ≤ length hs
+known_near s hs zs time m r more (notes.Event line what) p forward founded from late there follows o under c = omega arith
+known_near s hs zs time m r more (notes.Arrived device link cause clock) p forward founded from late there follows o under c = absurd cc
+known_near s hs zs time m r more (notes.Permanent device link cause point verdict) p forward founded from late there follows o under c = absurd cc
+known_near s hs zs time m r more (notes.Left device link cause clock) p forward founded from late there follows o under c = absurd cc
+known_near s hs zs time m r more (notes.Clock device reading adjustment state) p forward founded from late there follows o under c = absurd cc
+known_near s hs zs time m r more (notes.Compressed device opened at cycle members verdict) p forward founded from late there follows o under c = omega arith
+known_near s hs zs time m r more (notes.Sent device cycle) p forward founded from late there follows o under c = omega arith
+known_near s hs zs time m r more (notes.Corrected device cycle by adjustment) p forward founded from late there follows o under c = omega arith
+known_near s hs zs time m r more (notes.State device state cause whys.SyncClique) p forward founded from late there follows o under c =
+    let e = c.1 in omega (arith, e)
+known_near s hs zs time m r more (notes.State device state cause whys.AsyncClique) p forward founded from late there follows o under c =
+    let e = c.1 in omega (arith, e)
+known_near s hs zs time m r more (notes.State device state cause whys.On) p forward founded from late there follows o under c = absurd cc
+known_near s hs zs time m r more (notes.State device state cause whys.Frame) p forward founded from late there follows o under c = absurd cc
+known_near s hs zs time m r more (notes.State device state cause whys.Correction) p forward founded from late there follows o under c = absurd cc
+known_near s hs zs time m r more (notes.Lost device link cause) p forward founded from late there follows (inl o) under c =
+    let high = rank_up_to (amount time) r 8 more (device.0 ∷ link.0 ∷ cause ∷ []) (subst (λ (q : List ℕ). IsBefore (amount time ∷ r ∷ more) q → ⊥) o.0 under) in
+    departs_given s hs zs (amount time) r (amount time) device link cause _ from high o.1
+known_near s hs zs time m r more (notes.Lost device link cause) p forward founded from late there follows (inr (inl o)) under c =
+    dispatches_given s hs zs (amount time) r device link cause o.1.0 o.1.1 founded from o.1.2
+known_near s hs zs time m r more (notes.Lost device link cause) p forward founded from late there follows (inr (inr o)) under c =
+    send_given s hs zs (amount time) r (amount time) device link cause from late o.1
+known_near s hs zs time m r more (notes.TtSent device link cause vl cycle) p forward founded from late there follows o under c =
+    dispatches_given s hs zs (amount time) r device link cause vl cycle founded from c.dispatches
+known_near s hs zs time m r more (notes.Accepted device link cause vl cycle) p forward founded from late there follows o under c =
+    arrives_given s hs zs (amount time) r device link cause _ forward from c
+known_near s hs zs time m r more (notes.Delivered device link cause vl cycle) p forward founded from late there follows o under c =
+    arrives_given s hs zs (amount time) r device link cause _ forward from c
+known_near s hs zs time m r more (notes.Dropped device link cause reason) p forward founded from late there follows (inl o) under c =
+    arrives_given s hs zs (amount time) r device link cause _ forward from o.1
+known_near s hs zs time m r more (notes.Dropped device link cause reason) p forward founded from late there follows (inr (inl o)) under c =
+    let high = rank_up_to (amount time) r 3 more (device.0 ∷ amount o.0 ∷ o.1.frame.members.0 ∷ link.0 ∷ cause ∷ [])
+    (subst (λ (q : List ℕ). IsBefore (amount time ∷ r ∷ more) q → ⊥) o.2 under) in
+    ripens_given s hs zs (amount time) r (amount time) device link cause o.0 _ from high o.1
+known_near s hs zs time m r more (notes.Dropped device link cause reason) p forward founded from late there follows (inr (inr o)) under c =
+    let high = rank_up_to (amount time) r 8 more (device.0 ∷ link.0 ∷ cause ∷ []) (subst (λ (q : List ℕ). IsBefore (amount time ∷ r ∷ more) q → ⊥) o.0 under) in
+    departs_given s hs zs (amount time) r (amount time) device link cause _ from high o.1
+
+-- ---- what follows a record of the instant
+
+-- the second list has one record more, behind the first n
+pub record AreRaised (n : ℕ) (js gs : List Happening) : Type 0 where
+  pub first : (i : ℕ) → i ≤ n → numbered js i ≡ numbered gs i
+  pub beyond : (i : ℕ) → n < i → numbered gs (suc i) ≡ option_map (bump_behind n) (numbered js i)
+
+abbrev IsSameBody : ℕ → Happening → Happening → Type 0
+IsSameBody n h g = (g.note.body ≡ h.note.body) ⊎ (g.note.body ≡ raised n h.note.body)
+
+this_up : (n : ℕ) (js gs : List Happening) (t cause : ℕ) (h : Happening) → AreRaised n js gs → IsOfThisTime js t cause h
+    → (g : Happening) × IsOfThisTime gs t (up_number n cause) g × IsSameBody n h g
+this_up n js gs t cause h a it = elim (cases_lt n cause) [
+  | inr low ↦ (
+    h,
+    record { there = ap (numbered gs) (up_low n cause low) ∙ sym (a.first cause low) ∙ it.there; same_time = it.same_time },
+    inl refl,
+  )
+  | inl high ↦ (
+    bump_behind n h,
+    record {
+      there = ap (numbered gs) (up_high n cause high) ∙ a.beyond cause high ∙ ap (option_map (bump_behind n)) it.there;
+      same_time = it.same_time;
+    },
+    inr refl,
+  )
+]
+
+mapped_back : (f : Happening → Happening) (o : Option Happening) (g : Happening) → option_map f o ≡ Some g → (h : Happening) × (o ≡ Some h) × (g ≡ f h)
+mapped_back f None g e = absurd cc
+mapped_back f (Some h) g e = let same : g ≡ f h = cc in (h, refl, same)
+
+this_down : (n : ℕ) (js gs : List Happening) (t cause : ℕ) (g : Happening) → AreRaised n js gs → (cause ≡ n + 1 → ⊥) → IsOfThisTime gs t cause g
+    → (h : Happening) × IsOfThisTime js t (down_number n cause) h × IsSameBody n h g
+this_down n js gs t cause g a other it = elim (cases_lt n cause) [
+  | inr low ↦ (
+    g,
+    record { there = ap (numbered js) (down_low n cause low) ∙ a.first cause low ∙ it.there; same_time = it.same_time },
+    inl refl,
+  )
+  | inl high ↦
+      let back : suc (cause - 1) ≡ cause = omega (arith, high) in
+      let over : n < cause - 1 = elim (cases_order cause (n + 1)) [
+        | inl e ↦ absurd (other e)
+        | inr (inl less) ↦ absurd (omega (arith, high, less))
+        | inr (inr more) ↦ omega (arith, more)
+      ] in
+      let found = mapped_back (bump_behind n) (numbered js (cause - 1)) g (sym (a.beyond (cause - 1) over) ∙ ap (numbered gs) back ∙ it.there) in (
+        found.0,
+        record {
+          there = ap (numbered js) (down_high n cause high) ∙ found.1;
+          same_time = ap time_of (sym found.2) ∙ it.same_time;
+        },
+        inr (ap (λ (h : Happening). h.note.body) found.2),
+      )
+]
+
+same_joins : (n : ℕ) (device : DeviceId) (h g : Happening) → IsSameBody n h g → is_joined_by device g.note.body ≡ is_joined_by device h.note.body
+same_joins n device h g (inl e) = ap (is_joined_by device) e
+same_joins n device h g (inr e) = ap (is_joined_by device) e ∙ raised_joins n device h.note.body
+
+body_up : (n : ℕ) (h g : Happening) (body : NoteBody) → (rank body ≡ 7 → ⊥) → IsSameBody n h g → h.note.body ≡ body → g.note.body ≡ body
+body_up n h g body other (inl e) is = e ∙ is
+body_up n h g body other (inr e) is = e ∙ ap (raised n) is ∙ raised_same n body other
+
+body_down : (n : ℕ) (h g : Happening) (body : NoteBody) → (rank body ≡ 7 → ⊥) → IsSameBody n h g → g.note.body ≡ body → h.note.body ≡ body
+body_down n h g body other (inl e) is = sym e ∙ is
+body_down n h g body other (inr e) is =
+    let ranks : rank h.note.body ≡ rank body = sym (raised_rank n h.note.body) ∙ ap rank (sym e ∙ is) in
+    sym (raised_same n h.note.body (λ seven_it. other (sym ranks ∙ seven_it))) ∙ sym e ∙ is
+
+changes_up : (s : Scenario) (n : ℕ) (js gs : List Happening) (device : DeviceId) (t : ℕ) (state : State) (cause : ℕ) (why : Why) → AreRaised n js gs
+    → earlier t js ≡ earlier t gs → is_following why ≡ true → ChangesState s js device t state cause why
+    → ChangesState s gs device t state (up_number n cause) why
+changes_up s n js gs device t state cause whys.On a before f c =
+    let x = this_up n js gs t cause c.2.1 a c.2.2 in
+    (c.0, c.1, (c.2.0, x.0, x.1, body_up n c.2.1 x.0 _ (λ e. omega (arith, e)) x.2 c.2.3))
+changes_up s n js gs device t state cause whys.Frame a before f c =
+    let x = this_up n js gs t cause c.1.0 a c.1.1 in (c.0, (x.0, x.1, same_joins n device c.1.0 x.0 x.2 ∙ c.1.2))
+changes_up s n js gs device t state cause whys.Correction a before f c =
+    let x = this_up n js gs t cause c.2.3 a c.2.4 in (
+      c.0,
+      subst (λ (w : List Happening). (if is_turned_on_at s device t then Integrating else state_after s w device) ≡ Joining) before c.1,
+      (c.2.0, c.2.1, c.2.2, x.0, x.1, body_up n c.2.3 x.0 _ (λ e. omega (arith, e)) x.2 c.2.5),
+    )
+changes_up s n js gs device t state cause whys.SyncClique a before f c = absurd cc
+changes_up s n js gs device t state cause whys.AsyncClique a before f c = absurd cc
+
+changes_down : (s : Scenario) (n : ℕ) (js gs : List Happening) (device : DeviceId) (t : ℕ) (state : State) (cause : ℕ) (why : Why) → AreRaised n js gs
+    → earlier t js ≡ earlier t gs → is_following why ≡ true → (cause ≡ n + 1 → ⊥) → ChangesState s gs device t state cause why
+    → ChangesState s js device t state (down_number n cause) why
+changes_down s n js gs device t state cause whys.On a before f other c =
+    let x = this_down n js gs t cause c.2.1 a other c.2.2 in
+    (c.0, c.1, (c.2.0, x.0, x.1, body_down n x.0 c.2.1 _ (λ e. omega (arith, e)) x.2 c.2.3))
+changes_down s n js gs device t state cause whys.Frame a before f other c =
+    let x = this_down n js gs t cause c.1.0 a other c.1.1 in (c.0, (x.0, x.1, sym (same_joins n device x.0 c.1.0 x.2) ∙ c.1.2))
+changes_down s n js gs device t state cause whys.Correction a before f other c =
+    let x = this_down n js gs t cause c.2.3 a other c.2.4 in (
+      c.0,
+      subst (λ (w : List Happening). (if is_turned_on_at s device t then Integrating else state_after s w device) ≡ Joining) (sym before) c.1,
+      (c.2.0, c.2.1, c.2.2, x.0, x.1, body_down n x.0 c.2.3 _ (λ e. omega (arith, e)) x.2 c.2.5),
+    )
+changes_down s n js gs device t state cause whys.SyncClique a before f other c = absurd cc
+changes_down s n js gs device t state cause whys.AsyncClique a before f other c = absurd cc
+
+own_follows : (s : Scenario) (js gs : List Happening) (t m : ℕ) (device : DeviceId) (state : State) (cause other : ℕ) (why : Why) (p : List ℕ)
+    → is_following why ≡ true → IsOwnSource s js t m (notes.State device state cause why) p → IsOwnSource s gs t m (notes.State device state other why) p
+own_follows s js gs t m device state cause other whys.On p f o = o
+own_follows s js gs t m device state cause other whys.Frame p f o = o
+own_follows s js gs t m device state cause other whys.Correction p f o = o
+own_follows s js gs t m device state cause other whys.SyncClique p f o = absurd cc
+own_follows s js gs t m device state cause other whys.AsyncClique p f o = absurd cc
+
+-- ---- so the record is due, one number on, and the other way round
+
+-- the two lists, the second with one record more
+pub record AreTwo (s : Scenario) (t n : ℕ) (at : List ℕ) (put : NoteBody) (js gs : List Happening) : Type 0 where
+  pub near : AreNear s t n at put js gs
+  pub raised_so : AreRaised n js gs
+  pub longer : length gs ≡ length js + 1
+
+-- what is due comes from this source, not behind the place, and reads nothing of the one that is put in
+pub record IsAsideOf (s : Scenario) (js : List Happening) (n : ℕ) (at : List ℕ) (put : NoteBody) (time : Units) (m : ℕ) (body : NoteBody)
+    (p : List ℕ) : Type 0 where
+  pub not_there : is_at_source body ≡ false
+  pub free : (device : DeviceId) → hears device body ≡ true → bears_on device put ≡ false
+  pub few : is_follower body ≡ false → cause_of body ≤ n
+  pub own : IsOwnSource s js (amount time) m body p
+  pub under : IsBefore at p → ⊥
+
+pub caused_up : (s : Scenario) (n m : ℕ) (at : List ℕ) (put : NoteBody) (js gs : List Happening) (time : Units) (body : NoteBody) (p : List ℕ)
+    → AreTwo s (amount time) n at put js gs → IsAsideOf s js n at put time m body p → IsCaused s js time body → IsCaused s gs time (raised n body)
+caused_up s n m at put js gs time body p a i c = elim (follower_or_not body) [
+  | inr plain ↦
+      let few = i.few plain in
+      subst (λ (b : NoteBody). IsCaused s gs time b) (sym (raised_low n body few))
+      (caused_near s n m at put js gs time body p a.near i.not_there plain i.free few i.own i.under c)
+  | inl f ↦
+      subst (λ (b : NoteBody). IsCaused s gs time (raised n b)) (sym f.is)
+      (changes_up s n js gs f.device (amount time) f.state f.cause f.why a.raised_so a.near.before f.following
+      (subst (λ (b : NoteBody). IsCaused s js time b) f.is c))
+]
+
+pub own_up : (s : Scenario) (n m : ℕ) (at : List ℕ) (put : NoteBody) (js gs : List Happening) (time : Units) (body : NoteBody) (p : List ℕ)
+    → AreTwo s (amount time) n at put js gs → IsAsideOf s js n at put time m body p → IsOwnSource s gs (amount time) m (raised n body) p
+own_up s n m at put js gs time body p a i = elim (follower_or_not body) [
+  | inr plain ↦
+      let few = i.few plain in
+      subst (λ (b : NoteBody). IsOwnSource s gs (amount time) m b p) (sym (raised_low n body few))
+      (own_near s (amount time) n m at put js gs body p a.near few i.under i.own)
+  | inl f ↦
+      subst (λ (b : NoteBody). IsOwnSource s gs (amount time) m (raised n b) p) (sym f.is)
+      (own_follows s js gs (amount time) m f.device f.state f.cause (up_number n f.cause) f.why p f.following
+      (subst (λ (b : NoteBody). IsOwnSource s js (amount time) m b p) f.is i.own))
+]
+
+lowered_low : (n : ℕ) (body : NoteBody) → cause_of body ≤ n → lowered n body ≡ body
+lowered_low n (notes.State device state cause why) le = ap (λ (c : ℕ). notes.State device state c why) (down_low n cause le)
+lowered_low n other le = refl
+
+pub caused_down : (s : Scenario) (n m : ℕ) (at : List ℕ) (put : NoteBody) (js gs : List Happening) (time : Units) (body : NoteBody) (p : List ℕ)
+    → AreTwo s (amount time) n at put js gs → IsAsideOf s gs n at put time m body p → (rank body ≡ 7 → cause_of body ≡ n + 1 → ⊥) → IsCaused s gs time body
+    → IsCaused s js time (lowered n body)
+caused_down s n m at put js gs time body p a i other c = elim (follower_or_not body) [
+  | inr plain ↦
+      let few = i.few plain in
+      subst (λ (b : NoteBody). IsCaused s js time b) (sym (lowered_low n body few))
+      (caused_near s n m at put gs js time body p (near_back s (amount time) n at put js gs a.near) i.not_there plain i.free few i.own i.under c)
+  | inl f ↦
+      subst (λ (b : NoteBody). IsCaused s js time (lowered n b)) (sym f.is)
+      (changes_down s n js gs f.device (amount time) f.state f.cause f.why a.raised_so a.near.before f.following
+      (λ e. other (ap rank f.is) (ap cause_of f.is ∙ e)) (subst (λ (b : NoteBody). IsCaused s gs time b) f.is c))
+]
+
+pub own_down : (s : Scenario) (n m : ℕ) (at : List ℕ) (put : NoteBody) (js gs : List Happening) (time : Units) (body : NoteBody) (p : List ℕ)
+    → AreTwo s (amount time) n at put js gs → IsAsideOf s gs n at put time m body p → IsOwnSource s js (amount time) m (lowered n body) p
+own_down s n m at put js gs time body p a i = elim (follower_or_not body) [
+  | inr plain ↦
+      let few = i.few plain in
+      subst (λ (b : NoteBody). IsOwnSource s js (amount time) m b p) (sym (lowered_low n body few))
+      (own_near s (amount time) n m at put gs js body p (near_back s (amount time) n at put js gs a.near) few i.under i.own)
+  | inl f ↦
+      subst (λ (b : NoteBody). IsOwnSource s js (amount time) m (lowered n b) p) (sym f.is)
+      (own_follows s gs js (amount time) m f.device f.state f.cause (down_number n f.cause) f.why p f.following
+      (subst (λ (b : NoteBody). IsOwnSource s gs (amount time) m b p) f.is i.own))
+]
+
+-- ---- and has the frame that it has
+
+-- the cause is one of the first n, or it is a change of state, which has no frame
+frame_up : (network : Network) (n : ℕ) (js gs : List Happening) (body : NoteBody) → ((i : ℕ) → i ≤ n → numbered js i ≡ numbered gs i)
+    → (is_follower body ≡ false → cause_of body ≤ n) → frame_by network js body ≡ frame_by network gs (raised n body)
+frame_up network n js gs body first few = elim (follower_or_not body) [
+  | inr plain ↦
+      frame_alike network n js gs body first (few plain) ∙ ap (frame_by network gs) (sym (raised_low n body (few plain)))
+  | inl f ↦ ap (frame_by network js) f.is ∙ sym (ap (λ (b : NoteBody). frame_by network gs (raised n b)) f.is)
+]
+
+octets_up : (network : Network) (n : ℕ) (js gs : List Happening) (body : NoteBody) → ((i : ℕ) → i ≤ n → numbered js i ≡ numbered gs i)
+    → (is_follower body ≡ false → cause_of body ≤ n) → octets_by network js body ≡ octets_by network gs (raised n body)
+octets_up network n js gs body first few = elim (follower_or_not body) [
+  | inr plain ↦
+      octets_alike network n js gs body first (few plain) ∙ ap (octets_by network gs) (sym (raised_low n body (few plain)))
+  | inl f ↦ ap (octets_by network js) f.is ∙ sym (ap (λ (b : NoteBody). octets_by network gs (raised n b)) f.is)
+]
+
+frame_down : (network : Network) (n : ℕ) (js gs : List Happening) (body : NoteBody) → ((i : ℕ) → i ≤ n → numbered js i ≡ numbered gs i)
+    → (is_follower body ≡ false → cause_of body ≤ n) → frame_by network gs body ≡ frame_by network js (lowered n body)
+frame_down network n js gs body first few = elim (follower_or_not body) [
+  | inr plain ↦
+      frame_alike network n gs js body (λ i le. sym (first i le)) (few plain) ∙ ap (frame_by network js) (sym (lowered_low n body (few plain)))
+  | inl f ↦ ap (frame_by network gs) f.is ∙ sym (ap (λ (b : NoteBody). frame_by network js (lowered n b)) f.is)
+]
+
+octets_down : (network : Network) (n : ℕ) (js gs : List Happening) (body : NoteBody) → ((i : ℕ) → i ≤ n → numbered js i ≡ numbered gs i)
+    → (is_follower body ≡ false → cause_of body ≤ n) → octets_by network gs body ≡ octets_by network js (lowered n body)
+octets_down network n js gs body first few = elim (follower_or_not body) [
+  | inr plain ↦
+      octets_alike network n gs js body (λ i le. sym (first i le)) (few plain) ∙ ap (octets_by network js) (sym (lowered_low n body (few plain)))
+  | inl f ↦ ap (octets_by network gs) f.is ∙ sym (ap (λ (b : NoteBody). octets_by network js (lowered n b)) f.is)
+]
+
+abbrev made : Note → Option Pcf → List ℕ → Happening
+made note frame octets = record { note = note; frame = frame; octets = octets }
+
+-- a record that is due is due by the longer list, one number on
+pub due_up : (s : Scenario) (n : ℕ) (at : List ℕ) (put : NoteBody) (js gs : List Happening) (x : Happening) (p : List ℕ)
+    → AreTwo s (time_of x) n at put js gs → IsAsideOf s js n at put x.note.time (members_in x) x.note.body p → IsDue s js x → IsDue s gs (bump_behind n x)
+due_up s n at put js gs x p a i due =
+    let number = due.number in
+    let longer = a.longer in
+    let note = (bump_behind n x).note in
+    record {
+      number = omega (arith, number, longer);
+      same =
+          ap (bump_behind n) due.same
+          ∙ ap (λ (f : Option Pcf). made note f (octets_by s.network js x.note.body)) (frame_up s.network n js gs x.note.body a.raised_so.first i.few)
+          ∙ ap (made note (frame_by s.network gs (raised n x.note.body))) (octets_up s.network n js gs x.note.body a.raised_so.first i.few);
+      begun = due.begun;
+      cause = caused_up s n (members_in x) at put js gs x.note.time x.note.body p a i due.cause;
+    }
+
+-- and one that is due by the longer list, and does not follow the record put in, was due
+pub due_down : (s : Scenario) (n : ℕ) (at : List ℕ) (put : NoteBody) (js gs : List Happening) (y : Happening) (p : List ℕ)
+    → AreTwo s (time_of y) n at put js gs → IsAsideOf s gs n at put y.note.time (members_in y) y.note.body p
+    → (rank y.note.body ≡ 7 → cause_of y.note.body ≡ n + 1 → ⊥) → IsDue s gs y → IsDue s js (lower_behind n (length js + 1) y)
+due_down s n at put js gs y p a i other due =
+    let low = λ (h : Happening). lower_behind n (length js + 1) h in
+    let note = (lower_behind n (length js + 1) y).note in
+    record {
+      number = refl;
+      same =
+          ap low due.same
+          ∙ ap (λ (f : Option Pcf). made note f (octets_by s.network gs y.note.body)) (frame_down s.network n js gs y.note.body a.raised_so.first i.few)
+          ∙ ap (made note (frame_by s.network js (lowered n y.note.body))) (octets_down s.network n js gs y.note.body a.raised_so.first i.few);
+      begun = due.begun;
+      cause = caused_down s n (members_in y) at put js gs y.note.time y.note.body p a i other due.cause;
+    }

@@ -1,0 +1,245 @@
+-- A device acts: what is to come with its records.
+use Rattle.std.proofs.Common.{◌≡◌, ◌⊎◌, ℕ, suc, ◌+◌, ◌≤◌, ◌<◌, true, List, [], ◌∷◌, ◌++◌, length, Some, append_assoc, inl, inr, refl, sym, ap, subst, ◌∙◌, arith}
+use Rattle.net_plan.specs.declared.ids.DeviceId.{DeviceId}
+use Rattle.run_law.proofs.law.FirstPlaces.{numbered_within}
+use Rattle.run_law.proofs.runs.Determined.{due_is_determined}
+use Rattle.run_law.proofs.runs.Places.{in_left, in_right, never_self, parted}
+use Rattle.run_law.specs.declared.judgement.Why.{Why}
+use Rattle.run_law.specs.declared.judgement.Why.TheVariants as whys
+use Rattle.run_law.specs.declared.note.NoteBody.TheVariants as notes
+use Rattle.run_law.specs.declared.note.NoteBody.{NoteBody}
+use Rattle.run_law.specs.device.StateChanges.{ChangesState}
+use Rattle.run_law.specs.device.States.{is_joined_by}
+use Rattle.run_law.specs.records.Causes.{IsOfThisTime, device_of}
+use Rattle.run_law.specs.records.Happenings.{Happening, numbered}
+use Rattle.run_law.specs.records.Order.{AllBefore, IsBefore, IsIn, NoneBefore}
+use Rattle.run_law.specs.records.Ranks.{key, members_in, place_of, rank}
+use Rattle.run_law.specs.runs.DueRecords.{IsCaused, IsDue}
+use Rattle.run_law.specs.runs.Runs.{IsFounded}
+use Rattle.run_law.specs.scenario.Scenarios.{Scenario}
+use Rattle.sync_state.specs.declared.state.State.{State}
+use Rattle.tte_units.specs.Amount.{amount, units_of}
+use Rattle.tte_units.specs.declared.units.Units.{Units}
+use Rattle.world_law.proofs.putting.Bumped.{AsState}
+use Rattle.world_law.proofs.putting.Moving.{IsMoving}
+use Rattle.world_law.proofs.putting.Near.{hears}
+use Rattle.world_law.proofs.putting.Placing.{before_it}
+use Rattle.world_law.proofs.putting.PutOne.{IsOne, at_number}
+use Rattle.world_law.proofs.putting.PutShown.{IsShownPair, due_of, record_of}
+use Rattle.world_law.proofs.putting.PutTwo.{IsPair}
+use Rattle.world_law.proofs.runs.SourcesBack.{at_least, numbered_parts}
+use Rattle.world_law.specs.source.Sources.{IsActing, IsOwnSource, IsSource}
+use Rattle.world_law.specs.world.World.{act_place}
+
+-- ---- no record stands before its own source
+
+before_end : (d : ℕ) (more : List ℕ) → IsBefore (d ∷ more) (d ∷ []) → ⊥
+before_end d more (inl lt) = omega (arith, lt)
+before_end d more (inr b) = b.1
+
+higher : (t k r : ℕ) (ks rs : List ℕ) → r < k → IsBefore (t ∷ k ∷ ks) (t ∷ r ∷ rs) → ⊥
+higher t k r ks rs lt (inl b) = omega (arith, b)
+higher t k r ks rs lt (inr (e, inl b)) = omega (arith, lt, b)
+higher t k r ks rs lt (inr (e, inr b)) = let f = b.0 in omega (arith, lt, f)
+
+same_end : (t k d e : ℕ) (more q : List ℕ) → q ≡ t ∷ k ∷ d ∷ [] → IsBefore (t ∷ k ∷ d ∷ more) q → ⊥
+same_end t k d e more q o b =
+    elim (subst (λ (p : List ℕ). IsBefore (t ∷ k ∷ d ∷ more) p) o b) [
+      | inl x ↦ omega (arith, x)
+      | inr (a, inl x) ↦ omega (arith, x)
+      | inr (a, inr x) ↦ before_end d more x.1
+    ]
+
+above : (t k r : ℕ) (ks rs q : List ℕ) → r < k → q ≡ t ∷ r ∷ rs → IsBefore (t ∷ k ∷ ks) q → ⊥
+above t k r ks rs q lt o b = higher t k r ks rs lt (subst (λ (p : List ℕ). IsBefore (t ∷ k ∷ ks) p) o b)
+
+same_place : (p q : List ℕ) → q ≡ p → IsBefore p q → ⊥
+same_place p q o b = never_self p (subst (λ (u : List ℕ). IsBefore p u) o b)
+
+none_below : (t k : ℕ) (ks q : List ℕ) → q ≡ t ∷ k ∷ [] → IsBefore (t ∷ k ∷ ks) q → ⊥
+none_below t k ks q o b =
+    elim (subst (λ (p : List ℕ). IsBefore (t ∷ k ∷ ks) p) o b) [
+      | inl x ↦ omega (arith, x)
+      | inr (a, inl x) ↦ omega (arith, x)
+      | inr (a, inr x) ↦ x.1
+    ]
+
+-- the premise `least` of `IsOne`, for all kinds
+pub least_of_own : (s : Scenario) (js : List Happening) (t m : ℕ) (body : NoteBody) (q : List ℕ) → IsOwnSource s js t m body q
+    → IsBefore (t ∷ rank body ∷ key m body) q → ⊥
+least_of_own s js t m (notes.Event line what) q o b = none_below t 1 (line ∷ []) q o b
+least_of_own s js t m (notes.Arrived device link cause clock) q o b = same_place _ q o b
+least_of_own s js t m (notes.Permanent device link cause point verdict) q o b = same_place _ q o b
+least_of_own s js t m (notes.Compressed device opened at cycle members verdict) q o b = same_end t 4 device.0 0 _ q o b
+least_of_own s js t m (notes.Sent device cycle) q o b = above t 5 4 (device.0 ∷ cycle ∷ []) (device.0 ∷ []) q (omega arith) o b
+least_of_own s js t m (notes.Corrected device cycle by adjustment) q o b = above t 6 4 (device.0 ∷ []) (device.0 ∷ []) q (omega arith) o b
+least_of_own s js t m (notes.State device state cause whys.On) q o b = above t 7 2 (device.0 ∷ cause ∷ []) [] q (omega arith) o b
+least_of_own s js t m (notes.State device state cause whys.Frame) q o b = above t 7 2 (device.0 ∷ cause ∷ []) [] q (omega arith) o b
+least_of_own s js t m (notes.State device state cause whys.Correction) q o b = above t 7 2 (device.0 ∷ cause ∷ []) [] q (omega arith) o b
+least_of_own s js t m (notes.State device state cause whys.SyncClique) q o b =
+    above t 7 4 (device.0 ∷ cause ∷ []) (device.0 ∷ []) q (omega arith) o b
+least_of_own s js t m (notes.State device state cause whys.AsyncClique) q o b =
+    above t 7 4 (device.0 ∷ cause ∷ []) (device.0 ∷ []) q (omega arith) o b
+least_of_own s js t m (notes.Left device link cause clock) q o b = same_place _ q o b
+least_of_own s js t m (notes.Lost device link cause) q (inl o) b =
+    above t 9 8 (device.0 ∷ link.0 ∷ cause ∷ []) (device.0 ∷ link.0 ∷ cause ∷ []) q (omega arith) o.0 b
+least_of_own s js t m (notes.Lost device link cause) q (inr (inl o)) b =
+    above t 9 4 (device.0 ∷ link.0 ∷ cause ∷ []) (device.0 ∷ []) q (omega arith) o.0 b
+least_of_own s js t m (notes.Lost device link cause) q (inr (inr o)) b = above t 9 2 (device.0 ∷ link.0 ∷ cause ∷ []) [] q (omega arith) o.0 b
+least_of_own s js t m (notes.TtSent device link cause vl cycle) q o b =
+    above t 10 4 (device.0 ∷ link.0 ∷ cause ∷ vl.0 ∷ cycle ∷ []) (device.0 ∷ []) q (omega arith) o b
+least_of_own s js t m (notes.Accepted device link cause vl cycle) q o b =
+    above t 11 2 (device.0 ∷ link.0 ∷ cause ∷ []) (device.0 ∷ link.0 ∷ cause ∷ []) q (omega arith) o b
+least_of_own s js t m (notes.Delivered device link cause vl cycle) q o b =
+    above t 12 2 (device.0 ∷ link.0 ∷ cause ∷ []) (device.0 ∷ link.0 ∷ cause ∷ []) q (omega arith) o b
+least_of_own s js t m (notes.Dropped device link cause reason) q (inl o) b =
+    above t 13 2 (device.0 ∷ link.0 ∷ cause ∷ []) (device.0 ∷ link.0 ∷ cause ∷ []) q (omega arith) o.0 b
+least_of_own s js t m (notes.Dropped device link cause reason) q (inr (inl o)) b =
+    above t 13 3 (device.0 ∷ link.0 ∷ cause ∷ []) (device.0 ∷ amount o.0 ∷ o.1.frame.members.0 ∷ link.0 ∷ cause ∷ []) q (omega arith) o.2 b
+least_of_own s js t m (notes.Dropped device link cause reason) q (inr (inr o)) b =
+    above t 13 8 (device.0 ∷ link.0 ∷ cause ∷ []) (device.0 ∷ link.0 ∷ cause ∷ []) q (omega arith) o.0 b
+least_of_own s js t m (notes.Clock device reading adjustment state) q o b = same_place _ q o b
+
+-- ---- a record at the same place is the same
+
+none_between : (c : List Happening) (p : List ℕ) → AllBefore place_of c p → NoneBefore place_of c p → c ≡ []
+none_between [] p all none = refl
+none_between (x ∷ c) p all none = absurd (none x (inl refl) (all x (inl refl)))
+
+-- where a record to come stands at the very place of the one that is put in, it is that one, so it was put in before
+pub there_already : (s : Scenario) (hs front back : List Happening) (mark cursor : List ℕ) (now r : ℕ) (more : List ℕ) (w y : Happening)
+    → IsMoving s hs (front ++ back) mark cursor now r more → IsDue s (hs ++ front) w → NoneBefore place_of back (place_of w)
+    → IsIn y back → place_of w ≡ place_of y → w ≡ y
+there_already s hs front back mark cursor now r more w y m due none i same =
+    let split = parted y back i in
+    let c = split.0 in
+    let whole : front ++ back ≡ (front ++ c) ++ y ∷ split.1 = ap (λ (l : List Happening). front ++ l) split.2 ∙ sym (append_assoc front c (y ∷ split.1)) in
+    let was = m.are.founded (front ++ c) split.1 y whole in
+    let empty : c ≡ [] = none_between c (place_of y) (λ h j. was.0 h (in_right h front c j))
+    (λ h j b. none h (subst (λ (l : List Happening). IsIn h l) (sym split.2) (in_left h c (y ∷ split.1) j))
+    (subst (λ (q : List ℕ). IsBefore (place_of h) q) (sym same) b)) in
+    let front_is : front ++ c ≡ front = ap (λ (l : List Happening). front ++ l) empty ∙ Rattle.std.proofs.lemmas.List.append-nil front in
+    due_is_determined s (hs ++ front) w y due (subst (λ (l : List Happening). IsDue s (hs ++ l) y) front_is was.1) same
+
+-- ---- the record of an act
+
+-- the device acts at the source that comes first, and this record is due of it, which is not among those to come; and no
+-- record of its own that rests on what it hears is to come behind it
+pub record IsActSo (s : Scenario) (hs front back : List Happening) (mark cursor : List ℕ) (now : ℕ) (device : DeviceId) (body : NoteBody) : Type 0 where
+  pub moving : IsMoving s hs (front ++ back) mark cursor now 4 (device.0 ∷ [])
+  pub marked : (p : List ℕ) → IsBefore p (now ∷ []) → IsBefore p mark
+  pub given : IsFounded place_of (IsDue s) hs
+  pub cause : IsCaused s (hs ++ front) (units_of now) body
+  pub own : (m : ℕ) → IsOwnSource s (hs ++ front) now m body (act_place now device)
+  pub acts : IsActing s (hs ++ front) now device
+  pub before : AllBefore place_of front (place_of (record_of s.network hs front now body))
+  pub none : NoneBefore place_of back (place_of (record_of s.network hs front now body))
+  pub new : IsIn (record_of s.network hs front now body) back → ⊥
+  pub aside : (x : Happening) → IsIn x back → hears device x.note.body ≡ true → ⊥
+
+same_acts : (now : ℕ) (device other : DeviceId) → act_place now device ≡ act_place now other → other ≡ device
+same_acts now device other e =
+    let n : other.0 ≡ device.0 = cc in ap (λ (k : ℕ). let d : DeviceId = record { 0 = k } in d) n
+
+pub act_one : (s : Scenario) (hs front back : List Happening) (mark cursor : List ℕ) (now : ℕ) (device : DeviceId) (body : NoteBody)
+    → IsActSo s hs front back mark cursor now device body
+    → IsOne s hs front back mark cursor now 4 (device.0 ∷ []) (record_of s.network hs front now body)
+act_one s hs front back mark cursor now device body a =
+    let w = record_of s.network hs front now body in
+    let due = due_of s hs front now body a.cause in
+    record {
+      moving = a.moving;
+      later = inr (refl, inl (omega arith));
+      marked = a.marked;
+      given = a.given;
+      at = refl;
+      due = due;
+      before = a.before;
+      none = a.none;
+      fresh = λ y i same.
+          a.new (subst (λ (h : Happening). IsIn h back)
+          (sym (there_already s hs front back mark cursor now 4 (device.0 ∷ []) w y a.moving due a.none i same)) i);
+      least = least_of_own s (hs ++ front) now (members_in w) body (act_place now device) (a.own (members_in w));
+      mine = a.own (members_in w);
+      here = IsSource.acting now device a.acts;
+      aside = λ x i other e yes_it.
+          a.aside x i (subst (λ (d : DeviceId). hears d x.note.body ≡ true) (same_acts now device other e) yes_it);
+    }
+
+-- ---- where a change of state follows it
+
+change_of : (s : Scenario) (hs zs : List Happening) (device : DeviceId) (t : ℕ) (state : State) (cause : ℕ) (why : Why)
+    → ((h : Happening) → IsIn h zs → is_joined_by device h.note.body ≡ true → ⊥)
+    → ((h : Happening) → IsIn h zs → (cycle : ℕ) (by adjustment : Units) → h.note.body ≡ notes.Corrected device cycle by adjustment → ⊥)
+    → ((h : Happening) → IsIn h zs → 2 ≤ rank h.note.body) → ChangesState s (hs ++ zs) device t state cause why → cause ≤ length hs
+change_of s hs zs device t state cause whys.On joins corrects late c = elim (numbered_parts hs zs c.2.1 cause c.2.2.there) [
+  | inl old ↦ let lt = numbered_within hs cause c.2.1 old in omega (arith, lt)
+  | inr new ↦ let high = late c.2.1 new in let one = ap rank c.2.3 in absurd (omega (arith, high, one))
+]
+change_of s hs zs device t state cause whys.Frame joins corrects late c = elim (numbered_parts hs zs c.1.0 cause c.1.1.there) [
+  | inl old ↦ let lt = numbered_within hs cause c.1.0 old in omega (arith, lt)
+  | inr new ↦ absurd (joins c.1.0 new c.1.2)
+]
+change_of s hs zs device t state cause whys.Correction joins corrects late c = elim (numbered_parts hs zs c.2.3 cause c.2.4.there) [
+  | inl old ↦ let lt = numbered_within hs cause c.2.3 old in omega (arith, lt)
+  | inr new ↦ absurd (corrects c.2.3 new c.2.0 c.2.1 c.2.2 c.2.5)
+]
+change_of s hs zs device t state cause whys.SyncClique joins corrects late c = let e = c.1 in omega (arith, e)
+change_of s hs zs device t state cause whys.AsyncClique joins corrects late c = let e = c.1 in omega (arith, e)
+
+-- no frame that the device sent and no correction of it is to come: so the causes of its changes of state are given. The
+-- premise of `two_shown` where a device acts
+pub causes_of_device : (s : Scenario) (hs coming : List Happening) (mark cursor : List ℕ) (now r : ℕ) (more : List ℕ) (device : DeviceId)
+    → IsMoving s hs coming mark cursor now r more → 2 ≤ r
+    → ((h : Happening) → IsIn h coming → is_joined_by device h.note.body ≡ true → ⊥)
+    → ((h : Happening) → IsIn h coming → (cycle : ℕ) (by adjustment : Units) → h.note.body ≡ notes.Corrected device cycle by adjustment → ⊥)
+    → (z : Happening) → IsIn z coming → (it : AsState z.note.body) → it.device.0 ≡ device.0 → it.cause ≤ length hs
+causes_of_device s hs coming mark cursor now r more device m some joins corrects z i it same =
+    let split = parted z coming i in
+    let due = (m.are.founded split.0 split.1 z split.2).1 in
+    let inside : (y : Happening) → IsIn y split.0 → IsIn y coming = λ y j. subst (λ (l : List Happening). IsIn y l) (sym split.2)
+    (in_left y split.0 (z ∷ split.1) j) in
+    let own_device : it.device ≡ device = ap (λ (k : ℕ). let d : DeviceId = record { 0 = k } in d) same in
+    change_of s hs split.0 device (amount z.note.time) it.state it.cause it.why (λ y j. joins y (inside y j)) (λ y j. corrects y (inside y j))
+    (λ y j. let low = at_least y now r more (m.are.of_now y (inside y j)) (m.after y (inside y j)) in omega (arith, low, some))
+    (subst (λ (d : DeviceId). ChangesState s (hs ++ split.0) d (amount z.note.time) it.state it.cause it.why) own_device
+    (subst (λ (b : NoteBody). IsCaused s (hs ++ split.0) z.note.time b) it.is due.cause))
+
+-- the two records of an act, the second a change of state that follows the first
+pub act_pair : (s : Scenario) (hs coming settled : List Happening) (mark cursor : List ℕ) (now : ℕ) (device : DeviceId) (body : NoteBody) (state : State)
+    (why : Why) → (shown : IsShownPair s.network hs now body device state why coming settled)
+    → IsActSo s hs shown.front shown.back mark cursor now device body → (rank body ≡ 1 → ⊥) → device_of body ≡ Some device
+    → (why ≡ whys.Frame) ⊎ (why ≡ whys.Correction)
+    → ((h : Happening) → IsOfThisTime (hs ++ shown.front2) now (before_it hs shown.front + 1) h → h.note.body ≡ body
+    → ChangesState s (hs ++ shown.front2) device now state (before_it hs shown.front + 1) why)
+    → ((x : Happening) → IsIn x shown.back2 → hears device x.note.body ≡ true → ⊥)
+    → IsPair s hs shown.front shown.back shown.front2 shown.back2 mark cursor now 4 (device.0 ∷ [])
+    (record_of s.network hs shown.front now body)
+    (record_of s.network hs shown.front2 now (notes.State device state (before_it hs shown.front + 1) why)) device state why
+act_pair s hs coming settled mark cursor now device body state why shown a no_event of_it follows changes aside =
+    let n = before_it hs shown.front in
+    let w = record_of s.network hs shown.front now body in
+    let far = shown.far in
+    let there : numbered (hs ++ shown.front2) (suc n) ≡ Some w =
+    sym (Rattle.world_law.proofs.putting.Idle.numbered_prefix (hs ++ shown.front2) shown.back2 (suc n) (omega (arith, far)))
+    ∙ ap (λ (l : List Happening). numbered l (suc n)) (append_assoc hs shown.front2 shown.back2 ∙ ap (λ (l : List Happening). hs ++ l) (sym shown.parts2))
+    ∙ at_number hs shown.front shown.back w in
+    let next : suc n ≡ n + 1 = omega arith in
+    record {
+      one = act_one s hs shown.front shown.back mark cursor now device body a;
+      no_event = no_event;
+      low = omega arith;
+      acts = λ four. refl;
+      is_of = of_it;
+      parts = shown.parts2;
+      far = shown.far;
+      body = refl;
+      follows = follows;
+      at = refl;
+      due = due_of s hs shown.front2 now (notes.State device state (n + 1) why)
+          (changes w (subst (λ (k : ℕ). IsOfThisTime (hs ++ shown.front2) now k w) next (record { there = there; same_time = refl })) refl);
+      before = shown.before2;
+      none = shown.none2;
+      fresh = shown.fresh2;
+      aside = λ x i e yes_it. aside x i yes_it;
+    }

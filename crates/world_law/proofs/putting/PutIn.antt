@@ -1,0 +1,226 @@
+-- A record that bears on nothing else is put in: what is settled then.
+use Rattle.std.proofs.Common.{◌≡◌, ◌⊎◌, ℕ, ◌≤◌, List, [], ◌∷◌, ◌++◌, length, map, filter, Option, Some, None, inl, inr, refl, sym, ap, subst, ◌∙◌, arith}
+use Rattle.std.specs.List.{last_or}
+use Rattle.net_plan.specs.declared.ids.DeviceId.{DeviceId}
+use Rattle.net_plan.specs.declared.ids.LinkId.{LinkId}
+use Rattle.net_plan.specs.declared.ids.VlId.{VlId}
+use Rattle.run_law.proofs.law.FirstPlaces.{by_number, in_filter, numbered_within}
+use Rattle.run_law.specs.records.Causes.{cause_of}
+use Rattle.run_law.specs.timed.Dispatching.{Dispatches, is_accepted}
+use Rattle.run_law.specs.records.Happenings.{Happening, earlier, time_of}
+use Rattle.run_law.specs.control.Leaving.{Departs, Departure}
+use Rattle.run_law.specs.records.Order.{IsIn}
+use Rattle.run_law.specs.records.Ranks.{place_of, rank}
+use Rattle.run_law.specs.timed.Receptions.{ArrivesAs}
+use Rattle.run_law.specs.control.Losses.{IsDropped, IsLost}
+use Rattle.run_law.specs.runs.DueRecords.{IsCaused, IsDue}
+use Rattle.run_law.specs.runs.Runs.{IsFounded}
+use Rattle.run_law.specs.scenario.Scenarios.{Scenario}
+use Rattle.run_law.specs.declared.judgement.Reason.{Reason}
+use Rattle.run_law.specs.declared.judgement.Why.TheVariants as whys
+use Rattle.run_law.specs.declared.note.NoteBody.TheVariants as notes
+use Rattle.run_law.specs.declared.note.NoteBody.{NoteBody}
+use Rattle.run_law.specs.declared.steps.Arrival.{Arrival}
+use Rattle.tte_units.specs.Amount.{amount}
+use Rattle.tte_units.specs.declared.units.Units.{Units}
+use Rattle.world_law.proofs.putting.Idle.{bump}
+use Rattle.world_law.proofs.runs.SourcesBack.{arrives_later, earlier_still, gives_rank, numbered_parts}
+use Rattle.world_law.specs.source.Sources.{IsActing, IsOwnSource, IsSource}
+use Rattle.world_law.specs.world.World.{IsForward}
+
+-- ---- lists
+
+pub split_three : (front more : List Happening) (w : Happening) (f rest : List Happening) (y : Happening) → front ++ w ∷ more ≡ f ++ y ∷ rest
+    → ((r : List Happening) × (front ≡ f ++ y ∷ r)) ⊎ (((front ≡ f) × (w ≡ y)) ⊎ ((b : List Happening) × (f ≡ front ++ w ∷ b) × (more ≡ b ++ y ∷ rest)))
+split_three [] more w [] rest y e = inr (inl (refl, cc))
+split_three [] more w (g ∷ f) rest y e = let a : g ≡ w = cc in let b : more ≡ f ++ y ∷ rest = cc in inr (inr (f, ap (λ (x : Happening). x ∷ f) a, b))
+split_three (h ∷ front) more w [] rest y e = let a : h ≡ y = cc in inl (front, ap (λ (x : Happening). x ∷ front) a)
+split_three (h ∷ front) more w (g ∷ f) rest y e =
+    let a : h ≡ g = cc in
+    let b : front ++ w ∷ more ≡ f ++ y ∷ rest = cc in
+    elim (split_three front more w f rest y b) [
+      | inl it ↦ inl (it.0, ap (λ (l : List Happening). h ∷ l) it.1 ∙ ap (λ (x : Happening). x ∷ (f ++ y ∷ it.0)) a)
+      | inr (inl it) ↦ inr (inl (ap (λ (l : List Happening). h ∷ l) it.0 ∙ ap (λ (x : Happening). x ∷ f) a, it.1))
+      | inr (inr it) ↦ inr (inr (it.0, ap (λ (l : List Happening). g ∷ l) it.1 ∙ ap (λ (x : Happening). x ∷ (front ++ w ∷ it.0)) (sym a), it.2))
+    ]
+
+pub split_two : (front more : List Happening) (w : Happening) (f back : List Happening) → front ++ w ∷ more ≡ f ++ back
+    → ((r : List Happening) × (front ≡ f ++ r) × (back ≡ r ++ w ∷ more)) ⊎ ((b : List Happening) × (f ≡ front ++ w ∷ b) × (more ≡ b ++ back))
+split_two front more w [] back e = inl (front, refl, sym e)
+split_two [] more w (g ∷ f) back e = let a : g ≡ w = cc in let b : more ≡ f ++ back = cc in inr (f, ap (λ (x : Happening). x ∷ f) a, b)
+split_two (h ∷ front) more w (g ∷ f) back e =
+    let a : h ≡ g = cc in
+    let b : front ++ w ∷ more ≡ f ++ back = cc in
+    elim (split_two front more w f back b) [
+      | inl it ↦ inl (it.0, ap (λ (l : List Happening). h ∷ l) it.1 ∙ ap (λ (x : Happening). x ∷ (f ++ it.0)) a, it.2)
+      | inr it ↦ inr (it.0, ap (λ (l : List Happening). g ∷ l) it.1 ∙ ap (λ (x : Happening). x ∷ (front ++ w ∷ it.0)) (sym a), it.2)
+    ]
+
+pub split_bumped : (back b rest : List Happening) → map bump back ≡ b ++ rest → (c : List Happening) × (d : List Happening) × (back ≡ c ++ d) × (b ≡ map bump c)
+    × (rest ≡ map bump d)
+split_bumped back [] rest e = ([], back, refl, refl, sym e)
+split_bumped [] (g ∷ b) rest e = absurd cc
+split_bumped (x ∷ back) (g ∷ b) rest e =
+    let a : g ≡ bump x = cc in
+    let more : map bump back ≡ b ++ rest = cc in
+    let it = split_bumped back b rest more in
+    (x ∷ it.0, it.1, ap (λ (l : List Happening). x ∷ l) it.2, ap (λ (l : List Happening). g ∷ l) it.3 ∙ ap (λ (h : Happening). h ∷ map bump it.0) a, it.4)
+
+pub first_bumped : (d rest : List Happening) (y : Happening) → y ∷ rest ≡ map bump d → (x : Happening) × (d2 : List Happening) × (d ≡ x ∷ d2) × (y ≡ bump x)
+first_bumped [] rest y e = absurd cc
+first_bumped (x ∷ d2) rest y e = let a : y ≡ bump x = cc in (x, d2, refl, a)
+
+-- ---- causes are given
+
+pub last_in : (o : Option Happening) (xs : List Happening) (x : Happening) → last_or o xs ≡ Some x → (o ≡ Some x) ⊎ IsIn x xs
+last_in o [] x e = inl e
+last_in o (y ∷ xs) x e = elim (last_in (Some y) xs x e) [ inl same ↦ (let a : x ≡ y = cc in inr (inl a)) | inr i ↦ inr (inr i) ]
+
+-- records to come are of the time, and late at it
+abbrev AreLate : ℕ → List Happening → Type 0
+AreLate now zs = (z : Happening) → IsIn z zs → (time_of z ≡ now) × (8 ≤ rank z.note.body)
+
+departs_known : (s : Scenario) (hs zs : List Happening) (now : ℕ) (t : ℕ) (device : DeviceId) (link : LinkId) (cause : ℕ) (is : Departure) → AreLate now zs
+    → Departs s (hs ++ zs) device t link cause is → cause ≤ length hs
+departs_known s hs zs now t device link cause is late d =
+    elim (numbered_parts hs zs d.giving cause d.there) [
+      | inl old ↦ let lt = numbered_within hs cause d.giving old in omega (arith, lt)
+      | inr new ↦ let high = late d.giving new in let low = gives_rank s.network d.giving.note.body device link d.gives in absurd (omega (arith, high.1, low))
+    ]
+
+arrives_known : (s : Scenario) (hs zs : List Happening) (now : ℕ) (device : DeviceId) (link : LinkId) (cause : ℕ) (is : Arrival) → IsForward s → AreLate now zs
+    → ArrivesAs s (hs ++ zs) device now link cause is → cause ≤ length hs
+arrives_known s hs zs now device link cause is forward late a =
+    elim (numbered_parts hs zs a.putting cause a.there) [
+      | inl old ↦ let lt = numbered_within hs cause a.putting old in omega (arith, lt)
+      | inr new ↦ let at =
+          late a.putting new in let later = arrives_later s a.putting device link now a.signal forward a.arrives in absurd (omega (arith, at.0, later))
+    ]
+
+dispatches_known : (s : Scenario) (hs zs : List Happening) (now : ℕ) (device : DeviceId) (link : LinkId) (cause : ℕ) (vl : VlId) (cycle : ℕ)
+    → IsFounded place_of (IsDue s) hs → AreLate now zs → Dispatches s (hs ++ zs) device now link cause vl cycle → cause ≤ length hs
+dispatches_known s hs zs now device link cause vl cycle founded late d =
+    elim d.at_hand [
+      | inl sender ↦ omega (arith, sender.1)
+      | inr took ↦
+          let same = earlier_still now hs zs (λ z i. let at = late z i in omega (arith, at.0)) in
+          let last = subst (λ (l : List Happening). last_or None (filter (λ h. is_accepted device d.entry.row.vl h.note.body) l) ≡ Some took.1.taken) same
+          took.1.last in
+          elim (last_in None (filter (λ h. is_accepted device d.entry.row.vl h.note.body) (earlier now hs)) took.1.taken last) [
+            | inl none ↦ absurd cc
+            | inr i ↦
+                let there = in_filter _ hs took.1.taken (in_filter _ (earlier now hs) took.1.taken i) in
+                let lt = numbered_within hs took.1.taken.note.number took.1.taken (by_number s hs took.1.taken founded there) in
+                omega (arith, lt, took.1.number)
+          ]
+    ]
+
+lost_known : (s : Scenario) (hs zs : List Happening) (now : ℕ) (device : DeviceId) (link : LinkId) (cause : ℕ) → IsFounded place_of (IsDue s) hs
+    → AreLate now zs → IsLost s (hs ++ zs) device now link cause → cause ≤ length hs
+lost_known s hs zs now device link cause founded late (inl d) = departs_known s hs zs now now device link cause _ late d
+lost_known s hs zs now device link cause founded late (inr (inl d)) = dispatches_known s hs zs now device link cause d.0 d.1 founded late d.2
+lost_known s hs zs now device link cause founded late (inr (inr l)) =
+    elim (numbered_parts hs zs l.event cause l.is.there) [
+      | inl old ↦ let lt = numbered_within hs cause l.event old in omega (arith, lt)
+      | inr new ↦ let high = late l.event new in let one : rank l.event.note.body ≡ 1 = ap rank l.sends in absurd (omega (arith, high.1, one))
+    ]
+
+dropped_known : (s : Scenario) (hs zs : List Happening) (now : ℕ) (device : DeviceId) (link : LinkId) (cause : ℕ) (reason : Reason) → IsForward s
+    → AreLate now zs → IsDropped s (hs ++ zs) device now link cause reason → cause ≤ length hs
+dropped_known s hs zs now device link cause reason forward late (inl a) = arrives_known s hs zs now device link cause _ forward late a
+dropped_known s hs zs now device link cause reason forward late (inr (inl x)) =
+    let p = x.1.permanent in
+    elim (numbered_parts hs zs p.arrival cause p.there) [
+      | inl old ↦ let lt = numbered_within hs cause p.arrival old in omega (arith, lt)
+      | inr new ↦ let high = late p.arrival new in let two : rank p.arrival.note.body ≡ 2 = ap rank p.arrived in absurd (omega (arith, high.1, two))
+    ]
+dropped_known s hs zs now device link cause reason forward late (inr (inr d)) = departs_known s hs zs now now device link cause _ late d.0
+
+pub known_cause : (s : Scenario) (hs zs : List Happening) (time : Units) (body : NoteBody) → IsForward s → IsFounded place_of (IsDue s) hs
+    → AreLate (amount time) zs → 8 ≤ rank body → IsCaused s (hs ++ zs) time body → cause_of body ≤ length hs
+known_cause s hs zs time (notes.Left device link cause clock) forward founded late high c =
+    departs_known s hs zs (amount time) (amount time) device link cause _ late c
+known_cause s hs zs time (notes.Lost device link cause) forward founded late high c = lost_known s hs zs (amount time) device link cause founded late c
+known_cause s hs zs time (notes.TtSent device link cause vl cycle) forward founded late high c =
+    dispatches_known s hs zs (amount time) device link cause vl cycle founded late c.dispatches
+known_cause s hs zs time (notes.Accepted device link cause vl cycle) forward founded late high c =
+    arrives_known s hs zs (amount time) device link cause _ forward late c
+known_cause s hs zs time (notes.Delivered device link cause vl cycle) forward founded late high c =
+    arrives_known s hs zs (amount time) device link cause _ forward late c
+known_cause s hs zs time (notes.Dropped device link cause reason) forward founded late high c =
+    dropped_known s hs zs (amount time) device link cause reason forward late c
+known_cause s hs zs time (notes.Clock device reading adjustment state) forward founded late high c = omega arith
+known_cause s hs zs time (notes.Event line what) forward founded late high c = omega arith
+known_cause s hs zs time (notes.Arrived device link cause clock) forward founded late high c = absurd (omega (arith, high))
+known_cause s hs zs time (notes.Permanent device link cause point verdict) forward founded late high c = absurd (omega (arith, high))
+known_cause s hs zs time (notes.Compressed device opened at cycle members verdict) forward founded late high c = omega arith
+known_cause s hs zs time (notes.Sent device cycle) forward founded late high c = omega arith
+known_cause s hs zs time (notes.Corrected device cycle by adjustment) forward founded late high c = omega arith
+known_cause s hs zs time (notes.State device state cause why) forward founded late high c = absurd (omega (arith, high))
+
+-- ---- own sources
+
+-- an own source is of the record's time, and its rank is no higher
+pub own_time : (s : Scenario) (hs : List Happening) (t members : ℕ) (body : NoteBody) (w : List ℕ) → IsOwnSource s hs t members body w → (k : ℕ) × (ws : List ℕ)
+    × (w ≡ t ∷ k ∷ ws) × (k ≤ rank body)
+own_time s hs t m (notes.Event line what) w o = (_, _, o, omega arith)
+own_time s hs t m (notes.Arrived device link cause clock) w o = (_, _, o, omega arith)
+own_time s hs t m (notes.Permanent device link cause point verdict) w o = (_, _, o, omega arith)
+own_time s hs t m (notes.Compressed device opened at cycle of_masters verdict) w o = (_, _, o, omega arith)
+own_time s hs t m (notes.Sent device cycle) w o = (_, _, o, omega arith)
+own_time s hs t m (notes.Corrected device cycle by adjustment) w o = (_, _, o, omega arith)
+own_time s hs t m (notes.State device state cause whys.On) w o = (_, _, o, omega arith)
+own_time s hs t m (notes.State device state cause whys.Frame) w o = (_, _, o, omega arith)
+own_time s hs t m (notes.State device state cause whys.Correction) w o = (_, _, o, omega arith)
+own_time s hs t m (notes.State device state cause whys.SyncClique) w o = (_, _, o, omega arith)
+own_time s hs t m (notes.State device state cause whys.AsyncClique) w o = (_, _, o, omega arith)
+own_time s hs t m (notes.Left device link cause clock) w o = (_, _, o, omega arith)
+own_time s hs t m (notes.Lost device link cause) w (inl o) = (_, _, o.0, omega arith)
+own_time s hs t m (notes.Lost device link cause) w (inr (inl o)) = (_, _, o.0, omega arith)
+own_time s hs t m (notes.Lost device link cause) w (inr (inr o)) = (_, _, o.0, omega arith)
+own_time s hs t m (notes.TtSent device link cause vl cycle) w o = (_, _, o, omega arith)
+own_time s hs t m (notes.Accepted device link cause vl cycle) w o = (_, _, o, omega arith)
+own_time s hs t m (notes.Delivered device link cause vl cycle) w o = (_, _, o, omega arith)
+own_time s hs t m (notes.Dropped device link cause reason) w (inl o) = (_, _, o.0, omega arith)
+own_time s hs t m (notes.Dropped device link cause reason) w (inr (inl o)) = (_, _, o.2, omega arith)
+own_time s hs t m (notes.Dropped device link cause reason) w (inr (inr o)) = (_, _, o.0, omega arith)
+own_time s hs t m (notes.Clock device reading adjustment state) w o = (_, _, o, omega arith)
+
+pub at_place : (s : Scenario) (hs : List Happening) (w p : List ℕ) → w ≡ p → IsSource s hs p → IsSource s hs w
+at_place s hs w p e source = subst (λ (q : List ℕ). IsSource s hs q) (sym e) source
+
+-- the own source of a late record that is due is a source
+pub late_source : (s : Scenario) (js : List Happening) (time : Units) (members : ℕ) (body : NoteBody) (w : List ℕ) → 8 ≤ rank body → IsCaused s js time body
+    → IsOwnSource s js (amount time) members body w → IsSource s js w
+late_source s js time m (notes.Left device link cause clock) w high c o =
+    at_place s js w _ o (IsSource.departing (amount time) device link cause (record { giving = c.giving; there = c.there; gives = c.gives; held = c.held }))
+late_source s js time m (notes.Lost device link cause) w high c (inl o) =
+    at_place s js w _ o.0
+    (IsSource.departing (amount time) device link cause (record { giving = o.1.giving; there = o.1.there; gives = o.1.gives; held = o.1.held }))
+late_source s js time m (notes.Lost device link cause) w high c (inr (inl o)) =
+    at_place s js w _ o.0 (IsSource.acting (amount time) device (IsActing.dispatching link cause o.1.0 o.1.1 o.1.2))
+late_source s js time m (notes.Lost device link cause) w high c (inr (inr o)) = at_place s js w _ o.0 (IsSource.following (amount time) cause o.1.event o.1.is)
+late_source s js time m (notes.TtSent device link cause vl cycle) w high c o =
+    at_place s js w _ o (IsSource.acting (amount time) device (IsActing.dispatching link cause vl cycle c.dispatches))
+late_source s js time m (notes.Accepted device link cause vl cycle) w high c o =
+    at_place s js w _ o
+    (IsSource.arriving (amount time) device link cause (record { putting = c.putting; there = c.there; signal = c.signal; arrives = c.arrives }))
+late_source s js time m (notes.Delivered device link cause vl cycle) w high c o =
+    at_place s js w _ o
+    (IsSource.arriving (amount time) device link cause (record { putting = c.putting; there = c.there; signal = c.signal; arrives = c.arrives }))
+late_source s js time m (notes.Dropped device link cause reason) w high c (inl o) =
+    at_place s js w _ o.0
+    (IsSource.arriving (amount time) device link cause (record { putting = o.1.putting; there = o.1.there; signal = o.1.signal; arrives = o.1.arrives }))
+late_source s js time m (notes.Dropped device link cause reason) w high c (inr (inl o)) =
+    at_place s js w _ o.2 (IsSource.ripening (amount time) device link cause o.0 (record { frame = o.1.frame; permanent = o.1.permanent }))
+late_source s js time m (notes.Dropped device link cause reason) w high c (inr (inr o)) =
+    at_place s js w _ o.0
+    (IsSource.departing (amount time) device link cause (record { giving = o.1.giving; there = o.1.there; gives = o.1.gives; held = o.1.held }))
+late_source s js time m (notes.Clock device reading adjustment state) w high c o = at_place s js w _ o (IsSource.ending time device c.is c.there c.ends)
+late_source s js time m (notes.Event line what) w high c o = absurd (omega (arith, high))
+late_source s js time m (notes.Arrived device link cause clock) w high c o = absurd (omega (arith, high))
+late_source s js time m (notes.Permanent device link cause point verdict) w high c o = absurd (omega (arith, high))
+late_source s js time m (notes.Compressed device opened at cycle of_masters verdict) w high c o = absurd (omega (arith, high))
+late_source s js time m (notes.Sent device cycle) w high c o = absurd (omega (arith, high))
+late_source s js time m (notes.Corrected device cycle by adjustment) w high c o = absurd (omega (arith, high))
+late_source s js time m (notes.State device state cause why) w high c o = absurd (omega (arith, high))

@@ -1,0 +1,368 @@
+-- A source of the instant is worked off: its record is put in, or its record and the change of state that follows it.
+use Rattle.std.proofs.Common.{◌≡◌, ◌⊎◌, ℕ, suc, ◌+◌, ◌≤◌, Bool, true, false, ◌&&◌, ◌||◌, ◌==◌, if◌then◌else◌, List, [], ◌∷◌, ◌++◌, map, Some, append_assoc, inl, inr, refl, sym, ap, subst, ◌∙◌, arith}
+use Rattle.std.specs.Prelude.{nat_lt}
+use Rattle.std.proofs.lemmas.Bool.{and_left, cases_Bool, cases_lt, cases_order, eqb-true, false_from_ne_true, le-ltb}
+use Rattle.net_plan.specs.declared.ids.DeviceId.{DeviceId}
+use Rattle.net_plan.specs.declared.ids.LinkId.{LinkId}
+use Rattle.net_plan.specs.declared.ids.VlId.{VlId}
+use Rattle.net_plan.specs.declared.event.What.{What}
+use Rattle.run_law.proofs.runs.Places.{before_behind, chain, never_self}
+use Rattle.run_law.specs.declared.judgement.Judgement.TheVariants as judgements
+use Rattle.run_law.specs.declared.judgement.Why.{Why}
+use Rattle.run_law.specs.declared.judgement.Why.TheVariants as whys
+use Rattle.run_law.specs.declared.note.NoteBody.TheVariants as notes
+use Rattle.run_law.specs.declared.note.NoteBody.{NoteBody}
+use Rattle.run_law.specs.device.StateChanges.{ChangesState}
+use Rattle.run_law.specs.device.States.{is_joined_by, state_after, state_before}
+use Rattle.run_law.specs.records.Causes.{cause_of}
+use Rattle.run_law.specs.records.Happenings.{Happening, numbered, time_of}
+use Rattle.run_law.specs.records.Order.{AllBefore, IsBefore, IsIn, NoneBefore, behind}
+use Rattle.run_law.specs.records.Ranks.{members_in, place_of, rank}
+use Rattle.run_law.specs.runs.DueRecords.{IsCaused, IsDue}
+use Rattle.run_law.specs.runs.Runs.{IsFounded}
+use Rattle.run_law.specs.scenario.Scenarios.{Scenario, is_turned_on_at}
+use Rattle.run_law.specs.timed.Receptions.{comes_before, is_taken_before}
+use Rattle.sync_state.specs.declared.state.State.{State}
+use Rattle.sync_state.specs.declared.state.State.TheVariants.{Integrating, Joining}
+use Rattle.tte_units.specs.declared.units.Units.{Units}
+use Rattle.world_law.proofs.giving.Given.{some_same}
+use Rattle.world_law.proofs.putting.Bumped.{AsState, bump_behind, numbered_here, placed, seven}
+use Rattle.world_law.proofs.putting.Idle.{never_and}
+use Rattle.world_law.proofs.putting.Moving.{IsAllOfIt, IsMoving, stays}
+use Rattle.world_law.proofs.putting.Near.{hears}
+use Rattle.world_law.proofs.putting.Placing.{IsCarried, IsPlacing, IsWell, before_it, hears_source, placed_well, put_at, settled_at, settled_by, well_of}
+use Rattle.world_law.proofs.runs.SourcesBack.{earlier_still}
+use Rattle.world_law.specs.device.Own.{bears_on}
+use Rattle.world_law.specs.source.Sources.{IsOwnSource, IsSource}
+use Rattle.world_law.specs.world.World.{AreSettled, act_place, is_at_source}
+
+-- ---- what a record of this source tells
+
+differ : (a b : ℕ) → (a ≡ b → ⊥) → (a == b) ≡ false
+differ a b not = false_from_ne_true (a == b) (λ e. absurd (not (eqb-true a b e)))
+
+order_not : (link by cause from : ℕ) → (IsBefore (by ∷ from ∷ []) (link ∷ cause ∷ []) → ⊥) → (nat_lt by link || (by == link && nat_lt from cause)) ≡ false
+order_not link by cause from not = elim (cases_order by link) [
+  | inr (inl lt) ↦ absurd (not (inl lt))
+  | inr (inr gt) ↦
+      ap (λ (b : Bool). b || (by == link && nat_lt from cause)) (le-ltb by link (omega (arith, gt)))
+      ∙ ap (λ (b : Bool). b && nat_lt from cause) (differ by link (λ e. omega (arith, e, gt)))
+  | inl e ↦
+      ap (λ (b : Bool). b || (by == link && nat_lt from cause)) (le-ltb by link (omega (arith, e)))
+      ∙ never_and (by == link) (nat_lt from cause) (elim (cases_lt from cause)
+      [ inl lt ↦ absurd (not (inr (e, inl lt))) | inr le ↦ le-ltb from cause le ])
+]
+
+none_before : (now : ℕ) (device other : DeviceId) (vl of_vl : VlId) (link by : LinkId) (cause from : ℕ)
+    → (IsBefore (now ∷ 2 ∷ other.0 ∷ by.0 ∷ from ∷ []) (now ∷ 2 ∷ device.0 ∷ link.0 ∷ cause ∷ []) → ⊥)
+    → (device.0 == other.0 && vl.0 == of_vl.0 && (nat_lt now now || (now == now && comes_before by from link cause))) ≡ false
+none_before now device other vl of_vl link by cause from not =
+    let x = nat_lt now now || (now == now && comes_before by from link cause) in
+    elim (cases_Bool (device.0 == other.0)) [
+      | inr none ↦ and_left (device.0 == other.0 && vl.0 == of_vl.0) x (and_left (device.0 == other.0) (vl.0 == of_vl.0) none)
+      | inl same ↦
+          let e = eqb-true device.0 other.0 same in
+          never_and (device.0 == other.0 && vl.0 == of_vl.0) x
+          (ap (λ (b : Bool). b || (now == now && comes_before by from link cause)) (le-ltb now now (omega arith))
+          ∙ never_and (now == now) (comes_before by from link cause)
+          (order_not link.0 by.0 cause from (λ b. not (inr (refl, inr (refl, inr (sym e, b)))))))
+    ]
+
+-- no arrival up to its source comes after it
+takes_not : (s : Scenario) (js : List Happening) (now m : ℕ) (body : NoteBody) (at : List ℕ) → IsOwnSource s js now m body at
+    → (device : DeviceId) (vl : VlId) (link : LinkId) (cause : ℕ) → (IsBefore at (now ∷ 2 ∷ device.0 ∷ link.0 ∷ cause ∷ []) → ⊥)
+    → is_taken_before device vl now link cause now body ≡ false
+takes_not s js now m (notes.Accepted other by from of_vl cycle) at o device vl link cause under =
+    none_before now device other vl of_vl link by cause from (subst (λ (q : List ℕ). IsBefore q (now ∷ 2 ∷ device.0 ∷ link.0 ∷ cause ∷ []) → ⊥) o under)
+takes_not s js now m (notes.Delivered other by from of_vl cycle) at o device vl link cause under =
+    none_before now device other vl of_vl link by cause from (subst (λ (q : List ℕ). IsBefore q (now ∷ 2 ∷ device.0 ∷ link.0 ∷ cause ∷ []) → ⊥) o under)
+takes_not s js now m other at o device vl link cause under = refl
+
+-- it bears on no device that acts before its source
+apart_of : (s : Scenario) (js : List Happening) (now m r : ℕ) (more : List ℕ) (body : NoteBody) → IsOwnSource s js now m body (now ∷ r ∷ more)
+    → (now ∷ 2 ∷ [] ≡ now ∷ r ∷ more → ⊥) → (device : DeviceId) → IsBefore (act_place now device) (now ∷ r ∷ more) → bears_on device body ≡ false
+apart_of s js now m r more (notes.Permanent other link cause point verdict) o longer device b = absurd
+    (let three : r ≡ 3 = cc in elim b [ inl lt ↦ omega (arith, lt) | inr (e, inl lt) ↦ omega (arith, lt, three) | inr (e, inr f) ↦ omega (arith, f.0, three) ])
+apart_of s js now m r more (notes.Compressed other opened at cycle members verdict) o longer device b =
+    false_from_ne_true (device.0 == other.0)
+    (λ e. absurd (never_self (act_place now device) (subst (λ (q : List ℕ). IsBefore (act_place now device) q)
+    (o ∙ ap (λ (i : ℕ). now ∷ 4 ∷ i ∷ []) (sym (eqb-true device.0 other.0 e))) b)))
+apart_of s js now m r more (notes.Corrected other cycle by adjustment) o longer device b =
+    false_from_ne_true (device.0 == other.0)
+    (λ e. absurd (never_self (act_place now device) (subst (λ (q : List ℕ). IsBefore (act_place now device) q)
+    (o ∙ ap (λ (i : ℕ). now ∷ 4 ∷ i ∷ []) (sym (eqb-true device.0 other.0 e))) b)))
+apart_of s js now m r more (notes.State other state cause whys.SyncClique) o longer device b =
+    false_from_ne_true (device.0 == other.0)
+    (λ e. absurd (never_self (act_place now device) (subst (λ (q : List ℕ). IsBefore (act_place now device) q)
+    (o ∙ ap (λ (i : ℕ). now ∷ 4 ∷ i ∷ []) (sym (eqb-true device.0 other.0 e))) b)))
+apart_of s js now m r more (notes.State other state cause whys.AsyncClique) o longer device b =
+    false_from_ne_true (device.0 == other.0)
+    (λ e. absurd (never_self (act_place now device) (subst (λ (q : List ℕ). IsBefore (act_place now device) q)
+    (o ∙ ap (λ (i : ℕ). now ∷ 4 ∷ i ∷ []) (sym (eqb-true device.0 other.0 e))) b)))
+apart_of s js now m r more (notes.State other state cause whys.On) o longer device b = absurd (longer (sym o))
+apart_of s js now m r more (notes.State other state cause whys.Frame) o longer device b = absurd (longer (sym o))
+apart_of s js now m r more (notes.State other state cause whys.Correction) o longer device b = absurd (longer (sym o))
+apart_of s js now m r more other o longer device b = refl
+
+-- ---- what follows it
+
+-- a record that none follows
+abbrev pub is_last : NoteBody → Bool
+is_last (notes.Event line what) = false
+is_last (notes.Corrected device cycle by adjustment) = false
+is_last (notes.Permanent device link cause point judgements.Integrates) = false
+is_last (notes.Compressed device opened at cycle members judgements.Integrates) = false
+is_last other = true
+
+-- no change of state follows it
+pub record IsUnfollowed (s : Scenario) (hs : List Happening) (now : ℕ) (body : NoteBody) : Type 0 where
+  pub no_event : (line : ℕ) (what : What) → body ≡ notes.Event line what → ⊥
+  pub no_join : (device : DeviceId) → is_joined_by device body ≡ false
+  pub no_first : (device : DeviceId) (cycle : ℕ) (by adjustment : Units) → body ≡ notes.Corrected device cycle by adjustment
+      → state_before s hs device now ≡ Joining → ⊥
+
+last_joins : (body : NoteBody) → is_last body ≡ true → (device : DeviceId) → is_joined_by device body ≡ false
+last_joins (notes.Permanent other link cause point judgements.Integrates) e device = absurd cc
+last_joins (notes.Compressed other opened at cycle members judgements.Integrates) e device = absurd cc
+last_joins other e device = refl
+
+pub last_unfollowed : (s : Scenario) (hs : List Happening) (now : ℕ) (body : NoteBody) → is_last body ≡ true → IsUnfollowed s hs now body
+last_unfollowed s hs now body e = record {
+  no_event = λ line what is. let bad : false ≡ true = ap is_last (sym is) ∙ e in cc;
+  no_join = last_joins body e;
+  no_first = λ device cycle by adjustment is state. let bad : false ≡ true = ap is_last (sym is) ∙ e in cc;
+}
+
+-- nor does one follow the correction of a device that had the common time
+pub corrected_unfollowed : (s : Scenario) (hs : List Happening) (now : ℕ) (device : DeviceId) (cycle : ℕ) (by adjustment : Units)
+    → (state_before s hs device now ≡ Joining → ⊥) → IsUnfollowed s hs now (notes.Corrected device cycle by adjustment)
+corrected_unfollowed s hs now device cycle by adjustment not = record {
+  no_event = λ line what is. absurd cc;
+  no_join = λ other. refl;
+  no_first = λ other of_cycle more after is state.
+      let same : device ≡ other = cc in not (subst (λ (d : DeviceId). state_before s hs d now ≡ Joining) (sym same) state);
+}
+
+-- a change of state that follows the record of this number is of the device of that record
+pub record Follows (s : Scenario) (js : List Happening) (now : ℕ) (w : Happening) (device : DeviceId) : Type 0 where
+  pub event : (line : ℕ) (what : What) → w.note.body ≡ notes.Event line what → ⊥
+  pub of_it : (is_joined_by device w.note.body ≡ true)
+      ⊎ ((state_before s js device now ≡ Joining) × ((cycle : ℕ) × (by : Units) × (adjustment : Units)
+      × (w.note.body ≡ notes.Corrected device cycle by adjustment)))
+
+follower_of : (s : Scenario) (js : List Happening) (now k : ℕ) (w : Happening) (device : DeviceId) (state : State) (why : Why)
+    → numbered js (suc k) ≡ Some w → ((line : ℕ) (what : What) → w.note.body ≡ notes.Event line what → ⊥)
+    → ChangesState s js device now state (suc k) why → Follows s js now w device
+follower_of s js now k w device state whys.On there event c =
+    let same = some_same c.2.1 w _ c.2.2.there there in absurd (event c.2.0 _ (ap (λ (h : Happening). h.note.body) (sym same) ∙ c.2.3))
+follower_of s js now k w device state whys.Frame there event c =
+    let same = some_same c.1.0 w _ c.1.1.there there in
+    record { event = event; of_it = inl (ap (λ (h : Happening). is_joined_by device h.note.body) (sym same) ∙ c.1.2) }
+follower_of s js now k w device state whys.Correction there event c =
+    let same = some_same c.2.3 w _ c.2.4.there there in
+    record { event = event; of_it = inr (c.1, (c.2.0, c.2.1, c.2.2, ap (λ (h : Happening). h.note.body) (sym same) ∙ c.2.5)) }
+follower_of s js now k w device state whys.SyncClique there event c = absurd (let e = c.1 in omega (arith, e))
+follower_of s js now k w device state whys.AsyncClique there event c = absurd (let e = c.1 in omega (arith, e))
+
+-- so is one that is due with that cause
+pub due_follows : (s : Scenario) (js : List Happening) (now k : ℕ) (w y : Happening) → numbered js (suc k) ≡ Some w
+    → ((line : ℕ) (what : What) → w.note.body ≡ notes.Event line what → ⊥) → IsDue s js y → time_of y ≡ now → rank y.note.body ≡ 7
+    → cause_of y.note.body ≡ k + 1 → (it : AsState y.note.body) × (it.cause ≡ k + 1) × Follows s js now w it.device
+due_follows s js now k w y there event due now_is of_rank cause = elim (seven y.note.body) [
+  | inr none ↦ absurd (none of_rank)
+  | inl it ↦
+      let c : it.cause ≡ k + 1 = ap cause_of (sym it.is) ∙ cause in
+      let next : it.cause ≡ suc k = omega (arith, c) in
+      let changes = subst (λ (b : NoteBody). IsCaused s js y.note.time b) it.is due.cause in
+      let at : ChangesState s js it.device now it.state it.cause it.why = subst (λ (t : ℕ). ChangesState s js it.device t it.state it.cause it.why) now_is
+      changes
+      in (
+        it,
+        c,
+        follower_of s js now k w it.device it.state it.why there event
+            (subst (λ (n : ℕ). ChangesState s js it.device now it.state n it.why) next at),
+      )
+]
+
+-- the record has its number in the list
+pub at_number : (hs front c : List Happening) (w : Happening) → numbered (hs ++ put_at hs front w c) (suc (before_it hs front)) ≡ Some w
+at_number hs front c w =
+    ap (λ (l : List Happening). numbered l (suc (before_it hs front))) (sym (append_assoc hs front (w ∷ map (bump_behind (before_it hs front)) c)))
+    ∙ numbered_here (hs ++ front) (map (bump_behind (before_it hs front)) c) w
+
+-- ---- one record
+
+-- the first source of the instant is worked off, and brings a record that is due at its place among those to come. No
+-- record of its own device that rests on what that hears is to come behind it, if the source is the device's own act
+pub record IsOne (s : Scenario) (hs front back : List Happening) (mark cursor : List ℕ) (now r : ℕ) (more : List ℕ) (w : Happening) : Type 0 where
+  pub moving : IsMoving s hs (front ++ back) mark cursor now r more
+  pub later : IsBefore (now ∷ 2 ∷ []) (now ∷ r ∷ more)
+  pub marked : (p : List ℕ) → IsBefore p (now ∷ []) → IsBefore p mark
+  pub given : IsFounded place_of (IsDue s) hs
+  pub at : time_of w ≡ now
+  pub due : IsDue s (hs ++ front) w
+  pub before : AllBefore place_of front (place_of w)
+  pub none : NoneBefore place_of back (place_of w)
+  pub fresh : (y : Happening) → IsIn y back → place_of w ≡ place_of y → ⊥
+  pub least : IsBefore (place_of w) (now ∷ r ∷ more) → ⊥
+  pub mine : IsOwnSource s (hs ++ front) (time_of w) (members_in w) w.note.body (now ∷ r ∷ more)
+  pub here : IsSource s (hs ++ front) (now ∷ r ∷ more)
+  pub aside : (x : Happening) → IsIn x back → (device : DeviceId) → now ∷ r ∷ more ≡ act_place now device → hears device x.note.body ≡ true → ⊥
+
+from_two : (now r : ℕ) (more : List ℕ) → IsBefore (now ∷ 2 ∷ []) (now ∷ r ∷ more) → 2 ≤ r
+from_two now r more (inl lt) = absurd (omega (arith, lt))
+from_two now r more (inr (e, inl lt)) = omega (arith, lt)
+from_two now r more (inr (e, inr b)) = omega (arith, b.0)
+
+pub unmarked : (s : Scenario) (hs coming : List Happening) (mark cursor : List ℕ) (now r : ℕ) (more : List ℕ) → IsMoving s hs coming mark cursor now r more
+    → IsBefore (now ∷ r ∷ more) mark → ⊥
+unmarked s hs coming mark cursor now r more m b = m.waits (m.ahead (now ∷ r ∷ more) b)
+
+-- what hears at the instant is aside of what comes from another source
+hears_aside : (s : Scenario) (hs coming f rest : List Happening) (mark cursor : List ℕ) (now r : ℕ) (more : List ℕ) (x : Happening) (device : DeviceId)
+    → IsMoving s hs coming mark cursor now r more → coming ≡ f ++ x ∷ rest → hears device x.note.body ≡ true
+    → IsBefore (act_place now device) (now ∷ r ∷ more) ⊎ (now ∷ r ∷ more ≡ act_place now device)
+hears_aside s hs coming f rest mark cursor now r more x device m e yes_it =
+    let by = (well_of s hs coming mark cursor now r more m).by f rest x e in
+    let now_is = m.are.of_now x (subst (λ (l : List Happening). IsIn x l) (sym e) (Rattle.run_law.proofs.runs.Places.in_right x f (x ∷ rest) (inl refl))) in
+    let act = hears_source s (hs ++ f) (time_of x) (members_in x) device x.note.body by.0 yes_it by.1 ∙ ap (λ (t : ℕ). t ∷ 4 ∷ device.0 ∷ []) now_is in
+    elim by.3 [
+      | inl lt ↦ inl (subst (λ (q : List ℕ). IsBefore q (now ∷ r ∷ more)) act lt)
+      | inr same ↦ inr (sym same ∙ act)
+    ]
+
+pub placing_one : (s : Scenario) (hs front back : List Happening) (mark cursor : List ℕ) (now r : ℕ) (more : List ℕ) (w : Happening)
+    → IsOne s hs front back mark cursor now r more w → IsPlacing s hs front back mark now r more w
+placing_one s hs front back mark cursor now r more w p =
+    let mine : IsOwnSource s (hs ++ front) now (members_in w) w.note.body (now ∷ r ∷ more) = subst
+    (λ (t : ℕ). IsOwnSource s (hs ++ front) t (members_in w) w.note.body (now ∷ r ∷ more)) p.at p.mine in
+    record {
+      forward = p.moving.forward;
+      late = from_two now r more p.later;
+      given = p.given;
+      up_to = unmarked s hs (front ++ back) mark cursor now r more p.moving;
+      at = p.at;
+      due = p.due;
+      before = p.before;
+      none = p.none;
+      fresh = p.fresh;
+      least = p.least;
+      taken = (now ∷ r ∷ more, p.mine, p.here, inr refl);
+      takes = λ device vl link cause under.
+          subst (λ (t : ℕ). is_taken_before device vl now link cause t w.note.body ≡ false) (sym p.at)
+          (takes_not s (hs ++ front) now (members_in w) w.note.body (now ∷ r ∷ more) mine device vl link cause under);
+      apart = apart_of s (hs ++ front) now (members_in w) r more w.note.body mine p.moving.longer;
+      aside = λ x i device yes_it.
+          let split = Rattle.run_law.proofs.runs.Places.parted x back i in
+          let whole : front ++ back ≡ (front ++ split.0) ++ x ∷ split.1 = ap (λ (l : List Happening). front ++ l) split.2
+          ∙ sym (append_assoc front split.0 (x ∷ split.1)) in
+          elim (hears_aside s hs (front ++ back) (front ++ split.0) split.1 mark cursor now r more x device p.moving whole yes_it) [
+            | inl lt ↦ apart_of s (hs ++ front) now (members_in w) r more w.note.body mine p.moving.longer device lt
+            | inr own ↦ absurd (p.aside x i device own yes_it)
+          ];
+    }
+
+pub put_now : (s : Scenario) (hs front back c d : List Happening) (mark cursor : List ℕ) (now r : ℕ) (more : List ℕ) (w : Happening)
+    → IsOne s hs front back mark cursor now r more w → back ≡ c ++ d → (z : Happening) → IsIn z (put_at hs front w c) → time_of z ≡ now
+put_now s hs front back c d mark cursor now r more w p e z i =
+    elim (Rattle.run_law.proofs.runs.Places.in_parts z front (w ∷ map (bump_behind (before_it hs front)) c) i) [
+      | inl f ↦ p.moving.are.of_now z (Rattle.run_law.proofs.runs.Places.in_left z front back f)
+      | inr (inl same) ↦ ap time_of same ∙ p.at
+      | inr (inr b) ↦
+          let x = Rattle.world_law.proofs.putting.Bumped.in_placed (before_it hs front) c z b in
+          ap time_of x.2 ∙ p.moving.are.of_now x.0 (Rattle.run_law.proofs.runs.Places.in_right x.0 front back
+          (subst (λ (l : List Happening). IsIn x.0 l) (sym e) (Rattle.run_law.proofs.runs.Places.in_left x.0 c d x.1)))
+    ]
+
+-- nothing is to be put in yet, and nothing follows it
+none_follows : (s : Scenario) (hs front back : List Happening) (mark cursor : List ℕ) (now r : ℕ) (more : List ℕ) (w : Happening)
+    → IsOne s hs front back mark cursor now r more w → IsUnfollowed s hs now w.note.body → IsCarried s hs front back now w (λ y. ⊥) (λ y. ⊥)
+none_follows s hs front back mark cursor now r more w p last = record {
+  same = λ f rest y e due now_is yet. absurd yet;
+  moved = λ c d y e due now_is other yet. absurd yet;
+  new = λ c d y e due now_is of_rank cause.
+      let it = due_follows s (hs ++ put_at hs front w c) now (before_it hs front) w y (at_number hs front c w) last.no_event due now_is of_rank cause in
+      absurd (elim it.2.of_it [
+        | inl joins ↦ let bad : false ≡ true = sym (last.no_join it.0.device) ∙ joins in cc
+        | inr first ↦
+            let late : (z : Happening) → IsIn z (put_at hs front w c) → now ≤ time_of z = λ z i.
+            let at = put_now s hs front back c d mark cursor now r more w p e z i in omega (arith, at) in
+            last.no_first it.0.device first.1.0 first.1.1 first.1.2 first.1.3
+            (ap (λ (l : List Happening). if is_turned_on_at s it.0.device now then Integrating else state_after s l it.0.device)
+            (sym (earlier_still now hs (put_at hs front w c) late)) ∙ first.0)
+      ]);
+}
+
+pub one_well : (s : Scenario) (hs front back : List Happening) (mark cursor : List ℕ) (now r : ℕ) (more : List ℕ) (w : Happening)
+    → IsOne s hs front back mark cursor now r more w → IsUnfollowed s hs now w.note.body
+    → IsWell s hs (put_at hs front w back) mark now r more (λ y. ⊥)
+one_well s hs front back mark cursor now r more w p last =
+    placed_well s hs front back mark now r more w (λ y. ⊥) (λ y. ⊥) (well_of s hs (front ++ back) mark cursor now r more p.moving)
+    (placing_one s hs front back mark cursor now r more w p) (none_follows s hs front back mark cursor now r more w p last)
+
+pub source_raised : (n : ℕ) (body : NoteBody) → is_at_source body ≡ true → Rattle.world_law.proofs.putting.Bumped.raised n body ≡ body
+source_raised n (notes.State device state cause why) e = absurd cc
+source_raised n other e = refl
+
+-- what may stand at its source was worked off, or is this record
+pub worked_then : (s : Scenario) (hs front back : List Happening) (mark cursor then_ : List ℕ) (now r : ℕ) (more : List ℕ) (w : Happening)
+    → IsOne s hs front back mark cursor now r more w → ((p : List ℕ) → IsBefore p cursor → IsBefore p then_)
+    → (is_at_source w.note.body ≡ true → IsBefore (place_of w) then_)
+    → (z : Happening) → IsIn z (put_at hs front w back) → is_at_source z.note.body ≡ true → IsBefore (place_of z) then_
+worked_then s hs front back mark cursor then_ now r more w p on at z i is =
+    let n = before_it hs front in
+    elim (Rattle.run_law.proofs.runs.Places.in_parts z front (w ∷ map (bump_behind n) back) i) [
+      | inl f ↦ on (place_of z) (p.moving.are.worked z (Rattle.run_law.proofs.runs.Places.in_left z front back f) is)
+      | inr (inl e) ↦ subst (λ (h : Happening). IsBefore (place_of h) then_) (sym e) (at (ap (λ (h : Happening). is_at_source h.note.body) (sym e) ∙ is))
+      | inr (inr b) ↦
+          let x = Rattle.world_law.proofs.putting.Bumped.in_placed n back z b in
+          let kind : is_at_source x.0.note.body ≡ true = sym (Rattle.world_law.proofs.putting.Bumped.raised_source n x.0.note.body)
+          ∙ ap (λ (h : Happening). is_at_source h.note.body) (sym x.2) ∙ is in
+          let low = p.moving.are.worked x.0 (Rattle.run_law.proofs.runs.Places.in_right x.0 front back x.1) kind in
+          let same : place_of (bump_behind n x.0) ≡ place_of x.0 = ap (λ (b : NoteBody). time_of x.0 ∷ rank b
+          ∷ Rattle.run_law.specs.records.Ranks.key (members_in x.0) b) (source_raised n x.0.note.body kind) in
+          subst (λ (h : Happening). IsBefore (place_of h) then_) (sym x.2) (subst (λ (q : List ℕ). IsBefore q then_) (sym same) (on (place_of x.0) low))
+    ]
+
+-- THE RECORD IS PUT IN, AND THE CURSOR GOES BEHIND ITS SOURCE (all sources but events and their outcomes). All that is
+-- due from the source is at the record's place, whatever else is to come
+pub one_by : (s : Scenario) (hs front back : List Happening) (mark cursor : List ℕ) (now r : ℕ) (more : List ℕ) (w : Happening)
+    → IsOne s hs front back mark cursor now r more w → IsUnfollowed s hs now w.note.body
+    → (is_at_source w.note.body ≡ true → place_of w ≡ now ∷ r ∷ more)
+    → IsAllOfIt s hs (put_at hs front w back) (now ∷ r ∷ more)
+    → AreSettled s hs (put_at hs front w back) mark (behind (now ∷ r ∷ more)) now
+one_by s hs front back mark cursor now r more w p last stands all =
+    let at = now ∷ r ∷ more in
+    settled_by s hs (put_at hs front w back) mark now r more (one_well s hs front back mark cursor now r more w p last) p.marked
+    (unmarked s hs (front ++ back) mark cursor now r more p.moving) p.later
+    (worked_then s hs front back mark cursor (behind at) now r more w p (stays s hs (front ++ back) mark cursor now r more p.moving)
+    (λ is. subst (λ (q : List ℕ). IsBefore q (behind at)) (sym (stands is)) (before_behind at))) all
+
+-- THE RECORD OF AN ACT IS PUT IN, AND THE CURSOR IS AT ITS SOURCE: the device has more to do at the instant
+pub one_at : (s : Scenario) (hs front back : List Happening) (mark cursor : List ℕ) (now : ℕ) (device : DeviceId) (w : Happening)
+    → IsOne s hs front back mark cursor now 4 (device.0 ∷ []) w → IsUnfollowed s hs now w.note.body → is_at_source w.note.body ≡ false
+    → AreSettled s hs (put_at hs front w back) mark (act_place now device) now
+one_at s hs front back mark cursor now device w p last no_source =
+    settled_at s hs (put_at hs front w back) mark now 4 (device.0 ∷ []) device refl
+    (one_well s hs front back mark cursor now 4 (device.0 ∷ []) w p last) p.marked
+    (unmarked s hs (front ++ back) mark cursor now 4 (device.0 ∷ []) p.moving) p.later
+    (worked_then s hs front back mark cursor (act_place now device) now 4 (device.0 ∷ []) w p
+    (λ q b. Rattle.run_law.proofs.runs.Places.before_later q (act_place now device) cursor b p.moving.waits)
+    (λ is. absurd (let bad : false ≡ true = sym no_source ∙ is in cc)))
+
+-- WHERE AN ACT BRINGS NO RECORD, THE CURSOR COMES TO ITS SOURCE
+pub none_at : (s : Scenario) (hs coming : List Happening) (mark cursor : List ℕ) (now : ℕ) (device : DeviceId)
+    → IsMoving s hs coming mark cursor now 4 (device.0 ∷ []) → ((p : List ℕ) → IsBefore p (now ∷ []) → IsBefore p mark)
+    → AreSettled s hs coming mark (act_place now device) now
+none_at s hs coming mark cursor now device m marked =
+    settled_at s hs coming mark now 4 (device.0 ∷ []) device refl (well_of s hs coming mark cursor now 4 (device.0 ∷ []) m) marked
+    (unmarked s hs coming mark cursor now 4 (device.0 ∷ []) m) (inr (refl, inl (omega arith)))
+    (λ z i is. Rattle.run_law.proofs.runs.Places.before_later (place_of z) (act_place now device) cursor (m.are.worked z i is) m.waits)
+
+-- all that is due from the source is there, where all that is due from it is at the record's place
+pub all_at_one : (s : Scenario) (hs front back : List Happening) (now r : ℕ) (more : List ℕ) (w : Happening)
+    → ((zs : List Happening) (y : Happening) → IsDue s (hs ++ zs) y
+    → IsOwnSource s (hs ++ zs) (time_of y) (members_in y) y.note.body (now ∷ r ∷ more) → place_of w ≡ place_of y)
+    → IsAllOfIt s hs (put_at hs front w back) (now ∷ r ∷ more)
+all_at_one s hs front back now r more w own f rest y e before none due mine =
+    (w, Rattle.run_law.proofs.runs.Places.in_right w front (w ∷ map (bump_behind (before_it hs front)) back) (inl refl), own f y due mine)

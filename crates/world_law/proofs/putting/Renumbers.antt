@@ -1,0 +1,95 @@
+-- What is due at the time of a record does not rest on its number.
+use Rattle.std.proofs.Common.{◌≡◌, ℕ, Bool, ◌&&◌, ◌||◌, ◌==◌, if◌then◌else◌, List, [], ◌∷◌, Option, Some, None, filter, option_and_then, refl, sym, ap, subst, ◌∙◌}
+use Rattle.std.specs.Prelude.{nat_lt}
+use Rattle.std.specs.List.{last_or, list_any}
+use Rattle.compression.specs.Clusters.{Point}
+use Rattle.net_plan.specs.declared.ids.DeviceId.{DeviceId}
+use Rattle.net_plan.specs.declared.ids.LinkId.{LinkId}
+use Rattle.net_plan.specs.declared.ids.VlId.{VlId}
+use Rattle.pcf_values.specs.declared.pcf.Pcf.{Pcf}
+use Rattle.run_law.specs.control.Collections.{points_of}
+use Rattle.run_law.specs.records.Happenings.{Happening, earlier, time_of}
+use Rattle.run_law.specs.control.Permanence.{IsJudgedBy, IsPermanenceOutcome}
+use Rattle.run_law.specs.timed.Receptions.{is_taken_before, last_taken, taken_cycle}
+use Rattle.run_law.specs.scenario.Scenarios.{Scenario, is_turned_on_at}
+use Rattle.run_law.specs.device.Standpoints.{Standpoint}
+use Rattle.run_law.specs.device.States.{adjustment_after, adjustment_at_hearing, has_joined_at, is_joined_by, state_after, state_at_hearing, state_before}
+use Rattle.run_law.specs.timed.Arrivals.{timed_arrival}
+use Rattle.run_law.specs.declared.note.NoteBody.TheVariants as notes
+use Rattle.run_law.specs.declared.note.NoteBody.{NoteBody}
+use Rattle.run_law.specs.declared.steps.Ripe.{Ripe}
+use Rattle.sync_state.specs.declared.state.State.TheVariants.{Integrating, Joining}
+use Rattle.sync_state.specs.declared.state.State.{State}
+use Rattle.tte_units.specs.declared.units.Units.{Units}
+use Rattle.world_law.proofs.devices.Plains.{adjustments_plain, earlier_plain, filter_plain, joined_plain, points_plain, states_plain}
+use Rattle.world_law.specs.device.Plain.{plain, plain_body, plains}
+
+-- ---- what was taken, and what was heard at this time
+
+last_and_plain : (f : Happening → Option ℕ) → ((h : Happening) → f (plain h) ≡ f h) → (o other : Option Happening) (hs : List Happening)
+    → option_and_then f o ≡ option_and_then f other → option_and_then f (last_or o (plains hs)) ≡ option_and_then f (last_or other hs)
+last_and_plain f same o other [] e = e
+last_and_plain f same o other (h ∷ hs) e = last_and_plain f same (Some (plain h)) (Some h) hs (same h)
+
+taken_plain : (body : NoteBody) → taken_cycle (plain_body body) ≡ taken_cycle body
+taken_plain (notes.State device state cause why) = refl
+taken_plain other = refl
+
+taken_before_plain : (device : DeviceId) (vl : VlId) (t : ℕ) (link : LinkId) (cause at : ℕ) (body : NoteBody)
+    → is_taken_before device vl t link cause at (plain_body body) ≡ is_taken_before device vl t link cause at body
+taken_before_plain device vl t link cause at (notes.State other state from why) = refl
+taken_before_plain device vl t link cause at other = refl
+
+pub last_taken_plain : (hs : List Happening) (device : DeviceId) (t : ℕ) (link : LinkId) (cause : ℕ) (vl : VlId)
+    → last_taken (plains hs) device t link cause vl ≡ last_taken hs device t link cause vl
+last_taken_plain hs device t link cause vl =
+    let p = λ (h : Happening). is_taken_before device vl t link cause (time_of h) h.note.body in
+    ap (λ (l : List Happening). option_and_then (λ h. taken_cycle h.note.body) (last_or None l))
+    (filter_plain p p (λ h. taken_before_plain device vl t link cause (time_of h) h.note.body) hs)
+    ∙ last_and_plain (λ h. taken_cycle h.note.body) (λ h. taken_plain h.note.body) None None (filter p hs) refl
+
+any_plain : (p : Happening → Bool) → ((h : Happening) → p (plain h) ≡ p h) → (hs : List Happening) → list_any p (plains hs) ≡ list_any p hs
+any_plain p same [] = refl
+any_plain p same (h ∷ hs) = ap (λ (b : Bool). b || list_any p (plains hs)) (same h) ∙ ap (λ (b : Bool). p h || b) (any_plain p same hs)
+
+joined_at_plain : (hs : List Happening) (device : DeviceId) (t : ℕ) → has_joined_at (plains hs) device t ≡ has_joined_at hs device t
+joined_at_plain hs device t =
+    any_plain (λ h. time_of h == t && is_joined_by device h.note.body) (λ h. ap (λ (b : Bool). time_of h == t && b) (joined_plain device h.note.body)) hs
+
+pub hearing_adjustment_plain : (s : Scenario) (hs : List Happening) (device : DeviceId) (t : ℕ)
+    → adjustment_at_hearing s (plains hs) device t ≡ adjustment_at_hearing s hs device t
+hearing_adjustment_plain s hs device t =
+    let p = λ (h : Happening). nat_lt (time_of h) t || is_joined_by device h.note.body in
+    ap (λ (l : List Happening). adjustment_after s l device)
+    (filter_plain p p (λ h. ap (λ (b : Bool). nat_lt (time_of h) t || b) (joined_plain device h.note.body)) hs)
+    ∙ adjustments_plain s (filter p hs) device
+
+pub hearing_state_plain : (s : Scenario) (hs : List Happening) (device : DeviceId) (t : ℕ) → state_at_hearing s (plains hs) device t ≡ state_at_hearing s hs
+    device
+    t
+hearing_state_plain s hs device t =
+    ap (λ (b : Bool). if b then Joining else state_before s (plains hs) device t) (joined_at_plain hs device t)
+    ∙ ap (λ (x : State). if has_joined_at hs device t then Joining else (if is_turned_on_at s device t then Integrating else x))
+    (ap (λ (l : List Happening). state_after s l device) (earlier_plain t hs) ∙ states_plain s (earlier t hs) device)
+
+-- ---- judgements
+
+pub judged_alike : (s : Scenario) (js gs : List Happening) (t : ℕ) (device : DeviceId) (frame : Pcf) (point : Units) (is : Ripe) → plains js ≡ plains gs
+    → IsJudgedBy s js device t frame point is → IsJudgedBy s gs device t frame point is
+judged_alike s js gs t device frame point is same so =
+    let state : state_at_hearing s js device t ≡ state_at_hearing s gs device t = sym (hearing_state_plain s js device t)
+    ∙ ap (λ (l : List Happening). state_at_hearing s l device t) same ∙ hearing_state_plain s gs device t in
+    let adjustment : adjustment_at_hearing s js device t ≡ adjustment_at_hearing s gs device t = sym (hearing_adjustment_plain s js device t)
+    ∙ ap (λ (l : List Happening). adjustment_at_hearing s l device t) same ∙ hearing_adjustment_plain s gs device t in
+    let points : points_of js device ≡ points_of gs device = sym (points_plain js device) ∙ ap (λ (l : List Happening). points_of l device) same
+    ∙ points_plain gs device in
+    subst (λ (l : List Point). IsPermanenceOutcome s.network device (state_at_hearing s gs device t) (adjustment_at_hearing s gs device t).0 l frame point.0 is)
+    points
+    (subst (λ (a : Units). IsPermanenceOutcome s.network device (state_at_hearing s gs device t) a.0 (points_of js device) frame point.0 is) adjustment
+    (subst (λ (x : State). IsPermanenceOutcome s.network device x (adjustment_at_hearing s js device t).0 (points_of js device) frame point.0 is) state so))
+
+-- ---- arrivals
+
+pub timed_by : (s : Scenario) (device : DeviceId) (link : LinkId) (at : Standpoint) (octets : List ℕ) (last other : VlId → Option ℕ)
+    → ((vl : VlId) → last vl ≡ other vl) → timed_arrival s.network device link at octets last ≡ timed_arrival s.network device link at octets other
+timed_by s device link at octets last other same = ap (timed_arrival s.network device link at octets) (λ i vl. same vl i)

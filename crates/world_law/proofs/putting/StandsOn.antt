@@ -1,0 +1,169 @@
+-- The source that comes first is worked off: the world stands behind it.
+use Rattle.std.proofs.Common.{◌≡◌, ◌↔◌, ℕ, ◌+◌, ◌<◌, Bool, true, false, List, [], ◌∷◌, ◌++◌, length, map, slice_get, Some, inl, inr, sym, ap, subst, ◌∙◌, arith}
+use Rattle.std.proofs.lemmas.Bool.{cases_Bool}
+use Rattle.net_plan.specs.declared.ids.DeviceId.{DeviceId}
+use Rattle.net_plan.specs.declared.network.Network.{Network}
+use Rattle.run_law.proofs.runs.Places.{before_behind, before_next_time, chain, never_self}
+use Rattle.run_law.specs.records.Happenings.{Happening, happenings, time_of}
+use Rattle.run_law.specs.machines.Nodes.{Node}
+use Rattle.run_law.specs.records.Order.{IsBefore, IsIn, behind}
+use Rattle.run_law.specs.records.Ranks.{key, members_in, place_of, rank}
+use Rattle.run_law.specs.scenario.Scenarios.{Scenario}
+use Rattle.run_law.specs.declared.note.Note.{Note}
+use Rattle.run_law.specs.declared.note.NoteBody.TheVariants as kinds
+use Rattle.run_law.specs.declared.note.NoteBody.{NoteBody}
+use Rattle.world_law.proofs.giving.GivenParts.{up_to_place}
+use Rattle.world_law.proofs.putting.Moving.{IsMoving, stays}
+use Rattle.world_law.proofs.runs.SourcesBack.{no_higher}
+use Rattle.world_law.specs.source.First.{NoSourceBefore}
+use Rattle.world_law.specs.source.Sources.{IsSource}
+use Rattle.world_law.specs.world.Steps.{ComesFirst, StandsBehind}
+use Rattle.world_law.specs.world.World.{AreAtPorts, AreOfNetwork, AreOnWires, AreSettled, AreUntold, AreWaiting, AtPort, IsHeld, OnWire, Stands, Waiting, World, clock_place, hidden, hidden_body, none_yet}
+
+-- ---- what is hidden keeps its rank
+
+before_hidden : (given t now r : ℕ) (more : List ℕ) (members : ℕ) (body : NoteBody) → (7 ≡ r → ⊥) → IsBefore (t ∷ rank body ∷ key members body) (now ∷ r ∷ more)
+    → IsBefore (t ∷ rank (hidden_body given body) ∷ key members (hidden_body given body)) (now ∷ r ∷ more)
+before_hidden given t now r more members (kinds.State device state cause why) other (inl lt) = inl lt
+before_hidden given t now r more members (kinds.State device state cause why) other (inr (e, inl lt)) = inr (e, inl lt)
+before_hidden given t now r more members (kinds.State device state cause why) other (inr (e, inr b)) = absurd (other b.0)
+before_hidden given t now r more members body other b = b
+
+pub in_mapped : (f : Happening → Happening) (hs : List Happening) (h : Happening) → IsIn h hs → IsIn (f h) (map f hs)
+in_mapped f [] h i = absurd i
+in_mapped f (g ∷ hs) h (inl e) = inl (ap f e)
+in_mapped f (g ∷ hs) h (inr i) = inr (in_mapped f hs h i)
+
+-- ---- the source is first
+
+pub comes_first : {C M : Type 0} (reading : C → ℕ → ℕ) (stands : M → Network → DeviceId → Node → Type 0) (s : Scenario) (world : World C M) (notes : List Note)
+    (old : Stands reading stands s world notes) (r : ℕ) (more place : List ℕ) → (7 ≡ r → ⊥) → (world.now ∷ 2 ∷ [] ≡ world.now ∷ r ∷ more → ⊥)
+    → place ≡ world.now ∷ r ∷ more
+    → (IsBefore place old.cursor → ⊥) → ComesFirst reading stands s world notes old place → IsMoving s (happenings s.network notes) old.coming old.mark
+    old.cursor world.now r more
+comes_first reading stands s world notes old r more at other longer place waits first = record {
+  longer = longer;
+  forward = old.forward;
+  are = old.are;
+  waits = λ b. waits (subst (λ (q : List ℕ). IsBefore q old.cursor) (sym place) b);
+  first = subst (NoSourceBefore s (happenings s.network notes) old.cursor) place first.none;
+  after = λ z there b.
+      first.after (hidden (length notes) z) (subst (λ (l : List Happening). IsIn (hidden (length notes) z) l) (sym old.settled)
+      (in_mapped (hidden (length notes)) old.coming z there))
+      (subst (λ (q : List ℕ). IsBefore (place_of (hidden (length notes) z)) q) (sym place)
+      (before_hidden (length notes) (time_of z) world.now r more (members_in z) z.note.body other b));
+  past = λ p b. old.ahead p (old.of_now p b);
+  ahead = old.ahead;
+}
+
+-- ---- what is shown at the end, where the source is of a lower rank
+
+pub shown_still : {C M : Type 0} (reading : C → ℕ → ℕ) (stands : M → Network → DeviceId → Node → Type 0) (s : Scenario) (world : World C M) (notes : List Note)
+    (old : Stands reading stands s world notes) (r : ℕ) (more : List ℕ) → r < 14
+    → IsMoving s (happenings s.network notes) old.coming old.mark old.cursor world.now r more → (device : DeviceId) → device.0 < length s.network.device
+    → world.ended ≡ true → IsBefore (clock_place world.now device) (behind (world.now ∷ r ∷ more)) ↔ (device.0 < world.shown)
+shown_still reading stands s world notes old r more low m device lt ended = (
+  λ b.
+      absurd (elim (no_higher world.now 14 world.now r (device.0 ∷ []) more (up_to_place (clock_place world.now device) (world.now ∷ r ∷ more) b)) [
+        | inl less ↦ omega (arith, less)
+        | inr same ↦ omega (arith, same.1, low)
+      ]),
+  λ less. stays s (happenings s.network notes) old.coming old.mark old.cursor world.now r more m (clock_place world.now device)
+      ((old.shown device lt ended).1 less),
+)
+
+-- ---- no event is pending where another source comes first
+
+pub source_told : {C M : Type 0} (reading : C → ℕ → ℕ) (stands : M → Network → DeviceId → Node → Type 0) (s : Scenario) (world : World C M) (notes : List Note)
+    (old : Stands reading stands s world notes) (r : ℕ) (more : List ℕ)
+    → IsMoving s (happenings s.network notes) old.coming old.mark old.cursor world.now r more → IsBefore (world.now ∷ 2 ∷ []) (world.now ∷ r ∷ more)
+    → world.pending ≡ false
+source_told reading stands s world notes old r more m later = elim (cases_Bool world.pending) [
+  | inr told ↦ told
+  | inl open_ ↦
+      let it = old.untold.waits open_ in
+      absurd (m.first (world.now ∷ 2 ∷ []) (IsSource.following world.now it.0 it.1 it.2)
+      (λ b. never_self (world.now ∷ 2 ∷ []) (old.untold.early open_ (world.now ∷ 2 ∷ []) b)) later)
+]
+
+pub told_wires : {C M : Type 0} (reading : C → ℕ → ℕ) (stands : M → Network → DeviceId → Node → Type 0) (s : Scenario) (world : World C M) (notes : List Note)
+    (old : Stands reading stands s world notes) (r : ℕ) (more : List ℕ)
+    → IsMoving s (happenings s.network notes) old.coming old.mark old.cursor world.now r more → IsBefore (world.now ∷ 2 ∷ []) (world.now ∷ r ∷ more)
+    → AreOnWires s (happenings s.network notes) old.cursor world.now false world.wires
+told_wires reading stands s world notes old r more m later =
+    subst (λ (b : Bool). AreOnWires s (happenings s.network notes) old.cursor world.now b world.wires)
+    (source_told reading stands s world notes old r more m later) old.wires
+
+untold_on : {C M : Type 0} (reading : C → ℕ → ℕ) (stands : M → Network → DeviceId → Node → Type 0) (s : Scenario) (world : World C M) (notes : List Note)
+    (old : Stands reading stands s world notes) (r : ℕ) (more : List ℕ)
+    → IsMoving s (happenings s.network notes) old.coming old.mark old.cursor world.now r more → world.pending ≡ false
+    → IsBefore (world.now ∷ 2 ∷ []) (world.now ∷ r ∷ more) → AreUntold (happenings s.network notes) (behind (world.now ∷ r ∷ more)) world.now world.pending
+    world.befell
+untold_on reading stands s world notes old r more m told later = record {
+  done = λ same number h it. chain (world.now ∷ 2 ∷ []) (world.now ∷ r ∷ more) (behind (world.now ∷ r ∷ more)) later (before_behind (world.now ∷ r ∷ more));
+  none = old.untold.none;
+  waits = λ open_. absurd (let bad : false ≡ true = sym told ∙ open_ in cc);
+  early = λ open_. absurd (let bad : false ≡ true = sym told ∙ open_ in cc);
+  real = old.untold.real;
+  all = λ open_. absurd (let bad : false ≡ true = sym told ∙ open_ in cc);
+  in_order = old.untold.in_order;
+}
+
+-- ---- and the world stands behind it
+
+pub stands_on : {C M : Type 0} (reading : C → ℕ → ℕ) (stands : M → Network → DeviceId → Node → Type 0) (s : Scenario) (world : World C M) (notes : List Note)
+    (old : Stands reading stands s world notes) (r : ℕ) (more place : List ℕ)
+    (machines : List M) (wires : List OnWire) (ports : List AtPort) (waiting : List Waiting) (settled coming : List Happening) (shown : ℕ)
+    → IsMoving s (happenings s.network notes) old.coming old.mark old.cursor world.now r more → place ≡ world.now ∷ r ∷ more
+    → settled ≡ map (hidden (length notes)) coming → length notes + length coming < none_yet
+    → AreSettled s (happenings s.network notes) coming old.mark (behind (world.now ∷ r ∷ more)) world.now
+    → AreOfNetwork s (happenings s.network notes ++ coming)
+    → ((device : DeviceId) → device.0 < length s.network.device → (machine : M) × (slice_get machines device.0 ≡ Some machine)
+    × IsHeld stands s (happenings s.network notes) coming (behind (world.now ∷ r ∷ more)) world.now device machine)
+    → IsBefore (world.now ∷ 2 ∷ []) (world.now ∷ r ∷ more) → AreOnWires s (happenings s.network notes) (behind (world.now ∷ r ∷ more)) world.now false wires
+    → AreAtPorts s (happenings s.network notes) (behind (world.now ∷ r ∷ more)) ports
+    → AreWaiting s (happenings s.network notes) (behind (world.now ∷ r ∷ more)) world.now waiting
+    → ((device : DeviceId) → device.0 < length s.network.device → world.ended ≡ true → IsBefore (clock_place world.now device) (behind (world.now ∷ r ∷ more)) ↔
+    (device.0 < shown))
+    → StandsBehind reading stands s
+    (record world { machines = machines; wires = wires; ports = ports; waiting = waiting; early = false; settled = settled; shown = shown })
+    notes (behind place)
+stands_on reading stands s world notes old r more place machines wires ports waiting settled coming shown m at shows room are known devices later on_wires
+    at_ports awaited shown_so =
+    let told = source_told reading stands s world notes old r more m later in (
+      record {
+        same = old.same;
+        range = old.range;
+        rules = old.rules;
+        forward = old.forward;
+        steady = old.steady;
+        precise = old.precise;
+        mark = old.mark;
+        cursor = behind (world.now ∷ r ∷ more);
+        run = old.run;
+        ahead = λ p b. stays s (happenings s.network notes) old.coming old.mark old.cursor world.now r more m p (old.ahead p b);
+        of_now = old.of_now;
+        not_later = λ p b. before_next_time p world.now (r ∷ (more ++ 0 ∷ [])) b;
+        limit = old.limit;
+        lines = old.lines;
+        given = old.given;
+        ended = old.ended;
+        befallen = old.befallen;
+        clocks = old.clocks;
+        broken = old.broken;
+        ways = old.ways;
+        coming = coming;
+        room = room;
+        settled = shows;
+        known = known;
+        devices = devices;
+        early = λ fresh. absurd (let bad : false ≡ true = fresh in cc);
+        untold = untold_on reading stands s world notes old r more m told later;
+        wires = subst (λ (b : Bool). AreOnWires s (happenings s.network notes) (behind (world.now ∷ r ∷ more)) world.now b wires) (sym told) on_wires;
+        ports = at_ports;
+        waiting = awaited;
+        are = are;
+        shown = shown_so;
+      },
+      ap behind (sym at),
+    )

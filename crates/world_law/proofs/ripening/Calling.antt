@@ -1,0 +1,56 @@
+-- A device that a world keeps may be called, as its source comes.
+use Rattle.std.proofs.Common.{◌≡◌, ℕ, ◌+◌, ◌^◌, ◌≤◌, ◌<◌, ℤ, pos, ◌<ℤ◌, List, ◌∷◌, inl, inr, refl, sym, ap, subst, arith}
+use Rattle.std.proofs.lemmas.Bool.{cases_lt}
+use Rattle.std.proofs.lemmas.Int.{ints}
+use Rattle.net_plan.specs.declared.ids.DeviceId.{DeviceId}
+use Rattle.net_plan.specs.declared.network.Network.{Network}
+use Rattle.run_law.specs.machines.Calls.{MayCall, order_of_phase}
+use Rattle.run_law.specs.records.Happenings.{Happening}
+use Rattle.run_law.specs.machines.Nodes.{Node, Phase, acting, arriving, ripening, turning_on}
+use Rattle.run_law.specs.records.Order.{IsBefore}
+use Rattle.run_law.specs.scenario.Scenarios.{Scenario}
+use Rattle.run_law.specs.machines.Tasks.{reading_for}
+use Rattle.tte_units.specs.Amount.{amount}
+use Rattle.world_law.specs.device.Ready.{IsSteady}
+use Rattle.world_law.specs.world.Calls.{moment_of}
+use Rattle.world_law.specs.world.World.{IsKept, rank_of_call}
+use Rattle.world_law.proofs.acts.Ready.{natural}
+
+ranked_so : (phase : Phase) → rank_of_call phase ≡ order_of_phase phase + 1
+ranked_so turning_on = refl
+ranked_so arriving = refl
+ranked_so ripening = refl
+ranked_so acting = refl
+
+pub may_call : {M : Type 0} (stands : M → Network → DeviceId → Node → Type 0) (s : Scenario) (hs coming : List Happening) (cursor : List ℕ) (now : ℕ)
+    (device : DeviceId) (machine : M) (phase : Phase) (more : List ℕ)
+    → (k : IsKept stands s hs coming cursor now device machine) → IsSteady (s.reading device) (amount s.network.precision) → now ≤ 2 ^ 60
+    → (IsBefore (now ∷ rank_of_call phase ∷ more) cursor → ⊥)
+    → MayCall s.network device k.node (moment_of s device now) phase
+may_call stands s hs coming cursor now device machine phase more k steady limit waits =
+    let last = natural k.node.last.time.0 k.ready.begun in
+    let time = k.ready.time in
+    let read = k.ready.last in
+    let sooner : amount k.node.last.time ≤ now = omega (arith, ints, last, time) in
+    let fell = steady.never_falls (amount k.node.last.time) now sooner in
+    let low = steady.low now limit in
+    record {
+      later = record {
+        time = time;
+        reading = omega (arith, ints, read, fell);
+        early_enough = omega (arith, ints, limit);
+        low_enough = omega (arith, ints, low);
+      };
+      in_order = λ same.
+          let at : k.node.last.time.0 ≡ pos now = sym (ap (λ (u : _). u.0) same) in
+          let a = ranked_so phase in
+          let b = ranked_so k.node.phase in
+          elim (cases_lt (order_of_phase phase) (order_of_phase k.node.phase)) [
+            | inr ge ↦ ge
+            | inl lt ↦ absurd (waits (k.phase at (now ∷ rank_of_call phase ∷ more) (inr (refl, inl (omega (arith, lt, a, b))))))
+          ];
+      all_done = λ before task p.
+          let lt : amount k.node.last.time < now = omega (arith, ints, last, before) in
+          subst (λ (z : ℤ). z <ℤ reading_for s.network k.node task) (sym read) (k.ready.undone task p (amount k.node.last.time) lt);
+      in_time = λ task p. k.ready.in_time task p;
+    }

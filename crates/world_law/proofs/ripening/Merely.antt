@@ -1,0 +1,114 @@
+-- Records that do not bear on a device, but for what they say of its state.
+use Rattle.std.proofs.Common.{◌≡◌, ℕ, Bool, true, false, if◌then◌else◌, List, [], ◌∷◌, ◌++◌, Option, Some, None, filter, filter_map, fold, option_to_list, inl, inr, refl, sym, ap, ◌∙◌, append_assoc}
+use Rattle.std.specs.Prelude.{nat_lt}
+use Rattle.std.specs.List.{after_last, cons_option}
+use Rattle.std.proofs.lemmas.Bool.{cases_lt}
+use Rattle.std.proofs.lemmas.List.{append-nil}
+use Rattle.std.proofs.lemmas.List.Elements.{filter_map-append}
+use Rattle.net_plan.specs.declared.ids.DeviceId.{DeviceId}
+use Rattle.net_plan.specs.declared.network.Network.{Network}
+use Rattle.run_law.specs.device.LocalClocks.{changes_adjustment}
+use Rattle.run_law.specs.control.Collections.{point_by}
+use Rattle.run_law.specs.control.Corrections.{cycle_after, hearing_by}
+use Rattle.run_law.specs.records.Happenings.{Happening, earlier, time_of}
+use Rattle.run_law.specs.records.Order.{IsIn}
+use Rattle.run_law.specs.scenario.Scenarios.{Scenario}
+use Rattle.run_law.specs.device.States.{adjustment_with, is_joined_by}
+use Rattle.run_law.specs.declared.note.NoteBody.TheVariants as kinds
+use Rattle.run_law.specs.declared.note.NoteBody.{NoteBody}
+use Rattle.tte_units.specs.declared.units.Units.{Units}
+use Rattle.world_law.proofs.devices.Borne.{gives_no_point, hears_nothing, moves_no_other}
+use Rattle.world_law.proofs.devices.OwnRecords.{changes_no_other, joins_no_other, keeps_adjustment, keeps_cycle, own_no, earlier_yes, earlier_no}
+use Rattle.world_law.proofs.lists.Lists.{behind_no, behind_yes}
+use Rattle.world_law.specs.device.Own.{bears_on, moves, own}
+
+-- the record does not bear on the device, or it is of a state
+abbrev pub IsMere : DeviceId → NoteBody → Type 0
+IsMere device (kinds.State other state cause why) = Unit {0}
+IsMere device other = bears_on device other ≡ false
+
+pub mere_joins : (device : DeviceId) (body : NoteBody) → IsMere device body → is_joined_by device body ≡ false
+mere_joins device (kinds.State other state cause why) m = refl
+mere_joins device other m = joins_no_other device other (moves_no_other device other m)
+
+pub mere_changes : (device : DeviceId) (body : NoteBody) → IsMere device body → changes_adjustment device body ≡ false
+mere_changes device (kinds.State other state cause why) m = refl
+mere_changes device other m = changes_no_other device other (moves_no_other device other m)
+
+pub mere_adjustment : (s : Scenario) (device : DeviceId) (cycle : ℕ) (old : Units) (body : NoteBody) → IsMere device body
+    → adjustment_with s device cycle old body ≡ old
+mere_adjustment s device cycle old (kinds.State other state cause why) m = refl
+mere_adjustment s device cycle old other m = keeps_adjustment s device cycle old other (moves_no_other device other m)
+
+pub mere_cycle : (device : DeviceId) (next : ℕ) (h : Happening) (body : NoteBody) → IsMere device body → cycle_after device next h body ≡ next
+mere_cycle device next h (kinds.State other state cause why) m = refl
+mere_cycle device next h other m = keeps_cycle device next h other (moves_no_other device other m)
+
+pub mere_hears : (network : Network) (device : DeviceId) (h : Happening) (body : NoteBody) → IsMere device body → hearing_by network device h body ≡ None
+mere_hears network device h (kinds.State other state cause why) m = refl
+mere_hears network device h other m = hears_nothing network device h other m
+
+pub mere_point : (device : DeviceId) (h : Happening) (body : NoteBody) → IsMere device body → point_by device h body ≡ None
+mere_point device h (kinds.State other state cause why) m = refl
+mere_point device h other m = gives_no_point device h other m
+
+-- ---- lists with more at the end
+
+-- what none of those at the end changes
+pub fold_rest : {B : Type 0} (f : B → Happening → B) (z : B) (xs zs : List Happening) → ((h : Happening) → IsIn h zs → (b : B) → f b h ≡ b)
+    → fold f z (xs ++ zs) ≡ fold f z xs
+fold_rest f z [] [] same = refl
+fold_rest {B} f z [] (y ∷ zs) same = ap (λ (b : B). fold f b zs) (same y (inl refl) z) ∙ fold_rest f z [] zs (λ h i. same h (inr i))
+fold_rest f z (x ∷ xs) zs same = fold_rest f (f z x) xs zs same
+
+pub filter_rest : {X : Type 0} (p : X → Bool) (xs zs : List X) → ((x : X) → IsIn x zs → p x ≡ false) → filter p (xs ++ zs) ≡ filter p xs
+filter_rest p [] [] none = refl
+filter_rest {X} p [] (z ∷ zs) none =
+    ap (λ (b : Bool). if b then z ∷ filter p zs else filter p zs) (none z (inl refl)) ∙ filter_rest p [] zs (λ x i. none x (inr i))
+filter_rest {X} p (x ∷ xs) zs none = ap (λ (l : List X). if p x then x ∷ l else l) (filter_rest p xs zs none)
+
+pub maps_rest : {X Y : Type 0} (f : X → Option Y) (xs zs : List X) → ((x : X) → IsIn x zs → f x ≡ None) → filter_map f (xs ++ zs) ≡ filter_map f xs
+maps_rest f [] [] none = refl
+maps_rest {X} {Y} f [] (z ∷ zs) none = ap (λ (o : Option Y). cons_option o (filter_map f zs)) (none z (inl refl)) ∙ maps_rest f [] zs (λ x i. none x (inr i))
+maps_rest {X} {Y} f (x ∷ xs) zs none = ap (cons_option (f x)) (maps_rest f xs zs none)
+
+pub behind_rest : {X : Type 0} (p : X → Bool) (xs zs : List X) → ((x : X) → IsIn x zs → p x ≡ false) → after_last p (xs ++ zs) ≡ after_last p xs ++ zs
+behind_rest {X} p xs [] none = ap (after_last p) (append-nil xs) ∙ sym (append-nil (after_last p xs))
+behind_rest {X} p xs (z ∷ zs) none =
+    ap (after_last p) (sym (append_assoc xs (z ∷ []) zs))
+    ∙ behind_rest p (xs ++ z ∷ []) zs (λ x i. none x (inr i))
+    ∙ ap (λ (l : List X). l ++ zs) (behind_no p xs z (none z (inl refl)))
+    ∙ append_assoc (after_last p xs) (z ∷ []) zs
+
+-- behind the one that passes
+pub behind_it : {X : Type 0} (p : X → Bool) (xs zs : List X) (w : X) → p w ≡ true → ((x : X) → IsIn x zs → p x ≡ false) → after_last p (xs ++ w ∷ zs) ≡ zs
+behind_it {X} p xs zs w yes_it none =
+    ap (after_last p) (sym (append_assoc xs (w ∷ []) zs))
+    ∙ behind_rest p (xs ++ w ∷ []) zs none
+    ∙ ap (λ (l : List X). l ++ zs) (behind_yes p xs w yes_it)
+
+-- what is mapped of one more
+pub maps_one : {X Y : Type 0} (f : X → Option Y) (xs : List X) (x : X) → filter_map f (xs ++ x ∷ []) ≡ filter_map f xs ++ option_to_list (f x)
+maps_one {X} {Y} f xs x = filter_map-append f xs (x ∷ []) ∙ ap (λ (l : List Y). filter_map f xs ++ l) (one (f x))
+  where
+    one : {Z : Type 0} (o : Option Z) → cons_option o [] ≡ option_to_list o
+    one None = refl
+    one (Some z) = refl
+
+-- ---- a record that does not move the device
+
+-- of records before a time, one that does not move the device is none of its own
+pub own_skip : (device : DeviceId) (t : ℕ) (hs zs : List Happening) (w : Happening) → moves device w.note.body ≡ false
+    → own device (earlier t (hs ++ w ∷ zs)) ≡ own device (earlier t (hs ++ zs))
+own_skip device t [] zs w still =
+    elim (cases_lt (time_of w) t) [
+      | inl lt ↦ ap (own device) (earlier_yes t w zs lt) ∙ own_no device w (earlier t zs) still
+      | inr ge ↦ ap (own device) (earlier_no t w zs ge)
+    ]
+own_skip device t (h ∷ hs) zs w still =
+    elim (nat_lt (time_of h) t) as (λ c. own device (if c then h ∷ earlier t (hs ++ w ∷ zs) else earlier t (hs ++ w ∷ zs)) ≡ own device
+    (if c then h ∷ earlier t (hs ++ zs)
+    else earlier t (hs ++ zs))) [
+      | true ↦ ap (λ (l : List Happening). if moves device h.note.body then h ∷ l else l) (own_skip device t hs zs w still)
+      | false ↦ own_skip device t hs zs w still
+    ]

@@ -1,0 +1,290 @@
+-- A frame that waits is one that the network has: its `arrived` record was due.
+use Rattle.std.proofs.Common.{◌≡◌, IsSomeAnd, ℕ, ◌≤◌, Bool, true, false, not, ◌&&◌, ◌==◌, nat_lt, if◌then◌else◌, List, [], ◌∷◌, ◌++◌, length, Option, Some, None, Ok, Err, option_map, option_and_then, inl, inr, refl, sym, ap, subst, ◌∙◌}
+use Rattle.std.proofs.lemmas.Bool.{cases_lt, eqb-true, lt-ltb}
+use Rattle.net_plan.specs.Places.{link_at}
+use Rattle.net_plan.specs.declared.event.What.TheVariants.{Send}
+use Rattle.net_plan.specs.declared.ids.DeviceId.{DeviceId}
+use Rattle.net_plan.specs.declared.ids.LinkId.{LinkId}
+use Rattle.net_plan.specs.declared.network.Network.{Network}
+use Rattle.net_plan.specs.declared.tables.Link.{Link}
+use Rattle.net_plan.specs.declared.tables.Way.{Way}
+use Rattle.net_plan.specs.declared.tables.Way.TheVariants.{Up, Down}
+use Rattle.pcf_codec.specs.Decoding.{decoded}
+use Rattle.pcf_codec.specs.EtherType.{pcf_type}
+use Rattle.pcf_codec.specs.Fields.{field}
+use Rattle.pcf_values.specs.declared.pcf.Pcf.{Pcf}
+use Rattle.pcf_values.specs.declared.pcf.PcfKind.{PcfKind}
+use Rattle.pcf_values.specs.declared.pcf.PcfKind.TheVariants.{Integration}
+use Rattle.run_law.proofs.law.FirstPlaces.{founded_at, numbered_in, numbered_within}
+use Rattle.run_law.specs.control.Arrivals.{clock_on_arrival, frame_fault, frame_or_fault, frame_taken, is_cold_start, is_gate_shut, is_of_other_domain, is_of_other_member, point_on_arrival}
+use Rattle.run_law.specs.control.Wires.{Arrives, Launch, Signal, control, launched, signal_of, timed}
+use Rattle.run_law.specs.declared.judgement.Reason.{Reason}
+use Rattle.run_law.specs.declared.judgement.Reason.TheVariants as reasons
+use Rattle.run_law.specs.declared.note.NoteBody.{NoteBody}
+use Rattle.run_law.specs.declared.note.NoteBody.TheVariants as kinds
+use Rattle.run_law.specs.declared.steps.Arrival.{Arrival}
+use Rattle.run_law.specs.declared.steps.Arrival.TheVariants as arrivals
+use Rattle.run_law.specs.device.Standpoints.{Standpoint, first_reason, standpoint}
+use Rattle.run_law.specs.machines.Calls.{IsLinkAt}
+use Rattle.run_law.specs.records.Happenings.{Happening, frame_by, frame_in, numbered, time_of, with_clock}
+use Rattle.run_law.specs.records.Order.{IsIn}
+use Rattle.run_law.specs.records.Ranks.{place_of}
+use Rattle.run_law.specs.runs.DueRecords.{IsArrivedRecord, IsCaused, IsDue}
+use Rattle.run_law.specs.runs.Runs.{IsFounded}
+use Rattle.run_law.specs.scenario.Devices.{IsParentOf}
+use Rattle.run_law.specs.scenario.Scenarios.{Scenario}
+use Rattle.run_law.specs.scenario.Ways.{is_cut, receiver_of, way_from}
+use Rattle.run_law.specs.timed.Arrivals.{entry_arrival, octets_or_fault, row_fault, taken_by, taken_or_fault, timed_arrival}
+use Rattle.run_law.specs.timed.Receptions.{ArrivesAs, arrival_of}
+use Rattle.schedule_tables.specs.Entries.{target_by}
+use Rattle.tte_units.specs.Amount.{amount}
+use Rattle.tte_units.specs.declared.units.Units.{Units}
+
+-- ---- what waits or is passed on
+
+-- the frame of an arrival that waits or is passed on
+abbrev frame_of : Arrival → Option Pcf
+frame_of (arrivals.Waits frame point) = Some frame
+frame_of (arrivals.Passes frame way) = Some frame
+frame_of (arrivals.PassesAndWaits frame way point) = Some frame
+frame_of other = None
+
+frame_of_taken : (network : Network) (device : DeviceId) (link : LinkId) (frame : Pcf) (point : Units)
+    → frame_of (frame_taken network device link frame point) ≡ Some frame
+frame_of_taken network device link frame point =
+    by_flags (Rattle.run_law.specs.scenario.Devices.is_relay network device) (Rattle.run_law.specs.scenario.Devices.is_parent_of network device link)
+  where
+    by_flags : (relay parent : Bool) → frame_of (if relay then (if parent then arrivals.Passes frame Up else arrivals.PassesAndWaits frame Down point)
+        else arrivals.Waits frame point) ≡ Some frame
+    by_flags true true = refl
+    by_flags true false = refl
+    by_flags false parent = refl
+
+-- no fault was found in the frame that came, and it is taken so
+pub record IsTakenAs (network : Network) (device : DeviceId) (link : LinkId) (at : Standpoint) (came frame : Pcf) : Type 0 where
+  pub none : frame_fault network device link at came ≡ None
+  pub is : frame ≡ with_clock (clock_on_arrival network link came) came
+
+taken_by_fault : (network : Network) (device : DeviceId) (link : LinkId) (at : Standpoint) (came frame : Pcf) (fault : Option Reason) (is : Arrival)
+    → frame_of is ≡ Some frame
+    → is ≡ frame_or_fault network device link at came fault → (fault ≡ None) × (frame ≡ with_clock (clock_on_arrival network link came) came)
+taken_by_fault network device link at came frame (Some reason) is of e = absurd (let bad : None ≡ Some frame = sym (ap frame_of e) ∙ of in cc)
+taken_by_fault network device link at came frame None is of e =
+    let clock = clock_on_arrival network link came in
+    let same : Some (with_clock clock came) ≡ Some frame = sym (frame_of_taken network device link (with_clock clock came) (point_on_arrival network at clock))
+    ∙ sym (ap frame_of e) ∙ of in
+    let it : frame ≡ with_clock clock came = cc in
+    (refl, it)
+
+not_timed : (network : Network) (device : DeviceId) (link : LinkId) (at : Standpoint) (octets : List ℕ) (last : _)
+    → frame_of (timed_arrival network device link at octets last) ≡ None
+not_timed network device link at octets last = by_fault (Rattle.run_law.specs.timed.Arrivals.octets_fault network at octets)
+  where
+    by_taken : (b : Bool) (vl : _) (cycle : ℕ) → frame_of (if b then arrivals.Delivered vl cycle else arrivals.Accepted vl cycle) ≡ None
+    by_taken true vl cycle = refl
+    by_taken false vl cycle = refl
+
+    by_row : (entry : _) (fault : Option Reason) → frame_of (taken_or_fault network device at entry fault) ≡ None
+    by_row entry (Some reason) = refl
+    by_row entry None = by_taken (Rattle.run_law.specs.scenario.Devices.is_end network device) _ _
+
+    by_entry : (o : _) → frame_of (entry_arrival network device at (length octets) last o) ≡ None
+    by_entry None = refl
+    by_entry (Some entry) = by_row entry (row_fault network at entry (length octets) (last entry.row.vl))
+
+    by_fault : (o : Option Reason) → frame_of (octets_or_fault network device link at octets last o) ≡ None
+    by_fault (Some reason) = refl
+    by_fault None = by_entry _
+
+-- what came was a control frame without a fault
+pub record CameSo (s : Scenario) (hs : List Happening) (device : DeviceId) (t : ℕ) (link : LinkId) (cause : ℕ) (frame : Pcf) : Type 0 where
+  pub putting : Happening
+  pub there : numbered hs cause ≡ Some putting
+  pub came : Pcf
+  pub arrives : Arrives s putting device link t (control (Ok came))
+  pub taken : IsTakenAs s.network device link (standpoint s hs device t) came frame
+
+came_so : (s : Scenario) (hs : List Happening) (device : DeviceId) (t : ℕ) (link : LinkId) (cause : ℕ) (is : Arrival) (frame : Pcf) → frame_of is ≡ Some frame
+    → ArrivesAs s hs device t link cause is → CameSo s hs device t link cause frame
+came_so s hs device t link cause is frame of a = by_signal a.signal a.arrives a.becomes
+  where
+    by_signal : (signal : Signal) → Arrives s a.putting device link t signal → is ≡ arrival_of s hs device t link cause signal
+        → CameSo s hs device t link cause frame
+    by_signal (timed octets) arrives e =
+        absurd (let bad : None ≡ Some frame = sym (not_timed s.network device link (standpoint s hs device t) octets _) ∙ sym (ap frame_of e) ∙ of in cc)
+    by_signal (control (Err refusal)) arrives e = absurd (let bad : None ≡ Some frame = sym (ap frame_of e) ∙ of in cc)
+    by_signal (control (Ok came)) arrives e =
+        let it = taken_by_fault s.network device link (standpoint s hs device t) came frame _ is of e in
+        record { putting = a.putting; there = a.there; came = came; arrives = arrives; taken = record { none = it.0; is = it.1 } }
+
+arrived_so : (s : Scenario) (hs : List Happening) (device : DeviceId) (t : ℕ) (link : LinkId) (cause clock : ℕ)
+    (a : IsArrivedRecord s hs device t link cause clock)
+    → CameSo s hs device t link cause a.frame
+arrived_so s hs device t link cause clock a =
+    elim a.taken [
+      | inl waits ↦ came_so s hs device t link cause _ a.frame refl waits
+      | inr (inl passes) ↦ came_so s hs device t link cause _ a.frame refl passes
+      | inr (inr both) ↦ came_so s hs device t link cause _ a.frame refl both
+    ]
+
+-- ---- its frame is that of the record that put it on the wire
+
+launch_signal : (a b : Launch) → Some a ≡ Some b → a.signal ≡ b.signal
+launch_signal a b e = let same : a ≡ b = cc in ap (λ (l : Launch). l.signal) same
+
+by_octets : (b : Bool) (octets : List ℕ) (came : Pcf) → (if b then control (decoded octets) else timed octets) ≡ control (Ok came) → decoded octets ≡ Ok came
+by_octets true octets came e = let same : decoded octets ≡ Ok came = cc in same
+by_octets false octets came e = absurd cc
+
+not_control : (octets : List ℕ) (came : Pcf) → timed octets ≡ control (Ok came) → ⊥
+not_control octets came e = cc
+
+pub launched_frame : (s : Scenario) (front : List Happening) (h : Happening) (t : ℕ) (link : LinkId) (way : Way) (came : Pcf) (body : NoteBody)
+    → h.frame ≡ frame_by s.network front body
+    → launched s h t body ≡ Some (record { link = link; way = way; signal = control (Ok came) }) → h.frame ≡ Some came
+launched_frame s front h t link way came (kinds.Left device by cause clock) of e = by_frame h.frame e
+  where
+    by_frame : (o : Option Pcf)
+        → option_map (λ (f : Pcf). let l : Launch = record { link = by; way = way_from s.network device by; signal = control (Ok f) } in l) o
+        ≡ Some (record { link = link; way = way; signal = control (Ok came) }) → o ≡ Some came
+    by_frame None e = absurd cc
+    by_frame (Some f) e =
+        let same : control (Ok f) ≡ control (Ok came) = launch_signal _ _ e in
+        let it : f ≡ came = cc in
+        ap Some it
+launched_frame s front h t link way came (kinds.TtSent device by cause vl cycle) of e = absurd (not_control h.octets came (launch_signal _ _ e))
+launched_frame s front h t link way came (kinds.Event line (Send by octets)) of e = by_cut (is_cut s by Up t) e
+  where
+    by_cut : (b : Bool) → (if b then None else Some (let l : Launch = record { link = by; way = Up; signal = signal_of octets } in l))
+        ≡ Some (record { link = link; way = way; signal = control (Ok came) }) → h.frame ≡ Some came
+    by_cut true is = absurd cc
+    by_cut false is = of ∙ ap frame_in (by_octets (field 12 2 octets == pcf_type) octets came (launch_signal _ _ is))
+launched_frame s front h t link way came other of e = absurd cc
+
+-- ---- an arrival of a run
+
+-- the arrival, with what came and where it came from
+pub record HasCome (s : Scenario) (hs : List Happening) (arrival : Happening) (device : DeviceId) (link : LinkId) (cause clock : ℕ) (frame : Pcf) : Type 0 where
+  pub front : List Happening
+  pub rest : List Happening
+  pub whole : hs ≡ front ++ arrival ∷ rest
+  pub so : CameSo s front device (time_of arrival) link cause frame
+  pub of_frame : so.putting.frame ≡ Some so.came
+  pub shows : clock ≡ frame.clock
+
+pub has_come : (s : Scenario) (hs : List Happening) (arrival : Happening) (device : DeviceId) (link : LinkId) (cause clock : ℕ) (frame : Pcf)
+    → IsFounded place_of (IsDue s) hs
+    → IsIn arrival hs → arrival.note.body ≡ kinds.Arrived device link cause clock → arrival.frame ≡ Some frame
+    → HasCome s hs arrival device link cause clock frame
+has_come s hs arrival device link cause clock frame founded i body of =
+    let at = founded_at s hs arrival founded i in
+    let due = at.due in
+    let a : IsArrivedRecord s at.front device (time_of arrival) link cause clock = subst (λ (b : NoteBody). IsCaused s at.front arrival.note.time b) body
+    due.cause in
+    let so = arrived_so s at.front device (time_of arrival) link cause clock a in
+    let before : IsFounded place_of (IsDue s) at.front = Rattle.run_law.proofs.law.FirstPlaces.front_founded place_of (IsDue s) at.front (arrival ∷ at.rest)
+    (subst (λ (l : List Happening). IsFounded place_of (IsDue s) l) at.whole founded) in
+    let put = founded_at s at.front so.putting before (numbered_in at.front cause so.putting so.there) in
+    let put_frame : so.putting.frame ≡ Some so.came =
+    launched_frame s put.front so.putting (time_of so.putting) link so.arrives.way so.came so.putting.note.body (ap (λ (h : Happening). h.frame) put.due.same)
+    so.arrives.put in
+    let own : arrival.frame ≡ Some (with_clock clock so.came) =
+    ap (λ (h : Happening). h.frame) due.same
+    ∙ ap (frame_by s.network at.front) body
+    ∙ ap (λ (o : Option Happening). option_map (with_clock clock) (option_and_then (λ h. h.frame) o)) so.there
+    ∙ ap (option_map (with_clock clock)) put_frame in
+    let frame_is : frame ≡ with_clock clock so.came = Rattle.world_law.proofs.giving.Given.some_same frame (with_clock clock so.came) arrival.frame of own in
+    let taken_clock : clock ≡ clock_on_arrival s.network link so.came = a.shows ∙ ap (λ (f : Pcf). f.clock) so.taken.is in
+    let same : a.frame ≡ frame = so.taken.is ∙ ap (λ (c : ℕ). with_clock c so.came) (sym taken_clock) ∙ sym frame_is in
+    record {
+      front = at.front;
+      rest = at.rest;
+      whole = at.whole;
+      so = record {
+        putting = so.putting;
+        there = so.there;
+        came = so.came;
+        arrives = so.arrives;
+        taken = record { none = so.taken.none; is = sym same ∙ so.taken.is };
+      };
+      of_frame = put_frame;
+      shows = a.shows ∙ ap (λ (f : Pcf). f.clock) same;
+    }
+
+-- ---- without a fault
+
+no_reason : (b : Bool) (reason : Reason) (rest : List (Bool × Reason)) → first_reason ((b, reason) ∷ rest) ≡ None → (b ≡ false) × (first_reason rest ≡ None)
+no_reason true reason rest e = absurd cc
+no_reason false reason rest e = (refl, e)
+
+kind_of : (kind : PcfKind) → is_cold_start kind ≡ false → kind ≡ Integration
+kind_of Integration e = refl
+kind_of other e = absurd cc
+
+both_true : (b c : Bool) → not (b && c) ≡ false → (b ≡ true) × (c ≡ true)
+both_true true true e = (refl, refl)
+both_true true false e = absurd cc
+both_true false c e = absurd cc
+
+not_false : (b : Bool) → not b ≡ false → b ≡ true
+not_false true e = refl
+not_false false e = absurd cc
+
+-- a frame that was taken
+pub record IsSound (network : Network) (device : DeviceId) (link : LinkId) (at : Standpoint) (came frame : Pcf) : Type 0 where
+  pub takes_part : at.takes_part ≡ true
+  pub kind : frame.kind ≡ Integration
+  pub priority : frame.priority ≡ network.priority
+  pub domain : frame.domain ≡ network.domain
+  pub clock : frame.clock ≤ amount network.dmax
+  pub member : is_of_other_member network device link frame.members ≡ false
+  pub members : frame.members ≡ came.members
+
+pub is_sound : (network : Network) (device : DeviceId) (link : LinkId) (at : Standpoint) (came frame : Pcf) → IsTakenAs network device link at came frame
+    → IsSound network device link at came frame
+is_sound network device link at came frame taken =
+    let clock = clock_on_arrival network link came in
+    let gate : List (Bool × Reason) = (is_gate_shut network device at, reasons.Gate) ∷ [] in
+    let aged : List (Bool × Reason) = (nat_lt (amount network.dmax) clock, reasons.Old) ∷ gate in
+    let others : List (Bool × Reason) = (is_of_other_member network device link came.members, reasons.Member) ∷ aged in
+    let foreign : List (Bool × Reason) = (is_of_other_domain network came, reasons.Domain) ∷ others in
+    let cold_start : List (Bool × Reason) = (is_cold_start came.kind, reasons.ColdStart) ∷ foreign in
+    let off = no_reason (not at.takes_part) reasons.Off cold_start taken.none in
+    let cold = no_reason (is_cold_start came.kind) reasons.ColdStart foreign off.1 in
+    let domain = no_reason (is_of_other_domain network came) reasons.Domain others cold.1 in
+    let member = no_reason (is_of_other_member network device link came.members) reasons.Member aged domain.1 in
+    let old = no_reason (nat_lt (amount network.dmax) clock) reasons.Old gate member.1 in
+    let same = both_true (came.priority == network.priority) (came.domain == network.domain) domain.0 in
+    let least : clock ≤ amount network.dmax = elim (cases_lt (amount network.dmax) clock) [
+      | inl lt ↦ absurd (Rattle.std.proofs.lemmas.Bool.both_ways (nat_lt (amount network.dmax) clock) old.0 (lt-ltb (amount network.dmax) clock lt))
+      | inr ge ↦ ge
+    ] in
+    record {
+      takes_part = not_false at.takes_part off.0;
+      kind = ap (λ (f : Pcf). f.kind) taken.is ∙ kind_of came.kind cold.0;
+      priority = ap (λ (f : Pcf). f.priority) taken.is ∙ eqb-true came.priority network.priority same.0;
+      domain = ap (λ (f : Pcf). f.domain) taken.is ∙ eqb-true came.domain network.domain same.1;
+      clock = subst (λ (f : Pcf). f.clock ≤ amount network.dmax) (sym taken.is) least;
+      member = ap (λ (f : Pcf). is_of_other_member network device link f.members) taken.is ∙ member.0;
+      members = ap (λ (f : Pcf). f.members) taken.is;
+    }
+
+-- ---- the link is at the device
+
+-- of a link at this way the device is an end
+pub record IsReceiver (network : Network) (device : DeviceId) (link : LinkId) (way : Way) : Type 0 where
+  pub joint : Link
+  pub there : link_at network link ≡ Some joint
+  pub is : target_by way joint ≡ device
+
+pub received : (network : Network) (device : DeviceId) (link : LinkId) (way : Way) → receiver_of network link way ≡ Some device
+    → IsReceiver network device link way
+received network device link way e = by_link (link_at network link) refl e
+  where
+    by_link : (o : Option Link) → link_at network link ≡ o → option_map (target_by way) o ≡ Some device → IsReceiver network device link way
+    by_link None at e = absurd cc
+    by_link (Some joint) at e = let same : target_by way joint ≡ device = cc in record { joint = joint; there = at; is = same }
+
+pub link_of : (network : Network) (device : DeviceId) (link : LinkId) (way : Way) → IsReceiver network device link way → IsLinkAt network device link
+link_of network device link Up r = inr (subst (λ (o : Option Link). IsSomeAnd o (λ l. l.parent ≡ device)) (sym r.there) r.is)
+link_of network device link Down r = inl (subst (λ (o : Option Link). IsSomeAnd o (λ l. l.child ≡ device)) (sym r.there) r.is)

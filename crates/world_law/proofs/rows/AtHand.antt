@@ -1,0 +1,278 @@
+-- What the node has of a row's frame when its clock reaches the row's value is what the records say that it has at hand.
+use Rattle.std.proofs.Common.{◌≡◌, ◌⊎◌, ℕ, ◌+◌, ◌*◌, ◌≤◌, ◌<◌, ℤ, pos, ◌<ℤ◌, Bool, true, false, ◌&&◌, ◌==◌, if◌then◌else◌, List, [], ◌∷◌, ◌++◌, filter, Option, Some, None, inl, inr, refl, sym, ap, subst, ◌∙◌, arith}
+use Rattle.std.specs.List.{last_or}
+use Rattle.std.specs.Option.{IsSomeAnd, option_map_or}
+use Rattle.std.specs.Prelude.{nat_lt}
+use Rattle.std.proofs.lemmas.Bool.{and_parts, cases_Bool, cases_eq, cases_lt, eq-eqb, eqb-true, lt-ltb}
+use Rattle.std.proofs.lemmas.List.Elements.{filter-append}
+use Rattle.net_plan.specs.Ranges.{IsInRange}
+use Rattle.net_plan.specs.declared.ids.DeviceId.{DeviceId}
+use Rattle.net_plan.specs.declared.ids.RowId.{RowId}
+use Rattle.net_plan.specs.declared.ids.VlId.{VlId}
+use Rattle.net_plan.specs.declared.network.Network.{Network}
+use Rattle.net_plan.specs.declared.tables.Row.{Row}
+use Rattle.run_law.proofs.law.FirstPlaces.{in_filter}
+use Rattle.run_law.specs.device.LocalClocks.{Reaches, local_before}
+use Rattle.run_law.specs.machines.Nodes.{Node, TakenFrame, dispatching, last_taken_frame}
+use Rattle.run_law.specs.machines.Tasks.{HasFrame, value_of}
+use Rattle.run_law.specs.records.Happenings.{Happening, earlier, time_of}
+use Rattle.run_law.specs.records.Order.{IsIn}
+use Rattle.run_law.specs.records.Ranks.{place_of}
+use Rattle.run_law.specs.runs.DueRecords.{IsDue}
+use Rattle.run_law.specs.runs.Runs.{IsFounded}
+use Rattle.run_law.specs.scenario.Devices.{is_end}
+use Rattle.run_law.specs.scenario.Scenarios.{Scenario}
+use Rattle.run_law.specs.timed.Dispatching.{HasAccepted, HasAtHand, is_accepted, last_accepted}
+use Rattle.run_law.specs.declared.note.NoteBody.TheVariants as notes
+use Rattle.run_law.specs.declared.note.NoteBody.{NoteBody}
+use Rattle.schedule_tables.specs.Entries.{IsEntry, source_of}
+use Rattle.schedule_tables.specs.Rules.{KeepsRules}
+use Rattle.schedule_tables.specs.Windows.{OccursIn}
+use Rattle.schedule_tables.specs.declared.entry.Entry.{Entry}
+use Rattle.tte_units.specs.Amount.{amount}
+use Rattle.world_law.proofs.putting.PutIn.{last_in}
+use Rattle.world_law.proofs.rows.Reached.{IsForwarded, accepted_at, below_value, delivered_at, none_at_value}
+use Rattle.world_law.specs.device.Ready.{IsSteady}
+use Rattle.world_law.specs.device.Takings.{frames_taken, taken_by, taken_in}
+
+-- ---- the last frame that a switch took is that of the last record that says so
+
+-- the frame is that of the record, by which the switch accepted it
+abbrev pub IsLastBy : DeviceId → VlId → (ℕ → ℤ) → Option TakenFrame → Option Happening → Type 0
+IsLastBy device vl at None None = Unit {0}
+IsLastBy device vl at (Some f) (Some h) =
+    (link : _) × (from : ℕ) × (h.note.body ≡ notes.Accepted device link from vl f.cycle) × (f.at ≡ at (time_of h))
+IsLastBy device vl at f h = ⊥
+
+last_more : {X : Type 0} (o : Option X) (xs ys : List X) → last_or o (xs ++ ys) ≡ last_or (last_or o xs) ys
+last_more o [] ys = refl
+last_more o (x ∷ xs) ys = last_more (Some x) xs ys
+
+last_if : {X : Type 0} (b : Bool) (o : Option X) (x : X) (xs : List X) → last_or o (if b then x ∷ xs else xs) ≡ last_or (if b then Some x else o) xs
+last_if true o x xs = refl
+last_if false o x xs = refl
+
+abbrev is_of : VlId → TakenFrame → Bool
+is_of vl f = f.vl.0 == vl.0
+
+turned : (a b : ℕ) (c : Bool) → (a == b) ≡ c → (b == a) ≡ c
+turned a b true e = eq-eqb b a (sym (eqb-true a b e))
+turned a b false e =
+    elim (cases_Bool (b == a)) [
+      | inr no_it ↦ no_it
+      | inl same ↦ absurd (let bad : true ≡ false = sym (eq-eqb a b (sym (eqb-true b a same))) ∙ e in cc)
+    ]
+
+-- one record
+last_step : (device : DeviceId) (vl : VlId) (at : ℕ → ℤ) (o : Option TakenFrame) (p : Option Happening) (h : Happening) (body : NoteBody) → h.note.body ≡ body
+    → ((link : _) (from : ℕ) (of_vl : VlId) (cycle : ℕ) → body ≡ notes.Delivered device link from of_vl cycle → ⊥) → IsLastBy device vl at o p
+    → IsLastBy device vl at (last_or o (filter (is_of vl) (taken_in device (at (time_of h)) body))) (if is_accepted device vl body then Some h else p)
+last_step device vl at o p h (notes.Accepted other link from of_vl cycle) is none last =
+    elim (cases_Bool (device.0 == other.0)) [
+      | inr apart ↦
+          subst (λ (b : Bool). IsLastBy device vl at (last_or o (filter (is_of vl) (if b then frame ∷ [] else [])))
+          (if (b && vl.0 == of_vl.0) then Some h else p)) (sym apart) last
+      | inl mine ↦
+          subst (λ (b : Bool). IsLastBy device vl at (last_or o (filter (is_of vl) (if b then frame ∷ [] else [])))
+          (if (b && vl.0 == of_vl.0) then Some h else p)) (sym mine)
+          (of_mine (ap (λ (n : ℕ). let d : DeviceId = record { 0 = n } in d) (eqb-true device.0 other.0 mine)))
+    ]
+  where
+    frame : TakenFrame
+    frame = record { vl = of_vl; cycle = cycle; at = at (time_of h) }
+
+    of_mine : device ≡ other → IsLastBy device vl at (last_or o (if of_vl.0 == vl.0 then frame ∷ [] else [])) (if vl.0 == of_vl.0 then Some h else p)
+    of_mine one =
+        elim (cases_Bool (vl.0 == of_vl.0)) [
+          | inr apart ↦
+              subst (λ (b : Bool). IsLastBy device vl at (last_or o (if of_vl.0 == vl.0 then frame ∷ [] else [])) (if b then Some h else p)) (sym apart)
+              (subst (λ (b : Bool). IsLastBy device vl at (last_or o (if b then frame ∷ [] else [])) p) (sym (turned vl.0 of_vl.0 false apart)) last)
+          | inl same ↦
+              let vls : vl ≡ of_vl = ap (λ (n : ℕ). let x : VlId = record { 0 = n } in x) (eqb-true vl.0 of_vl.0 same) in
+              let said : h.note.body ≡ notes.Accepted device link from vl cycle = is ∙ ap (λ (d : DeviceId). notes.Accepted d link from of_vl cycle) (sym one)
+              ∙ ap (λ (x : VlId). notes.Accepted device link from x cycle) (sym vls) in
+              let it : IsLastBy device vl at (Some frame) (Some h) = (link, from, said, refl) in
+              subst (λ (b : Bool). IsLastBy device vl at (last_or o (if of_vl.0 == vl.0 then frame ∷ [] else [])) (if b then Some h else p)) (sym same)
+              (subst (λ (b : Bool). IsLastBy device vl at (last_or o (if b then frame ∷ [] else [])) (Some h)) (sym (turned vl.0 of_vl.0 true same)) it)
+        ]
+last_step device vl at o p h (notes.Delivered other link from of_vl cycle) is none last =
+    elim (cases_Bool (device.0 == other.0)) [
+      | inr apart ↦
+          let frame : TakenFrame = record { vl = of_vl; cycle = cycle; at = at (time_of h) } in
+          subst (λ (b : Bool). IsLastBy device vl at (last_or o (filter (is_of vl) (if b then frame ∷ [] else []))) p) (sym apart) last
+      | inl mine ↦
+          absurd (none link from of_vl cycle (ap (λ (n : ℕ). let d : DeviceId = record { 0 = n } in notes.Delivered d link from of_vl cycle)
+          (sym (eqb-true device.0 other.0 mine))))
+    ]
+last_step device vl at o p h other is none last = last
+
+-- all records, where the device is delivered no frame
+pub last_by : (device : DeviceId) (vl : VlId) (at : ℕ → ℤ) (hs : List Happening) (o : Option TakenFrame) (p : Option Happening) → IsLastBy device vl at o p
+    → ((h : Happening) → IsIn h hs → (link : _) (from : ℕ) (of_vl : VlId) (cycle : ℕ) → h.note.body ≡ notes.Delivered device link from of_vl cycle → ⊥)
+    → IsLastBy device vl at (last_or o (filter (is_of vl) (taken_by device at hs))) (last_or p (filter (λ h. is_accepted device vl h.note.body) hs))
+last_by device vl at [] o p last none = last
+last_by device vl at (h ∷ hs) o p last none =
+    let here = taken_in device (at (time_of h)) h.note.body in
+    let more = taken_by device at hs in
+    let step = last_step device vl at o p h h.note.body refl (λ link from of_vl cycle e. none h (inl refl) link from of_vl cycle e) last in
+    let rest = last_by device vl at hs (last_or o (filter (is_of vl) here)) (if is_accepted device vl h.note.body then Some h else p) step
+    (λ g i. none g (inr i)) in
+    let frames : last_or o (filter (is_of vl) (here ++ more)) ≡ last_or (last_or o (filter (is_of vl) here)) (filter (is_of vl) more) =
+    ap (last_or o) (filter-append (is_of vl) here more) ∙ last_more o (filter (is_of vl) here) (filter (is_of vl) more) in
+    let records = last_if (is_accepted device vl h.note.body) p h (filter (λ g. is_accepted device vl g.note.body) hs) in
+    subst (λ (x : Option TakenFrame). IsLastBy device vl at x (last_or p (filter (λ g. is_accepted device vl g.note.body) (h ∷ hs)))) (sym frames)
+    (subst (λ (x : Option Happening). IsLastBy device vl at (last_or (last_or o (filter (is_of vl) here)) (filter (is_of vl) more)) x) (sym records) rest)
+
+-- ---- records that are all earlier
+
+-- a filter keeps none that is no earlier
+pub filter_earlier : (q : Happening → Bool) (t : ℕ) (hs : List Happening) → ((h : Happening) → IsIn h hs → q h ≡ true → time_of h < t)
+    → filter q (earlier t hs) ≡ filter q hs
+filter_earlier q t [] sooner = refl
+filter_earlier q t (h ∷ hs) sooner =
+    let rest = filter_earlier q t hs (λ g i. sooner g (inr i)) in
+    elim (cases_Bool (q h)) [
+      | inl kept ↦
+          ap (λ (b : Bool). filter q (if b then h ∷ earlier t hs else earlier t hs)) (lt-ltb (time_of h) t (sooner h (inl refl) kept))
+          ∙ ap (λ (l : List Happening). if q h then h ∷ l else l) rest
+      | inr left ↦
+          out (nat_lt (time_of h) t) left ∙ rest ∙ sym (ap (λ (b : Bool). if b then h ∷ filter q hs else filter q hs) left)
+    ]
+  where
+    out : (b : Bool) → q h ≡ false → filter q (if b then h ∷ earlier t hs else earlier t hs) ≡ filter q (earlier t hs)
+    out true left = ap (λ (c : Bool). if c then h ∷ filter q (earlier t hs) else filter q (earlier t hs)) left
+    out false left = refl
+
+-- what passes the test is such a record
+accepts : (device : DeviceId) (vl : VlId) (body : NoteBody) → is_accepted device vl body ≡ true → (link : _) × (from : ℕ) × (cycle : ℕ)
+    × (body ≡ notes.Accepted device link from vl cycle)
+accepts device vl (notes.Accepted other link from of_vl cycle) e =
+    let parts = and_parts (device.0 == other.0) (vl.0 == of_vl.0) e in (
+      link,
+      from,
+      cycle,
+      ap (λ (n : ℕ). let d : DeviceId = record { 0 = n } in notes.Accepted d link from of_vl cycle) (sym (eqb-true device.0 other.0 parts.0))
+          ∙ ap (λ (n : ℕ). let x : VlId = record { 0 = n } in notes.Accepted device link from x cycle) (sym (eqb-true vl.0 of_vl.0 parts.1)),
+    )
+accepts device vl other e = absurd cc
+
+-- ---- the node of a device whose clock reaches the value of a row
+
+-- the records are those of a network that keeps its rules, with steady clocks, none of them later than the time; they leave
+-- the node with what it took; and by them the clock comes to the row's value in the cycle
+pub record IsReaching (s : Scenario) (hs : List Happening) (device : DeviceId) (node : Node) (row : RowId) (entry : Entry) (cycle t : ℕ) : Type 0 where
+  pub range : IsInRange s.network
+  pub rules : KeepsRules s.network
+  pub steady : IsSteady (s.reading device) (amount s.network.precision)
+  pub founded : IsFounded place_of (IsDue s) hs
+  pub past : (h : Happening) → IsIn h hs → time_of h ≤ t
+  pub taken : node.taken ≡ frames_taken s hs device
+  pub is : IsEntry s.network row.0 entry
+  pub leaves : source_of entry ≡ device
+  pub reached : Reaches s hs device (pos (cycle * amount s.network.cycle + amount entry.row.offset)) t
+
+-- the row's value
+pub value_is : (network : Network) (row : RowId) (entry : Entry) (cycle : ℕ) → IsEntry network row.0 entry
+    → value_of network (dispatching row cycle) ≡ pos (cycle * amount network.cycle + amount entry.row.offset)
+value_is network row entry cycle is =
+    ap (λ (o : Option Row). pos (cycle * amount network.cycle + option_map_or (λ (r : Row). amount r.offset) o 0)) is.row
+
+-- at a switch, the last record of a taking is of an earlier time, and the node's frame is that of the record
+last_at : (s : Scenario) (hs : List Happening) (device : DeviceId) (node : Node) (row : RowId) (entry : Entry) (cycle t : ℕ)
+    → IsReaching s hs device node row entry cycle t → IsForwarded s.network device row.0 entry → is_end s.network device ≡ false
+    → IsLastBy device entry.row.vl (local_before s hs device) (last_taken_frame node entry.row.vl) (last_accepted hs device entry.row.vl t)
+last_at s hs device node row entry cycle t r f switch =
+    let vl = entry.row.vl in
+    let at = local_before s hs device in
+    let sooner : (h : Happening) → IsIn h hs → is_accepted device vl h.note.body ≡ true → time_of h < t = λ h i e. elim (cases_lt (time_of h) t) [
+      | inl lt ↦ lt
+      | inr ge ↦
+          let it = accepts device vl h.note.body e in
+          let le = r.past h i in
+          absurd (none_at_value s hs device row.0 cycle t entry r.range r.rules r.steady r.founded f r.reached h it.0 it.1 it.2 i (omega (arith, ge, le)) it.3)
+    ] in
+    let same = filter_earlier (λ h. is_accepted device vl h.note.body) t hs sooner in
+    let last = last_by device vl at hs None None tt (λ h i link from of_vl of_cycle e.
+    (let bad : false ≡ true = sym switch ∙ delivered_at s hs h device link from of_vl of_cycle r.founded i e in cc)) in
+    subst (λ (l : List TakenFrame). IsLastBy device vl at (last_or None (filter (is_of vl) l)) (last_accepted hs device vl t)) (sym r.taken)
+    (subst (λ (l : List Happening). IsLastBy device vl at (last_or None (filter (is_of vl) (frames_taken s hs device))) (last_or None l)) (sym same) last)
+
+-- two ids are one device's or not
+pub sender_or : (d e : DeviceId) → (d ≡ e) ⊎ (d ≡ e → ⊥)
+sender_or d e = elim (cases_eq d.0 e.0) [
+  | inl same ↦ inl (ap (λ (n : ℕ). let x : DeviceId = record { 0 = n } in x) same)
+  | inr other ↦ inr (λ same. other (ap (λ (x : DeviceId). x.0) same))
+]
+
+-- what is at hand by the records the node has
+pub has_frame : (s : Scenario) (hs : List Happening) (device : DeviceId) (node : Node) (row : RowId) (entry : Entry) (cycle cause t : ℕ)
+    → IsReaching s hs device node row entry cycle t → OccursIn entry.vl cycle → HasAtHand s.network hs device entry t cause cycle
+    → HasFrame s.network device node row cycle
+has_frame s hs device node row entry cycle cause t r occurs (inl sender) =
+    record { entry = entry; is = r.is; leaves = r.leaves; occurs = occurs; has = inl sender.0 }
+has_frame s hs device node row entry cycle cause t r occurs (inr took) =
+    elim (sender_or entry.vl.sender device) [
+      | inl sender ↦ record { entry = entry; is = r.is; leaves = r.leaves; occurs = occurs; has = inl sender }
+      | inr other ↦
+          let f : IsForwarded s.network device row.0 entry = record { is = r.is; leaves = r.leaves; other = other } in
+          let last = subst (λ (o : Option Happening). IsLastBy device entry.row.vl (local_before s hs device) (last_taken_frame node entry.row.vl) o)
+          took.1.last (last_at s hs device node row entry cycle t r f took.0) in
+          record {
+            entry = entry;
+            is = r.is;
+            leaves = r.leaves;
+            occurs = occurs;
+            has = inr (took.0, record { last = by f (last_taken_frame node entry.row.vl) last });
+          }
+    ]
+  where
+    by : IsForwarded s.network device row.0 entry → (o : Option TakenFrame) → IsLastBy device entry.row.vl (local_before s hs device) o (Some took.1.taken)
+        → IsSomeAnd o (λ taking. (taking.cycle ≡ cycle) × (taking.at <ℤ value_of s.network (dispatching row cycle)))
+    by f None last = absurd last
+    by f (Some taking) last =
+        let body : notes.Accepted device took.1.link took.1.from entry.row.vl cycle ≡ notes.Accepted device last.0 last.1 entry.row.vl taking.cycle =
+        sym took.1.is ∙ last.2 in
+        let number : taking.cycle ≡ cycle = cc in
+        let i : IsIn took.1.taken hs = elim (last_in None (filter (λ h. is_accepted device entry.row.vl h.note.body) (earlier t hs)) took.1.taken took.1.last) [
+          | inl none ↦ absurd cc
+          | inr i ↦ in_filter _ hs took.1.taken (in_filter _ (earlier t hs) took.1.taken i)
+        ] in
+        let at = accepted_at s hs took.1.taken device took.1.link took.1.from entry.row.vl cycle r.founded i took.1.is in
+        let below = below_value s.network device row.0 cycle entry (local_before s hs device (time_of took.1.taken)) r.range r.rules f at in (
+          number,
+          subst (λ (z : ℤ). z <ℤ value_of s.network (dispatching row cycle)) (sym last.3)
+              (subst (λ (z : ℤ). local_before s hs device (time_of took.1.taken) <ℤ z) (sym (value_is s.network row entry cycle r.is)) below),
+        )
+
+-- and what the node has is at hand by them
+pub at_hand : (s : Scenario) (hs : List Happening) (device : DeviceId) (node : Node) (row : RowId) (cycle t : ℕ)
+    → (has : HasFrame s.network device node row cycle) → IsReaching s hs device node row has.entry cycle t
+    → (cause : ℕ) × HasAtHand s.network hs device has.entry t cause cycle
+at_hand s hs device node row cycle t has r =
+    elim (sender_or has.entry.vl.sender device) [
+      | inl sender ↦ (0, inl (sender, refl))
+      | inr other ↦ elim has.has [
+        | inl sender ↦ absurd (other sender)
+        | inr took ↦
+            let f : IsForwarded s.network device row.0 has.entry = record { is = r.is; leaves = r.leaves; other = other } in
+            let last = last_at s hs device node row has.entry cycle t r f took.0 in
+            by took.0 (last_taken_frame node has.entry.row.vl) took.1.last (last_accepted hs device has.entry.row.vl t) refl last
+      ]
+    ]
+  where
+    by : is_end s.network device ≡ false → (o : Option TakenFrame)
+        → IsSomeAnd o (λ taking. (taking.cycle ≡ cycle) × (taking.at <ℤ value_of s.network (dispatching row cycle)))
+        → (p : Option Happening) → last_accepted hs device has.entry.row.vl t ≡ p → IsLastBy device has.entry.row.vl (local_before s hs device) o p
+        → (cause : ℕ) × HasAtHand s.network hs device has.entry t cause cycle
+    by switch None there p e last = absurd there
+    by switch (Some taking) there None e last = absurd last
+    by switch (Some taking) there (Some h) e last =
+        let accepted : HasAccepted hs device has.entry.row.vl t h.note.number cycle = record {
+          taken = h;
+          last = e;
+          number = refl;
+          link = last.0;
+          from = last.1;
+          is = last.2 ∙ ap (λ (n : ℕ). notes.Accepted device last.0 last.1 has.entry.row.vl n) there.0;
+        } in
+        (h.note.number, inr (switch, accepted))

@@ -1,0 +1,159 @@
+-- A dispatch is a task of the device's node whose reading is reached.
+use Rattle.std.proofs.Common.{◌≡◌, ℕ, ◌+◌, ◌*◌, ◌≤◌, ℤ, pos, List, ◌∷◌, ◌++◌, Some, inl, inr, refl, sym, ap, subst, ◌∙◌}
+use Rattle.net_plan.specs.Ranges.{IsInRange}
+use Rattle.net_plan.specs.declared.ids.DeviceId.{DeviceId}
+use Rattle.net_plan.specs.declared.ids.LinkId.{LinkId}
+use Rattle.net_plan.specs.declared.ids.RowId.{RowId}
+use Rattle.net_plan.specs.declared.ids.VlId.{VlId}
+use Rattle.net_plan.specs.declared.network.Network.{Network}
+use Rattle.run_law.proofs.runs.Places.{before_later, in_parts, in_right}
+use Rattle.run_law.specs.device.LocalClocks.{Reaches}
+use Rattle.run_law.specs.machines.Nodes.{Node, dispatching}
+use Rattle.run_law.specs.machines.Tasks.{HasFrame, doing, value_of}
+use Rattle.run_law.specs.records.Happenings.{Happening, happenings, time_of}
+use Rattle.run_law.specs.records.Order.{AllBefore, IsIn}
+use Rattle.run_law.specs.records.Ranks.{place_of}
+use Rattle.run_law.specs.runs.DueRecords.{IsDue}
+use Rattle.run_law.specs.runs.Runs.{IsFounded}
+use Rattle.run_law.specs.scenario.Scenarios.{Scenario}
+use Rattle.run_law.specs.timed.Dispatching.{Dispatches, HasAtHand, IsUp}
+use Rattle.run_law.specs.declared.note.Note.{Note}
+use Rattle.schedule_tables.specs.Rules.{KeepsRules}
+use Rattle.schedule_tables.specs.declared.entry.Entry.{Entry}
+use Rattle.sync_state.specs.declared.state.State.TheVariants.{Synchronised}
+use Rattle.tte_units.specs.Amount.{amount}
+use Rattle.world_law.proofs.acts.Acting.{IsUnmoved, comes_so, undone_so}
+use Rattle.world_law.proofs.devices.OwnRecords.{state_still}
+use Rattle.world_law.proofs.devices.Passes.{not_turned_on}
+use Rattle.world_law.proofs.putting.PutIn.{split_two}
+use Rattle.world_law.proofs.rows.AtHand.{IsReaching, at_hand, has_frame, value_is}
+use Rattle.world_law.specs.device.Ready.{IsSteady}
+use Rattle.world_law.specs.device.Left.{HasDone, HasTaskBy, IsLeft}
+use Rattle.world_law.specs.device.Takings.{frames_taken}
+use Rattle.world_law.specs.world.World.{AreSettled, Stands, World}
+
+-- ---- the records given and those to come
+
+-- they are founded together
+pub whole_founded : (s : Scenario) (hs coming : List Happening) (mark cursor : List ℕ) (now : ℕ) → IsFounded place_of (IsDue s) hs → AllBefore place_of hs mark
+    → AreSettled s hs coming mark cursor now → IsFounded place_of (IsDue s) (hs ++ coming)
+whole_founded s hs coming mark cursor now founded within are ps qs x e =
+    elim (split_two ps qs x hs coming (sym e)) [
+      | inr old ↦ founded ps old.0 x old.1
+      | inl new ↦
+          let it = are.founded new.0 qs x new.2 in
+          let there : IsIn x coming = subst (λ (l : List Happening). IsIn x l) (sym new.2) (in_right x new.0 (x ∷ qs) (inl refl)) in (
+            λ y i. elim (in_parts y hs new.0 (subst (λ (l : List Happening). IsIn y l) new.1 i)) [
+              | inl given ↦ before_later (place_of y) (place_of x) mark (within y given) (are.behind_mark x there)
+              | inr fresh ↦ it.0 y fresh
+            ],
+            subst (λ (l : List Happening). IsDue s l x) (sym new.1) it.1,
+          )
+    ]
+
+-- the network is in range and keeps its rules, the device's clock is steady, and the records are founded
+pub record IsLawful (s : Scenario) (hs : List Happening) (device : DeviceId) : Type 0 where
+  pub range : IsInRange s.network
+  pub rules : KeepsRules s.network
+  pub steady : IsSteady (s.reading device) (amount s.network.precision)
+  pub founded : IsFounded place_of (IsDue s) hs
+
+-- so it is where a world stands
+pub lawful : {C M : Type 0} (reading : C → ℕ → ℕ) (stands : M → Network → DeviceId → Node → Type 0) (s : Scenario) (world : World C M) (notes : List Note)
+    (old : Stands reading stands s world notes) (device : DeviceId) → IsLawful s (happenings s.network notes ++ old.coming) device
+lawful reading stands s world notes old device = record {
+  range = old.range;
+  rules = old.rules;
+  steady = old.steady device;
+  founded = whole_founded s (happenings s.network notes) old.coming old.mark old.cursor world.now old.run.founded old.run.within old.are;
+}
+
+-- ---- the task
+
+-- the row of a dispatch
+abbrev pub row_at : ℕ → RowId
+row_at place = record { 0 = place }
+
+-- a device that dispatches a row's frame has the task to do so
+pub dispatching_task : (s : Scenario) (hs : List Happening) (device : DeviceId) (t later : ℕ) (node : Node) (link : LinkId) (cause : ℕ) (vl : VlId) (cycle : ℕ)
+    → IsUnmoved s hs device t later → IsLeft s hs device t node → HasDone s hs device t node → IsLawful s hs device
+    → ((h : Happening) → IsIn h hs → time_of h ≤ later) → node.taken ≡ frames_taken s hs device → Dispatches s hs device later link cause vl cycle
+    → HasTaskBy s device node later
+dispatching_task s hs device t later node link cause vl cycle u left has law past taken d =
+    let row = row_at d.place in
+    let value = value_is s.network row d.entry cycle d.row in
+    let reached : Reaches s hs device (value_of s.network (dispatching row cycle)) later =
+    subst (λ (z : ℤ). Reaches s hs device z later) (sym value) d.reached in
+    let c = comes_so s hs device t later node (value_of s.network (dispatching row cycle)) u left reached in
+    let state : node.standing.state ≡ Synchronised =
+    left.state ∙ not_turned_on s hs device t u.not_on ∙ sym (state_still s hs device t later u.le u.still)
+    ∙ sym (not_turned_on s hs device later u.not_on_later) ∙ d.up.synchronised in
+    let r : IsReaching s hs device node row d.entry cycle later = record {
+      range = law.range;
+      rules = law.rules;
+      steady = law.steady;
+      founded = law.founded;
+      past = past;
+      taken = taken;
+      is = d.row;
+      leaves = d.leaves;
+      reached = d.reached;
+    } in
+    let frame = has_frame s hs device node row d.entry cycle cause later r d.occurs d.at_hand in (
+      doing (dispatching row cycle),
+      (
+        left.counted.broken ∙ sym u.not_broken ∙ d.up.correct,
+        undone_so s hs device t later node (dispatching row cycle) u.le has (state, frame) c,
+      ),
+      c.reached,
+    )
+
+-- ---- and back
+
+-- a synchronised device that has a row's frame and comes to the row's value dispatches it
+pub dispatches_so : (s : Scenario) (hs : List Happening) (device : DeviceId) (t : ℕ) (node : Node) (row : RowId) (cycle : ℕ) → IsLawful s hs device
+    → ((h : Happening) → IsIn h hs → time_of h ≤ t) → node.taken ≡ frames_taken s hs device → IsUp s hs device t
+    → (has : HasFrame s.network device node row cycle) → Reaches s hs device (value_of s.network (dispatching row cycle)) t
+    → (cause : ℕ) × HasAtHand s.network hs device has.entry t cause cycle
+    × Dispatches s hs device t has.entry.row.link cause has.entry.row.vl cycle
+dispatches_so s hs device t node row cycle law past taken up has r =
+    let reached : Reaches s hs device (pos (cycle * amount s.network.cycle + amount has.entry.row.offset)) t =
+    subst (λ (z : ℤ). Reaches s hs device z t) (value_is s.network row has.entry cycle has.is) r in
+    let it = at_hand s hs device node row cycle t has (record {
+      range = law.range;
+      rules = law.rules;
+      steady = law.steady;
+      founded = law.founded;
+      past = past;
+      taken = taken;
+      is = has.is;
+      leaves = has.leaves;
+      reached = reached;
+    }) in (
+      it.0,
+      it.1,
+      record {
+        place = row.0;
+        entry = has.entry;
+        row = has.is;
+        by = refl;
+        of_vl = refl;
+        leaves = has.leaves;
+        occurs = has.occurs;
+        up = up;
+        reached = reached;
+        at_hand = it.1;
+      },
+    )
+
+-- what is at hand has one cause, at a device that is not the sender
+pub one_cause : (network : Network) (hs : List Happening) (device : DeviceId) (entry : Entry) (t cause other cycle : ℕ) → (entry.vl.sender ≡ device → ⊥)
+    → HasAtHand network hs device entry t cause cycle → HasAtHand network hs device entry t other cycle → cause ≡ other
+one_cause network hs device entry t cause other cycle not (inl sender) b = absurd (not sender.0)
+one_cause network hs device entry t cause other cycle not (inr a) (inl sender) = absurd (not sender.0)
+one_cause network hs device entry t cause other cycle not (inr a) (inr b) =
+    let one : a.1.taken ≡ b.1.taken = same_some a.1.taken b.1.taken (sym a.1.last ∙ b.1.last) in
+    a.1.number ∙ ap (λ (h : Happening). h.note.number) one ∙ sym b.1.number
+  where
+    same_some : (x y : Happening) → Some x ≡ Some y → x ≡ y
+    same_some x y e = cc

@@ -1,0 +1,279 @@
+-- What a device found of a time-triggered frame that it took: a row of its virtual link enters the device, the cycle of its
+-- clock was one from 1 on, and the place in the cycle was not behind the row's window.
+use Rattle.std.proofs.Common.{◌≡◌, ℕ, suc, ◌+◌, ◌*◌, ◌/◌, ◌%◌, ◌≤◌, ◌<◌, ℤ, pos, negsuc, ◌≤ℤ◌, int_lt, Bool, true, false, not, ◌&&◌, ◌||◌, cond, List, [], ◌∷◌, length, find, Option, Some, None, nat_le, slice_get, inl, inr, refl, sym, ap, subst, ◌∙◌, arith}
+use Rattle.std.specs.Int.{int_div_euclid, int_rem_euclid}
+use Rattle.std.specs.Option.{option_map_or}
+use Rattle.std.specs.Prelude.{◌==◌, Result, Ok, Err, option_map, option_and_then, if◌then◌else◌}
+use Rattle.std.proofs.Math.Nat.{div-add-mod, mod-lt}
+use Rattle.std.proofs.lemmas.Bool.{and_parts, cases_Bool, eq-eqb, eqb-true, leb-true, or_parts}
+use Rattle.std.proofs.lemmas.Int.{ints}
+use Rattle.net_plan.specs.Places.{link_at}
+use Rattle.net_plan.specs.declared.ids.DeviceId.{DeviceId}
+use Rattle.net_plan.specs.declared.ids.LinkId.{LinkId}
+use Rattle.net_plan.specs.declared.ids.VlId.{VlId}
+use Rattle.net_plan.specs.declared.network.Network.{Network}
+use Rattle.net_plan.specs.declared.tables.Link.{Link}
+use Rattle.net_plan.specs.declared.tables.Row.{Row}
+use Rattle.net_plan.specs.declared.tables.VirtualLink.{VirtualLink}
+use Rattle.net_plan.specs.declared.tables.Way.TheVariants.{Up, Down}
+use Rattle.net_plan.specs.declared.tables.Way.{Way}
+use Rattle.pcf_codec.specs.Fields.{field}
+use Rattle.pcf_codec.specs.declared.refusal.PcfRefusal.{PcfRefusal}
+use Rattle.pcf_values.specs.declared.pcf.Pcf.{Pcf}
+use Rattle.run_law.specs.control.Arrivals.{control_arrival, frame_fault, frame_or_fault}
+use Rattle.run_law.specs.control.Wires.{Signal, control, timed}
+use Rattle.run_law.specs.declared.judgement.Reason.{Reason}
+use Rattle.run_law.specs.declared.steps.Arrival.TheVariants as arrivals
+use Rattle.run_law.specs.declared.steps.Arrival.{Arrival}
+use Rattle.run_law.specs.device.LocalClocks.{local_before}
+use Rattle.run_law.specs.device.Standpoints.{Standpoint, clock_of, cycle_at, natural, offset_in_cycle, standpoint}
+use Rattle.run_law.specs.records.Happenings.{Happening}
+use Rattle.run_law.specs.scenario.Devices.{is_end, is_parent_of, is_relay}
+use Rattle.run_law.specs.scenario.Scenarios.{Scenario}
+use Rattle.run_law.specs.scenario.Ways.{is_way, is_way_of, receiver_of, way_to}
+use Rattle.run_law.specs.timed.Arrivals.{entry_arrival, entry_entering, entry_of, is_row_with, occurs_in, octets_fault, octets_or_fault, row_entering, row_fault, taken_or_fault, timed_arrival}
+use Rattle.run_law.specs.timed.Receptions.{ArrivesAs, arrival_of, last_taken}
+use Rattle.schedule_tables.specs.Entries.{IsEntry, target_by, target_of}
+use Rattle.schedule_tables.specs.Windows.{window_end, window_of}
+use Rattle.schedule_tables.specs.declared.entry.Entry.{Entry}
+use Rattle.tte_units.specs.declared.units.Units.{Units}
+
+-- a row of the virtual link enters the device, whose clock stood in the cycle, and not behind the row's window
+pub record IsTakenAt (network : Network) (device : DeviceId) (vl : VlId) (cycle : ℕ) (clock : ℤ) : Type 0 where
+  pub place : ℕ
+  pub entry : Entry
+  pub is : IsEntry network place entry
+  pub of_vl : entry.row.vl ≡ vl
+  pub target : target_of entry ≡ device
+  pub begun : 1 ≤ cycle
+  pub in_cycle : cycle_at network clock ≡ cycle
+  pub in_time : offset_in_cycle network clock ≤ℤ pos (window_end network entry)
+
+-- ---- the window
+
+first_fails : (b : Bool) (x : Bool × Reason) (o : Option (Bool × Reason)) → option_map (λ test. test.1) (cond b (Some x) o) ≡ None → (b ≡ false)
+    × (option_map (λ test. test.1) o ≡ None)
+first_fails true x o e = absurd cc
+first_fails false x o e = (refl, e)
+
+not_false : (x : Bool) → not x ≡ false → x ≡ true
+not_false true e = refl
+not_false false e = absurd cc
+
+not_less : (a b : ℤ) → int_lt a b ≡ false → b ≤ℤ a
+not_less a b h = grind (arith, ints)
+
+in_window : (network : Network) (at : Standpoint) (entry : Entry) (size : ℕ) (last : Option ℕ) → row_fault network at entry size last ≡ None
+    → (1 ≤ cycle_at network (clock_of at)) × (offset_in_cycle network (clock_of at) ≤ℤ pos (window_end network entry))
+in_window network at entry size last e =
+    let cycle = cycle_at network (clock_of at) in
+    let place = offset_in_cycle network (clock_of at) in
+    let one = first_fails (not (size == entry.vl.length)) _ _ e in
+    let two = first_fails (not (occurs_in entry.vl cycle) || int_lt place (window_of network entry).from.0) _ _ one.1 in
+    let three = first_fails (int_lt (window_of network entry).to.0 place) _ _ two.1 in
+    let occurs = not_false (occurs_in entry.vl cycle) (or_parts (not (occurs_in entry.vl cycle)) (int_lt place (window_of network entry).from.0) two.0).0 in
+    let begun = and_parts (nat_le 1 cycle) (cycle % entry.vl.period == entry.vl.phase) occurs in
+    (leb-true 1 cycle begun.0, not_less (window_of network entry).to.0 place three.0)
+
+-- ---- the row by which it came
+
+find_at : {X : Type 0} (p : X → Bool) (xs : List X) (x : X) → find p xs ≡ Some x → (i : ℕ) × (slice_get xs i ≡ Some x) × (p x ≡ true)
+find_at p [] x e = absurd cc
+find_at {X} p (y ∷ xs) x e =
+    elim (p y) as (λ b. p y ≡ b → cond b (Some y) (find p xs) ≡ Some x → (i : ℕ) × (slice_get (y ∷ xs) i ≡ Some x) × (p x ≡ true)) [
+      | true ↦ λ at is. (let same : y ≡ x = cc in (0, is, ap p (sym same) ∙ at))
+      | false ↦ λ at is. (let more = find_at p xs x is in (suc more.0, more.1, more.2))
+    ] refl e
+
+one_link : (a b : LinkId) → (a.0 == b.0) ≡ true → b ≡ a
+one_link a b e = ap (λ (n : ℕ). let x : LinkId = record { 0 = n } in x) (sym (eqb-true a.0 b.0 e))
+
+one_way : (a b : Way) → is_way a b ≡ true → b ≡ a
+one_way Up Up e = refl
+one_way Up Down e = absurd cc
+one_way Down Up e = absurd cc
+one_way Down Down e = refl
+
+entry_by : (o : Option VirtualLink) (p : Option Link) (row : Row) (entry : Entry)
+    → option_and_then (λ vl. option_map (λ link. record { row = row; vl = vl; link = link }) p) o ≡ Some entry → (o ≡ Some entry.vl) × (p ≡ Some entry.link)
+    × (row ≡ entry.row)
+entry_by None p row entry e = absurd cc
+entry_by (Some vl) None row entry e = absurd cc
+entry_by (Some vl) (Some link) row entry e =
+    let same : _ ≡ entry = some_same e in
+    (ap (λ (x : Entry). Some x.vl) same, ap (λ (x : Entry). Some x.link) same, ap (λ (x : Entry). x.row) same)
+  where
+    some_same : {x : Entry} → Some x ≡ Some entry → x ≡ entry
+    some_same e = cc
+
+-- the way on which a device receives by a link leads to it
+leads_to : (o : Option Link) (l : Link) (way : Way) (device : DeviceId) → o ≡ Some l → option_map (target_by way) o ≡ Some device
+    → target_by (if option_map_or (λ x. x.parent.0 == device.0) o false then Up else Down) l ≡ device
+leads_to None l way device e r = absurd cc
+leads_to (Some x) l way device e r =
+    let same : x ≡ l = cc in
+    let comes : target_by way x ≡ device = cc in
+    elim (cases_Bool (x.parent.0 == device.0)) [
+      | inl parent ↦
+          ap (λ (b : Bool). target_by (if b then Up else Down) l) parent ∙ ap (λ (y : Link). y.parent) (sym same)
+          ∙ ap (λ (n : ℕ). let d : DeviceId = record { 0 = n } in d) (eqb-true x.parent.0 device.0 parent)
+      | inr other ↦
+          ap (λ (b : Bool). target_by (if b then Up else Down) l) other ∙ ap (λ (y : Link). y.child) (sym same) ∙ child way comes other
+    ]
+  where
+    child : (way : Way) → target_by way x ≡ device → (x.parent.0 == device.0) ≡ false → x.child ≡ device
+    child Up comes other =
+        absurd (let bad : true ≡ false = sym (eq-eqb x.parent.0 device.0 (ap (λ (d : DeviceId). d.0) comes)) ∙ other in cc)
+    child Down comes other = comes
+
+-- a row by which a frame enters a device where it is received is of the schedule, and enters the device
+pub record IsEntering (network : Network) (device : DeviceId) (entry : Entry) : Type 0 where
+  pub place : ℕ
+  pub is : IsEntry network place entry
+  pub target : target_of entry ≡ device
+
+entering : (network : Network) (device : DeviceId) (link : LinkId) (way : Way) (id : ℕ) (entry : Entry) → receiver_of network link way ≡ Some device
+    → entry_entering network device link id ≡ Some entry → IsEntering network device entry
+entering network device link way id entry received e = by (row_entering network device link id) refl e
+  where
+    by : (o : Option Row) → row_entering network device link id ≡ o → option_and_then (entry_of network) o ≡ Some entry → IsEntering network device entry
+    by None found e = absurd cc
+    by (Some row) found e =
+        let at = find_at (λ (r : Row). is_way_of link (way_to network device link) r.link r.way && is_row_with network id r) network.row row found in
+        let parts = entry_by (slice_get network.vl row.vl.0) (link_at network row.link) row entry e in
+        let tests = and_parts (is_way_of link (way_to network device link) row.link row.way) (is_row_with network id row) at.2 in
+        let ways = and_parts (link.0 == row.link.0) (is_way (way_to network device link) row.way) tests.0 in
+        let same = parts.2 in
+        let by_link : row.link ≡ link = one_link link row.link ways.0 in
+        let there : link_at network link ≡ Some entry.link = ap (link_at network) (sym by_link) ∙ parts.1 in
+        let on_way : entry.row.way ≡ way_to network device link = ap (λ (r : Row). r.way) (sym same) ∙ one_way (way_to network device link) row.way ways.1 in
+        record {
+          place = at.0;
+          is = record {
+            row = at.1 ∙ ap (λ (r : Row). Some r) same;
+            vl = ap (λ (r : Row). slice_get network.vl r.vl.0) (sym same) ∙ parts.0;
+            link = ap (λ (r : Row). slice_get network.link r.link.0) (sym same) ∙ parts.1;
+          };
+          target = ap (λ (w : Way). target_by w entry.link) on_way ∙ leads_to (link_at network link) entry.link way device there received;
+        }
+
+-- ---- control frames are not taken
+
+taken_apart : (end : Bool) (own vl : VlId) (number cycle : ℕ)
+    → (if end then arrivals.Delivered own number else arrivals.Accepted own number) ≡ arrivals.Accepted vl cycle → (own ≡ vl) × (number ≡ cycle)
+taken_apart true own vl number cycle e = absurd cc
+taken_apart false own vl number cycle e = (cc, cc)
+
+delivered_apart : (end : Bool) (own vl : VlId) (number cycle : ℕ)
+    → (if end then arrivals.Delivered own number else arrivals.Accepted own number) ≡ arrivals.Delivered vl cycle → end ≡ true
+delivered_apart true own vl number cycle e = refl
+delivered_apart false own vl number cycle e = absurd cc
+
+-- the arrival is no taking of a frame
+abbrev IsNone : Arrival → Type 0
+IsNone a = ((vl : VlId) (cycle : ℕ) → a ≡ arrivals.Accepted vl cycle → ⊥) × ((vl : VlId) (cycle : ℕ) → a ≡ arrivals.Delivered vl cycle → ⊥)
+
+none_passed : (relay parent : Bool) (frame : Pcf) (point : Units)
+    → IsNone (if relay then (if parent then arrivals.Passes frame Up else arrivals.PassesAndWaits frame Down point) else arrivals.Waits frame point)
+none_passed true true frame point = ((λ vl cycle e. cc), (λ vl cycle e. cc))
+none_passed true false frame point = ((λ vl cycle e. cc), (λ vl cycle e. cc))
+none_passed false parent frame point = ((λ vl cycle e. cc), (λ vl cycle e. cc))
+
+none_dropped : (reason : Reason) → IsNone (arrivals.Dropped reason)
+none_dropped reason = ((λ vl cycle e. cc), (λ vl cycle e. cc))
+
+none_judged : (network : Network) (device : DeviceId) (link : LinkId) (at : Standpoint) (frame : Pcf) (fault : Option Reason)
+    → IsNone (frame_or_fault network device link at frame fault)
+none_judged network device link at frame (Some reason) = none_dropped reason
+none_judged network device link at frame None = none_passed (is_relay network device) (is_parent_of network device link) _ _
+
+none_control : (network : Network) (device : DeviceId) (link : LinkId) (at : Standpoint) (frame : Result Pcf PcfRefusal)
+    → IsNone (control_arrival network device link at frame)
+none_control network device link at (Err refusal) = none_dropped _
+none_control network device link at (Ok frame) = none_judged network device link at frame (frame_fault network device link at frame)
+
+-- ---- what is taken
+
+accepted_so : (network : Network) (device : DeviceId) (link : LinkId) (way : Way) (at : Standpoint) (octets : List ℕ) (last : VlId → Option ℕ) (vl : VlId)
+    (cycle : ℕ) → receiver_of network link way ≡ Some device → timed_arrival network device link at octets last ≡ arrivals.Accepted vl cycle
+    → IsTakenAt network device vl cycle (clock_of at)
+accepted_so network device link way at octets last vl cycle received takes = by (octets_fault network at octets) takes
+  where
+    by_row : (entry : Entry) → entry_entering network device link (field 4 2 octets) ≡ Some entry → (o : Option Reason)
+        → row_fault network at entry (length octets) (last entry.row.vl) ≡ o → taken_or_fault network device at entry o ≡ arrivals.Accepted vl cycle
+        → IsTakenAt network device vl cycle (clock_of at)
+    by_row entry found (Some reason) e t = absurd ((none_dropped reason).0 vl cycle t)
+    by_row entry found None e t =
+        let so = taken_apart (is_end network device) entry.row.vl vl (cycle_at network (clock_of at)) cycle t in
+        let it = entering network device link way (field 4 2 octets) entry received found in
+        let lies = in_window network at entry (length octets) (last entry.row.vl) e in
+        record {
+          place = it.place;
+          entry = entry;
+          is = it.is;
+          of_vl = so.0;
+          target = it.target;
+          begun = subst (λ (n : ℕ). 1 ≤ n) so.1 lies.0;
+          in_cycle = so.1;
+          in_time = lies.1;
+        }
+
+    by_entry : (o : Option Entry) → entry_entering network device link (field 4 2 octets) ≡ o
+        → entry_arrival network device at (length octets) last o ≡ arrivals.Accepted vl cycle → IsTakenAt network device vl cycle (clock_of at)
+    by_entry None found t = absurd ((none_dropped _).0 vl cycle t)
+    by_entry (Some entry) found t = by_row entry found (row_fault network at entry (length octets) (last entry.row.vl)) refl t
+
+    by : (o : Option Reason) → octets_or_fault network device link at octets last o ≡ arrivals.Accepted vl cycle
+        → IsTakenAt network device vl cycle (clock_of at)
+    by (Some reason) t = absurd ((none_dropped reason).0 vl cycle t)
+    by None t = by_entry (entry_entering network device link (field 4 2 octets)) refl t
+
+delivered_so : (network : Network) (device : DeviceId) (link : LinkId) (at : Standpoint) (octets : List ℕ) (last : VlId → Option ℕ) (vl : VlId) (cycle : ℕ)
+    → timed_arrival network device link at octets last ≡ arrivals.Delivered vl cycle → is_end network device ≡ true
+delivered_so network device link at octets last vl cycle takes = by (octets_fault network at octets) takes
+  where
+    by_row : (entry : Entry) (o : Option Reason) → taken_or_fault network device at entry o ≡ arrivals.Delivered vl cycle → is_end network device ≡ true
+    by_row entry (Some reason) t = absurd ((none_dropped reason).1 vl cycle t)
+    by_row entry None t = delivered_apart (is_end network device) entry.row.vl vl _ cycle t
+
+    by_entry : (o : Option Entry) → entry_arrival network device at (length octets) last o ≡ arrivals.Delivered vl cycle → is_end network device ≡ true
+    by_entry None t = absurd ((none_dropped _).1 vl cycle t)
+    by_entry (Some entry) t = by_row entry (row_fault network at entry (length octets) (last entry.row.vl)) t
+
+    by : (o : Option Reason) → octets_or_fault network device link at octets last o ≡ arrivals.Delivered vl cycle → is_end network device ≡ true
+    by (Some reason) t = absurd ((none_dropped reason).1 vl cycle t)
+    by None t = by_entry (entry_entering network device link (field 4 2 octets)) t
+
+-- a switch that accepts a frame found so
+pub taken_at : (s : Scenario) (front : List Happening) (device : DeviceId) (t : ℕ) (link : LinkId) (cause : ℕ) (vl : VlId) (cycle : ℕ)
+    → ArrivesAs s front device t link cause (arrivals.Accepted vl cycle) → IsTakenAt s.network device vl cycle (local_before s front device t)
+taken_at s front device t link cause vl cycle a = by a.signal a.arrives.receiver a.becomes
+  where
+    by : (signal : Signal) → receiver_of s.network link a.arrives.way ≡ Some device
+        → arrivals.Accepted vl cycle ≡ arrival_of s front device t link cause signal
+        → IsTakenAt s.network device vl cycle (local_before s front device t)
+    by (control frame) received e = absurd ((none_control s.network device link (standpoint s front device t) frame).0 vl cycle (sym e))
+    by (timed octets) received e =
+        accepted_so s.network device link a.arrives.way (standpoint s front device t) octets (last_taken front device t link cause) vl cycle received (sym e)
+
+-- and what is delivered is so to an end system
+pub delivered_end : (s : Scenario) (front : List Happening) (device : DeviceId) (t : ℕ) (link : LinkId) (cause : ℕ) (vl : VlId) (cycle : ℕ)
+    → ArrivesAs s front device t link cause (arrivals.Delivered vl cycle) → is_end s.network device ≡ true
+delivered_end s front device t link cause vl cycle a = by a.signal a.becomes
+  where
+    by : (signal : Signal) → arrivals.Delivered vl cycle ≡ arrival_of s front device t link cause signal
+        → is_end s.network device ≡ true
+    by (control frame) e = absurd ((none_control s.network device link (standpoint s front device t) frame).1 vl cycle (sym e))
+    by (timed octets) e =
+        delivered_so s.network device link (standpoint s front device t) octets (last_taken front device t link cause) vl cycle (sym e)
+
+-- ---- the value that the clock showed
+
+-- a value in a cycle from 1 on
+pub value_in : (z : ℤ) (size cycle : ℕ) → 1 ≤ size → 1 ≤ cycle → natural (int_div_euclid z (pos size)) ≡ cycle → (place : ℕ) × (place < size)
+    × (z ≡ pos (cycle * size + place)) × (int_rem_euclid z (pos size) ≡ pos place)
+value_in (pos a) size cycle some begun e =
+    let parts = div-add-mod a size in
+    let turned : size * (a / size) ≡ cycle * size = ap (λ (n : ℕ). size * n) e ∙ omega arith in
+    (a % size, mod-lt a {m = size} some, ap (λ (n : ℕ). pos n) (omega (arith, parts, turned)), refl)
+value_in (negsuc a) size cycle some begun e = absurd (let none : 0 ≡ cycle = e in omega (arith, none, begun))

@@ -1,0 +1,198 @@
+-- A device's clock reaches a value: what it shows then, and what it has taken by then.
+use Rattle.std.proofs.Common.{◌≡◌, ℕ, suc, ◌+◌, ◌-◌, ◌*◌, ◌≤◌, ◌<◌, ℤ, pos, ◌+ℤ◌, ◌-ℤ◌, ◌≤ℤ◌, ◌<ℤ◌, true, List, ◌∷◌, inl, inr, sym, ap, subst, ◌∙◌, arith}
+use Rattle.std.proofs.Math.Nat.{mul-le-mul_right}
+use Rattle.std.specs.Int.{int_div_euclid, int_rem_euclid}
+use Rattle.std.proofs.lemmas.Bool.{cases_lt}
+use Rattle.std.proofs.lemmas.Int.{ints}
+use Rattle.net_plan.specs.Ranges.{IsInRange}
+use Rattle.net_plan.specs.declared.ids.DeviceId.{DeviceId}
+use Rattle.net_plan.specs.declared.ids.VlId.{VlId}
+use Rattle.net_plan.specs.declared.network.Network.{Network}
+use Rattle.run_law.proofs.law.FirstPlaces.{IsFoundedAt, founded_at}
+use Rattle.run_law.specs.device.LocalClocks.{Reaches, changed_at, local_before}
+use Rattle.run_law.specs.device.Standpoints.{natural, offset_in_cycle}
+use Rattle.run_law.specs.device.States.{adjustment_after, adjustment_before}
+use Rattle.run_law.specs.records.Happenings.{Happening, earlier, time_of}
+use Rattle.run_law.specs.records.Order.{IsIn}
+use Rattle.run_law.specs.records.Ranks.{place_of}
+use Rattle.run_law.specs.runs.DueRecords.{IsCaused, IsDue}
+use Rattle.run_law.specs.runs.Runs.{IsFounded}
+use Rattle.run_law.specs.scenario.Devices.{is_end}
+use Rattle.run_law.specs.scenario.Scenarios.{Scenario}
+use Rattle.run_law.specs.declared.note.NoteBody.TheVariants as notes
+use Rattle.schedule_tables.specs.Entries.{IsEntry, source_of}
+use Rattle.schedule_tables.specs.Rules.{KeepsRules}
+use Rattle.schedule_tables.specs.Windows.{window_end}
+use Rattle.schedule_tables.specs.declared.entry.Entry.{Entry}
+use Rattle.schedule_tables.specs.declared.rule.Rule.TheVariants.{Forwarding, WindowEnds}
+use Rattle.tte_units.specs.Amount.{amount}
+use Rattle.world_law.proofs.acts.Ready.{natural as not_negative}
+use Rattle.world_law.proofs.devices.Resting.{in_time_of}
+use Rattle.world_law.proofs.rows.Entered.{IsTakenAt, delivered_end, taken_at, value_in}
+use Rattle.world_law.proofs.runs.SourcesBack.{earlier_still}
+use Rattle.world_law.specs.device.Ready.{IsSteady}
+
+-- ---- what the clock shows where it reaches a value
+
+-- it shows the value, or more by less than the precision
+pub record ShowsAt (z v : ℤ) (precision : ℕ) : Type 0 where
+  pub least : v ≤ℤ z
+  pub most : z <ℤ (v +ℤ pos precision)
+
+shown_so : (v a : ℤ) (r q precision : ℕ) → (v -ℤ a) ≤ℤ pos r → pos q <ℤ (v -ℤ a) → r < q + precision → ShowsAt (pos r +ℤ a) v precision
+shown_so v a r q precision reached before jump = record {
+  least = omega (arith, ints, reached);
+  most = omega (arith, ints, before, jump);
+}
+
+-- so it does where its clock reaches the value
+pub shows_at : (s : Scenario) (hs : List Happening) (device : DeviceId) (v : ℤ) (t precision : ℕ) → IsSteady (s.reading device) precision
+    → Reaches s hs device v t → ShowsAt (local_before s hs device t) v precision
+shows_at s hs device v t precision steady r =
+    let c = changed_at hs device t in
+    let a = (adjustment_before s hs device t).0 in
+    let from = r.reach.from_on in
+    let reached : (v -ℤ a) ≤ℤ pos (s.reading device t) = r.reach.reached in
+    elim (cases_lt c t) [
+      | inr ge ↦
+          let same : c ≡ t = omega (arith, ints, from, ge) in
+          let below : (pos (s.reading device t) +ℤ a) <ℤ v = subst (λ (n : ℕ). (pos (s.reading device n) +ℤ a) <ℤ v) same r.below in
+          absurd (omega (arith, ints, reached, below))
+      | inl lt ↦
+          let before = r.reach.not_before (t - 1) (omega (arith, ints, lt)) (omega (arith, ints, lt)) in
+          let again : t - 1 + 1 ≡ t = omega (arith, lt) in
+          let jump = subst (λ (n : ℕ). s.reading device n < s.reading device (t - 1) + precision) again (steady.no_jump (t - 1)) in
+          shown_so v a (s.reading device t) (s.reading device (t - 1)) precision reached before jump
+    ]
+
+-- ---- the records of takings
+
+-- the adjustment before the time of a record, by the records before it
+same_clock : (s : Scenario) (hs : List Happening) (h : Happening) (device : DeviceId) → IsFounded place_of (IsDue s) hs → (at : IsFoundedAt s hs h)
+    → local_before s at.front device (time_of h) ≡ local_before s hs device (time_of h)
+same_clock s hs h device founded at =
+    let later : (g : Happening) → IsIn g (h ∷ at.rest) → time_of h ≤ time_of g = λ g i. elim i [
+      | inl e ↦ let same : time_of g ≡ time_of h = ap time_of e in omega (arith, same)
+      | inr more ↦ in_time_of s hs founded at.front at.rest h at.whole g more
+    ] in
+    ap (λ (l : List Happening). pos (s.reading device (time_of h)) +ℤ (adjustment_after s l device).0)
+    (sym (earlier_still (time_of h) at.front (h ∷ at.rest) later) ∙ ap (earlier (time_of h)) (sym at.whole))
+
+-- a frame that was accepted came in the window of a row that enters the device
+pub accepted_at : (s : Scenario) (hs : List Happening) (h : Happening) (device : DeviceId) (link : _) (cause : ℕ) (vl : VlId) (cycle : ℕ)
+    → IsFounded place_of (IsDue s) hs → IsIn h hs → h.note.body ≡ notes.Accepted device link cause vl cycle
+    → IsTakenAt s.network device vl cycle (local_before s hs device (time_of h))
+accepted_at s hs h device link cause vl cycle founded i body =
+    let at = founded_at s hs h founded i in
+    let caused : IsCaused s at.front h.note.time (notes.Accepted device link cause vl cycle) = subst (IsCaused s at.front h.note.time) body at.due.cause in
+    subst (λ (z : ℤ). IsTakenAt s.network device vl cycle z) (same_clock s hs h device founded at)
+    (taken_at s at.front device (time_of h) link cause vl cycle caused)
+
+-- and one that was delivered came to an end system
+pub delivered_at : (s : Scenario) (hs : List Happening) (h : Happening) (device : DeviceId) (link : _) (cause : ℕ) (vl : VlId) (cycle : ℕ)
+    → IsFounded place_of (IsDue s) hs → IsIn h hs → h.note.body ≡ notes.Delivered device link cause vl cycle → is_end s.network device ≡ true
+delivered_at s hs h device link cause vl cycle founded i body =
+    let at = founded_at s hs h founded i in
+    let caused : IsCaused s at.front h.note.time (notes.Delivered device link cause vl cycle) = subst (IsCaused s at.front h.note.time) body at.due.cause in
+    delivered_end s at.front device (time_of h) link cause vl cycle caused
+
+-- ---- cycles
+
+-- a cycle of a network is not empty
+pub cycle_is : (network : Network) → IsInRange network → (network.cycle.0 ≡ pos (amount network.cycle)) × (1 ≤ amount network.cycle)
+cycle_is network range =
+    let least = range.cycle.least in
+    let whole : network.cycle.0 ≡ pos (amount network.cycle) = not_negative network.cycle.0 (omega (arith, ints, least)) in
+    (whole, omega (arith, ints, least, whole))
+
+-- what a taking says of the clock
+pub record IsShownAt (network : Network) (entry : Entry) (cycle : ℕ) (z : ℤ) : Type 0 where
+  pub place : ℕ
+  pub shows : z ≡ pos (cycle * amount network.cycle + place)
+  pub less : place < amount network.cycle
+  pub in_time : place ≤ window_end network entry
+
+-- so a taking does
+pub shown_at : (network : Network) (device : DeviceId) (vl : VlId) (cycle : ℕ) (z : ℤ) → IsInRange network → (it : IsTakenAt network device vl cycle z)
+    → IsShownAt network it.entry cycle z
+shown_at network device vl cycle z range it =
+    let sized = cycle_is network range in
+    let number : natural (int_div_euclid z (pos (amount network.cycle))) ≡ cycle =
+    ap (λ (y : ℤ). natural (int_div_euclid z y)) (sym sized.0) ∙ it.in_cycle in
+    let v = value_in z (amount network.cycle) cycle sized.1 it.begun number in
+    let place : offset_in_cycle network z ≡ pos v.0 = ap (int_rem_euclid z) sized.0 ∙ v.3 in
+    let close = it.in_time in
+    record {
+      place = v.0;
+      shows = v.2;
+      less = v.1;
+      in_time = omega (arith, ints, close, place);
+    }
+
+-- of two cycles the later begins where the earlier has ended
+pub cycles_apart : (a b size : ℕ) → a < b → a * size + size ≤ b * size
+cycles_apart a b size lt =
+    let more : suc a ≤ b = omega (arith, lt) in
+    let grown = mul-le-mul_right {m = suc a} {n = b} size more in
+    let next : suc a * size ≡ a * size + size = omega arith in
+    omega (arith, grown, next)
+
+-- so a value between the ends of one is of that one
+pub same_cycle : (a b size place off : ℕ) → place < size → off < size → a * size + place ≡ b * size + off → a ≡ b
+same_cycle a b size place off p o e =
+    elim (cases_lt a b) [
+      | inl lt ↦ let apart = cycles_apart a b size lt in absurd (omega (arith, apart, e, p))
+      | inr ge ↦ elim (cases_lt b a) [
+        | inl gt ↦ let apart = cycles_apart b a size gt in absurd (omega (arith, apart, e, o))
+        | inr le ↦ omega (arith, ge, le)
+      ]
+    ]
+
+-- ---- a row that leaves a switch
+
+-- a row leaves the device, which is not the sender of its virtual link
+pub record IsForwarded (network : Network) (device : DeviceId) (place : ℕ) (entry : Entry) : Type 0 where
+  pub is : IsEntry network place entry
+  pub leaves : source_of entry ≡ device
+  pub other : entry.vl.sender ≡ device → ⊥
+
+-- what was taken in the cycle was taken below the row's value in the cycle
+pub below_value : (network : Network) (device : DeviceId) (place cycle : ℕ) (entry : Entry) (z : ℤ) → IsInRange network → KeepsRules network
+    → IsForwarded network device place entry → IsTakenAt network device entry.row.vl cycle z
+    → z <ℤ pos (cycle * amount network.cycle + amount entry.row.offset)
+below_value network device place cycle entry z range rules f it =
+    let shown = shown_at network device entry.row.vl cycle z range it in
+    let behind = (rules Forwarding place).from_switch it.place it.entry entry it.is f.is (sym it.of_vl) (λ e. f.other (sym e ∙ f.leaves))
+    (it.target ∙ sym f.leaves) in
+    omega (arith, ints, shown.shows, shown.in_time, behind)
+
+-- a row's window ends in the cycle, with room for the precision
+pub row_ends : (network : Network) (place : ℕ) (entry : Entry) → KeepsRules network → IsEntry network place entry
+    → amount entry.row.offset + 4 * amount network.precision ≤ amount network.cycle
+row_ends network place entry rules is = let ends = rules WindowEnds place entry is in omega (arith, ends)
+
+-- where the clock reaches the row's value in a cycle, it takes no frame of the virtual link
+pub none_at_value : (s : Scenario) (hs : List Happening) (device : DeviceId) (place cycle t : ℕ) (entry : Entry) → IsInRange s.network → KeepsRules s.network
+    → IsSteady (s.reading device) (amount s.network.precision) → IsFounded place_of (IsDue s) hs → IsForwarded s.network device place entry
+    → Reaches s hs device (pos (cycle * amount s.network.cycle + amount entry.row.offset)) t
+    → (h : Happening) (link : _) (cause of_cycle : ℕ) → IsIn h hs → time_of h ≡ t → h.note.body ≡ notes.Accepted device link cause entry.row.vl of_cycle → ⊥
+none_at_value s hs device place cycle t entry range rules steady founded f r h link cause of_cycle i at body =
+    let n = s.network in
+    let z = local_before s hs device t in
+    let it : IsTakenAt n device entry.row.vl of_cycle z = subst (λ (u : ℕ). IsTakenAt n device entry.row.vl of_cycle (local_before s hs device u)) at
+    (accepted_at s hs h device link cause entry.row.vl of_cycle founded i body) in
+    let shown = shown_at n device entry.row.vl of_cycle z range it in
+    let shows = shows_at s hs device (pos (cycle * amount n.cycle + amount entry.row.offset)) t (amount n.precision) steady r in
+    let ends = row_ends n place entry rules f.is in
+    let sized = cycle_is n range in
+    let off = shown.place + of_cycle * amount n.cycle - cycle * amount n.cycle in
+    let least : cycle * amount n.cycle + amount entry.row.offset ≤ of_cycle * amount n.cycle + shown.place = omega
+    (arith, ints, shows.least, shown.shows) in
+    let most : of_cycle * amount n.cycle + shown.place < cycle * amount n.cycle + amount entry.row.offset + amount n.precision = omega
+    (arith, ints, shows.most, shown.shows) in
+    let same : of_cycle ≡ cycle = same_cycle of_cycle cycle (amount n.cycle) shown.place off shown.less (omega (arith, least, most, ends, sized.1)) (omega
+    (arith, least)) in
+    let low = below_value n device place of_cycle entry z range rules f it in
+    let moved : z <ℤ pos (cycle * amount n.cycle + amount entry.row.offset) = subst (λ (c : ℕ). z <ℤ pos (c * amount n.cycle + amount entry.row.offset)) same
+    low in
+    omega (arith, ints, shows.least, moved)

@@ -1,0 +1,10 @@
+-- Each record of a run has a source, and the run goes on by what is settled, or by an event.
+pub mod Next
+pub mod Sourced
+pub mod Firsts
+pub mod Worlds
+pub mod Agreement
+pub mod SameCauses
+pub mod Applies
+pub mod SourcesBack
+pub mod Foremost

@@ -1,0 +1,188 @@
+-- What is due at a time is so in each scenario that agrees up to then.
+use Rattle.std.proofs.Common.{◌≡◌, ℕ, zero, suc, ◌+◌, ◌-◌, ◌≤◌, ◌<◌, ℤ, pos, ◌+ℤ◌, ◌<ℤ◌, ◌≤ℤ◌, Bool, true, false, not, ◌&&◌, ◌||◌, ◌==◌, if◌then◌else◌, int_lt, int_le, List, [], ◌∷◌, Option, Some, None, filter, filter_map, drop, IfSome, inl, inr, refl, sym, ap, subst, ◌∙◌, arith}
+use Rattle.std.specs.Prelude.{nat_lt, nat_le}
+use Rattle.std.specs.List.{list_any, after_last, last_or}
+use Rattle.std.specs.Option.{option_map_or, unwrap_or}
+use Rattle.std.proofs.lemmas.Bool.{and_parts, both_ways, cases_Bool, cases_lt, eqb-true, false_from_ne_true, le-leb, le-ltb, lt-ltb}
+use Rattle.std.proofs.lemmas.Int.{ints}
+use Rattle.drift_clock.specs.Reach.{IsReach}
+use Rattle.membership.specs.Summary.{Summarizes}
+use Rattle.net_plan.specs.declared.event.Event.{Event}
+use Rattle.net_plan.specs.declared.event.What.{What}
+use Rattle.net_plan.specs.declared.ids.DeviceId.{DeviceId}
+use Rattle.net_plan.specs.declared.network.Network.{Network}
+use Rattle.run_law.proofs.law.FirstPlaces.{in_filter}
+use Rattle.run_law.specs.device.LocalClocks.{Reaches, changed_at, changes_adjustment, local_at_change}
+use Rattle.run_law.specs.control.Corrections.{ComesToCorrection, correction_value, has_cleared, hearing_by, heard_since, is_integration_cycle, next_cycle, recorded_cycle, standing_before}
+use Rattle.run_law.specs.timed.Dispatching.{Sends}
+use Rattle.run_law.specs.records.Happenings.{Happening, earlier, time_of}
+use Rattle.run_law.specs.scenario.Hypothesis.{breaks_at}
+use Rattle.run_law.specs.records.Order.{IsIn}
+use Rattle.run_law.specs.scenario.Scenarios.{is_broken, is_turned_on_at, last_set, turns_on}
+use Rattle.run_law.specs.device.States.{adjustment_before, state_after, state_before}
+use Rattle.sync_state.specs.Standing.{Standing, next_point}
+use Rattle.sync_state.specs.Verdicts.{HasVerdict}
+use Rattle.sync_state.specs.declared.answers.Verdict.{Verdict}
+use Rattle.sync_state.specs.declared.state.State.TheVariants.{Integrating}
+use Rattle.sync_state.specs.declared.state.State.{State}
+use Rattle.tte_units.specs.Amount.{amount}
+use Rattle.world_law.proofs.lists.Lists.{filter_same}
+use Rattle.world_law.specs.source.Agreeing.{Agree, scenario}
+
+-- ---- the events
+
+pub setting_same : {V : Type 0} (n : Network) (f g : DeviceId → ℕ → ℕ) (events more : List Event) (t u : ℕ) (setting : What → Option V) (initial : V)
+    → Agree n f g events more t → u ≤ t
+    → last_set (scenario n f events) setting initial u ≡ last_set (scenario n g more) setting initial u
+setting_same n f g events more t u setting initial a le =
+    ap (λ (l : List Event). unwrap_or (last_or None (filter_map (λ e. setting e.what) l)) initial) (a.befell u le)
+
+pub broken_same : (n : Network) (f g : DeviceId → ℕ → ℕ) (events more : List Event) (t u : ℕ) (device : DeviceId) → Agree n f g events more t → u ≤ t
+    → is_broken (scenario n f events) device u ≡ is_broken (scenario n g more) device u
+broken_same n f g events more t u device a le = ap (λ (l : List Event). list_any (λ e. breaks_at device.0 e.what) l) (a.befell u le)
+
+any_kept : {X : Type 0} (p q : X → Bool) (xs : List X) → ((x : X) → p x ≡ true → q x ≡ true) → list_any p xs ≡ list_any p (filter q xs)
+any_kept p q [] keeps = refl
+any_kept {X} p q (x ∷ xs) keeps =
+    elim (cases_Bool (q x)) [
+      | inl kept ↦ ap (λ (b : Bool). p x || b) (any_kept p q xs keeps) ∙ sym (ap (λ (b : Bool). list_any p (if b then x ∷ filter q xs else filter q xs)) kept)
+      | inr left ↦
+          let fails : p x ≡ false = false_from_ne_true (p x) (λ e. both_ways (q x) left (keeps x e)) in
+          ap (λ (b : Bool). b || list_any p xs) fails ∙ any_kept p q xs keeps
+          ∙ sym (ap (λ (b : Bool). list_any p (if b then x ∷ filter q xs else filter q xs)) left)
+    ]
+
+at_time : (b : Bool) (a t : ℕ) → (b && a == t) ≡ true → nat_le a t ≡ true
+at_time b a t e = let same = eqb-true a t (and_parts b (a == t) e).1 in le-leb a t (omega (arith, same))
+
+pub turned_on_same : (n : Network) (f g : DeviceId → ℕ → ℕ) (events more : List Event) (t u : ℕ) (device : DeviceId) → Agree n f g events more t → u ≤ t
+    → is_turned_on_at (scenario n f events) device u ≡ is_turned_on_at (scenario n g more) device u
+turned_on_same n f g events more t u device a le =
+    let p = λ (e : Event). turns_on device e.what && amount e.time == u in
+    let q = λ (e : Event). nat_le (amount e.time) u in
+    let keeps : (x : Event) → p x ≡ true → q x ≡ true = λ x yes_it. at_time (turns_on device x.what) (amount x.time) u yes_it in
+    any_kept p q events keeps ∙ ap (list_any p) (a.befell u le) ∙ sym (any_kept p q more keeps)
+
+pub state_same : (n : Network) (f g : DeviceId → ℕ → ℕ) (events more : List Event) (hs : List Happening) (t u : ℕ) (device : DeviceId)
+    → Agree n f g events more t → u ≤ t → state_before (scenario n f events) hs device u ≡ state_before (scenario n g more) hs device u
+state_same n f g events more hs t u device a le =
+    ap (λ (b : Bool). if b then Integrating else state_after (scenario n f events) (earlier u hs) device) (turned_on_same n f g events more t u device a le)
+
+-- ---- the times of changes
+
+last_within : (o : Option Happening) (xs : List Happening) (u : ℕ) → IfSome o (λ h. time_of h ≤ u) → ((h : Happening) → IsIn h xs → time_of h ≤ u)
+    → option_map_or time_of (last_or o xs) 0 ≤ u
+last_within None [] u first all = omega arith
+last_within (Some h) [] u first all = first
+last_within o (x ∷ xs) u first all = last_within (Some x) xs u (all x (inl refl)) (λ h i. all h (inr i))
+
+in_earlier : (u : ℕ) (hs : List Happening) (h : Happening) → IsIn h (earlier u hs) → time_of h < u
+in_earlier u [] h i = absurd i
+in_earlier u (x ∷ hs) h i =
+    elim (cases_lt (time_of x) u) [
+      | inl lt ↦
+          elim (subst (λ (l : List Happening). IsIn h l) (ap (λ (b : Bool). if b then x ∷ earlier u hs else earlier u hs) (lt-ltb (time_of x) u lt)) i) [
+            | inl e ↦ subst (λ (y : Happening). time_of y < u) (sym e) lt
+            | inr rest ↦ in_earlier u hs h rest
+          ]
+      | inr ge ↦ in_earlier u hs h
+          (subst (λ (l : List Happening). IsIn h l) (ap (λ (b : Bool). if b then x ∷ earlier u hs else earlier u hs) (le-ltb (time_of x) u ge)) i)
+    ]
+
+-- the last change before a time is not after it
+pub changed_before : (hs : List Happening) (device : DeviceId) (u : ℕ) → changed_at hs device u ≤ u
+changed_before hs device u =
+    last_within None (filter (λ h. changes_adjustment device h.note.body) (earlier u hs)) u tt
+    (λ h i. let lt = in_earlier u hs h (in_filter _ (earlier u hs) h i) in omega (arith, lt))
+
+pub local_same : (n : Network) (f g : DeviceId → ℕ → ℕ) (events more : List Event) (hs : List Happening) (t u : ℕ) (device : DeviceId)
+    → Agree n f g events more t → u ≤ t → local_at_change (scenario n f events) hs device u ≡ local_at_change (scenario n g more) hs device u
+local_same n f g events more hs t u device a le =
+    let before = changed_before hs device u in
+    ap (λ (m : ℕ). pos m +ℤ (adjustment_before (scenario n f events) hs device u).0) (a.reads device (changed_at hs device u) (omega (arith, before, le)))
+
+pub cleared_same : (n : Network) (f g : DeviceId → ℕ → ℕ) (events more : List Event) (hs : List Happening) (t u by : ℕ) (device : DeviceId)
+    → Agree n f g events more t → u ≤ t → by ≤ t → has_cleared (scenario n f events) hs device u by ≡ has_cleared (scenario n g more) hs device u by
+cleared_same n f g events more hs t u by device a le sooner =
+    let v = correction_value n (recorded_cycle (earlier u hs) device) in
+    let adj = (adjustment_before (scenario n f events) hs device u).0 in
+    ap (λ (z : ℤ). is_integration_cycle (earlier u hs) device && (int_lt z v && int_le v (pos (f device (by - 1)) +ℤ adj)))
+    (local_same n f g events more hs t u device a le)
+    ∙ ap (λ (m : ℕ). is_integration_cycle (earlier u hs) device && (int_lt (local_at_change (scenario n g more) hs device u) v && int_le v (pos m +ℤ adj)))
+    (a.reads device (by - 1) (omega (arith, sooner)))
+
+pub next_same : (n : Network) (f g : DeviceId → ℕ → ℕ) (events more : List Event) (hs : List Happening) (t u : ℕ) (device : DeviceId)
+    → Agree n f g events more t → u ≤ t → next_cycle (scenario n f events) hs device u ≡ next_cycle (scenario n g more) hs device u
+next_same n f g events more hs t u device a le =
+    ap (λ (b : Bool). if b then recorded_cycle (earlier u hs) device + 1 else recorded_cycle (earlier u hs) device)
+    (cleared_same n f g events more hs t u u device a le le)
+
+in_drop : {X : Type 0} (k : ℕ) (xs : List X) (x : X) → IsIn x (drop k xs) → IsIn x xs
+in_drop zero xs x i = i
+in_drop (suc k) [] x i = i
+in_drop (suc k) (y ∷ xs) x i = inr (in_drop k xs x i)
+
+pub heard_same : (n : Network) (f g : DeviceId → ℕ → ℕ) (events more : List Event) (hs : List Happening) (t u : ℕ) (device : DeviceId)
+    → Agree n f g events more t → u ≤ t → ((h : Happening) → IsIn h hs → time_of h ≤ t)
+    → heard_since (scenario n f events) hs device u ≡ heard_since (scenario n g more) hs device u
+heard_same n f g events more hs t u device a le all =
+    let since = after_last (λ h. nat_lt (time_of h) u && changes_adjustment device h.note.body) hs in
+    let flag = cleared_same n f g events more hs t u u device a le le in
+    ap (filter_map (λ h. hearing_by n device h h.note.body))
+    (filter_same (λ h. not (has_cleared (scenario n f events) hs device u u) || has_cleared (scenario n f events) hs device u (time_of h))
+    (λ h. not (has_cleared (scenario n g more) hs device u u) || has_cleared (scenario n g more) hs device u (time_of h)) since
+    (λ h i.
+    ap (λ (b : Bool). not b || has_cleared (scenario n f events) hs device u (time_of h)) flag
+    ∙ ap (λ (b : Bool). not (has_cleared (scenario n g more) hs device u u) || b)
+    (cleared_same n f g events more hs t u (time_of h) device a le (all h (in_drop _ hs h i)))))
+
+pub reach_same : (n : Network) (f g : DeviceId → ℕ → ℕ) (events more : List Event) (t u : ℕ) (device : DeviceId) (from v : ℤ) → Agree n f g events more t
+    → u ≤ t → IsReach (f device) from v (pos u) → IsReach (g device) from v (pos u)
+reach_same n f g events more t u device from v a le r = record {
+  from_on = r.from_on;
+  reached = subst (λ (m : ℕ). v ≤ℤ pos m) (a.reads device u le) r.reached;
+  not_before = λ x after lt. subst (λ (m : ℕ). pos m <ℤ v) (a.reads device x (omega (arith, ints, lt, le))) (r.not_before x after lt);
+}
+
+pub reaches_same : (n : Network) (f g : DeviceId → ℕ → ℕ) (events more : List Event) (hs : List Happening) (t u : ℕ) (device : DeviceId) (v : ℤ)
+    → Agree n f g events more t → u ≤ t → Reaches (scenario n f events) hs device v u → Reaches (scenario n g more) hs device v u
+reaches_same n f g events more hs t u device v a le r = record {
+  below = subst (λ (z : ℤ). z <ℤ v) (local_same n f g events more hs t u device a le) r.below;
+  reach = reach_same n f g events more t u device _ _ a le r.reach;
+}
+
+pub standing_same : (n : Network) (f g : DeviceId → ℕ → ℕ) (events more : List Event) (hs : List Happening) (t u : ℕ) (device : DeviceId)
+    → Agree n f g events more t → u ≤ t → standing_before (scenario n f events) hs device u ≡ standing_before (scenario n g more) hs device u
+standing_same n f g events more hs t u device a le =
+    let old = standing_before (scenario n f events) hs device u in
+    ap (λ (x : State). let p : Standing = record old { state = x } in p) (state_same n f g events more hs t u device a le)
+    ∙ ap (λ (x : ℕ). let p : Standing = record old { state = state_before (scenario n g more) hs device u; number = x } in p)
+    (next_same n f g events more hs t u device a le)
+
+-- ---- what is due
+
+pub sends_same : (n : Network) (f g : DeviceId → ℕ → ℕ) (events more : List Event) (hs : List Happening) (t u : ℕ) (device : DeviceId) (cycle : ℕ)
+    → Agree n f g events more t → u ≤ t → Sends (scenario n f events) hs device u cycle → Sends (scenario n g more) hs device u cycle
+sends_same n f g events more hs t u device cycle a le d = record {
+  master = d.master;
+  up = record {
+    synchronised = sym (state_same n f g events more hs t u device a le) ∙ d.up.synchronised;
+    correct = sym (broken_same n f g events more t u device a le) ∙ d.up.correct;
+  };
+  begun = d.begun;
+  reached = reaches_same n f g events more hs t u device _ a le d.reached;
+}
+
+pub comes_same : (n : Network) (f g : DeviceId → ℕ → ℕ) (events more : List Event) (hs : List Happening) (t u : ℕ) (device : DeviceId) (cycle : ℕ)
+    (verdict : Verdict) → Agree n f g events more t → u ≤ t → ((h : Happening) → IsIn h hs → time_of h ≤ t)
+    → ComesToCorrection (scenario n f events) hs device u cycle verdict → ComesToCorrection (scenario n g more) hs device u cycle verdict
+comes_same n f g events more hs t u device cycle verdict a le all d =
+    let same = standing_same n f g events more hs t u device a le in
+    record {
+      next = subst (λ (x : Standing). next_point x ≡ Some cycle) same d.next;
+      reached = reaches_same n f g events more hs t u device _ a le d.reached;
+      correct = sym (broken_same n f g events more t u device a le) ∙ d.correct;
+      summary = d.summary;
+      heard = subst (Summarizes d.summary) (heard_same n f g events more hs t u device a le all) d.heard;
+      comes = subst (λ (x : Standing). HasVerdict x d.summary verdict) same d.comes;
+    }

@@ -1,0 +1,268 @@
+-- A run goes on by the record of an event.
+use Rattle.std.proofs.Common.{◌≡◌, ◌⊎◌, ℕ, ◌+◌, ◌≤◌, ◌<◌, List, [], ◌∷◌, ◌++◌, length, inl, inr, refl, sym, ap, subst, ◌∙◌, arith}
+use Rattle.std.proofs.lemmas.Bool.{cases_lt}
+use Rattle.std.proofs.lemmas.List.{length-map}
+use Rattle.std.proofs.lemmas.List.Elements.{Contains-push_cases}
+use Rattle.std.proofs.lemmas.Option.{slice_get_within}
+use Rattle.net_plan.specs.declared.event.Event.{Event}
+use Rattle.net_plan.specs.declared.event.What.{What}
+use Rattle.net_plan.specs.declared.ids.DeviceId.{DeviceId}
+use Rattle.net_plan.specs.declared.network.Network.{Network}
+use Rattle.run_law.proofs.law.FirstPlaces.{at_length, in_front}
+use Rattle.run_law.proofs.runs.Grow.{grow}
+use Rattle.run_law.proofs.runs.NetworkRuns.{one_more, same_notes}
+use Rattle.run_law.proofs.runs.Places.{in_right, never_self, parted}
+use Rattle.run_law.specs.records.Happenings.{Happening, happening, happenings, time_of}
+use Rattle.run_law.specs.records.Order.{AllBefore, IsBefore, IsIn, behind}
+use Rattle.run_law.specs.records.Ranks.{key, members_in, place_of, rank}
+use Rattle.run_law.specs.runs.DueRecords.{EndsAt, IsCaused, IsDue, IsEventRecord, IsScenarioRun}
+use Rattle.run_law.specs.runs.Runs.{IsRun}
+use Rattle.run_law.specs.scenario.Scenarios.{Scenario}
+use Rattle.run_law.specs.declared.note.Note.{Note}
+use Rattle.run_law.specs.declared.note.NoteBody.TheVariants as notes
+use Rattle.run_law.specs.declared.note.NoteBody.{NoteBody}
+use Rattle.tte_units.specs.Amount.{amount}
+use Rattle.tte_units.specs.declared.units.Units.{Units}
+use Rattle.world_law.proofs.runs.Firsts.{get_more}
+use Rattle.world_law.proofs.runs.SameCauses.{AreUpTo, IsOwn, caused_same}
+use Rattle.world_law.specs.source.Agreeing.{Agree, scenario}
+use Rattle.world_law.specs.source.Applying.{IsEventBody, MayBefall, RunGoesOnByEvent, note_of_event, place_of_event}
+
+pub agree_back : (n : Network) (f g : DeviceId → ℕ → ℕ) (events more : List Event) (t : ℕ) → Agree n f g events more t → Agree n g f more events t
+agree_back n f g events more t a = record { reads = λ device x le. sym (a.reads device x le); befell = λ u le. sym (a.befell u le) }
+
+-- what is before a place is of no later time
+no_later : (a b : ℕ) (ps qs : List ℕ) → IsBefore (a ∷ ps) (b ∷ qs) → a ≤ b
+no_later a b ps qs (inl lt) = omega arith
+no_later a b ps qs (inr h) = omega (arith, h.0)
+
+up_to_it : (ps : List Happening) (y : Happening) → AllBefore place_of ps (place_of y) → AreUpTo (time_of y) ps
+up_to_it ps y before h i =
+    no_later (time_of h) (time_of y) (rank h.note.body ∷ key (members_in h) h.note.body) (rank y.note.body ∷ key (members_in y) y.note.body) (before h i)
+
+-- the kinds of record: of an event, of a clock, or any other
+kinds : (body : NoteBody) → IsEventBody body ⊎ ((rank body ≡ 14) ⊎ (IsOwn body × (2 ≤ rank body)))
+kinds (notes.Event line what) = inl tt
+kinds (notes.Clock device reading adjustment state) = inr (inl refl)
+kinds (notes.Arrived device link cause clock) = inr (inr (tt, omega arith))
+kinds (notes.Permanent device link cause point verdict) = inr (inr (tt, omega arith))
+kinds (notes.Compressed device opened at cycle members verdict) = inr (inr (tt, omega arith))
+kinds (notes.Sent device cycle) = inr (inr (tt, omega arith))
+kinds (notes.Corrected device cycle by adjustment) = inr (inr (tt, omega arith))
+kinds (notes.State device state cause why) = inr (inr (tt, omega arith))
+kinds (notes.Left device link cause clock) = inr (inr (tt, omega arith))
+kinds (notes.Lost device link cause) = inr (inr (tt, omega arith))
+kinds (notes.TtSent device link cause vl cycle) = inr (inr (tt, omega arith))
+kinds (notes.Accepted device link cause vl cycle) = inr (inr (tt, omega arith))
+kinds (notes.Delivered device link cause vl cycle) = inr (inr (tt, omega arith))
+kinds (notes.Dropped device link cause reason) = inr (inr (tt, omega arith))
+
+-- the cause of an event's record: its event
+pub event_cause : (s : Scenario) (hs : List Happening) (time : Units) (body : NoteBody) → IsEventBody body → IsCaused s hs time body → (line : ℕ)
+    × (what : What) × (body ≡ notes.Event line what) × IsEventRecord s.events time line what
+event_cause s hs time (notes.Event line what) e c = (line, what, refl, c)
+event_cause s hs time (notes.Arrived device link cause clock) e c = absurd e
+event_cause s hs time (notes.Permanent device link cause point verdict) e c = absurd e
+event_cause s hs time (notes.Compressed device opened at cycle members verdict) e c = absurd e
+event_cause s hs time (notes.Sent device cycle) e c = absurd e
+event_cause s hs time (notes.Corrected device cycle by adjustment) e c = absurd e
+event_cause s hs time (notes.State device state cause why) e c = absurd e
+event_cause s hs time (notes.Left device link cause clock) e c = absurd e
+event_cause s hs time (notes.Lost device link cause) e c = absurd e
+event_cause s hs time (notes.TtSent device link cause vl cycle) e c = absurd e
+event_cause s hs time (notes.Accepted device link cause vl cycle) e c = absurd e
+event_cause s hs time (notes.Delivered device link cause vl cycle) e c = absurd e
+event_cause s hs time (notes.Dropped device link cause reason) e c = absurd e
+event_cause s hs time (notes.Clock device reading adjustment state) e c = absurd e
+
+clock_cause : (s : Scenario) (hs : List Happening) (time : Units) (body : NoteBody) → rank body ≡ 14 → IsCaused s hs time body → EndsAt s.events time
+clock_cause s hs time (notes.Clock device reading adjustment state) e c = c.ends
+clock_cause s hs time (notes.Event line what) e c = absurd (omega (arith, e))
+clock_cause s hs time (notes.Arrived device link cause clock) e c = absurd (omega (arith, e))
+clock_cause s hs time (notes.Permanent device link cause point verdict) e c = absurd (omega (arith, e))
+clock_cause s hs time (notes.Compressed device opened at cycle members verdict) e c = absurd (omega (arith, e))
+clock_cause s hs time (notes.Sent device cycle) e c = absurd (omega (arith, e))
+clock_cause s hs time (notes.Corrected device cycle by adjustment) e c = absurd (omega (arith, e))
+clock_cause s hs time (notes.State device state cause why) e c = absurd (omega (arith, e))
+clock_cause s hs time (notes.Left device link cause clock) e c = absurd (omega (arith, e))
+clock_cause s hs time (notes.Lost device link cause) e c = absurd (omega (arith, e))
+clock_cause s hs time (notes.TtSent device link cause vl cycle) e c = absurd (omega (arith, e))
+clock_cause s hs time (notes.Accepted device link cause vl cycle) e c = absurd (omega (arith, e))
+clock_cause s hs time (notes.Delivered device link cause vl cycle) e c = absurd (omega (arith, e))
+clock_cause s hs time (notes.Dropped device link cause reason) e c = absurd (omega (arith, e))
+
+event_more : (events : List Event) (event : Event) (time : Units) (line : ℕ) (what : What) → IsEventRecord events time line what
+    → IsEventRecord (events ++ event ∷ []) time line what
+event_more events event time line what r = record {
+  event = r.event;
+  before = r.before;
+  line_is = r.line_is;
+  is = in_front events (event ∷ []) r.before r.event
+      r.is;
+  at = r.at;
+  same = r.same;
+}
+
+-- the place of an event's record
+pub event_place : (y : Happening) (line : ℕ) (what : What) → y.note.body ≡ notes.Event line what → place_of y ≡ time_of y ∷ 1 ∷ line ∷ []
+event_place y line what e = ap (λ (b : NoteBody). time_of y ∷ rank b ∷ key (members_in y) b) e
+
+-- a record of rank 2 or more before the event's is of an earlier time
+earlier_by_rank : (t r a line : ℕ) (more : List ℕ) → 2 ≤ r → IsBefore (t ∷ r ∷ more) (a ∷ 1 ∷ line ∷ []) → t < a
+earlier_by_rank t r a line more two (inl lt) = lt
+earlier_by_rank t r a line more two (inr (e, inl lt)) = absurd (omega (arith, lt, two))
+earlier_by_rank t r a line more two (inr (e, inr (f, b))) = absurd (omega (arith, f, two))
+
+-- ---- the two scenarios
+
+not_both : (body : NoteBody) → IsEventBody body → IsOwn body → ⊥
+not_both (notes.Event line what) e o = o
+not_both (notes.Arrived device link cause clock) e o = e
+not_both (notes.Permanent device link cause point verdict) e o = e
+not_both (notes.Compressed device opened at cycle members verdict) e o = e
+not_both (notes.Sent device cycle) e o = e
+not_both (notes.Corrected device cycle by adjustment) e o = e
+not_both (notes.State device state cause why) e o = e
+not_both (notes.Left device link cause clock) e o = e
+not_both (notes.Lost device link cause) e o = e
+not_both (notes.TtSent device link cause vl cycle) e o = e
+not_both (notes.Accepted device link cause vl cycle) e o = e
+not_both (notes.Delivered device link cause vl cycle) e o = e
+not_both (notes.Dropped device link cause reason) e o = e
+not_both (notes.Clock device reading adjustment state) e o = e
+
+-- what was due is due still
+due_on : (n : Network) (f g : DeviceId → ℕ → ℕ) (events : List Event) (event : Event) (mark : List ℕ) (ns : List Note) → MayBefall n f g events event mark ns
+    → (ps : List Happening) (y : Happening) → IsIn y (happenings n ns) → AllBefore place_of ps (place_of y) → IsDue (scenario n f events) ps y
+    → IsDue (scenario n g (events ++ event ∷ [])) ps y
+due_on n f g events event mark ns may ps y there before due = record {
+  number = due.number;
+  same = due.same;
+  begun = due.begun;
+  cause = elim (kinds y.note.body) [
+    | inl it ↦
+        let found = event_cause (scenario n f events) ps y.note.time y.note.body it due.cause in
+        subst (IsCaused (scenario n g (events ++ event ∷ [])) ps y.note.time) (sym found.2) (event_more events event y.note.time found.0 found.1 found.3)
+    | inr (inl clock) ↦ absurd (may.running y.note.time (clock_cause (scenario n f events) ps y.note.time y.note.body clock due.cause))
+    | inr (inr own) ↦
+        elim (may.sooner y there) [
+          | inl lt ↦ caused_same n f g events (events ++ event ∷ []) ps (time_of y) y.note.time y.note.body (may.agree (time_of y) lt) (omega arith)
+              (up_to_it ps y before) own.0 due.cause
+          | inr it ↦ absurd (not_both y.note.body it own.0)
+        ]
+  ];
+}
+
+-- and what is due before the event's record was due, and is before the mark
+due_back : (n : Network) (f g : DeviceId → ℕ → ℕ) (events : List Event) (event : Event) (mark : List ℕ) (ns : List Note) → MayBefall n f g events event mark ns
+    → (ps : List Happening) (y : Happening) → AllBefore place_of ps (place_of y) → IsDue (scenario n g (events ++ event ∷ [])) ps y
+    → IsBefore (place_of y) (place_of_event events event) → IsDue (scenario n f events) ps y × IsBefore (place_of y) mark
+due_back n f g events event mark ns may ps y before due here =
+    elim (kinds y.note.body) [
+      | inl it ↦
+          let found = event_cause (scenario n g (events ++ event ∷ [])) ps y.note.time y.note.body it due.cause in
+          let r = found.3 in
+          let at = event_place y found.0 found.1 found.2 in
+          elim (get_more events event r.event r.before r.is) [
+            | inl old ↦
+                let was : IsEventRecord events y.note.time found.0 found.1 = record {
+                  event = r.event;
+                  before = r.before;
+                  line_is = r.line_is;
+                  is = old;
+                  at = r.at;
+                  same = r.same;
+                } in (
+                  record {
+                    number = due.number;
+                    same = due.same;
+                    begun = due.begun;
+                    cause = subst (IsCaused (scenario n f events) ps y.note.time) (sym found.2)
+                        was;
+                  },
+                  subst (λ (p : List ℕ). IsBefore p mark)
+                      (ap (λ (u : Units). amount u ∷ 1 ∷ (r.before + 1) ∷ []) (sym r.at) ∙ ap (λ (l : ℕ). time_of y ∷ 1 ∷ l ∷ []) (sym r.line_is) ∙ sym at)
+                      (may.told r.before r.event old),
+                )
+            | inr new ↦
+                absurd (never_self (place_of_event events event)
+                (subst (λ (p : List ℕ). IsBefore p (place_of_event events event))
+                (at
+                ∙ ap (λ (u : Units). amount u ∷ 1 ∷ found.0 ∷ []) (r.at ∙ ap (λ (e : Event). e.time) (sym new.1))
+                ∙ ap (λ (l : ℕ). amount event.time ∷ 1 ∷ l ∷ []) (r.line_is ∙ ap (λ (k : ℕ). k + 1) new.0))
+                here))
+          ]
+      | inr (inl clock) ↦
+          let lt = earlier_by_rank (time_of y) (rank y.note.body) (amount event.time) (length events + 1) (key (members_in y) y.note.body)
+          (omega (arith, clock)) here in
+          elim (Contains-push_cases events event _ (clock_cause (scenario n g (events ++ event ∷ [])) ps y.note.time y.note.body clock due.cause)) [
+            | inl old ↦ absurd (may.running y.note.time old)
+            | inr e ↦ let same : amount event.time ≡ time_of y = ap (λ (x : Event). amount x.time) e in absurd (omega (arith, lt, same))
+          ]
+      | inr (inr own) ↦
+          let lt = earlier_by_rank (time_of y) (rank y.note.body) (amount event.time) (length events + 1) (key (members_in y) y.note.body) own.1 here in (
+            record {
+              number = due.number;
+              same = due.same;
+              begun = due.begun;
+              cause =
+                  caused_same n g f (events ++ event ∷ []) events ps (time_of y) y.note.time y.note.body
+                  (agree_back n f g events (events ++ event ∷ []) (time_of y) (may.agree (time_of y) lt)) (omega arith) (up_to_it ps y before) own.0 due.cause;
+            },
+            may.none_left (place_of y) (inl lt),
+          )
+    ]
+
+pub line_before : (t a line next : ℕ) → t ≤ a → line < next → IsBefore (t ∷ 1 ∷ line ∷ []) (a ∷ 1 ∷ next ∷ [])
+line_before t a line next le lt = elim (cases_lt t a) [ inl sooner ↦ inl sooner | inr ge ↦ inr (omega (arith, le, ge), inr (refl, inl lt)) ]
+
+pub same_length : (n : Network) (ns : List Note) → length ns ≡ length (happenings n ns)
+same_length n ns = ap length (sym (same_notes n ns)) ∙ length-map (happenings n ns) (λ h. h.note)
+
+-- each record is before that of the event
+before_event : (n : Network) (f g : DeviceId → ℕ → ℕ) (events : List Event) (event : Event) (mark : List ℕ) (ns : List Note)
+    → MayBefall n f g events event mark ns → IsScenarioRun (scenario n f events) mark ns
+    → (h : Happening) → IsIn h (happenings n ns) → IsBefore (place_of h) (place_of_event events event)
+before_event n f g events event mark ns may run h there =
+    elim (may.sooner h there) [
+      | inl lt ↦ inl lt
+      | inr it ↦
+          let at = parted h (happenings n ns) there in
+          let due = (run.founded at.0 at.1 h at.2).1 in
+          let found = event_cause (scenario n f events) at.0 h.note.time h.note.body it due.cause in
+          let r = found.3 in
+          let few : r.before < length events = slice_get_within events r.before r.event r.is in
+          let order = may.in_order r.before r.event r.is in
+          let time : time_of h ≡ amount r.event.time = ap amount r.at in
+          subst (λ (p : List ℕ). IsBefore p (place_of_event events event)) (sym (event_place h found.0 found.1 found.2))
+          (line_before (time_of h) (amount event.time) found.0 (length events + 1) (omega (arith, time, order)) (omega (arith, few, r.line_is)))
+    ]
+
+pub run_goes_on_by_event : RunGoesOnByEvent
+run_goes_on_by_event n f g events event mark ns may run =
+    let s = scenario n f events in
+    let r = scenario n g (events ++ event ∷ []) in
+    let hs = happenings n ns in
+    let here = place_of_event events event in
+    let x = happening n hs (note_of_event ns events event) in
+    let all = before_event n f g events event mark ns may run in
+    let under : IsRun place_of (IsDue r) here hs = record {
+      founded = λ ps qs y e.
+          let was = run.founded ps qs y e in (
+            was.0,
+            due_on n f g events event mark ns may ps y (subst (λ (l : List Happening). IsIn y l) (sym e) (in_right y ps (y ∷ qs) (inl refl))) was.0
+                was.1,
+          );
+      full = λ ps qs y e before rest due lt.
+          let back = due_back n f g events event mark ns may ps y before due lt in
+          run.full ps qs y e before rest back.0 back.1;
+      within = all;
+    } in
+    let due : IsDue r hs x = record {
+      number = ap (λ (k : ℕ). k + 1) (same_length n ns);
+      same = refl;
+      begun = may.begun;
+      cause = record { event = event; before = length events; line_is = refl; is = at_length events [] event; at = refl; same = refl };
+    } in
+    let grown = grow place_of (IsDue r) here hs x under all due (record { gap = λ ps qs y e before rest d lt. lt }) in
+    subst (IsRun place_of (IsDue r) (behind here)) (sym (one_more n ns (note_of_event ns events event))) grown

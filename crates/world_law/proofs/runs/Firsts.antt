@@ -1,0 +1,60 @@
+-- Where no source and nothing settled is before a place, nothing that is due is.
+use Rattle.std.proofs.Common.{◌≡◌, ◌⊎◌, ℕ, zero, suc, ◌+◌, List, [], ◌∷◌, ◌++◌, length, Some, slice_get, inl, inr, refl, sym, ap, subst, arith}
+use Rattle.net_plan.specs.declared.ids.DeviceId.{DeviceId}
+use Rattle.net_plan.specs.declared.ids.LinkId.{LinkId}
+use Rattle.run_law.proofs.law.FirstPlaces.{in_front}
+use Rattle.run_law.proofs.runs.Places.{chain}
+use Rattle.run_law.specs.records.Happenings.{Happening, numbered, time_of}
+use Rattle.run_law.specs.control.Leaving.{Gives}
+use Rattle.run_law.specs.records.Order.{IsBefore}
+use Rattle.run_law.specs.scenario.Scenarios.{Scenario}
+use Rattle.run_law.specs.control.Wires.{Arrives, Signal}
+use Rattle.run_law.specs.scenario.Ways.{hold_at, way_from}
+use Rattle.world_law.specs.source.Sources.{IsArriving, IsDeparting}
+
+pub source_before : (w q p : List ℕ) → (w ≡ q) ⊎ IsBefore w q → IsBefore q p → IsBefore w p
+source_before w q p (inl e) b = subst (λ (l : List ℕ). IsBefore l p) (sym e) b
+source_before w q p (inr lt) b = chain w q p lt b
+
+-- ---- one more record
+
+pub get_more : {X : Type 0} (xs : List X) (x y : X) (i : ℕ) → slice_get (xs ++ x ∷ []) i ≡ Some y → (slice_get xs i ≡ Some y) ⊎ ((i ≡ length xs) × (x ≡ y))
+get_more [] x y zero e = inr (refl, cc)
+get_more [] x y (suc i) e = absurd cc
+get_more (z ∷ xs) x y zero e = inl e
+get_more (z ∷ xs) x y (suc i) e = elim (get_more xs x y i e) [ inl old ↦ inl old | inr new ↦ inr (ap suc new.0, new.1) ]
+
+-- the record of a number is an old one, or the new one has the next number
+pub numbered_more : (hs : List Happening) (x g : Happening) (cause : ℕ) → numbered (hs ++ x ∷ []) cause ≡ Some g → (numbered hs cause ≡ Some g)
+    ⊎ ((cause ≡ length hs + 1) × (x ≡ g))
+numbered_more hs x g zero e = absurd cc
+numbered_more hs x g (suc before) e = elim (get_more hs x g before e) [ inl old ↦ inl old | inr new ↦ inr (omega (arith, new.0), new.1) ]
+
+pub numbered_still : (hs : List Happening) (x g : Happening) (cause : ℕ) → numbered hs cause ≡ Some g → numbered (hs ++ x ∷ []) cause ≡ Some g
+numbered_still hs x g zero e = absurd cc
+numbered_still hs x g (suc before) e = in_front hs (x ∷ []) before g e
+
+-- what arrives was under way before, or is what the new record puts on a wire
+pub arriving_more : (s : Scenario) (hs : List Happening) (x : Happening) (t : ℕ) (device : DeviceId) (link : LinkId) (cause : ℕ)
+    → IsArriving s (hs ++ x ∷ []) t device link cause
+    → IsArriving s hs t device link cause ⊎ ((cause ≡ length hs + 1) × ((signal : Signal) × Arrives s x device link t signal))
+arriving_more s hs x t device link cause a =
+    elim (numbered_more hs x a.putting cause a.there) [
+      | inl old ↦ inl (record { putting = a.putting; there = old; signal = a.signal; arrives = a.arrives })
+      | inr new ↦ inr (new.0, (a.signal, subst (λ (g : Happening). Arrives s g device link t a.signal) (sym new.1) a.arrives))
+    ]
+
+-- what leaves was given before, or is the frame that the new record gives
+pub departing_more : (s : Scenario) (hs : List Happening) (x : Happening) (t : ℕ) (device : DeviceId) (link : LinkId) (cause : ℕ)
+    → IsDeparting s (hs ++ x ∷ []) t device link cause
+    → IsDeparting s hs t device link cause
+    ⊎ ((cause ≡ length hs + 1) × Gives s.network x.note.body device link × (t ≡ time_of x + hold_at s link (way_from s.network device link) (time_of x)))
+departing_more s hs x t device link cause d =
+    elim (numbered_more hs x d.giving cause d.there) [
+      | inl old ↦ inl (record { giving = d.giving; there = old; gives = d.gives; held = d.held })
+      | inr new ↦ inr (
+        new.0,
+        subst (λ (g : Happening). Gives s.network g.note.body device link) (sym new.1) d.gives,
+        subst (λ (g : Happening). t ≡ time_of g + hold_at s link (way_from s.network device link) (time_of g)) (sym new.1) d.held,
+      )
+    ]

@@ -1,0 +1,153 @@
+-- Where nothing that a world has under way is before a place, no source that is not worked off is, but for acts.
+use Rattle.std.proofs.Common.{◌≡◌, ℕ, ◌+◌, ◌≤◌, ◌<◌, ℤ, pos, Bool, true, false, ◌&&◌, ◌||◌, ◌==◌, List, [], ◌∷◌, inl, inr, refl, sym, ap, subst, ◌∙◌, arith}
+use Rattle.std.specs.Prelude.{unsigned_abs}
+use Rattle.std.proofs.lemmas.Int.{ints}
+use Rattle.std.proofs.lemmas.Bool.{cases_Bool, cases_lt, eqb-true, false_from_ne_true}
+use Rattle.std.proofs.lemmas.Option.{slice_get_within}
+use Rattle.std.specs.List.{list_any}
+use Rattle.drift_clock.specs.Reach.{IsReach}
+use Rattle.net_plan.specs.declared.ids.DeviceId.{DeviceId}
+use Rattle.net_plan.specs.declared.ids.LinkId.{LinkId}
+use Rattle.net_plan.specs.declared.ids.VlId.{VlId}
+use Rattle.net_plan.specs.declared.network.Network.{Network}
+use Rattle.run_law.proofs.law.FirstPlaces.{numbered_in}
+use Rattle.run_law.proofs.runs.Places.{chain}
+use Rattle.run_law.specs.timed.Dispatching.{Dispatches}
+use Rattle.run_law.specs.records.Happenings.{Happening, happenings, time_of}
+use Rattle.run_law.specs.machines.Nodes.{Node}
+use Rattle.run_law.specs.records.Order.{IsBefore, IsIn}
+use Rattle.run_law.specs.records.Ranks.{place_of}
+use Rattle.run_law.specs.scenario.Scenarios.{is_turned_on_at, turns_on, Scenario}
+use Rattle.run_law.specs.declared.note.Note.{Note}
+use Rattle.run_law.specs.declared.note.NoteBody.{NoteBody}
+use Rattle.tte_units.specs.Amount.{amount}
+use Rattle.tte_units.specs.declared.units.Units.{Units}
+use Rattle.world_law.proofs.acts.Acting.{IsUnmoved, correcting_task, emitting_task, sending_task}
+use Rattle.world_law.proofs.giving.Given.{in_get, no_later_breaks, some_same}
+use Rattle.world_law.proofs.runs.SourcesBack.{arrives_later}
+use Rattle.world_law.specs.device.Left.{HasDone, HasSent, HasTaskBy, IsLeft}
+use Rattle.world_law.specs.device.Own.{moves}
+use Rattle.world_law.specs.source.Sources.{IsRipening, IsActing, IsSource}
+use Rattle.world_law.specs.world.Steps.{NothingBefore}
+use Rattle.world_law.specs.world.World.{IsWaitingFor, Stands, Waiting, World, ripe_place, act_place, clock_place, HaveBefallen, IsAtRest}
+
+-- a reading comes to a value but once
+one_reach : (reading : ℕ → ℕ) (from v : ℤ) (u t : ℕ) → IsReach reading from v (pos u) → IsReach reading from v (pos t) → u ≡ t
+one_reach reading from v u t a b =
+    let from_u = a.from_on in
+    let from_t = b.from_on in
+    elim (cases_lt u t) [
+      | inl lt ↦ let less = b.not_before u from_u (omega (arith, ints, lt)) in let reached = a.reached in absurd (omega (arith, ints, less, reached))
+      | inr ge ↦ elim (cases_lt t u) [
+        | inl lt ↦ let less = a.not_before t from_t (omega (arith, ints, lt)) in let reached = b.reached in absurd (omega (arith, ints, less, reached))
+        | inr le ↦ omega (arith, ge, le)
+      ]
+    ]
+
+-- no act that is not worked off is before the place
+abbrev pub NoActBefore : Scenario → List Happening → List ℕ → List ℕ → Type 0
+NoActBefore s hs cursor p =
+    (t : ℕ) (device : DeviceId) → IsActing s hs t device → (IsBefore (act_place t device) cursor → ⊥) → IsBefore (act_place t device) p → ⊥
+
+pub none_but_acts : {C M : Type 0} (reading : C → ℕ → ℕ) (stands : M → Network → DeviceId → Node → Type 0) (s : Scenario) (world : World C M)
+    (notes : List Note) (p : List ℕ) (old : Stands reading stands s world notes)
+    → NothingBefore stands s world p → NoActBefore s (happenings s.network notes) old.cursor p → (w : List ℕ) → IsSource s (happenings s.network notes) w
+    → (IsBefore w old.cursor → ⊥) → IsBefore w p → ⊥
+none_but_acts reading stands s world notes p old none acts w (IsSource.arriving t device link cause a) not b =
+    let later = arrives_later s a.putting device link t a.signal old.forward a.arrives in
+    let found = old.wires.all t device link cause a
+    (λ open_ at. none.befell open_ (chain (world.now ∷ 2 ∷ []) (t ∷ 2 ∷ device.0 ∷ link.0 ∷ cause ∷ []) p (inl (omega (arith, later, at))) b)) not in
+    none.wires found.0 found.1 (subst (λ (q : List ℕ). IsBefore q p) (sym found.2) b)
+none_but_acts reading stands s world notes p old none acts w (IsSource.ripening t device link cause point r) not b =
+    let e : Waiting = record { device = device; link = link; cause = cause; frame = r.frame; point = point } in
+    let p_is = r.permanent in
+    let le : world.now ≤ t = elim (cases_lt t world.now) [ inl lt ↦ absurd (not (old.ahead _ (old.of_now _ (inl lt)))) | inr ge ↦ ge ] in
+    let it : IsWaitingFor s (happenings s.network notes) e = record {
+      arrival = p_is.arrival;
+      there = p_is.there;
+      awaited = record {
+        from = p_is.from;
+        clock = p_is.clock;
+        arrived = p_is.arrived;
+        of_frame = p_is.of_frame;
+        waits = p_is.waits;
+        at_point = p_is.at_point;
+      };
+    } in
+    let sound = sym (no_later_breaks s old.mark world.now t device old.befallen le) ∙ p_is.correct in
+    let one : (u : ℕ) → IsRipening s (happenings s.network notes) u device link cause point → IsBefore (ripe_place u e) old.cursor → ⊥ = λ u x under.
+    let arrival : x.permanent.arrival ≡ p_is.arrival = some_same x.permanent.arrival p_is.arrival _ x.permanent.there p_is.there in
+    let reached = subst (λ (h : Happening). IsReach (s.reading device) (pos (time_of h)) point.0 (pos u)) arrival x.permanent.reached in
+    not (subst (λ (n : ℕ). IsBefore (ripe_place n e) old.cursor) (one_reach (s.reading device) (pos (time_of p_is.arrival)) point.0 u t reached p_is.reached)
+    under) in
+    none.waiting e (old.waiting.all e it sound one) t p_is.reached.reached b
+none_but_acts reading stands s world notes p old none acts w (IsSource.acting t device a) not b = acts t device a not b
+none_but_acts reading stands s world notes p old none acts w (IsSource.departing t device link cause d) not b =
+    let found = old.ports.all t device link cause d not in none.ports found.0 found.1 (subst (λ (q : List ℕ). IsBefore q p) (sym found.2) b)
+none_but_acts reading stands s world notes p old none acts w (IsSource.following t cause h it) not b =
+    let i = numbered_in (happenings s.network notes) cause h it.there in
+    elim (old.not_later (place_of h) (old.ahead (place_of h) (old.run.within h i))) [
+      | inr bad ↦ bad.1
+      | inl few ↦ elim (cases_lt t world.now) [
+        | inl past ↦ not (old.ahead (t ∷ 2 ∷ []) (old.of_now (t ∷ 2 ∷ []) (inl past)))
+        | inr ge ↦
+            let at = it.same_time in
+            let now : t ≡ world.now = omega (arith, at, few, ge) in
+            elim (cases_Bool world.pending) [
+              | inl open_ ↦ none.befell open_ (subst (λ (n : ℕ). IsBefore (n ∷ 2 ∷ []) p) now b)
+              | inr told ↦ not
+                  (subst (λ (n : ℕ). IsBefore (n ∷ 2 ∷ []) old.cursor) (sym now)
+                  (old.untold.done told cause h (record { there = it.there; same_time = at ∙ now })))
+            ]
+      ]
+    ]
+none_but_acts reading stands s world notes p old none acts w (IsSource.befalling time line what it) not b =
+    let told = old.befallen.told it.before it.event it.is in
+    let at : amount it.event.time ∷ 1 ∷ [] ≡ amount time ∷ 1 ∷ [] = ap (λ (u : Units). amount u ∷ 1 ∷ []) (sym it.at) in
+    not (subst (λ (q : List ℕ). IsBefore q old.cursor) at
+    (old.ahead (amount it.event.time ∷ 1 ∷ []) (chain (amount it.event.time ∷ 1 ∷ []) (amount it.event.time ∷ 1 ∷ (it.before + 1) ∷ []) old.mark
+    (inr (refl, inr (refl, tt))) told)))
+none_but_acts reading stands s world notes p old none acts w (IsSource.ending time device is there ends) not b =
+    let it = (old.ended time).0 ends in
+    let now : amount time ≡ world.now = ap unsigned_abs it.1 in
+    let place : clock_place (amount time) device ≡ clock_place world.now device = ap (λ (n : ℕ). clock_place n device) now in
+    let lt = slice_get_within s.network.device device.0 is there in
+    elim (cases_lt device.0 world.shown) [
+      | inl less ↦ not (subst (λ (q : List ℕ). IsBefore q old.cursor) (sym place) ((old.shown device lt it.0).1 less))
+      | inr ge ↦ none.clocks device lt it.0 ge (subst (λ (q : List ℕ). IsBefore q p) place b)
+    ]
+
+-- ---- acts, but for dispatches
+
+-- the source by which a device acts is a task of its node, where nothing has moved it since the time of that
+pub acting_task : (s : Scenario) (hs : List Happening) (device : DeviceId) (t later : ℕ) (node : Node) → IsUnmoved s hs device t later
+    → IsLeft s hs device t node → HasDone s hs device t node → HasSent s device t node
+    → ((link : LinkId) (cause : ℕ) (vl : VlId) (cycle : ℕ) → Dispatches s hs device later link cause vl cycle → HasTaskBy s device node later)
+    → IsActing s hs later device → HasTaskBy s device node later
+acting_task s hs device t later node u left has sent rows (IsActing.sending cycle d) = sending_task s hs device t later node cycle u left has d
+acting_task s hs device t later node u left has sent rows (IsActing.emitting emission verdict e) =
+    emitting_task s hs device t later node emission verdict u left sent e
+acting_task s hs device t later node u left has sent rows (IsActing.correcting cycle c) = correcting_task s hs device t later node cycle u left has c
+acting_task s hs device t later node u left has sent rows (IsActing.dispatching link cause vl cycle d) = rows link cause vl cycle d
+
+-- an event of a later time than all turns no device on
+pub not_on_after : (s : Scenario) (mark : List ℕ) (now t : ℕ) (device : DeviceId) → HaveBefallen s mark now → now < t → is_turned_on_at s device t ≡ false
+not_on_after s mark now t device b lt = none_any (λ e. turns_on device e.what && amount e.time == t) s.events (λ e i.
+    let at = in_get s.events e i in
+    let early = b.past at.0 e at.1 in
+    and_none (turns_on device e.what) (amount e.time == t)
+    (false_from_ne_true (amount e.time == t) (λ same. let time = eqb-true (amount e.time) t same in absurd (omega (arith, time, early, lt)))))
+  where
+    and_none : (b c : Bool) → c ≡ false → (b && c) ≡ false
+    and_none true c e = e
+    and_none false c e = refl
+
+    none_any : {X : Type 0} (q : X → Bool) (xs : List X) → ((x : X) → IsIn x xs → q x ≡ false) → list_any q xs ≡ false
+    none_any q [] none = refl
+    none_any q (x ∷ xs) none = ap (λ (c : Bool). c || list_any q xs) (none x (inl refl)) ∙ none_any q xs (λ y i. none y (inr i))
+
+-- a device that is not turned on at the time is not moved by what leaves it at rest
+pub unmoved_by : (s : Scenario) (device : DeviceId) (now : ℕ) (body : NoteBody) → is_turned_on_at s device now ≡ false → IsAtRest s device now body
+    → moves device body ≡ false
+unmoved_by s device now body off (inl e) = e
+unmoved_by s device now body off (inr on) = absurd (let bad : false ≡ true = sym off ∙ on.1 in cc)

@@ -1,0 +1,38 @@
+-- What is next in a run: the first of what is due behind all of it.
+use Rattle.std.proofs.Common.{◌≡◌, ℕ, List, [], ◌∷◌, ◌++◌, inl, inr, refl, sym, subst, ◌∙◌}
+use Rattle.std.proofs.lemmas.List.{append-nil}
+use Rattle.run_law.proofs.runs.Places.{before_later, before_or_not, in_right}
+use Rattle.run_law.specs.records.Order.{AllBefore, IsBefore, IsIn, NoneBefore}
+use Rattle.run_law.specs.runs.Runs.{IsNextOf, IsRun, NothingDueUpTo}
+use Rattle.world_law.specs.source.Next.{NoneDueBefore}
+
+behind_mark : {N : Type 0} (place : N → List ℕ) (IsDue : List N → N → Type 0) (mark : List ℕ) (ns : List N) (p : List ℕ) → AllBefore place ns mark
+    → NoneDueBefore place IsDue mark ns p
+    → (ps qs : List N) (y : N) → ns ≡ ps ++ qs → AllBefore place ps (place y) → NoneBefore place qs (place y) → IsDue ps y → IsBefore (place y) p
+    → (IsBefore (place y) mark → ⊥) → ⊥
+behind_mark {N} place IsDue mark ns p within none ps [] y e before rest due here not =
+    let all : ps ≡ ns = sym (append-nil ps) ∙ sym e in
+    none y (subst (λ (l : List N). IsDue l y) all due) not here
+behind_mark {N} place IsDue mark ns p within none ps (q ∷ qs) y e before rest due here not =
+    let there : IsIn q ns = subst (λ (l : List N). IsIn q l) (sym e) (in_right q ps (q ∷ qs) (inl refl)) in
+    rest q (inl refl) (before_later (place q) (place y) mark (within q there) not)
+
+-- where none that is due behind the mark is before the place, none is due up to it
+pub none_due : {N : Type 0} (place : N → List ℕ) (IsDue : List N → N → Type 0) (mark : List ℕ) (ns : List N) (p : List ℕ) → AllBefore place ns mark
+    → NoneDueBefore place IsDue mark ns p → NothingDueUpTo place IsDue mark ns p
+none_due {N} place IsDue mark ns p within none = record {
+  gap = λ ps qs y e before rest due here.
+      elim (before_or_not (place y) mark) [
+        | inl lt ↦ lt
+        | inr not ↦ absurd (behind_mark place IsDue mark ns p within none ps qs y e before rest due here not)
+      ];
+}
+
+-- a record that is due behind the mark is next, where none is due before it
+pub is_next : {N : Type 0} (place : N → List ℕ) (IsDue : List N → N → Type 0) (mark : List ℕ) (ns : List N) (x : N) → IsRun place IsDue mark ns
+    → (IsBefore (place x) mark → ⊥) → IsDue ns x → NoneDueBefore place IsDue mark ns (place x) → IsNextOf place IsDue mark ns x
+is_next place IsDue mark ns x run not due none = record {
+  behind_all = λ n i. before_later (place n) (place x) mark (run.within n i) not;
+  due = due;
+  first = none_due place IsDue mark ns (place x) run.within none;
+}

@@ -1,0 +1,318 @@
+-- What causes a record at a time causes it in each scenario that agrees up to then.
+use Rattle.std.proofs.Common.{◌≡◌, ℕ, zero, suc, ◌+◌, ◌-◌, ◌≤◌, pos, Bool, false, not, ◌&&◌, if◌then◌else◌, List, Option, Some, None, inl, inr, refl, sym, ap, subst, ◌∙◌}
+use Rattle.std.specs.Prelude.{nat_lt}
+use Rattle.compression.specs.declared.compressed.Compressed.{Compressed}
+use Rattle.net_plan.specs.declared.event.Event.{Event}
+use Rattle.net_plan.specs.declared.event.What.TheVariants.{Send}
+use Rattle.net_plan.specs.declared.ids.DeviceId.{DeviceId}
+use Rattle.net_plan.specs.declared.ids.LinkId.{LinkId}
+use Rattle.net_plan.specs.declared.ids.VlId.{VlId}
+use Rattle.net_plan.specs.declared.network.Network.{Network}
+use Rattle.net_plan.specs.declared.tables.Way.TheVariants.{Up}
+use Rattle.net_plan.specs.declared.tables.Way.{Way}
+use Rattle.pcf_values.specs.declared.pcf.Pcf.{Pcf}
+use Rattle.run_law.proofs.law.FirstPlaces.{in_at}
+use Rattle.run_law.specs.control.Collections.{points_of, observation_window}
+use Rattle.run_law.specs.control.Arrivals.{control_arrival}
+use Rattle.run_law.specs.scenario.Devices.{plan_of}
+use Rattle.run_law.specs.timed.Dispatching.{Dispatches}
+use Rattle.run_law.specs.control.Emissions.{Emits}
+use Rattle.run_law.specs.records.Happenings.{Happening, numbered, time_of}
+use Rattle.run_law.specs.control.Hearing.{heard_as}
+use Rattle.run_law.specs.control.Leaving.{Departs, Departure, departure, leaves, on_cut_way, too_old}
+use Rattle.run_law.specs.records.Order.{IsIn}
+use Rattle.run_law.specs.control.Permanence.{IsPermanenceOutcome, BecomesPermanent, before_permanence}
+use Rattle.run_law.specs.timed.Receptions.{ArrivesAs, arrival_of, last_taken}
+use Rattle.run_law.specs.control.Losses.{IsDropped, IsLost}
+use Rattle.run_law.specs.device.StateChanges.{ChangesState}
+use Rattle.run_law.specs.runs.DueRecords.{IsArrivedRecord, IsCaused}
+use Rattle.run_law.specs.scenario.Scenarios.{is_broken}
+use Rattle.run_law.specs.device.Standpoints.{Standpoint, standpoint}
+use Rattle.run_law.specs.device.States.{adjustment_at_hearing, adjustment_before, has_joined_at, is_off, state_at_hearing, state_before}
+use Rattle.run_law.specs.timed.Arrivals.{timed_arrival}
+use Rattle.run_law.specs.control.Wires.{Arrives, Launch, Signal, control, launched, signal_of, time_on_port, timed}
+use Rattle.run_law.specs.scenario.Ways.{cut_set, delay_at, hold_at, hold_set, is_cut, way_from, wire_of, wire_set}
+use Rattle.run_law.specs.declared.judgement.Judgement.{Judgement}
+use Rattle.run_law.specs.declared.judgement.Reason.{Reason}
+use Rattle.run_law.specs.declared.judgement.Why.TheVariants as whys
+use Rattle.run_law.specs.declared.judgement.Why.{Why}
+use Rattle.run_law.specs.declared.note.NoteBody.TheVariants as notes
+use Rattle.run_law.specs.declared.note.NoteBody.{NoteBody}
+use Rattle.run_law.specs.declared.steps.Arrival.{Arrival}
+use Rattle.run_law.specs.declared.steps.Ripe.{Ripe}
+use Rattle.sync_state.specs.declared.state.State.TheVariants.{Joining}
+use Rattle.sync_state.specs.declared.state.State.{State}
+use Rattle.transparent_clock.specs.Points.{point_of}
+use Rattle.tte_units.specs.Amount.{amount}
+use Rattle.tte_units.specs.declared.units.Units.{Units}
+use Rattle.world_law.proofs.runs.Agreement.{broken_same, comes_same, reach_same, reaches_same, sends_same, setting_same, state_same}
+use Rattle.world_law.specs.source.Agreeing.{Agree, scenario}
+
+-- no record of the list is later than the time
+abbrev pub AreUpTo : ℕ → List Happening → Type 0
+AreUpTo t hs = (h : Happening) → IsIn h hs → time_of h ≤ t
+
+in_numbered : (hs : List Happening) (number : ℕ) (h : Happening) → numbered hs number ≡ Some h → IsIn h hs
+in_numbered hs zero h e = absurd cc
+in_numbered hs (suc before) h e = in_at hs before h e
+
+sooner : (t : ℕ) (hs : List Happening) (number : ℕ) (h : Happening) → AreUpTo t hs → numbered hs number ≡ Some h → time_of h ≤ t
+sooner t hs number h all there = all h (in_numbered hs number h there)
+
+-- ---- ways
+
+cut_same : (n : Network) (f g : DeviceId → ℕ → ℕ) (events more : List Event) (t u : ℕ) (link : LinkId) (way : Way) → Agree n f g events more t → u ≤ t
+    → is_cut (scenario n f events) link way u ≡ is_cut (scenario n g more) link way u
+cut_same n f g events more t u link way a le = setting_same n f g events more t u (cut_set link way) false a le
+
+pub hold_same : (n : Network) (f g : DeviceId → ℕ → ℕ) (events more : List Event) (t u : ℕ) (link : LinkId) (way : Way) → Agree n f g events more t → u ≤ t
+    → hold_at (scenario n f events) link way u ≡ hold_at (scenario n g more) link way u
+hold_same n f g events more t u link way a le = setting_same n f g events more t u (hold_set link way) 0 a le
+
+delay_same : (n : Network) (f g : DeviceId → ℕ → ℕ) (events more : List Event) (t u : ℕ) (link : LinkId) (way : Way) → Agree n f g events more t → u ≤ t
+    → delay_at (scenario n f events) link way u ≡ delay_at (scenario n g more) link way u
+delay_same n f g events more t u link way a le = setting_same n f g events more t u (wire_set link way) (wire_of n link) a le
+
+launched_same : (n : Network) (f g : DeviceId → ℕ → ℕ) (events more : List Event) (t u : ℕ) (h : Happening) (body : NoteBody) → Agree n f g events more t
+    → u ≤ t → launched (scenario n f events) h u body ≡ launched (scenario n g more) h u body
+launched_same n f g events more t u h (notes.Event line (Send link octets)) a le =
+    ap (λ (b : Bool). let o : Option Launch = if b then None else Some (record { link = link; way = Up; signal = signal_of octets }) in o)
+    (cut_same n f g events more t u link Up a le)
+launched_same n f g events more t u h (notes.Left device link cause clock) a le = refl
+launched_same n f g events more t u h (notes.TtSent device link cause vl cycle) a le = refl
+launched_same n f g events more t u h other a le = refl
+
+pub arrives_same : (n : Network) (f g : DeviceId → ℕ → ℕ) (events more : List Event) (t : ℕ) (h : Happening) (device : DeviceId) (link : LinkId) (at : ℕ)
+    (signal : Signal) → Agree n f g events more t → time_of h ≤ t → Arrives (scenario n f events) h device link at signal
+    → Arrives (scenario n g more) h device link at signal
+arrives_same n f g events more t h device link at signal a le x = record {
+  way = x.way;
+  put = sym (launched_same n f g events more t (time_of h) h h.note.body a le) ∙ x.put;
+  receiver = x.receiver;
+  at = x.at ∙ ap (λ (d : ℕ). time_of h + time_on_port n link signal + d) (delay_same n f g events more t (time_of h) link x.way a le);
+}
+
+-- ---- what arrives
+
+standpoint_same : (n : Network) (f g : DeviceId → ℕ → ℕ) (events more : List Event) (hs : List Happening) (t u : ℕ) (device : DeviceId)
+    → Agree n f g events more t → u ≤ t → standpoint (scenario n f events) hs device u ≡ standpoint (scenario n g more) hs device u
+standpoint_same n f g events more hs t u device a le =
+    let make = λ (state : State) (broken : Bool) (reading : ℕ).
+    let p : Standpoint = record {
+      takes_part = not (is_off state) && not broken;
+      state = state;
+      reading = reading;
+      adjustment = (adjustment_before (scenario n f events) hs device u).0;
+    } in p in
+    ap (λ (x : State). make x (is_broken (scenario n f events) device u) (f device u)) (state_same n f g events more hs t u device a le)
+    ∙ ap (λ (x : Bool). make (state_before (scenario n g more) hs device u) x (f device u)) (broken_same n f g events more t u device a le)
+    ∙ ap (λ (x : ℕ). make (state_before (scenario n g more) hs device u) (is_broken (scenario n g more) device u) x) (a.reads device u le)
+
+judged_same : (n : Network) (f g : DeviceId → ℕ → ℕ) (events more : List Event) (hs : List Happening) (t u : ℕ) (device : DeviceId) (link : LinkId) (cause : ℕ)
+    (signal : Signal) → Agree n f g events more t → u ≤ t
+    → arrival_of (scenario n f events) hs device u link cause signal ≡ arrival_of (scenario n g more) hs device u link cause signal
+judged_same n f g events more hs t u device link cause (control frame) a le =
+    ap (λ (p : Standpoint). control_arrival n device link p frame) (standpoint_same n f g events more hs t u device a le)
+judged_same n f g events more hs t u device link cause (timed octets) a le =
+    ap (λ (p : Standpoint). timed_arrival n device link p octets (last_taken hs device u link cause)) (standpoint_same n f g events more hs t u device a le)
+
+arrival_same : (n : Network) (f g : DeviceId → ℕ → ℕ) (events more : List Event) (hs : List Happening) (t u : ℕ) (device : DeviceId) (link : LinkId) (cause : ℕ)
+    (is : Arrival) → Agree n f g events more t → u ≤ t → AreUpTo t hs
+    → ArrivesAs (scenario n f events) hs device u link cause is → ArrivesAs (scenario n g more) hs device u link cause is
+arrival_same n f g events more hs t u device link cause is a le all x = record {
+  putting = x.putting;
+  there = x.there;
+  signal = x.signal;
+  arrives = arrives_same n f g events more t x.putting device link u x.signal a (sooner t hs cause x.putting all x.there) x.arrives;
+  becomes = x.becomes ∙ judged_same n f g events more hs t u device link cause x.signal a le;
+}
+
+-- ---- what ripens
+
+hearing_state_same : (n : Network) (f g : DeviceId → ℕ → ℕ) (events more : List Event) (hs : List Happening) (t u : ℕ) (device : DeviceId)
+    → Agree n f g events more t → u ≤ t → state_at_hearing (scenario n f events) hs device u ≡ state_at_hearing (scenario n g more) hs device u
+hearing_state_same n f g events more hs t u device a le =
+    ap (λ (x : State). if has_joined_at hs device u then Joining else x) (state_same n f g events more hs t u device a le)
+
+ripens_same : (n : Network) (f g : DeviceId → ℕ → ℕ) (events more : List Event) (hs : List Happening) (t u : ℕ) (device : DeviceId) (link : LinkId) (cause : ℕ)
+    (point : Units) (is : Ripe) → Agree n f g events more t → u ≤ t → AreUpTo t hs
+    → BecomesPermanent (scenario n f events) hs device u link cause point is → BecomesPermanent (scenario n g more) hs device u link cause point is
+ripens_same n f g events more hs t u device link cause point is a le all x =
+    let p = x.permanent in
+    record {
+      frame = x.frame;
+      permanent = record {
+        arrival = p.arrival;
+        there = p.there;
+        from = p.from;
+        clock = p.clock;
+        arrived = p.arrived;
+        of_frame = p.of_frame;
+        waits = p.waits;
+        at_point =
+            p.at_point ∙ ap (λ (m : ℕ). point_of (pos m) p.clock n.dmax.0) (a.reads device (time_of p.arrival) (sooner t hs cause p.arrival all p.there));
+        reached = reach_same n f g events more t u device _ _ a le p.reached;
+        correct = sym (broken_same n f g events more t u device a le) ∙ p.correct;
+      };
+      becomes =
+          let judged = before_permanence hs device u link cause x.frame point in
+          subst (λ (y : State). IsPermanenceOutcome n device y (adjustment_at_hearing (scenario n f events) judged device u).0 (points_of judged device) x.frame
+          point.0
+          is) (hearing_state_same n f g events more judged t u device a le) x.becomes;
+    }
+
+emits_same : (n : Network) (f g : DeviceId → ℕ → ℕ) (events more : List Event) (hs : List Happening) (t u : ℕ) (device : DeviceId) (sent : Compressed)
+    (verdict : Judgement) → Agree n f g events more t → u ≤ t
+    → Emits (scenario n f events) hs device u sent verdict → Emits (scenario n g more) hs device u sent verdict
+emits_same n f g events more hs t u device sent verdict a le x = record {
+  cm = x.cm;
+  correct = sym (broken_same n f g events more t u device a le) ∙ x.correct;
+  clusters = x.clusters;
+  are = x.are;
+  cluster = x.cluster;
+  there = x.there;
+  is = x.is;
+  reached = reach_same n f g events more t u device _ _ a le x.reached;
+  heard =
+      x.heard ∙ ap (λ (y : State). heard_as (plan_of n device) (observation_window n) y (adjustment_at_hearing (scenario n f events) hs device u).0 sent.at.0
+      sent.cycle
+      sent.members) (hearing_state_same n f g events more hs t u device a le);
+}
+
+-- ---- what leaves, and what is dispatched
+
+departure_same : (n : Network) (f g : DeviceId → ℕ → ℕ) (events more : List Event) (t given u : ℕ) (device : DeviceId) (link : LinkId) (frame : Pcf)
+    → Agree n f g events more t → given ≤ t → u ≤ t
+    → departure (scenario n f events) device link frame given u ≡ departure (scenario n g more) device link frame given u
+departure_same n f g events more t given u device link frame a from le =
+    let by = λ (clock : ℕ) (cut : Bool). if nat_lt (amount n.dmax) clock then too_old else (if cut then on_cut_way else leaves clock) in
+    ap (λ (m : ℕ). by (frame.clock + (m - f device given)) (is_cut (scenario n f events) link (way_from n device link) u)) (a.reads device u le)
+    ∙ ap (λ (m : ℕ). by (frame.clock + (g device u - m)) (is_cut (scenario n f events) link (way_from n device link) u)) (a.reads device given from)
+    ∙ ap (λ (b : Bool). by (frame.clock + (g device u - g device given)) b) (cut_same n f g events more t u link (way_from n device link) a le)
+
+departs_same : (n : Network) (f g : DeviceId → ℕ → ℕ) (events more : List Event) (hs : List Happening) (t u : ℕ) (device : DeviceId) (link : LinkId) (cause : ℕ)
+    (is : Departure) → Agree n f g events more t → u ≤ t → AreUpTo t hs
+    → Departs (scenario n f events) hs device u link cause is → Departs (scenario n g more) hs device u link cause is
+departs_same n f g events more hs t u device link cause is a le all x =
+    let from = sooner t hs cause x.giving all x.there in
+    record {
+      giving = x.giving;
+      there = x.there;
+      gives = x.gives;
+      frame = x.frame;
+      of_frame = x.of_frame;
+      held = x.held ∙ ap (λ (m : ℕ). time_of x.giving + m) (hold_same n f g events more t (time_of x.giving) link (way_from n device link) a from);
+      correct = sym (broken_same n f g events more t u device a le) ∙ x.correct;
+      becomes = x.becomes ∙ departure_same n f g events more t (time_of x.giving) u device link x.frame a from le;
+    }
+
+dispatches_same : (n : Network) (f g : DeviceId → ℕ → ℕ) (events more : List Event) (hs : List Happening) (t u : ℕ) (device : DeviceId) (link : LinkId)
+    (cause : ℕ) (vl : VlId) (cycle : ℕ) → Agree n f g events more t → u ≤ t
+    → Dispatches (scenario n f events) hs device u link cause vl cycle → Dispatches (scenario n g more) hs device u link cause vl cycle
+dispatches_same n f g events more hs t u device link cause vl cycle a le x = record {
+  place = x.place;
+  entry = x.entry;
+  row = x.row;
+  by = x.by;
+  of_vl = x.of_vl;
+  leaves = x.leaves;
+  occurs = x.occurs;
+  up = record {
+    synchronised = sym (state_same n f g events more hs t u device a le) ∙ x.up.synchronised;
+    correct = sym (broken_same n f g events more t u device a le) ∙ x.up.correct;
+  };
+  reached = reaches_same n f g events more hs t u device _ a le x.reached;
+  at_hand = x.at_hand;
+}
+
+changes_same : (n : Network) (f g : DeviceId → ℕ → ℕ) (events more : List Event) (hs : List Happening) (t u : ℕ) (device : DeviceId) (state : State) (cause : ℕ)
+    (why : Why) → Agree n f g events more t → u ≤ t → AreUpTo t hs
+    → ChangesState (scenario n f events) hs device u state cause why → ChangesState (scenario n g more) hs device u state cause why
+changes_same n f g events more hs t u device state cause whys.On a le all c = (c.0, sym (broken_same n f g events more t u device a le) ∙ c.1, c.2)
+changes_same n f g events more hs t u device state cause whys.Frame a le all c = c
+changes_same n f g events more hs t u device state cause whys.Correction a le all c = (c.0, sym (state_same n f g events more hs t u device a le) ∙ c.1, c.2)
+changes_same n f g events more hs t u device state cause whys.SyncClique a le all c =
+    (c.0, c.1, (c.2.0, comes_same n f g events more hs t u device c.2.0 _ a le all c.2.1))
+changes_same n f g events more hs t u device state cause whys.AsyncClique a le all c =
+    (c.0, c.1, (c.2.0, comes_same n f g events more hs t u device c.2.0 _ a le all c.2.1))
+
+lost_same : (n : Network) (f g : DeviceId → ℕ → ℕ) (events more : List Event) (hs : List Happening) (t u : ℕ) (device : DeviceId) (link : LinkId) (cause : ℕ)
+    → Agree n f g events more t → u ≤ t → AreUpTo t hs
+    → IsLost (scenario n f events) hs device u link cause → IsLost (scenario n g more) hs device u link cause
+lost_same n f g events more hs t u device link cause a le all (inl d) = inl (departs_same n f g events more hs t u device link cause on_cut_way a le all d)
+lost_same n f g events more hs t u device link cause a le all (inr (inl d)) =
+    inr (inl (d.0, d.1, dispatches_same n f g events more hs t u device link cause d.0 d.1 a le d.2, sym (cut_same n f g events more t u link _ a le) ∙ d.3))
+lost_same n f g events more hs t u device link cause a le all (inr (inr l)) =
+    inr (inr (record {
+      event = l.event;
+      is = l.is;
+      line = l.line;
+      octets = l.octets;
+      sends = l.sends;
+      way = l.way;
+      there = l.there;
+      by = l.by;
+      cut = sym (cut_same n f g events more t u link Up a le) ∙ l.cut;
+    }))
+
+dropped_same : (n : Network) (f g : DeviceId → ℕ → ℕ) (events more : List Event) (hs : List Happening) (t u : ℕ) (device : DeviceId) (link : LinkId) (cause : ℕ)
+    (reason : Reason) → Agree n f g events more t → u ≤ t → AreUpTo t hs
+    → IsDropped (scenario n f events) hs device u link cause reason → IsDropped (scenario n g more) hs device u link cause reason
+dropped_same n f g events more hs t u device link cause reason a le all (inl x) = inl (arrival_same n f g events more hs t u device link cause _ a le all x)
+dropped_same n f g events more hs t u device link cause reason a le all (inr (inl x)) =
+    inr (inl (x.0, ripens_same n f g events more hs t u device link cause x.0 _ a le all x.1))
+dropped_same n f g events more hs t u device link cause reason a le all (inr (inr x)) =
+    inr (inr (departs_same n f g events more hs t u device link cause too_old a le all x.0, x.1))
+
+arrived_same : (n : Network) (f g : DeviceId → ℕ → ℕ) (events more : List Event) (hs : List Happening) (t u : ℕ) (device : DeviceId) (link : LinkId)
+    (cause clock : ℕ) → Agree n f g events more t → u ≤ t → AreUpTo t hs
+    → IsArrivedRecord (scenario n f events) hs device u link cause clock → IsArrivedRecord (scenario n g more) hs device u link cause clock
+arrived_same n f g events more hs t u device link cause clock a le all x = record {
+  frame = x.frame;
+  point = x.point;
+  way = x.way;
+  taken = elim x.taken [
+    | inl w ↦ inl (arrival_same n f g events more hs t u device link cause _ a le all w)
+    | inr (inl p) ↦ inr (inl (arrival_same n f g events more hs t u device link cause _ a le all p))
+    | inr (inr b) ↦ inr (inr (arrival_same n f g events more hs t u device link cause _ a le all b))
+  ];
+  shows = x.shows;
+}
+
+-- it is no record of an event, nor of a clock
+abbrev pub IsOwn : NoteBody → Type 0
+IsOwn (notes.Event line what) = ⊥
+IsOwn (notes.Clock device reading adjustment state) = ⊥
+IsOwn other = Unit {0}
+
+-- what causes a record, but of an event and of a clock, up to the time, causes it in each scenario that agrees
+pub caused_same : (n : Network) (f g : DeviceId → ℕ → ℕ) (events more : List Event) (hs : List Happening) (t : ℕ) (time : Units) (body : NoteBody)
+    → Agree n f g events more t → amount time ≤ t → AreUpTo t hs → IsOwn body
+    → IsCaused (scenario n f events) hs time body → IsCaused (scenario n g more) hs time body
+caused_same n f g events more hs t time (notes.Event line what) a le all it c = absurd it
+caused_same n f g events more hs t time (notes.Clock device reading adjustment state) a le all it c = absurd it
+caused_same n f g events more hs t time (notes.Arrived device link cause clock) a le all it c =
+    arrived_same n f g events more hs t _ device link cause clock a le all c
+caused_same n f g events more hs t time (notes.Permanent device link cause point verdict) a le all it c =
+    ripens_same n f g events more hs t _ device link cause point _ a le all c
+caused_same n f g events more hs t time (notes.Compressed device opened at cycle members verdict) a le all it c =
+    emits_same n f g events more hs t _ device _ verdict a le c
+caused_same n f g events more hs t time (notes.Sent device cycle) a le all it c = sends_same n f g events more hs t _ device cycle a le c
+caused_same n f g events more hs t time (notes.Corrected device cycle by adjustment) a le all it c =
+    record { corrected = comes_same n f g events more hs t _ device cycle _ a le all c.corrected; sum = c.sum }
+caused_same n f g events more hs t time (notes.State device state cause why) a le all it c =
+    changes_same n f g events more hs t _ device state cause why a le all c
+caused_same n f g events more hs t time (notes.Left device link cause clock) a le all it c =
+    departs_same n f g events more hs t _ device link cause _ a le all c
+caused_same n f g events more hs t time (notes.Lost device link cause) a le all it c = lost_same n f g events more hs t _ device link cause a le all c
+caused_same n f g events more hs t time (notes.TtSent device link cause vl cycle) a le all it c =
+    record {
+      dispatches = dispatches_same n f g events more hs t _ device link cause vl cycle a le c.dispatches;
+      whole = sym (cut_same n f g events more t _ link _ a le) ∙ c.whole;
+    }
+caused_same n f g events more hs t time (notes.Accepted device link cause vl cycle) a le all it c =
+    arrival_same n f g events more hs t _ device link cause _ a le all c
+caused_same n f g events more hs t time (notes.Delivered device link cause vl cycle) a le all it c =
+    arrival_same n f g events more hs t _ device link cause _ a le all c
+caused_same n f g events more hs t time (notes.Dropped device link cause reason) a le all it c =
+    dropped_same n f g events more hs t _ device link cause reason a le all c

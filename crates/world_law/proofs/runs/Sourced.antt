@@ -1,0 +1,153 @@
+-- Each record that is due has a source.
+use Rattle.std.proofs.Common.{◌≡◌, ◌⊎◌, ℕ, List, [], ◌∷◌, Option, Some, option_and_then, inl, inr, refl, sym, ap, ◌∙◌, arith}
+use Rattle.std.specs.Option.{option_map_or}
+use Rattle.net_plan.specs.declared.ids.DeviceId.{DeviceId}
+use Rattle.net_plan.specs.declared.ids.LinkId.{LinkId}
+use Rattle.net_plan.specs.declared.network.Network.{Network}
+use Rattle.pcf_values.specs.declared.pcf.Pcf.{Pcf}
+use Rattle.run_law.specs.control.Corrections.{ComesToCorrection}
+use Rattle.run_law.specs.records.Happenings.{Happening, frame_by, frame_from}
+use Rattle.run_law.specs.control.Leaving.{Departs, Departure}
+use Rattle.run_law.specs.records.Order.{IsBefore}
+use Rattle.run_law.specs.control.Permanence.{BecomesPermanent}
+use Rattle.run_law.specs.records.Ranks.{key, members_in, rank}
+use Rattle.run_law.specs.timed.Receptions.{ArrivesAs}
+use Rattle.run_law.specs.control.Losses.{IsDropped, IsLost}
+use Rattle.run_law.specs.device.StateChanges.{ChangesState}
+use Rattle.run_law.specs.runs.DueRecords.{IsArrivedRecord, IsCaused, IsDue}
+use Rattle.run_law.specs.scenario.Scenarios.{Scenario}
+use Rattle.run_law.specs.declared.judgement.Reason.{Reason}
+use Rattle.run_law.specs.declared.judgement.Why.TheVariants as whys
+use Rattle.run_law.specs.declared.judgement.Why.{Why}
+use Rattle.run_law.specs.declared.note.NoteBody.TheVariants as notes
+use Rattle.run_law.specs.declared.note.NoteBody.{NoteBody}
+use Rattle.run_law.specs.declared.steps.Arrival.{Arrival}
+use Rattle.run_law.specs.declared.steps.Ripe.{Ripe}
+use Rattle.sync_state.specs.declared.answers.Verdict.{Verdict}
+use Rattle.sync_state.specs.declared.state.State.{State}
+use Rattle.tte_units.specs.Amount.{amount}
+use Rattle.tte_units.specs.declared.units.Units.{Units}
+use Rattle.world_law.specs.source.Sources.{IsActing, IsOwnSource, IsAtCorrection, IsArriving, IsDeparting, IsRipening, IsSource, IsSourced}
+
+-- a source of the time at this place or before
+abbrev IsSourcedAt : Scenario → List Happening → ℕ → ℕ → NoteBody → List ℕ → Type 0
+IsSourcedAt s hs t members body at = (place : List ℕ) × IsOwnSource s hs t members body place × IsSource s hs place × ((place ≡ at) ⊎ IsBefore place at)
+
+arrival_of_it : (s : Scenario) (hs : List Happening) (t : ℕ) (device : DeviceId) (link : LinkId) (cause : ℕ) (is : Arrival)
+    → ArrivesAs s hs device t link cause is → IsArriving s hs t device link cause
+arrival_of_it s hs t device link cause is a = record { putting = a.putting; there = a.there; signal = a.signal; arrives = a.arrives }
+
+departure_of_it : (s : Scenario) (hs : List Happening) (t : ℕ) (device : DeviceId) (link : LinkId) (cause : ℕ) (is : Departure)
+    → Departs s hs device t link cause is → IsDeparting s hs t device link cause
+departure_of_it s hs t device link cause is d = record { giving = d.giving; there = d.there; gives = d.gives; held = d.held }
+
+point_of_it : (s : Scenario) (hs : List Happening) (t : ℕ) (device : DeviceId) (cycle : ℕ) (verdict : Verdict) → ComesToCorrection s hs device t cycle verdict
+    → IsAtCorrection s hs t device cycle
+point_of_it s hs t device cycle verdict c = record { next = c.next; reached = c.reached; correct = c.correct }
+
+abbrev ripening_of_it : (s : Scenario) (hs : List Happening) (t : ℕ) (device : DeviceId) (link : LinkId) (cause : ℕ) (point : Units) (is : Ripe)
+    → BecomesPermanent s hs device t link cause point is → IsRipening s hs t device link cause point
+ripening_of_it s hs t device link cause point is r = record { frame = r.frame; permanent = r.permanent }
+
+taken_of_it : (s : Scenario) (hs : List Happening) (t : ℕ) (device : DeviceId) (link : LinkId) (cause clock : ℕ)
+    → IsArrivedRecord s hs device t link cause clock → IsArriving s hs t device link cause
+taken_of_it s hs t device link cause clock a =
+    elim a.taken [
+      | inl waits ↦ arrival_of_it s hs t device link cause _ waits
+      | inr (inl passes) ↦ arrival_of_it s hs t device link cause _ passes
+      | inr (inr both) ↦ arrival_of_it s hs t device link cause _ both
+    ]
+
+by_state : (s : Scenario) (hs : List Happening) (t : ℕ) (device : DeviceId) (state : State) (cause : ℕ) (why : Why) → (members : ℕ)
+    → ChangesState s hs device t state cause why → (more : List ℕ) → IsSourcedAt s hs t members (notes.State device state cause why) (t ∷ 7 ∷ more)
+by_state s hs t device state cause whys.On m c more = (t ∷ 2 ∷ [], refl, IsSource.following t cause c.2.1 c.2.2, inr (inr (refl, inl (omega arith))))
+by_state s hs t device state cause whys.Frame m c more = (t ∷ 2 ∷ [], refl, IsSource.following t cause c.1.0 c.1.1, inr (inr (refl, inl (omega arith))))
+by_state s hs t device state cause whys.Correction m c more = (t ∷ 2 ∷ [], refl, IsSource.following t cause c.2.3 c.2.4, inr (inr (refl, inl (omega arith))))
+by_state s hs t device state cause whys.SyncClique m c more = (
+  t ∷ 4 ∷ device.0 ∷ [],
+  refl,
+  IsSource.acting t device (IsActing.correcting c.2.0 (point_of_it s hs t device c.2.0 _ c.2.1)),
+  inr (inr (refl, inl (omega arith))),
+)
+by_state s hs t device state cause whys.AsyncClique m c more = (
+  t ∷ 4 ∷ device.0 ∷ [],
+  refl,
+  IsSource.acting t device (IsActing.correcting c.2.0 (point_of_it s hs t device c.2.0 _ c.2.1)),
+  inr (inr (refl, inl (omega arith))),
+)
+
+by_loss : (s : Scenario) (hs : List Happening) (t : ℕ) (device : DeviceId) (link : LinkId) (cause : ℕ) → (members : ℕ) → IsLost s hs device t link cause
+    → (more : List ℕ) → IsSourcedAt s hs t members (notes.Lost device link cause) (t ∷ 9 ∷ more)
+by_loss s hs t device link cause m (inl departs) more =
+    (_, inl (refl, departs), IsSource.departing t device link cause (departure_of_it s hs t device link cause _ departs), inr (inr (refl, inl (omega arith))))
+by_loss s hs t device link cause m (inr (inl d)) more =
+    (_, inr (inl (refl, (d.0, d.1, d.2))), IsSource.acting t device (IsActing.dispatching link cause d.0 d.1 d.2), inr (inr (refl, inl (omega arith))))
+by_loss s hs t device link cause m (inr (inr send)) more =
+    (_, inr (inr (refl, send)), IsSource.following t cause send.event send.is, inr (inr (refl, inl (omega arith))))
+
+by_drop : (s : Scenario) (hs : List Happening) (t : ℕ) (device : DeviceId) (link : LinkId) (cause : ℕ) (reason : Reason) → (members : ℕ)
+    → IsDropped s hs device t link cause reason → (more : List ℕ) → IsSourcedAt s hs t members (notes.Dropped device link cause reason) (t ∷ 13 ∷ more)
+by_drop s hs t device link cause reason m (inl arrives) more =
+    (_, inl (refl, arrives), IsSource.arriving t device link cause (arrival_of_it s hs t device link cause _ arrives), inr (inr (refl, inl (omega arith))))
+by_drop s hs t device link cause reason m (inr (inl r)) more = (
+  _,
+  inr (inl (r.0, r.1, refl)),
+  IsSource.ripening t device link cause r.0 (ripening_of_it s hs t device link cause r.0 _ r.1),
+  inr (inr (refl, inl (omega arith))),
+)
+by_drop s hs t device link cause reason m (inr (inr d)) more =
+    (_, inr (inr (refl, d.0)), IsSource.departing t device link cause (departure_of_it s hs t device link cause _ d.0), inr (inr (refl, inl (omega arith))))
+
+-- the members of the frame of a record of this body, as a number
+abbrev members_by : Network → List Happening → NoteBody → ℕ
+members_by network hs body = option_map_or (λ frame. frame.members.0) (frame_by network hs body) 0
+
+-- the source of a record of this body
+by_body : (s : Scenario) (hs : List Happening) (time : Units) (members : ℕ) (body : NoteBody) → members ≡ members_by s.network hs body → IsCaused s hs time body
+    → IsSourcedAt s hs (amount time) members body (amount time ∷ rank body ∷ key members body)
+by_body s hs time members (notes.Event line what) m c = (_, refl, IsSource.befalling time line what c, inr (inr (refl, inr (refl, tt))))
+by_body s hs time members (notes.Arrived device link cause clock) m c =
+    (_, refl, IsSource.arriving (amount time) device link cause (taken_of_it s hs (amount time) device link cause clock c), inl refl)
+by_body s hs time members (notes.Permanent device link cause point verdict) m c =
+    let r = ripening_of_it s hs (amount time) device link cause point _ c in
+    let p = r.permanent in
+    let frame : frame_from hs cause ≡ Some r.frame = ap (λ (o : Option Happening). option_and_then (λ h. h.frame) o) p.there ∙ p.of_frame in
+    let same : r.frame.members.0 ≡ members = sym (m ∙ ap (λ (o : Option Pcf). option_map_or (λ f. f.members.0) o 0) frame) in
+    let at = ap (λ (k : ℕ). amount time ∷ 3 ∷ device.0 ∷ amount point ∷ k ∷ link.0 ∷ cause ∷ []) same in (
+      _,
+      at,
+      IsSource.ripening (amount time) device link cause point r,
+      inl (ap (λ (k : ℕ). amount time ∷ 3 ∷ device.0 ∷ amount point ∷ k ∷ link.0 ∷ cause ∷ []) same),
+    )
+by_body s hs time members (notes.Compressed device opened at cycle of_masters verdict) m c =
+    (_, refl, IsSource.acting (amount time) device (IsActing.emitting _ verdict c), inr (inr (refl, inr (refl, inr (refl, tt)))))
+by_body s hs time members (notes.Sent device cycle) m c =
+    (_, refl, IsSource.acting (amount time) device (IsActing.sending cycle c), inr (inr (refl, inl (omega arith))))
+by_body s hs time members (notes.Corrected device cycle by adjustment) m c = (
+  _,
+  refl,
+  IsSource.acting (amount time) device (IsActing.correcting cycle (point_of_it s hs (amount time) device cycle _ c.corrected)),
+  inr (inr (refl, inl (omega arith))),
+)
+by_body s hs time members (notes.State device state cause why) m c = by_state s hs (amount time) device state cause why members c (device.0 ∷ cause ∷ [])
+by_body s hs time members (notes.Left device link cause clock) m c =
+    (_, refl, IsSource.departing (amount time) device link cause (departure_of_it s hs (amount time) device link cause _ c), inl refl)
+by_body s hs time members (notes.Lost device link cause) m c = by_loss s hs (amount time) device link cause members c (device.0 ∷ link.0 ∷ cause ∷ [])
+by_body s hs time members (notes.TtSent device link cause vl cycle) m c =
+    (_, refl, IsSource.acting (amount time) device (IsActing.dispatching link cause vl cycle c.dispatches), inr (inr (refl, inl (omega arith))))
+by_body s hs time members (notes.Accepted device link cause vl cycle) m c =
+    (_, refl, IsSource.arriving (amount time) device link cause (arrival_of_it s hs (amount time) device link cause _ c), inr (inr (refl, inl (omega arith))))
+by_body s hs time members (notes.Delivered device link cause vl cycle) m c =
+    (_, refl, IsSource.arriving (amount time) device link cause (arrival_of_it s hs (amount time) device link cause _ c), inr (inr (refl, inl (omega arith))))
+by_body s hs time members (notes.Dropped device link cause reason) m c =
+    by_drop s hs (amount time) device link cause reason members c (device.0 ∷ link.0 ∷ cause ∷ [])
+by_body s hs time members (notes.Clock device reading adjustment state) m c = (_, refl, IsSource.ending time device c.is c.there c.ends, inl refl)
+
+pub sourced : (s : Scenario) (hs : List Happening) (y : Happening) → IsDue s hs y → IsSourced s hs y
+sourced s hs y due =
+    let found = by_body s hs y.note.time (members_in y) y.note.body (ap members_in due.same) due.cause in record {
+      place = found.0;
+      own = found.1;
+      source = found.2;
+      no_later = found.3;
+    }

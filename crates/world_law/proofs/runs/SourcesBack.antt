@@ -1,0 +1,279 @@
+-- What is to come brings no source that is not behind it.
+use Rattle.std.proofs.Common.{◌≡◌, ◌⊎◌, ℕ, zero, suc, ◌≤◌, ◌<◌, pos, ℤ, ◌<ℤ◌, ◌-ℤ◌, if◌then◌else◌, List, [], ◌∷◌, ◌++◌, Some, None, slice_get, filter, append_assoc, inl, inr, refl, sym, ap, subst, ◌∙◌, arith}
+use Rattle.std.specs.Prelude.{nat_lt, unsigned_abs}
+use Rattle.std.specs.List.{after_last, last_or}
+use Rattle.std.proofs.lemmas.List.{append-nil}
+use Rattle.std.proofs.lemmas.List.Elements.{filter-append}
+use Rattle.std.proofs.lemmas.Int.{ints}
+use Rattle.std.proofs.lemmas.Bool.{cases_Bool, cases_lt}
+use Rattle.compression.specs.Clusters.{AreClusters, Point}
+use Rattle.drift_clock.specs.Reach.{IsReach}
+use Rattle.net_plan.specs.declared.ids.DeviceId.{DeviceId}
+use Rattle.net_plan.specs.declared.ids.LinkId.{LinkId}
+use Rattle.net_plan.specs.declared.network.Network.{Network}
+use Rattle.run_law.specs.device.LocalClocks.{Reaches}
+use Rattle.run_law.specs.control.Collections.{ends_stretch, point_by, points_of, observation_window}
+use Rattle.run_law.specs.control.Corrections.{integration_cycle}
+use Rattle.run_law.specs.scenario.Devices.{plan_of}
+use Rattle.run_law.specs.timed.Dispatching.{Dispatches, IsUp, is_accepted}
+use Rattle.run_law.specs.control.Emissions.{Emits}
+use Rattle.run_law.specs.records.Happenings.{Happening, earlier, numbered, time_of}
+use Rattle.run_law.specs.control.Hearing.{heard_as}
+use Rattle.run_law.specs.control.Leaving.{Gives}
+use Rattle.run_law.specs.records.Order.{IsBefore, IsIn, NoneBefore}
+use Rattle.run_law.specs.records.Ranks.{place_of, rank}
+use Rattle.run_law.specs.scenario.Scenarios.{Scenario, is_turned_on_at}
+use Rattle.run_law.specs.device.States.{adjustment_after, adjustment_at_hearing, state_after, state_at_hearing}
+use Rattle.run_law.specs.control.Wires.{Arrives, Signal}
+use Rattle.run_law.specs.declared.note.NoteBody.TheVariants as notes
+use Rattle.run_law.specs.declared.note.NoteBody.{NoteBody}
+use Rattle.sync_state.specs.Standing.{Standing, next_point}
+use Rattle.sync_state.specs.declared.state.State.TheVariants.{Integrating, Synchronised}
+use Rattle.world_law.proofs.acts.Acted.{no_cluster}
+use Rattle.world_law.proofs.devices.OwnRecords.{earlier_no}
+use Rattle.world_law.proofs.lists.Lists.{behind_no, behind_yes, map_none}
+use Rattle.world_law.specs.device.Told.{change_in, local_in, next_in}
+use Rattle.world_law.specs.source.Sources.{IsActing, IsSource}
+use Rattle.world_law.specs.world.World.{IsForward}
+
+-- ---- lists
+
+get_parts : {X : Type 0} (xs ys : List X) (x : X) (i : ℕ) → slice_get (xs ++ ys) i ≡ Some x → (slice_get xs i ≡ Some x) ⊎ IsIn x ys
+get_parts [] [] x i e = absurd cc
+get_parts [] (y ∷ ys) x zero e = let same : x ≡ y = cc in inr (inl same)
+get_parts [] (y ∷ ys) x (suc i) e = elim (get_parts [] ys x i e) [ inl none ↦ absurd cc | inr more ↦ inr (inr more) ]
+get_parts (z ∷ xs) ys x zero e = inl e
+get_parts (z ∷ xs) ys x (suc i) e = get_parts xs ys x i e
+
+-- the record of a number is given, or is to come
+pub numbered_parts : (hs zs : List Happening) (g : Happening) (cause : ℕ) → numbered (hs ++ zs) cause ≡ Some g → (numbered hs cause ≡ Some g) ⊎ IsIn g zs
+numbered_parts hs zs g zero e = absurd cc
+numbered_parts hs zs g (suc before) e = get_parts hs zs g before e
+
+none_earlier : (t : ℕ) (zs : List Happening) → ((z : Happening) → IsIn z zs → t ≤ time_of z) → earlier t zs ≡ []
+none_earlier t [] of = refl
+none_earlier t (z ∷ zs) of = earlier_no t z zs (of z (inl refl)) ∙ none_earlier t zs (λ y i. of y (inr i))
+
+-- records of a time do not change those before it
+pub earlier_still : (t : ℕ) (hs zs : List Happening) → ((z : Happening) → IsIn z zs → t ≤ time_of z) → earlier t (hs ++ zs) ≡ earlier t hs
+earlier_still t hs zs of =
+    filter-append (λ h. nat_lt (time_of h) t) hs zs
+    ∙ ap (λ (l : List Happening). earlier t hs ++ l) (none_earlier t zs of)
+    ∙ append-nil (earlier t hs)
+
+-- ---- places of one time
+
+-- where a place is not behind one of the time, its time is no later, and at the time its rank is no higher
+pub no_higher : (t k now r : ℕ) (ws more : List ℕ) → (t ∷ k ∷ ws ≡ now ∷ r ∷ more) ⊎ IsBefore (t ∷ k ∷ ws) (now ∷ r ∷ more) → (t < now) ⊎ ((t ≡ now) × (k ≤ r))
+no_higher t k now r ws more (inl e) = let a : t ≡ now = cc in let b : k ≡ r = cc in inr (a, omega (arith, b))
+no_higher t k now r ws more (inr (inl lt)) = inl lt
+no_higher t k now r ws more (inr (inr (e, inl lt))) = inr (e, omega (arith, lt))
+no_higher t k now r ws more (inr (inr (e, inr (f, b)))) = inr (e, omega (arith, f))
+
+-- a record of the time that is not before a place of it has at least its rank
+pub at_least : (g : Happening) (now r : ℕ) (more : List ℕ) → time_of g ≡ now → (IsBefore (place_of g) (now ∷ r ∷ more) → ⊥) → r ≤ rank g.note.body
+at_least g now r more at not = elim (cases_lt (rank g.note.body) r) [ inl lt ↦ absurd (not (inr (at, inl lt))) | inr ge ↦ ge ]
+
+pub gives_rank : (network : Network) (body : NoteBody) (device : DeviceId) (link : LinkId) → Gives network body device link → rank body ≤ 5
+gives_rank network (notes.Sent master cycle) device link g = omega arith
+gives_rank network (notes.Compressed cm opened at cycle members verdict) device link g = omega arith
+gives_rank network (notes.Arrived relay by cause clock) device link g = omega arith
+gives_rank network other device link g = absurd g
+
+-- ---- what acts
+
+of_high_rank : (device : DeviceId) (z : Happening) (body : NoteBody) → 4 ≤ rank body → point_by device z body ≡ None
+of_high_rank device z (notes.Permanent other link cause point verdict) high = absurd (omega (arith, high))
+of_high_rank device z other high = refl
+
+points_one : (hs : List Happening) (z : Happening) (device : DeviceId) → 4 ≤ rank z.note.body → (points_of (hs ++ z ∷ []) device ≡ points_of hs device)
+    ⊎ (points_of (hs ++ z ∷ []) device ≡ [])
+points_one hs z device high =
+    let p = λ (h : Happening). ends_stretch device h.note.body in
+    let f = λ (h : Happening). point_by device h h.note.body in
+    elim (cases_Bool (p z)) [
+      | inl ends ↦ inr (ap (Rattle.std.specs.Prelude.filter_map f) (behind_yes p hs z ends))
+      | inr stays ↦ inl (ap (Rattle.std.specs.Prelude.filter_map f) (behind_no p hs z stays)
+          ∙ map_none f (after_last p hs) z (of_high_rank device z z.note.body high))
+    ]
+
+pub points_back : (zs hs : List Happening) (device : DeviceId) → ((z : Happening) → IsIn z zs → 4 ≤ rank z.note.body)
+    → (points_of (hs ++ zs) device ≡ points_of hs device) ⊎ (points_of (hs ++ zs) device ≡ [])
+points_back [] hs device high = inl (ap (λ (l : List Happening). points_of l device) (append-nil hs))
+points_back (z ∷ zs) hs device high =
+    let moved : points_of (hs ++ z ∷ zs) device ≡ points_of ((hs ++ z ∷ []) ++ zs) device = ap (λ (l : List Happening). points_of l device)
+    (sym (append_assoc hs (z ∷ []) zs)) in
+    elim (points_back zs (hs ++ z ∷ []) device (λ y i. high y (inr i))) [
+      | inr none ↦ inr (moved ∙ none)
+      | inl same ↦ elim (points_one hs z device (high z (inl refl))) [ inl still ↦ inl (moved ∙ same ∙ still) | inr none ↦ inr (moved ∙ same ∙ none) ]
+    ]
+
+abbrev pub standing_in : Scenario → DeviceId → ℕ → List Happening → Standing
+standing_in s device t w = record {
+  plan = plan_of s.network device;
+  state = if is_turned_on_at s device t then Integrating else state_after s w device;
+  adjustment = adjustment_after s w device;
+  number = next_in s device w t;
+  integrated = integration_cycle w device;
+}
+
+pub reaches_back : (s : Scenario) (js hs : List Happening) (t : ℕ) (device : DeviceId) (v : ℤ) → earlier t js ≡ earlier t hs → Reaches s js device v t
+    → Reaches s hs device v t
+reaches_back s js hs t device v same r = record {
+  below = subst (λ (w : List Happening). local_in s device w <ℤ v) same r.below;
+  reach = subst (λ (w : List Happening). IsReach (s.reading device) (pos (change_in device w)) (v -ℤ (adjustment_after s w device).0) (pos t)) same r.reach;
+}
+
+pub up_back : (s : Scenario) (js hs : List Happening) (t : ℕ) (device : DeviceId) → earlier t js ≡ earlier t hs → IsUp s js device t → IsUp s hs device t
+up_back s js hs t device same up = record {
+  synchronised =
+      subst (λ (w : List Happening). (if is_turned_on_at s device t then Integrating else state_after s w device) ≡ Synchronised) same up.synchronised;
+  correct = up.correct;
+}
+
+pub dispatches_back : (s : Scenario) (js hs : List Happening) (t : ℕ) (device : DeviceId) (link : LinkId) (cause : ℕ) (vl : _) (cycle : ℕ)
+    → earlier t js ≡ earlier t hs → Dispatches s js device t link cause vl cycle → Dispatches s hs device t link cause vl cycle
+dispatches_back s js hs t device link cause vl cycle same d = record {
+  place = d.place;
+  entry = d.entry;
+  row = d.row;
+  by = d.by;
+  of_vl = d.of_vl;
+  leaves = d.leaves;
+  occurs = d.occurs;
+  up = up_back s js hs t device same d.up;
+  reached = reaches_back s js hs t device _ same d.reached;
+  at_hand = elim d.at_hand [
+    | inl sender ↦ inl sender
+    | inr took ↦
+        inr (
+          took.0,
+          record {
+            taken = took.1.taken;
+            last =
+                subst (λ (w : List Happening). last_or None (filter (λ h. is_accepted device d.entry.row.vl h.note.body) w) ≡ Some took.1.taken) same
+                took.1.last;
+            number = took.1.number;
+            link = took.1.link;
+            from = took.1.from;
+            is = took.1.is;
+          },
+        )
+  ];
+}
+
+emits_back : (s : Scenario) (hs zs : List Happening) (t : ℕ) (device : DeviceId) (sent : _) (verdict : _) → ((z : Happening) → IsIn z zs → 4 ≤ rank z.note.body)
+    → Emits s (hs ++ zs) device t sent verdict → IsActing s hs t device
+emits_back s hs zs t device sent verdict high e =
+    elim (points_back zs hs device high) [
+      | inl same ↦
+          IsActing.emitting sent (heard_as (plan_of s.network device) (observation_window s.network) (state_at_hearing s hs device t)
+          (adjustment_at_hearing s hs device t).0 sent.at.0 sent.cycle sent.members) (record {
+            cm = e.cm;
+            correct = e.correct;
+            clusters = e.clusters;
+            are = subst (λ (l : List Point). AreClusters (observation_window s.network) l e.clusters) same e.are;
+            cluster = e.cluster;
+            there = e.there;
+            is = e.is;
+            reached = e.reached;
+            heard = refl;
+          })
+      | inr none ↦ absurd (no_cluster (observation_window s.network) e.clusters e.cluster
+          (subst (λ (l : List Point). AreClusters (observation_window s.network) l e.clusters) none e.are) e.there)
+    ]
+
+-- what acts by the records with those to come, where these have the rank of acts or a higher one, acts by those given
+pub acting_back : (s : Scenario) (hs zs : List Happening) (t : ℕ) (device : DeviceId) → ((z : Happening) → IsIn z zs → t ≤ time_of z)
+    → ((z : Happening) → IsIn z zs → 4 ≤ rank z.note.body) → IsActing s (hs ++ zs) t device → IsActing s hs t device
+acting_back s hs zs t device of high (IsActing.sending cycle d) =
+    let same = earlier_still t hs zs of in
+    IsActing.sending cycle
+    (record {
+      master = d.master;
+      up = up_back s (hs ++ zs) hs t device same d.up;
+      begun = d.begun;
+      reached = reaches_back s (hs ++ zs) hs t device _ same
+          d.reached;
+    })
+acting_back s hs zs t device of high (IsActing.emitting sent verdict e) = emits_back s hs zs t device sent verdict high e
+acting_back s hs zs t device of high (IsActing.correcting cycle d) =
+    let same = earlier_still t hs zs of in
+    IsActing.correcting cycle
+    (record {
+      next = subst (λ (w : List Happening). next_point (standing_in s device t w) ≡ Some cycle) same d.next;
+      reached = reaches_back s (hs ++ zs) hs
+          t device _ same d.reached;
+      correct = d.correct;
+    })
+acting_back s hs zs t device of high (IsActing.dispatching link cause vl cycle d) =
+    IsActing.dispatching link cause vl cycle (dispatches_back s (hs ++ zs) hs t device link cause vl cycle (earlier_still t hs zs of) d)
+
+-- ---- all sources
+
+-- what the source is: one by the records given, one of an earlier time, or the records of this time
+abbrev pub IsBack : Scenario → List Happening → ℕ → List ℕ → Type 0
+IsBack s hs now w = IsSource s hs w ⊎ (IsBefore w (now ∷ []) ⊎ (w ≡ now ∷ 2 ∷ []))
+
+pub arrives_later : (s : Scenario) (g : Happening) (device : DeviceId) (link : LinkId) (t : ℕ) (signal : Signal) → IsForward s
+    → Arrives s g device link t signal → time_of g < t
+arrives_later s g device link t signal forward a = let one = forward link a.way device (time_of g) a.receiver in omega (arith, one, a.at)
+
+pub source_back : (s : Scenario) (hs zs : List Happening) (now r : ℕ) (more : List ℕ) → IsForward s → ((z : Happening) → IsIn z zs → time_of z ≡ now)
+    → NoneBefore place_of zs (now ∷ r ∷ more)
+    → (w : List ℕ) → IsSource s (hs ++ zs) w → (w ≡ now ∷ r ∷ more) ⊎ IsBefore w (now ∷ r ∷ more) → IsBack s hs now w
+source_back s hs zs now r more forward of none w (IsSource.arriving t device link cause a) le =
+    elim (numbered_parts hs zs a.putting cause a.there) [
+      | inl old ↦ inl (IsSource.arriving t device link cause (record { putting = a.putting; there = old; signal = a.signal; arrives = a.arrives }))
+      | inr new ↦
+          let later = arrives_later s a.putting device link t a.signal forward a.arrives in
+          let at = of a.putting new in
+          elim (no_higher t 2 now r _ more le) [ inl lt ↦ absurd (omega (arith, later, at, lt)) | inr same ↦ absurd (omega (arith, later, at, same.0)) ]
+    ]
+source_back s hs zs now r more forward of none w (IsSource.ripening t device link cause point x) le =
+    let p = x.permanent in
+    elim (numbered_parts hs zs p.arrival cause p.there) [
+      | inl old ↦
+          inl (IsSource.ripening t device link cause point (record {
+            frame = x.frame;
+            permanent = record {
+              arrival = p.arrival;
+              there = old;
+              from = p.from;
+              clock = p.clock;
+              arrived = p.arrived;
+              of_frame = p.of_frame;
+              waits = p.waits;
+              at_point = p.at_point;
+              reached = p.reached;
+              correct = p.correct;
+            };
+          }))
+      | inr new ↦
+          let at = of p.arrival new in
+          let low = at_least p.arrival now r more at (none p.arrival new) in
+          let two : rank p.arrival.note.body ≡ 2 = ap rank p.arrived in
+          let from = p.reached.from_on in
+          elim (no_higher t 3 now r _ more le) [ inl lt ↦ absurd (omega (arith, ints, from, at, lt)) | inr same ↦ absurd (omega (arith, low, two, same.1)) ]
+    ]
+source_back s hs zs now r more forward of none w (IsSource.acting t device a) le =
+    elim (no_higher t 4 now r _ more le) [
+      | inl lt ↦ inr (inl (inl lt))
+      | inr same ↦
+          inl (IsSource.acting t device (acting_back s hs zs t device (λ z i. let at = of z i in omega (arith, at, same.0))
+          (λ z i. let low = at_least z now r more (of z i) (none z i) in omega (arith, low, same.1)) a))
+    ]
+source_back s hs zs now r more forward of none w (IsSource.departing t device link cause d) le =
+    elim (numbered_parts hs zs d.giving cause d.there) [
+      | inl old ↦ inl (IsSource.departing t device link cause (record { giving = d.giving; there = old; gives = d.gives; held = d.held }))
+      | inr new ↦
+          let at = of d.giving new in
+          let low = at_least d.giving now r more at (none d.giving new) in
+          let few = gives_rank s.network d.giving.note.body device link d.gives in
+          let held = d.held in
+          elim (no_higher t 8 now r _ more le) [ inl lt ↦ absurd (omega (arith, held, at, lt)) | inr same ↦ absurd (omega (arith, low, few, same.1)) ]
+    ]
+source_back s hs zs now r more forward of none w (IsSource.following t cause h it) le =
+    elim (no_higher t 2 now r _ more le) [ inl lt ↦ inr (inl (inl lt)) | inr same ↦ inr (inr (ap (λ (n : ℕ). n ∷ 2 ∷ []) same.0)) ]
+source_back s hs zs now r more forward of none w (IsSource.befalling time line what it) le = inl (IsSource.befalling time line what it)
+source_back s hs zs now r more forward of none w (IsSource.ending time device is there it) le = inl (IsSource.ending time device is there it)

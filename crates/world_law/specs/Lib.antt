@@ -1,0 +1,3 @@
+pub mod device
+pub mod source
+pub mod world

@@ -1,0 +1,485 @@
+-- What a world keeps, and where the events applied to it and the records that it gave leave it.
+use Rattle.std.specs.Prelude.{◌≡◌, ◌⊎◌, ◌↔◌, ℕ, ◌+◌, ◌-◌, ◌^◌, ◌≤◌, ◌<◌, pos, ◌≤ℤ◌, List, [], ◌∷◌, ◌++◌, ◌==◌, length, map, slice_get, Some, IsSomeAnd, Bool, true, false, nat_lt, if◌then◌else◌}
+use Rattle.net_plan.specs.declared.event.Event.{Event}
+use Rattle.net_plan.specs.declared.event.What.TheVariants as events
+use Rattle.net_plan.specs.declared.event.What.{What}
+use Rattle.net_plan.specs.declared.ids.DeviceId.{DeviceId}
+use Rattle.net_plan.specs.declared.ids.LinkId.{LinkId}
+use Rattle.net_plan.specs.Places.{link_at}
+use Rattle.net_plan.specs.Ranges.{IsInRange}
+use Rattle.net_plan.specs.declared.network.Network.{Network}
+use Rattle.schedule_tables.specs.Rules.{KeepsRules}
+use Rattle.net_plan.specs.declared.tables.Way.TheVariants.{Up, Down}
+use Rattle.net_plan.specs.declared.tables.Way.{Way}
+use Rattle.pcf_values.specs.declared.pcf.Pcf.{Pcf}
+use Rattle.run_law.specs.device.LocalClocks.{changed_at}
+use Rattle.run_law.specs.scenario.Devices.{is_cm, is_end}
+use Rattle.run_law.specs.records.Happenings.{Happening, earlier, happenings, numbered, time_of, up_to}
+use Rattle.run_law.specs.control.Leaving.{Gives}
+use Rattle.run_law.specs.machines.Nodes.{Node, Phase, turning_on, arriving, ripening, acting}
+use Rattle.run_law.specs.records.Order.{AllBefore, IsBefore, IsIn, NoneBefore, behind}
+use Rattle.run_law.specs.control.Permanence.{waits_for}
+use Rattle.run_law.specs.records.Ranks.{members_in, place_of}
+use Rattle.run_law.specs.records.Causes.{IsOfThisTime}
+use Rattle.run_law.specs.runs.DueRecords.{EndsAt, IsDue, IsScenarioRun}
+use Rattle.run_law.specs.scenario.Scenarios.{Scenario, is_broken, is_turned_on_at}
+use Rattle.run_law.specs.device.States.{adjustment_after, state_after, state_before}
+use Rattle.run_law.specs.control.Wires.{Arrives, Signal}
+use Rattle.run_law.specs.scenario.Ways.{delay_at, hold_at, is_cut, receiver_of, way_from}
+use Rattle.run_law.specs.declared.judgement.Why.TheVariants.{On}
+use Rattle.run_law.specs.declared.note.Note.{Note}
+use Rattle.run_law.specs.declared.note.NoteBody.TheVariants as notes
+use Rattle.run_law.specs.declared.note.NoteBody.{NoteBody}
+use Rattle.sync_state.specs.declared.state.State.TheVariants.{Integrating, Off}
+use Rattle.transparent_clock.specs.Points.{point_of}
+use Rattle.tte_units.specs.Amount.{amount}
+use Rattle.tte_units.specs.declared.units.Units.{Units}
+use Rattle.world_law.specs.device.Ready.{IsReadyAt, IsSteady}
+use Rattle.world_law.specs.device.Deeds.{HasDoneFrom, HasSentFrom}
+use Rattle.world_law.specs.device.Left.{HasTaskBy, IsLeft}
+use Rattle.world_law.specs.device.Own.{moves}
+use Rattle.world_law.specs.device.Takings.{frames_taken}
+use Rattle.world_law.specs.source.First.{NoSourceBefore}
+use Rattle.world_law.specs.source.Sources.{IsActing, IsArriving, IsDeparting, IsOwnSource, IsRipening, IsSource}
+
+-- what is on a wire: when it arrives, where, by which link, the record that put it there, and what it is
+pub record OnWire : Type 0 where
+  pub at : ℕ
+  pub device : DeviceId
+  pub link : LinkId
+  pub cause : ℕ
+  pub signal : Signal
+
+-- a control frame at a port: when it leaves, of which device, by which link, the record that gave it, the frame, and
+-- what the device's clock read when it gave it
+pub record AtPort : Type 0 where
+  pub at : ℕ
+  pub device : DeviceId
+  pub link : LinkId
+  pub cause : ℕ
+  pub frame : Pcf
+  pub reading : ℕ
+
+-- a frame that waits at a device for its permanence
+pub record Waiting : Type 0 where
+  pub device : DeviceId
+  pub link : LinkId
+  pub cause : ℕ
+  pub frame : Pcf
+  pub point : Units
+
+-- an event of the present instant, by the number of its record, whose outcome is not settled yet
+pub record Befell : Type 0 where
+  pub number : ℕ
+  pub what : What
+
+-- they befell in this order: each has a higher number than those before it
+abbrev pub AreInOrder : List Befell → Type 0
+AreInOrder [] = Unit {0}
+AreInOrder (e ∷ befell) = ((f : Befell) → IsIn f befell → e.number < f.number) × AreInOrder befell
+
+-- how a way of a link is at present
+pub record WayNow : Type 0 where
+  pub delay : ℕ
+  pub hold : ℕ
+  pub cut : Bool
+
+-- a world. While it is `early` at the present instant, nothing but events of it is worked off. While some are
+-- `pending`,
+-- what befell is kept: a later event of the instant may change what comes of it. What is settled are records of the
+-- present instant that are still to be given, in their order, with the number 0, and where they follow one of the
+-- others
+-- with the cause `none_yet`
+pub record World (C M : Type 0) : Type 0 where
+  pub network : Network
+  pub clocks : List C
+  pub machines : List M
+  pub broken : List Bool
+  pub ups : List WayNow
+  pub downs : List WayNow
+  pub wires : List OnWire
+  pub ports : List AtPort
+  pub waiting : List Waiting
+  pub early : Bool
+  pub pending : Bool
+  pub befell : List Befell
+  pub settled : List Happening
+  pub now : ℕ
+  pub lines : ℕ
+  pub given : ℕ
+  pub ended : Bool
+  pub shown : ℕ
+
+-- ---- the places of what is under way
+
+-- where what is on a wire arrives
+abbrev pub wire_place : OnWire → List ℕ
+wire_place e = e.at ∷ 2 ∷ e.device.0 ∷ e.link.0 ∷ e.cause ∷ []
+
+-- where what is at a port leaves
+abbrev pub port_place : AtPort → List ℕ
+port_place e = e.at ∷ 8 ∷ e.device.0 ∷ e.link.0 ∷ e.cause ∷ []
+
+-- where a frame that waits is permanent, if that is at this time
+abbrev pub ripe_place : ℕ → Waiting → List ℕ
+ripe_place t e = t ∷ 3 ∷ e.device.0 ∷ amount e.point ∷ e.frame.members.0 ∷ e.link.0 ∷ e.cause ∷ []
+
+-- where a device acts by itself at the time
+abbrev pub act_place : ℕ → DeviceId → List ℕ
+act_place t device = t ∷ 4 ∷ device.0 ∷ []
+
+-- where a device's clock is shown, at the end
+abbrev pub clock_place : ℕ → DeviceId → List ℕ
+clock_place t device = t ∷ 14 ∷ device.0 ∷ []
+
+-- ---- records whose numbers are not yet known
+
+-- the number of a record that is not yet given: more than any
+abbrev pub none_yet : ℕ
+none_yet = 2 ^ 64 - 1
+
+-- what a record says, where so many are given: the cause of a change of state may be one that is not
+abbrev pub hidden_body : ℕ → NoteBody → NoteBody
+hidden_body given (notes.State device state cause why) =
+    notes.State device state (if nat_lt given cause then none_yet else cause) why
+hidden_body given other = other
+
+-- a record that is to come, as the world keeps it where so many are given
+abbrev pub hidden : ℕ → Happening → Happening
+hidden given z = record z { note = record z.note { number = 0; body = hidden_body given z.note.body } }
+
+-- ---- what is under way, by the records
+
+-- each frame needs some time on its wire
+abbrev pub IsForward : Scenario → Type 0
+IsForward s =
+    (link : LinkId) (way : Way) (device : DeviceId) (t : ℕ) → receiver_of s.network link way ≡ Some device
+    → 1 ≤ delay_at s link way t
+
+-- the record of this number put it on the wire
+pub record IsOnWire (s : Scenario) (hs : List Happening) (e : OnWire) : Type 0 where
+  pub putting : Happening
+  pub there : numbered hs e.cause ≡ Some putting
+  pub arrives : Arrives s putting e.device e.link e.at e.signal
+
+-- the wires have what the records put there, and is not worked off; but not what pending events of the instant put
+-- there
+pub record AreOnWires (s : Scenario) (hs : List Happening) (cursor : List ℕ) (now : ℕ) (pending : Bool)
+    (wires : List OnWire) : Type 0 where
+  pub real : (e : OnWire) → IsIn e wires → (it : IsOnWire s hs e) × (pending ≡ true → time_of it.putting ≡ now → ⊥)
+      × (IsBefore (wire_place e) cursor → ⊥)
+  pub all : (t : ℕ) (device : DeviceId) (link : LinkId) (cause : ℕ) → (a : IsArriving s hs t device link cause)
+      → (pending ≡ true → time_of a.putting ≡ now → ⊥) → (IsBefore (t ∷ 2 ∷ device.0 ∷ link.0 ∷ cause ∷ []) cursor → ⊥)
+      → (e : OnWire) × IsIn e wires × (wire_place e ≡ t ∷ 2 ∷ device.0 ∷ link.0 ∷ cause ∷ [])
+
+-- the record gave the frame to the link
+pub record IsGivenBy (s : Scenario) (giving : Happening) (e : AtPort) : Type 0 where
+  pub gives : Gives s.network giving.note.body e.device e.link
+  pub held : e.at ≡ time_of giving + hold_at s e.link (way_from s.network e.device e.link) (time_of giving)
+  pub of_frame : giving.frame ≡ Some e.frame
+  pub read : e.reading ≡ s.reading e.device (time_of giving)
+
+-- the record of this number gave it to the port
+pub record IsAtPort (s : Scenario) (hs : List Happening) (e : AtPort) : Type 0 where
+  pub giving : Happening
+  pub there : numbered hs e.cause ≡ Some giving
+  pub gave : IsGivenBy s giving e
+
+-- the ports have what the records gave them, and is not worked off
+pub record AreAtPorts (s : Scenario) (hs : List Happening) (cursor : List ℕ) (ports : List AtPort) : Type 0 where
+  pub real : (e : AtPort) → IsIn e ports → IsAtPort s hs e × (IsBefore (port_place e) cursor → ⊥)
+  pub all : (t : ℕ) (device : DeviceId) (link : LinkId) (cause : ℕ) → IsDeparting s hs t device link cause
+      → (IsBefore (t ∷ 8 ∷ device.0 ∷ link.0 ∷ cause ∷ []) cursor → ⊥)
+      → (e : AtPort) × IsIn e ports × (port_place e ≡ t ∷ 8 ∷ device.0 ∷ link.0 ∷ cause ∷ [])
+
+-- for this arrival the device waits
+pub record IsAwaitedFor (s : Scenario) (arrival : Happening) (e : Waiting) : Type 0 where
+  pub from : ℕ
+  pub clock : ℕ
+  pub arrived : arrival.note.body ≡ notes.Arrived e.device e.link from clock
+  pub of_frame : arrival.frame ≡ Some e.frame
+  pub waits : waits_for s.network e.device e.link ≡ true
+  pub at_point : e.point.0 ≡ point_of (pos (s.reading e.device (time_of arrival))) clock s.network.dmax.0
+
+-- the record of this number is its arrival
+pub record IsWaitingFor (s : Scenario) (hs : List Happening) (e : Waiting) : Type 0 where
+  pub arrival : Happening
+  pub there : numbered hs e.cause ≡ Some arrival
+  pub awaited : IsAwaitedFor s arrival e
+
+-- the frames that wait are those of the records for whose permanence their devices wait, and that are not worked off,
+-- whether or not a reading ever comes to their points
+pub record AreWaiting (s : Scenario) (hs : List Happening) (cursor : List ℕ) (now : ℕ)
+    (waiting : List Waiting) : Type 0 where
+  pub real : (e : Waiting) → IsIn e waiting → IsWaitingFor s hs e
+  pub later : (e : Waiting) → IsIn e waiting → (t : ℕ) → IsRipening s hs t e.device e.link e.cause e.point
+      → IsBefore (ripe_place t e) cursor → ⊥
+  pub sound : (e : Waiting) → IsIn e waiting → is_broken s e.device now ≡ false
+  pub all : (e : Waiting) → IsWaitingFor s hs e → is_broken s e.device now ≡ false
+      → ((t : ℕ) → IsRipening s hs t e.device e.link e.cause e.point → IsBefore (ripe_place t e) cursor → ⊥)
+      → IsIn e waiting
+
+-- ---- a device
+
+-- the time up to which the device has acted: it acts at the present instant, where its acts are worked off only if it
+-- had none; or that instant is over for it, where it has acted, or a frame has told it the time, so that no frame
+-- arrives any more
+abbrev pub IsActedUpTo : Scenario → List Happening → ℕ → DeviceId → List ℕ → ℕ → Type 0
+IsActedUpTo s hs now device cursor up =
+    ((up ≡ now) × (IsBefore (act_place now device) cursor → IsActing s hs now device → ⊥))
+    ⊎ ((up ≡ now + 1) × ((p : List ℕ) → IsBefore p (now ∷ 3 ∷ []) → IsBefore p cursor))
+
+-- the kind of call as the rank of its source
+abbrev pub rank_of_call : Phase → ℕ
+rank_of_call turning_on = 1
+rank_of_call arriving = 2
+rank_of_call ripening = 3
+rank_of_call acting = 4
+
+-- the record that the device looks for the common time, as an event turned it on
+abbrev pub is_turning : DeviceId → NoteBody → Bool
+is_turning device (notes.State other Integrating cause On) = device.0 == other.0
+is_turning device other = false
+
+-- the record that it was turned on at this time is there
+pub record IsTurnedOnBy (hs : List Happening) (device : DeviceId) (now : ℕ) : Type 0 where
+  pub by : Happening
+  pub there : IsIn by hs
+  pub at : time_of by ≡ now
+  pub turning : is_turning device by.note.body ≡ true
+
+-- it is turned on at this very time: before it was off, an event's record is given, and once what befell is settled,
+-- the record that it was turned on is there
+pub record HasTurnedOn (s : Scenario) (hs coming : List Happening) (cursor : List ℕ) (device : DeviceId)
+    (now : ℕ) : Type 0 where
+  pub off : state_after s (earlier now (hs ++ coming)) device ≡ Off
+  pub number : ℕ
+  pub event : Happening
+  pub befell : IsOfThisTime hs now number event
+  pub turned : IsBefore (now ∷ 2 ∷ []) cursor → IsTurnedOnBy (hs ++ coming) device now
+
+-- the record does not move the device, or it is that it was turned on, as it was at this time
+abbrev pub IsAtRest : Scenario → DeviceId → ℕ → NoteBody → Type 0
+IsAtRest s device now body =
+    (moves device body ≡ false) ⊎ ((is_turning device body ≡ true) × (is_turned_on_at s device now ≡ true))
+
+-- before the time the device looked for the common time, and no compression master does so by a frame that it waits for
+pub record IsJustTold (s : Scenario) (hs : List Happening) (device : DeviceId) (now : ℕ) : Type 0 where
+  pub looking : state_before s hs device now ≡ Integrating
+  pub other : is_cm s.network device ≡ false
+
+-- the last call of the device's machine is not later than the place up to which all is worked off
+abbrev pub IsCalledBy : Node → List ℕ → ℕ → Type 0
+IsCalledBy node cursor now =
+    node.last.time.0 ≡ pos now → (p : List ℕ) → IsBefore p (now ∷ rank_of_call node.phase ∷ []) → IsBefore p cursor
+
+-- the machine of a sound device stands for a node that the records, those given and those to come, leave it; it has
+-- taken what they say, it has done and sent what its clock had come to, and it may be called from now on. While it
+-- acts,
+-- something more is due. Only a compression master has points, and sends for them.
+-- Where it has not acted, no record of the instant moves it but that it was turned on; where it has, its acts are
+-- worked off, or it had none, as a frame told it the time
+pub record IsKept {M : Type 0} (stands : M → Network → DeviceId → Node → Type 0) (s : Scenario)
+    (hs coming : List Happening) (cursor : List ℕ) (now : ℕ) (device : DeviceId) (machine : M) : Type 0 where
+  pub node : Node
+  pub is : stands machine s.network device node
+  pub sound : is_broken s device now ≡ false
+  pub up : ℕ
+  pub acted : IsActedUpTo s hs now device cursor up
+  pub high : ℕ
+  pub doing : (high ≡ up)
+      ⊎ ((up ≡ now) × (high ≡ now + 1) × ((p : List ℕ) → IsBefore p (act_place now device) → IsBefore p cursor)
+      × HasTaskBy s device node now)
+  pub told : up ≡ now + 1 → IsBefore (act_place now device) cursor ⊎ IsJustTold s (hs ++ coming) device now
+  pub left : IsLeft s (hs ++ coming) device up node
+  pub taken : node.taken ≡ frames_taken s (hs ++ coming) device
+  pub done : HasDoneFrom s.network (s.reading device) device node (changed_at (hs ++ coming) device up) up high
+  pub sent : HasSentFrom s device node up high
+  pub bare : is_cm s.network device ≡ false → (node.points ≡ []) × (node.emitted ≡ [])
+  pub ready : IsReadyAt (s.reading device) s.network device node now
+  pub still : up ≡ now → (h : Happening) → IsIn h (hs ++ coming) → time_of h ≡ now → IsAtRest s device now h.note.body
+  pub turned : is_turned_on_at s device now ≡ true → HasTurnedOn s hs coming cursor device now
+  pub phase : IsCalledBy node cursor now
+
+-- the machine stands for a device that is broken: it keeps the state and the adjustment of the records, and has no
+-- task. What it heard, has done and sent does not count any more
+pub record IsOut {M : Type 0} (stands : M → Network → DeviceId → Node → Type 0) (s : Scenario)
+    (hs coming : List Happening) (cursor : List ℕ) (now : ℕ) (device : DeviceId) (machine : M) : Type 0 where
+  pub node : Node
+  pub is : stands machine s.network device node
+  pub broken : is_broken s device now ≡ true
+  pub shows : node.broken ≡ true
+  pub state : node.standing.state ≡ state_after s (up_to now (hs ++ coming)) device
+  pub adjustment : node.standing.adjustment ≡ adjustment_after s (up_to now (hs ++ coming)) device
+  pub ready : IsReadyAt (s.reading device) s.network device node now
+  pub phase : IsCalledBy node cursor now
+
+-- the machine stands for its device, sound or broken
+abbrev pub IsHeld : {M : Type 0} → (M → Network → DeviceId → Node → Type 0) → Scenario → List Happening → List Happening
+    → List ℕ → ℕ → DeviceId → M → Type 0
+IsHeld stands s hs coming cursor now device machine =
+    IsKept stands s hs coming cursor now device machine ⊎ IsOut stands s hs coming cursor now device machine
+
+-- ---- what is settled
+
+-- the source that the record comes from is worked off
+abbrev pub IsWorkedOff : Scenario → List Happening → List ℕ → Happening → Type 0
+IsWorkedOff s hs cursor y =
+    (w : List ℕ) × IsOwnSource s hs (time_of y) (members_in y) y.note.body w × IsSource s hs w × IsBefore w cursor
+
+-- or it is taken up: the cursor is at it, as a device acts there that has more to do at this instant
+abbrev pub IsTakenUp : Scenario → List Happening → List ℕ → Happening → Type 0
+IsTakenUp s hs cursor y =
+    (w : List ℕ) × IsOwnSource s hs (time_of y) (members_in y) y.note.body w × IsSource s hs w
+    × (IsBefore w cursor ⊎ ((w ≡ cursor) × ((device : DeviceId) × (w ≡ act_place (time_of y) device))))
+
+-- may a source stand at the very place of such a record?
+abbrev pub is_at_source : NoteBody → Bool
+is_at_source (notes.Arrived device link cause clock) = true
+is_at_source (notes.Permanent device link cause point verdict) = true
+is_at_source (notes.Left device link cause clock) = true
+is_at_source (notes.Clock device reading adjustment state) = true
+is_at_source other = false
+
+-- the records that are to come, with the numbers that they will have, are together with those given the run of the
+-- sources that are worked off: each stands after those before it, is due given them, and comes from such a source, or
+-- from one that is taken up; each that is due by a source that is worked off has a record at its place; and none is far
+-- behind the cursor
+pub record AreSettled (s : Scenario) (hs coming : List Happening) (mark cursor : List ℕ) (now : ℕ) : Type 0 where
+  pub of_now : (z : Happening) → IsIn z coming → time_of z ≡ now
+  pub behind_mark : (z : Happening) → IsIn z coming → IsBefore (place_of z) mark → ⊥
+  pub founded : (front rest : List Happening) (z : Happening) → coming ≡ front ++ z ∷ rest
+      → AllBefore place_of front (place_of z) × IsDue s (hs ++ front) z
+  pub by : (front rest : List Happening) (z : Happening) → coming ≡ front ++ z ∷ rest
+      → IsTakenUp s (hs ++ front) cursor z
+  pub full : (front back : List Happening) (y : Happening) → coming ≡ front ++ back
+      → AllBefore place_of front (place_of y) → NoneBefore place_of back (place_of y) → (IsBefore (place_of y) mark → ⊥)
+      → IsDue s (hs ++ front) y → IsWorkedOff s (hs ++ front) cursor y → (z : Happening) × IsIn z coming
+      × (place_of z ≡ place_of y)
+  pub not_past : (z : Happening) → IsIn z coming → (p : List ℕ) → IsBefore p cursor → IsBefore p (behind (place_of z))
+  pub worked : (z : Happening) → IsIn z coming → is_at_source z.note.body ≡ true → IsBefore (place_of z) cursor
+  pub begun : (z : Happening) → IsIn z coming → IsBefore (now ∷ 2 ∷ []) cursor
+
+-- ---- the ways
+
+-- how the way of the link is at the time
+abbrev pub way_now : Scenario → ℕ → LinkId → Way → WayNow
+way_now s t link way = record { delay = delay_at s link way t; hold = hold_at s link way t; cut = is_cut s link way t }
+
+-- the ways of all links are as the events leave them
+pub record AreWays (s : Scenario) (now : ℕ) (ups downs : List WayNow) : Type 0 where
+  pub up : (link : LinkId) → link.0 < length s.network.link → slice_get ups link.0 ≡ Some (way_now s now link Up)
+  pub down : (link : LinkId) → link.0 < length s.network.link → slice_get downs link.0 ≡ Some (way_now s now link Down)
+
+-- ---- the world
+
+-- a clock of the device in the scenario
+abbrev pub IsClockOf : {C : Type 0} → (C → ℕ → ℕ) → Scenario → DeviceId → C → Type 0
+IsClockOf reading s device clock = (t : ℕ) → s.reading device t ≡ reading clock t
+
+-- the link leads from an end system
+abbrev pub IsFromEnd : Network → LinkId → Type 0
+IsFromEnd network link = IsSomeAnd (link_at network link) (λ l. is_end network l.child ≡ true)
+
+-- the events so far: they have befallen, at times from 0 on, and are in the records given; and octets are sent by end
+-- systems alone
+pub record HaveBefallen (s : Scenario) (mark : List ℕ) (now : ℕ) : Type 0 where
+  pub past : (i : ℕ) (e : Event) → slice_get s.events i ≡ Some e → amount e.time ≤ now
+  pub told : (i : ℕ) (e : Event) → slice_get s.events i ≡ Some e → IsBefore (amount e.time ∷ 1 ∷ (i + 1) ∷ []) mark
+  pub begun : (i : ℕ) (e : Event) → slice_get s.events i ≡ Some e → pos 0 ≤ℤ e.time.0
+  pub sent : (i : ℕ) (e : Event) (link : LinkId) (octets : List ℕ) → slice_get s.events i ≡ Some e
+      → e.what ≡ events.Send link octets → IsFromEnd s.network link
+
+-- no record moves a device that the network does not have, and no event turns one on
+pub record AreOfNetwork (s : Scenario) (hs : List Happening) : Type 0 where
+  pub unmoved : (device : DeviceId) → length s.network.device ≤ device.0 → (h : Happening) → IsIn h hs
+      → moves device h.note.body ≡ false
+  pub never_on : (device : DeviceId) → length s.network.device ≤ device.0 → (t : ℕ) → is_turned_on_at s device t ≡ false
+
+-- may something else come of the event than what a clock or a way does from then on? A device is turned on, or octets
+-- are sent
+abbrev pub has_outcome : What → Bool
+has_outcome (events.On device) = true
+has_outcome (events.Send link octets) = true
+has_outcome other = false
+
+-- the outcomes of the instant's events are settled, before all else of the instant; or they are pending, nothing else
+-- of the instant is worked off, and what befell is that of the records
+pub record AreUntold (hs : List Happening) (cursor : List ℕ) (now : ℕ) (pending : Bool)
+    (befell : List Befell) : Type 0 where
+  pub done : pending ≡ false → (number : ℕ) (h : Happening) → IsOfThisTime hs now number h
+      → IsBefore (now ∷ 2 ∷ []) cursor
+  pub none : pending ≡ false → befell ≡ []
+  pub waits : pending ≡ true → (number : ℕ) × (h : Happening) × IsOfThisTime hs now number h
+  pub early : pending ≡ true → (p : List ℕ) → IsBefore p cursor → IsBefore p (now ∷ 2 ∷ [])
+  pub real : (e : Befell) → IsIn e befell → (line : ℕ) × (h : Happening) × IsOfThisTime hs now e.number h
+      × (h.note.body ≡ notes.Event line e.what)
+  pub all : pending ≡ true → (number line : ℕ) (what : What) (h : Happening) → IsOfThisTime hs now number h
+      → h.note.body ≡ notes.Event line what → has_outcome what ≡ true
+      → IsIn (record { number = number; what = what }) befell
+  pub in_order : AreInOrder befell
+
+-- the records given are the run of the scenario up to the mark; what is before the cursor is worked off; and each part
+-- is as the events and the records leave it
+pub record Stands {C M : Type 0} (reading : C → ℕ → ℕ) (stands : M → Network → DeviceId → Node → Type 0) (s : Scenario)
+    (world : World C M) (notes : List Note) : Type 0 where
+  pub same : world.network ≡ s.network
+  pub range : IsInRange s.network
+  pub rules : KeepsRules s.network
+  pub forward : IsForward s
+  pub steady : (device : DeviceId) → IsSteady (s.reading device) (amount s.network.precision)
+  pub precise : pos 0 ≤ℤ s.network.precision.0
+  pub mark : List ℕ
+  pub cursor : List ℕ
+  pub run : IsScenarioRun s mark notes
+  pub ahead : (p : List ℕ) → IsBefore p mark → IsBefore p cursor
+  pub of_now : (p : List ℕ) → IsBefore p (world.now ∷ []) → IsBefore p mark
+  pub not_later : (p : List ℕ) → IsBefore p cursor → IsBefore p ((world.now + 1) ∷ [])
+  pub limit : world.now ≤ 2 ^ 60
+  pub lines : world.lines ≡ length s.events
+  pub given : world.given ≡ length notes
+  pub ended : (time : Units) → EndsAt s.events time ↔ ((world.ended ≡ true) × (time.0 ≡ pos world.now))
+  pub befallen : HaveBefallen s mark world.now
+  pub clocks : (device : DeviceId) → device.0 < length s.network.device → (clock : C)
+      × (slice_get world.clocks device.0 ≡ Some clock) × IsClockOf reading s device clock
+  pub broken : (device : DeviceId) → device.0 < length s.network.device
+      → slice_get world.broken device.0 ≡ Some (is_broken s device world.now)
+  pub ways : AreWays s world.now world.ups world.downs
+  pub coming : List Happening
+  pub room : length notes + length coming < none_yet
+  pub settled : world.settled ≡ map (hidden (length notes)) coming
+  pub known : AreOfNetwork s (happenings s.network notes ++ coming)
+  pub devices : (device : DeviceId) → device.0 < length s.network.device → (machine : M)
+      × (slice_get world.machines device.0 ≡ Some machine) × IsHeld stands s (happenings s.network notes) coming cursor
+      world.now device machine
+  pub early : world.early ≡ true → (p : List ℕ) → IsBefore p cursor → IsBefore p (world.now ∷ 2 ∷ [])
+  pub untold : AreUntold (happenings s.network notes) cursor world.now world.pending world.befell
+  pub wires : AreOnWires s (happenings s.network notes) cursor world.now world.pending world.wires
+  pub ports : AreAtPorts s (happenings s.network notes) cursor world.ports
+  pub waiting : AreWaiting s (happenings s.network notes) cursor world.now world.waiting
+  pub are : AreSettled s (happenings s.network notes) coming mark cursor world.now
+  pub shown : (device : DeviceId) → device.0 < length s.network.device → world.ended ≡ true
+      → IsBefore (clock_place world.now device) cursor ↔ (device.0 < world.shown)
+
+-- ---- what the next record is
+
+-- the record of what is settled, with the next number
+abbrev pub note_of : List Note → Happening → Note
+note_of notes z = record z.note { number = length notes + 1 }
+
+-- where something is to come, and no source that is not worked off is before it, the run goes on by the first of it
+abbrev pub FirstSettledIsNext : Type 0
+FirstSettledIsNext =
+    (s : Scenario) (notes : List Note) (z : Happening) (rest : List Happening) (mark cursor : List ℕ) (now : ℕ)
+    → IsScenarioRun s mark notes → AreSettled s (happenings s.network notes) (z ∷ rest) mark cursor now
+    → NoSourceBefore s (happenings s.network notes) cursor (place_of z)
+    → IsScenarioRun s (behind (place_of z)) (notes ++ note_of notes z ∷ [])
+
+-- where nothing is to come, and no source that is not worked off is before the time, the records are the run up to it
+abbrev pub NothingSettledIsAll : Type 0
+NothingSettledIsAll =
+    (s : Scenario) (notes : List Note) (mark cursor : List ℕ) (now until : ℕ)
+    → IsScenarioRun s mark notes → AreSettled s (happenings s.network notes) [] mark cursor now
+    → ((p : List ℕ) → IsBefore p mark → IsBefore p (until ∷ []))
+    → NoSourceBefore s (happenings s.network notes) cursor (until ∷ [])
+    → IsScenarioRun s (until ∷ []) notes
