@@ -1,3 +1,5 @@
+pub mod words
+pub mod Plain
 pub mod sizes
 pub mod clocks
 pub mod records

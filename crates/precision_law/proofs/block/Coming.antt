@@ -1,56 +1,14 @@
 -- Correction points come while a block lasts.
-use Rattle.std.proofs.Common.{◌≡◌, ℕ, zero, suc, ◌+◌, ◌*◌, ◌<◌, ◌≤◌, ℤ, pos, negsuc, ◌+ℤ◌, ◌-ℤ◌, ◌<ℤ◌, ◌≤ℤ◌, Bool, true, false, List, [], ◌∷◌, ◌++◌, fold, Option, Some, None, inl, inr, refl, sym, ap, subst, ◌∙◌, arith}
-use Rattle.std.proofs.lemmas.Bool.{both_ways, cases_lt, eq-eqb, false_from_ne_true, lt-ltb}
-use Rattle.std.proofs.lemmas.Int.{by_lt_z, ints}
-use Rattle.std.proofs.lemmas.List.Elements.{filter-append}
-use Rattle.std.proofs.lemmas.List.Sums.{fold-append}
-use Rattle.std.specs.Option.{option_map_or}
-use Rattle.std.specs.Prelude.{◌==◌, if◌then◌else◌, nat_lt}
-use Rattle.net_plan.specs.declared.ids.DeviceId.{DeviceId}
-use Rattle.precision_law.proofs.block.Onward.{last_of}
-use Rattle.precision_law.proofs.clocks.Anchored.{set_clocks_have_reached, set_clocks_show, one_more}
-use Rattle.precision_law.proofs.clocks.Epochs.{keeps, kept_by_all, none_between, time_stays, settings_stay, adjustment_stays, clocks_have_reached, joined_changes}
-use Rattle.precision_law.proofs.clocks.Numbers.{old_number, joining_from}
-use Rattle.precision_law.proofs.law.Together.{block_ends, follows_before, before_narrow}
-use Rattle.precision_law.proofs.records.Points.{sorted_parts}
-use Rattle.precision_law.proofs.records.Times.{AreSorted, between, in_earlier, in_kept, is_between}
-use Rattle.precision_law.proofs.records.Views.{in_order, room, steady}
-use Rattle.precision_law.proofs.sizes.Instants.{instants_are_in_order}
-use Rattle.precision_law.specs.Anchors.{IsAnchoredIn}
-use Rattle.precision_law.specs.BlockLaws.{BlockIsOver, PointsAreRecorded, PointsHaveCome}
-use Rattle.precision_law.specs.Blocks.{HasTimeAt, IsOldAt, Stands, adjustment_left, state_left}
-use Rattle.precision_law.specs.Epochs.{epoch_time, has_time, last_setting}
-use Rattle.precision_law.specs.Hulls.{start_hull, hull_of, Hull}
-use Rattle.precision_law.specs.Sizes.{Sizes}
-use Rattle.precision_law.specs.Views.{IsView, View}
-use Rattle.run_law.proofs.law.FirstPlaces.{founded_at}
-use Rattle.run_law.proofs.runs.Places.{in_left, in_right}
-use Rattle.run_law.proofs.runs.SameSteps.{same_some}
-use Rattle.run_law.specs.control.Corrections.{next_cycle, correction_value}
-use Rattle.run_law.specs.declared.judgement.Why.{Why}
+use Rattle.precision_law.proofs.words.Std.{◌*◌, ◌++◌, ◌+ℤ◌, ◌+◌, ◌<ℤ◌, ◌<◌, ◌==◌, ◌∙◌, ◌∷◌, ◌≡◌, ◌≤ℤ◌, ◌≤◌, Bool, List, None, Option, Some, ap, arith, both_ways, by_lt_z, cases_lt, eq-eqb, filter-append, fold, fold-append, if◌then◌else◌, inl, inr, ints, lt-ltb, nat_lt, negsuc, option_map_or, pos, refl, subst, suc, sym, true, zero, ℕ, ℤ}
+use Rattle.precision_law.proofs.words.Plans.{DeviceId, Integrating, State, Units, state_at_start}
+use Rattle.precision_law.proofs.words.Runs.{Happening, IsIn, Reaches, Why, changed_at, changes_adjustment, correction_value, cycle_in, earlier, founded_at, in_left, in_right, next_cycle, same_some, start_of, state_after, state_with, time_of}
+use Rattle.precision_law.proofs.words.Laws.{BlockIsOver, HasTimeAt, Hull, IsAnchoredIn, IsOldAt, IsView, PointsAreRecorded, PointsHaveCome, Stands, View, adjustment_left, epoch_time, has_time, hull_of, last_setting, start_hull, state_left}
+use Rattle.precision_law.proofs.words.Clocks.{AreSorted, adjustment_stays, clocks_have_reached, in_earlier, in_order, instants_are_in_order, joined_changes, keeps, kept_by_all, one_more, room, set_clocks_have_reached, set_clocks_show, settings_stay, sizes_are, sorted_parts, steady, time_stays}
+use Rattle.precision_law.proofs.words.Blocks.{before_narrow, block_ends, follows_before, joining_from, old_number, sets_none}
 use Rattle.run_law.specs.declared.note.NoteBody.TheVariants as notes
-use Rattle.run_law.specs.device.LocalClocks.{changes_adjustment, changed_at, Reaches}
-use Rattle.run_law.specs.device.States.{state_after, state_with, cycle_in}
-use Rattle.run_law.specs.records.Happenings.{Happening, earlier, time_of}
-use Rattle.run_law.specs.records.Order.{IsIn}
-use Rattle.run_law.specs.scenario.Devices.{start_of}
-use Rattle.sync_state.specs.Standing.{state_at_start}
-use Rattle.sync_state.specs.declared.state.State.TheVariants.{Integrating}
-use Rattle.sync_state.specs.declared.state.State.{State}
-use Rattle.tte_units.specs.Amount.{amount}
-use Rattle.tte_units.specs.declared.units.Units.{Units}
+use Rattle.precision_law.proofs.block.Onward.{last_of}
 
 -- ---- between the last setting and a time
-
--- what comes there sets nothing
-unset_then : (v : View) (device : DeviceId) (u t : ℕ) → IsView v → u ≤ t → epoch_time (earlier t v.records) device <ℤ pos u → (x : Happening) → IsIn x v.records
-    → u ≤ time_of x → time_of x < t → changes_adjustment device x.note.body ≡ false
-unset_then v device u t is le old x i from to =
-    let sets = λ (h : Happening). changes_adjustment device h.note.body in
-    let none = none_between v device u t is le old in
-    false_from_ne_true (sets x)
-    (λ hit. (let wrong : IsIn x [] = subst (IsIn x) none (in_kept sets (between u t v.records) x (is_between u t v.records x i from to) hit) in absurd
-    wrong))
 
 -- a device that has the time at the end did not lose it there
 not_lost : (v : View) (device : DeviceId) (u t : ℕ) (h : Happening) (cause : ℕ) (why : Why) → IsView v → u ≤ t
@@ -60,25 +18,21 @@ not_lost v device u t h cause why is le old timed i from to body =
     let s = v.scenario in
     let at = founded_at s v.records h is.run.founded i in
     let test = λ (g : Happening). nat_lt (time_of g) t in
-    let here : test h ≡ true = lt-ltb (time_of h) t to in
-    let parts : earlier t v.records ≡ earlier t at.front ++ h ∷ earlier t at.rest =
-    ap (earlier t) at.whole ∙ filter-append test at.front (h ∷ at.rest)
-    ∙ ap (λ (b : Bool). earlier t at.front ++ (if b then h ∷ earlier t at.rest else earlier t at.rest)) here in
+    let parts = ap (earlier t) at.whole ∙ filter-append test at.front (h ∷ at.rest) ∙ ap
+    (λ (b : Bool). earlier t at.front ++ (if b then h ∷ earlier t at.rest else earlier t at.rest)) (lt-ltb (time_of h) t to) in
     let step = λ (state : State) (g : Happening). state_with device state g.note.body in
     let before : State = state_after s (earlier t at.front) device in
     let whole = subst (λ (hs : List Happening). has_time (state_after s hs device) ≡ true) parts timed in
     let apart = fold-append step (state_at_start (start_of s.network device)) (earlier t at.front) (h ∷ earlier t at.rest) in
     let behind : has_time (fold step (step before h) (earlier t at.rest)) ≡ true = subst (λ (x : State). has_time x ≡ true) apart whole in
-    let order = sorted_parts at.front at.rest h (subst AreSorted at.whole (in_order v is)) in
     let now = kept_by_all has_time device (earlier t at.rest) (λ g j.
     let back = in_earlier t at.rest g j in
     let in_all : IsIn g v.records = subst (IsIn g) (sym at.whole) (in_right g at.front (h ∷ at.rest) (inr back.0)) in
-    let late = order.1 g back.0 in
+    let late = (sorted_parts at.front at.rest h (subst AreSorted at.whole (in_order v is))).1 g back.0 in
     let at_g = founded_at s v.records g is.run.founded in_all in
-    keeps has_time refl s at_g.front g.note.time device g.note.body (unset_then v device u t is le old g in_all (omega (arith, late, from)) back.1)
-    (λ x k same. unset_then v device u t is le old x (subst (IsIn x) (sym at_g.whole) (in_left x at_g.front (g ∷ at_g.rest) k))
-    (omega (arith, same, late, from)) (omega (arith, same, back.1))) at_g.due.cause)
-    (step before h) behind in
+    keeps has_time refl s at_g.front g.note.time device g.note.body (sets_none v device u t is le old g in_all (omega (arith, late, from)) back.1)
+    (λ x k same. sets_none v device u t is le old x (subst (IsIn x) (sym at_g.whole) (in_left x at_g.front (g ∷ at_g.rest) k))
+    (omega (arith, from)) (omega arith)) at_g.due.cause) (step before h) behind in
     let self : (device.0 == device.0) ≡ true = eq-eqb device.0 device.0 refl in
     let lost : step before h ≡ Integrating = ap (state_with device before) body ∙ ap (λ (b : Bool). if b then Integrating else before) self in
     both_ways (has_time (step before h)) (ap has_time lost) now
@@ -89,16 +43,12 @@ not_lost v device u t h cause why is le old timed i from to body =
 pub early_show : (v : View) (n : ℕ) (before : Stands v n) → IsView v
     → pos before.next ≤ℤ (before.hull.least +ℤ pos (v.sizes.correction + v.sizes.spread + 3 * v.sizes.reach + 1))
 early_show v zero before is =
-    let zero_next : before.next ≡ 0 = before.is_over in
     let same : start_hull v.sizes ≡ before.hull = same_some (hull_of v zero) (start_hull v.sizes) before.hull refl before.is_hull in
-    let low : (pos 0 -ℤ pos v.sizes.settled) ≡ before.hull.least = ap (λ (w : Hull). w.least) same in
-    let space = room v is in
-    omega (arith, ints, zero_next, low, space.errors.spread_is)
+    omega (arith, ints, before.is_over, ap (λ (w : Hull). w.least) same, (room v is).errors.spread_is)
 early_show v (suc c) before is =
     let one = before.narrow c (omega arith) in
-    let ends = block_ends v c before.next one.0 one.1 before.is_over in
     let order = instants_are_in_order v.sizes one.0 before.hull (room v is) one.2 (follows_before v c one.0 before.hull is one.1 before.is_hull) in
-    omega (arith, ints, ends, order.last_not_late)
+    omega (arith, ints, block_ends v c before.next one.0 one.1 before.is_over, order.last_not_late)
 
 -- when the clock was last set, it was before what is behind its epoch
 pub set_before : (o : Option Happening) (next : ℕ) → option_map_or (λ h. pos (time_of h)) o (negsuc 0) <ℤ pos next → option_map_or time_of o 0 ≤ next
@@ -108,12 +58,6 @@ set_before (Some h) next early = omega (arith, ints, early)
 -- the time of a record of an instant lies where the instant does
 from_then : (a u t : ℕ) → t ≡ u → a < u → a ≤ t
 from_then a u t same lt = omega (arith, same)
-
-to_then : (l u t n : ℕ) → t ≡ u → u ≤ l → n ≡ l + 1 → t < n
-to_then l u t n same le is = omega (arith, same, is)
-
-in_run_by : (l u n until : ℕ) → u ≤ l → n ≡ l + 1 → n ≤ until + 1 → u ≤ until
-in_run_by l u n until le is within = omega (arith, le, is, within)
 
 -- one value in two forms
 same_value : (product whole part cycle correction other : ℕ) → product ≡ whole → whole ≡ part + cycle → correction ≡ other
@@ -139,34 +83,21 @@ comes_there v n over device is has old =
     let space = room v is in
     let last = last_of v n over is in
     let t = last.last in
-    let le : before.next ≤ over.next = omega (arith, last.from, last.is_last) in
-    let timed = time_stays v device before.next over.next is le old has.timed in
-    let set = before.clocks device (record { good = has.good; timed = timed }) in
+    let le : before.next ≤ over.next = omega (arith, last) in
+    let set = before.clocks device (record { good = has.good; timed = time_stays v device before.next over.next is le old has.timed }) in
     let early_t : epoch_time (earlier over.next v.records) device <ℤ pos t = omega (arith, ints, old, last.from) in
     let to_t : t ≤ over.next = omega (arith, last.is_last) in
     let last_t = settings_stay v device t over.next is to_t early_t in
-    let a_next : adjustment_left v device before.next ≡ adjustment_left v device over.next = ap (λ (a : Units). a.0)
-    (adjustment_stays v device before.next over.next is le old) in
-    let a_t : adjustment_left v device t ≡ adjustment_left v device over.next = ap (λ (a : Units). a.0) (adjustment_stays v device t over.next is to_t early_t)
-    in
+    let a_next = ap (λ (a : Units). a.0) (adjustment_stays v device before.next over.next is le old) in
+    let a_t = ap (λ (a : Units). a.0) (adjustment_stays v device t over.next is to_t early_t) in
     let anchored = subst (λ (a : ℤ). IsAnchoredIn v.sizes reading a n before.hull set.set_at) (a_next ∙ sym a_t) set.anchored in
-    let narrow = before_narrow v n before in
-    let within : t ≤ set.set_at + 2 * v.sizes.cycle = omega (arith, ints, last.at, set.not_before, narrow, space.eight_errors, space.cycles) in
+    let within : t ≤ set.set_at + 2 * v.sizes.cycle = omega (arith, ints, last.at, set.not_before, before_narrow v n before, space) in
     let reached = set_clocks_have_reached v.sizes reading (adjustment_left v device t) n before.hull set.set_at (v.sizes.cycle + v.sizes.correction) t space
     (steady v is device) (omega (arith, set.not_behind, last.from)) within anchored (omega (arith, ints, last.at)) in
     let shows = set_clocks_show v.sizes reading (adjustment_left v device t) n before.hull set.set_at before.next (steady v is device) set.not_behind
     (omega (arith, within, last.from)) anchored in
-    let first = early_show v n before is in
     let value : ℤ = pos (n * v.sizes.cycle + (v.sizes.cycle + v.sizes.correction)) in
-    let below : (pos (reading before.next) +ℤ adjustment_left v device t) <ℤ value = omega (
-      arith,
-      ints,
-      shows.most,
-      first,
-      space.cycles,
-      space.eight_errors,
-      space.errors.reach_is,
-    ) in
+    let below : (pos (reading before.next) +ℤ adjustment_left v device t) <ℤ value = omega (arith, ints, shows.most, early_show v n before is, space) in
     let strict : before.next < t = elim (cases_lt before.next t) [
       | inl lt ↦ lt
       | inr ge ↦ (let up = (steady v is device).never_falls t before.next ge in absurd (omega (arith, ints, up, below, reached)))
@@ -178,23 +109,17 @@ comes_there v n over device is has old =
     let to_u : u ≤ over.next = omega (arith, found.2, to_t) in
     let early_u : epoch_time (earlier over.next v.records) device <ℤ pos u = omega (arith, ints, old, found.1) in
     let last_u = settings_stay v device u over.next is to_u early_u in
-    let old_u : IsOldAt v before.next device u = subst (λ (o : Option Happening). option_map_or (λ h. pos (time_of h)) o (negsuc 0) <ℤ pos before.next)
-    (sym last_u) old in
+    let old_u = subst (λ (o : Option Happening). option_map_or (λ h. pos (time_of h)) o (negsuc 0) <ℤ pos before.next) (sym last_u) old in
     let has_u : HasTimeAt v device u = record { good = has.good; timed = time_stays v device u over.next is to_u early_u has.timed } in
     let number = old_number v n u device before is (omega (arith, found.1)) has_u old_u in
-    let size : v.sizes.cycle ≡ amount s.network.cycle = ap (λ (x : Sizes). x.cycle) is.sizes in
-    let sizec : v.sizes.correction ≡ amount s.network.correction = ap (λ (x : Sizes). x.correction) is.sizes in
-    let product : next_cycle s v.records device u * amount s.network.cycle ≡ suc n * v.sizes.cycle = ap (λ (x : ℕ). next_cycle s v.records device u * x)
-    (sym size) ∙ ap (λ (c : ℕ). c * v.sizes.cycle) number in
-    let more = one_more n v.sizes.cycle in
+    let product = ap (λ (x : ℕ). next_cycle s v.records device u * x) (sym (sizes_are v is).cycle) ∙ ap (λ (c : ℕ). c * v.sizes.cycle) number in
     let value_is : value ≡ correction_value s.network (next_cycle s v.records device u) =
-    same_value (next_cycle s v.records device u * amount s.network.cycle) (suc n * v.sizes.cycle) (n * v.sizes.cycle) v.sizes.cycle v.sizes.correction
-    (amount s.network.correction) product more sizec in (
+    same_value _ _ (n * v.sizes.cycle) v.sizes.cycle _ _ product (one_more n v.sizes.cycle) (sizes_are v is).correction in (
       u,
       record {
         from = found.1;
-        to = to_then t u u over.next refl found.2 last.is_last;
-        in_run = in_run_by t u over.next v.until found.2 last.is_last over.in_run;
+        to = omega (arith, found.2, last.is_last);
+        in_run = omega (arith, found.2, last.is_last, over.in_run);
         has = has_u;
         number = number;
         reaches = subst (λ (z : ℤ). Reaches s v.records device z u) value_is found.3;
@@ -212,7 +137,7 @@ never_at recorded v n over device u is le has old there =
       | inl early ↦ too_early (cycle_in j.h) n (next_cycle v.scenario v.records device u) (over.before.joined j.h device back.0 j.joins has.good early)
           j.of_cycle there.number
       | inr from ↦ both_ways (changes_adjustment device j.h.note.body)
-          (unset_then v device over.before.next over.next is le old j.h back.0 from (sooner_than (time_of j.h) u over.next back.1 there.to))
+          (sets_none v device over.before.next over.next is le old j.h back.0 from (sooner_than (time_of j.h) u over.next back.1 there.to))
           (joined_changes device j.h.note.body j.joins)
     ]) in
     let from_h = from_then over.before.next u (time_of point.0) point.1.at there.from in
@@ -236,18 +161,16 @@ never_at recorded v n over device u is le has old there =
         → ⊥
     corrected_not v device from to is le old h i a b cycle by adjustment body =
         let self : changes_adjustment device (notes.Corrected device cycle by adjustment) ≡ true = eq-eqb device.0 device.0 refl in
-        both_ways (changes_adjustment device h.note.body) (unset_then v device from to is le old h i a b) (ap (changes_adjustment device) body ∙ self)
+        both_ways (changes_adjustment device h.note.body) (sets_none v device from to is le old h i a b) (ap (changes_adjustment device) body ∙ self)
 
 -- so no device stays old
 never_old : PointsAreRecorded → (v : View) (n : ℕ) (over : BlockIsOver v n) (device : DeviceId) → IsView v → HasTimeAt v device over.next
     → IsOldAt v over.before.next device over.next → ⊥
 never_old recorded v n over device is has old =
-    let last = last_of v n over is in
     let there = comes_there v n over device is has old in
-    never_at recorded v n over device there.0 is (omega (arith, last.from, last.is_last)) has old there.1
+    never_at recorded v n over device there.0 is (omega (arith, last_of v n over is)) has old there.1
 
 pub points_have_come : PointsAreRecorded → PointsHaveCome
 points_have_come recorded v n over device is has =
     by_lt_z {P = pos over.before.next ≤ℤ epoch_time (earlier over.next v.records) device} (epoch_time (earlier over.next v.records) device)
-    (pos over.before.next)
-    (λ old. absurd (never_old recorded v n over device is has old)) (λ late. late)
+    (pos over.before.next) (λ old. absurd (never_old recorded v n over _ is has old)) (λ late. late)

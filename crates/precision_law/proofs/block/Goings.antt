@@ -1,28 +1,10 @@
 -- What each instant of a block brings, from what frames are heard.
-use Rattle.std.proofs.Common.{◌≡◌, ℕ, zero, suc, ◌+◌, ◌-◌, ◌<◌, ◌≤◌, ℤ, pos, ◌<ℤ◌, ◌≤ℤ◌, Some, inl, inr, refl, sym, ap, subst, arith}
-use Rattle.std.proofs.lemmas.Bool.{cases_lt}
-use Rattle.std.proofs.lemmas.Int.{ints}
-use Rattle.membership.specs.Members.{count_of}
-use Rattle.net_plan.specs.declared.ids.DeviceId.{DeviceId}
-use Rattle.pcf_values.specs.declared.channel.Channel.{Channel}
-use Rattle.pcf_values.specs.declared.members.Members.{Members}
+use Rattle.precision_law.proofs.words.Std.{◌+◌, ◌-◌, ◌<ℤ◌, ◌<◌, ◌≡◌, ◌≤ℤ◌, ◌≤◌, Some, ap, arith, cases_lt, inl, inr, ints, pos, refl, subst, suc, sym, zero, ℕ, ℤ}
+use Rattle.precision_law.proofs.words.Plans.{Channel, DeviceId, Members, count_of}
+use Rattle.precision_law.proofs.words.Runs.{Happening, Judgement, cycle_in, expected_by, members_in, same_some, time_of}
+use Rattle.precision_law.proofs.words.Laws.{BasesAreInHulls, BlockGoesSo, EmissionsAreOfDispatches, HeardFramesAreTimely, HeardInTheirBlocks, HearingsAreOfFrames, HearsBy, Hull, IsDispatch, IsInHull, IsNarrow, IsNarrowIfThere, IsNearHull, IsOfHearer, IsTidyBefore, IsTimely, IsView, Stands, ThreeHaveGood, View, base_of, first_correction, hull_of}
+use Rattle.precision_law.proofs.words.Clocks.{instants_are_in_order, room}
 use Rattle.precision_law.proofs.law.Together.{block_ends, follows_before}
-use Rattle.precision_law.proofs.records.Views.{room}
-use Rattle.precision_law.proofs.sizes.Instants.{instants_are_in_order}
-use Rattle.precision_law.specs.Bases.{base_of}
-use Rattle.precision_law.specs.BlockLaws.{BlockGoesSo}
-use Rattle.precision_law.specs.Blocks.{Stands}
-use Rattle.precision_law.specs.CompressionLaws.{BasesAreInHulls, EmissionsAreOfDispatches, HearingsAreOfFrames, HearsBy, HeardInTheirBlocks, IsNarrowIfThere, IsOfHearer, ThreeHaveGood}
-use Rattle.precision_law.specs.Hulls.{Hull, IsInHull, IsNarrow, IsTidyBefore, first_correction, hull_of}
-use Rattle.precision_law.specs.Standings.{IsNearHull, IsTimely}
-use Rattle.precision_law.specs.Trips.{HeardFramesAreTimely}
-use Rattle.precision_law.specs.Views.{IsDispatch, IsView, View}
-use Rattle.run_law.proofs.runs.SameSteps.{same_some}
-use Rattle.run_law.specs.declared.judgement.Judgement.{Judgement}
-use Rattle.run_law.specs.device.States.{cycle_in}
-use Rattle.run_law.specs.records.Happenings.{Happening, time_of}
-use Rattle.run_law.specs.records.Ranks.{members_in}
-use Rattle.run_law.specs.scenario.Devices.{expected_by}
 
 -- ---- laws of frames
 
@@ -69,16 +51,13 @@ pub corrections_go_on : (v : View) (n k more : ℕ) (before : Stands v n) (w x :
 corrections_go_on v n k zero before w x is le at_w at_x =
     let same : k + zero ≡ k = omega arith in
     let here = subst (λ (c : ℕ). hull_of v c ≡ Some x) same at_x in
-    let one : w ≡ x = same_some (hull_of v k) w x at_w here in
-    let bottom : w.least ≡ x.least = ap (λ (y : Hull). y.least) one in
-    omega (arith, ints, bottom)
+    omega (arith, ints, ap (λ (y : Hull). y.least) (same_some (hull_of v k) w x at_w here))
 corrections_go_on v n k (suc more) before w x is le at_w at_x =
     let there = before.narrow (k + more) (omega (arith, le)) in
     let step : k + suc more ≡ suc (k + more) = omega arith in
     let at : hull_of v (suc (k + more)) ≡ Some x = subst (λ (c : ℕ). hull_of v c ≡ Some x) step at_x in
-    let low = corrections_go_on v n k more before w there.0 is (omega (arith, le)) at_w there.1 in
     let order = instants_are_in_order v.sizes there.0 x (room v is) there.2 (follows_before v (k + more) there.0 x is there.1 at) in
-    omega (arith, ints, low, order.next_later)
+    omega (arith, ints, corrections_go_on v n k more before w there.0 is (omega (arith, le)) at_w there.1, order.next_later)
 
 -- the first correction of an earlier cycle comes before the block
 pub corrections_before : (v : View) (n k : ℕ) (before : Stands v n) (w : Hull) → IsView v → suc k ≤ n → hull_of v k ≡ Some w
@@ -87,11 +66,9 @@ corrections_before v zero k before w is le at = absurd (omega (arith, le))
 corrections_before v (suc c) k before w is le at =
     let there = before.narrow c (omega arith) in
     let gap : k + (c - k) ≡ c = omega (arith, le) in
-    let at_c : hull_of v (k + (c - k)) ≡ Some there.0 = subst (λ (x : ℕ). hull_of v x ≡ Some there.0) (sym gap) there.1 in
-    let low = corrections_go_on v (suc c) k (c - k) before w there.0 is (omega (arith, le)) at at_c in
-    let ends = block_ends v c before.next there.0 there.1 before.is_over in
+    let low = corrections_go_on v _ k (c - k) before w _ is (omega (arith, le)) at (subst (λ (x : ℕ). hull_of v x ≡ Some there.0) (sym gap) there.1) in
     let order = instants_are_in_order v.sizes there.0 before.hull (room v is) there.2 (follows_before v c there.0 before.hull is there.1 before.is_hull) in
-    omega (arith, ints, low, ends, order.corrections)
+    omega (arith, ints, low, block_ends v c before.next there.0 there.1 before.is_over, order.corrections)
 
 -- ---- a frame of the block
 
@@ -118,16 +95,14 @@ of_block laws v n t before device channel point judgement h is went hearer hears
     let members : Members = record { 0 = members_in h } in
     let heard = laws.hearings v device channel point judgement h is hearer hears in
     let emission = heard.0 in
-    let e = heard.1.emission in
-    let tidy_t = tidy v n t before went in
-    let tidy_e : IsTidyBefore v (time_of emission) = λ g d c dispatch lt. tidy_t g d c dispatch (omega (arith, lt, heard.2, le)) in
-    let good = laws.three v emission heard.1.cm (cycle_in h) members is e enough in
-    let sent = laws.dispatched v emission heard.1.cm (cycle_in h) members is e good in
+    let tidy_e : IsTidyBefore v (time_of emission) = λ g d c dispatch lt. (tidy v n t before went) g d c dispatch (omega (arith, lt, heard.2, le)) in
+    let good = laws.three v emission heard.1.cm (cycle_in h) members is heard.1.emission enough in
+    let sent = laws.dispatched v emission heard.1.cm (cycle_in h) members is heard.1.emission good in
     let known = known_dispatch v n t before went sent.first sent.master (cycle_in h) sent.dispatch (omega (arith, sent.before, heard.2, le)) in
     let narrow : (c : ℕ) → cycle_in h ≡ suc c → IsNarrowIfThere v c = λ c same hull at. narrow_at v n c before hull (omega (arith, same, known.0)) at in
     let block = laws.in_blocks v device channel (cycle_in h) members emission (time_of h) point (expected_by v.scenario.network device) is tidy_e good narrow
     heard.1 in
-    let base = laws.bases v emission heard.1.cm (cycle_in h) members is e tidy_e (inl enough) in
+    let base = laws.bases v emission heard.1.cm (cycle_in h) members is heard.1.emission tidy_e (inl enough) in
     let timely = laws.timely v device channel (cycle_in h) members emission (time_of h) point (expected_by v.scenario.network device) is heard.1 in
     let same : cycle_in h ≡ suc n =
     elim (cases_lt block.follows n) [

@@ -1,46 +1,13 @@
 -- The dispatches of a cycle come half as far apart as those of the cycle before, but for the starts.
-use Rattle.std.proofs.Common.{◌≡◌, ◌⊎◌, ℕ, zero, suc, ◌+◌, ◌*◌, ◌<◌, ◌≤◌, ℤ, pos, negsuc, ◌+ℤ◌, ◌-ℤ◌, ◌<ℤ◌, ◌≤ℤ◌, true, false, List, [], ◌∷◌, filter, Option, Some, None, inl, inr, refl, sym, ap, subst, ◌∙◌, arith, option_and_then}
-use Rattle.std.proofs.lemmas.Int.{by_lt_z, clamps, ints}
-use Rattle.std.specs.Option.{option_map_or}
-use Rattle.std.specs.Int.{int_min, int_max}
-use Rattle.net_plan.specs.Places.{is_master, is_end_system, device_at}
-use Rattle.net_plan.specs.declared.ids.DeviceId.{DeviceId}
-use Rattle.net_plan.specs.declared.tables.Device.{Device}
-use Rattle.precision_law.proofs.block.Hulls.{tested, over}
-use Rattle.precision_law.proofs.block.Starts.{none_at_start, has_start, start_is}
-use Rattle.precision_law.proofs.clocks.Anchored.{anchored_clocks_reach, anchored_clocks_show, shared_clocks_halve, starts_stay_together}
-use Rattle.precision_law.proofs.clocks.Epochs.{state_stays, time_stays, adjustment_stays, adjustment_is_last, clocks_reach_sharply}
-use Rattle.precision_law.proofs.faults.Masters.{master_ends}
+use Rattle.precision_law.proofs.words.Std.{◌*◌, ◌+ℤ◌, ◌+◌, ◌-ℤ◌, ◌<ℤ◌, ◌<◌, ◌∙◌, ◌∷◌, ◌≡◌, ◌≤ℤ◌, ◌≤◌, ◌⊎◌, List, None, Option, Some, [], ap, arith, by_lt_z, clamps, false, filter, inl, inr, int_max, int_min, ints, negsuc, option_and_then, option_map_or, pos, refl, subst, suc, sym, true, zero, ℕ, ℤ}
+use Rattle.precision_law.proofs.words.Plans.{Device, DeviceId, State, Synchronised, Units, adjustment_at_start, amount, device_at, is_end_system, is_master}
+use Rattle.precision_law.proofs.words.Runs.{Happening, IsCaused, IsIn, earlier, founded_at, has_role, in_filter, is_end, is_synchronised, is_turned_on_at, same_some, start_of, state_after, time_of}
+use Rattle.precision_law.proofs.words.Laws.{AreShared, BlocksGoSo, Hull, HullsAreNarrow, IsAnchored, IsDispatch, IsGood, IsInBlock, IsNearHull, IsOldAt, IsOverBefore, IsReachedNear, IsView, Sizes, Stands, View, adjustment_left, epoch_time, first_dispatch, has_time, hull_of, hull_over, is_dispatch, last_correction, last_dispatch, last_setting, set_adjustment, start_hull, state_left, widened}
+use Rattle.precision_law.proofs.words.Clocks.{adjustment_is_last, adjustment_stays, anchored_clocks_reach, anchored_clocks_show, before_of, clocks_reach_sharply, corrections_come_first, earlier_before, frames_come_first, master_ends, never_some, over, passes, reaches_whole, room, shared_clocks_halve, sizes_are, starts_stay_together, state_stays, steady, synchronised_has_time, tested, time_stays, within_run}
+use Rattle.precision_law.proofs.block.Starts.{has_start, none_at_start, start_is}
 use Rattle.precision_law.proofs.law.Cover.{behind_of, later_end}
 use Rattle.precision_law.proofs.law.Precision.{not_integrating}
 use Rattle.precision_law.proofs.law.Together.{before_narrow, block_ends, follows_before}
-use Rattle.precision_law.proofs.records.Points.{before_of, reaches_whole, within_run, earlier_before}
-use Rattle.precision_law.proofs.records.Times.{passes}
-use Rattle.precision_law.proofs.records.Views.{room, steady}
-use Rattle.precision_law.proofs.sizes.Instants.{corrections_come_first, frames_come_first}
-use Rattle.precision_law.specs.Anchors.{IsAnchored}
-use Rattle.precision_law.specs.BlockLaws.{BlocksGoSo, HullsAreNarrow}
-use Rattle.precision_law.specs.Blocks.{IsInBlock, IsOldAt, Stands, adjustment_left, state_left, AreShared}
-use Rattle.precision_law.specs.EpochLaws.{set_adjustment}
-use Rattle.precision_law.specs.Epochs.{epoch_time, has_time, last_setting}
-use Rattle.precision_law.specs.Hulls.{Hull, IsOverBefore, first_dispatch, hull_of, hull_over, last_correction, last_dispatch, start_hull, widened, is_dispatch}
-use Rattle.precision_law.specs.Sizes.{Sizes}
-use Rattle.precision_law.specs.Standings.{IsReachedNear, IsNearHull}
-use Rattle.precision_law.specs.Views.{IsDispatch, IsView, View, IsGood}
-use Rattle.run_law.proofs.law.FirstPlaces.{founded_at, in_filter}
-use Rattle.run_law.proofs.runs.SameSteps.{same_some}
-use Rattle.run_law.specs.declared.note.NoteBody.TheVariants as notes
-use Rattle.run_law.specs.device.States.{is_synchronised, state_after}
-use Rattle.run_law.specs.records.Happenings.{Happening, earlier, time_of}
-use Rattle.run_law.specs.records.Order.{IsIn}
-use Rattle.run_law.specs.runs.DueRecords.{IsCaused}
-use Rattle.run_law.specs.scenario.Devices.{has_role, is_end, start_of}
-use Rattle.run_law.specs.scenario.Scenarios.{is_turned_on_at}
-use Rattle.sync_state.specs.Standing.{state_at_start, adjustment_at_start}
-use Rattle.sync_state.specs.declared.state.State.TheVariants.{Off, Integrating, Joining, Synchronised}
-use Rattle.sync_state.specs.declared.state.State.{State}
-use Rattle.tte_units.specs.Amount.{amount}
-use Rattle.tte_units.specs.declared.units.Units.{Units}
 
 -- ---- the ends of a hull
 
@@ -70,8 +37,7 @@ widened_ends (Some x) g hs w ends = record {
     | inl at ↦ inl (at.0, inr at.1, at.2)
     | inr old ↦
         let same : int_min x.least (pos (time_of g)) ≡ old.0.least = ap (λ (y : Hull). y.least)
-        (same_some (widened (Some x) (pos (time_of g)))
-        (record { least = int_min x.least (pos (time_of g)); greatest = int_max x.greatest (pos (time_of g)) }) old.0 refl old.1) in
+        (same_some _ (record { least = int_min x.least (pos (time_of g)); greatest = int_max x.greatest (pos (time_of g)) }) _ refl old.1) in
         by_lt_z {P = _} x.least (pos (time_of g))
         (λ lt. inr (x, refl, (let e : int_min x.least (pos (time_of g)) ≡ x.least = omega (arith, ints, clamps, lt) in old.2 ∙ sym same ∙ e)))
         (λ ge. inl (g, inl refl, (let e : int_min x.least (pos (time_of g)) ≡ pos (time_of g) = omega (arith, ints, clamps, ge) in old.2 ∙ sym same ∙ e)))
@@ -80,8 +46,7 @@ widened_ends (Some x) g hs w ends = record {
     | inl at ↦ inl (at.0, inr at.1, at.2)
     | inr old ↦
         let same : int_max x.greatest (pos (time_of g)) ≡ old.0.greatest = ap (λ (y : Hull). y.greatest)
-        (same_some (widened (Some x) (pos (time_of g)))
-        (record { least = int_min x.least (pos (time_of g)); greatest = int_max x.greatest (pos (time_of g)) }) old.0 refl old.1) in
+        (same_some _ (record { least = int_min x.least (pos (time_of g)); greatest = int_max x.greatest (pos (time_of g)) }) _ refl old.1) in
         by_lt_z {P = _} x.greatest (pos (time_of g))
         (λ lt. inl (g, inl refl, (let e : int_max x.greatest (pos (time_of g)) ≡ pos (time_of g) = omega (arith, ints, clamps, lt) in old.2 ∙ sym same ∙ e)))
         (λ ge. inr (x, refl, (let e : int_max x.greatest (pos (time_of g)) ≡ x.greatest = omega (arith, ints, clamps, ge) in old.2 ∙ sym same ∙ e)))
@@ -110,15 +75,12 @@ block_of v n before w at = record { before = before; next = at.next; is_over = a
 pub in_next : (v : View) (n : ℕ) (before : Stands v n) (w : ℕ) → IsView v → first_dispatch v.sizes before.hull ≤ℤ pos w
     → pos w ≤ℤ last_dispatch v.sizes before.hull → w ≤ v.until → IsInNext v n before w
 in_next v n before w is low high in_run =
-    let later = later_end v n before is in
-    let next = behind_of (last_correction v.sizes before.hull) before.next later in
-    let space = room v is in
-    let first = frames_come_first v.sizes before.hull space (before_narrow v n before) in
+    let next = behind_of (last_correction v.sizes before.hull) before.next (later_end v n before is) in
     record {
       next = next.0;
       is_over = (before.hull, before.is_hull, next.1.behind);
       from = from_next v n before w is low;
-      to = omega (arith, ints, high, next.1.behind, first, before_narrow v n before, space.eight_errors);
+      to = omega (arith, ints, high, next.1.behind, frames_come_first v.sizes before.hull (room v is) (before_narrow v n before), before_narrow v n before);
       in_run = in_run;
     }
   where
@@ -127,9 +89,7 @@ in_next v n before w is low high in_run =
     from_next v (suc c) before w is low =
         let one = before.narrow c (omega arith) in
         let at = block_ends v c before.next one.0 one.1 before.is_over in
-        let follows = follows_before v c one.0 before.hull is one.1 before.is_hull in
-        let later = corrections_come_first v.sizes one.0 before.hull (room v is) one.2 follows in
-        omega (arith, ints, at, later, low)
+        omega (arith, ints, at, corrections_come_first v.sizes one.0 before.hull (room v is) one.2 (follows_before v c _ _ is one.1 before.is_hull), low)
 
 ends_of_role : (o : Option Device) → option_map_or (λ d. is_master d.role) o false ≡ true → option_map_or (λ d. is_end_system d.role) o false ≡ true
 ends_of_role None e = e
@@ -139,10 +99,8 @@ pub master_is_end : (v : View) (device : DeviceId) → has_role v.scenario.netwo
 master_is_end v device e = ends_of_role (device_at v.scenario.network device) e
 
 pub synchronised_is : (state : State) → is_synchronised state ≡ true → state ≡ Synchronised
-synchronised_is Off e = absurd cc
-synchronised_is Integrating e = absurd cc
-synchronised_is Joining e = absurd cc
 synchronised_is Synchronised e = refl
+synchronised_is state e = absurd cc
 
 -- what a dispatch says of the master's clock
 pub record HasDispatched (v : View) (device : DeviceId) (cycle w : ℕ) : Type 0 where
@@ -156,17 +114,14 @@ pub has_dispatched : (v : View) (h : Happening) (device : DeviceId) (cycle : ℕ
     → HasDispatched v device cycle (time_of h)
 has_dispatched v h device cycle is dispatch =
     let found = founded_at v.scenario v.records h is.run.founded dispatch.there in
-    let sends : IsCaused v.scenario found.front h.note.time (notes.Sent device cycle) = subst (IsCaused v.scenario found.front h.note.time) dispatch.is
-    found.due.cause in
+    let sends = subst (IsCaused v.scenario found.front h.note.time) dispatch.is found.due.cause in
     let split = before_of v h is found in
     let state = not_integrating (is_turned_on_at v.scenario device (time_of h)) (state_after v.scenario (earlier (time_of h) found.front) device)
     sends.up.synchronised in
-    let left : state_left v device (time_of h) ≡ Synchronised = subst (λ (hs : List Happening). state_after v.scenario hs device ≡ Synchronised)
-    (earlier_before v (time_of h) found.front split) state in
+    let left = subst (λ (hs : List Happening). state_after v.scenario hs device ≡ Synchronised) (earlier_before v (time_of h) found.front split) state in
     let reaches = reaches_whole v device (pos (cycle * amount v.scenario.network.cycle)) (time_of h) found.front split sends.reached in
     let sharp = clocks_reach_sharply v device (pos (cycle * amount v.scenario.network.cycle)) (time_of h) is reaches in
-    let size : v.sizes.cycle ≡ amount v.scenario.network.cycle = ap (λ (s : Sizes). s.cycle) is.sizes in
-    let same : cycle * v.sizes.cycle ≡ cycle * amount v.scenario.network.cycle = ap (λ (x : ℕ). cycle * x) size in
+    let same : cycle * v.sizes.cycle ≡ cycle * amount v.scenario.network.cycle = ap (λ (x : ℕ). cycle * x) (sizes_are v is).cycle in
     record {
       begun = sends.begun;
       end = master_is_end v device sends.master;
@@ -189,28 +144,18 @@ pub start_near : (v : View) (device : DeviceId) (w : ℕ) → IsView v → IsGoo
 start_near v device w is good has early late =
     let reading = v.scenario.reading device in
     let none = unset (last_setting (earlier w v.records) device) early in
-    let timed : has_time (state_left v device 0) ≡ true = time_stays v device 0 w is (omega arith) early (timed_by (state_left v device w) has.synchronised) in
-    let at_start : has_time (state_at_start (start_of v.scenario.network device)) ≡ true = subst
-    (λ (hs : List Happening). has_time (state_after v.scenario hs device) ≡ true) (none_at_start v.records) timed in
+    let timed : has_time (state_left v device 0) ≡ true = time_stays v device 0 w is (omega arith) early
+    (synchronised_has_time (state_left v device w) has.synchronised) in
+    let at_start = subst (λ (hs : List Happening). has_time (state_after v.scenario hs device) ≡ true) (none_at_start v.records) timed in
     let start = has_start (start_of v.scenario.network device) at_start in
     let known = start_is v device start.0 is start.1 in
-    let same : adjustment_left v device w ≡ start.0.0 =
-    ap (λ (a : Units). a.0) (adjustment_is_last v.scenario (earlier w v.records) device ∙ ap (set_adjustment v.scenario device) none
-    ∙ ap adjustment_at_start start.1) in
-    let space = room v is in
+    let same = ap (λ (a : Units). a.0)
+    (adjustment_is_last v.scenario (earlier w v.records) device ∙ ap (set_adjustment v.scenario device) none ∙ ap adjustment_at_start start.1) in
     let zero_reading = (steady v is device).begins in
     let shows = anchored_clocks_show v.sizes reading (adjustment_left v device w) 0 (pos 0 -ℤ pos (2 * v.sizes.settled)) (pos 0) 0 w (steady v is device)
-    (omega arith)
-    (omega (arith, ints, late, space.many_errors))
-    (record { least = omega (arith, ints, zero_reading, same, known.least); most = omega (arith, ints, zero_reading, same, known.most) }) in
+    (omega arith) (omega (arith, ints, (room v is).many_errors)) (record { least = omega (arith, ints); most = omega (arith, ints) }) in
     anchored_clocks_reach v.sizes (pos (reading w) +ℤ adjustment_left v device w) 0 (pos 0 -ℤ pos (2 * v.sizes.settled)) (pos 0) v.sizes.cycle w shows
     (omega (arith, ints, has.least)) (omega (arith, ints, has.most))
-  where
-    timed_by : (state : State) → is_synchronised state ≡ true → has_time state ≡ true
-    timed_by Off e = absurd cc
-    timed_by Integrating e = absurd cc
-    timed_by Joining e = absurd cc
-    timed_by Synchronised e = refl
 
 -- ---- later cycles
 
@@ -233,15 +178,12 @@ shared_near v n w before device share is good has from old late =
     let reading = v.scenario.reading device in
     let still = state_stays is_synchronised refl v device before.next w is from old has.synchronised in
     let by = share.each device (record { end = has.end; good = good }) (synchronised_is (state_left v device before.next) still) in
-    let same : adjustment_left v device before.next ≡ adjustment_left v device w = ap (λ (a : Units). a.0) (adjustment_stays v device before.next w is from old)
-    in
+    let same = ap (λ (a : Units). a.0) (adjustment_stays v device before.next w is from old) in
     let low = low_by v.sizes share.shared by.other in
     let high = high_by v.sizes share.shared by.other in
     let anchored = subst (λ (a : ℤ). IsAnchored v.sizes (pos (reading by.set_at) +ℤ a) n low high by.set_at) same by.anchored in
-    let space = room v is in
     let shows = anchored_clocks_show v.sizes reading (adjustment_left v device w) n low high by.set_at w (steady v is device)
-    (omega (arith, by.not_behind, from))
-    (omega (arith, ints, late, by.not_before, before_narrow v n before, space.eight_errors, space.cycles)) anchored in
+    (omega (arith, by.not_behind, from)) (omega (arith, ints, late, by.not_before, before_narrow v n before, room v is)) anchored in
     let product : suc n * v.sizes.cycle ≡ n * v.sizes.cycle + v.sizes.cycle = omega arith in
     record {
       other = by.other;
@@ -290,30 +232,21 @@ ends_near goes v (suc c) before g h is one other =
     let so_g = (goes v n (time_of g) (block_of v n before (time_of g) at_g) is).dispatches g one.device (suc n) one.dispatch refl in
     let so_h = (goes v n (time_of h) (block_of v n before (time_of h) at_h) is).dispatches h other.device (suc n) other.dispatch refl in
     let share = before.shared (omega arith) in
-    let x = shared_near v n (time_of g) before one.device share is one.dispatch.good (has_dispatched v g one.device (suc n) is one.dispatch) at_g.from so_g.old
-    one.high in
-    let y = shared_near v n (time_of h) before other.device share is other.dispatch.good (has_dispatched v h other.device (suc n) is other.dispatch) at_h.from
-    so_h.old other.high in
+    let x = shared_near v n _ before _ share is one.dispatch.good (has_dispatched v g _ _ is one.dispatch) at_g.from so_g.old one.high in
+    let y = shared_near v n _ before _ share is other.dispatch.good (has_dispatched v h _ _ is other.dispatch) at_h.from so_h.old other.high in
     let half = shared_clocks_halve v.sizes before.hull share.shared x.other y.other (time_of g) (time_of h) (room v is) x.near y.near x.reached y.reached in
-    let space = room v is in
-    omega (arith, ints, half, before_narrow v n before, space.errors.spread_is)
+    omega (arith, ints, half, before_narrow v n before, (room v is).errors.spread_is)
 
 pub hulls_are_narrow : BlocksGoSo → HullsAreNarrow
 hulls_are_narrow goes v n before hull is is_hull =
     let test = λ (g : Happening). is_dispatch v before.hull (suc n) g g.note.body in
-    let over_is : over None (filter test v.records) ≡ Some hull = subst
-    (λ (o : Option Hull). option_and_then (λ w. hull_over (filter (λ h. is_dispatch v w (suc n) h h.note.body) v.records)) o ≡ Some hull) before.is_hull
-    is_hull in
+    let over_is = subst (λ (o : Option Hull). option_and_then (λ w. hull_over (filter (λ h. is_dispatch v w (suc n) h h.note.body) v.records)) o
+    ≡ Some hull) before.is_hull is_hull in
     let ends = ends_of None (filter test v.records) hull over_is in
     elim ends.greatest [
       | inr none ↦ absurd (never_some none.0 none.1)
       | inl top ↦ elim ends.least [
         | inr none ↦ absurd (never_some none.0 none.1)
-        | inl low ↦
-            let near = ends_near goes v n before top.0 low.0 is (end_is v n before top.0 top.1) (end_is v n before low.0 low.1) in
-            omega (arith, ints, near, top.2, low.2)
+        | inl low ↦ omega (arith, ints, ends_near goes v n before top.0 low.0 is (end_is v n before top.0 top.1) (end_is v n before low.0 low.1), top.2, low.2)
       ]
     ]
-  where
-    never_some : (w : Hull) → None ≡ Some w → ⊥
-    never_some w e = cc

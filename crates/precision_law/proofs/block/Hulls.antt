@@ -1,22 +1,11 @@
 -- The hull of a cycle.
-use Rattle.std.proofs.Common.{◌≡◌, ℕ, suc, ◌≤◌, ℤ, pos, ◌≤ℤ◌, Bool, true, false, List, [], ◌∷◌, filter, fold, Option, Some, None, inl, inr, refl, sym, ap, subst, ◌∙◌, arith}
-use Rattle.std.proofs.lemmas.Bool.{and_parts, eq-eqb, eqb-true, not_from_false}
-use Rattle.std.proofs.lemmas.Int.{clamps, ints}
-use Rattle.std.specs.Int.{int_max, int_min}
-use Rattle.std.specs.Prelude.{◌==◌, ◌&&◌, int_le, not, option_and_then}
-use Rattle.compression.proofs.Held.{int_le-true}
-use Rattle.net_plan.specs.declared.ids.DeviceId.{DeviceId}
-use Rattle.precision_law.proofs.records.Times.{in_kept, passes}
-use Rattle.precision_law.specs.Hulls.{Hull, IsInHull, first_dispatch, hull_of, hull_over, is_dispatch, last_dispatch, widened}
-use Rattle.precision_law.specs.Standings.{Follows}
-use Rattle.precision_law.specs.Views.{IsDispatch, View}
-use Rattle.run_law.proofs.law.FirstPlaces.{in_filter}
-use Rattle.run_law.proofs.runs.SameSteps.{same_some}
+use Rattle.precision_law.proofs.words.Std.{◌&&◌, ◌==◌, ◌∙◌, ◌∷◌, ◌≡◌, ◌≤ℤ◌, ◌≤◌, Bool, List, None, Option, Some, [], and_parts, ap, arith, clamps, eq-eqb, eqb-true, false, filter, fold, inl, inr, int_le, int_max, int_min, ints, not, not-true, not_from_false, option_and_then, pos, refl, subst, suc, sym, true, ℕ, ℤ}
+use Rattle.precision_law.proofs.words.Plans.{DeviceId, int_le-true}
+use Rattle.precision_law.proofs.words.Runs.{Happening, IsIn, NoteBody, in_filter, is_broken, same_some, time_of}
+use Rattle.precision_law.proofs.words.Laws.{Follows, Hull, IsDispatch, IsInHull, View, first_dispatch, hull_of, hull_over, is_dispatch, last_dispatch, widened}
 use Rattle.run_law.specs.declared.note.NoteBody.TheVariants as notes
-use Rattle.run_law.specs.declared.note.NoteBody.{NoteBody}
-use Rattle.run_law.specs.records.Happenings.{Happening, time_of}
-use Rattle.run_law.specs.records.Order.{IsIn}
-use Rattle.run_law.specs.scenario.Scenarios.{is_broken}
+use Rattle.precision_law.proofs.records.Times.{in_kept, passes}
+use Rattle.precision_law.proofs.Plain.{never_some}
 
 -- ---- widening
 
@@ -38,19 +27,14 @@ widened_has (Some w) t = record {
 }
 
 widened_keeps : (o : Option Hull) (t u : ℤ) → HasIn o u → HasIn (widened o t) u
-widened_keeps None t u has = absurd (none_some has.hull has.is)
-  where
-    none_some : (w : Hull) → None ≡ Some w → ⊥
-    none_some w e = cc
+widened_keeps None t u has = absurd (never_some has.hull has.is)
 widened_keeps (Some w) t u has =
     let same : w ≡ has.hull = same_some (Some w) w has.hull refl has.is in
-    let low : w.least ≡ has.hull.least = ap (λ (x : Hull). x.least) same in
-    let high : w.greatest ≡ has.hull.greatest = ap (λ (x : Hull). x.greatest) same in
     record {
       hull = record { least = int_min w.least t; greatest = int_max w.greatest t };
       is = refl;
-      least = omega (arith, ints, clamps, low, has.least);
-      most = omega (arith, ints, clamps, high, has.most);
+      least = omega (arith, ints, clamps, ap (λ (x : Hull). x.least) same, has.least);
+      most = omega (arith, ints, clamps, ap (λ (x : Hull). x.greatest) same, has.most);
     }
 
 abbrev pub over : Option Hull → List Happening → Option Hull
@@ -64,8 +48,7 @@ over_keeps o (h ∷ hs) u has = over_keeps (widened o (pos (time_of h))) hs u (w
 over_has : (o : Option Hull) (hs : List Happening) (h : Happening) → IsIn h hs → HasIn (over o hs) (pos (time_of h))
 over_has o [] h i = absurd i
 over_has o (g ∷ hs) h (inl same) =
-    subst (λ (x : Happening). HasIn (over o (g ∷ hs)) (pos (time_of x))) (sym same)
-    (over_keeps (widened o (pos (time_of g))) hs (pos (time_of g)) (widened_has o (pos (time_of g))))
+    subst (λ (x : Happening). HasIn (over o (g ∷ hs)) (pos (time_of x))) (sym same) (over_keeps _ hs _ (widened_has o (pos (time_of g))))
 over_has o (g ∷ hs) h (inr more) = over_has (widened o (pos (time_of g))) hs h more
 
 -- the hull, if it is there, lies between these
@@ -75,8 +58,7 @@ LiesBetween a b (Some w) = (a ≤ℤ w.least) × (w.greatest ≤ℤ b) × (w.lea
 
 widened_between : (a b t : ℤ) (o : Option Hull) → a ≤ℤ t → t ≤ℤ b → LiesBetween a b o → LiesBetween a b (widened o t)
 widened_between a b t None low high at = (low, high, omega (arith, ints))
-widened_between a b t (Some w) low high at =
-    (omega (arith, ints, clamps, at.0, low), omega (arith, ints, clamps, at.1, high), omega (arith, ints, clamps, at.2))
+widened_between a b t (Some w) low high at = (omega (arith, ints, clamps, low), omega (arith, ints, clamps, high), omega (arith, ints, clamps))
 
 over_between : (a b : ℤ) (o : Option Hull) (hs : List Happening) → ((h : Happening) → IsIn h hs → (a ≤ℤ pos (time_of h)) × (pos (time_of h) ≤ℤ b))
     → LiesBetween a b o → LiesBetween a b (over o hs)
@@ -99,24 +81,19 @@ pub record IsTested (v : View) (before : Hull) (cycle : ℕ) (h : Happening) (bo
   pub low : first_dispatch v.sizes before ≤ℤ pos (time_of h)
   pub high : pos (time_of h) ≤ℤ last_dispatch v.sizes before
 
-not_true : (b : Bool) → not b ≡ true → b ≡ false
-not_true true e = absurd cc
-not_true false e = refl
-
 pub tested : (v : View) (before : Hull) (cycle : ℕ) (h : Happening) (body : NoteBody) → is_dispatch v before cycle h body ≡ true
     → IsTested v before cycle h body
 tested v before cycle h (notes.Sent device of_cycle) e =
     let low = int_le (first_dispatch v.sizes before) (pos (time_of h)) in
     let high = int_le (pos (time_of h)) (last_dispatch v.sizes before) in
-    let whole : ((not (is_broken v.scenario device v.until) && of_cycle == cycle) && (low && high)) ≡ true = assoc (not (is_broken v.scenario device v.until))
-    (of_cycle == cycle) (low && high) e in
+    let whole = assoc (not (is_broken v.scenario device v.until)) (of_cycle == cycle) (low && high) e in
     let a = and_parts (not (is_broken v.scenario device v.until) && of_cycle == cycle) (low && high) whole in
     let b = and_parts (not (is_broken v.scenario device v.until)) (of_cycle == cycle) a.0 in
     let c = and_parts low high a.1 in
     record {
       device = device;
       is = ap (notes.Sent device) (eqb-true of_cycle cycle b.1);
-      good = not_true (is_broken v.scenario device v.until) b.0;
+      good = not-true (is_broken v.scenario device v.until) b.0;
       low = int_le-is (first_dispatch v.sizes before) (pos (time_of h)) c.0;
       high = int_le-is (pos (time_of h)) (last_dispatch v.sizes before) c.1;
     }
@@ -143,11 +120,9 @@ pub in_hull : (v : View) (cycle : ℕ) (before : Hull) (h : Happening) (device :
     → first_dispatch v.sizes before ≤ℤ pos (time_of h) → pos (time_of h) ≤ℤ last_dispatch v.sizes before → IsInHull v (suc cycle) (time_of h)
 in_hull v cycle before h device is_before dispatch low high =
     let test = λ (g : Happening). is_dispatch v before (suc cycle) g g.note.body in
-    let i = in_kept test v.records h dispatch.there (passes_test v before (suc cycle) h device dispatch low high) in
-    let has = over_has None (filter test v.records) h i in
-    let same : hull_of v (suc cycle) ≡ hull_over (filter test v.records) =
-    ap (λ (o : Option Hull). option_and_then (λ before. hull_over (filter (λ h. is_dispatch v before (suc cycle) h h.note.body) v.records)) o) is_before
-    in
+    let has = over_has None (filter test v.records) h (in_kept test v.records h dispatch.there (passes_test v before (suc cycle) h device dispatch low high)) in
+    let same = ap (λ (o : Option Hull). option_and_then (λ before. hull_over (filter (λ h. is_dispatch v before
+    (suc cycle) h h.note.body) v.records)) o) is_before in
     record { hull = has.hull; is = same ∙ has.is; least = has.least; most = has.most }
 
 -- the hull of a cycle follows one of the cycle before
@@ -167,27 +142,21 @@ has_before v cycle hull in_run is = by (hull_of v cycle) refl is
   where
     by : (o : Option Hull) → hull_of v cycle ≡ o
         → option_and_then (λ before. hull_over (filter (λ h. is_dispatch v before (suc cycle) h h.note.body) v.records)) o ≡ Some hull → HasBefore v cycle hull
-    by None e s = absurd (none_some hull s)
-      where
-        none_some : (w : Hull) → None ≡ Some w → ⊥
-        none_some w e = cc
+    by None e s = absurd (never_some hull s)
     by (Some before) e s =
         let test = λ (g : Happening). is_dispatch v before (suc cycle) g g.note.body in
-        let bounds = between_some (first_dispatch v.sizes before) (last_dispatch v.sizes before) (hull_over (filter test v.records)) hull s
-        (over_between (first_dispatch v.sizes before) (last_dispatch v.sizes before) None (filter test v.records) (λ h i.
+        let bounds = between_some _ _ _ _ s (over_between (first_dispatch v.sizes before) (last_dispatch v.sizes before) None (filter test v.records) (λ h i.
         let t = tested v before (suc cycle) h h.note.body (passes test v.records h i) in (t.low, t.high)) tt) in
         let first = some_first (filter test v.records) hull s in
-        let early = in_run first.0 (in_filter test v.records first.0 first.1) in
         record {
           before = before;
           is_before = e;
           follows = record { least = bounds.0; most = bounds.1; ordered = bounds.2 };
-          begun = omega (arith, ints, early, first.2);
+          begun = omega (arith, ints, in_run first.0 (in_filter test v.records first.0 first.1), first.2);
         }
       where
         some_first : (hs : List Happening) (w : Hull) → hull_over hs ≡ Some w → (h : Happening) × IsIn h hs × (w.least ≤ℤ pos (time_of h))
         some_first [] w e = absurd cc
         some_first (h ∷ hs) w e =
             let has = over_has None (h ∷ hs) h (inl refl) in
-            let same : has.hull ≡ w = same_some (hull_over (h ∷ hs)) has.hull w has.is e in
-            (h, inl refl, subst (λ (x : Hull). x.least ≤ℤ pos (time_of h)) same has.least)
+            (h, inl refl, subst (λ (x : Hull). x.least ≤ℤ pos (time_of h)) (same_some (hull_over (h ∷ hs)) has.hull w has.is e) has.least)

@@ -1,48 +1,11 @@
 -- When a block is over the network stands as it should.
-use Rattle.std.proofs.Common.{◌≡◌, ℕ, zero, suc, ◌+◌, ◌-◌, ◌*◌, ◌<◌, ◌≤◌, ℤ, pos, negsuc, ◌+ℤ◌, ◌-ℤ◌, ◌≤ℤ◌, Bool, true, false, Option, Some, None, inl, inr, refl, sym, ap, subst, ◌∙◌, arith}
-use Rattle.std.proofs.lemmas.Bool.{and_from, both_ways, cases_lt}
-use Rattle.std.proofs.lemmas.Int.{ints}
-use Rattle.std.specs.Option.{option_map_or}
-use Rattle.std.specs.Prelude.{int_le, int_lt}
-use Rattle.compression.proofs.Held.{int_le-true}
-use Rattle.net_plan.specs.declared.ids.DeviceId.{DeviceId}
-use Rattle.precision_law.proofs.block.Goings.{known_dispatch}
-use Rattle.precision_law.proofs.block.Halving.{hulls_are_narrow}
-use Rattle.precision_law.proofs.clocks.Anchored.{set_clocks_have_reached, set_clocks_show}
-use Rattle.precision_law.proofs.clocks.Epochs.{adjustment_is_last, same_device}
-use Rattle.precision_law.proofs.clocks.Joiners.{joiner_waits}
-use Rattle.precision_law.proofs.clocks.Numbers.{int_lt-from, joiner_integrates, joining_of_setting, set_by_joining}
-use Rattle.precision_law.proofs.law.Cover.{later_end}
-use Rattle.precision_law.proofs.law.Precision.{clique_point}
-use Rattle.precision_law.proofs.law.Together.{IsSetInBlock, before_narrow, block_ends, follows_before, set_by}
-use Rattle.precision_law.proofs.records.Points.{before_of, point_timed, same_adjustment, setting_is}
-use Rattle.precision_law.proofs.records.Views.{room, steady}
-use Rattle.precision_law.proofs.sizes.Instants.{instants_are_in_order}
-use Rattle.precision_law.specs.Anchors.{IsAnchoredIn, IsAnchored}
-use Rattle.precision_law.specs.BlockLaws.{BlockGoesSo, BlockIsOver, BlocksGoSo, ComesTo, FirmDevicesCorrect, PointsHaveCome, PointsShare, StandsOn}
-use Rattle.precision_law.specs.Blocks.{AreNarrow, HadPoint, HasTimeAt, IsInBlock, IsSetFor, IsSharedBy, NoneLost, Stands, adjustment_left, state_left}
-use Rattle.precision_law.specs.EpochLaws.{set_adjustment}
-use Rattle.precision_law.specs.Epochs.{cycle_set, epoch_cycle, epoch_time, is_corrected, is_correction, last_setting, has_time}
-use Rattle.precision_law.specs.Hulls.{Hull, IsNarrow, first_correction, hull_of, last_correction, start_hull}
-use Rattle.precision_law.specs.Masters.{SwitchesAreGood}
-use Rattle.precision_law.specs.Sizes.{Sizes}
-use Rattle.precision_law.specs.Views.{IsFirm, IsGood, IsGoodEnd, IsView, View}
-use Rattle.run_law.proofs.law.FirstPlaces.{founded_at}
-use Rattle.run_law.proofs.runs.SameSteps.{same_some}
-use Rattle.run_law.specs.control.Corrections.{correction_value, is_integration_cycle, recorded_cycle}
+use Rattle.precision_law.proofs.words.Std.{◌*◌, ◌+ℤ◌, ◌+◌, ◌-ℤ◌, ◌-◌, ◌<◌, ◌∙◌, ◌≡◌, ◌≤ℤ◌, ◌≤◌, Bool, None, Option, Some, and_from, ap, arith, both_ways, cases_lt, false, inl, inr, int_le, int_lt, ints, negsuc, option_map_or, pos, refl, subst, suc, sym, true, zero, ℕ, ℤ}
+use Rattle.precision_law.proofs.words.Plans.{Corrected, DeviceId, Synchronised, Units, adjustment_at_start, int_le-true}
+use Rattle.precision_law.proofs.words.Runs.{Happening, IsCaused, IsIn, NoteBody, adjustment_before, adjustment_with, changed_at, changes_adjustment, correction_value, cycle_in, earlier, founded_at, had_come, is_integration_cycle, is_joined_by, is_synchronised, local_at_change, recorded_cycle, same_some, start_of, time_of}
+use Rattle.precision_law.proofs.words.Laws.{AreNarrow, BlockGoesSo, BlockIsOver, BlocksGoSo, ComesTo, FirmDevicesCorrect, HadPoint, HasTimeAt, Hull, IsAnchored, IsAnchoredIn, IsFirm, IsGood, IsGoodEnd, IsInBlock, IsNarrow, IsSetFor, IsSharedBy, IsView, NoneLost, PointsHaveCome, PointsShare, Stands, StandsOn, SwitchesAreGood, View, adjustment_left, cycle_set, first_correction, has_time, hull_of, is_correction, last_correction, last_setting, set_adjustment, start_hull, state_left}
+use Rattle.precision_law.proofs.words.Clocks.{adjustment_is_last, before_of, instants_are_in_order, joiner_waits, point_timed, room, same_adjustment, same_device, set_clocks_have_reached, set_clocks_show, setting_is, sizes_are, steady}
+use Rattle.precision_law.proofs.words.Blocks.{IsSetInBlock, before_narrow, block_ends, clique_point, follows_before, hulls_are_narrow, int_lt-from, joiner_integrates, joining_of_setting, known_dispatch, later_end, set_by, set_by_joining}
 use Rattle.run_law.specs.declared.note.NoteBody.TheVariants as notes
-use Rattle.run_law.specs.declared.note.NoteBody.{NoteBody}
-use Rattle.run_law.specs.device.LocalClocks.{changed_at, changes_adjustment, had_come, local_at_change}
-use Rattle.run_law.specs.device.States.{adjustment_before, adjustment_with, cycle_in, is_joined_by, is_synchronised}
-use Rattle.run_law.specs.records.Happenings.{Happening, earlier, time_of}
-use Rattle.run_law.specs.records.Order.{IsIn}
-use Rattle.run_law.specs.runs.DueRecords.{IsCaused}
-use Rattle.run_law.specs.scenario.Devices.{start_of}
-use Rattle.sync_state.specs.Standing.{adjustment_at_start}
-use Rattle.sync_state.specs.declared.answers.Verdict.TheVariants.{Corrected}
-use Rattle.sync_state.specs.declared.state.State.TheVariants.{Synchronised}
-use Rattle.tte_units.specs.Amount.{amount}
-use Rattle.tte_units.specs.declared.units.Units.{Units}
 
 -- ---- the instants of the block
 
@@ -90,8 +53,7 @@ set_so : BlocksGoSo → (v : View) (n : ℕ) (over : BlockIsOver v n) (device : 
     → IsSetInBlock v n (time_of h) device (adjustment_left v device over.next)
 set_so goes v n over device h is good by =
     let block = instant v n over (time_of h) by.from by.to (omega (arith, by.to, over.in_run)) in
-    let set = set_by v n (time_of h) device block h h.note.body (all_went goes v n over is (time_of h) by.from by.to) is good by.from (omega arith) by.there
-    refl by.sets in
+    let set = set_by _ _ _ _ block h h.note.body (all_went goes _ _ over is (time_of h) by.from by.to) is good by.from (omega arith) by.there refl by.sets in
     let last = adjustment_is_last v.scenario (earlier over.next v.records) device ∙ ap (set_adjustment v.scenario device) by.last in
     subst (IsSetInBlock v n (time_of h) device) (sym (ap (λ (a : Units). a.0) last)) set
 
@@ -116,11 +78,9 @@ has_corrected : (v : View) (device : DeviceId) (h : Happening) → IsView v → 
 has_corrected v device h is good i changes corrected =
     let found = founded_at v.scenario v.records h is.run.founded i in
     let c = correction_of_body device h.note.body changes corrected in
-    let cause : IsCaused v.scenario found.front h.note.time (notes.Corrected device c.0 c.1 c.2) = subst (IsCaused v.scenario found.front h.note.time) c.3
-    found.due.cause in
+    let cause = subst (IsCaused v.scenario found.front h.note.time) c.3 found.due.cause in
     let split = before_of v h is found in
-    let left : (adjustment_before v.scenario found.front device (time_of h)).0 ≡ adjustment_left v device (time_of h) = ap (λ (a : Units). a.0)
-    (same_adjustment v device (time_of h) found.front split) in
+    let left = ap (λ (a : Units). a.0) (same_adjustment v device (time_of h) found.front split) in
     record {
       cycle = c.0;
       by = c.1;
@@ -148,16 +108,13 @@ set_cycle goes v n over device h is good by false joined =
 clock_is_set : BlocksGoSo → PointsHaveCome → (v : View) (n : ℕ) (over : BlockIsOver v n) (hull : Hull) (device : DeviceId) → IsView v
     → hull_of v (suc n) ≡ Some hull → HasTimeAt v device over.next → IsSetFor v (suc n) hull over.next device
 clock_is_set goes come v n over hull device is is_hull has =
-    let new = come v n over device is has in
-    let by = set_last v n over device (last_setting (earlier over.next v.records) device) refl new in
+    let by = set_last v n over device (last_setting (earlier over.next v.records) device) refl (come v n over device is has) in
     let set = set_so goes v n over device by.0 is has.good by.1 in
     let same : set.hull ≡ hull = same_some (hull_of v (suc n)) set.hull hull set.is_hull is_hull in
-    let index = set_cycle goes v n over device by.0 is has.good by.1 (is_correction by.0.note.body) refl in
-    let shown : epoch_cycle (earlier over.next v.records) device ≡ cycle_set by.0 by.0.note.body =
-    ap (λ (o : Option Happening). option_map_or (λ g. cycle_set g g.note.body) o 0) by.1.last in
+    let shown = ap (λ (o : Option Happening). option_map_or (λ g. cycle_set g g.note.body) o 0) by.1.last in
     let time : changed_at v.records device over.next ≡ time_of by.0 = ap (λ (o : Option Happening). option_map_or time_of o 0) by.1.last in
     record {
-      index = shown ∙ index;
+      index = shown ∙ (set_cycle goes v n over device by.0 is has.good by.1 (is_correction by.0.note.body) refl);
       set_at = set.set_at;
       not_before = subst (λ (w : Hull). w.least ≤ℤ pos set.set_at) same set.not_before;
       not_behind = omega (arith, set.not_behind, by.1.to);
@@ -171,8 +128,7 @@ clock_is_set goes come v n over hull device is is_hull has =
 had_point : BlocksGoSo → PointsHaveCome → (v : View) (n : ℕ) (over : BlockIsOver v n) (device : DeviceId) → IsView v → HasTimeAt v device over.next
     → HadPoint v over.next (first_correction v.sizes over.before.hull) device
 had_point goes come v n over device is has =
-    let new = come v n over device is has in
-    let by = set_last v n over device (last_setting (earlier over.next v.records) device) refl new in
+    let by = set_last v n over device (last_setting (earlier over.next v.records) device) refl (come v n over device is has) in
     parts by.0 by.1 (is_correction by.0.note.body) refl
   where
     parts : (h : Happening) → IsSetBy v n over device h → (b : Bool) → is_correction h.note.body ≡ b
@@ -182,48 +138,34 @@ had_point goes come v n over device is has =
         let so = all_went goes v n over is (time_of h) by.from by.to in
         let old = so.old_alone device c.cycle (Corrected c.by) c.has c.comes (λ z. cc) in
         let point = so.points device c.cycle (Corrected c.by) c.has old c.comes in
-        let time : epoch_time (earlier over.next v.records) device ≡ pos (time_of h) =
-        ap (λ (o : Option Happening). option_map_or (λ g. pos (time_of g)) o (negsuc 0)) by.last in
-        let is_so : is_corrected (earlier over.next v.records) device ≡ true =
-        ap (λ (o : Option Happening). option_map_or (λ g. is_correction g.note.body) o false) by.last ∙ corrected in
+        let time = ap (λ (o : Option Happening). option_map_or (λ g. pos (time_of g)) o (negsuc 0)) by.last in
+        let is_so = ap (λ (o : Option Happening). option_map_or (λ g. is_correction g.note.body) o false) by.last ∙ corrected in
         record { how = inl (is_so, omega (arith, ints, time, point.not_early)) }
     parts h by false joined =
         let s = v.scenario in
         let reading = s.reading device in
         let space = room v is in
-        let before = over.before in
         let joins_it = joining_of_setting device h.note.body by.sets joined in
         let so = (all_went goes v n over is (time_of h) by.from by.to).joins h device by.there joins_it has.good refl in
         let integrates = joiner_integrates (earlier over.next v.records) device h by.last by.sets joined in
-        let is_so : is_corrected (earlier over.next v.records) device ≡ false =
-        ap (λ (o : Option Happening). option_map_or (λ g. is_correction g.note.body) o false) by.last ∙ joined in
+        let is_so = ap (λ (o : Option Happening). option_map_or (λ g. is_correction g.note.body) o false) by.last ∙ joined in
         let set = set_so goes v n over device h is has.good by in
         let last = last_of v n over is in
-        let follows = follows_before v n before.hull set.hull is before.is_hull set.is_hull in
-        let order = instants_are_in_order v.sizes before.hull set.hull space (before_narrow v n before) follows in
+        let follows = follows_before v n over.before.hull set.hull is over.before.is_hull set.is_hull in
+        let order = instants_are_in_order v.sizes over.before.hull set.hull space (before_narrow v n over.before) follows in
         let a = adjustment_left v device over.next in
         let same_hull : so.hull ≡ set.hull = same_some (hull_of v (suc n)) so.hull set.hull so.is_hull set.is_hull in
         let early : set.hull.least ≤ℤ pos (time_of h) = subst (λ (w : Hull). w.least ≤ℤ pos (time_of h)) same_hull so.not_early in
-        let within : last.last ≤ set.set_at + 2 * v.sizes.cycle = omega (
-          arith,
-          ints,
-          last.at,
-          order.last_not_late,
-          set.not_before,
-          space.cycles,
-          space.eight_errors,
-        ) in
+        let within : last.last ≤ set.set_at + 2 * v.sizes.cycle = omega (arith, ints, last.at, order.last_not_late, set.not_before, space) in
         let reached = set_clocks_have_reached v.sizes reading a (suc n) set.hull set.set_at v.sizes.correction last.last space (steady v is device)
         (omega (arith, set.not_behind, by.to, last.is_last)) within set.anchored (omega (arith, ints, last.at, order.last_not_early)) in
         let then_shows = set_clocks_show v.sizes reading a (suc n) set.hull set.set_at (time_of h) (steady v is device) set.not_behind
         (omega (arith, by.to, last.is_last, within)) set.anchored in
-        let late = so.not_late in
         let recorded : recorded_cycle (earlier over.next v.records) device ≡ suc n = integrates.1 ∙ so.of_cycle in
         let value = correction_value s.network (recorded_cycle (earlier over.next v.records) device) in
-        let size : v.sizes.cycle ≡ amount s.network.cycle = ap (λ (x : Sizes). x.cycle) is.sizes in
-        let sizec : v.sizes.correction ≡ amount s.network.correction = ap (λ (x : Sizes). x.correction) is.sizes in
-        let product : recorded_cycle (earlier over.next v.records) device * amount s.network.cycle ≡ suc n * v.sizes.cycle =
-        ap (λ (x : ℕ). recorded_cycle (earlier over.next v.records) device * x) (sym size) ∙ ap (λ (c : ℕ). c * v.sizes.cycle) recorded in
+        let size = (sizes_are v is).cycle in
+        let sizes = sizes_are v is in
+        let product = ap (λ (x : ℕ). recorded_cycle (earlier over.next v.records) device * x) (sym size) ∙ ap (λ (c : ℕ). c * v.sizes.cycle) recorded in
         let time : changed_at v.records device over.next ≡ time_of h = ap (λ (o : Option Happening). option_map_or time_of o 0) by.last in
         let at_change : reading (changed_at v.records device over.next) ≡ reading (time_of h) = ap reading time in
         let at_last : reading (over.next - 1) ≡ reading last.last = ap reading (omega (arith, last.is_last)) in
@@ -233,10 +175,8 @@ had_point goes come v n over device is has =
             and_from (is_integration_cycle (earlier over.next v.records) device) (had_come s v.records device value over.next over.next) integrates.0
                 (and_from (int_lt (local_at_change s v.records device over.next) value)
                 (int_le value (pos (reading (over.next - 1)) +ℤ (adjustment_before s v.records device over.next).0))
-                (int_lt-from (local_at_change s v.records device over.next) value
-                (omega (arith, ints, then_shows.most, late, follows.least, at_change, product, sizec, space.errors.reach_is, early)))
-                (int_le-true value (pos (reading (over.next - 1)) +ℤ (adjustment_before s v.records device over.next).0)
-                (omega (arith, ints, reached, at_last, product, sizec)))),
+                (int_lt-from (local_at_change s v.records device over.next) value (omega (arith, ints)))
+                (int_le-true value (pos (reading (over.next - 1)) +ℤ (adjustment_before s v.records device over.next).0) (omega (arith, ints)))),
           );
         }
 
@@ -246,30 +186,24 @@ shared_by : BlocksGoSo → PointsHaveCome → (v : View) (n : ℕ) (over : Block
     → IsView v → IsGoodEnd v device → state_left v device over.next ≡ Synchronised → IsSharedBy v (suc n) hull over.next share.shared device
 shared_by goes come v n over hull share device is end synchronised =
     let has : HasTimeAt v device over.next = record { good = end.good; timed = ap has_time synchronised } in
-    let new = come v n over device is has in
-    let by = set_last v n over device (last_setting (earlier over.next v.records) device) refl new in
+    let by = set_last v n over device (last_setting (earlier over.next v.records) device) refl (come v n over device is has) in
     parts by.0 by.1 (is_correction by.0.note.body) refl
   where
     parts : (h : Happening) → IsSetBy v n over device h → (b : Bool) → is_correction h.note.body ≡ b → IsSharedBy v (suc n) hull over.next share.shared device
     parts h by false joined =
-        let joins_it = joining_of_setting device h.note.body by.sets joined in
-        let waits = joiner_waits v device over.next h is by.last joins_it in
+        let waits = joiner_waits v device over.next h is by.last (joining_of_setting device h.note.body by.sets joined) in
         absurd (both_ways (is_synchronised (state_left v device over.next)) waits (ap is_synchronised synchronised))
     parts h by true corrected =
         let c = has_corrected v device h is end.good by.there by.sets corrected in
-        let so = all_went goes v n over is (time_of h) by.from by.to in
-        let old = so.old_alone device c.cycle (Corrected c.by) c.has c.comes (λ z. cc) in
+        let old = (all_went goes v n over is (time_of h) by.from by.to).old_alone device c.cycle (Corrected c.by) c.has c.comes (λ z. cc) in
         let block = instant v n over (time_of h) by.from by.to (omega (arith, by.to, over.in_run)) in
         let each = share.each (time_of h) block device c.cycle (Corrected c.by) (inl end) c.has old c.comes in
         let same_by : each.0 ≡ c.by = (let e = each.1 in cc) in
         let shared = each.2 end in
         let last = adjustment_is_last v.scenario (earlier over.next v.records) device ∙ ap (set_adjustment v.scenario device) by.last in
-        let self : changes_adjustment device (notes.Corrected device c.cycle c.by c.adjustment) ≡ true = ap (changes_adjustment device) (sym c.is) ∙ by.sets in
-        let shows : (adjustment_with v.scenario device (cycle_in h) (adjustment_at_start (start_of v.scenario.network device)) h.note.body).0 ≡ c.adjustment.0 =
-        ap (λ (b : NoteBody). (adjustment_with v.scenario device (cycle_in h) (adjustment_at_start (start_of v.scenario.network device)) b).0) c.is
-        ∙ rw self refl in
-        let left : adjustment_left v device over.next ≡ (adjustment_left v device (time_of h) +ℤ each.0.0) =
-        ap (λ (a : Units). a.0) last ∙ shows ∙ c.sum ∙ ap (λ (u : Units). adjustment_left v device (time_of h) +ℤ u.0) (sym same_by) in
+        let shows = ap (λ (b : NoteBody). (adjustment_with v.scenario device (cycle_in h) (adjustment_at_start (start_of v.scenario.network device)) b).0) c.is
+        ∙ rw (ap (changes_adjustment device) (sym c.is) ∙ by.sets) refl in
+        let left = ap (λ (a : Units). a.0) last ∙ shows ∙ c.sum ∙ ap (λ (u : Units). adjustment_left v device (time_of h) +ℤ u.0) (sym same_by) in
         record {
           other = shared.other;
           near = shared.near;
@@ -293,22 +227,17 @@ none_lost switches goes v n over hull share is h device state cause why i lt bod
     elim (cases_lt (time_of h) over.before.next) [
       | inl early ↦ over.before.kept h device state cause why i early body clique firm
       | inr from ↦
-          let good = firm_good switches v device is firm in
           let found = founded_at v.scenario v.records h is.run.founded i in
-          let caused : IsCaused v.scenario found.front h.note.time (notes.State device state cause why) = subst (IsCaused v.scenario found.front h.note.time)
-          body found.due.cause in
+          let caused = subst (IsCaused v.scenario found.front h.note.time) body found.due.cause in
           let point = clique_point v.scenario found.front (time_of h) device state cause why clique caused in
           let split = before_of v h is found in
           let has : HasTimeAt v device (time_of h) = record {
-            good = good;
-            timed = point_timed v (time_of h) device point.cycle point.verdict found.front split
-                point.point;
+            good = firm_good switches v device is firm;
+            timed = point_timed v (time_of h) device point.cycle point.verdict found.front split point.point;
           } in
           let comes : ComesTo v (time_of h) device point.cycle point.verdict = record { front = found.front; split = split; point = point.point } in
-          let so = all_went goes v n over is (time_of h) from lt in
-          let old = so.old_alone device point.cycle point.verdict has comes point.not_cleared in
-          let block = instant v n over (time_of h) from lt (omega (arith, lt, over.in_run)) in
-          let each = share.each (time_of h) block device point.cycle point.verdict firm has old comes in
+          let old = (all_went goes v n over is (time_of h) from lt).old_alone device point.cycle point.verdict has comes point.not_cleared in
+          let each = share.each (time_of h) (instant v n over (time_of h) from lt (omega arith)) device point.cycle point.verdict firm has old comes in
           point.not_corrected each.0 each.1
     ]
 
@@ -323,14 +252,12 @@ narrow_on goes v n before hull is is_hull c le =
           subst (λ (x : ℕ). (w : Hull) × (hull_of v x ≡ Some w) × IsNarrow v.sizes w) same (hull, is_hull, hulls_are_narrow goes v n before hull is is_hull)
     ]
 
--- a hull's least instant is not behind its greatest
-ordered : (v : View) (n : ℕ) (stands : Stands v n) → IsView v → stands.hull.least ≤ℤ stands.hull.greatest
-ordered v zero stands is =
+-- a hull is not behind itself
+pub hull_ordered : (v : View) (n : ℕ) (stands : Stands v n) → IsView v → stands.hull.least ≤ℤ stands.hull.greatest
+hull_ordered v zero stands is =
     let same : start_hull v.sizes ≡ stands.hull = same_some (hull_of v zero) (start_hull v.sizes) stands.hull refl stands.is_hull in
-    let low : (pos 0 -ℤ pos v.sizes.settled) ≡ stands.hull.least = ap (λ (w : Hull). w.least) same in
-    let top : pos 0 ≡ stands.hull.greatest = ap (λ (w : Hull). w.greatest) same in
-    omega (arith, ints, low, top)
-ordered v (suc c) stands is =
+    omega (arith, ints, ap (λ (w : Hull). w.least) same, ap (λ (w : Hull). w.greatest) same)
+hull_ordered v (suc c) stands is =
     let one = stands.narrow c (omega arith) in
     (follows_before v c one.0 stands.hull is one.1 stands.is_hull).ordered
 
@@ -339,8 +266,7 @@ stands_on goes come correct switches v n is over =
     let before = over.before in
     let last = last_of v n over is in
     let in_last : IsInBlock v n last.last = instant v n over last.last last.from (omega (arith, last.is_last)) (omega (arith, last.is_last, over.in_run)) in
-    let share = correct v n last.last in_last is (omega (arith, ints, last.at, ordered v n before is)) in
-    let went = all_went goes v n over is in
+    let share = correct v n last.last in_last is (omega (arith, ints, last.at, hull_ordered v n before is)) in
     record {
       next = over.next;
       is_over = over.is_over;
@@ -348,19 +274,17 @@ stands_on goes come correct switches v n is over =
       hull = share.0;
       is_hull = share.1;
       narrow = narrow_on goes v n before share.0 is share.1;
-      dispatches = λ h device cycle dispatch lt. known_dispatch v n over.next before went h device cycle dispatch lt;
+      dispatches = λ h device cycle dispatch lt. known_dispatch v n over.next before (all_went goes v n over is) h device cycle dispatch lt;
       clocks = λ device has. clock_is_set goes come v n over share.0 device is share.1 has;
       points = λ w c same at device has.
           let one : c ≡ n = omega (arith, same) in
-          let at_n : hull_of v n ≡ Some w = subst (λ (x : ℕ). hull_of v x ≡ Some w) one at in
-          let same_hull : before.hull ≡ w = same_some (hull_of v n) before.hull w before.is_hull at_n in
+          let same_hull : before.hull ≡ w = same_some (hull_of v n) before.hull w before.is_hull (subst (λ (x : ℕ). hull_of v x ≡ Some w) one at) in
           subst (λ (x : Hull). HadPoint v over.next (first_correction v.sizes x) device) same_hull (had_point goes come v n over device is has);
       shared =
           λ some. record {
             shared = share.2.shared;
             near = share.2.near;
-            each = λ device end synchronised. shared_by goes come v n over share.0 share.2 device
-                is end synchronised;
+            each = λ device end synchronised. shared_by goes come v n over share.0 share.2 device is end synchronised;
           };
       joined = λ h device i joins good lt. joined_on h device i joins good lt;
       kept = none_lost switches goes v n over share.0 share.2 is;

@@ -1,30 +1,9 @@
 -- At the beginning the network stands as it should.
-use Rattle.std.proofs.Common.{◌≡◌, ℕ, zero, suc, ◌≤◌, pos, ◌≤ℤ◌, true, List, [], Option, Some, None, refl, sym, ap, subst, ◌∙◌, arith, ◌^◌}
-use Rattle.std.proofs.lemmas.Bool.{le-ltb}
-use Rattle.std.proofs.lemmas.Int.{ints}
-use Rattle.std.specs.Prelude.{IfSome, nat_lt, option_and_then}
-use Rattle.net_plan.specs.Places.{device_at}
-use Rattle.net_plan.specs.Ranges.{IsDeviceInRange, IsWithin}
-use Rattle.net_plan.specs.declared.ids.DeviceId.{DeviceId}
-use Rattle.net_plan.specs.declared.tables.Device.{Device}
-use Rattle.precision_law.proofs.clocks.Anchored.{starts_are_set}
-use Rattle.precision_law.proofs.records.Views.{room, steady}
-use Rattle.precision_law.specs.Anchors.{IsAnchoredIn}
-use Rattle.precision_law.specs.BlockLaws.{StandsAtStart}
-use Rattle.precision_law.specs.Blocks.{HasTimeAt, IsSetFor}
-use Rattle.precision_law.specs.Epochs.{epoch_cycle, has_time}
-use Rattle.precision_law.specs.Hulls.{hull_of, start_hull, Hull, IsNarrow}
-use Rattle.precision_law.specs.Sizes.{Sizes}
-use Rattle.precision_law.specs.Views.{IsView, View}
-use Rattle.run_law.proofs.law.FirstPlaces.{none_kept}
-use Rattle.run_law.specs.device.States.{adjustment_after, adjustment_before, state_after}
-use Rattle.run_law.specs.records.Happenings.{Happening, earlier, time_of}
-use Rattle.run_law.specs.scenario.Devices.{start_of}
-use Rattle.schedule_tables.proofs.EntryLemmas.{all_at}
-use Rattle.schedule_tables.specs.declared.rule.Rule.TheVariants.{Masters}
-use Rattle.sync_state.specs.Standing.{adjustment_at_start, state_at_start}
-use Rattle.tte_units.specs.Amount.{amount}
-use Rattle.tte_units.specs.declared.units.Units.{Units}
+use Rattle.precision_law.proofs.words.Std.{◌^◌, ◌∙◌, ◌≡◌, ◌≤ℤ◌, ◌≤◌, IfSome, List, None, Option, Some, [], ap, arith, ints, le-ltb, nat_lt, option_and_then, pos, refl, subst, suc, sym, true, zero, ℕ}
+use Rattle.precision_law.proofs.words.Plans.{Device, DeviceId, IsDeviceInRange, IsWithin, Masters, Units, adjustment_at_start, all_at, device_at, state_at_start}
+use Rattle.precision_law.proofs.words.Runs.{Happening, adjustment_after, earlier, none_kept, start_of, state_after, time_of}
+use Rattle.precision_law.proofs.words.Laws.{HasTimeAt, Hull, IsAnchoredIn, IsNarrow, IsSetFor, IsView, StandsAtStart, View, epoch_cycle, has_time, hull_of, start_hull}
+use Rattle.precision_law.proofs.words.Clocks.{room, sizes_are, starts_are_set, steady}
 
 -- before time 0 there is no record
 pub none_at_start : (hs : List Happening) → earlier 0 hs ≡ []
@@ -58,20 +37,17 @@ start_is v device u is e =
     let within : IsWithin 0 (2 ^ 40) u = if_some (IsWithin 0 (2 ^ 40)) from.0.start u from.2 known.start in
     let settled = all_at (λ d. IfSome d.start (λ start. start.0 ≤ℤ n.settled.0)) n.device device.0 from.0 ((is.lawful.rules Masters 4).starts refl) from.1 in
     let small : u.0 ≤ℤ n.settled.0 = if_some (λ start. start.0 ≤ℤ n.settled.0) from.0.start u from.2 settled in
-    let size : v.sizes.settled ≡ amount n.settled = ap (λ (s : Sizes). s.settled) is.sizes in
-    record { least = within.least; most = omega (arith, ints, small, size, within.least) }
+    record { least = within.least; most = omega (arith, ints, small, (sizes_are v is).settled, within.least) }
 
 -- ---- the beginning
 
 set_at_start : (v : View) (device : DeviceId) → IsView v → HasTimeAt v device 0 → IsSetFor v 0 (start_hull v.sizes) 0 device
 set_at_start v device is has =
     let none = none_at_start v.records in
-    let timed : has_time (state_at_start (start_of v.scenario.network device)) ≡ true = subst
-    (λ (hs : List Happening). has_time (state_after v.scenario hs device) ≡ true) none has.timed in
+    let timed = subst (λ (hs : List Happening). has_time (state_after v.scenario hs device) ≡ true) none has.timed in
     let start = has_start (start_of v.scenario.network device) timed in
     let known = start_is v device start.0 is start.1 in
-    let same : adjustment_before v.scenario v.records device 0 ≡ start.0 =
-    ap (λ (hs : List Happening). adjustment_after v.scenario hs device) none ∙ ap adjustment_at_start start.1 in
+    let same = ap (λ (hs : List Happening). adjustment_after v.scenario hs device) none ∙ ap adjustment_at_start start.1 in
     let anchored = starts_are_set v.sizes (v.scenario.reading device) start.0.0 (room v is) (steady v is device) known.least known.most in
     record {
       index = ap (λ (hs : List Happening). epoch_cycle hs device) none;

@@ -1,92 +1,40 @@
 -- Anchored clocks: how they are set, what they show, and when they reach a value.
-use Rattle.std.proofs.Common.{◌≡◌, ℕ, suc, ◌+◌, ◌*◌, ℤ, pos, negsuc, ◌+ℤ◌, ◌-ℤ◌, ◌*ℤ◌, ◌≤ℤ◌, refl, arith, unsigned_abs}
-use Rattle.std.proofs.lemmas.Int.{ints}
-use Rattle.precision_law.specs.Anchors.{high_of, low_of}
-use Rattle.precision_law.specs.Standings.{AnchoredClocksReach, AnchoredClocksShow, AnchorsWiden, ClocksOfOneCycle, ClocksOfTwoCycles, OneFrameAnchors, OneFrameSets, SetClocksHaveReached, SetClocksReach, SetClocksShow, SharedClocksHalve, StartsAreSet, StartsStayTogether, TwoFramesAnchor, TwoFramesSet, setting}
-use Rattle.tte_units.proofs.Means.{mean_of-floor}
-use Rattle.tte_units.specs.Mean.{mean_of}
+use Rattle.precision_law.proofs.words.Std.{◌*ℤ◌, ◌*◌, ◌+ℤ◌, ◌+◌, ◌-ℤ◌, ◌≡◌, ◌≤ℤ◌, arith, ints, negsuc, pos, refl, suc, unsigned_abs, ℕ, ℤ}
+use Rattle.precision_law.proofs.words.Plans.{mean_of, mean_of-floor}
+use Rattle.precision_law.proofs.words.Laws.{AnchoredClocksReach, AnchoredClocksShow, AnchorsWiden, ClocksOfOneCycle, ClocksOfTwoCycles, OneFrameAnchors, OneFrameSets, SetClocksHaveReached, SetClocksReach, SetClocksShow, SharedClocksHalve, StartsAreSet, StartsStayTogether, TwoFramesAnchor, TwoFramesSet, high_of, low_of, setting}
 
 -- ---- setting a clock
 
 pub one_frame_anchors : OneFrameAnchors
-one_frame_anchors n reading base q point expected cycle timely = record {
-  least = omega (arith, ints, timely.not_early, timely.not_late, timely.least, timely.most);
-  most = omega (arith, ints, timely.not_early, timely.not_late, timely.least, timely.most);
-}
+one_frame_anchors n reading base q point expected cycle timely = record { least = omega (arith, ints, timely); most = omega (arith, ints, timely) }
 
 pub two_frames_anchor : TwoFramesAnchor
 two_frames_anchor n reading first second q u p r expected cycle steady le within one other =
     let fast = steady.fast q u le within in
     let slow = steady.slow q u le within in
     let mean = mean_of-floor (setting n cycle expected p) (setting n cycle expected r) in
-    record {
-      least =
-          omega (
-            arith,
-            ints,
-            mean.least,
-            mean.most,
-            fast,
-            slow,
-            one.not_early,
-            one.not_late,
-            one.least,
-            one.most,
-            other.not_early,
-            other.not_late,
-            other.least,
-            other.most,
-          );
-      most =
-          omega (
-            arith,
-            ints,
-            mean.least,
-            mean.most,
-            fast,
-            slow,
-            one.not_early,
-            one.not_late,
-            one.least,
-            one.most,
-            other.not_early,
-            other.not_late,
-            other.least,
-            other.most,
-          );
-    }
+    record { least = omega (arith, ints, mean, fast, slow, one, other); most = omega (arith, ints, mean, fast, slow, one, other) }
 
 pub anchors_widen : AnchorsWiden
-anchors_widen n shown cycle low high lower higher r down up anchored = record {
-  least = omega (arith, ints, up, anchored.least);
-  most = omega (arith, ints, down, anchored.most);
-}
+anchors_widen n shown cycle low high lower higher r down up anchored = record { least = omega (arith, ints); most = omega (arith, ints) }
 
 pub one_frame_sets : OneFrameSets
 one_frame_sets n reading hull base q point expected cycle room near timely =
     anchors_widen n (pos (reading q) +ℤ setting n cycle expected point) cycle
     ((pos 2 *ℤ base) -ℤ pos (2 * n.path + 4 * n.grain)) ((pos 2 *ℤ base) +ℤ pos (2 * n.path))
-    (low_of n hull) (high_of n hull) q
-    (omega (arith, ints, near.least, near.most, room.errors.base_is, room.errors.clock_is))
-    (omega (arith, ints, near.least, near.most, room.errors.base_is, room.errors.clock_is))
-    (one_frame_anchors n reading base q point expected cycle timely)
+    (low_of n hull) (high_of n hull) q (omega (arith, ints)) (omega (arith, ints)) (one_frame_anchors n reading base q point expected cycle timely)
 
 pub two_frames_set : TwoFramesSet
 two_frames_set n reading hull first second q u p r expected cycle room steady le within near far one other =
     anchors_widen n (pos (reading u) +ℤ mean_of (setting n cycle expected p) (setting n cycle expected r)) cycle
     ((first +ℤ second) -ℤ pos (2 * n.path + 4 * n.grain + n.drift)) ((first +ℤ second) +ℤ pos (2 * n.path + n.drift + 1))
-    (low_of n hull) (high_of n hull) u
-    (omega (arith, ints, near.least, near.most, far.least, far.most, room.errors.base_is, room.errors.clock_is))
-    (omega (arith, ints, near.least, near.most, far.least, far.most, room.errors.base_is, room.errors.clock_is))
+    (low_of n hull) (high_of n hull) u (omega (arith, ints, near, far, room.errors)) (omega (arith, ints, near, far, room.errors))
     (two_frames_anchor n reading first second q u p r expected cycle steady le within one other)
 
 pub starts_are_set : StartsAreSet
 starts_are_set n reading start room steady least most =
     let zero : reading 0 ≡ 0 = steady.begins in
-    record {
-      least = omega (arith, ints, zero, least, most);
-      most = omega (arith, ints, zero, least, most, room.errors.clock_is);
-    }
+    record { least = omega (arith, ints, zero, least, most); most = omega (arith, ints, zero, least, most, room.errors.clock_is) }
 
 -- ---- reading an anchored clock
 
@@ -94,45 +42,29 @@ pub anchored_clocks_show : AnchoredClocksShow
 anchored_clocks_show n reading adjustment cycle low high r t steady le within anchored =
     let fast = steady.fast r t le within in
     let slow = steady.slow r t le within in
-    record {
-      least = omega (arith, ints, fast, slow, anchored.least);
-      most = omega (arith, ints, fast, slow, anchored.most);
-    }
+    record { least = omega (arith, ints, fast, slow, anchored.least); most = omega (arith, ints, fast, slow, anchored.most) }
 
 pub anchored_clocks_reach : AnchoredClocksReach
-anchored_clocks_reach n shown cycle low high v t shows least most = record {
-  not_early = omega (arith, ints, shows.least, shows.most, least, most);
-  not_late = omega (arith, ints, shows.least, shows.most, least, most);
-}
+anchored_clocks_reach n shown cycle low high v t shows least most = record { not_early = omega (arith, ints); not_late = omega (arith, ints) }
 
 pub set_clocks_reach : SetClocksReach
 set_clocks_reach n reading adjustment cycle hull r v t room steady le within anchored least most =
     let shows = anchored_clocks_show n reading adjustment cycle (low_of n hull) (high_of n hull) r t steady le within anchored in
-    record {
-      not_early = omega (arith, ints, shows.least, shows.most, least, most, room.errors.clock_is, room.errors.reach_is);
-      not_late = omega (arith, ints, shows.least, shows.most, least, most, room.errors.clock_is, room.errors.reach_is);
-    }
+    record { not_early = omega (arith, ints, shows, least, most, room.errors); not_late = omega (arith, ints, shows, least, most, room.errors) }
 
 pub set_clocks_have_reached : SetClocksHaveReached
 set_clocks_have_reached n reading adjustment cycle hull r v t room steady le within anchored late =
-    let shows = anchored_clocks_show n reading adjustment cycle (low_of n hull) (high_of n hull) r t steady le within anchored in
-    omega (arith, ints, shows.least, late, room.errors.reach_is)
+    omega (arith, ints, (anchored_clocks_show n reading adjustment cycle (low_of n hull) (high_of n hull) r t steady le within anchored).least)
 
 pub set_clocks_show : SetClocksShow
 set_clocks_show n reading adjustment cycle hull r t steady le within anchored =
     let shows = anchored_clocks_show n reading adjustment cycle (low_of n hull) (high_of n hull) r t steady le within anchored in
-    record {
-      least = omega (arith, ints, shows.least);
-      most = omega (arith, ints, shows.most);
-    }
+    record { least = omega (arith, ints, shows.least); most = omega (arith, ints, shows.most) }
 
 -- ---- two clocks
 
 pub clocks_of_one_cycle : ClocksOfOneCycle
-clocks_of_one_cycle n x y cycle hull t room narrow one other = record {
-  one = omega (arith, ints, narrow, one.least, one.most, other.least, other.most, room.eight_errors, room.errors.reach_is);
-  other = omega (arith, ints, narrow, one.least, one.most, other.least, other.most, room.eight_errors, room.errors.reach_is);
-}
+clocks_of_one_cycle n x y cycle hull t room narrow one other = record { one = omega (arith, ints); other = omega (arith, ints) }
 
 -- a whole number from a natural number on is one
 pub natural_of : (z : ℤ) (least : ℕ) → pos least ≤ℤ z → (m : ℕ) × (z ≡ pos m)
@@ -151,32 +83,12 @@ one_more cycle length = omega arith
 pub clocks_of_two_cycles : ClocksOfTwoCycles
 clocks_of_two_cycles n x y cycle before hull t room narrow follows one other =
     let more = one_more cycle n.cycle in
-    record {
-      one =
-          omega (arith, ints, more, narrow, follows.least, follows.most, one.least, one.most, other.least, other.most, room.eight_errors, room.errors.reach_is);
-      other =
-          omega (arith, ints, more, narrow, follows.least, follows.most, one.least, one.most, other.least, other.most, room.eight_errors, room.errors.reach_is);
-    }
+    record { one = omega (arith, ints, more, narrow, follows, one, other, room); other = omega (arith, ints, more, narrow, follows, one, other, room) }
 
 -- ---- halving
 
 pub shared_clocks_halve : SharedClocksHalve
-shared_clocks_halve n hull shared x y t u room near far one other =
-    omega (
-      arith,
-      ints,
-      near.least,
-      near.most,
-      far.least,
-      far.most,
-      one.not_early,
-      one.not_late,
-      other.not_early,
-      other.not_late,
-      room.settling,
-      room.errors.base_is,
-    )
+shared_clocks_halve n hull shared x y t u room near far one other = omega (arith, ints, near, far, one, other, room)
 
 pub starts_stay_together : StartsStayTogether
-starts_stay_together n t u room one other =
-    omega (arith, ints, one.not_early, one.not_late, other.not_early, other.not_late, room.errors.spread_is, room.two_drifts, room.two_readings)
+starts_stay_together n t u room one other = omega (arith, ints, one, other, room)

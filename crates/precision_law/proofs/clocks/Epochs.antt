@@ -1,42 +1,13 @@
 -- What a device's clock was last set to fixes since then.
-use Rattle.std.proofs.Common.{◌≡◌, ℕ, ◌+◌, ◌<◌, ◌≤◌, ℤ, pos, negsuc, ◌-ℤ◌, ◌<ℤ◌, Bool, true, false, List, [], ◌∷◌, ◌++◌, filter, fold, Option, Some, None, inl, inr, refl, sym, ap, subst, ◌∙◌, arith}
-use Rattle.std.proofs.lemmas.Bool.{both_ways, eq-eqb, eqb-true, false_from_ne_true}
-use Rattle.std.proofs.lemmas.Int.{ints}
-use Rattle.std.proofs.lemmas.List.{append-nil}
-use Rattle.std.proofs.lemmas.List.Elements.{filter-append}
-use Rattle.std.proofs.lemmas.List.Sums.{fold-append}
-use Rattle.std.specs.List.{last_or}
-use Rattle.std.specs.Option.{option_map_or}
-use Rattle.std.specs.Prelude.{◌==◌, if◌then◌else◌}
-use Rattle.net_plan.specs.declared.ids.DeviceId.{DeviceId}
+use Rattle.precision_law.proofs.words.Std.{◌++◌, ◌+◌, ◌-ℤ◌, ◌<ℤ◌, ◌<◌, ◌==◌, ◌∙◌, ◌∷◌, ◌≡◌, ◌≤◌, Bool, List, None, Option, Some, [], ap, append-nil, arith, both_ways, eq-eqb, eqb-true, false, false_from_ne_true, filter, filter-append, fold, fold-append, if◌then◌else◌, inl, inr, ints, last_or, negsuc, option_map_or, pos, refl, subst, sym, true, ℕ, ℤ}
+use Rattle.precision_law.proofs.words.Plans.{DeviceId, Integrating, State, Units, adjustment_at_start, amount, state_at_start}
+use Rattle.precision_law.proofs.words.Runs.{ChangesState, Happening, Integrates, IsCaused, IsIn, NoteBody, Scenario, Why, adjustment_before, adjustment_with, changed_at, changes_adjustment, cycle_after, cycle_in, earlier, founded_at, in_filter, in_left, is_joined_by, numbered_in, start_of, state_after, state_with, time_of}
+use Rattle.precision_law.proofs.words.Laws.{AdjustmentIsLast, ClocksHaveReached, ClocksReachSharply, IsView, NextCycleIsOfLast, SettingsStay, TimeStays, View, adjustment_left, cycle_set, epoch_time, has_time, is_correction, last_setting, next_of, state_left}
+use Rattle.run_law.specs.declared.judgement.Why.TheVariants as whys
+use Rattle.run_law.specs.declared.note.NoteBody.TheVariants as notes
 use Rattle.precision_law.proofs.clocks.Readings.{reach_is_sharp, reach_is_there}
 use Rattle.precision_law.proofs.records.Times.{between, earlier_parts, in_between, in_kept, is_between, last_append, last_some}
 use Rattle.precision_law.proofs.records.Views.{in_order, steady}
-use Rattle.precision_law.specs.Blocks.{adjustment_left, state_left}
-use Rattle.precision_law.specs.EpochLaws.{AdjustmentIsLast, ClocksHaveReached, ClocksReachSharply, NextCycleIsOfLast, SettingsStay, TimeStays, next_of}
-use Rattle.precision_law.specs.Epochs.{cycle_set, epoch_time, has_time, is_correction, last_setting}
-use Rattle.precision_law.specs.Views.{IsView, View}
-use Rattle.run_law.proofs.law.FirstPlaces.{founded_at, in_filter, numbered_in}
-use Rattle.run_law.proofs.runs.Places.{in_left}
-use Rattle.run_law.specs.control.Corrections.{cycle_after}
-use Rattle.run_law.specs.declared.judgement.Judgement.TheVariants.{Integrates}
-use Rattle.run_law.specs.declared.judgement.Why.TheVariants as whys
-use Rattle.run_law.specs.declared.judgement.Why.{Why}
-use Rattle.run_law.specs.declared.note.NoteBody.TheVariants as notes
-use Rattle.run_law.specs.declared.note.NoteBody.{NoteBody}
-use Rattle.run_law.specs.device.LocalClocks.{changed_at, changes_adjustment}
-use Rattle.run_law.specs.device.StateChanges.{ChangesState}
-use Rattle.run_law.specs.device.States.{adjustment_before, adjustment_with, cycle_in, is_joined_by, state_after, state_with}
-use Rattle.run_law.specs.records.Happenings.{Happening, earlier, time_of}
-use Rattle.run_law.specs.records.Order.{IsIn}
-use Rattle.run_law.specs.runs.DueRecords.{IsCaused}
-use Rattle.run_law.specs.scenario.Devices.{start_of}
-use Rattle.run_law.specs.scenario.Scenarios.{Scenario}
-use Rattle.sync_state.specs.Standing.{adjustment_at_start, state_at_start}
-use Rattle.sync_state.specs.declared.state.State.TheVariants.{Integrating}
-use Rattle.sync_state.specs.declared.state.State.{State}
-use Rattle.tte_units.specs.Amount.{amount}
-use Rattle.tte_units.specs.declared.units.Units.{Units}
 
 -- ---- the last of what is tested
 
@@ -121,18 +92,14 @@ no_setting : (u : ℕ) (device : DeviceId) (xs ys : List Happening) → ((h : Ha
 no_setting u device xs [] late early = refl
 no_setting u device xs (y ∷ ys) late early =
     let last = last_some (last_or None xs) y ys in
-    let same : last_or None (xs ++ y ∷ ys) ≡ Some last.0 = last_append None xs (y ∷ ys) ∙ last.1 in
-    let time : time_of_last (last_or None (xs ++ y ∷ ys)) ≡ pos (time_of last.0) = ap time_of_last same in
-    let up = late last.0 last.2 in
-    absurd (omega (arith, ints, time, up, early))
+    absurd (omega (arith, ints, ap time_of_last (last_append None xs (y ∷ ys) ∙ last.1), late last.0 last.2, early))
 
 -- the records between the last setting and t set nothing
 pub none_between : (v : View) (device : DeviceId) (u t : ℕ) → IsView v → u ≤ t → epoch_time (earlier t v.records) device <ℤ pos u
     → filter (λ h. changes_adjustment device h.note.body) (between u t v.records) ≡ []
 none_between v device u t is le early =
     let sets = λ (h : Happening). changes_adjustment device h.note.body in
-    let parts = earlier_parts u t v.records (in_order v is) le in
-    let moved = ap (filter sets) parts ∙ filter-append sets (earlier u v.records) (between u t v.records) in
+    let moved = ap (filter sets) (earlier_parts u t v.records (in_order v is) le) ∙ filter-append sets (earlier u v.records) (between u t v.records) in
     no_setting u device (filter sets (earlier u v.records)) (filter sets (between u t v.records))
     (λ h i. (in_between u t v.records h (in_filter sets (between u t v.records) h i)).1)
     (subst (λ (hs : List Happening). time_of_last (last_or None hs) <ℤ pos u) moved early)
@@ -140,11 +107,9 @@ none_between v device u t is le early =
 pub settings_stay : SettingsStay
 settings_stay v device u t is le early =
     let sets = λ (h : Happening). changes_adjustment device h.note.body in
-    let parts = earlier_parts u t v.records (in_order v is) le in
     let none = none_between v device u t is le early in
-    let same : filter sets (earlier t v.records) ≡ filter sets (earlier u v.records) =
-    ap (filter sets) parts ∙ filter-append sets (earlier u v.records) (between u t v.records)
-    ∙ ap (λ (hs : List Happening). filter sets (earlier u v.records) ++ hs) none ∙ append-nil (filter sets (earlier u v.records)) in
+    let same = ap (filter sets) (earlier_parts u t v.records (in_order v is) le) ∙ filter-append sets (earlier u v.records) (between u t v.records) ∙ ap
+    (λ (hs : List Happening). filter sets (earlier u v.records) ++ hs) none ∙ append-nil (filter sets (earlier u v.records)) in
     ap (last_or None) (sym same)
 
 -- so does the adjustment
@@ -167,8 +132,7 @@ Keeps p device body = (old : State) → p (state_with device old body) ≡ true 
 pub kept_by_all : (p : State → Bool) (device : DeviceId) (hs : List Happening) → ((h : Happening) → IsIn h hs → Keeps p device h.note.body) → (old : State)
     → p (fold (λ state h. state_with device state h.note.body) old hs) ≡ true → p old ≡ true
 kept_by_all p device [] each old e = e
-kept_by_all p device (h ∷ hs) each old e =
-    each h (inl refl) old (kept_by_all p device hs (λ g i. each g (inr i)) (state_with device old h.note.body) e)
+kept_by_all p device (h ∷ hs) each old e = each h (inl refl) old (kept_by_all p device hs (λ g i. each g (inr i)) (state_with device old h.note.body) e)
 
 -- a state that is another device's leaves this one's
 pub kept_if : (p : State → Bool) (b : Bool) (state old : State) → (b ≡ true → p state ≡ true → ⊥) → p (if b then state else old) ≡ true → p old ≡ true
@@ -188,19 +152,14 @@ joined_changes device body e = e
 no_change : (p : State → Bool) → p Integrating ≡ false → (s : Scenario) (ps : List Happening) (t : ℕ) (device : DeviceId) (state : State) (cause : ℕ)
     (why : Why) → ((h : Happening) → IsIn h ps → time_of h ≡ t → changes_adjustment device h.note.body ≡ false) → ChangesState s ps device t state cause why
     → p state ≡ true → ⊥
-no_change p out s ps t device state cause whys.On none c e = both_ways (p state) (ap p c.0 ∙ out) e
 no_change p out s ps t device state cause whys.Frame none c e =
     let h = c.1.0 in
-    let i = numbered_in ps cause h c.1.1.there in
-    both_ways (changes_adjustment device h.note.body) (none h i c.1.1.same_time) (joined_changes device h.note.body c.1.2)
+    both_ways (changes_adjustment device h.note.body) (none h (numbered_in ps cause h c.1.1.there) c.1.1.same_time) (joined_changes device h.note.body c.1.2)
 no_change p out s ps t device state cause whys.Correction none c e =
     let h = c.2.3 in
     let i = numbered_in ps cause h c.2.4.there in
-    let is = c.2.5 in
-    let self : changes_adjustment device (notes.Corrected device c.2.0 c.2.1 c.2.2) ≡ true = eq-eqb device.0 device.0 refl in
-    both_ways (changes_adjustment device h.note.body) (none h i c.2.4.same_time) (ap (changes_adjustment device) is ∙ self)
-no_change p out s ps t device state cause whys.SyncClique none c e = both_ways (p state) (ap p c.0 ∙ out) e
-no_change p out s ps t device state cause whys.AsyncClique none c e = both_ways (p state) (ap p c.0 ∙ out) e
+    both_ways (changes_adjustment device h.note.body) (none h i c.2.4.same_time) (ap (changes_adjustment device) c.2.5 ∙ (eq-eqb device.0 device.0 refl))
+no_change p out s ps t device state cause why none c e = both_ways (p state) (ap p c.0 ∙ out) e
 
 -- nor does any other record
 pub keeps : (p : State → Bool) → p Integrating ≡ false → (s : Scenario) (ps : List Happening) (time : Units) (device : DeviceId) (body : NoteBody)
@@ -208,8 +167,7 @@ pub keeps : (p : State → Bool) → p Integrating ≡ false → (s : Scenario) 
     → IsCaused s ps time body → Keeps p device body
 keeps p out s ps time device (notes.State other state cause why) e none c old timed =
     kept_if p (device.0 == other.0) state old (λ same is.
-    let here : ChangesState s ps device (amount time) state cause why = subst (λ (d : DeviceId). ChangesState s ps d (amount time) state cause why)
-    (same_device device other same) c in
+    let here = subst (λ (d : DeviceId). ChangesState s ps d (amount time) state cause why) (same_device device other same) c in
     no_change p out s ps (amount time) device state cause why none here is) timed
 keeps p out s ps time device (notes.Permanent other link cause point Integrates) e none c old timed = (let at = rw e at timed in at)
 keeps p out s ps time device (notes.Compressed other opened own cycle members Integrates) e none c old timed = (let at = rw e at timed in at)
@@ -221,11 +179,9 @@ pub state_stays : (p : State → Bool) → p Integrating ≡ false → (v : View
 state_stays p out v device u t is le early timed =
     let sets = λ (h : Happening). changes_adjustment device h.note.body in
     let none = none_between v device u t is le early in
-    let parts = earlier_parts u t v.records (in_order v is) le in
     let unset : (h : Happening) → IsIn h (between u t v.records) → sets h ≡ false = λ h i. unset_in sets (between u t v.records) h i none in
     let state_of = λ (hs : List Happening). state_after v.scenario hs device in
-    let whole : p (state_after v.scenario (earlier u v.records ++ between u t v.records) device) ≡ true = subst
-    (λ (hs : List Happening). p (state_after v.scenario hs device) ≡ true) parts timed in
+    let whole = subst (λ (hs : List Happening). p (state_after v.scenario hs device) ≡ true) (earlier_parts u t v.records (in_order v is) le) timed in
     let apart = fold-append (λ (state : State) (h : Happening). state_with device state h.note.body) (state_at_start (start_of v.scenario.network device))
     (earlier u v.records) (between u t v.records) in
     kept_by_all p device (between u t v.records) (λ h i.
@@ -272,8 +228,5 @@ clocks_have_reached v device value x t is le lt below above =
       u,
       r.1,
       r.2,
-      record {
-        below = rw (same_time, same_adjustment) (omega (arith, ints, low, below));
-        reach = rw (same_time, same_adjustment) r.3;
-      },
+      record { below = rw (same_time, same_adjustment) (omega (arith, ints, low, below)); reach = rw (same_time, same_adjustment) r.3 },
     )

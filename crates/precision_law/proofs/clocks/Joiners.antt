@@ -1,54 +1,21 @@
 -- A device whose clock was last set by a frame that told it the time is still joining.
-use Rattle.std.proofs.Common.{◌≡◌, ℕ, ◌+◌, ◌<◌, pos, Bool, true, false, List, [], ◌∷◌, ◌++◌, filter, fold, Option, Some, None, inl, inr, refl, sym, ap, subst, ◌∙◌, arith, negsuc, eq-eqb, append_assoc}
-use Rattle.std.proofs.lemmas.Bool.{both_ways, false_from_ne_true, lt-ltb}
-use Rattle.std.proofs.lemmas.Int.{ints}
-use Rattle.std.proofs.lemmas.List.Elements.{filter-append}
-use Rattle.std.proofs.lemmas.List.Sums.{fold-append}
-use Rattle.std.specs.Prelude.{◌==◌, nat_lt, if◌then◌else◌}
-use Rattle.std.specs.Option.{option_map_or}
-use Rattle.std.specs.List.{last_or}
-use Rattle.net_plan.specs.declared.ids.DeviceId.{DeviceId}
+use Rattle.precision_law.proofs.words.Std.{◌++◌, ◌+◌, ◌<◌, ◌==◌, ◌∙◌, ◌∷◌, ◌≡◌, Bool, List, None, Option, Some, [], ap, append_assoc, arith, both_ways, eq-eqb, false, false_from_ne_true, filter, filter-append, fold-append, if◌then◌else◌, inl, inr, ints, last_or, lt-ltb, nat_lt, negsuc, option_map_or, pos, refl, subst, sym, true, ℕ}
+use Rattle.precision_law.proofs.words.Plans.{DeviceId, Joining, State, Units, amount, state_at_start}
+use Rattle.precision_law.proofs.words.Runs.{ChangesState, Happening, Integrates, IsBefore, IsCaused, IsDue, IsFounded, IsIn, NoteBody, Scenario, Why, behind_first, changes_adjustment, earlier, founded_at, in_filter, in_left, in_parts, in_right, is_joined_by, is_synchronised, key, members_in, never_self, numbered_in, place_of, rank, same_some, start_of, state_after, state_with, time_of}
+use Rattle.precision_law.proofs.words.Laws.{IsView, View, epoch_time, last_setting, state_left}
+use Rattle.run_law.specs.declared.judgement.Why.TheVariants as whys
+use Rattle.run_law.specs.declared.note.NoteBody.TheVariants as notes
 use Rattle.precision_law.proofs.clocks.Epochs.{Keeps, kept_by_all, kept_if, same_device, state_stays}
 use Rattle.precision_law.proofs.records.Points.{setting_is, sorted_parts}
-use Rattle.precision_law.proofs.records.Times.{in_earlier, in_kept, last_append, last_some, AreSorted, is_earlier}
+use Rattle.precision_law.proofs.records.Times.{AreSorted, in_earlier, in_kept, is_earlier, last_append, last_some}
 use Rattle.precision_law.proofs.records.Views.{in_order}
-use Rattle.precision_law.specs.Blocks.{state_left}
-use Rattle.precision_law.specs.Epochs.{epoch_time, last_setting}
-use Rattle.precision_law.specs.Views.{IsView, View}
-use Rattle.run_law.proofs.law.FirstPlaces.{founded_at, in_filter, numbered_in}
-use Rattle.run_law.proofs.runs.Lacking.{behind_first}
-use Rattle.run_law.proofs.runs.Places.{in_left, in_parts, in_right, never_self}
-use Rattle.run_law.proofs.runs.SameSteps.{same_some}
-use Rattle.run_law.specs.declared.judgement.Judgement.TheVariants.{Integrates}
-use Rattle.run_law.specs.declared.judgement.Why.TheVariants as whys
-use Rattle.run_law.specs.declared.judgement.Why.{Why}
-use Rattle.run_law.specs.declared.note.NoteBody.TheVariants as notes
-use Rattle.run_law.specs.declared.note.NoteBody.{NoteBody}
-use Rattle.run_law.specs.device.LocalClocks.{changes_adjustment}
-use Rattle.run_law.specs.device.StateChanges.{ChangesState}
-use Rattle.run_law.specs.device.States.{is_joined_by, is_synchronised, state_after, state_with}
-use Rattle.run_law.specs.records.Happenings.{Happening, earlier, time_of}
-use Rattle.run_law.specs.records.Order.{IsBefore, IsIn}
-use Rattle.run_law.specs.records.Ranks.{key, members_in, place_of, rank}
-use Rattle.run_law.specs.runs.DueRecords.{IsCaused, IsDue}
-use Rattle.run_law.specs.runs.Runs.{IsFounded}
-use Rattle.run_law.specs.scenario.Devices.{start_of}
-use Rattle.run_law.specs.scenario.Scenarios.{Scenario}
-use Rattle.sync_state.specs.Standing.{state_at_start}
-use Rattle.sync_state.specs.declared.state.State.TheVariants.{Joining}
-use Rattle.sync_state.specs.declared.state.State.{State}
-use Rattle.tte_units.specs.Amount.{amount}
-use Rattle.tte_units.specs.declared.units.Units.{Units}
 
 -- where no correction of the device comes at a time, no change of state synchronises it
 no_correction : (s : Scenario) (ps : List Happening) (t : ℕ) (device : DeviceId) (state : State) (cause : ℕ) (why : Why)
     → ((h : Happening) (cycle : ℕ) (by adjustment : Units) → IsIn h ps → time_of h ≡ t → h.note.body ≡ notes.Corrected device cycle by adjustment → ⊥)
     → ChangesState s ps device t state cause why → is_synchronised state ≡ true → ⊥
-no_correction s ps t device state cause whys.On none c e = both_ways (is_synchronised state) (ap is_synchronised c.0) e
-no_correction s ps t device state cause whys.Frame none c e = both_ways (is_synchronised state) (ap is_synchronised c.0) e
 no_correction s ps t device state cause whys.Correction none c e = none c.2.3 c.2.0 c.2.1 c.2.2 (numbered_in ps cause c.2.3 c.2.4.there) c.2.4.same_time c.2.5
-no_correction s ps t device state cause whys.SyncClique none c e = both_ways (is_synchronised state) (ap is_synchronised c.0) e
-no_correction s ps t device state cause whys.AsyncClique none c e = both_ways (is_synchronised state) (ap is_synchronised c.0) e
+no_correction s ps t device state cause why none c e = both_ways (is_synchronised state) (ap is_synchronised c.0) e
 
 -- nor does any other record
 keeps_unsynchronised : (s : Scenario) (ps : List Happening) (time : Units) (device : DeviceId) (body : NoteBody)
@@ -56,8 +23,7 @@ keeps_unsynchronised : (s : Scenario) (ps : List Happening) (time : Units) (devi
     → IsCaused s ps time body → Keeps is_synchronised device body
 keeps_unsynchronised s ps time device (notes.State other state cause why) none c old e =
     kept_if is_synchronised (device.0 == other.0) state old (λ same at.
-    let here : ChangesState s ps device (amount time) state cause why = subst (λ (d : DeviceId). ChangesState s ps d (amount time) state cause why)
-    (same_device device other same) c in
+    let here = subst (λ (d : DeviceId). ChangesState s ps d (amount time) state cause why) (same_device device other same) c in
     no_correction s ps (amount time) device state cause why none here at) e
 keeps_unsynchronised s ps time device (notes.Permanent other link cause point Integrates) none c old e =
     kept_if is_synchronised (device.0 == other.0) Joining old (λ same at. both_ways (is_synchronised Joining) refl at) e
@@ -90,10 +56,8 @@ none_behind : (v : View) (device : DeviceId) (t : ℕ) (front rest : List Happen
 none_behind v device t front rest h x is e whole i early changes =
     let sets = λ (g : Happening). changes_adjustment device g.note.body in
     let before = earlier t (front ++ h ∷ []) in
-    let split : v.records ≡ (front ++ h ∷ []) ++ rest = whole ∙ sym (append_assoc front (h ∷ []) rest) in
-    let parts : filter sets (earlier t v.records) ≡ filter sets before ++ filter sets (earlier t rest) =
-    ap (λ (hs : List Happening). filter sets (earlier t hs)) split ∙ ap (filter sets) (filter-append (λ g. nat_lt (time_of g) t) (front ++ h ∷ []) rest)
-    ∙ filter-append sets before (earlier t rest) in
+    let parts = ap (λ (hs : List Happening). filter sets (earlier t hs)) (whole ∙ sym (append_assoc front (h ∷ []) rest)) ∙ ap (filter sets)
+    (filter-append (λ g. nat_lt (time_of g) t) (front ++ h ∷ []) rest) ∙ filter-append sets before (earlier t rest) in
     by (filter sets before) (filter sets (earlier t rest)) (in_kept sets (earlier t rest) x (is_earlier t rest x i early) changes)
     (sym (ap (last_or None) parts) ∙ e)
     (λ y j. in_earlier t rest y (in_filter sets (earlier t rest) y j))
@@ -112,14 +76,12 @@ no_correction_then : (v : View) (device : DeviceId) (t : ℕ) (front rest : List
     → last_setting (earlier t v.records) device ≡ Some h → time_of h < t → is_joined_by device h.note.body ≡ true → v.records ≡ front ++ h ∷ rest
     → IsIn x v.records → time_of x ≡ time_of h → x.note.body ≡ notes.Corrected device cycle by adjustment → ⊥
 no_correction_then v device t front rest h x cycle by adjustment is e early joined whole i same body =
-    let self : changes_adjustment device (notes.Corrected device cycle by adjustment) ≡ true = eq-eqb device.0 device.0 refl in
-    let changes : changes_adjustment device x.note.body ≡ true = ap (changes_adjustment device) body ∙ self in
+    let changes : changes_adjustment device x.note.body ≡ true = ap (changes_adjustment device) body ∙ (eq-eqb device.0 device.0 refl) in
     elim (in_parts x front (h ∷ rest) (subst (IsIn x) whole i)) [
       | inl before ↦
           let order = (is.run.founded front rest h whole).0 x before in
-          let six : rank x.note.body ≡ 6 = ap rank body in
           lower_rank (time_of x) (time_of h) (rank x.note.body) (rank h.note.body) (key (members_in x) x.note.body) (key (members_in h) h.note.body) same
-          (omega (arith, six, joining_rank device h.note.body joined)) order
+          (omega (arith, ap rank body, joining_rank device h.note.body joined)) order
       | inr (inl one) ↦ (let wrong : is_joined_by device h.note.body ≡ false = ap (λ (g : Happening). is_joined_by device g.note.body) (sym one)
           ∙ ap (is_joined_by device) body in both_ways (is_joined_by device h.note.body) wrong joined)
       | inr (inr later) ↦ none_behind v device t front rest h x is e whole later (omega (arith, same, early)) changes
@@ -140,16 +102,13 @@ joiner_waits v device t h is e joined =
         let found = founded_at v.scenario v.records h is.run.founded setting.there in
         let test = λ (g : Happening). nat_lt (time_of g) (w + 1) in
         let here : test h ≡ true = lt-ltb w (w + 1) (omega arith) in
-        let parts : earlier (w + 1) v.records ≡ earlier (w + 1) found.front ++ h ∷ earlier (w + 1) found.rest =
-        ap (earlier (w + 1)) found.whole ∙ filter-append test found.front (h ∷ found.rest)
-        ∙ ap (λ (b : Bool). earlier (w + 1) found.front ++ (if b then h ∷ earlier (w + 1) found.rest else earlier (w + 1) found.rest)) here in
+        let parts = ap (earlier (w + 1)) found.whole ∙ filter-append test found.front (h ∷ found.rest) ∙ ap
+        (λ (b : Bool). earlier (w + 1) found.front ++ (if b then h ∷ earlier (w + 1) found.rest else earlier (w + 1) found.rest)) here in
         let step = λ (state : State) (g : Happening). state_with device state g.note.body in
         let whole = subst (λ (hs : List Happening). is_synchronised (state_after v.scenario hs device) ≡ true) parts still in
         let apart = fold-append step (state_at_start (start_of v.scenario.network device)) (earlier (w + 1) found.front) (h ∷ earlier (w + 1) found.rest) in
-        let behind : is_synchronised (fold step (step (state_after v.scenario (earlier (w + 1) found.front) device) h) (earlier (w + 1) found.rest)) ≡ true =
-        subst (λ (x : State). is_synchronised x ≡ true) apart whole in
         let now = kept_by_all is_synchronised device (earlier (w + 1) found.rest) (λ g i. each g i)
-        (step (state_after v.scenario (earlier (w + 1) found.front) device) h) behind in
+        (step (state_after v.scenario (earlier (w + 1) found.front) device) h) (subst (λ (x : State). is_synchronised x ≡ true) apart whole) in
         let joining = joins_state device (state_after v.scenario (earlier (w + 1) found.front) device) h.note.body joined in
         both_ways (is_synchronised (step (state_after v.scenario (earlier (w + 1) found.front) device) h)) (ap is_synchronised joining) now
       where

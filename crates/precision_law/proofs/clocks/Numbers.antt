@@ -1,30 +1,10 @@
 -- The next correction point of a device whose clock was set before a block.
-use Rattle.std.proofs.Common.{◌≡◌, ℕ, zero, suc, ◌+◌, ◌-◌, ◌<◌, ◌≤◌, ℤ, pos, negsuc, ◌+ℤ◌, ◌<ℤ◌, Bool, true, false, List, [], ◌∷◌, filter, Option, Some, None, inl, inr, refl, sym, ap, subst, ◌∙◌, arith}
-use Rattle.std.proofs.lemmas.Bool.{and_from, and_parts, both_ways, eq-eqb, eqb-true, cases_lt}
-use Rattle.std.proofs.lemmas.Int.{ints}
-use Rattle.std.specs.List.{last_or}
-use Rattle.std.specs.Option.{option_map_or}
-use Rattle.std.specs.Prelude.{◌==◌, if◌then◌else◌, int_le, int_lt}
-use Rattle.compression.proofs.Held.{int_le-true}
-use Rattle.net_plan.specs.declared.ids.DeviceId.{DeviceId}
-use Rattle.precision_law.proofs.block.Hulls.{int_le-is}
-use Rattle.precision_law.proofs.clocks.Epochs.{adjustment_stays, fold_last, joined_changes, next_cycle_is_of_last, settings_stay, time_stays, none_between}
-use Rattle.precision_law.proofs.records.Points.{setting_is}
-use Rattle.precision_law.proofs.records.Times.{in_earlier, in_kept, last_some, passes, between, is_between}
-use Rattle.precision_law.proofs.records.Views.{steady}
-use Rattle.precision_law.specs.Blocks.{HasTimeAt, IsOldAt, Stands, state_left}
-use Rattle.precision_law.specs.EpochLaws.{next_of}
-use Rattle.precision_law.specs.Epochs.{cycle_set, epoch_time, has_time, is_corrected, is_correction, last_setting}
-use Rattle.precision_law.specs.Views.{IsView, View}
-use Rattle.run_law.proofs.law.FirstPlaces.{in_filter}
-use Rattle.run_law.specs.control.Corrections.{correction_value, has_cleared, integration_cycle, is_integration_cycle, next_cycle, recorded_cycle}
+use Rattle.precision_law.proofs.words.Std.{◌+ℤ◌, ◌+◌, ◌-◌, ◌<ℤ◌, ◌<◌, ◌==◌, ◌∙◌, ◌∷◌, ◌≡◌, ◌≤◌, Bool, List, None, Option, Some, [], and_from, and_parts, ap, arith, both_ways, cases_lt, eq-eqb, eqb-true, false, filter, if◌then◌else◌, inl, inr, int_le, int_lt, ints, last_or, negsuc, option_map_or, pos, refl, subst, suc, sym, true, zero, ℕ, ℤ}
+use Rattle.precision_law.proofs.words.Plans.{DeviceId, Units, int_le-true}
+use Rattle.precision_law.proofs.words.Runs.{Happening, IsIn, NoteBody, adjustment_before, changed_at, changes_adjustment, correction_value, cycle_in, earlier, had_come, has_cleared, in_filter, integration_cycle, is_integration_cycle, is_joined_by, local_at_change, next_cycle, recorded_cycle, time_of}
+use Rattle.precision_law.proofs.words.Laws.{HasTimeAt, IsOldAt, IsView, Stands, View, cycle_set, epoch_time, has_time, is_corrected, is_correction, last_setting, next_of, state_left}
+use Rattle.precision_law.proofs.words.Clocks.{adjustment_stays, between, fold_last, in_earlier, in_kept, int_le-is, is_between, joined_changes, last_some, next_cycle_is_of_last, none_between, passes, setting_is, settings_stay, steady, time_stays}
 use Rattle.run_law.specs.declared.note.NoteBody.TheVariants as notes
-use Rattle.run_law.specs.declared.note.NoteBody.{NoteBody}
-use Rattle.run_law.specs.device.LocalClocks.{changed_at, changes_adjustment, had_come, local_at_change}
-use Rattle.run_law.specs.device.States.{adjustment_before, cycle_in, is_joined_by}
-use Rattle.run_law.specs.records.Happenings.{Happening, earlier, time_of}
-use Rattle.run_law.specs.records.Order.{IsIn}
-use Rattle.tte_units.specs.declared.units.Units.{Units}
 
 -- ---- the last joining
 
@@ -87,11 +67,6 @@ integration_by recorded (Some c) e = ap (λ (x : ℕ). Some x) (sym (eqb-true re
 pub integration_is : (hs : List Happening) (device : DeviceId) → is_integration_cycle hs device ≡ true → IsJoining hs device (recorded_cycle hs device)
 integration_is hs device e = joining_from hs device (recorded_cycle hs device) (integration_by (recorded_cycle hs device) (integration_cycle hs device) e)
 
--- what is read off a setting by a joining
-correction_not_joining : (device : DeviceId) (body : NoteBody) → is_correction body ≡ true → is_joined_by device body ≡ false
-correction_not_joining device (notes.Corrected d cycle by adjustment) e = refl
-correction_not_joining device body e = absurd cc
-
 pub joining_of_setting : (device : DeviceId) (body : NoteBody) → changes_adjustment device body ≡ true → is_correction body ≡ false
     → is_joined_by device body ≡ true
 joining_of_setting device (notes.Corrected d cycle by adjustment) e other = absurd cc
@@ -108,10 +83,8 @@ pub joiner_integrates : (hs : List Happening) (device : DeviceId) (h : Happening
 joiner_integrates hs device h e changes other =
     let joins = λ (g : Happening). is_joined_by device g.note.body in
     let joined = joining_of_setting device h.note.body changes other in
-    let last = last_of_both joins (λ (g : Happening). changes_adjustment device g.note.body) None None hs h (λ g j. joined_changes device g.note.body j) joined
-    (λ s. s) e in
-    let at : integration_cycle hs device ≡ Some (cycle_in h) = joining_is_last hs device
-    ∙ ap (λ (o : Option Happening). option_map_or (λ g. Some (cycle_in g)) o None) last in
+    let last = last_of_both joins _ None None hs h (λ g j. joined_changes device g.note.body j) joined (λ s. s) e in
+    let at = joining_is_last hs device ∙ ap (λ (o : Option Happening). option_map_or (λ g. Some (cycle_in g)) o None) last in
     let recorded : recorded_cycle hs device ≡ cycle_in h =
     next_cycle_is_of_last hs device ∙ ap next_of e
     ∙ ap (λ (b : Bool). if b then cycle_set h h.note.body + 1 else cycle_set h h.note.body) other ∙ set_by_joining h h.note.body other in (
@@ -128,17 +101,16 @@ int_lt-is a b e = grind (arith, ints)
 pub int_lt-from : (a b : ℤ) → a <ℤ b → int_lt a b ≡ true
 int_lt-from a b h = grind (arith, ints)
 
--- what has cleared stays so
-pub cleared_stays : (v : View) (device : DeviceId) (u t : ℕ) → IsView v → u ≤ t → epoch_time (earlier t v.records) device <ℤ pos u
+-- one that had cleared before u, and is to integrate before t, had cleared before each instant from u on
+pub cleared_from : (v : View) (device : DeviceId) (u q t : ℕ) → IsView v → u ≤ q → u ≤ t → epoch_time (earlier t v.records) device <ℤ pos u
     → is_integration_cycle (earlier t v.records) device ≡ true → has_cleared v.scenario v.records device u u ≡ true
-    → has_cleared v.scenario v.records device t t ≡ true
-cleared_stays v device u t is le old at cleared =
+    → has_cleared v.scenario v.records device t q ≡ true
+cleared_from v device u q t is le_q le old at cleared =
     let s = v.scenario in
     let reading = s.reading device in
     let last = settings_stay v device u t is le old in
     let a = adjustment_stays v device u t is le old in
-    let recorded : recorded_cycle (earlier u v.records) device ≡ recorded_cycle (earlier t v.records) device = next_cycle_is_of_last (earlier u v.records)
-    device ∙ ap next_of last ∙ sym (next_cycle_is_of_last (earlier t v.records) device) in
+    let recorded = next_cycle_is_of_last (earlier u v.records) device ∙ ap next_of last ∙ sym (next_cycle_is_of_last (earlier t v.records) device) in
     let time : changed_at v.records device u ≡ changed_at v.records device t = ap (λ (o : Option Happening). option_map_or time_of o 0) last in
     let value_u = correction_value s.network (recorded_cycle (earlier u v.records) device) in
     let value_t = correction_value s.network (recorded_cycle (earlier t v.records) device) in
@@ -149,30 +121,26 @@ cleared_stays v device u t is le old at cleared =
     let below = int_lt-is (local_at_change s v.records device u) value_u both.0 in
     let above = int_le-is value_u (pos (reading (u - 1)) +ℤ (adjustment_before s v.records device u).0) both.1 in
     let same_a : (adjustment_before s v.records device u).0 ≡ (adjustment_before s v.records device t).0 = ap (λ (x : Units). x.0) a in
-    let same_r : reading (changed_at v.records device u) ≡ reading (changed_at v.records device t) = ap reading time in
-    let up = (steady v is device).never_falls (u - 1) (t - 1) (omega (arith, le)) in
-    and_from (is_integration_cycle (earlier t v.records) device) (had_come s v.records device value_t t t) at
-    (and_from (int_lt (local_at_change s v.records device t) value_t) (int_le value_t (pos (reading (t - 1)) +ℤ (adjustment_before s v.records device t).0))
-    (int_lt-from (local_at_change s v.records device t) value_t (omega (arith, ints, below, same_a, same_r, value)))
-    (int_le-true value_t (pos (reading (t - 1)) +ℤ (adjustment_before s v.records device t).0) (omega (arith, ints, above, same_a, value, up))))
+    let up = (steady v is device).never_falls (u - 1) (q - 1) (omega (arith, le_q)) in
+    and_from (is_integration_cycle (earlier t v.records) device) (had_come s v.records device value_t t q) at
+    (and_from (int_lt (local_at_change s v.records device t) value_t) (int_le value_t (pos (reading (q - 1)) +ℤ (adjustment_before s v.records device t).0))
+    (int_lt-from (local_at_change s v.records device t) value_t (omega (arith, ints, below, same_a, ap reading time, value)))
+    (int_le-true value_t (pos (reading (q - 1)) +ℤ (adjustment_before s v.records device t).0) (omega (arith, ints, above, same_a, value, up))))
 
--- a joiner has cleared
-joiner_cleared : (v : View) (n t : ℕ) (device : DeviceId) (before : Stands v n) → IsView v → before.next ≤ t → HasTimeAt v device before.next
-    → IsOldAt v before.next device t → (h : Happening) → last_setting (earlier t v.records) device ≡ Some h
-    → is_integration_cycle (earlier t v.records) device ≡ true → is_correction h.note.body ≡ false → has_cleared v.scenario v.records device t t ≡ true
-joiner_cleared v zero t device before is from has old h e at joined =
-    let zero_next : before.next ≡ 0 = before.is_over in
+-- the device joined, and had cleared when the block began
+pub had_cleared : (v : View) (n t : ℕ) (device : DeviceId) (before : Stands v n) → IsView v → before.next ≤ t → HasTimeAt v device before.next
+    → IsOldAt v before.next device t → (h : Happening) → last_setting (earlier t v.records) device ≡ Some h → is_correction h.note.body ≡ false
+    → has_cleared v.scenario v.records device before.next before.next ≡ true
+had_cleared v zero t device before is from has old h e joined =
     let time : epoch_time (earlier t v.records) device ≡ pos (time_of h) = ap (λ (o : Option Happening). option_map_or (λ g. pos (time_of g)) o (negsuc 0)) e in
-    absurd (omega (arith, ints, zero_next, time, old))
-joiner_cleared v (suc c) t device before is from has old h e at joined =
+    absurd (omega (arith, ints, before.is_over, time, old))
+had_cleared v (suc c) t device before is from has old h e joined =
     let one = before.narrow c (omega arith) in
     let last = settings_stay v device before.next t is from old in
-    let had = before.points one.0 c refl one.1 device has in
-    let not_corrected : is_corrected (earlier before.next v.records) device ≡ false =
-    ap (λ (o : Option Happening). option_map_or (λ g. is_correction g.note.body) o false) (last ∙ e) ∙ joined in
-    elim had.how [
+    let not_corrected = ap (λ (o : Option Happening). option_map_or (λ g. is_correction g.note.body) o false) (last ∙ e) ∙ joined in
+    elim (before.points one.0 c refl one.1 device has).how [
       | inl corrected ↦ absurd (both_ways (is_corrected (earlier before.next v.records) device) not_corrected corrected.0)
-      | inr cleared ↦ cleared_stays v device before.next t is from old at cleared.1
+      | inr cleared ↦ cleared.1
     ]
 
 -- its number, by what set its clock last
@@ -180,14 +148,11 @@ number_by : (v : View) (n t : ℕ) (device : DeviceId) (before : Stands v n) →
     → (o : Option Happening) → last_setting (earlier t v.records) device ≡ o → (cleared : Bool) → has_cleared v.scenario v.records device t t ≡ cleared
     → (if cleared then recorded_cycle (earlier t v.records) device + 1 else recorded_cycle (earlier t v.records) device) ≡ suc n
 number_by v n t device before is from has old o e cleared c =
-    let next = before.next in
-    let timed = time_stays v device next t is from old has.timed in
+    let timed = time_stays v device before.next t is from old has.timed in
     let set = before.clocks device (record { good = has.good; timed = timed }) in
-    let last = settings_stay v device next t is from old in
     let index : option_map_or (λ h. cycle_set h h.note.body) o 0 ≡ n = ap (λ (x : Option Happening). option_map_or (λ h. cycle_set h h.note.body) x 0) (sym e)
-    ∙ ap (λ (x : Option Happening). option_map_or (λ h. cycle_set h h.note.body) x 0) (sym last) ∙ set.index in
-    let recorded : recorded_cycle (earlier t v.records) device ≡ next_of o = next_cycle_is_of_last (earlier t v.records) device ∙ ap next_of e in
-    by o e cleared c index recorded timed
+    ∙ ap (λ (x : Option Happening). option_map_or (λ h. cycle_set h h.note.body) x 0) (sym (settings_stay v device before.next t is from old)) ∙ set.index in
+    by o e cleared c index (next_cycle_is_of_last (earlier t v.records) device ∙ ap next_of e) timed
   where
     -- where a device has cleared, it joined in an earlier cycle
     earlier_join : is_integration_cycle (earlier t v.records) device ≡ true → recorded_cycle (earlier t v.records) device ≤ n
@@ -196,15 +161,13 @@ number_by v n t device before is from has old o e cleared c =
         let back = in_earlier t v.records j.h j.there in
         let changes = joined_changes device j.h.note.body j.joins in
         let sets = λ (h : Happening). changes_adjustment device h.note.body in
-        let none = none_between v device before.next t is from old in
         let early : time_of j.h < before.next =
         elim (cases_lt (time_of j.h) before.next) [
           | inl lt ↦ lt
-          | inr ge ↦ (let i : IsIn j.h [] = subst (IsIn j.h) none
+          | inr ge ↦ (let i : IsIn j.h [] = subst (IsIn j.h) (none_between v device before.next t is from old)
               (in_kept sets (between before.next t v.records) j.h (is_between before.next t v.records j.h back.0 ge back.1) changes) in absurd i)
         ] in
-        let low = before.joined j.h device back.0 j.joins has.good early in
-        omega (arith, low, j.of_cycle)
+        omega (arith, before.joined j.h device back.0 j.joins has.good early, j.of_cycle)
 
     by : (o : Option Happening) → last_setting (earlier t v.records) device ≡ o → (cleared : Bool) → has_cleared v.scenario v.records device t t ≡ cleared
         → option_map_or (λ h. cycle_set h h.note.body) o 0 ≡ n → recorded_cycle (earlier t v.records) device ≡ next_of o
@@ -212,8 +175,7 @@ number_by v n t device before is from has old o e cleared c =
         → (if cleared then recorded_cycle (earlier t v.records) device + 1 else recorded_cycle (earlier t v.records) device) ≡ suc n
     by None e true c index recorded timed =
         let at = (and_parts (is_integration_cycle (earlier t v.records) device) _ c).0 in
-        let low = earlier_join at in
-        absurd (omega (arith, index, recorded, low))
+        absurd (omega (arith, index, recorded, earlier_join at))
     by None e false c index recorded timed = omega (arith, index, recorded)
     by (Some h) e cleared c index recorded timed = some_by h e cleared c index recorded timed (is_correction h.note.body) refl
       where
@@ -223,10 +185,9 @@ number_by v n t device before is from has old o e cleared c =
             → (if cleared then recorded_cycle (earlier t v.records) device + 1 else recorded_cycle (earlier t v.records) device) ≡ suc n
         some_by h e true c index recorded timed true corrected =
             let at = (and_parts (is_integration_cycle (earlier t v.records) device) _ c).0 in
-            let low = earlier_join at in
             let shown : recorded_cycle (earlier t v.records) device ≡ cycle_set h h.note.body + 1 = recorded
             ∙ ap (λ (b : Bool). if b then cycle_set h h.note.body + 1 else cycle_set h h.note.body) corrected in
-            absurd (omega (arith, index, shown, low))
+            absurd (omega (arith, index, shown, earlier_join at))
         some_by h e false c index recorded timed true corrected =
             let shown : recorded_cycle (earlier t v.records) device ≡ cycle_set h h.note.body + 1 = recorded
             ∙ ap (λ (b : Bool). if b then cycle_set h h.note.body + 1 else cycle_set h h.note.body) corrected in
@@ -236,10 +197,9 @@ number_by v n t device before is from has old o e cleared c =
             ∙ ap (λ (b : Bool). if b then cycle_set h h.note.body + 1 else cycle_set h h.note.body) joined in
             omega (arith, index, shown)
         some_by h e false c index recorded timed false joined =
-            let setting = setting_is v device t h e in
-            let integrates = joiner_integrates (earlier t v.records) device h e setting.sets joined in
-            let cleared = joiner_cleared v n t device before is from (record { good = has.good; timed = timed }) old h e integrates.0 joined in
-            absurd (both_ways (has_cleared v.scenario v.records device t t) c cleared)
+            let integrates = joiner_integrates (earlier t v.records) device h e (setting_is v device t h e).sets joined in
+            let first = had_cleared v n t device before is from (record { good = has.good; timed = timed }) old h e joined in
+            absurd (both_ways (has_cleared v.scenario v.records device t t) c (cleared_from v device before.next t t is from from old integrates.0 first))
 
 -- the number of an old device is that of the block's cycle
 pub old_number : (v : View) (n t : ℕ) (device : DeviceId) (before : Stands v n) → IsView v → before.next ≤ t → HasTimeAt v device t

@@ -1,12 +1,7 @@
 -- How the clocks of a lawful scenario read.
-use Rattle.std.proofs.Common.{◌≡◌, ℕ, zero, suc, ◌+◌, ◌-◌, ◌*◌, ◌/◌, ◌^◌, ◌<◌, ◌≤◌, ℤ, pos, ◌≤ℤ◌, ◌<ℤ◌, inl, inr, refl, arith}
-use Rattle.std.proofs.Math.Nat.{mul-le-mul_left}
-use Rattle.std.proofs.lemmas.Bool.{cases_lt}
-use Rattle.std.proofs.lemmas.Int.{by_lt_z, ints}
-use Rattle.drift_clock.specs.Reach.{IsReach}
-use Rattle.precision_law.specs.Readings.{ClocksAreSteady, IsSteady, PermanenceIsSharp, ReachIsSharp, ReachIsThere, RipeInOrder, ShortByReading}
-use Rattle.precision_law.specs.Sizes.{Sizes}
-use Rattle.tte_units.specs.Amount.{amount}
+use Rattle.precision_law.proofs.words.Std.{◌*◌, ◌+◌, ◌-◌, ◌/◌, ◌<ℤ◌, ◌<◌, ◌^◌, ◌≡◌, ◌≤ℤ◌, ◌≤◌, arith, by_lt_z, cases_lt, inl, inr, ints, mul-le-mul_left, pos, refl, suc, zero, ℕ, ℤ}
+use Rattle.precision_law.proofs.words.Plans.{IsReach, amount}
+use Rattle.precision_law.proofs.words.Laws.{ClocksAreSteady, IsSteady, PermanenceIsSharp, ReachIsSharp, ReachIsThere, RipeInOrder, ShortByReading, Sizes}
 
 -- ---- what the clock laws give
 
@@ -34,12 +29,9 @@ clocks_are_steady s path device lawful =
       fast = λ a b le within. let r = both a b le within in omega (arith, r.0);
       slow = λ a b le within. let r = both a b le within in omega (arith, r.1);
       steps = λ t.
-          let up = laws.never_falls t (t + 1) (omega arith) in
-          let one = laws.drifts t (t + 1) (omega arith) in
           let unit : (t + 1) - t ≡ 1 = omega arith in
-          let here = rw unit at one in
-          let slow = lawful.range.rho in
-          omega (arith, up, here, slow);
+          let here = rw unit at (laws.drifts t (t + 1) (omega arith)) in
+          omega (arith, laws.never_falls t (t + 1) (omega arith), here, lawful.range.rho);
     }
 
 -- ---- long stretches
@@ -48,10 +40,7 @@ pub short_by_reading : ShortByReading
 short_by_reading n reading s t steady le less =
     elim (cases_lt t (s + 2 * n.cycle)) [
       | inl lt ↦ lt
-      | inr ge ↦
-          let up = steady.never_falls (s + 2 * n.cycle) t ge in
-          let slow = steady.slow s (s + 2 * n.cycle) (omega arith) (omega arith) in
-          absurd (omega (arith, up, slow, less))
+      | inr ge ↦ absurd (omega (arith, steady.never_falls (s + 2 * n.cycle) t ge, steady.slow s (s + 2 * n.cycle) (omega arith) (omega arith), less))
     ]
 
 -- ---- reaching a value
@@ -62,8 +51,7 @@ step_back n reading zero steady after = absurd (omega arith)
 step_back n reading (suc t) steady after =
     let same : suc t - 1 ≡ t = omega arith in
     let next : t + 1 ≡ suc t = omega arith in
-    let step = steady.steps t in
-    let moved = rw next at step in
+    let moved = rw next at (steady.steps t) in
     rw same moved
 
 pub reach_is_sharp : ReachIsSharp
@@ -72,13 +60,11 @@ reach_is_sharp n reading from v t steady below reach =
       | inl lt ↦ lt
       | inr ge ↦
           let same : t ≡ from = omega (arith, ints, reach.from_on, ge) in
-          let here : v ≤ℤ pos (reading t) = reach.reached in
-          let there = rw same at here in
+          let there = rw same at reach.reached in
           absurd (omega (arith, ints, there, below))
     ] in
     let before = reach.not_before (t - 1) (omega (arith, ints, after)) (omega (arith, ints, after)) in
-    let back = step_back n reading t steady (omega (arith, after)) in
-    record { after = after; before = before; least = reach.reached; most = omega (arith, ints, before, back) }
+    record { after = after; before = before; least = reach.reached; most = omega (arith, ints, before, step_back n reading t steady (omega (arith, after))) }
 
 -- among the units behind x there is a first at which the value is read
 first_of_all : (n : Sizes) (reading : ℕ → ℕ) (from x : ℕ) (v : ℤ) (more : ℕ) → IsSteady n reading → from ≤ x → pos (reading x) <ℤ v
@@ -97,11 +83,9 @@ first_of_all n reading from x v (suc more) steady le below above =
         from_on = omega (arith, ints);
         reached = above;
         not_before = λ y from_y y_before.
-            let up = steady.never_falls y (x + more) (omega (arith, ints, y_before)) in
-            omega (arith, ints, up, less);
+            omega (arith, ints, steady.never_falls y (x + more) (omega (arith, ints, y_before)), less);
       },
-    ))
-    (λ enough. let r = first_of_all n reading from x v more steady le below enough in (r.0, r.1, omega (arith, r.2), r.3))
+    )) (λ enough. let r = first_of_all n reading from x v more steady le below enough in (r.0, r.1, omega arith, r.3))
 
 pub reach_is_there : ReachIsThere
 reach_is_there n reading from x v t steady le lt below above =
@@ -129,10 +113,6 @@ permanence_is_sharp n reading arrived point q steady up reach =
 pub ripe_in_order : RipeInOrder
 ripe_in_order n reading a b p r q u steady one other lt =
     elim other.before [
-      | inl before ↦
-          let up = steady.never_falls q (u - 1) (omega arith) in
-          omega (arith, ints, up, before, one.least)
-      | inr at ↦
-          let up = steady.never_falls q u (omega arith) in
-          omega (arith, ints, up, at, one.least)
+      | inl before ↦ omega (arith, ints, steady.never_falls q (u - 1) (omega arith), before, one.least)
+      | inr at ↦ omega (arith, ints, steady.never_falls q u (omega arith), at, one.least)
     ]

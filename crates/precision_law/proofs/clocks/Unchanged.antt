@@ -1,22 +1,10 @@
 -- How a device hears that has had a common time since before the block.
-use Rattle.std.proofs.Common.{◌≡◌, ℕ, ◌<◌, ◌≤◌, pos, ◌<ℤ◌, Bool, true, false, List, [], filter, eqb-true, inl, inr, refl, ap, subst, ◌∙◌, arith}
-use Rattle.std.proofs.lemmas.Bool.{and_parts, both_ways, cases_lt, false_from_ne_true, lt-ltb}
-use Rattle.std.proofs.lemmas.Int.{ints}
-use Rattle.std.specs.Prelude.{◌==◌, ◌&&◌, ◌||◌, if◌then◌else◌, nat_lt}
-use Rattle.net_plan.specs.declared.ids.DeviceId.{DeviceId}
-use Rattle.precision_law.proofs.clocks.Epochs.{adjustment_stays, joined_changes, none_between, time_stays}
-use Rattle.precision_law.proofs.faults.Masters.{any_in}
+use Rattle.precision_law.proofs.words.Std.{◌&&◌, ◌<ℤ◌, ◌<◌, ◌==◌, ◌||◌, ◌∙◌, ◌≡◌, ◌≤◌, Bool, List, and_parts, ap, arith, both_ways, cases_lt, eqb-true, false, false_from_ne_true, filter, if◌then◌else◌, inl, inr, ints, lt-ltb, nat_lt, pos, refl, subst, true, ℕ}
+use Rattle.precision_law.proofs.words.Plans.{DeviceId, Integrating, Joining, Units}
+use Rattle.precision_law.proofs.words.Runs.{Happening, IsIn, adjustment_after, adjustment_at_hearing, changes_adjustment, earlier, has_joined_at, is_joined_by, state_after, state_at_hearing, state_before, time_of}
+use Rattle.precision_law.proofs.words.Laws.{IsView, View, adjustment_left, epoch_time, has_time, state_left}
+use Rattle.precision_law.proofs.words.Clocks.{adjustment_stays, any_in, between, in_kept, is_between, joined_changes, none_between, same_kept, time_stays}
 use Rattle.precision_law.proofs.faults.Turned.{not_turned_on_then}
-use Rattle.precision_law.proofs.records.Times.{between, in_kept, is_between, same_kept}
-use Rattle.precision_law.specs.Blocks.{adjustment_left, state_left}
-use Rattle.precision_law.specs.Epochs.{epoch_time, has_time}
-use Rattle.precision_law.specs.Views.{IsView, View}
-use Rattle.run_law.specs.device.LocalClocks.{changes_adjustment}
-use Rattle.run_law.specs.device.States.{adjustment_after, adjustment_at_hearing, has_joined_at, is_joined_by, state_after, state_at_hearing, state_before}
-use Rattle.run_law.specs.records.Happenings.{Happening, earlier, time_of}
-use Rattle.run_law.specs.records.Order.{IsIn}
-use Rattle.sync_state.specs.declared.state.State.TheVariants.{Integrating, Joining}
-use Rattle.tte_units.specs.declared.units.Units.{Units}
 
 -- records of the view up to a time, among them all of earlier times
 pub record AreUpTo (v : View) (q : ℕ) (hs : List Happening) : Type 0 where
@@ -34,19 +22,16 @@ pub sets_none : (v : View) (device : DeviceId) (from t : ℕ) → IsView v → f
     → IsIn h v.records → from ≤ time_of h → time_of h < t → changes_adjustment device h.note.body ≡ false
 sets_none v device from t is le old h i late early =
     false_from_ne_true (changes_adjustment device h.note.body) (λ sets.
-    let none = none_between v device from t is le old in
     let kept = in_kept (λ (x : Happening). changes_adjustment device x.note.body) (between from t v.records) h (is_between from t v.records h i late early) sets
     in
-    let wrong : IsIn h [] = subst (IsIn h) none kept in
-    absurd wrong)
+    absurd (subst (IsIn h) (none_between v device from t is le old) kept))
 
 -- so none tells it the time
 pub joins_none : (v : View) (device : DeviceId) (from t : ℕ) → IsView v → from ≤ t → epoch_time (earlier t v.records) device <ℤ pos from → (h : Happening)
     → IsIn h v.records → from ≤ time_of h → time_of h < t → is_joined_by device h.note.body ≡ false
 joins_none v device from t is le old h i late early =
     false_from_ne_true (is_joined_by device h.note.body)
-    (λ joins. both_ways (changes_adjustment device h.note.body) (sets_none v device from t is le old h i late early)
-    (joined_changes device h.note.body joins))
+    (λ joins. both_ways (changes_adjustment device h.note.body) (sets_none _ device from t is le old h i late early) (joined_changes device h.note.body joins))
 
 or_quiet : (a b : Bool) → (a ≡ false → b ≡ false) → (a || b) ≡ a
 or_quiet true b quiet = refl
@@ -56,7 +41,6 @@ or_quiet false b quiet = quiet refl
 pub hears_as_at : (v : View) (device : DeviceId) (from q t : ℕ) (hs : List Happening) → IsView v → AreUpTo v q hs → from ≤ q → q < t
     → epoch_time (earlier t v.records) device <ℤ pos from → has_time (state_left v device t) ≡ true → HearsAsAt v t q device hs
 hears_as_at v device from q t hs is up le lt old timed =
-    let s = v.scenario in
     let old_q : epoch_time (earlier t v.records) device <ℤ pos q = omega (arith, ints, old, le) in
     let timed_q = time_stays v device q t is (omega (arith, lt)) old_q timed in
     let quiet : (h : Happening) → IsIn h hs → q ≤ time_of h → is_joined_by device h.note.body ≡ false = λ h i ge.
@@ -64,21 +48,17 @@ hears_as_at v device from q t hs is up le lt old timed =
     let none : has_joined_at hs device q ≡ false = false_from_ne_true (has_joined_at hs device q) (λ joined.
     let x = any_in (λ (h : Happening). time_of h == q && is_joined_by device h.note.body) hs joined in
     let both = and_parts (time_of x.0 == q) (is_joined_by device x.0.note.body) x.2 in
-    let same = eqb-true (time_of x.0) q both.0 in
-    both_ways (is_joined_by device x.0.note.body) (quiet x.0 x.1 (omega (arith, same))) both.1) in
+    both_ways (is_joined_by device x.0.note.body) (quiet x.0 x.1 (omega (arith, eqb-true (time_of x.0) q both.0))) both.1) in
     let kept : filter (λ h. nat_lt (time_of h) q || is_joined_by device h.note.body) hs ≡ earlier q hs =
     same_kept (λ h. nat_lt (time_of h) q || is_joined_by device h.note.body) (λ h. nat_lt (time_of h) q) hs
     (λ h i. or_quiet (nat_lt (time_of h) q) (is_joined_by device h.note.body) (λ not_early.
-    elim (cases_lt (time_of h) q) [
-      | inl early ↦ absurd (both_ways (nat_lt (time_of h) q) not_early (lt-ltb (time_of h) q early))
-      | inr ge ↦ quiet h i ge
-    ])) in
+    elim (cases_lt (time_of h) q) [ inl early ↦ absurd (both_ways (nat_lt (time_of h) q) not_early (lt-ltb (time_of h) q early)) | inr ge ↦ quiet h i ge ])) in
     record {
       state =
-          ap (λ (b : Bool). has_time (if b then Joining else state_before s hs device q)) none
-          ∙ ap (λ (b : Bool). has_time (if b then Integrating else state_after s (earlier q hs) device)) (not_turned_on_then v device q is timed_q)
-          ∙ ap (λ (es : List Happening). has_time (state_after s es device)) up.all ∙ timed_q;
+          ap (λ (b : Bool). has_time (if b then Joining else state_before v.scenario hs device q)) none
+          ∙ ap (λ (b : Bool). has_time (if b then Integrating else state_after v.scenario (earlier q hs) device)) (not_turned_on_then v device q is timed_q)
+          ∙ ap (λ (es : List Happening). has_time (state_after v.scenario es device)) up.all ∙ timed_q;
       adjustment =
-          ap (λ (es : List Happening). (adjustment_after s es device).0) (kept ∙ up.all)
+          ap (λ (es : List Happening). (adjustment_after v.scenario es device).0) (kept ∙ up.all)
           ∙ ap (λ (a : Units). a.0) (adjustment_stays v device q t is (omega (arith, lt)) old_q);
     }

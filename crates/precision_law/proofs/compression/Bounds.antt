@@ -1,36 +1,11 @@
 -- The base of a compressed frame lies in the hull of its cycle.
-use Rattle.std.proofs.Common.{◌≡◌, ◌⊎◌, ℕ, suc, ◌+◌, ◌-◌, ◌*◌, ◌<◌, ◌≤◌, ℤ, pos, negsuc, ◌+ℤ◌, ◌-ℤ◌, ◌≤ℤ◌, List, [], ◌∷◌, length, map, inl, inr, refl, sym, ap, subst, ◌∙◌, arith}
-use Rattle.std.proofs.lemmas.Bool.{cases_lt}
-use Rattle.std.proofs.lemmas.Int.{ints}
-use Rattle.std.specs.Int.{bit_at}
-use Rattle.std.specs.Prelude.{Some}
-use Rattle.compression.proofs.Elements.{Ordered}
-use Rattle.compression.proofs.MiddleLaws.{middle_among_others, middle_from_first_to_last}
-use Rattle.compression.specs.Ascent.{last_from}
-use Rattle.compression.specs.Clusters.{Point, members_of}
-use Rattle.compression.specs.Middle.{LiesWithin, middle_point}
-use Rattle.membership.specs.Members.{count_of}
-use Rattle.net_plan.specs.declared.ids.DeviceId.{DeviceId}
-use Rattle.pcf_values.specs.declared.members.Members.{Members}
-use Rattle.precision_law.proofs.clocks.Readings.{short_by_reading}
-use Rattle.precision_law.proofs.compression.Counted.{Apart, all_but_one, ascending_from}
+use Rattle.precision_law.proofs.words.Std.{◌*◌, ◌+ℤ◌, ◌+◌, ◌-ℤ◌, ◌-◌, ◌<◌, ◌∙◌, ◌∷◌, ◌≡◌, ◌≤ℤ◌, ◌≤◌, ◌⊎◌, List, Some, [], ap, arith, bit_at, cases_lt, inl, inr, ints, length, map, negsuc, pos, refl, subst, suc, sym, ℕ, ℤ}
+use Rattle.precision_law.proofs.words.Plans.{DeviceId, LiesWithin, Members, Ordered, Point, count_of, last_from, mean_of, mean_of-floor, members_of, middle_among_others, middle_from_first_to_last, middle_point}
+use Rattle.precision_law.proofs.words.Runs.{Happening, IsIn, founded_at, same_some, time_of}
+use Rattle.precision_law.proofs.words.Laws.{AreGood, BasesAreInHulls, BasesAreNearHulls, HaveRoom, Hull, IsBaseIn, IsEmission, IsSteady, IsTidyBefore, IsView, Sizes, View, base_of, hull_of}
+use Rattle.precision_law.proofs.words.Clocks.{Apart, all_but_one, ascending_from, few_members, one_member, room, short_by_reading, steady}
 use Rattle.precision_law.proofs.compression.Emitted.{emissions_are_sharp}
 use Rattle.precision_law.proofs.compression.Made.{IsBadPoint, IsGoodPoint, IsMade, bad_is_one, good_member_point, made_of, member_of_point, not_both, point_is, three_have_good}
-use Rattle.precision_law.proofs.compression.Origins.{few_members}
-use Rattle.precision_law.proofs.faults.Broken.{one_member}
-use Rattle.precision_law.proofs.records.Views.{room, steady}
-use Rattle.precision_law.specs.Bases.{AreGood, IsBaseIn, IsEmission, base_of}
-use Rattle.precision_law.specs.CompressionLaws.{BasesAreInHulls, BasesAreNearHulls}
-use Rattle.precision_law.specs.Hulls.{Hull, IsTidyBefore, hull_of}
-use Rattle.precision_law.specs.Readings.{IsSteady}
-use Rattle.precision_law.specs.Sizes.{HaveRoom, Sizes}
-use Rattle.precision_law.specs.Views.{IsView, View}
-use Rattle.run_law.proofs.law.FirstPlaces.{founded_at}
-use Rattle.run_law.proofs.runs.SameSteps.{same_some}
-use Rattle.run_law.specs.records.Happenings.{Happening, time_of}
-use Rattle.run_law.specs.records.Order.{IsIn}
-use Rattle.tte_units.proofs.Means.{mean_of-floor}
-use Rattle.tte_units.specs.Mean.{mean_of}
 
 -- ---- numbers
 
@@ -50,10 +25,7 @@ sooner_by : (n : Sizes) (reading : ℕ → ℕ) (b s gap : ℕ) → IsSteady n r
 sooner_by n reading b s gap steady short le =
     elim (cases_lt b s) [
       | inr ge ↦ omega (arith, ge)
-      | inl lt ↦
-          let near = short_by_reading n reading b s steady (omega (arith, lt)) (omega (arith, le, short)) in
-          let slow = steady.slow b s (omega (arith, lt)) (omega (arith, near)) in
-          omega (arith, slow, le)
+      | inl lt ↦ omega (arith, steady.slow b s (omega arith) (omega (arith, short_by_reading n reading b s steady (omega arith) (omega arith))), le)
     ]
 
 -- what the sizes leave
@@ -61,7 +33,7 @@ gaps_fit : (n : Sizes) (slack : ℕ) → HaveRoom n → slack ≤ n.precision �
     × (n.compression + slack + 2 * n.grain + n.drift < 2 * n.cycle)
 gaps_fit n slack space small =
     let e = space.errors in (
-      (let a = space.compression_least in let b = space.eight_errors in let c = e.reach_is in let d = e.clock_is in omega (arith, a, b, c, d, small)),
+      (omega (arith, space, e, small)),
       (let a = space.compression_most in let b = space.eight_errors in let c = e.reach_is in let d = e.clock_is in let f = space.cycles in omega
           (arith, a, b, c, d, f, small)),
     )
@@ -82,10 +54,9 @@ sent_near n reading low high middle a b s slack steady space small from to above
     let gap : ℕ = n.compression - (2 * n.grain + slack) in
     let gap_is : gap + (2 * n.grain + slack) ≡ n.compression = omega (arith, fit.0) in
     let late = later_by n reading a s gap steady (omega (arith, fit.1, gap_is)) (omega (arith, ints, above, reached, gap_is)) (omega (arith, fit.0, gap_is)) in
-    let soon = sooner_by n reading b s (n.compression + slack + 2 * n.grain) steady fit.1 (omega (arith, ints, below, sharp)) in
     record {
       least = omega (arith, ints, late, from, gap_is, base);
-      most = omega (arith, ints, soon, to, base);
+      most = omega (arith, ints, sooner_by n reading b s (n.compression + slack + 2 * n.grain) steady fit.1 (omega (arith, ints, below, sharp)), to, base);
     }
 
 -- ---- middles
@@ -99,16 +70,8 @@ last_within low high p (q ∷ qs) at each = last_within low high q.reading qs (e
 -- of two points the middle is near each
 two_near : (low high a b : ℤ) (width : ℕ) → a ≤ℤ b → b ≤ℤ (a +ℤ pos (2 * width)) → LiesWithin low high a ⊎ LiesWithin low high b
     → LiesWithin (low -ℤ pos width) (high +ℤ pos width) (a +ℤ mean_of (a -ℤ a) (b -ℤ a))
-two_near low high a b width up close (inl at) =
-    (let m = mean_of-floor (a -ℤ a) (b -ℤ a) in (
-      omega (arith, ints, m.least, m.most, up, close, at.0, at.1),
-      omega (arith, ints, m.least, m.most, up, close, at.0, at.1),
-    ))
-two_near low high a b width up close (inr at) =
-    (let m = mean_of-floor (a -ℤ a) (b -ℤ a) in (
-      omega (arith, ints, m.least, m.most, up, close, at.0, at.1),
-      omega (arith, ints, m.least, m.most, up, close, at.0, at.1),
-    ))
+two_near low high a b width up close (inl at) = (let m = mean_of-floor (a -ℤ a) (b -ℤ a) in (omega (arith, ints), omega (arith, ints)))
+two_near low high a b width up close (inr at) = (let m = mean_of-floor (a -ℤ a) (b -ℤ a) in (omega (arith, ints), omega (arith, ints)))
 
 -- ---- the bounds of an emission
 
@@ -139,7 +102,7 @@ bounds_of v cm cycle by q is tidy of_cycle good =
     let inside = tidy good.first good.master q.cycle good.dispatch good.before in
     let hull = inside.hull in
     let n = v.sizes in
-    let begun : pos 0 ≤ℤ hull.greatest = (let most = inside.most in omega (arith, ints, most)) in
+    let begun : pos 0 ≤ℤ hull.greatest = omega (arith, ints, inside.most) in
     let a = has_least ((hull.least +ℤ pos n.dmax) -ℤ pos n.path) in
     let b = has_least (hull.greatest +ℤ pos (n.dmax + n.path)) in
     let b_is : (hull.greatest +ℤ pos (n.dmax + n.path)) ≡ pos b.n = top (hull.greatest +ℤ pos (n.dmax + n.path)) b (omega (arith, ints, begun)) in
@@ -149,21 +112,15 @@ bounds_of v cm cycle by q is tidy of_cycle good =
       is = hull_is;
       a = a.n;
       b = b.n;
-      from = (let above = a.above in omega (arith, ints, above));
+      from = omega (arith, ints, a.above);
       to = omega (arith, ints, b_is);
       each = λ x x_cycle x_good.
           let at = tidy x_good.first x_good.master x.cycle x_good.dispatch x_good.before in
           let same : at.hull ≡ hull = same_some (hull_of v cycle) at.hull hull (ap (hull_of v) (sym x_cycle) ∙ at.is) hull_is in
           let low : hull.least ≤ℤ pos (time_of x_good.first) = subst (λ (k : Hull). k.least ≤ℤ pos (time_of x_good.first)) same at.least in
           let high : pos (time_of x_good.first) ≤ℤ hull.greatest = subst (λ (k : Hull). pos (time_of x_good.first) ≤ℤ k.greatest) same at.most in
-          let early = x_good.in_time.not_early in
-          let late = x_good.in_time.not_late in
-          let after = a.least x_good.ripe (omega (arith, ints, low, early)) in
-          let up = (steady v is cm).never_falls a.n x_good.ripe after in
-          let down = (steady v is cm).never_falls x_good.ripe b.n (omega (arith, ints, high, late, b_is)) in
-          let least = x_good.least in
-          let most = x_good.most in
-          (omega (arith, ints, up, most), omega (arith, ints, down, least));
+          let down = (steady v is cm).never_falls x_good.ripe b.n (omega (arith, ints, high, x_good.in_time.not_late, b_is)) in
+          (omega (arith, ints, (steady v is cm).never_falls a.n x_good.ripe (a.least x_good.ripe (omega (arith, ints))), x_good.most), omega (arith, ints));
     }
   where
     top : (z : ℤ) (l : HasLeast z) → pos 0 ≤ℤ z → z ≡ pos l.n
@@ -180,12 +137,8 @@ sent_so : (v : View) (h : Happening) (cm : DeviceId) (cycle : ℕ) (members : Me
 sent_so v h cm cycle members slack is e m bounds small lies =
     let sharp = emissions_are_sharp v h cm cycle members e is in
     let middle : ℤ = middle_point (map (λ q. q.reading) (m.first ∷ m.more)) in
-    let at = m.at in
-    let reached = sharp.least in
-    let most = sharp.most in
     sent_near v.sizes (v.scenario.reading cm) bounds.hull.least bounds.hull.greatest middle bounds.a bounds.b (time_of h) slack (steady v is cm) (room v is)
-    small bounds.from bounds.to
-    (omega (arith, ints, lies.0)) (omega (arith, ints, lies.1)) (omega (arith, ints, at, reached)) (omega (arith, ints, at, most))
+    small bounds.from bounds.to (omega (arith, ints)) (omega (arith, ints)) (omega (arith, ints)) (omega (arith, ints))
 
 many_readings : (qs : List Point) → length (map (λ q. q.reading) qs) ≡ length qs
 many_readings [] = refl
@@ -214,8 +167,7 @@ three_lie v h cm cycle members is e m bounds many =
     let high : ℤ = pos (v.scenario.reading cm bounds.b) in
     middle_among_others (map (λ q. q.reading) (m.first ∷ m.more)) low high (let same = many_readings (m.first ∷ m.more) in omega (arith, same, many))
     (ascending_from (m.first ∷ m.more) m.ordered)
-    (all_but_one low high (IsBadPoint v) (m.first ∷ m.more) m.differ (within_or_bad v h cm cycle members is e m bounds)
-    (λ p q i j a b. bad_is_one v p q is a b))
+    (all_but_one low high (IsBadPoint v) (m.first ∷ m.more) m.differ (within_or_bad v h cm _ _ is e m bounds) (λ p q i j a b. bad_is_one v p q is a b))
 
 -- so does that of any number of good ones
 good_lie : (low high : ℤ) (first : Point) (more : List Point) → Ordered (first ∷ more) → ((q : Point) → IsIn q (first ∷ more) → LiesWithin low high q.reading)
@@ -223,16 +175,14 @@ good_lie : (low high : ℤ) (first : Point) (more : List Point) → Ordered (fir
 good_lie low high first more up each =
     let middle = middle_from_first_to_last first.reading (map (λ q. q.reading) more) (ascending_from (first ∷ more) up) in
     let at = each first (inl refl) in
-    let last = last_within low high first.reading more at (λ x i. each x (inr i)) in
-    (omega (arith, ints, middle.0, at.0), omega (arith, ints, middle.1, last.1))
+    (omega (arith, ints, middle.0, at.0), omega (arith, ints, middle.1, (last_within low high first.reading more at (λ x i. each x (inr i))).1))
 
 -- all points of good members are good
 all_good : (v : View) (h : Happening) (cm : DeviceId) (cycle : ℕ) (members : Members) (is : IsView v) (e : IsEmission v h cm cycle members)
     (m : IsMade v h cm cycle members e.at.0 (founded_at v.scenario v.records h is.run.founded e.there).front) → AreGood v members
     → (q : Point) → IsIn q (m.first ∷ m.more) → IsGoodPoint v cm (time_of h) q
 all_good v h cm cycle members is e m are q i =
-    let counted = m.each q i in
-    elim (point_is v h cm q is (founded_at v.scenario v.records h is.run.founded e.there) m.is_cm_one counted.there) [
+    elim (point_is v h cm q is (founded_at v.scenario v.records h is.run.founded e.there) m.is_cm_one (m.each q i).there) [
       | inl good ↦ good
       | inr bad ↦
           let good = are q.master (ap (λ (x : ℕ). bit_at x q.master) m.members_are ∙ member_of_point (m.first ∷ m.more) q i) in
@@ -246,9 +196,7 @@ sharp_base : (v : View) (h : Happening) (cm : DeviceId) (cycle : ℕ) (members :
     → IsBaseIn v cycle v.sizes.base (base_of v.sizes (time_of h))
 sharp_base v h cm cycle members is e m bounds lies =
     let near = sent_so v h cm cycle members 0 is e m bounds (omega arith) (omega (arith, ints, lies.0), omega (arith, ints, lies.1)) in
-    let least = near.least in
-    let most = near.most in
-    record { hull = bounds.hull; is = bounds.is; least = omega (arith, ints, least); most = omega (arith, ints, most) }
+    record { hull = bounds.hull; is = bounds.is; least = omega (arith, ints, near.least); most = omega (arith, ints, near.most) }
 
 near_base : (v : View) (h : Happening) (cm : DeviceId) (cycle : ℕ) (members : Members) (is : IsView v) (e : IsEmission v h cm cycle members)
     (m : IsMade v h cm cycle members e.at.0 (founded_at v.scenario v.records h is.run.founded e.there).front) (bounds : HasBounds v cm cycle (time_of h))
@@ -257,9 +205,7 @@ near_base : (v : View) (h : Happening) (cm : DeviceId) (cycle : ℕ) (members : 
     → IsBaseIn v cycle (v.sizes.base + v.sizes.precision) (base_of v.sizes (time_of h))
 near_base v h cm cycle members is e m bounds lies =
     let near = sent_so v h cm cycle members v.sizes.precision is e m bounds (omega arith) lies in
-    let least = near.least in
-    let most = near.most in
-    record { hull = bounds.hull; is = bounds.is; least = omega (arith, ints, least); most = omega (arith, ints, most) }
+    record { hull = bounds.hull; is = bounds.is; least = omega (arith, ints, near.least); most = omega (arith, ints, near.most) }
 
 pub bases_are_in_hulls : BasesAreInHulls
 bases_are_in_hulls v h cm cycle members is e tidy which =
@@ -269,12 +215,10 @@ bases_are_in_hulls v h cm cycle members is e tidy which =
           let good = three_have_good v h cm cycle members is e many in
           let p = good_member_point v h cm cycle members is e m good.0 good.1 good.2 in
           let bounds = bounds_of v cm cycle (time_of h) p.0 is tidy (m.each p.0 p.1).of_cycle p.2 in
-          let few = few_members (m.first ∷ m.more) in
           let same : count_of members ≡ count_of (record { 0 = members_of (m.first ∷ m.more) }) = ap (λ (x : ℕ). count_of (record { 0 = x })) m.members_are in
-          sharp_base v h cm cycle members is e m bounds (three_lie v h cm cycle members is e m bounds (omega (arith, few, same, many)))
+          sharp_base v h cm _ _ is e m bounds (three_lie v h cm _ _ is e m bounds (omega (arith, few_members (m.first ∷ m.more), same, many)))
       | inr are ↦
-          let first = all_good v h cm cycle members is e m are m.first (inl refl) in
-          let bounds = bounds_of v cm cycle (time_of h) m.first is tidy (m.each m.first (inl refl)).of_cycle first in
+          let bounds = bounds_of v cm _ _ _ is tidy (m.each m.first (inl refl)).of_cycle (all_good v h cm _ _ is e m are m.first (inl refl)) in
           sharp_base v h cm cycle members is e m bounds
           (good_lie (pos (v.scenario.reading cm bounds.a) -ℤ pos (2 * v.sizes.grain)) (pos (v.scenario.reading cm bounds.b)) m.first m.more m.ordered
           (λ q i. bounds.each q (m.each q i).of_cycle (all_good v h cm cycle members is e m are q i)))
@@ -308,7 +252,6 @@ bases_are_near_hulls v h cm cycle members is e tidy good =
     let m = made_of v h cm cycle members is e in
     let p = good_member_point v h cm cycle members is e m good.0 good.1 good.2 in
     let bounds = bounds_of v cm cycle (time_of h) p.0 is tidy (m.each p.0 p.1).of_cycle p.2 in
-    near_base v h cm cycle members is e m bounds
-    (near_lie v (pos (v.scenario.reading cm bounds.a) -ℤ pos (2 * v.sizes.grain)) (pos (v.scenario.reading cm bounds.b)) m.first m.more p.0 is m.ordered
-    m.differ
-    (λ x i. (m.each x i).to) (within_or_bad v h cm cycle members is e m bounds) p.1 (bounds.each p.0 (m.each p.0 p.1).of_cycle p.2))
+    near_base _ _ _ _ _ is e m bounds
+    (near_lie _ _ _ m.first m.more p.0 is m.ordered m.differ (λ x i. (m.each x i).to) (within_or_bad _ _ _ _ _ is e m bounds) p.1
+    (bounds.each p.0 (m.each p.0 p.1).of_cycle p.2))

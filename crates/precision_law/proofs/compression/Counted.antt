@@ -1,19 +1,7 @@
 -- The points that count in a cluster, and their middle.
-use Rattle.std.proofs.Common.{◌≡◌, ◌⊎◌, ℕ, ℤ, pos, ◌+ℤ◌, ◌-ℤ◌, ◌*ℤ◌, ◌≤ℤ◌, Bool, true, false, List, [], ◌∷◌, ◌++◌, map, fold, inl, inr, refl, sym, ap, subst, ◌∙◌, arith}
-use Rattle.std.proofs.lemmas.Bool.{cases_Bool, eqb-false, eqb-true, or_cases, or_parts}
-use Rattle.std.proofs.lemmas.Int.{ints}
-use Rattle.std.proofs.lemmas.List.Elements.{All-cons, All-nil}
-use Rattle.std.specs.List.{AllByRecursion}
-use Rattle.std.specs.Prelude.{◌==◌, All, Contains, filter}
-use Rattle.compression.proofs.Elements.{Ordered, Ordered-beyond, all-filter, from_beyond, in_cases, in_head, in_none, in_tail}
-use Rattle.compression.proofs.Firsts.{counts, with_first-new, with_first-old}
-use Rattle.compression.proofs.MiddleLaws.{middle_among_others}
-use Rattle.compression.specs.Ascent.{IsAscending}
-use Rattle.compression.specs.Clusters.{AreClusters, Cluster, Point, beyond, cluster_of, firsts, has_master, with_first}
-use Rattle.compression.specs.Middle.{AllButOne, LiesWithin, middle_of, relative}
-use Rattle.run_law.proofs.runs.Places.{in_parts}
-use Rattle.run_law.specs.records.Order.{IsIn}
-use Rattle.tte_units.proofs.Means.{mean_of-floor}
+use Rattle.precision_law.proofs.words.Std.{◌*ℤ◌, ◌++◌, ◌+ℤ◌, ◌-ℤ◌, ◌==◌, ◌∙◌, ◌∷◌, ◌≡◌, ◌≤ℤ◌, ◌⊎◌, All, All-cons, All-nil, AllByRecursion, Bool, Contains, List, [], ap, arith, cases_Bool, eqb-false, eqb-true, false, filter, fold, inl, inr, ints, map, or_cases, or_parts, pos, refl, subst, sym, true, ℕ, ℤ}
+use Rattle.precision_law.proofs.words.Plans.{AllButOne, AreClusters, Cluster, IsAscending, LiesWithin, Ordered, Ordered-beyond, Point, all-filter, beyond, cluster_of, counts, firsts, from_beyond, has_master, in_cases, in_head, in_none, in_tail, mean_of-floor, middle_among_others, middle_of, relative, with_first, with_first-new, with_first-old}
+use Rattle.precision_law.proofs.words.Runs.{IsIn, in_parts}
 
 -- ---- lists
 
@@ -106,9 +94,8 @@ has_one (p ∷ ps) m has = elim (or_cases (p.master == m) (has_master ps m) has)
 ]
 
 pub ascending_from : (ps : List Point) → Ordered ps → IsAscending (map (λ p. p.reading) ps)
-ascending_from [] up = tt
-ascending_from (p ∷ []) up = tt
 ascending_from (p ∷ q ∷ qs) up = (up.0.0, ascending_from (q ∷ qs) up.1)
+ascending_from ps up = tt
 
 -- ---- the middle of points of which those of one master may be anywhere
 
@@ -143,15 +130,8 @@ middle_near ow Bad k o (b ∷ []) some up apart i each same short =
     let later : o.reading ≤ℤ b.reading = up.0.0 in
     let near = short b (inr (inl refl)) in
     elim i [
-      | inl e ↦ (let at : k.reading ≡ o.reading = ap (λ (p : Point). p.reading) e in (
-        omega (arith, ints, at, some, m.least, m.most, later, near),
-        omega (arith, ints, at, some, m.least, m.most, later, near),
-      ))
-      | inr (inl e) ↦
-          (let at : k.reading ≡ b.reading = ap (λ (p : Point). p.reading) e in (
-            omega (arith, ints, at, some, m.least, m.most, later, near),
-            omega (arith, ints, at, some, m.least, m.most, later, near),
-          ))
+      | inl e ↦ (let at : k.reading ≡ o.reading = ap (λ (p : Point). p.reading) e in (omega (arith, ints), omega (arith, ints)))
+      | inr (inl e) ↦ (let at : k.reading ≡ b.reading = ap (λ (p : Point). p.reading) e in (omega (arith, ints), omega (arith, ints)))
       | inr (inr none) ↦ absurd none
     ]
 middle_near ow Bad k o (b ∷ c ∷ rest) some up apart i each same short =
@@ -171,8 +151,6 @@ pub record IsOpenedBy (ow : ℤ) (ps : List Point) (c : Cluster) : Type 0 where
 
 pub opened_by : (ow : ℤ) (ps : List Point) (cs : List Cluster) (c : Cluster) → Ordered ps → AreClusters ow ps cs → Contains cs c → IsOpenedBy ow ps c
 opened_by ow [] [] c up are at = absurd (in_none c at)
-opened_by ow [] (d ∷ cs) c up are at = absurd are
-opened_by ow (o ∷ ps) [] c up are at = absurd are
 opened_by ow (o ∷ ps) (d ∷ cs) c up are at =
     elim (in_cases d c cs at) [
       | inl same ↦ record { first = o; rest = ps; there = in_head o ps; others = λ x i. in_tail o x ps i; is = sym same ∙ are.0; up = up }
@@ -187,3 +165,4 @@ opened_by ow (o ∷ ps) (d ∷ cs) c up are at =
             up = more.up;
           }
     ]
+opened_by ow ps cs c up are at = absurd are

@@ -1,50 +1,12 @@
 -- When compression masters send.
-use Rattle.std.proofs.Common.{◌≡◌, ℕ, ◌≤◌, ℤ, pos, ◌+ℤ◌, ◌-ℤ◌, ◌*ℤ◌, ◌≤ℤ◌, Bool, true, false, List, [], ◌∷◌, map, Some, None, inl, inr, refl, sym, ap, subst, ◌∙◌, arith, nat_le, length}
-use Rattle.std.proofs.lemmas.Bool.{and_from, and_parts, eq-eqb}
-use Rattle.std.proofs.lemmas.Int.{ints}
-use Rattle.std.specs.List.{AllByRecursion, after_last}
-use Rattle.std.specs.Prelude.{◌==◌, ◌&&◌, Contains, Err, Ok, if◌then◌else◌, int_le}
-use Rattle.compression.proofs.Elements.{Ordered, Ordered-beyond, from_beyond, in_cases, in_filter, in_head, in_none, in_tail}
-use Rattle.compression.proofs.Firsts.{counts}
-use Rattle.compression.proofs.Held.{int_le-true}
-use Rattle.compression.specs.Clusters.{AreClusters, Cluster, Point, cluster_of, end_of, firsts, of_cycle_within, beyond, has_master, point_at}
-use Rattle.compression.specs.Emission.{emission}
-use Rattle.compression.specs.Middle.{last_but_one, middle_of, relative}
-use Rattle.compression.specs.declared.compressed.Compressed.{Compressed}
-use Rattle.net_plan.specs.declared.ids.DeviceId.{DeviceId}
-use Rattle.net_plan.specs.declared.ids.LinkId.{LinkId}
-use Rattle.pcf_values.specs.declared.pcf.Pcf.{Pcf}
-use Rattle.precision_law.proofs.block.Hulls.{int_le-is}
-use Rattle.precision_law.proofs.clocks.Epochs.{same_device}
-use Rattle.precision_law.proofs.clocks.Readings.{reach_is_sharp}
-use Rattle.precision_law.proofs.records.Behind.{behind_last, in_filter_map}
-use Rattle.precision_law.proofs.records.Views.{room, steady}
-use Rattle.precision_law.proofs.trips.Descents.{IsCarried, never_timed}
-use Rattle.precision_law.proofs.trips.Paths.{TakesWith, taken_young}
-use Rattle.precision_law.specs.CompressionLaws.{EmissionsAreSharp}
-use Rattle.precision_law.specs.Sizes.{Sizes}
-use Rattle.precision_law.specs.Views.{IsView, View}
-use Rattle.run_law.proofs.law.FirstPlaces.{founded_at, numbered_in}
-use Rattle.run_law.proofs.runs.Places.{in_right}
-use Rattle.run_law.specs.control.Collections.{point_by, points_of, observation_window, ends_stretch, master_of}
-use Rattle.run_law.specs.control.Wires.{Signal, control, timed}
-use Rattle.run_law.specs.declared.judgement.Judgement.{Judgement}
+use Rattle.precision_law.proofs.words.Std.{◌&&◌, ◌*ℤ◌, ◌+ℤ◌, ◌-ℤ◌, ◌==◌, ◌∙◌, ◌∷◌, ◌≡◌, ◌≤ℤ◌, ◌≤◌, AllByRecursion, Bool, Contains, Err, List, None, Ok, Some, [], after_last, and_from, and_parts, ap, arith, eq-eqb, false, if◌then◌else◌, inl, inr, int_le, ints, length, map, nat_le, pos, refl, subst, sym, true, ℕ, ℤ}
+use Rattle.precision_law.proofs.words.Plans.{AreClusters, Cluster, Compressed, DeviceId, LinkId, Ordered, Ordered-beyond, Pcf, Point, Units, amount, beyond, cluster_of, counts, emission, end_of, firsts, from_beyond, has_master, in_cases, in_head, in_none, in_tail, int_le-true, last_but_one, mean_of, mean_of-floor, middle_of, of_cycle_within, point_at, relative}
+use Rattle.precision_law.proofs.words.Runs.{Arrival, Happening, IsArrivedRecord, IsCaused, IsDue, IsFounded, IsIn, Judgement, NoteBody, Signal, arrival_of, control, cycle_in, ends_stretch, founded_at, in_right, master_of, members_in, numbered_in, observation_window, place_of, point_by, points_of, standpoint, time_of, timed}
+use Rattle.precision_law.proofs.words.Laws.{EmissionsAreSharp, IsView, View}
+use Rattle.precision_law.proofs.words.Clocks.{IsCarried, TakesWith, behind_last, in_filter_map, int_le-is, never_timed, reach_is_sharp, room, same_device, sizes_are, steady, taken_young}
+use Rattle.compression.proofs.Elements.{in_filter}
 use Rattle.run_law.specs.declared.note.NoteBody.TheVariants as notes
-use Rattle.run_law.specs.declared.note.NoteBody.{NoteBody}
 use Rattle.run_law.specs.declared.steps.Arrival.TheVariants as arrivals
-use Rattle.run_law.specs.declared.steps.Arrival.{Arrival}
-use Rattle.run_law.specs.device.Standpoints.{standpoint}
-use Rattle.run_law.specs.device.States.{cycle_in}
-use Rattle.run_law.specs.records.Happenings.{Happening, time_of}
-use Rattle.run_law.specs.records.Order.{IsIn}
-use Rattle.run_law.specs.records.Ranks.{place_of, members_in}
-use Rattle.run_law.specs.runs.DueRecords.{IsArrivedRecord, IsCaused, IsDue}
-use Rattle.run_law.specs.runs.Runs.{IsFounded}
-use Rattle.run_law.specs.timed.Receptions.{arrival_of}
-use Rattle.tte_units.proofs.Means.{mean_of-floor}
-use Rattle.tte_units.specs.Amount.{amount}
-use Rattle.tte_units.specs.Mean.{mean_of}
-use Rattle.tte_units.specs.declared.units.Units.{Units}
 
 -- ---- middles
 
@@ -52,7 +14,7 @@ abbrev NotNegative : ℤ → Type 0
 NotNegative z = pos 0 ≤ℤ z
 
 mean_not_negative : (a b : ℤ) → NotNegative a → NotNegative b → NotNegative (mean_of a b)
-mean_not_negative a b x y = (let m = mean_of-floor a b in omega (arith, ints, m.least, m.most, x, y))
+mean_not_negative a b x y = (let m = mean_of-floor a b in omega (arith, ints, m, x, y))
 
 last_not_negative : (p q : ℤ) (xs : List ℤ) → NotNegative p → AllByRecursion NotNegative (q ∷ xs) → NotNegative (last_but_one p q xs)
 last_not_negative p q [] x all = x
@@ -82,8 +44,6 @@ pub record IsClusterOf (ow : ℤ) (ps : List Point) (c : Cluster) : Type 0 where
 
 pub cluster_from : (ow : ℤ) (ps : List Point) (cs : List Cluster) (c : Cluster) → AreClusters ow ps cs → Contains cs c → IsClusterOf ow ps c
 cluster_from ow [] [] c are at = absurd (in_none c at)
-cluster_from ow [] (d ∷ cs) c are at = absurd are
-cluster_from ow (o ∷ ps) [] c are at = absurd are
 cluster_from ow (o ∷ ps) (d ∷ cs) c are at =
     elim (in_cases d c cs at) [
       | inl same ↦ record { first = o; rest = ps; there = in_head o ps; others = λ x i. in_tail o x ps i; ordered = λ up. up; is = sym same ∙ are.0 }
@@ -98,6 +58,7 @@ cluster_from ow (o ∷ ps) (d ∷ cs) c are at =
             is = more.is;
           }
     ]
+cluster_from ow ps cs c are at = absurd are
 
 -- what is counted in a cluster is not before it
 counted_late : (o : Point) (end : ℤ) (rest qs : List Point) → AllByRecursion (λ q. Contains (of_cycle_within o.cycle o.reading end rest) q) qs
@@ -123,14 +84,12 @@ middle_late ow o rest ends =
     let a : (o.cycle == o.cycle) ≡ true = eq-eqb o.cycle o.cycle refl in
     let b : int_le o.reading o.reading ≡ true = int_le-true o.reading o.reading (omega (arith, ints)) in
     let c : int_le o.reading end ≡ true = int_le-true o.reading end ends in
-    let kept : of_cycle_within o.cycle o.reading end (o ∷ rest) ≡ o ∷ inner =
-    ap (λ (t : Bool). if t then o ∷ inner else inner) (and_from (o.cycle == o.cycle) (int_le o.reading o.reading && int_le o.reading end) a
-    (and_from (int_le o.reading o.reading) (int_le o.reading end) b c)) in
+    let kept = ap (λ (t : Bool). if t then o ∷ inner else inner)
+    (and_from (o.cycle == o.cycle) (int_le o.reading o.reading && int_le o.reading end) a (and_from (int_le o.reading o.reading) (int_le o.reading end) b c)) in
     let count = counts (o ∷ []) inner in
-    let whole : firsts (of_cycle_within o.cycle o.reading end (o ∷ rest)) ≡ o ∷ count.more = ap firsts kept ∙ count.is in
     let late = counted_late o end rest count.more (first_parts inner (o ∷ []) count.more count.each) in
     let zero_first : NotNegative (o.reading -ℤ o.reading) = omega (arith, ints) in
-    subst (λ (qs : List Point). NotNegative (middle_of (relative (map (λ q. q.reading) qs)))) (sym whole)
+    subst (λ (qs : List Point). NotNegative (middle_of (relative (map (λ q. q.reading) qs)))) (sym (ap firsts kept ∙ count.is))
     (middle_not_negative (map (λ q. q -ℤ o.reading) (map (λ q. q.reading) (o ∷ count.more))) (zero_first, late))
 
 -- a cluster does not end before it begins
@@ -159,8 +118,7 @@ takes_carried other taken t = absurd t
 young_by : (v : View) (hs : List Happening) (t : ℕ) (device : DeviceId) (link : LinkId) (cause : ℕ) (signal : Signal) (taken : Pcf)
     → TakesWith (arrival_of v.scenario hs device t link cause signal) taken → taken.clock ≤ amount v.scenario.network.dmax
 young_by v hs t device link cause (control (Ok frame)) taken takes =
-    let r = taken_young v.scenario.network device link (standpoint v.scenario hs device t) frame taken takes in
-    omega (arith, r.0, r.1)
+    omega (arith, taken_young v.scenario.network device link (standpoint v.scenario hs device t) frame taken takes)
 young_by v hs t device link cause (control (Err refusal)) taken takes = absurd takes
 young_by v hs t device link cause (timed octets) taken takes =
     absurd (never_timed v hs t device link cause octets (takes_carried (arrival_of v.scenario hs device t link cause (timed octets)) taken takes))
@@ -196,13 +154,12 @@ some_if false x y e = absurd cc
 gives_by : (cm : DeviceId) (k : Happening) (p : Point) (body : NoteBody) → k.note.body ≡ body → point_by cm k body ≡ Some p → GivesPoint cm k p
 gives_by cm k p (notes.Permanent other link cause point verdict) same e =
     let both = some_if (cm.0 == other.0) (point_at point.0 (master_of (members_in k)) (cycle_in k)) p e in
-    let one : other ≡ cm = same_device cm other both.0 in
     record {
       link = link;
       cause = cause;
       point = point;
       verdict = verdict;
-      is = same ∙ ap (λ (d : DeviceId). notes.Permanent d link cause point verdict) one;
+      is = same ∙ ap (λ (d : DeviceId). notes.Permanent d link cause point verdict) (same_device cm other both.0);
       reads = sym (ap (λ (x : Point). x.reading) both.1);
       of_master = sym (ap (λ (x : Point). x.master) both.1);
       of_cycle = sym (ap (λ (x : Point). x.cycle) both.1);
@@ -226,37 +183,22 @@ point_not_negative : (v : View) (cm : DeviceId) (front : List Happening) (p : Po
 point_not_negative v cm front p is founded i =
     let s = v.scenario in
     let given = point_record cm front p i in
-    let g = given.2 in
     let at = founded_at s front given.0 founded given.1 in
-    let ripens : IsCaused s at.front given.0.note.time (notes.Permanent cm g.link g.cause g.point g.verdict) = subst (IsCaused s at.front given.0.note.time)
-    g.is at.due.cause in
-    let q = ripens.permanent in
-    let at_a = founded_at s at.front q.arrival at.founded (numbered_in at.front g.cause q.arrival q.there) in
-    let arrived : IsCaused s at_a.front q.arrival.note.time (notes.Arrived cm g.link q.from q.clock) = subst (IsCaused s at_a.front q.arrival.note.time)
-    q.arrived at_a.due.cause in
-    let young = arrival_young v at_a.front (amount q.arrival.note.time) cm g.link q.from q.clock arrived in
-    let dmax = is.lawful.range.dmax.least in
-    let point = q.at_point in
-    let reads = g.reads in
-    omega (arith, ints, reads, point, young, dmax)
+    let q = (subst (IsCaused s at.front given.0.note.time) given.2.is at.due.cause).permanent in
+    let at_a = founded_at s at.front q.arrival at.founded (numbered_in at.front given.2.cause q.arrival q.there) in
+    omega (arith, ints, arrival_young v _ _ cm _ _ _ (subst (IsCaused s at_a.front q.arrival.note.time) q.arrived at_a.due.cause), is.lawful.range.dmax.least)
 
 pub emissions_are_sharp : EmissionsAreSharp
 emissions_are_sharp v h cm cycle members e is =
     let s = v.scenario in
-    let space = room v is in
     let at = founded_at s v.records h is.run.founded e.there in
-    let emits : IsCaused s at.front h.note.time (notes.Compressed cm e.opened e.at cycle members e.verdict) = subst (IsCaused s at.front h.note.time) e.is
-    at.due.cause in
+    let emits = subst (IsCaused s at.front h.note.time) e.is at.due.cause in
     let ow = observation_window s.network in
     let c = cluster_from ow (points_of at.front cm) emits.clusters emits.cluster emits.are emits.there in
     let first = point_not_negative v cm at.front c.first is at.founded (contained (points_of at.front cm) c.first c.there) in
     let wide : pos 0 ≤ℤ ow = omega (arith, ints) in
     let middle = middle_late ow c.first c.rest (ends_late ow c.first (c.first ∷ c.rest) wide) in
-    let sent : e.at.0 ≡ emission ow (pos (amount s.network.calc)) emits.cluster = ap (λ (x : Compressed). x.at.0) emits.is in
-    let shown : emission ow (pos (amount s.network.calc)) emits.cluster ≡ emission ow (pos (amount s.network.calc)) (cluster_of ow c.first (c.first ∷ c.rest)) =
-    ap (emission ow (pos (amount s.network.calc))) c.is in
-    let size : v.sizes.precision ≡ amount s.network.precision = ap (λ (x : Sizes). x.precision) is.sizes in
-    let zero_reading = (steady v is cm).begins in
+    let shown = ap (emission ow (pos (amount s.network.calc))) c.is in
     reach_is_sharp v.sizes (s.reading cm) 0 e.at.0 (time_of h) (steady v is cm)
-    (omega (arith, ints, zero_reading, sent, shown, first, middle, size, space.eight_errors, space.errors.reach_is, space.errors.clock_is))
+    (omega (arith, ints, (steady v is cm).begins, ap (λ (x : Compressed). x.at.0) emits.is, shown, first, middle, (sizes_are v is).precision, room v is))
     emits.reached

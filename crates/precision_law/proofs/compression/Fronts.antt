@@ -1,13 +1,6 @@
 -- A cluster of the points so far stays one as points come beyond its end.
-use Rattle.std.proofs.Common.{◌≡◌, ℤ, pos, ◌≤ℤ◌, ◌<ℤ◌, List, [], ◌∷◌, ◌++◌, inl, inr, sym, ap, subst, ◌∙◌, append_assoc, append-nil, arith}
-use Rattle.std.proofs.lemmas.Int.{ints}
-use Rattle.std.specs.List.{AllByRecursion}
-use Rattle.std.specs.Prelude.{Contains}
-use Rattle.compression.proofs.Elements.{from_beyond, in_cases, in_head, in_none, in_tail}
-use Rattle.compression.proofs.Growth.{cluster_of-beyond, end_of-least}
-use Rattle.compression.proofs.Held.{beyond-push_out}
-use Rattle.compression.proofs.Times.{one_list_of_clusters}
-use Rattle.compression.specs.Clusters.{AreClusters, Cluster, Point, beyond, end_of}
+use Rattle.precision_law.proofs.words.Std.{◌++◌, ◌<ℤ◌, ◌∙◌, ◌∷◌, ◌≡◌, ◌≤ℤ◌, AllByRecursion, Contains, List, [], ap, append-nil, append_assoc, arith, inl, inr, ints, pos, subst, sym, ℤ}
+use Rattle.precision_law.proofs.words.Plans.{AreClusters, Cluster, Point, beyond, beyond-push_out, cluster_of-beyond, end_of, end_of-least, from_beyond, in_cases, in_head, in_none, in_tail, one_list_of_clusters}
 use Rattle.precision_law.proofs.compression.Emitted.{cluster_from}
 
 -- with one point more
@@ -19,26 +12,20 @@ stays_by ow (o ∷ ps) p [] ds c some are next at past = absurd are
 stays_by ow (o ∷ ps) p (k ∷ cs) [] c some are next at past = absurd next
 stays_by ow (o ∷ ps) p (k ∷ cs) (e ∷ ds) c some are next at past =
     elim (in_cases k c cs at) [
-      | inl same ↦
-          let one = same_first (subst (λ (x : Cluster). x.end <ℤ p.reading) (sym same) past) in
-          subst (Contains (e ∷ ds)) (one ∙ same) (in_head e ds)
+      | inl same ↦ subst (Contains (e ∷ ds)) ((same_first (subst (λ (x : Cluster). x.end <ℤ p.reading) (sym same) past)) ∙ same) (in_head e ds)
       | inr later ↦
           let from = cluster_from ow (beyond k.end ps) cs c are.1 later in
           let opened = (from_beyond k.end ps from.first from.there).1 in
-          let least = end_of-least ow from.first (from.first ∷ from.rest) some in
           let ends : c.end ≡ end_of ow from.first (from.first ∷ from.rest) = ap (λ (x : Cluster). x.end) from.is in
-          let behind : k.end <ℤ p.reading = omega (arith, ints, opened, least, ends, some, past) in
+          let behind : k.end <ℤ p.reading = omega (arith, ints, opened, end_of-least ow from.first (from.first ∷ from.rest) some, ends, some, past) in
           let one = same_first behind in
           let moved : AreClusters ow (beyond k.end (ps ++ p ∷ [])) ds = subst (λ (x : Cluster). AreClusters ow (beyond x.end (ps ++ p ∷ [])) ds) one next.1 in
-          let rest : AreClusters ow (beyond k.end ps ++ p ∷ []) ds = subst (λ (qs : List Point). AreClusters ow qs ds) (beyond-push_out k.end ps p behind) moved
-          in
+          let rest = subst (λ (qs : List Point). AreClusters ow qs ds) (beyond-push_out k.end ps p behind) moved in
           in_tail e c ds (stays_by ow (beyond k.end ps) p cs ds c some are.1 rest later past)
     ]
   where
     same_first : k.end <ℤ p.reading → e ≡ k
-    same_first behind =
-        let beyond_end : end_of ow o (o ∷ ps) <ℤ p.reading = subst (λ (x : Cluster). x.end <ℤ p.reading) are.0 behind in
-        next.0 ∙ cluster_of-beyond ow o (o ∷ ps) p some beyond_end ∙ sym are.0
+    same_first behind = next.0 ∙ cluster_of-beyond ow o (o ∷ ps) p some (subst (λ (x : Cluster). x.end <ℤ p.reading) are.0 behind) ∙ sym are.0
 
 -- with any
 pub cluster_stays : (ow : ℤ) (ps more : List Point) (cs ds : List Cluster) (c : Cluster) → pos 0 ≤ℤ ow → AreClusters ow ps cs → AreClusters ow (ps ++ more) ds

@@ -1,53 +1,16 @@
 -- What compressed frames are made of.
-use Rattle.std.proofs.Common.{◌≡◌, ◌⊎◌, ℕ, ◌+◌, ◌*◌, ◌^◌, ◌<◌, ◌≤◌, ℤ, pos, ◌+ℤ◌, ◌*ℤ◌, ◌≤ℤ◌, Bool, true, false, List, [], ◌∷◌, ◌++◌, length, map, Option, Some, inl, inr, refl, sym, ap, subst, ◌∙◌, arith, nat_le}
-use Rattle.std.proofs.lemmas.Bool.{and_from, and_parts, both_ways, eq-eqb, eqb-true, cases_lt}
-use Rattle.std.proofs.lemmas.Nat.{zero_from_ones}
-use Rattle.std.proofs.lemmas.Nat.Bits.{bit_at-zero}
-use Rattle.std.proofs.lemmas.Int.{ints}
-use Rattle.std.specs.Int.{bit_at}
-use Rattle.std.specs.Option.{option_map_or}
-use Rattle.std.specs.Prelude.{◌==◌, ◌&&◌, Contains, if◌then◌else◌, int_le}
-use Rattle.compression.proofs.Elements.{Ordered, in_cases, in_filter}
-use Rattle.compression.proofs.Firsts.{counts}
-use Rattle.compression.proofs.Held.{int_le-true}
-use Rattle.compression.specs.Clusters.{Cluster, Point, cluster_of, end_of, firsts, members_of, of_cycle_within}
-use Rattle.compression.specs.Emission.{emission}
-use Rattle.compression.specs.Middle.{middle_of, relative}
-use Rattle.compression.specs.declared.compressed.Compressed.{Compressed}
-use Rattle.membership.specs.Members.{IsMember, count_of}
-use Rattle.net_plan.specs.declared.ids.DeviceId.{DeviceId}
-use Rattle.pcf_values.specs.declared.members.Members.{Members}
-use Rattle.pcf_values.specs.declared.pcf.Pcf.{Pcf}
-use Rattle.precision_law.proofs.block.Hulls.{int_le-is}
+use Rattle.precision_law.proofs.words.Std.{◌&&◌, ◌*ℤ◌, ◌*◌, ◌++◌, ◌+ℤ◌, ◌<◌, ◌==◌, ◌^◌, ◌∙◌, ◌∷◌, ◌≡◌, ◌≤ℤ◌, ◌≤◌, ◌⊎◌, Bool, Contains, List, Option, Some, [], and_from, and_parts, ap, arith, bit_at, bit_at-zero, both_ways, cases_lt, eq-eqb, eqb-true, false, if◌then◌else◌, inl, inr, int_le, ints, length, map, nat_le, option_map_or, pos, refl, subst, sym, true, zero_from_ones, ℕ, ℤ}
+use Rattle.precision_law.proofs.words.Plans.{Cluster, Compressed, DeviceId, IsMember, Members, Ordered, Pcf, Point, amount, count_of, counts, emission, end_of, firsts, in_cases, int_le-true, members_of, middle_of, of_cycle_within, relative}
+use Rattle.precision_law.proofs.words.Runs.{Happening, IsCaused, IsFoundedAt, IsIn, cycle_in, founded_at, frame_by, in_left, is_broken, is_cm, master_of, member_of, observation_window, points_of, same_some, time_of}
+use Rattle.precision_law.proofs.words.Laws.{AreBad, EmissionsAreOfDispatches, HasGood, IsBad, IsBadMember, IsDispatch, IsEmission, IsGood, IsGoodMember, IsInTime, IsView, MembersAreMasters, ThreeHaveGood, View, clock_in, links_of}
+use Rattle.precision_law.proofs.words.Clocks.{Apart, any_in, before_of, few_members, firsts_apart, firsts_in, firsts_ordered, frames_up_are_of_masters, has_is_member, has_member, in_any, int_le-is, member_has, one_bad, one_member, sizes_are, within_ordered}
+use Rattle.compression.proofs.Elements.{in_filter}
 use Rattle.precision_law.proofs.block.Joins.{cm_channel}
-use Rattle.precision_law.proofs.compression.Counted.{Apart, firsts_apart, firsts_in, firsts_ordered}
 use Rattle.precision_law.proofs.compression.Emitted.{cluster_from, contained, ends_late, point_record}
-use Rattle.precision_law.proofs.compression.Origins.{few_members, has_is_member, member_has, within_ordered}
 use Rattle.precision_law.proofs.compression.Ripenings.{master_of_bit, ripening}
 use Rattle.precision_law.proofs.compression.Stretches.{points_ordered}
-use Rattle.precision_law.proofs.faults.Broken.{has_member, one_bad, one_member}
-use Rattle.precision_law.proofs.faults.Masters.{any_in, in_any}
 use Rattle.precision_law.proofs.hearing.Timely.{cm_of, path_member}
-use Rattle.precision_law.proofs.records.Points.{before_of}
-use Rattle.precision_law.proofs.trips.Ascents.{frames_up_are_of_masters}
 use Rattle.precision_law.proofs.trips.Upward.{path_up, trips_up_take_dmax}
-use Rattle.precision_law.specs.Bases.{AreBad, HasGood, IsBadMember, IsEmission, IsGoodMember}
-use Rattle.precision_law.specs.CompressionLaws.{EmissionsAreOfDispatches, MembersAreMasters, ThreeHaveGood}
-use Rattle.precision_law.specs.Sizes.{Sizes}
-use Rattle.precision_law.specs.Trips.{IsInTime, clock_in, links_of}
-use Rattle.precision_law.specs.Views.{IsBad, IsDispatch, IsGood, IsView, View}
-use Rattle.run_law.proofs.law.FirstPlaces.{IsFoundedAt, founded_at}
-use Rattle.run_law.proofs.runs.Places.{in_left}
-use Rattle.run_law.proofs.runs.SameSteps.{same_some}
-use Rattle.run_law.specs.control.Collections.{master_of, points_of, observation_window}
-use Rattle.run_law.specs.declared.note.NoteBody.TheVariants as notes
-use Rattle.run_law.specs.device.States.{cycle_in}
-use Rattle.run_law.specs.records.Happenings.{Happening, frame_by, time_of}
-use Rattle.run_law.specs.records.Order.{IsIn}
-use Rattle.run_law.specs.runs.DueRecords.{IsCaused}
-use Rattle.run_law.specs.scenario.Devices.{is_cm, member_of}
-use Rattle.run_law.specs.scenario.Scenarios.{is_broken}
-use Rattle.tte_units.specs.Amount.{amount}
 
 -- ---- points
 
@@ -77,8 +40,7 @@ not_both v device other good bad same = both_ways (is_broken v.scenario other v.
 -- a good point is of another master than a bad one
 pub point_not_both : (v : View) (cm : DeviceId) (by : ℕ) (p q : Point) → IsView v → IsGoodPoint v cm by p → IsBadPoint v q → p.master ≡ q.master → ⊥
 point_not_both v cm by p q is good bad same =
-    not_both v good.master bad.master good.dispatch.good bad.bad
-    (one_member v good.master bad.master p.master is good.is_member (bad.is_member ∙ ap (λ (m : ℕ). Some m) (sym same)))
+    not_both v _ _ good.dispatch.good bad.bad (one_member v good.master bad.master _ is good.is_member (bad.is_member ∙ ap (λ (m : ℕ). Some m) (sym same)))
 
 -- bad points are of one master
 pub bad_is_one : (v : View) (p q : Point) → IsView v → IsBadPoint v p → IsBadPoint v q → p.master ≡ q.master
@@ -100,8 +62,7 @@ front_point v cm q by front rest is whole only one i =
     let given = point_record cm front q i in
     let k = given.0 in
     let g = given.2 in
-    let in_all : IsIn k v.records = subst (IsIn k) (sym whole) (in_left k front rest given.1) in
-    let r = ripening v cm k g.link g.cause g.point g.verdict is in_all g.is in
+    let r = ripening v cm k g.link g.cause g.point g.verdict is (subst (IsIn k) (sym whole) (in_left k front rest given.1)) g.is in
     let p = r.permanent in
     let early = only k given.1 in
     elim (frames_up_are_of_masters v r.arrival cm p.link p.from p.clock is r.arrived p.is (r.up one)) [
@@ -114,22 +75,19 @@ front_point v cm q by front rest is whole only one i =
           let channel = cm_channel v cm is one in
           let path = path_up v channel.0 good.first r.arrival good.legs good.master cm (cycle_in r.arrival) p.link p.from p.clock is
           (cm_of v cm channel.0 one channel.1) good.trip p.is good.dispatch.is in
-          let fresh = dispatch_clock v good.first good.master (cycle_in r.arrival) is good.dispatch in
-          let cycle_is : cycle_in r.arrival ≡ q.cycle = sym r.cycle ∙ sym g.of_cycle in
-          let reads = g.reads in
           inl (record {
             first = good.first;
             master = good.master;
-            dispatch = subst (IsDispatch v good.first good.master) cycle_is good.dispatch;
+            dispatch = subst (IsDispatch v good.first good.master) (sym r.cycle ∙ sym g.of_cycle) good.dispatch;
             is_member = good.is_member ∙ ap (λ (m : ℕ). Some m) (sym (master_is good.master good.member g.of_master r.members good.is_member good.members));
-            before = (let a = good.in_order in let b = r.sharp.after in omega (arith, a, b, early));
+            before = omega (arith, good.in_order, r.sharp.after, early);
             ripe = time_of k;
             not_behind = early;
             in_time =
                 trips_up_take_dmax v good.first r.arrival good.legs channel.0 good.master cm g.point.0 (time_of k) is
-                (path_member v channel.0 good.master (links_of good.legs) is path) path fresh good.trip p r.clock;
-            least = (let a = r.sharp.least in omega (arith, ints, a, reads));
-            most = (let a = r.sharp.most in omega (arith, ints, a, reads));
+                (path_member v channel.0 good.master (links_of good.legs) is path) path (dispatch_clock v _ _ _ is good.dispatch) good.trip p r.clock;
+            least = omega (arith, ints, r.sharp.least, g.reads);
+            most = omega (arith, ints, r.sharp.most, g.reads);
           })
     ]
   where
@@ -171,12 +129,9 @@ ends_soon ow o ps some = by (nat_le 2 (length (firsts (of_cycle_within o.cycle o
 pub made_of : (v : View) (h : Happening) (cm : DeviceId) (cycle : ℕ) (members : Members) (is : IsView v) → (e : IsEmission v h cm cycle members)
     → IsMade v h cm cycle members e.at.0 (founded_at v.scenario v.records h is.run.founded e.there).front
 made_of v h cm cycle members is e =
-    let s = v.scenario in
-    let n = s.network in
-    let at = founded_at s v.records h is.run.founded e.there in
-    let emits : IsCaused s at.front h.note.time (notes.Compressed cm e.opened e.at cycle members e.verdict) = subst (IsCaused s at.front h.note.time) e.is
-    at.due.cause in
-    let ow = observation_window n in
+    let at = founded_at v.scenario v.records h is.run.founded e.there in
+    let emits = subst (IsCaused v.scenario at.front h.note.time) e.is at.due.cause in
+    let ow = observation_window v.scenario.network in
     let c = cluster_from ow (points_of at.front cm) emits.clusters emits.cluster emits.are emits.there in
     let o = c.first in
     let wide : pos 0 ≤ℤ ow = omega (arith, ints) in
@@ -184,20 +139,16 @@ made_of v h cm cycle members is e =
     let late = ends_late ow o (o ∷ c.rest) wide in
     let soon = ends_soon ow o (o ∷ c.rest) wide in
     let inner = of_cycle_within o.cycle o.reading end c.rest in
-    let kept : of_cycle_within o.cycle o.reading end (o ∷ c.rest) ≡ o ∷ inner =
-    ap (λ (t : Bool). if t then o ∷ inner else inner) (and_from (o.cycle == o.cycle) (int_le o.reading o.reading && int_le o.reading end)
-    (eq-eqb o.cycle o.cycle refl) (and_from (int_le o.reading o.reading) (int_le o.reading end) (int_le-true o.reading o.reading (omega (arith, ints)))
-    (int_le-true o.reading end late))) in
+    let kept = ap (λ (t : Bool). if t then o ∷ inner else inner)
+    (and_from (o.cycle == o.cycle) (int_le o.reading o.reading && int_le o.reading end) (eq-eqb o.cycle o.cycle refl)
+    (and_from (int_le o.reading o.reading) (int_le o.reading end) (int_le-true o.reading o.reading (omega (arith, ints))) (int_le-true o.reading end late))) in
     let count = counts (o ∷ []) inner in
     let counted : firsts (of_cycle_within o.cycle o.reading end (o ∷ c.rest)) ≡ o ∷ count.more = ap firsts kept ∙ count.is in
     let cycle_is : cycle ≡ o.cycle = ap (λ (x : Compressed). x.cycle) emits.is ∙ ap (λ (x : Cluster). x.cycle) c.is in
-    let size : v.sizes.precision ≡ amount n.precision = ap (λ (x : Sizes). x.precision) is.sizes in
-    let wait : v.sizes.compression ≡ 2 * amount n.precision + amount n.calc = ap (λ (x : Sizes). x.compression) is.sizes in
+    let size = (sizes_are v is).precision in
     let up = within_ordered o.cycle o.reading end (o ∷ c.rest) (c.ordered (points_ordered v cm at.front (h ∷ at.rest) is at.whole)) in
-    let sent : e.at.0 ≡ emission ow (pos (amount n.calc)) (cluster_of ow o (o ∷ c.rest)) = ap (λ (x : Compressed). x.at.0) emits.is
-    ∙ ap (emission ow (pos (amount n.calc))) c.is in
-    let middle : middle_of (relative (map (λ q. q.reading) (firsts (of_cycle_within o.cycle o.reading end (o ∷ c.rest))))) ≡ middle_of
-    (relative (map (λ q. q.reading) (o ∷ count.more))) = ap (λ (qs : List Point). middle_of (relative (map (λ q. q.reading) qs))) counted in
+    let sent = ap (λ (x : Compressed). x.at.0) emits.is ∙ ap (emission ow (pos (amount v.scenario.network.calc))) c.is in
+    let middle = ap (λ (qs : List Point). middle_of (relative (map (λ q. q.reading) qs))) counted in
     record {
       is_cm_one = emits.cm;
       first = o;
@@ -208,7 +159,7 @@ made_of v h cm cycle members is e =
           c.others (firsts_in (of_cycle_within o.cycle o.reading end (o ∷ c.rest)) q (subst (IsIn q) (sym counted) i));
       differ = subst Apart counted (firsts_apart (of_cycle_within o.cycle o.reading end (o ∷ c.rest)));
       ordered = subst Ordered counted (firsts_ordered (of_cycle_within o.cycle o.reading end (o ∷ c.rest)) up);
-      at = omega (arith, ints, sent, middle, wait);
+      at = omega (arith, ints, sent, middle, sizes_are v is);
     }
   where
     one_counted : (v : View) (cm : DeviceId) (front : List Happening) (cycle : ℕ) (o : Point) (rest : List Point) (q : Point) (end : ℤ) → cycle ≡ o.cycle
@@ -219,12 +170,10 @@ made_of v h cm cycle members is e =
         let test = in_filter (λ x. x.cycle == o.cycle && (int_le o.reading x.reading && int_le x.reading end)) (o ∷ rest) q i in
         let both = and_parts (q.cycle == o.cycle) (int_le o.reading q.reading && int_le q.reading end) test.1 in
         let bounds = and_parts (int_le o.reading q.reading) (int_le q.reading end) both.1 in
-        let low = int_le-is o.reading q.reading bounds.0 in
-        let high = int_le-is q.reading end bounds.1 in
         record {
           of_cycle = eqb-true q.cycle o.cycle both.0 ∙ sym cycle_is;
-          from = low;
-          to = omega (arith, ints, high, ends);
+          from = int_le-is o.reading q.reading bounds.0;
+          to = omega (arith, ints, int_le-is q.reading end bounds.1, ends);
           there =
               contained (points_of front cm) q
               (elim (in_cases o q rest test.0) [ inl same ↦ subst (Contains (points_of front cm)) same here | inr later ↦ others q later ]);
@@ -247,10 +196,8 @@ pub good_member_point : (v : View) (h : Happening) (cm : DeviceId) (cycle : ℕ)
     → IsGoodMember v i
     → (q : Point) × IsIn q (m.first ∷ m.more) × IsGoodPoint v cm (time_of h) q
 good_member_point v h cm cycle members is e m i set good =
-    let at = founded_at v.scenario v.records h is.run.founded e.there in
     let p = point_of_member (m.first ∷ m.more) i (ap (λ (x : ℕ). bit_at x i) (sym m.members_are) ∙ set) in
-    let counted = m.each p.0 p.1 in
-    elim (point_is v h cm p.0 is at m.is_cm_one counted.there) [
+    elim (point_is v h cm p.0 is (founded_at v.scenario v.records h is.run.founded e.there) m.is_cm_one (m.each p.0 p.1).there) [
       | inl one ↦ (p.0, p.1, one)
       | inr bad ↦ absurd (not_both v good.0 bad.master good.2 bad.bad (one_member v good.0 bad.master i is good.1 (bad.is_member ∙ ap (λ (x : ℕ). Some x) p.2)))
     ]
@@ -282,8 +229,7 @@ three_have_good v h cm cycle members is e many =
           | inl good ↦ (first.master, set first (inl refl), (good.master, good.is_member, good.dispatch.good))
           | inr bad ↦ elim (point_is v h cm next is at one (each next (inr (inl refl))).there) [
             | inl good ↦ (next.master, set next (inr (inl refl)), (good.master, good.is_member, good.dispatch.good))
-            | inr other ↦
-                absurd (differ.0.0 (bad_is_one v next first is other bad))
+            | inr other ↦ absurd (differ.0.0 (bad_is_one v next first is other bad))
           ]
         ]
 
@@ -307,10 +253,9 @@ members_are_masters v h cm cycle members is e =
         → ((q : Point) → IsIn q (first ∷ more) → IsCounted v cm (founded_at v.scenario v.records h is.run.founded e.there).front cycle first.reading q)
         → Apart (first ∷ more) → is_cm v.scenario.network cm ≡ true → HasGood v members ⊎ (AreBad v members × (count_of members ≡ 1))
     by first more members_are each differ one =
-        let at = founded_at v.scenario v.records h is.run.founded e.there in
         let set : (q : Point) → IsIn q (first ∷ more) → IsMember q.master members = λ q i. ap (λ (x : ℕ). bit_at x q.master) members_are
         ∙ member_of_point (first ∷ more) q i in
-        elim (point_is v h cm first is at one (each first (inl refl)).there) [
+        elim (point_is v h cm first is (founded_at v.scenario v.records h is.run.founded e.there) one (each first (inl refl)).there) [
           | inl good ↦ inl (first.master, set first (inl refl), (good.master, good.is_member, good.dispatch.good))
           | inr bad ↦ rest more members_are each differ one bad set
         ]
@@ -320,21 +265,17 @@ members_are_masters v h cm cycle members is e =
             → Apart (first ∷ more) → is_cm v.scenario.network cm ≡ true → IsBadPoint v first → ((q : Point) → IsIn q (first ∷ more) → IsMember q.master members)
             → HasGood v members ⊎ (AreBad v members × (count_of members ≡ 1))
         rest [] members_are each differ one bad set =
-            let few = few_members (first ∷ []) in
             let same : count_of members ≡ count_of (record { 0 = members_of (first ∷ []) }) = ap (λ (x : ℕ). count_of (record { 0 = x })) members_are in
-            let some = one_at_least v members first.master (set first (inl refl)) in
             inr (
               λ i member. (let p = point_of_member (first ∷ []) i (ap (λ (x : ℕ). bit_at x i) (sym members_are) ∙ member) in alone bad p.0 i p.1 p.2),
-              omega (arith, few, same, some),
+              omega (arith, few_members (first ∷ []), same, one_at_least v members first.master (set first (inl refl))),
             )
           where
             alone : IsBadPoint v first → (q : Point) (i : ℕ) → IsIn q (first ∷ []) → q.master ≡ i → IsBadMember v i
             alone bad q i (inl same) e = (bad.master, bad.is_member ∙ ap (λ (x : ℕ). Some x) (ap (λ (x : Point). x.master) (sym same) ∙ e), bad.bad)
             alone bad q i (inr none) e = absurd none
         rest (next ∷ more) members_are each differ one bad set =
-            let at = founded_at v.scenario v.records h is.run.founded e.there in
-            elim (point_is v h cm next is at one (each next (inr (inl refl))).there) [
+            elim (point_is v h cm next is (founded_at v.scenario v.records h is.run.founded e.there) one (each next (inr (inl refl))).there) [
               | inl good ↦ inl (next.master, set next (inr (inl refl)), (good.master, good.is_member, good.dispatch.good))
-              | inr other ↦
-                  absurd (differ.0.0 (bad_is_one v next first is other bad))
+              | inr other ↦ absurd (differ.0.0 (bad_is_one v next first is other bad))
             ]

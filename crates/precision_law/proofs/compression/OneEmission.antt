@@ -1,53 +1,15 @@
 -- A compression master sends at most one frame of a cycle that has a good member.
-use Rattle.std.proofs.Common.{◌≡◌, ◌⊎◌, ℕ, ◌+◌, ◌-◌, ◌*◌, ◌<◌, ◌≤◌, ℤ, pos, ◌+ℤ◌, ◌-ℤ◌, ◌*ℤ◌, ◌≤ℤ◌, ◌<ℤ◌, true, List, [], ◌∷◌, ◌++◌, map, Some, inl, inr, refl, sym, ap, subst, ◌∙◌, append_assoc, arith}
-use Rattle.std.proofs.lemmas.Bool.{and_parts, cases_lt, eqb-true}
-use Rattle.std.proofs.lemmas.Int.{ints}
-use Rattle.std.specs.Int.{bit_at}
-use Rattle.std.specs.Prelude.{◌==◌, ◌&&◌, Contains, int_le}
-use Rattle.compression.proofs.Elements.{Ordered, in_cases, in_filter}
-use Rattle.compression.proofs.Firsts.{firsts-start}
-use Rattle.compression.proofs.Growth.{end_of-least}
-use Rattle.compression.proofs.Held.{held-start}
-use Rattle.compression.proofs.Times.{one_time_law}
-use Rattle.compression.proofs.Together.{one_cluster}
-use Rattle.compression.specs.Clusters.{AreClusters, Cluster, Point, cluster_of, end_of, firsts, members_of, of_cycle_within}
-use Rattle.compression.specs.Emission.{emission}
-use Rattle.compression.specs.Middle.{LiesWithin, middle_of, relative}
-use Rattle.compression.specs.OneCluster.{AreInOrder, IsKept, LiesIn}
-use Rattle.compression.specs.declared.compressed.Compressed.{Compressed}
-use Rattle.net_plan.specs.declared.ids.DeviceId.{DeviceId}
-use Rattle.pcf_values.specs.declared.members.Members.{Members}
-use Rattle.precision_law.proofs.block.Hulls.{int_le-is}
-use Rattle.precision_law.proofs.compression.Counted.{all_by, ascending_from, contains, firsts_apart, firsts_in, firsts_ordered, has_one, middle_near, opened_by, ordered_filter, Apart}
+use Rattle.precision_law.proofs.words.Std.{◌&&◌, ◌*ℤ◌, ◌*◌, ◌++◌, ◌+ℤ◌, ◌+◌, ◌-ℤ◌, ◌-◌, ◌<ℤ◌, ◌<◌, ◌==◌, ◌∙◌, ◌∷◌, ◌≡◌, ◌≤ℤ◌, ◌≤◌, ◌⊎◌, Contains, List, Some, [], and_parts, ap, append_assoc, arith, bit_at, cases_lt, eqb-true, inl, inr, int_le, ints, map, pos, refl, subst, sym, true, ℕ, ℤ}
+use Rattle.precision_law.proofs.words.Plans.{AreClusters, AreInOrder, Cluster, Compressed, DeviceId, IsKept, LiesIn, LiesWithin, Members, Ordered, Point, Units, amount, emission, end_of, end_of-least, firsts, firsts-start, held-start, in_cases, middle_of, of_cycle_within, one_cluster, one_time_law, relative}
+use Rattle.precision_law.proofs.words.Runs.{Happening, IsBefore, IsCaused, IsDue, IsFounded, IsFoundedAt, IsIn, NoteBody, behind_first, chain, founded_at, front_founded, in_left, in_parts, in_right, is_cm, key, members_in, never_self, observation_window, parted, place_of, points_of, rank, same_some, time_of}
+use Rattle.precision_law.proofs.words.Laws.{EmissionIsOne, HasGood, HaveRoom, Hull, IsEmission, IsGoodMember, IsInHull, IsNarrowIfThere, IsSteady, IsTidyBefore, IsView, Sizes, View}
+use Rattle.precision_law.proofs.words.Clocks.{Apart, all_by, ascending_from, before_of, contains, firsts_apart, firsts_in, firsts_ordered, has_member, has_one, int_le-is, member_has, middle_near, no_later, one_member, opened_by, ordered_filter, room, sizes_are, steady}
+use Rattle.compression.proofs.Elements.{in_filter}
+use Rattle.run_law.specs.declared.note.NoteBody.TheVariants as notes
 use Rattle.precision_law.proofs.compression.Emitted.{contained, emissions_are_sharp, gives_point, middle_late, point_record}
 use Rattle.precision_law.proofs.compression.Fronts.{cluster_stays}
 use Rattle.precision_law.proofs.compression.Made.{IsBadPoint, IsGoodPoint, bad_is_one, ends_soon, front_point, not_both, point_is, point_not_both}
-use Rattle.precision_law.proofs.compression.Origins.{member_has}
 use Rattle.precision_law.proofs.compression.Stretches.{IsGivenIn, later_point, points_go_on, points_ordered, read_at}
-use Rattle.precision_law.proofs.faults.Broken.{has_member, one_member}
-use Rattle.precision_law.proofs.records.Points.{before_of}
-use Rattle.precision_law.proofs.records.Views.{room, steady}
-use Rattle.precision_law.specs.Bases.{HasGood, IsEmission, IsGoodMember}
-use Rattle.precision_law.specs.CompressionLaws.{EmissionIsOne, IsNarrowIfThere}
-use Rattle.precision_law.specs.Hulls.{Hull, IsInHull, IsTidyBefore, hull_of}
-use Rattle.precision_law.specs.Readings.{IsSteady}
-use Rattle.precision_law.specs.Sizes.{HaveRoom, Sizes}
-use Rattle.precision_law.specs.Views.{IsView, View}
-use Rattle.run_law.proofs.law.FirstPlaces.{IsFoundedAt, founded_at, front_founded}
-use Rattle.run_law.proofs.runs.Lacking.{behind_first}
-use Rattle.run_law.proofs.runs.Places.{in_left, in_parts, in_right, never_self, parted, chain}
-use Rattle.run_law.proofs.runs.SameSteps.{same_some}
-use Rattle.run_law.specs.control.Collections.{points_of, observation_window}
-use Rattle.run_law.specs.declared.note.NoteBody.TheVariants as notes
-use Rattle.run_law.specs.declared.note.NoteBody.{NoteBody}
-use Rattle.run_law.specs.records.Happenings.{Happening, time_of}
-use Rattle.run_law.specs.records.Order.{IsBefore, IsIn}
-use Rattle.run_law.specs.records.Ranks.{key, members_in, place_of, rank}
-use Rattle.run_law.specs.runs.DueRecords.{IsCaused, IsDue}
-use Rattle.run_law.specs.runs.Runs.{IsFounded}
-use Rattle.run_law.specs.scenario.Devices.{is_cm}
-use Rattle.tte_units.specs.Amount.{amount}
-use Rattle.tte_units.specs.declared.units.Units.{Units}
 
 -- ---- good points of one cycle are near
 
@@ -64,8 +26,7 @@ near_numbers n reading least greatest p q w x a b space steady narrow low high l
       | inr le ↦ (let r = steady.never_falls a b le in omega (arith, ints, r, up, down, errors, reach, clock))
       | inl lt ↦
           let within : a ≤ b + (n.spread + 2 * n.path) = omega (arith, ints, narrow, low, high, late, early) in
-          let r = steady.fast b a (omega (arith, lt)) (omega (arith, within, errors, reach, clock, cycles)) in
-          omega (arith, ints, r, within, up, down, errors, reach, clock)
+          omega (arith, ints, steady.fast b a (omega (arith, lt)) (omega (arith, within, errors, reach, clock, cycles)), within, up, down, errors, reach, clock)
     ]
 
 -- what is known of the cycle
@@ -77,12 +38,9 @@ pub record IsKnown (v : View) (t cycle : ℕ) : Type 0 where
 pub good_near : (v : View) (t cycle : ℕ) (cm : DeviceId) (by late : ℕ) (p q : Point) → IsKnown v t cycle → by < t → late < t → p.cycle ≡ cycle → q.cycle ≡ cycle
     → IsGoodPoint v cm by p → IsGoodPoint v cm late q → p.reading ≤ℤ (q.reading +ℤ pos v.sizes.precision)
 good_near v t cycle cm by late p q k lt less of_p of_q a b =
-    let w : IsInHull v cycle (time_of a.first) = subst (λ (c : ℕ). IsInHull v c (time_of a.first)) of_p
-    (k.tidy a.first a.master p.cycle a.dispatch (let e = a.before in omega (arith, e, lt))) in
-    let x : IsInHull v cycle (time_of b.first) = subst (λ (c : ℕ). IsInHull v c (time_of b.first)) of_q
-    (k.tidy b.first b.master q.cycle b.dispatch (let e = b.before in omega (arith, e, less))) in
-    let same : x.hull ≡ w.hull = same_some (hull_of v cycle) x.hull w.hull x.is w.is in
-    let low : w.hull.least ≤ℤ pos (time_of b.first) = subst (λ (y : Hull). y.least ≤ℤ pos (time_of b.first)) same x.least in
+    let w = subst (λ (c : ℕ). IsInHull v c (time_of a.first)) of_p (k.tidy a.first a.master p.cycle a.dispatch (omega (arith, a.before, lt))) in
+    let x = subst (λ (c : ℕ). IsInHull v c (time_of b.first)) of_q (k.tidy b.first b.master q.cycle b.dispatch (omega (arith, b.before, less))) in
+    let low : w.hull.least ≤ℤ pos (time_of b.first) = subst (λ (y : Hull). y.least ≤ℤ pos (time_of b.first)) (same_some _ _ _ x.is w.is) x.least in
     near_numbers v.sizes (v.scenario.reading cm) w.hull.least w.hull.greatest p.reading q.reading (time_of a.first) (time_of b.first) a.ripe b.ripe
     (room v k.is) (steady v k.is cm) (k.narrow w.hull w.is) low w.most a.in_time.not_late b.in_time.not_early a.least b.most
 
@@ -158,33 +116,28 @@ front_witness v t cycle cm by front rest clusters cluster f m bit good =
     let least = end_of-least ow o (o ∷ c.rest) wide in
     let soon = ends_soon ow o (o ∷ c.rest) wide in
     let qs = firsts (of_cycle_within o.cycle o.reading end (o ∷ c.rest)) in
-    let held = held-start o end c.rest (omega (arith, ints, least, wide)) in
     let start = firsts-start o (of_cycle_within o.cycle o.reading end c.rest) in
-    let counted : qs ≡ o ∷ start.0 = ap firsts held ∙ start.1 in
+    let counted : qs ≡ o ∷ start.0 = ap firsts (held-start o end c.rest (omega (arith, ints, least, wide))) ∙ start.1 in
     let each : (q : Point) → IsIn q (o ∷ start.0) → IsCountedIn ow o c.rest q = λ q i. counted_in ow o c.rest q (subst (IsIn q) (sym counted) i) in
     let in_points : (q : Point) → IsIn q (o ∷ start.0)
     → IsIn q ps = λ q i. contained ps q
     (elim (in_cases o q c.rest (each q i).there) [ inl same ↦ subst (Contains ps) same c.there | inr later ↦ c.others q later ]) in
     let cycle_is : o.cycle ≡ cycle = ap (λ (x : Cluster). x.cycle) (sym c.is) ∙ f.cycle_is in
-    let set : bit_at (members_of qs) m ≡ 1 = subst (λ (x : Cluster). bit_at x.members m ≡ 1) c.is bit in
-    let found = has_one qs m (member_has qs m set) in
+    let found = has_one qs m (member_has qs m (subst (λ (x : Cluster). bit_at x.members m ≡ 1) c.is bit)) in
     let x = found.0 in
     let i : IsIn x (o ∷ start.0) = subst (IsIn x) counted found.1 in
     let is_good : IsGoodPoint v cm by x = elim (point x (in_points x i)) [
       | inl one ↦ one
-      | inr bad ↦ absurd (not_both v good.0 bad.master good.2 bad.bad
-          (one_member v good.0 bad.master m k.is good.1 (bad.is_member ∙ ap (λ (m : ℕ). Some m) found.2)))
+      | inr bad ↦ absurd (not_both v _ _ good.2 bad.bad (one_member v good.0 bad.master m k.is good.1 (bad.is_member ∙ ap (λ (m : ℕ). Some m) found.2)))
     ] in
     let of_cycle : (q : Point) → IsIn q (o ∷ start.0) → q.cycle ≡ cycle = λ q j. (each q j).of_cycle ∙ cycle_is in
-    let size : v.sizes.precision ≡ amount n.precision = ap (λ (z : Sizes). z.precision) k.is.sizes in
-    let wait : v.sizes.compression ≡ 2 * amount n.precision + amount n.calc = ap (λ (z : Sizes). z.compression) k.is.sizes in
     let lies : (q : Point) → IsIn q (o ∷ start.0) → LiesWithin (x.reading -ℤ ow) (x.reading +ℤ ow) q.reading
     ⊎ IsBadPoint v q = λ q j. elim (point q (in_points q j)) [
       | inr bad ↦ inr bad
       | inl one ↦
           let above = good_near v t cycle cm by by q x k f.early f.early (of_cycle q j) (of_cycle x i) one is_good in
           let below = good_near v t cycle cm by by x q k f.early f.early (of_cycle x i) (of_cycle q j) is_good one in
-          inl (omega (arith, ints, below, size), omega (arith, ints, above, size))
+          inl (omega (arith, ints, below, sizes_are v k.is), omega (arith, ints, above, sizes_are v k.is))
     ] in
     let near = middle_near ow (IsBadPoint v) x o start.0 wide
     (subst Ordered counted
@@ -193,18 +146,14 @@ front_witness v t cycle cm by front rest clusters cluster f m bit good =
     (subst Apart counted (firsts_apart (of_cycle_within o.cycle o.reading end (o ∷ c.rest)))) i lies
     (λ p q a d bad also. bad_is_one v p q k.is bad also) (λ q j. (let to = (each q j).to in omega (arith, ints, to, soon))) in
     let at : ℤ = emission ow (pos (amount n.calc)) cluster in
-    let sent : at ≡ emission ow (pos (amount n.calc)) (cluster_of ow o (o ∷ c.rest)) = ap (emission ow (pos (amount n.calc))) c.is in
-    let points : middle_of (relative (map (λ q. q.reading) qs)) ≡ middle_of (relative (map (λ q. q.reading) (o ∷ start.0))) =
-    ap (λ (zs : List Point). middle_of (relative (map (λ q. q.reading) zs))) counted in
-    let whole : at ≡ (((o.reading +ℤ (pos 2 *ℤ ow)) +ℤ pos (amount n.calc)) +ℤ middle_of (relative (map (λ q. q.reading) (o ∷ start.0)))) = sent
-    ∙ ap (λ (z : ℤ). ((o.reading +ℤ (pos 2 *ℤ ow)) +ℤ pos (amount n.calc)) +ℤ z) points in
-    let late : pos 0 ≤ℤ middle_of (relative (map (λ q. q.reading) (o ∷ start.0))) = subst (λ (z : ℤ). pos 0 ≤ℤ z) points
-    (middle_late ow o c.rest (omega (arith, ints, least, wide))) in
-    let calc : 1 ≤ amount n.calc = (let m = (room v k.is).compression_least in omega (arith, m, wait, size)) in
+    let points = ap (λ (zs : List Point). middle_of (relative (map (λ q. q.reading) zs))) counted in
+    let whole = (ap (emission ow (pos (amount n.calc))) c.is) ∙ ap (λ (z : ℤ). ((o.reading +ℤ (pos 2 *ℤ ow)) +ℤ pos (amount n.calc)) +ℤ z) points in
+    let late = subst (λ (z : ℤ). pos 0 ≤ℤ z) points (middle_late ow o c.rest (omega (arith, ints, least, wide))) in
+    let calc : 1 ≤ amount n.calc = (let m = (room v k.is).compression_least in omega (arith, m, sizes_are v k.is)) in
     let given = point_record cm front o (in_points o (inl refl)) in
     let begun = (read_at v cm given.0 o k.is (subst (IsIn given.0) (sym f.whole) (in_left given.0 front rest given.1)) given.2).not_negative in
     let numbers = sent_numbers (amount n.precision) v.sizes.compression (amount n.calc) at o.reading (middle_of (relative (map (λ q. q.reading) (o ∷ start.0))))
-    x.reading end calc wait whole late begun soon near in
+    x.reading end calc (sizes_are v k.is).compression whole late begun soon near in
     let here = each x i in (
       x,
       record {
@@ -213,14 +162,13 @@ front_witness v t cycle cm by front rest clusters cluster f m bit good =
         of_cluster = here.of_cycle ∙ sym (ap (λ (y : Cluster). y.cycle) c.is);
         lies = record {
           low = subst (λ (y : Cluster). y.opened ≤ℤ x.reading) (sym c.is) here.from;
-          high = subst (λ (y : Cluster). x.reading ≤ℤ y.end) (sym c.is)
-              here.to;
+          high = subst (λ (y : Cluster). x.reading ≤ℤ y.end) (sym c.is) here.to;
         };
         good = is_good;
-        near = subst (λ (z : ℕ). (x.reading +ℤ pos z) <ℤ at) (sym size) numbers.0;
+        near = subst (λ (z : ℕ). (x.reading +ℤ pos z) <ℤ at) (sym (sizes_are v k.is).precision) numbers.0;
         ends = subst (λ (y : Cluster). y.end <ℤ at) (sym c.is) numbers.1;
         begun = numbers.2;
-        soon = subst (λ (z : ℕ). at ≤ℤ (x.reading +ℤ pos (z + v.sizes.compression))) (sym size) numbers.3;
+        soon = subst (λ (z : ℕ). at ≤ℤ (x.reading +ℤ pos (z + v.sizes.compression))) (sym (sizes_are v k.is).precision) numbers.3;
       },
     )
 
@@ -239,9 +187,7 @@ record IsSentBy (v : View) (h : Happening) (cm : DeviceId) (cycle : ℕ) (member
 sent_by : (v : View) (h : Happening) (cm : DeviceId) (cycle : ℕ) (members : Members) (e : IsEmission v h cm cycle members)
     (at : IsFoundedAt v.scenario v.records h) → IsSentBy v h cm cycle members e.opened e.at at.front
 sent_by v h cm cycle members e at =
-    let s = v.scenario in
-    let emits : IsCaused s at.front h.note.time (notes.Compressed cm e.opened e.at cycle members e.verdict) = subst (IsCaused s at.front h.note.time) e.is
-    at.due.cause in
+    let emits = subst (IsCaused v.scenario at.front h.note.time) e.is at.due.cause in
     record {
       clusters = emits.clusters;
       are = emits.are;
@@ -258,7 +204,6 @@ witness : (v : View) (t : ℕ) (h : Happening) (cm : DeviceId) (cycle : ℕ) (me
     (at : IsFoundedAt v.scenario v.records h) → time_of h < t → HasGood v members
     → (b : IsSentBy v h cm cycle members e.opened e.at at.front) → (x : Point) × IsWitness v cm (time_of h) cycle e.at.0 (points_of at.front cm) b.cluster x
 witness v t h cm cycle members k e at early good b =
-    let bit : bit_at b.cluster.members good.0 ≡ 1 = subst (λ (m : Members). bit_at m.0 good.0 ≡ 1) b.members_is good.1 in
     let found = front_witness v t cycle cm (time_of h) at.front (h ∷ at.rest) b.clusters b.cluster
     (record {
       known = k;
@@ -269,7 +214,7 @@ witness v t h cm cycle members k e at early good b =
       are = b.are;
       there = b.there;
       cycle_is = sym b.cycle_is;
-    }) good.0 bit good.2 in
+    }) good.0 (subst (λ (m : Members). bit_at m.0 good.0 ≡ 1) b.members_is good.1) good.2 in
     (found.0, subst (λ (z : ℤ). IsWitness v cm (time_of h) cycle z (points_of at.front cm) b.cluster found.0) (sym b.at_is) found.1)
 
 -- ---- the number of the broken master
@@ -295,11 +240,7 @@ pub bad_number : (v : View) (cm : DeviceId) (by : ℕ) (qs : List Point) → IsV
 bad_number v cm by qs is each = elim (bad_or_none v cm by qs each) [
   | inl bad ↦ (
     bad.0.master,
-    record {
-      of_bad = λ q i also. bad_is_one v q bad.0 is also bad.1;
-      of_good = λ q i good same. point_not_both v cm by q bad.0 is good
-          bad.1 same;
-    },
+    record { of_bad = λ q i also. bad_is_one v q bad.0 is also bad.1; of_good = λ q i good same. point_not_both v cm by q bad.0 is good bad.1 same },
   )
   | inr all ↦ (
     32,
@@ -326,12 +267,11 @@ one_of_two v t g cm cycle k at early one ds are c d in_c in_d x y ix iy of_x of_
     let up : AreInOrder ps = ascending_from ps (points_ordered v cm at.front (g ∷ at.rest) k.is at.whole) in
     let each : (q : Point) → IsIn q ps → IsGoodPoint v cm (time_of g) q ⊎ IsBadPoint v q = λ q i. point_is v g cm q k.is at one i in
     let b = bad_number v cm (time_of g) ps k.is each in
-    let size : v.sizes.precision ≡ amount v.scenario.network.precision = ap (λ (z : Sizes). z.precision) k.is.sizes in
+    let sizes = sizes_are v k.is in
     let kept_good : (q : Point) → IsKept ps ds b.0 cycle q → IsGoodPoint v cm (time_of g) q = λ q kept. elim (each q (contained ps q kept.there))
     [ inl good ↦ good | inr bad ↦ absurd (kept.other (b.1.of_bad q (contained ps q kept.there) bad)) ] in
     let near : (p q : Point) → IsKept ps ds b.0 cycle p → IsKept ps ds b.0 cycle q → p.reading ≤ℤ (q.reading +ℤ ow) = λ p q kp kq.
-    (let r = good_near v t cycle cm (time_of g) (time_of g) p q k early early kp.same kq.same (kept_good p kp) (kept_good q kq) in omega (arith, ints, r, size))
-    in
+    (let r = good_near v t cycle cm (time_of g) (time_of g) p q k early early kp.same kq.same (kept_good p kp) (kept_good q kq) in omega (arith, ints)) in
     let time = one_time_law ow ps ds wide up are in
     let kept : (q : Point) (e : Cluster) → IsIn q ps → q.cycle ≡ cycle → q.cycle ≡ e.cycle → Contains ds e → LiesIn e q → (q.master ≡ b.0 → ⊥)
     → IsKept ps ds b.0 cycle q = λ q e i of_q of_e in_e lies_q other.
@@ -341,10 +281,8 @@ one_of_two v t g cm cycle k at early one ds are c d in_c in_d x y ix iy of_x of_
       same = of_q;
       kept = λ dropped.
           (let u = time q (contains ps q i) in dropped.2 (of_e ∙ ap (λ (z : Cluster). z.cycle) (u.3 e in_e lies_q ∙ sym (u.3 dropped.0 dropped.1 dropped.3))));
-    }
-    in
-    let other_x : x.master ≡ b.0 → ⊥ = elim (each x ix) [ inl good ↦ b.1.of_good x ix good | inr bad ↦ absurd (point_not_both v cm late x x k.is gx bad refl) ]
-    in
+    } in
+    let other_x : x.master ≡ b.0 → ⊥ = elim (each x ix) [ inl good ↦ b.1.of_good x ix good | inr bad ↦ absurd (point_not_both v cm _ x x k.is gx bad refl) ] in
     let kx = kept x c ix of_x of_c in_c lies_x other_x in
     let ky = kept y d iy of_y of_d in_d lies_y (b.1.of_good y iy gy) in
     let z = one_cluster ow ps ds b.0 cycle wide up are near x kx in
@@ -360,21 +298,15 @@ later_time t u xs ys (inl lt) = lt
 later_time t u xs ys (inr (same, inl lt)) = absurd (omega (arith, lt))
 later_time t u xs ys (inr (same, inr (e, more))) = absurd (omega (arith, e))
 
-no_later_time : (t u : ℕ) (xs ys : List ℕ) → IsBefore (t ∷ xs) (u ∷ ys) → t ≤ u
-no_later_time t u xs ys (inl lt) = omega (arith, lt)
-no_later_time t u xs ys (inr (same, more)) = omega (arith, same)
-
 -- of two emissions one is not behind the other
 not_behind : (v : View) (t : ℕ) (h g : Happening) (cm : DeviceId) (cycle : ℕ) (members others : Members) (k : IsKnown v t cycle)
     → IsEmission v h cm cycle members → IsEmission v g cm cycle others → time_of g < t → HasGood v members → HasGood v others
     → (at : IsFoundedAt v.scenario v.records g) → (front mid : List Happening) → at.front ≡ front ++ h ∷ mid → ⊥
 not_behind v t h g cm cycle members others k e f early good also at front mid is_front =
     let s = v.scenario in
-    let n = s.network in
-    let ow = observation_window n in
+    let ow = observation_window s.network in
     let wide : pos 0 ≤ℤ ow = omega (arith, ints) in
-    let whole : v.records ≡ front ++ h ∷ (mid ++ g ∷ at.rest) = at.whole ∙ ap (λ (hs : List Happening). hs ++ g ∷ at.rest) is_front
-    ∙ append_assoc front (h ∷ mid) (g ∷ at.rest) in
+    let whole = at.whole ∙ ap (λ (hs : List Happening). hs ++ g ∷ at.rest) is_front ∙ append_assoc front (h ∷ mid) (g ∷ at.rest) in
     let founded : IsFounded place_of (IsDue s) (front ++ h ∷ (mid ++ g ∷ at.rest)) = subst (IsFounded place_of (IsDue s)) whole k.is.run.founded in
     let at_h : IsFoundedAt s v.records h = record {
       front = front;
@@ -383,9 +315,8 @@ not_behind v t h g cm cycle members others k e f early good also at front mid is
       due = (founded front (mid ++ g ∷ at.rest) h refl).1;
       founded = front_founded place_of (IsDue s) front (h ∷ (mid ++ g ∷ at.rest)) founded;
     } in
-    let before : IsBefore (place_of h) (place_of g) = behind_first place_of (IsDue s) front (mid ++ g ∷ at.rest) h g founded
-    (in_right g mid (g ∷ at.rest) (inl refl)) in
-    let order = no_later_time (time_of h) (time_of g) (rank h.note.body ∷ key (members_in h) h.note.body) (rank g.note.body ∷ key (members_in g) g.note.body)
+    let before = behind_first place_of (IsDue s) front (mid ++ g ∷ at.rest) h g founded (in_right g mid (g ∷ at.rest) (inl refl)) in
+    let order = no_later (time_of h) (time_of g) (rank h.note.body ∷ key (members_in h) h.note.body) (rank g.note.body ∷ key (members_in g) g.note.body)
     before in
     let early_h : time_of h < t = omega (arith, order, early) in
     let b = sent_by v h cm cycle members e at_h in
@@ -402,33 +333,27 @@ not_behind v t h g cm cycle members others k e f early good also at front mid is
       | inr i ↦
           let in_rest : IsIn given.0 (mid ++ g ∷ at.rest) = in_left given.0 mid (g ∷ at.rest) i in
           let behind = behind_first place_of (IsDue s) front (mid ++ g ∷ at.rest) h given.0 founded in_rest in
-          let moved : IsBefore (time_of h ∷ 4 ∷ key (members_in h) (notes.Compressed cm e.opened e.at cycle members e.verdict)) (place_of given.0) = subst
-          (λ (z : NoteBody). IsBefore (time_of h ∷ rank z ∷ key (members_in h) z) (place_of given.0)) e.is behind in
-          let placed : IsBefore (time_of h ∷ 4 ∷ key (members_in h) (notes.Compressed cm e.opened e.at cycle members e.verdict))
-          (time_of given.0 ∷ 3 ∷ key (members_in given.0) (notes.Permanent cm point.link point.cause point.point point.verdict)) = subst
-          (λ (z : NoteBody). IsBefore (time_of h ∷ 4 ∷ key (members_in h) (notes.Compressed cm e.opened e.at cycle members e.verdict))
+          let moved = subst (λ (z : NoteBody). IsBefore (time_of h ∷ rank z ∷ key (members_in h) z) (place_of given.0)) e.is behind in
+          let placed = subst (λ (z : NoteBody). IsBefore (time_of h ∷ 4 ∷ key (members_in h) (notes.Compressed cm e.opened e.at cycle members e.verdict))
           (time_of given.0 ∷ rank z ∷ key (members_in given.0) z)) point.is moved in
           let lt = later_time (time_of h) (time_of given.0) (key (members_in h) (notes.Compressed cm e.opened e.at cycle members e.verdict))
           (key (members_in given.0) (notes.Permanent cm point.link point.cause point.point point.verdict)) placed in
           let in_all : IsIn given.0 v.records = subst (IsIn given.0) (sym whole) (in_right given.0 front (h ∷ (mid ++ g ∷ at.rest)) (inr in_rest)) in
-          let above = later_point v cm p.reading (time_of h) (time_of given.0) k.is (read_at v cm given.0 p k.is in_all point) lt in
-          (let reached = sharp.least in omega (arith, ints, above, reached))
+          (omega (arith, ints, later_point v cm p.reading (time_of h) (time_of given.0) k.is (read_at v cm given.0 p k.is in_all point) lt, sharp.least))
     ] in
     elim (points_go_on cm front (h ∷ mid)) [
       | inr anew ↦
-          let above = late y.0 (anew y.0 (subst (λ (hs : List Happening). IsIn y.0 (points_of hs cm)) is_front y.1.there)) in
           let near = good_near v t cycle cm (time_of g) (time_of h) y.0 x.0 k early early_h y.1.of_cycle x.1.of_cycle y.1.good x.1.good in
-          (let below = x.1.near in omega (arith, ints, above, near, below))
+          (omega (arith, ints, late y.0 (anew y.0 (subst (λ (hs : List Happening). IsIn y.0 (points_of hs cm)) is_front y.1.there)), near, x.1.near))
       | inl adds ↦
           let all : points_of at.front cm ≡ points_of front cm ++ adds.more = ap (λ (hs : List Happening). points_of hs cm) is_front ∙ adds.whole in
           let past = all_by (λ (q : Point). b.cluster.end <ℤ q.reading) adds.more
           (λ q i. (let above = late q (adds.given q i) in let ends = x.1.ends in omega (arith, ints, above, ends))) in
-          let stays = cluster_stays ow (points_of front cm) adds.more b.clusters c.clusters b.cluster wide b.are
-          (subst (λ (ps : List Point). AreClusters ow ps c.clusters) all c.are) b.there past in
+          let stays = cluster_stays _ _ adds.more _ _ b.cluster wide b.are (subst (λ (ps : List Point). AreClusters ow ps c.clusters) all c.are) b.there past in
           let ix : IsIn x.0 (points_of at.front cm) = subst (IsIn x.0) (sym all) (in_left x.0 (points_of front cm) adds.more x.1.there) in
           let one = one_of_two v t g cm cycle k at early c.one c.clusters c.are b.cluster c.cluster stays c.there x.0 y.0 ix y.1.there x.1.of_cycle y.1.of_cycle
           x.1.of_cluster y.1.of_cluster x.1.lies y.1.lies (time_of h) early_h x.1.good y.1.good in
-          let at_same : e.at.0 ≡ f.at.0 = b.at_is ∙ ap (emission ow (pos (amount n.calc))) one ∙ sym c.at_is in
+          let at_same : e.at.0 ≡ f.at.0 = b.at_is ∙ ap (emission ow (pos (amount s.network.calc))) one ∙ sym c.at_is in
           let same_time : time_of h ≡ time_of g = elim (cases_lt (time_of h) (time_of g)) [
             | inr ge ↦ omega (arith, ge, order)
             | inl lt ↦
@@ -451,11 +376,10 @@ not_behind v t h g cm cycle members others k e f early good also at front mid is
     same_place c d one time opened opened' at_same of_h of_g =
         let by_opened : e.opened ≡ f.opened = opened ∙ ap (λ (z : Cluster). record { 0 = z.opened }) one ∙ sym opened' in
         let by_members : members ≡ others = of_h ∙ ap (λ (z : Cluster). record { 0 = z.members }) one ∙ sym of_g in
-        let by_at : e.at ≡ f.at = same_units e.at f.at at_same in
         ap (λ (z : NoteBody). time_of h ∷ rank z ∷ key (members_in h) z) e.is
         ∙ ap (λ (z : ℕ). z ∷ 4 ∷ key 0 (notes.Compressed cm e.opened e.at cycle members e.verdict)) time
         ∙ ap (λ (z : Units). time_of g ∷ 4 ∷ key 0 (notes.Compressed cm z e.at cycle members e.verdict)) by_opened
-        ∙ ap (λ (z : Units). time_of g ∷ 4 ∷ key 0 (notes.Compressed cm f.opened z cycle members e.verdict)) by_at
+        ∙ ap (λ (z : Units). time_of g ∷ 4 ∷ key 0 (notes.Compressed cm f.opened z cycle members e.verdict)) (same_units e.at f.at at_same)
         ∙ ap (λ (z : Members). time_of g ∷ 4 ∷ key 0 (notes.Compressed cm f.opened f.at cycle z e.verdict)) by_members
         ∙ sym (ap (λ (z : NoteBody). time_of g ∷ rank z ∷ key (members_in g) z) f.is)
 

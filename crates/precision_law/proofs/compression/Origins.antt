@@ -1,15 +1,6 @@
 -- Where the members of compressed frames come from.
-use Rattle.std.proofs.Common.{◌≡◌, ℕ, zero, suc, ◌+◌, ◌*◌, ◌/◌, ◌%◌, ◌^◌, ◌<◌, ◌≤◌, ℤ, true, List, [], ◌∷◌, fold, length, max, bit_or, count_ones, inl, inr, refl, ap, ◌∙◌, arith}
-use Rattle.std.proofs.Math.Nat.{pow-suc}
-use Rattle.std.proofs.lemmas.Bool.{cases_Bool}
-use Rattle.std.proofs.lemmas.Nat.{and_le_r, ones_le_self, or_disjoint, or_shr, pow_pos}
-use Rattle.std.proofs.lemmas.Nat.Bits.{and_pow, bit_at_lowest, bit_at_or}
-use Rattle.std.specs.Int.{bit_at}
-use Rattle.std.specs.Int.Count.{ones_step}
-use Rattle.std.specs.Prelude.{◌==◌, ◌&&◌, int_le}
-use Rattle.compression.proofs.Elements.{Ordered}
-use Rattle.compression.proofs.Firsts.{members_of-clear, members_of-set}
-use Rattle.compression.specs.Clusters.{Point, has_master, members_of, of_cycle_within}
+use Rattle.precision_law.proofs.words.Std.{◌%◌, ◌&&◌, ◌*◌, ◌+◌, ◌/◌, ◌<◌, ◌==◌, ◌^◌, ◌∙◌, ◌∷◌, ◌≡◌, ◌≤◌, List, [], and_le_r, and_pow, ap, arith, bit_at, bit_at_lowest, bit_at_or, bit_or, cases_Bool, count_ones, fold, inl, inr, int_le, length, max, ones_le_self, ones_step, or_disjoint, or_shr, pow-suc, pow_pos, refl, suc, true, zero, ℕ, ℤ}
+use Rattle.precision_law.proofs.words.Plans.{Ordered, Point, has_master, members_of, members_of-clear, members_of-set, of_cycle_within}
 use Rattle.precision_law.proofs.compression.Counted.{ordered_filter}
 
 -- ---- how many
@@ -25,9 +16,7 @@ or_parity a b = omega (arith, bit_at_or a b 0, bit_at_lowest (bit_or a b), bit_a
 
 -- one more bit makes at most one more
 ones_or : (k n : ℕ) → count_ones (bit_or n (2 ^ k)) ≤ count_ones n + 1
-ones_or zero n =
-    let half : bit_or n 1 / 2 ≡ n / 2 = or_half n 1 ∙ or_zero (n / 2) in
-    omega (arith, ones_step (bit_or n 1), ones_step n, ap count_ones half, or_parity n 1)
+ones_or zero n = omega (arith, ones_step (bit_or n 1), ones_step n, ap count_ones (or_half n 1 ∙ or_zero (n / 2)), or_parity n 1)
 ones_or (suc k) n =
     let power : 2 ^ suc k ≡ 2 * 2 ^ k = omega (arith, pow-suc 2 k) in
     let half : bit_or n (2 ^ suc k) / 2 ≡ bit_or (n / 2) (2 ^ k) = or_half n (2 ^ suc k) ∙ ap (bit_or (n / 2)) (omega (arith, power)) in

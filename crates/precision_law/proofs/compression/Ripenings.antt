@@ -1,68 +1,18 @@
 -- What is permanent at a compression master: a master's frame, in the order of the points.
-use Rattle.std.proofs.Common.{◌≡◌, ℕ, ◌^◌, ◌≤◌, ℤ, pos, ◌≤ℤ◌, true, false, List, ◌∷◌, Option, Some, None, inl, inr, refl, sym, ap, subst, ◌∙◌, arith}
-use Rattle.std.proofs.lemmas.Bool.{cases_eq}
-use Rattle.std.proofs.lemmas.Int.{ints}
-use Rattle.std.proofs.lemmas.Nat.{pow_below, pow_pos}
-use Rattle.std.proofs.lemmas.Nat.Bits.{bit_at-pow_other, bit_at-trailing_zeros}
-use Rattle.std.specs.Int.{trailing_zeros, w32}
-use Rattle.std.specs.Option.{option_map_or}
-use Rattle.std.specs.Prelude.{option_and_then}
-use Rattle.net_plan.proofs.Trees.{opened}
-use Rattle.net_plan.specs.Places.{device_at, is_end_system, link_at}
-use Rattle.net_plan.specs.Rules.{IsChildOf}
-use Rattle.net_plan.specs.declared.ids.DeviceId.{DeviceId}
-use Rattle.net_plan.specs.declared.ids.LinkId.{LinkId}
-use Rattle.net_plan.specs.declared.tables.Device.{Device}
-use Rattle.net_plan.specs.declared.tables.Link.{Link}
-use Rattle.net_plan.specs.declared.tables.Role.TheVariants.{Master, Client, Cm, Relay}
-use Rattle.net_plan.specs.declared.tables.Role.{Role}
-use Rattle.net_plan.specs.declared.tables.Way.TheVariants.{Up, Down}
-use Rattle.net_plan.specs.declared.tables.Way.{Way}
-use Rattle.pcf_values.specs.declared.pcf.Pcf.{Pcf}
-use Rattle.precision_law.proofs.clocks.Readings.{permanence_is_sharp}
-use Rattle.precision_law.proofs.compression.Emitted.{arrival_young}
-use Rattle.precision_law.proofs.hearing.Timely.{amount_pos, arrived_clock}
-use Rattle.precision_law.proofs.records.Views.{steady}
-use Rattle.precision_law.proofs.trips.Descents.{receiver_down, receiver_up}
-use Rattle.precision_law.specs.Readings.{IsRipe}
-use Rattle.precision_law.specs.Sizes.{Sizes}
-use Rattle.precision_law.specs.Trips.{IsPermanentAt, clock_in}
-use Rattle.precision_law.specs.Views.{IsView, View}
-use Rattle.run_law.proofs.law.FirstPlaces.{founded_at, numbered_in}
-use Rattle.run_law.proofs.runs.Places.{in_left}
-use Rattle.run_law.proofs.runs.SameSteps.{same_some}
-use Rattle.run_law.specs.control.Collections.{master_of}
-use Rattle.run_law.specs.declared.judgement.Judgement.{Judgement}
+use Rattle.precision_law.proofs.words.Std.{◌^◌, ◌∙◌, ◌∷◌, ◌≡◌, ◌≤ℤ◌, ◌≤◌, List, Option, Some, ap, arith, bit_at-pow_other, bit_at-trailing_zeros, cases_eq, inl, inr, ints, option_and_then, option_map_or, pos, pow_below, pow_pos, subst, sym, trailing_zeros, true, w32, ℕ, ℤ}
+use Rattle.precision_law.proofs.words.Plans.{Device, DeviceId, Down, IsChildOf, Joints, Link, LinkId, Master, Pcf, Relay, Role, Units, Up, Way, amount, device_at, is_end_system, link_at, opened, point_of}
+use Rattle.precision_law.proofs.words.Runs.{Happening, IsArrivedRecord, IsCaused, IsIn, Judgement, cycle_in, founded_at, frame_by, in_left, is_cm, is_cm_role, master_of, members_in, numbered_in, receiver_of, same_some, time_of, way_to}
+use Rattle.precision_law.proofs.words.Laws.{IsPermanentAt, IsRipe, IsView, View, clock_in}
+use Rattle.precision_law.proofs.words.Clocks.{cm_is_no_end, device_of, natural, permanence_is_sharp, receiver_down, receiver_up, sizes_are, steady}
 use Rattle.run_law.specs.declared.note.NoteBody.TheVariants as notes
-use Rattle.run_law.specs.device.States.{cycle_in}
-use Rattle.run_law.specs.records.Happenings.{Happening, frame_by, time_of}
-use Rattle.run_law.specs.records.Order.{IsIn}
-use Rattle.run_law.specs.records.Ranks.{members_in}
-use Rattle.run_law.specs.runs.DueRecords.{IsArrivedRecord, IsCaused}
-use Rattle.run_law.specs.scenario.Devices.{is_cm, is_cm_role}
-use Rattle.run_law.specs.scenario.Ways.{receiver_of, way_to}
-use Rattle.schedule_tables.specs.declared.rule.Rule.TheVariants.{Joints}
-use Rattle.transparent_clock.specs.Points.{point_of}
-use Rattle.tte_units.specs.Amount.{amount}
-use Rattle.tte_units.specs.declared.units.Units.{Units}
+use Rattle.precision_law.proofs.compression.Emitted.{arrival_young}
+use Rattle.precision_law.proofs.hearing.Timely.{arrived_clock}
 
 -- ---- what comes to a compression master comes up
 
-cm_role_ends : (role : Role) → is_cm_role role ≡ true → is_end_system role ≡ true → ⊥
-cm_role_ends Master a b = absurd cc
-cm_role_ends Client a b = absurd cc
-cm_role_ends Cm a b = absurd cc
-cm_role_ends Relay a b = absurd cc
-
 cm_role_relays : (role : Role) → is_cm_role role ≡ true → role ≡ Relay → ⊥
 cm_role_relays Master a b = absurd cc
-cm_role_relays Client a b = absurd cc
-cm_role_relays Cm a b = absurd cc
-cm_role_relays Relay a b = absurd cc
-
-cm_device : (o : Option Device) → option_map_or (λ d. is_cm_role d.role) o false ≡ true → (d : Device) × (o ≡ Some d) × (is_cm_role d.role ≡ true)
-cm_device None e = absurd cc
-cm_device (Some d) e = (d, refl, e)
+cm_role_relays role a b = absurd cc
 
 -- a compression master is no link's child
 cm_no_child : (v : View) (cm : DeviceId) (link : LinkId) → IsView v → is_cm v.scenario.network cm ≡ true → IsChildOf v.scenario.network cm link → ⊥
@@ -70,12 +20,12 @@ cm_no_child v cm link is one child =
     let n = v.scenario.network in
     let l = opened (λ (k : Link). k.child ≡ cm) (link_at n link) child in
     let joint = is.lawful.rules Joints link.0 l.0 l.1 in
-    let d = cm_device (device_at n cm) one in
+    let d = device_of is_cm_role (device_at n cm) one in
     elim joint.2 [
       | inl end ↦
           let e = opened (λ (x : Device). is_end_system x.role ≡ true) (device_at n l.0.child) end in
           let same : e.0 ≡ d.0 = same_some (device_at n cm) e.0 d.0 (ap (device_at n) (sym l.2) ∙ e.1) d.1 in
-          cm_role_ends d.0.role d.2 (ap (λ (x : Device). is_end_system x.role) (sym same) ∙ e.2)
+          cm_is_no_end d.0.role d.2 (ap (λ (x : Device). is_end_system x.role) (sym same) ∙ e.2)
       | inr role ↦
           let e = opened (λ (x : Device). (x.role ≡ Relay) × (x.channel ≡ Some joint.0)) (device_at n l.0.child) role in
           let same : e.0 ≡ d.0 = same_some (device_at n cm) e.0 d.0 (ap (device_at n) (sym l.2) ∙ e.1) d.1 in
@@ -115,24 +65,20 @@ ripening v device ripe link cause point verdict is i body =
     let s = v.scenario in
     let n = s.network in
     let at = founded_at s v.records ripe is.run.founded i in
-    let ripens : IsCaused s at.front ripe.note.time (notes.Permanent device link cause point verdict) = subst (IsCaused s at.front ripe.note.time) body
-    at.due.cause in
+    let ripens = subst (IsCaused s at.front ripe.note.time) body at.due.cause in
     let p = ripens.permanent in
     let arrival = p.arrival in
     let in_front : IsIn arrival at.front = numbered_in at.front cause arrival p.there in
     let in_all : IsIn arrival v.records = subst (IsIn arrival) (sym at.whole) (in_left arrival at.front (ripe ∷ at.rest) in_front) in
     let at_a = founded_at s at.front arrival at.founded in_front in
-    let caused : IsCaused s at_a.front arrival.note.time (notes.Arrived device link p.from p.clock) = subst (IsCaused s at_a.front arrival.note.time) p.arrived
-    at_a.due.cause in
+    let caused = subst (IsCaused s at_a.front arrival.note.time) p.arrived at_a.due.cause in
     let young = arrival_young v at_a.front (amount arrival.note.time) device link p.from p.clock caused in
     let of_frame : ripe.frame ≡ Some ripens.frame = ap (λ (x : Happening). x.frame) at.due.same ∙ ap (frame_by n at.front) body
     ∙ ap (λ (o : Option Happening). option_and_then (λ x. x.frame) o) p.there ∙ p.of_frame in
     let same : ripe.frame ≡ arrival.frame = of_frame ∙ sym p.of_frame in
     let reading = s.reading device in
-    let dmax_is : n.dmax.0 ≡ pos (amount n.dmax) = amount_pos n.dmax.0 (let d = is.lawful.range.dmax.least in omega (arith, ints, d)) in
-    let dmax : v.sizes.dmax ≡ amount n.dmax = ap (λ (x : Sizes). x.dmax) is.sizes in
-    let point_is : point.0 ≡ point_of (pos (reading (time_of arrival))) p.clock (pos v.sizes.dmax) = p.at_point
-    ∙ ap (point_of (pos (reading (time_of arrival))) p.clock) (dmax_is ∙ ap pos (sym dmax)) in
+    let dmax = (sizes_are v is).dmax in
+    let point_is = p.at_point ∙ ap (point_of (pos (reading (time_of arrival))) p.clock) ((natural n.dmax.0 (omega (arith, ints))) ∙ ap pos (sym dmax)) in
     record {
       arrival = arrival;
       arrived = in_all;

@@ -1,19 +1,8 @@
 -- A cluster of points was one before the points beyond its end came, and a point that it holds is of one of its members.
-use Rattle.std.proofs.Common.{◌≡◌, ℤ, pos, true, ◌+ℤ◌, ◌≤ℤ◌, ◌<ℤ◌, List, [], ◌∷◌, ◌++◌, inl, inr, sym, ap, subst, ◌∙◌, append_assoc, append-nil, arith}
-use Rattle.std.proofs.lemmas.Bool.{and_from, eq-eqb}
-use Rattle.std.proofs.lemmas.Int.{ints}
-use Rattle.std.specs.Int.{bit_at}
-use Rattle.std.specs.List.{AllByRecursion}
-use Rattle.std.specs.Prelude.{◌==◌, ◌&&◌, Contains, int_le}
-use Rattle.compression.proofs.Elements.{Ordered, Ordered-beyond, from_beyond, in_cases, in_filter_from, in_head, in_none, in_tail}
-use Rattle.compression.proofs.Firsts.{firsts-has}
-use Rattle.compression.proofs.Growth.{cluster_of-beyond, end_of-least, end_of-same}
-use Rattle.compression.proofs.Held.{beyond-push_out, held-push_beyond, int_le-true}
-use Rattle.compression.proofs.Times.{in_rest, one_list_of_clusters}
-use Rattle.compression.specs.Clusters.{AreClusters, Cluster, Point, beyond, cluster_of, end_of, firsts, of_cycle_within}
-use Rattle.compression.specs.OneCluster.{Holds}
+use Rattle.precision_law.proofs.words.Std.{◌&&◌, ◌++◌, ◌+ℤ◌, ◌<ℤ◌, ◌==◌, ◌∙◌, ◌∷◌, ◌≡◌, ◌≤ℤ◌, AllByRecursion, Contains, List, [], and_from, ap, append-nil, append_assoc, arith, bit_at, eq-eqb, inl, inr, int_le, ints, pos, subst, sym, ℤ}
+use Rattle.precision_law.proofs.words.Plans.{AreClusters, Cluster, Holds, Ordered, Ordered-beyond, Point, beyond, beyond-push_out, cluster_of, cluster_of-beyond, end_of, end_of-least, end_of-same, firsts, firsts-has, from_beyond, held-push_beyond, in_cases, in_filter_from, in_head, in_none, in_rest, in_tail, int_le-true, of_cycle_within, one_list_of_clusters}
+use Rattle.precision_law.proofs.words.Clocks.{has_is_member}
 use Rattle.precision_law.proofs.compression.Emitted.{cluster_from}
-use Rattle.precision_law.proofs.compression.Origins.{has_is_member}
 
 -- ---- before points came
 
@@ -27,10 +16,9 @@ opens_behind : (ow end : ℤ) (qs : List Point) (cs : List Cluster) (c : Cluster
 opens_behind ow end qs cs c some are at =
     let from = cluster_from ow (beyond end qs) cs c are at in
     let opened = (from_beyond end qs from.first from.there).1 in
-    let least = end_of-least ow from.first (from.first ∷ from.rest) some in
     let ends : c.end ≡ end_of ow from.first (from.first ∷ from.rest) = ap (λ (x : Cluster). x.end) from.is in
     let opens : c.opened ≡ from.first.reading = ap (λ (x : Cluster). x.opened) from.is in
-    (omega (arith, ints, opened, opens), omega (arith, ints, least, ends, opens, some))
+    (omega (arith, ints, opened, opens), omega (arith, ints, end_of-least ow from.first (from.first ∷ from.rest) some, ends, opens, some))
 
 -- without one point more
 was_by : (ow : ℤ) (ps : List Point) (p : Point) (cs ds : List Cluster) (c : Cluster) → pos 0 ≤ℤ ow → AreClusters ow ps cs → AreClusters ow (ps ++ p ∷ []) ds
@@ -38,10 +26,7 @@ was_by : (ow : ℤ) (ps : List Point) (p : Point) (cs ds : List Cluster) (c : Cl
 was_by ow [] p cs [] c some are next at past = absurd next
 was_by ow [] p cs (e ∷ []) c some are next at past =
     elim (in_cases e c [] at) [
-      | inl same ↦
-          let least = end_of-least ow p (p ∷ []) some in
-          let ends : c.end ≡ end_of ow p (p ∷ []) = ap (λ (x : Cluster). x.end) (sym same ∙ next.0) in
-          absurd (omega (arith, ints, least, ends, past, some))
+      | inl same ↦ absurd (omega (arith, ints, end_of-least ow p (p ∷ []) some, ap (λ (x : Cluster). x.end) (sym same ∙ next.0), past, some))
       | inr none ↦ absurd (in_none c none)
     ]
 was_by ow [] p cs (e ∷ d ∷ ds) c some are next at past = absurd next.1
@@ -52,20 +37,17 @@ was_by ow (o ∷ ps) p (k ∷ cs) (e ∷ ds) c some are next at past =
       | inl same ↦ subst (Contains (k ∷ cs)) (same_first (subst (λ (x : Cluster). x.end <ℤ p.reading) (sym same) past) ∙ same) (in_head k cs)
       | inr later ↦
           let opens = opens_behind ow e.end (ps ++ p ∷ []) ds c some next.1 later in
-          let one = same_first (omega (arith, ints, opens.0, opens.1, past)) in
-          let behind : k.end <ℤ p.reading = subst (λ (x : Cluster). x.end <ℤ p.reading) (sym one) (omega (arith, ints, opens.0, opens.1, past)) in
-          let moved : AreClusters ow (beyond k.end (ps ++ p ∷ [])) ds = subst (λ (x : Cluster). AreClusters ow (beyond x.end (ps ++ p ∷ [])) ds) (sym one)
-          next.1 in
-          let rest : AreClusters ow (beyond k.end ps ++ p ∷ []) ds = subst (λ (qs : List Point). AreClusters ow qs ds) (beyond-push_out k.end ps p behind) moved
-          in
+          let one = same_first (omega (arith, ints, opens, past)) in
+          let behind : k.end <ℤ p.reading = subst (λ (x : Cluster). x.end <ℤ p.reading) (sym one) (omega (arith, ints, opens, past)) in
+          let moved = subst (λ (x : Cluster). AreClusters ow (beyond x.end (ps ++ p ∷ [])) ds) (sym one) next.1 in
+          let rest = subst (λ (qs : List Point). AreClusters ow qs ds) (beyond-push_out k.end ps p behind) moved in
           in_tail k c cs (was_by ow (beyond k.end ps) p cs ds c some are.1 rest later past)
     ]
   where
     same_first : e.end <ℤ p.reading → k ≡ e
     same_first behind =
         let ends : e.end ≡ end_of ow o ((o ∷ ps) ++ p ∷ []) = ap (λ (x : Cluster). x.end) next.0 in
-        let least = end_of-least ow o ((o ∷ ps) ++ p ∷ []) some in
-        let same = same_end ow o (o ∷ ps) p (omega (arith, ints, least, ends, behind)) in
+        let same = same_end ow o (o ∷ ps) p (omega (arith, ints, end_of-least ow o ((o ∷ ps) ++ p ∷ []) some, ends, behind)) in
         let past_end : end_of ow o (o ∷ ps) <ℤ p.reading = omega (arith, ints, same, ends, behind) in
         are.0 ∙ sym (cluster_of-beyond ow o (o ∷ ps) p some past_end) ∙ sym next.0
 
@@ -89,7 +71,6 @@ pub is_held : (ow : ℤ) (ps : List Point) (cs : List Cluster) (c : Cluster) (p 
 is_held ow [] cs c p some up are at there holds = absurd (in_none p there)
 is_held ow (o ∷ ps) [] c p some up are at there holds = absurd are
 is_held ow (o ∷ ps) (k ∷ cs) c p some up are at there holds =
-    let least = end_of-least ow o (o ∷ ps) some in
     let ends : k.end ≡ end_of ow o (o ∷ ps) = ap (λ (x : Cluster). x.end) are.0 in
     elim (in_cases k c cs at) [
       | inl same ↦
@@ -98,17 +79,14 @@ is_held ow (o ∷ ps) (k ∷ cs) c p some up are at there holds =
           let low : o.reading ≤ℤ p.reading = subst (λ (x : Cluster). x.opened ≤ℤ p.reading) is holds.1.low in
           let high : p.reading ≤ℤ end = subst (λ (x : Cluster). p.reading ≤ℤ x.end) is holds.1.high in
           let cycle : p.cycle ≡ o.cycle = holds.0 ∙ ap (λ (x : Cluster). x.cycle) is in
-          let pass : (p.cycle == o.cycle && (int_le o.reading p.reading && int_le p.reading end)) ≡ true =
-          and_from (p.cycle == o.cycle) (int_le o.reading p.reading && int_le p.reading end) (eq-eqb p.cycle o.cycle cycle)
+          let pass = and_from (p.cycle == o.cycle) (int_le o.reading p.reading && int_le p.reading end) (eq-eqb p.cycle o.cycle cycle)
           (and_from (int_le o.reading p.reading) (int_le p.reading end) (int_le-true o.reading p.reading low) (int_le-true p.reading end high)) in
-          let within : Contains (of_cycle_within o.cycle o.reading end (o ∷ ps)) p = in_filter_from
-          (λ q. q.cycle == o.cycle && (int_le o.reading q.reading && int_le q.reading end)) (o ∷ ps) p there pass in
+          let within = in_filter_from (λ q. q.cycle == o.cycle && (int_le o.reading q.reading && int_le q.reading end)) (o ∷ ps) p there pass in
           let bit = has_is_member (firsts (of_cycle_within o.cycle o.reading end (o ∷ ps))) p.master
           (firsts-has (of_cycle_within o.cycle o.reading end (o ∷ ps)) p within) in
           subst (λ (x : Cluster). bit_at x.members p.master ≡ 1) (sym is) bit
       | inr later ↦
           let opens = opens_behind ow k.end ps cs c some are.1 later in
-          let low = holds.1.low in
           is_held ow (beyond k.end ps) cs c p some (Ordered-beyond k.end ps up.1) are.1 later
-          (in_rest o ps p k.end (omega (arith, ints, least, ends, some)) (omega (arith, ints, opens.0, low)) there) holds
+          (in_rest o ps p k.end (omega (arith, ints, end_of-least ow o (o ∷ ps) some, ends, some)) (omega (arith, ints, opens.0, holds.1.low)) there) holds
     ]

@@ -1,32 +1,12 @@
 -- The points of a compression master as records come.
-use Rattle.std.proofs.Common.{◌≡◌, ◌⊎◌, ℕ, ◌-◌, ◌<◌, ◌≤◌, ℤ, pos, ◌≤ℤ◌, Bool, true, false, not, List, [], ◌∷◌, ◌++◌, Option, Some, None, inl, inr, refl, sym, ap, subst, ◌∙◌, append_assoc, arith}
-use Rattle.std.proofs.lemmas.Bool.{not_from_false}
-use Rattle.std.proofs.lemmas.Int.{ints}
-use Rattle.std.proofs.lemmas.List.Elements.{filter_map-append}
-use Rattle.std.specs.List.{after_last, cons_option, filter_map}
-use Rattle.compression.proofs.Elements.{Ordered}
-use Rattle.compression.specs.Clusters.{Point}
-use Rattle.net_plan.specs.declared.ids.DeviceId.{DeviceId}
-use Rattle.precision_law.proofs.clocks.Readings.{permanence_is_sharp, ripe_in_order}
-use Rattle.precision_law.proofs.compression.Counted.{all_by}
+use Rattle.precision_law.proofs.words.Std.{◌++◌, ◌-◌, ◌<◌, ◌∙◌, ◌∷◌, ◌≡◌, ◌≤ℤ◌, ◌≤◌, ◌⊎◌, Bool, List, None, Option, Some, [], after_last, ap, append_assoc, arith, cons_option, false, filter_map, filter_map-append, inl, inr, ints, not, not_from_false, pos, refl, subst, sym, true, ℕ, ℤ}
+use Rattle.precision_law.proofs.words.Plans.{DeviceId, Ordered, Point, amount}
+use Rattle.precision_law.proofs.words.Runs.{Happening, IsBefore, IsCaused, IsDue, IsFounded, IsIn, NoteBody, behind_first, ends_stretch, founded_at, in_left, in_parts, in_right, key, members_in, numbered_in, place_of, point_by, points_of, rank, time_of}
+use Rattle.precision_law.proofs.words.Laws.{IsRipe, IsView, View}
+use Rattle.precision_law.proofs.words.Clocks.{PartsAtLast, after_last_at, after_last_none, all_by, all_of, behind_last, in_filter_map, parts_at_last, permanence_is_sharp, ripe_in_order, steady}
+use Rattle.run_law.specs.declared.note.NoteBody.TheVariants as notes
 use Rattle.precision_law.proofs.compression.Emitted.{GivesPoint, arrival_young, gives_point}
 use Rattle.precision_law.proofs.records.Behind.PartsAtLast.{none, some}
-use Rattle.precision_law.proofs.records.Behind.{PartsAtLast, after_last_at, after_last_none, all_of, behind_last, in_filter_map, parts_at_last}
-use Rattle.precision_law.proofs.records.Views.{steady}
-use Rattle.precision_law.specs.Readings.{IsRipe}
-use Rattle.precision_law.specs.Views.{IsView, View}
-use Rattle.run_law.proofs.law.FirstPlaces.{founded_at, numbered_in}
-use Rattle.run_law.proofs.runs.Lacking.{behind_first}
-use Rattle.run_law.proofs.runs.Places.{in_left, in_parts, in_right}
-use Rattle.run_law.specs.control.Collections.{ends_stretch, point_by, points_of}
-use Rattle.run_law.specs.declared.note.NoteBody.TheVariants as notes
-use Rattle.run_law.specs.declared.note.NoteBody.{NoteBody}
-use Rattle.run_law.specs.records.Happenings.{Happening, time_of}
-use Rattle.run_law.specs.records.Order.{IsBefore, IsIn}
-use Rattle.run_law.specs.records.Ranks.{key, members_in, place_of, rank}
-use Rattle.run_law.specs.runs.DueRecords.{IsCaused, IsDue}
-use Rattle.run_law.specs.runs.Runs.{IsFounded}
-use Rattle.tte_units.specs.Amount.{amount}
 
 -- ---- points and their records
 
@@ -40,22 +20,17 @@ pub read_at : (v : View) (cm : DeviceId) (k : Happening) (p : Point) → IsView 
 read_at v cm k p is i g =
     let s = v.scenario in
     let at = founded_at s v.records k is.run.founded i in
-    let ripens : IsCaused s at.front k.note.time (notes.Permanent cm g.link g.cause g.point g.verdict) = subst (IsCaused s at.front k.note.time) g.is
-    at.due.cause in
-    let q = ripens.permanent in
+    let q = (subst (IsCaused s at.front k.note.time) g.is at.due.cause).permanent in
     let at_a = founded_at s at.front q.arrival at.founded (numbered_in at.front g.cause q.arrival q.there) in
-    let arrived : IsCaused s at_a.front q.arrival.note.time (notes.Arrived cm g.link q.from q.clock) = subst (IsCaused s at_a.front q.arrival.note.time)
-    q.arrived at_a.due.cause in
-    let young = arrival_young v at_a.front (amount q.arrival.note.time) cm g.link q.from q.clock arrived in
+    let young = arrival_young v _ _ cm _ _ _ (subst (IsCaused s at_a.front q.arrival.note.time) q.arrived at_a.due.cause) in
     let dmax = is.lawful.range.dmax.least in
     let point = q.at_point in
-    let reads = g.reads in
     let sharp = permanence_is_sharp v.sizes (s.reading cm) (time_of q.arrival) g.point.0 (time_of k) (steady v is cm) (omega (arith, ints, point, young, dmax))
     q.reached in
     record {
       arrived = time_of q.arrival;
       ripe = subst (λ (z : ℤ). IsRipe v.sizes (s.reading cm) (time_of q.arrival) z (time_of k)) (sym g.reads) sharp;
-      not_negative = omega (arith, ints, reads, point, young, dmax);
+      not_negative = omega (arith, ints, g.reads, point, young, dmax);
     }
 
 -- a point that is permanent later is not below an earlier reading
@@ -85,19 +60,13 @@ points_in_order : (v : View) (cm : DeviceId) (k l : Happening) (p q : Point) →
 points_in_order v cm k l p q is i j gk gl before =
     let a = read_at v cm k p is i gk in
     let b = read_at v cm l q is j gl in
-    let of_k : IsBefore (time_of k ∷ rank (notes.Permanent cm gk.link gk.cause gk.point gk.verdict)
-    ∷ key (members_in k) (notes.Permanent cm gk.link gk.cause gk.point gk.verdict)) (place_of l) =
-    subst (λ (n : NoteBody). IsBefore (time_of k ∷ rank n ∷ key (members_in k) n) (place_of l)) gk.is before in
-    let of_l : IsBefore (time_of k ∷ rank (notes.Permanent cm gk.link gk.cause gk.point gk.verdict)
-    ∷ key (members_in k) (notes.Permanent cm gk.link gk.cause gk.point gk.verdict))
-    (time_of l ∷ rank (notes.Permanent cm gl.link gl.cause gl.point gl.verdict)
-    ∷ key (members_in l) (notes.Permanent cm gl.link gl.cause gl.point gl.verdict)) =
-    subst (λ (n : NoteBody). IsBefore (time_of k ∷ rank (notes.Permanent cm gk.link gk.cause gk.point gk.verdict)
-    ∷ key (members_in k) (notes.Permanent cm gk.link gk.cause gk.point gk.verdict)) (time_of l ∷ rank n ∷ key (members_in l) n)) gl.is of_k in
+    let of_k = subst (λ (n : NoteBody). IsBefore (time_of k ∷ rank n ∷ key (members_in k) n) (place_of l)) gk.is before in
+    let of_l = subst (λ (n : NoteBody). IsBefore (time_of k ∷ rank (notes.Permanent cm gk.link gk.cause gk.point gk.verdict) ∷ key (members_in k)
+    (notes.Permanent cm gk.link gk.cause gk.point gk.verdict)) (time_of l ∷ rank n ∷ key (members_in l) n)) gl.is of_k in
     elim (place_order (time_of k) (time_of l) cm.0 (amount gk.point) (amount gl.point) (members_in k ∷ gk.link.0 ∷ gk.cause ∷ [])
     (members_in l ∷ gl.link.0 ∷ gl.cause ∷ []) of_l) [
       | inl lt ↦ ripe_in_order v.sizes (v.scenario.reading cm) a.arrived b.arrived p.reading q.reading (time_of k) (time_of l) (steady v is cm) a.ripe b.ripe lt
-      | inr le ↦ (let x = gk.reads in let y = gl.reads in let m = a.not_negative in let n = b.not_negative in omega (arith, ints, le, x, y, m, n))
+      | inr le ↦ omega (arith, ints, le, gk.reads, gl.reads, a.not_negative, b.not_negative)
     ]
 
 ordered_by : (v : View) (cm : DeviceId) (ps ks rest : List Happening) → IsView v → v.records ≡ ps ++ (ks ++ rest)
@@ -115,10 +84,9 @@ ordered_by v cm ps (k ∷ ks) rest is whole =
           let in_rest : IsIn made.0 (ks ++ rest) = in_left made.0 ks rest made.1 in
           let before = behind_first place_of (IsDue v.scenario) ps (ks ++ rest) k made.0 (subst (IsFounded place_of (IsDue v.scenario)) whole is.run.founded)
           in_rest in
-          points_in_order v cm k made.0 p q is
-          (subst (IsIn k) (sym whole) (in_right k ps (k ∷ (ks ++ rest)) (inl refl)))
-          (subst (IsIn made.0) (sym whole) (in_right made.0 ps (k ∷ (ks ++ rest)) (inr in_rest)))
-          (gives_point cm k p e) (gives_point cm made.0 q made.2) before),
+          points_in_order v cm k _ p q is (subst (IsIn k) (sym whole) (in_right k ps (k ∷ (ks ++ rest)) (inl refl)))
+          (subst (IsIn made.0) (sym whole) (in_right made.0 ps (k ∷ (ks ++ rest)) (inr in_rest))) (gives_point cm k p e)
+          (gives_point cm made.0 q made.2) before),
       up,
     )
 
@@ -157,9 +125,8 @@ module _ {X : Type 0} (p : X → Bool) where
       ⊎ ((x : X) → IsIn x (after_last p (xs ++ ys)) → IsIn x ys)
   last_parts xs ys (none all) = inl (last_none xs ys all (parts_at_last p xs))
   last_parts xs ys (some front rest last whole here all) =
-      let at : after_last p (xs ++ ys) ≡ rest =
-      ap (λ (zs : List X). after_last p (xs ++ zs)) whole ∙ ap (after_last p) (sym (append_assoc xs front (last ∷ rest)))
-      ∙ after_last_at p (xs ++ front) last rest here (all_of (λ (x : X). not (p x) ≡ true) rest (λ x i. not_from_false (p x) (all x i))) in
+      let at = ap (λ (zs : List X). after_last p (xs ++ zs)) whole ∙ ap (after_last p) (sym (append_assoc xs front (last ∷ rest))) ∙ after_last_at p
+      (xs ++ front) last rest here (all_of (λ (x : X). not (p x) ≡ true) rest (λ x i. not_from_false (p x) (all x i))) in
       inr (λ x i. subst (IsIn x) (sym whole) (in_right x front (last ∷ rest) (inr (subst (IsIn x) at i))))
 
 -- records that come add points behind those of the stretch, or begin another, whose points are all given by them

@@ -1,58 +1,15 @@
 -- One cluster of the compression master of the sound channel has the frames of all first masters, and is sent in time.
-use Rattle.std.proofs.Common.{◌≡◌, ◌⊎◌, ℕ, suc, ◌+◌, ◌≤◌, pos, ◌+ℤ◌, ◌≤ℤ◌, true, not, List, [], ◌∷◌, Option, Some, None, inl, inr, refl, sym, ap, subst, ◌∙◌, arith}
-use Rattle.std.proofs.lemmas.Bool.{false_from_ne_true, not_from_false}
-use Rattle.std.proofs.lemmas.Int.{ints}
-use Rattle.std.specs.List.{cons_option, filter_map}
-use Rattle.std.specs.Prelude.{Contains}
-use Rattle.compression.proofs.Elements.{Ordered}
-use Rattle.compression.proofs.Together.{one_cluster}
-use Rattle.compression.specs.Clusters.{AreClusters, Cluster, Point, end_of}
-use Rattle.compression.specs.OneCluster.{Holds, IsDropped, IsKept}
-use Rattle.net_plan.specs.Places.{IsCmOf}
-use Rattle.net_plan.specs.declared.ids.DeviceId.{DeviceId}
+use Rattle.precision_law.proofs.words.Std.{◌+ℤ◌, ◌+◌, ◌∙◌, ◌∷◌, ◌≡◌, ◌≤ℤ◌, ◌≤◌, ◌⊎◌, Contains, List, Some, [], ap, arith, false_from_ne_true, filter_map, inl, inr, ints, not, not_from_false, pos, refl, subst, suc, sym, true, ℕ}
+use Rattle.precision_law.proofs.words.Plans.{AreClusters, Cluster, DeviceId, Holds, IsCmOf, IsDropped, IsKept, Ordered, Point, end_of, one_cluster}
+use Rattle.precision_law.proofs.words.Runs.{Happening, IsDue, IsIn, IsSplit, earlier_time, ends_stretch, in_front_of, in_left, is_cm, key, member_of, members_in, observation_window, place_of, point_by, points_of, rank, split, time_of}
+use Rattle.precision_law.proofs.words.Laws.{BlocksGoSo, IsFirstMaster, IsInBlock, IsView, View, first_correction, last_dispatch}
+use Rattle.precision_law.proofs.words.Clocks.{after_last_none, all_of, ascending_from, contains, made_in, one_member, opened_by, sent_at, sizes_are}
+use Rattle.precision_law.proofs.words.Blocks.{IsBadPoint, IsGoodPoint, IsKnown, IsWitness, bad_number, contained, earlier_in_block, ends_soon, front_point, front_witness, good_near, hulls_are_narrow, is_held, not_both, point_record, points_ordered, tidy}
 use Rattle.precision_law.proofs.block.Dispatched.{IsCalm}
-use Rattle.precision_law.proofs.block.Goings.{tidy}
-use Rattle.precision_law.proofs.block.Halving.{hulls_are_narrow}
-use Rattle.precision_law.proofs.compression.Counted.{ascending_from, contains, opened_by}
-use Rattle.precision_law.proofs.compression.Emitted.{contained, point_record}
-use Rattle.precision_law.proofs.compression.Made.{IsBadPoint, IsGoodPoint, ends_soon, front_point, not_both}
-use Rattle.precision_law.proofs.compression.OneEmission.{IsKnown, IsWitness, bad_number, front_witness, good_near}
-use Rattle.precision_law.proofs.compression.Shrunk.{is_held}
-use Rattle.precision_law.proofs.compression.Stretches.{points_ordered}
 use Rattle.precision_law.proofs.emission.Aimed.{of_block_cycle}
 use Rattle.precision_law.proofs.emission.Gathered.{IsGathered, gathers}
 use Rattle.precision_law.proofs.emission.Hearkens.{never_ends}
 use Rattle.precision_law.proofs.emission.Senders.{cm_is}
-use Rattle.precision_law.proofs.faults.Broken.{one_member}
-use Rattle.precision_law.proofs.records.Behind.{after_last_none, all_of}
-use Rattle.precision_law.proofs.records.Due.{sent_at}
-use Rattle.precision_law.specs.BlockLaws.{BlocksGoSo}
-use Rattle.precision_law.specs.Blocks.{IsInBlock}
-use Rattle.precision_law.specs.Hulls.{last_dispatch, first_correction}
-use Rattle.precision_law.specs.Masters.{IsFirstMaster}
-use Rattle.precision_law.specs.Sizes.{Sizes}
-use Rattle.precision_law.specs.Views.{IsView, View}
-use Rattle.run_law.proofs.law.FirstPlaces.{IsSplit, in_front_of, split}
-use Rattle.run_law.proofs.runs.Places.{earlier_time, in_left}
-use Rattle.run_law.specs.control.Collections.{ends_stretch, point_by, points_of, observation_window}
-use Rattle.run_law.specs.records.Happenings.{Happening, time_of}
-use Rattle.run_law.specs.records.Order.{IsIn}
-use Rattle.run_law.specs.records.Ranks.{key, members_in, place_of, rank}
-use Rattle.run_law.specs.runs.DueRecords.{IsDue}
-use Rattle.run_law.specs.scenario.Devices.{is_cm, member_of}
-use Rattle.tte_units.specs.Amount.{amount}
-
--- ---- lists
-
--- what is made of an element is among what is made of all
-made_in : {X Y : Type 0} (f : X → Option Y) (xs : List X) (x : X) (y : Y) → IsIn x xs → f x ≡ Some y → IsIn y (filter_map f xs)
-made_in f [] x y i e = absurd i
-made_in {X} {Y} f (z ∷ xs) x y (inl same) e = subst (λ (o : Option Y). IsIn y (cons_option o (filter_map f xs))) (sym (ap f (sym same) ∙ e)) (inl refl)
-made_in f (z ∷ xs) x y (inr more) e = by (f z) (made_in f xs x y more e)
-  where
-    by : (o : Option _) → IsIn y (filter_map f xs) → IsIn y (cons_option o (filter_map f xs))
-    by None i = i
-    by (Some w) i = inr i
 
 -- ---- the points by then
 
@@ -73,18 +30,7 @@ module _ (goes : BlocksGoSo) (v : View) (n t : ℕ) (block : IsInBlock v n t) (c
   pub known : IsKnown v (by + 1) (suc n)
   known = record {
     is = is;
-    tidy =
-        tidy v n (by + 1) block.before
-        (λ u from lt. goes v n u
-        (record {
-          before = block.before;
-          next = block.next;
-          is_over = block.is_over;
-          from = from;
-          to = (let a = calm.to in let b = block.to in omega (arith, lt, a, b));
-          in_run = (let a = calm.to in let b = block.in_run in omega (arith, lt, a, b));
-        })
-        is);
+    tidy = tidy _ _ (by + 1) block.before (λ u from lt. goes v n u (earlier_in_block _ _ _ _ block from (omega arith)) is);
     narrow = λ hull e. hulls_are_narrow goes v n block.before hull is e;
   }
 
@@ -116,7 +62,7 @@ module _ (goes : BlocksGoSo) (v : View) (n t : ℕ) (block : IsInBlock v n t) (c
   -- a first master's point is among them
   pub is_point : (master : DeviceId) (g : IsGathered v n block.before.next block.before.hull cm master by) → IsIn g.p points
   is_point master g =
-      let front : IsIn g.k by_then.front = in_front_of place_of v.records ((by + 1) ∷ []) by_then g.k g.there (inl (let to = g.to in omega (arith, to))) in
+      let front : IsIn g.k by_then.front = in_front_of place_of v.records ((by + 1) ∷ []) by_then g.k g.there (inl (omega (arith, g.to))) in
       subst (IsIn g.p) (sym (points_all by_then.front up_to)) (made_in (λ (h : Happening). point_by cm h h.note.body) by_then.front g.k g.p front g.gives)
 
   -- a point of a good master's number is good
@@ -132,20 +78,15 @@ module _ (goes : BlocksGoSo) (v : View) (n t : ℕ) (block : IsInBlock v n t) (c
       → AreClusters (observation_window v.scenario.network) points cs → IsDropped cs g.p → ⊥
   never_dropped master g cs are dropped =
       let ow = observation_window v.scenario.network in
-      let c = dropped.0 in
-      let opened = opened_by ow points cs c ordered are dropped.1 in
+      let opened = opened_by ow points cs dropped.0 ordered are dropped.1 in
       let o = opened.first in
       let given = point_record cm by_then.front o (contained points o opened.there) in
       let there = up_to given.0 given.1 in
       let lies = dropped.3 in
-      let size : v.sizes.precision ≡ amount v.scenario.network.precision = ap (λ (z : Sizes). z.precision) is.sizes in
-      let soon = ends_soon ow o (o ∷ opened.rest) (omega (arith, ints)) in
-      let ends : c.end ≡ end_of ow o (o ∷ opened.rest) = ap (λ (x : Cluster). x.end) opened.is in
-      let opens : c.opened ≡ o.reading = ap (λ (x : Cluster). x.opened) opened.is in
-      let low = lies.low in
-      let high = lies.high in
+      let ends : dropped.0.end ≡ end_of ow o (o ∷ opened.rest) = ap (λ (x : Cluster). x.end) opened.is in
+      let opens : dropped.0.opened ≡ o.reading = ap (λ (x : Cluster). x.opened) opened.is in
       let cycle = of_block_cycle goes v n t block cm by is calm one g.p.reading (time_of g.k) given.0 o g.aimed there.0 there.1 given.2
-      (omega (arith, ints, low, opens)) (omega (arith, ints, high, ends, soon, size)) in
+      (omega (arith, ints, lies.low, opens)) (omega (arith, ints, lies.high, ends, ends_soon ow o (o ∷ opened.rest) (omega (arith, ints)), sizes_are v is)) in
       dropped.2 (g.of_cycle ∙ sym cycle ∙ sym (ap (λ (x : Cluster). x.cycle) opened.is))
 
   -- ---- the cluster
@@ -162,7 +103,7 @@ module _ (goes : BlocksGoSo) (v : View) (n t : ℕ) (block : IsInBlock v n t) (c
   has_all master first cs are =
       let ow = observation_window v.scenario.network in
       let bad = bad_number v cm by points is each_is in
-      let size : v.sizes.precision ≡ amount v.scenario.network.precision = ap (λ (z : Sizes). z.precision) is.sizes in
+      let sizes = sizes_are v is in
       let gather : (m : DeviceId) → IsFirstMaster v m → IsGathered v n block.before.next block.before.hull cm m by = λ m f. gathers goes v n t block cm by is
       calm of_channel late over m f in
       let kept : (m : DeviceId) → (f : IsFirstMaster v m) → IsKept points cs bad.0 (suc n) (gather m f).p = λ m f.
@@ -173,15 +114,10 @@ module _ (goes : BlocksGoSo) (v : View) (n t : ℕ) (block : IsInBlock v n t) (c
       let good : (q : Point) → IsKept points cs bad.0 (suc n) q → IsGoodPoint v cm by q = λ q k. elim (each_is q (contained points q k.there))
       [ inl fine ↦ fine | inr wrong ↦ absurd (k.other (bad.1.of_bad q (contained points q k.there) wrong)) ] in
       let near : (p q : Point) → IsKept points cs bad.0 (suc n) p → IsKept points cs bad.0 (suc n) q → p.reading ≤ℤ (q.reading +ℤ ow) = λ p q k l.
-      (let r = good_near v (by + 1) (suc n) cm by by p q known (omega arith) (omega arith) k.same l.same (good p k) (good q l) in omega (arith, ints, r, size))
-      in
+      (let r = good_near v (by + 1) (suc n) cm by by p q known (omega arith) (omega arith) k.same l.same (good p k) (good q l) in omega (arith, ints)) in
       let z = one_cluster ow points cs bad.0 (suc n) (omega (arith, ints)) (ascending_from points ordered) are near (gather master first).p (kept master first)
       in
-      record {
-        cluster = z.0;
-        there = z.1;
-        holds = λ m f. (let g = gather m f in (g.p, g.of_master, is_point m g, z.2 g.p (kept m f), g.of_cycle));
-      }
+      record { cluster = z.0; there = z.1; holds = λ m f. (let g = gather m f in (g.p, g.of_master, is_point m g, z.2 g.p (kept m f), g.of_cycle)) }
 
   -- ---- what it sends
 
@@ -191,8 +127,6 @@ module _ (goes : BlocksGoSo) (v : View) (n t : ℕ) (block : IsInBlock v n t) (c
       → (x : Point) × IsWitness v cm by (suc n) (sent_at v all.cluster) points all.cluster x
   emerges cs are all master first =
       let p = all.holds master first in
-      let bit = is_held (observation_window v.scenario.network) points cs all.cluster p.0 (omega (arith, ints)) ordered are all.there (contains points p.0 p.2)
-      p.3 in
       front_witness v (by + 1) (suc n) cm by by_then.front by_then.rest cs all.cluster
       (record {
         known = known;
@@ -203,4 +137,4 @@ module _ (goes : BlocksGoSo) (v : View) (n t : ℕ) (block : IsInBlock v n t) (c
         are = are;
         there = all.there;
         cycle_is = sym p.3.0 ∙ p.4;
-      }) p.0.master bit (master, p.1, first.good)
+      }) p.0.master (is_held _ _ _ all.cluster p.0 (omega (arith, ints)) ordered are all.there (contains points p.0 p.2) p.3) (master, p.1, first.good)

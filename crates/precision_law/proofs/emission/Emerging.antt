@@ -1,10 +1,8 @@
 -- The frame of a cluster of good points is sent in time.
-use Rattle.std.proofs.Common.{◌≡◌, ℕ, ◌+◌, ◌*◌, ◌<◌, ◌≤◌, ℤ, pos, ◌+ℤ◌, ◌≤ℤ◌, ◌<ℤ◌, arith}
-use Rattle.std.proofs.lemmas.Int.{ints}
-use Rattle.drift_clock.specs.Reach.{IsReach}
-use Rattle.precision_law.proofs.clocks.Readings.{reach_is_there}
-use Rattle.precision_law.specs.Readings.{IsSteady}
-use Rattle.precision_law.specs.Sizes.{HaveRoom, Sizes}
+use Rattle.precision_law.proofs.words.Std.{◌*◌, ◌+ℤ◌, ◌+◌, ◌<ℤ◌, ◌<◌, ◌≡◌, ◌≤ℤ◌, ◌≤◌, arith, ints, pos, ℕ, ℤ}
+use Rattle.precision_law.proofs.words.Plans.{IsReach}
+use Rattle.precision_law.proofs.words.Laws.{HaveRoom, IsSteady, Sizes}
+use Rattle.precision_law.proofs.words.Clocks.{reach_is_there}
 
 -- the emission reading, which is at most a precision and the time of a compression above a good point, is first reached
 -- by then: within the hull of the dispatches, but for dmax, the compression and the error of a base, and a precision
@@ -14,17 +12,8 @@ pub sent_in_time : (n : Sizes) (reading : ℕ → ℕ) (least greatest sent poin
     → pos x ≡ (greatest +ℤ pos (n.dmax + n.compression + n.base + n.precision))
     → (s : ℕ) × (0 < s) × (s ≤ x) × IsReach reading (pos 0) sent (pos s)
 sent_in_time n reading least greatest sent point w q x space steady narrow low high early late reads most some at =
-    let errors = space.eight_errors in
-    let reach_is = space.errors.reach_is in
-    let clock_is = space.errors.clock_is in
-    let base_is = space.errors.base_is in
-    let longest = space.compression_most in
-    let cycles = space.cycles in
-    let corrections = space.corrections in
-    let after : q ≤ x = omega (arith, ints, at, high, late, base_is) in
-    let within : x ≤ q + 2 * n.cycle = omega (arith, ints, at, narrow, low, early, errors, reach_is, clock_is, base_is, longest, cycles, corrections) in
-    let slow = steady.slow q x after within in
-    let zero_reading = steady.begins in
-    let reached : sent ≤ℤ pos (reading x) = omega (arith, ints, slow, at, high, late, base_is, reads, most) in
-    reach_is_there n reading 0 0 sent x steady (omega arith) (omega (arith, ints, at, high, space.compression_least)) (omega (arith, ints, zero_reading, some))
+    let after : q ≤ x = omega (arith, ints, at, high, late, space.errors.base_is) in
+    let within : x ≤ q + 2 * n.cycle = omega (arith, ints, at, narrow, low, early, space) in
+    let reached : sent ≤ℤ pos (reading x) = omega (arith, ints, steady.slow q x after within, at, high, late, space.errors.base_is, reads, most) in
+    reach_is_there n reading 0 0 sent x steady (omega arith) (omega (arith, ints, at, high, space.compression_least)) (omega (arith, ints, steady.begins, some))
     reached

@@ -1,32 +1,10 @@
 -- What the clocks of a block show of the frames of its cycle: a compression master takes them, and who hears them finds
 -- them within the precision.
-use Rattle.std.proofs.Common.{◌≡◌, ℕ, suc, ◌+◌, ◌*◌, ◌/◌, ◌%◌, ◌-◌, ◌<◌, ◌≤◌, ℤ, pos, ◌+ℤ◌, ◌-ℤ◌, ◌≤ℤ◌, Bool, true, false, not, ◌&&◌, [], ◌∷◌, None, refl, sym, ap, subst, ◌∙◌, arith}
-use Rattle.std.proofs.lemmas.Bool.{le-ltb}
-use Rattle.std.proofs.lemmas.Int.{int_rem_euclid_is, ints}
-use Rattle.std.proofs.lemmas.Nat.{div-mul-add, mod-mul-add}
-use Rattle.std.specs.Int.{int_div_euclid}
-use Rattle.std.specs.Prelude.{if◌then◌else◌, int_le, int_lt, nat_le}
-use Rattle.compression.proofs.Held.{int_le-true}
-use Rattle.net_plan.specs.declared.network.Network.{Network}
-use Rattle.pcf_values.specs.declared.members.Members.{Members}
-use Rattle.precision_law.proofs.clocks.Anchored.{natural, natural_of, one_more}
-use Rattle.precision_law.proofs.records.Views.{room}
-use Rattle.precision_law.specs.Hulls.{Hull, IsNarrow, first_dispatch, last_dispatch}
-use Rattle.precision_law.specs.Sizes.{HaveRoom, Sizes}
-use Rattle.precision_law.specs.Standings.{IsNearHull, IsTimely, ShowsIn}
-use Rattle.precision_law.specs.Views.{IsView, View}
-use Rattle.run_law.specs.control.Collections.{dispatch_value, is_number, point_fault}
-use Rattle.run_law.specs.control.Hearing.{heard_as, last_cycle}
-use Rattle.run_law.specs.declared.judgement.Judgement.TheVariants.{Within, Outside}
-use Rattle.run_law.specs.declared.judgement.Reason.TheVariants.{Gate, Cycle}
-use Rattle.run_law.specs.declared.judgement.Reason.{Reason}
-use Rattle.run_law.specs.device.Standpoints.{first_reason, offset_in_cycle}
-use Rattle.run_law.specs.device.States.{is_synchronised}
-use Rattle.sync_state.specs.Plan.{expected_at}
-use Rattle.sync_state.specs.declared.plan.SyncPlan.{SyncPlan}
-use Rattle.sync_state.specs.declared.state.State.TheVariants.{Joining, Synchronised}
-use Rattle.sync_state.specs.declared.state.State.{State}
-use Rattle.tte_units.specs.Amount.{amount}
+use Rattle.precision_law.proofs.words.Std.{◌%◌, ◌&&◌, ◌*◌, ◌+ℤ◌, ◌+◌, ◌-ℤ◌, ◌-◌, ◌/◌, ◌<◌, ◌∙◌, ◌∷◌, ◌≡◌, ◌≤ℤ◌, ◌≤◌, Bool, None, [], ap, arith, div-mul-add, false, if◌then◌else◌, int_div_euclid, int_le, int_lt, int_rem_euclid_is, ints, le-ltb, mod-mul-add, nat_le, not, pos, refl, subst, suc, sym, true, ℕ, ℤ}
+use Rattle.precision_law.proofs.words.Plans.{Joining, Members, Network, State, SyncPlan, Synchronised, amount, expected_at, int_le-true}
+use Rattle.precision_law.proofs.words.Runs.{Cycle, Gate, Outside, Reason, Within, dispatch_value, first_reason, heard_as, is_number, is_synchronised, last_cycle, offset_in_cycle, point_fault}
+use Rattle.precision_law.proofs.words.Laws.{HaveRoom, Hull, IsNarrow, IsNearHull, IsTimely, IsView, ShowsIn, Sizes, View, first_dispatch, last_dispatch}
+use Rattle.precision_law.proofs.words.Clocks.{natural, natural_of, one_more, room, sizes_are}
 
 -- ---- numbers
 
@@ -43,10 +21,7 @@ pub dispatched_within : (n : Sizes) (hull : Hull) (c : ℕ) (adjustment point : 
     → IsWithinOf n (suc c) n.dmax (point +ℤ adjustment)
 dispatched_within n hull c adjustment point reading q w space narrow shows low high early late below above =
     let more = one_more c n.cycle in
-    record {
-      least = omega (arith, ints, more, narrow, shows.least, low, early, above, space.eight_errors, space.errors.reach_is, space.errors.clock_is);
-      most = omega (arith, ints, more, narrow, shows.most, high, late, below, space.eight_errors, space.errors.reach_is, space.errors.clock_is);
-    }
+    record { least = omega (arith, ints); most = omega (arith, ints) }
 
 -- where a frame of the next cycle is heard, whose base lies in the hull of that cycle
 pub heard_within : (n : Sizes) (before hull : Hull) (c : ℕ) (adjustment point base : ℤ) (reading : ℕ → ℕ) (q expected : ℕ) → HaveRoom n → IsNarrow n before
@@ -55,40 +30,7 @@ pub heard_within : (n : Sizes) (before hull : Hull) (c : ℕ) (adjustment point 
     → IsWithinOf n (suc c) expected (point +ℤ adjustment)
 heard_within n before hull c adjustment point base reading q expected space narrow shows low high near timely =
     let more = one_more c n.cycle in
-    record {
-      least =
-          omega (
-            arith,
-            ints,
-            more,
-            narrow,
-            shows.least,
-            low,
-            near.least,
-            timely.not_early,
-            timely.most,
-            space.eight_errors,
-            space.errors.reach_is,
-            space.errors.clock_is,
-            space.errors.base_is,
-          );
-      most =
-          omega (
-            arith,
-            ints,
-            more,
-            narrow,
-            shows.most,
-            high,
-            near.most,
-            timely.not_late,
-            timely.least,
-            space.eight_errors,
-            space.errors.reach_is,
-            space.errors.clock_is,
-            space.errors.base_is,
-          );
-    }
+    record { least = omega (arith, ints); most = omega (arith, ints) }
 
 -- ---- what a compression master takes
 
@@ -105,8 +47,7 @@ in_cycle n c r m z begun small is same =
 
 no_reason : (a b : Bool) (p q : Reason) → a ≡ false → b ≡ false → first_reason ((a, p) ∷ (b, q) ∷ []) ≡ None
 no_reason false false p q x y = refl
-no_reason true b p q x y = absurd cc
-no_reason false true p q x y = absurd cc
+no_reason a b p q x y = absurd cc
 
 and_no : (a b : Bool) → b ≡ false → (a && b) ≡ false
 and_no true b e = e
@@ -120,7 +61,7 @@ is_itself c =
 place_numbers : (n : Sizes) (cycle a dmax p : ℕ) (shown : ℤ) → HaveRoom n → a ≡ cycle * n.cycle → dmax ≡ n.dmax → p ≡ n.precision
     → IsWithinOf n cycle n.dmax shown
     → pos a ≤ℤ ((shown -ℤ pos dmax) +ℤ pos (2 * p))
-place_numbers n cycle a dmax p shown space x y z within = (let l = within.least in omega (arith, ints, l, x, y, z))
+place_numbers n cycle a dmax p shown space x y z within = omega (arith, ints, within.least, x, y, z)
 
 place_small : (n : Sizes) (cycle a dmax p m : ℕ) (shown : ℤ) → HaveRoom n → a ≡ cycle * n.cycle → dmax ≡ n.dmax → p ≡ n.precision
     → IsWithinOf n cycle n.dmax shown → ((shown -ℤ pos dmax) +ℤ pos (2 * p)) ≡ pos m
@@ -131,8 +72,7 @@ place_small n cycle a dmax p m shown space x y z within same =
     let cycles = space.cycles in
     let grain = space.grain in
     let errors = space.eight_errors in
-    let reach_is = space.errors.reach_is in
-    (omega (arith, ints, l, x, y, z, same), omega (arith, ints, l, h, x, y, z, same), omega (arith, ints, l, h, x, y, z, same, cycles, grain, errors, reach_is))
+    (omega (arith, ints), omega (arith, ints), omega (arith, ints))
 
 -- a frame whose dispatch seems to lie so near to the beginning of its cycle has no fault
 pub no_point_fault : (v : View) (state : State) (adjustment point : ℤ) (cycle : ℕ) → IsView v → IsWithinOf v.sizes cycle v.sizes.dmax (point +ℤ adjustment)
@@ -142,21 +82,18 @@ no_point_fault v state adjustment point cycle is within =
     let space = room v is in
     let shown = point +ℤ adjustment in
     let value = dispatch_value n adjustment point in
-    let precision : amount n.precision ≡ v.sizes.precision = sym (ap (λ (x : Sizes). x.precision) is.sizes) in
-    let dmax : amount n.dmax ≡ v.sizes.dmax = sym (ap (λ (x : Sizes). x.dmax) is.sizes) in
-    let length : amount n.cycle ≡ v.sizes.cycle = sym (ap (λ (x : Sizes). x.cycle) is.sizes) in
+    let precision = sym (sizes_are v is).precision in
+    let dmax = sym (sizes_are v is).dmax in
+    let length = sym (sizes_are v is).cycle in
     let product : cycle * amount n.cycle ≡ cycle * v.sizes.cycle = ap (λ (x : ℕ). cycle * x) length in
     let from = place_numbers v.sizes cycle (cycle * amount n.cycle) (amount n.dmax) (amount n.precision) shown space product dmax precision within in
     let m = natural_of value (cycle * amount n.cycle) from in
     let small = place_small v.sizes cycle (cycle * amount n.cycle) (amount n.dmax) (amount n.precision) m.0 shown space product dmax precision within m.1 in
     let r : ℕ = m.0 - cycle * amount n.cycle in
     let place = in_cycle n cycle r m.0 value (omega (arith, ints, is.lawful.range.cycle.least)) (subst (λ (x : ℕ). r < x) (sym length) small.2) small.0 m.1 in
-    no_reason (is_synchronised state && int_lt (pos (4 * amount n.precision)) (offset_in_cycle n value))
-    (is_synchronised state && not (is_number (int_div_euclid value n.cycle.0) cycle)) Gate Cycle
-    (and_no (is_synchronised state) (int_lt (pos (4 * amount n.precision)) (offset_in_cycle n value)) (ap (int_lt (pos (4 * amount n.precision))) place.0
-    ∙ le-ltb (4 * amount n.precision) r small.1))
-    (and_no (is_synchronised state) (not (is_number (int_div_euclid value n.cycle.0) cycle)) (ap (λ (z : ℤ). not (is_number z cycle)) place.1
-    ∙ ap not (is_itself cycle)))
+    no_reason _ _ Gate Cycle
+    (and_no (is_synchronised state) _ (ap (int_lt (pos (4 * amount n.precision))) place.0 ∙ le-ltb (4 * amount n.precision) r small.1))
+    (and_no (is_synchronised state) _ (ap (λ (z : ℤ). not (is_number z cycle)) place.1 ∙ ap not (is_itself cycle)))
 
 -- ---- what is heard within the precision
 
@@ -181,5 +118,4 @@ heard_as_within plan precision state adjustment point cycle members few low high
   where
     by : (a b : Bool) → a ≡ true → b ≡ true → (if (a && b) then Within else Outside) ≡ Within
     by true true x y = refl
-    by false b x y = absurd cc
-    by true false x y = absurd cc
+    by a b x y = absurd cc

@@ -1,66 +1,18 @@
 -- The compression master of the sound channel takes the frames of the first masters.
-use Rattle.std.proofs.Common.{◌≡◌, ℕ, suc, ◌+◌, ◌*◌, ◌^◌, ◌≤◌, ℤ, pos, ◌+ℤ◌, ◌-ℤ◌, ◌≤ℤ◌, Bool, true, false, List, [], ◌∷◌, Option, Some, None, inl, inr, refl, sym, ap, subst, ◌∙◌, arith, unsigned_abs}
-use Rattle.std.proofs.lemmas.Bool.{eq-eqb, eqb-false}
-use Rattle.std.proofs.lemmas.Int.{ints}
-use Rattle.std.specs.List.{last_or}
-use Rattle.std.specs.Option.{option_map_or}
-use Rattle.std.specs.Prelude.{◌==◌, if◌then◌else◌, int_lt, option_and_then, unwrap_or}
-use Rattle.compression.specs.Clusters.{AreClusters, Cluster, Point, end_of, point_at}
-use Rattle.compression.specs.Role.{has_point_of, role, role_in}
+use Rattle.precision_law.proofs.words.Std.{◌*◌, ◌+ℤ◌, ◌+◌, ◌-ℤ◌, ◌==◌, ◌^◌, ◌∙◌, ◌∷◌, ◌≡◌, ◌≤ℤ◌, ◌≤◌, Bool, List, None, Option, Some, [], ap, arith, eq-eqb, eqb-false, false, if◌then◌else◌, inl, inr, int_lt, ints, last_or, option_and_then, option_map_or, pos, refl, subst, suc, sym, true, unsigned_abs, unwrap_or, ℕ, ℤ}
+use Rattle.precision_law.proofs.words.Plans.{AreClusters, Cluster, DeviceId, IsCmOf, Members, Pcf, Point, Units, Up, Way, amount, has_point_of, point_at, role, role_in}
+use Rattle.precision_law.proofs.words.Runs.{Happening, IsBefore, IsCaused, IsDue, IsIn, IsSplit, Judgement, NoteBody, adjustment_at_hearing, cycle_in, founded_at, frame_by, in_left, key, master_of, member_of, members_in, observation_window, place_of, point_by, points_of, rank, split, state_at_hearing, time_of}
+use Rattle.precision_law.proofs.words.Laws.{BlocksGoSo, HasTimeAt, HaveRoom, Hull, IsDispatch, IsFirstMaster, IsInBlock, IsInHull, IsInTime, IsRipe, IsTrip, IsView, Leg, ShowsIn, Sizes, View, adjustment_left, first_correction, first_dispatch, has_time, last_dispatch}
+use Rattle.precision_law.proofs.words.Clocks.{IsRipeArrival, IsRipeRecord, adjustment_stays, before_place, contains, earlier_before, has_member, is_collected, last_in, master_member, opened_by, permanence_is_sharp, place_of_ripe, room, sizes_are, steady, trip_says}
+use Rattle.precision_law.proofs.words.Blocks.{IsReadAt, arrival_young, before_narrow, contained, earlier_in_block, ends_soon, later_point, master_of_bit, old_shows, place_order, point_record, points_ordered, read_at}
 use Rattle.compression.specs.declared.taken.Taken.TheVariants as taken
-use Rattle.net_plan.specs.Places.{IsCmOf}
-use Rattle.net_plan.specs.declared.ids.DeviceId.{DeviceId}
-use Rattle.net_plan.specs.declared.tables.Way.TheVariants.{Up}
-use Rattle.net_plan.specs.declared.tables.Way.{Way}
-use Rattle.pcf_values.specs.declared.members.Members.{Members}
-use Rattle.pcf_values.specs.declared.pcf.Pcf.{Pcf}
 use Rattle.precision_law.proofs.block.Coming.{early_show}
 use Rattle.precision_law.proofs.block.Dispatched.{IsCalm, old_then, synchronised_then}
-use Rattle.precision_law.proofs.clocks.Epochs.{adjustment_stays}
-use Rattle.precision_law.proofs.clocks.Readings.{permanence_is_sharp}
-use Rattle.precision_law.proofs.compression.Counted.{contains, opened_by}
-use Rattle.precision_law.proofs.compression.Emitted.{arrival_young, contained, point_record}
-use Rattle.precision_law.proofs.compression.Made.{ends_soon}
-use Rattle.precision_law.proofs.compression.Ripenings.{master_of_bit}
-use Rattle.precision_law.proofs.compression.Stretches.{IsReadAt, later_point, place_order, points_ordered, read_at}
 use Rattle.precision_law.proofs.emission.Aimed.{IsAimed, of_block_cycle}
 use Rattle.precision_law.proofs.emission.Cycles.{IsTakenFor}
 use Rattle.precision_law.proofs.emission.Fits.{IsWithinOf, dispatched_within, no_point_fault}
 use Rattle.precision_law.proofs.emission.Hearkens.{JudgeAt, hearing_adjustment}
 use Rattle.precision_law.proofs.emission.Senders.{IsSender, cm_is, sends_up}
-use Rattle.precision_law.proofs.faults.Broken.{has_member}
-use Rattle.precision_law.proofs.law.Together.{before_narrow, old_shows}
-use Rattle.precision_law.proofs.records.Due.{IsRipeArrival, IsRipeRecord, is_collected, place_of_ripe}
-use Rattle.precision_law.proofs.records.PlacedFronts.{before_place}
-use Rattle.precision_law.proofs.records.Points.{earlier_before, last_in}
-use Rattle.precision_law.proofs.records.Views.{room, steady}
-use Rattle.precision_law.proofs.trips.Ascents.{master_member}
-use Rattle.precision_law.proofs.trips.Carried.{trip_says}
-use Rattle.precision_law.specs.BlockLaws.{BlocksGoSo}
-use Rattle.precision_law.specs.Blocks.{HasTimeAt, IsInBlock, adjustment_left}
-use Rattle.precision_law.specs.Epochs.{has_time}
-use Rattle.precision_law.specs.Hulls.{Hull, IsInHull, first_correction, first_dispatch, last_dispatch}
-use Rattle.precision_law.specs.Masters.{IsFirstMaster}
-use Rattle.precision_law.specs.Readings.{IsRipe}
-use Rattle.precision_law.specs.Sizes.{HaveRoom, Sizes}
-use Rattle.precision_law.specs.Standings.{ShowsIn}
-use Rattle.precision_law.specs.Trips.{IsInTime, IsTrip, Leg}
-use Rattle.precision_law.specs.Views.{IsDispatch, IsView, View}
-use Rattle.run_law.proofs.law.FirstPlaces.{IsSplit, founded_at, split}
-use Rattle.run_law.proofs.runs.Places.{in_left}
-use Rattle.run_law.specs.control.Collections.{master_of, point_by, points_of, observation_window}
-use Rattle.run_law.specs.declared.judgement.Judgement.{Judgement}
-use Rattle.run_law.specs.declared.note.NoteBody.TheVariants as notes
-use Rattle.run_law.specs.declared.note.NoteBody.{NoteBody}
-use Rattle.run_law.specs.device.States.{adjustment_at_hearing, cycle_in, state_at_hearing}
-use Rattle.run_law.specs.records.Frames.{dispatched_frame}
-use Rattle.run_law.specs.records.Happenings.{Happening, frame_by, time_of}
-use Rattle.run_law.specs.records.Order.{IsBefore, IsIn}
-use Rattle.run_law.specs.records.Ranks.{key, members_in, place_of, rank}
-use Rattle.run_law.specs.runs.DueRecords.{IsCaused, IsDue}
-use Rattle.run_law.specs.scenario.Devices.{member_of}
-use Rattle.tte_units.specs.Amount.{amount}
-use Rattle.tte_units.specs.declared.units.Units.{Units}
 
 -- ---- points that come
 
@@ -91,10 +43,7 @@ meets_other cs p e = by (last_or None cs) refl e
     by : (o : Option Cluster) → last_or None cs ≡ o → role_in (option_and_then (λ c. if int_lt c.end p.reading then None else Some c) o) p ≡ taken.OtherCycle
         → MeetsOther cs p
     by None at e = absurd cc
-    by (Some c) at e = elim (last_in None cs c at) [
-      | inl none ↦ absurd cc
-      | inr i ↦ within c i (int_lt c.end p.reading) refl e
-    ]
+    by (Some c) at e = elim (last_in None cs c at) [ inl none ↦ absurd cc | inr i ↦ within c i (int_lt c.end p.reading) refl e ]
 
 -- ---- the record of a frame's permanence
 
@@ -127,11 +76,7 @@ aimed_value n c point adjustment dmax two space x y within =
 
 late_by : (n : Sizes) (next w q : ℕ) (hull : Hull) → HaveRoom n → pos next ≤ℤ (hull.least +ℤ pos (n.correction + n.spread + 3 * n.reach + 1))
     → first_dispatch n hull ≤ℤ pos w → w + n.dmax ≤ q + n.path → next + 4 * n.precision ≤ q
-late_by n next w q hull space early low late =
-    omega (arith, ints, early, low, late, space.cycles, space.eight_errors, space.paths, space.errors.reach_is, space.errors.clock_is, space.grain)
-
-early_by : (dmax path w q by : ℕ) (last : ℤ) → pos w ≤ℤ last → q ≤ w + dmax + path → (last +ℤ pos (dmax + path)) ≤ℤ pos by → q ≤ by
-early_by dmax path w q by last high late to = omega (arith, ints, high, late, to)
+late_by n next w q hull space early low late = omega (arith, ints, early, low, late, space)
 
 -- ---- what a dispatch brings
 
@@ -155,17 +100,12 @@ has_frame v n before cm master s is first =
     let b = s.brought in
     let p = b.permanent in
     let at = founded_at v.scenario v.records s.first is.run.founded s.dispatch.there in
-    let framed : s.first.frame ≡ Some (dispatched_frame network master (suc n)) = ap (λ (x : Happening). x.frame) at.due.same
-    ∙ ap (frame_by network at.front) s.dispatch.is in
-    let says = trip_says v Up s.first b.last b.legs (dispatched_frame network master (suc n)) is b.trip framed in
+    let says = trip_says v Up s.first b.last b.legs _ is b.trip (ap (λ (x : Happening). x.frame) at.due.same ∙ ap (frame_by network at.front) s.dispatch.is) in
     let member = master_member v master is first.master in
     let there = last_there v Up s.first b.last b.legs b.trip s.dispatch.there in
     let at_a = founded_at v.scenario v.records b.last is.run.founded there in
-    let arrived : IsCaused v.scenario at_a.front b.last.note.time (notes.Arrived cm p.link p.from p.clock) = subst
-    (IsCaused v.scenario at_a.front b.last.note.time) p.is at_a.due.cause in
-    let young = arrival_young v at_a.front (amount b.last.note.time) cm p.link p.from p.clock arrived in
-    let size : v.sizes.dmax ≡ amount network.dmax = ap (λ (x : Sizes). x.dmax) is.sizes in
-    let at_point = p.at_point in
+    let young = arrival_young v _ _ cm _ _ _ (subst (IsCaused v.scenario at_a.front b.last.note.time) p.is at_a.due.cause) in
+    let size = (sizes_are v is).dmax in
     record {
       member = member.0;
       is_member = member.1;
@@ -175,9 +115,9 @@ has_frame v n before cm master s is first =
       of_members = ap (λ (m : Members). m.0) says.of_members ∙ ap (λ (o : Option ℕ). 2 ^ unwrap_or o 0) member.1;
       there = there;
       sharp =
-          permanence_is_sharp v.sizes (v.scenario.reading cm) (time_of b.last) b.point b.q (steady v is cm) (omega (arith, ints, at_point, young, size))
+          permanence_is_sharp v.sizes (v.scenario.reading cm) (time_of b.last) b.point b.q (steady v is cm) (omega (arith, ints, p.at_point, young, size))
           p.reached;
-      not_negative = omega (arith, ints, at_point, young, size);
+      not_negative = omega (arith, ints, p.at_point, young, size);
     }
 
 module _ (goes : BlocksGoSo) (v : View) (n t : ℕ) (block : IsInBlock v n t) (cm : DeviceId) (by : ℕ) (is : IsView v) (calm : IsCalm v n t block cm by)
@@ -193,33 +133,23 @@ module _ (goes : BlocksGoSo) (v : View) (n t : ℕ) (block : IsInBlock v n t) (c
       let b = s.brought in
       let q = b.q in
       let w = time_of s.first in
-      let in_time = b.in_time in
-      let to : q ≤ by = early_by v.sizes.dmax v.sizes.path w q by (last_dispatch v.sizes before.hull) s.high in_time.not_late over in
-      let behind = late_by v.sizes before.next w q before.hull space (early_show v n before is) s.low in_time.not_early in
-      let there : IsInBlock v n q = record {
-        before = before;
-        next = block.next;
-        is_over = block.is_over;
-        from = omega (arith, behind);
-        to = (let a = calm.to in let c = block.to in omega (arith, to, a, c));
-        in_run = (let a = calm.to in let c = block.in_run in omega (arith, to, a, c));
-      } in
+      let to : q ≤ by = omega (arith, ints, s.high, b.in_time.not_late, over) in
+      let behind = late_by v.sizes before.next w q before.hull space (early_show v n before is) s.low b.in_time.not_early in
+      let there : IsInBlock v n q = earlier_in_block _ _ _ _ block (omega (arith, behind)) (omega arith) in
       let old = old_then goes v n t block cm by q is calm (omega (arith, to)) in
       let has : HasTimeAt v cm q = record { good = calm.good; timed = ap has_time (synchronised_then goes v n t block cm by q is calm (omega (arith, to))) } in
       let shows = old_shows v n q q cm there is (omega arith) has old in
-      let same : adjustment_left v cm q ≡ adjustment_left v cm before.next =
-      sym (ap (λ (a : Units). a.0) (adjustment_stays v cm before.next q is (omega (arith, behind)) old)) in
+      let same = sym (ap (λ (a : Units). a.0) (adjustment_stays v cm before.next q is (omega (arith, behind)) old)) in
       let shows_so = subst (λ (a : ℤ). ShowsIn v.sizes (pos (v.scenario.reading cm q) +ℤ a) n before.hull q) same shows in
       let within = dispatched_within v.sizes before.hull n (adjustment_left v cm before.next) b.point (v.scenario.reading cm q) q w space
-      (before_narrow v n before) shows_so s.low s.high in_time.not_early in_time.not_late f.sharp.least f.sharp.most in
-      let dmax : amount v.scenario.network.dmax ≡ v.sizes.dmax = sym (ap (λ (x : Sizes). x.dmax) is.sizes) in
-      let precision : v.sizes.precision ≡ amount v.scenario.network.precision = ap (λ (x : Sizes). x.precision) is.sizes in (
+      (before_narrow v n before) shows_so s.low s.high b.in_time.not_early b.in_time.not_late f.sharp.least f.sharp.most in
+      let precision : v.sizes.precision ≡ amount v.scenario.network.precision = (sizes_are v is).precision in (
         to,
         within,
         record {
           value =
               aimed_value v.sizes (suc n) b.point (adjustment_left v cm before.next) (amount v.scenario.network.dmax) (2 * amount v.scenario.network.precision)
-              space dmax (omega (arith, precision)) within;
+              space (sym (sizes_are v is).dmax) (omega (arith, precision)) within;
           late = behind;
           most = f.sharp.most;
         },
@@ -232,12 +162,10 @@ module _ (goes : BlocksGoSo) (v : View) (n t : ℕ) (block : IsInBlock v n t) (c
       (clusters : List Cluster) → AreClusters (observation_window v.scenario.network) (points_of at.front cm) clusters
       → role clusters (point_at s.brought.point (master_of f.frame.members.0) f.frame.cycle) ≡ taken.OtherCycle → ⊥
   never_other master s f to aimed at clusters are e =
-      let network = v.scenario.network in
-      let ow = observation_window network in
+      let ow = observation_window v.scenario.network in
       let b = s.brought in
       let meets = meets_other clusters (point_at b.point (master_of f.frame.members.0) f.frame.cycle) e in
-      let opened = opened_by ow (points_of at.front cm) clusters meets.cluster (points_ordered v cm at.front at.rest is at.whole) are
-      (contains clusters meets.cluster meets.there) in
+      let opened = opened_by _ _ _ meets.cluster (points_ordered _ cm at.front at.rest is at.whole) are (contains clusters meets.cluster meets.there) in
       let o = opened.first in
       let given = point_record cm at.front o (contained (points_of at.front cm) o opened.there) in
       let k = given.0 in
@@ -247,21 +175,16 @@ module _ (goes : BlocksGoSo) (v : View) (n t : ℕ) (block : IsInBlock v n t) (c
       let early = split_at.only k given.1 in
       let r = read_at v cm k o is i g in
       let read : IsReadAt v cm b.point b.q = record { arrived = time_of b.last; ripe = f.sharp; not_negative = f.not_negative } in
-      let placed : IsBefore (time_of k ∷ 3 ∷ key (members_in k) (notes.Permanent cm g.link g.cause g.point g.verdict))
-      (place_of_ripe cm b.last b.permanent.link f.frame b.point b.q) =
-      subst (λ (z : NoteBody). IsBefore (time_of k ∷ rank z ∷ key (members_in k) z) (place_of_ripe cm b.last b.permanent.link f.frame b.point b.q)) g.is
-      (at.before k given.1) in
-      let reads = g.reads in
+      let placed = subst (λ (z : NoteBody). IsBefore (time_of k ∷ rank z ∷ key (members_in k) z)
+      (place_of_ripe cm b.last b.permanent.link f.frame b.point b.q)) g.is (at.before k given.1) in
       let low : o.reading ≤ℤ b.point = elim (place_order (time_of k) b.q cm.0 (amount g.point) (unsigned_abs b.point) (members_in k ∷ g.link.0 ∷ g.cause ∷ [])
       (f.frame.members.0 ∷ b.permanent.link.0 ∷ b.last.note.number ∷ []) placed) [
         | inl lt ↦ (let above = later_point v cm b.point (time_of k) b.q is read lt in let below = r.ripe.least in omega (arith, ints, above, below))
-        | inr le ↦ (let x = r.not_negative in let y = f.not_negative in omega (arith, ints, le, reads, x, y))
+        | inr le ↦ omega (arith, ints, le, g.reads, r.not_negative, f.not_negative)
       ] in
-      let size : v.sizes.precision ≡ amount network.precision = ap (λ (z : Sizes). z.precision) is.sizes in
+      let size = (sizes_are v is).precision in
       let soon = ends_soon ow o (o ∷ opened.rest) (omega (arith, ints)) in
-      let ends : meets.cluster.end ≡ end_of ow o (o ∷ opened.rest) = ap (λ (x : Cluster). x.end) opened.is in
-      let close = meets.to in
-      let high : b.point ≤ℤ (o.reading +ℤ pos (2 * v.sizes.precision)) = omega (arith, ints, close, soon, ends, size) in
+      let high : b.point ≤ℤ (o.reading +ℤ pos (2 * v.sizes.precision)) = omega (arith, ints, meets.to, soon, ap (λ (x : Cluster). x.end) opened.is, size) in
       let cycle = of_block_cycle goes v n t block cm by is calm (cm_is v cm of_channel).one b.point b.q k o aimed i (omega (arith, early, to)) g low high in
       meets.other (f.of_cycle ∙ sym cycle ∙ sym (ap (λ (x : Cluster). x.cycle) opened.is))
 
@@ -276,7 +199,6 @@ module _ (goes : BlocksGoSo) (v : View) (n t : ℕ) (block : IsInBlock v n t) (c
       let a = aims master sender f in
       let link = b.permanent.link in
       let cm_so = cm_is v cm of_channel in
-      let to = a.0 in
       let ripe : IsRipeArrival v cm b.last link f.frame b.point b.q = record {
         there = f.there;
         of_frame = f.of_frame;
@@ -285,25 +207,22 @@ module _ (goes : BlocksGoSo) (v : View) (n t : ℕ) (block : IsInBlock v n t) (c
         permanent = b.permanent;
         by_link = refl;
         later = (let after = f.sharp.after in after);
-        in_run = (let x = calm.to in let y = block.in_run in omega (arith, to, x, y));
+        in_run = omega (arith, a.0, calm.to, block.in_run);
       } in
       let at = split place_of (IsDue s) v.records (place_of_ripe cm b.last link f.frame b.point b.q) is.run.founded in
       let split_at = before_place v b.q (3 ∷ cm.0 ∷ unsigned_abs b.point ∷ f.frame.members.0 ∷ link.0 ∷ b.last.note.number ∷ []) at in
       let judge : JudgeAt v b.q at.front = record {
         same = earlier_before v b.q at.front split_at;
-        there = λ h i. subst (IsIn h) (sym at.whole)
-            (in_left h at.front at.rest i);
+        there = λ h i. subst (IsIn h) (sym at.whole) (in_left h at.front at.rest i);
         by_then = split_at.only;
       } in
-      let behind = a.2.late in
-      let stands = hearing_adjustment goes v n t block cm by is calm b.q at.front (omega (arith, behind)) to judge in
-      let within : IsWithinOf v.sizes f.frame.cycle v.sizes.dmax (b.point +ℤ (adjustment_at_hearing s at.front cm b.q).0) =
-      subst (λ (c : ℕ). IsWithinOf v.sizes c v.sizes.dmax (b.point +ℤ (adjustment_at_hearing s at.front cm b.q).0)) (sym f.of_cycle)
+      let stands = hearing_adjustment goes v n t block cm by is calm b.q at.front (omega (arith, a.2.late)) a.0 judge in
+      let within = subst (λ (c : ℕ). IsWithinOf v.sizes c v.sizes.dmax (b.point +ℤ (adjustment_at_hearing s at.front cm b.q).0)) (sym f.of_cycle)
       (subst (λ (z : ℤ). IsWithinOf v.sizes (suc n) v.sizes.dmax (b.point +ℤ z)) (sym stands) a.1) in
       let fine = no_point_fault v (state_at_hearing s at.front cm b.q) (adjustment_at_hearing s at.front cm b.q).0 b.point f.frame.cycle is within in
       elim (is_collected v cm b.last link f.frame b.point b.q is cm_so.one ripe at fine) [
-        | inl meets ↦ absurd (never_other master sender f to a.2 at meets.0 meets.1 meets.2)
-        | inr found ↦ recorded master sender f found.0 found.1 to a.2
+        | inl meets ↦ absurd (never_other master sender f a.0 a.2 at meets.0 meets.1 meets.2)
+        | inr found ↦ recorded master sender f found.0 found.1 a.0 a.2
       ]
     where
       recorded : (master : DeviceId) (sender : IsSender v n block.before.hull cm master) (f : HasFrame v n block.before.hull cm master sender)
@@ -311,9 +230,7 @@ module _ (goes : BlocksGoSo) (v : View) (n t : ℕ) (block : IsInBlock v n t) (c
           → sender.brought.q ≤ by → IsAimed v n block.before.next cm sender.brought.point sender.brought.q → IsGathered v n block.before.next block.before.hull
           cm master by
       recorded master sender f verdict r to aimed =
-          let b = sender.brought in
-          let at = r.time in
-          let p : Point = point_at b.point (master_of (members_in r.h)) (cycle_in r.h) in
+          let p : Point = point_at sender.brought.point (master_of (members_in r.h)) (cycle_in r.h) in
           let members : members_in r.h ≡ 2 ^ f.member = ap (λ (o : Option Pcf). option_map_or (λ x. x.members.0) o 0) r.of_frame ∙ f.of_members in
           record {
             first = sender.first;
@@ -326,8 +243,8 @@ module _ (goes : BlocksGoSo) (v : View) (n t : ℕ) (block : IsInBlock v n t) (c
             of_cycle = ap (λ (o : Option Pcf). option_map_or (λ x. x.cycle) o 0) r.of_frame ∙ f.of_cycle;
             of_master =
                 f.is_member ∙ ap (λ (m : ℕ). Some m) (sym (ap master_of members ∙ master_of_bit f.member (has_member v master f.member is f.is_member).small));
-            aimed = subst (IsAimed v n block.before.next cm b.point) (sym at) aimed;
-            in_time = subst (IsInTime v sender.first) (sym at) b.in_time;
-            to = omega (arith, at, to);
-            least = subst (λ (u : ℕ). b.point ≤ℤ pos (v.scenario.reading cm u)) (sym at) f.sharp.least;
+            aimed = subst (IsAimed v n block.before.next cm sender.brought.point) (sym r.time) aimed;
+            in_time = subst (IsInTime v sender.first) (sym r.time) sender.brought.in_time;
+            to = omega (arith, r.time, to);
+            least = subst (λ (u : ℕ). sender.brought.point ≤ℤ pos (v.scenario.reading cm u)) (sym r.time) f.sharp.least;
           }

@@ -1,40 +1,12 @@
 -- The compression master of the sound channel, a good master that began on, and what its dispatches bring.
-use Rattle.std.proofs.Common.{◌≡◌, ◌⊎◌, ℕ, zero, suc, ◌+◌, ◌*◌, ◌<◌, ◌≤◌, ℤ, pos, ◌+ℤ◌, ◌≤ℤ◌, ◌<ℤ◌, Bool, true, false, not, List, [], ◌∷◌, length, Option, Some, None, IsSomeAnd, inl, inr, refl, ap, subst, ◌∙◌, arith, slice_get}
-use Rattle.std.proofs.lemmas.Bool.{both_ways, cases_Bool, cases_lt}
-use Rattle.std.proofs.lemmas.Int.{ints}
-use Rattle.std.proofs.lemmas.Nat.{ones_le_self}
-use Rattle.std.specs.Option.{option_map_or}
-use Rattle.std.specs.Prelude.{IsNone, ◌||◌}
-use Rattle.membership.specs.Members.{count_of}
-use Rattle.net_plan.proofs.Trees.{closed, opened}
-use Rattle.net_plan.specs.Places.{IsCmOf, IsSwitchOf, device_at, is_master}
-use Rattle.net_plan.specs.declared.ids.DeviceId.{DeviceId}
-use Rattle.net_plan.specs.declared.ids.LinkId.{LinkId}
-use Rattle.net_plan.specs.declared.tables.Device.{Device}
-use Rattle.net_plan.specs.declared.tables.Role.TheVariants.{Cm}
-use Rattle.net_plan.specs.declared.tables.Role.{Role}
-use Rattle.net_plan.specs.declared.tables.Way.TheVariants.{Up}
-use Rattle.pcf_values.specs.declared.channel.Channel.TheVariants.{A, B}
-use Rattle.pcf_values.specs.declared.channel.Channel.{Channel}
+use Rattle.precision_law.proofs.words.Std.{◌*◌, ◌+ℤ◌, ◌+◌, ◌<ℤ◌, ◌<◌, ◌||◌, ◌∙◌, ◌∷◌, ◌≡◌, ◌≤ℤ◌, ◌≤◌, ◌⊎◌, Bool, IsNone, IsSomeAnd, List, None, Option, Some, [], ap, arith, both_ways, cases_Bool, cases_lt, false, inl, inr, ints, length, not, ones_le_self, option_map_or, pos, refl, slice_get, subst, suc, true, zero, ℕ, ℤ}
+use Rattle.precision_law.proofs.words.Plans.{A, B, Channel, Cm, CompressionMasters, Device, DeviceId, IsCmOf, IsSwitchOf, LinkId, Masters, Role, Units, Up, closed, count_of, device_at, is_master, opened}
+use Rattle.precision_law.proofs.words.Runs.{Happening, has_role, is_broken, is_cm, is_cm_role, is_parent_of, is_relay_role, time_of, waits_for}
+use Rattle.precision_law.proofs.words.Laws.{BlocksGoSo, Hull, IsBrought, IsDispatch, IsFirstMaster, IsInBlock, IsInHull, IsView, View, first_correction, first_dispatch, last_dispatch}
+use Rattle.precision_law.proofs.words.Clocks.{enough_masters, frames_come_first, room}
+use Rattle.precision_law.proofs.words.Blocks.{before_narrow, earlier_in_block, follows_before, sound_frames_go_up}
 use Rattle.precision_law.proofs.block.Dispatched.{masters_dispatch}
-use Rattle.precision_law.proofs.faults.Enough.{enough_masters}
-use Rattle.precision_law.proofs.law.Together.{before_narrow, follows_before}
-use Rattle.precision_law.proofs.records.Views.{room}
-use Rattle.precision_law.proofs.sizes.Instants.{frames_come_first}
 use Rattle.precision_law.proofs.trips.Gates.{dispatches_pass}
-use Rattle.precision_law.proofs.trips.SoundUp.{sound_frames_go_up}
-use Rattle.precision_law.specs.BlockLaws.{BlocksGoSo}
-use Rattle.precision_law.specs.Blocks.{IsInBlock}
-use Rattle.precision_law.specs.Hulls.{Hull, IsInHull, first_correction, first_dispatch, last_dispatch}
-use Rattle.precision_law.specs.Masters.{IsFirstMaster}
-use Rattle.precision_law.specs.Trips.{IsBrought}
-use Rattle.precision_law.specs.Views.{IsDispatch, IsView, View}
-use Rattle.run_law.specs.control.Permanence.{waits_for}
-use Rattle.run_law.specs.records.Happenings.{Happening, time_of}
-use Rattle.run_law.specs.scenario.Devices.{has_role, is_cm, is_cm_role, is_parent_of, is_relay_role}
-use Rattle.run_law.specs.scenario.Scenarios.{is_broken}
-use Rattle.schedule_tables.specs.declared.rule.Rule.TheVariants.{CompressionMasters, Masters}
-use Rattle.tte_units.specs.declared.units.Units.{Units}
 
 -- ---- the compression master
 
@@ -119,17 +91,15 @@ within (x ∷ xs) (suc i) kind e = (let more = within xs i kind e in omega (arit
 -- the masters are enough, so there is one
 pub first_master : (v : View) → IsView v → (device : DeviceId) × IsFirstMaster v device
 first_master v is =
-    let n = v.scenario.network in
-    elim (some_first v n.device 0) [
+    elim (some_first v v.scenario.network.device 0) [
       | inl found ↦ found
       | inr none ↦
           let enough = enough_masters v (record { 0 = 0 }) is
           (λ device i m e.
-          absurd (none device.0 (within n.device device.0 is_master m.master)
+          absurd (none device.0 (within v.scenario.network.device device.0 is_master m.master)
           (subst (λ (k : ℕ). IsFirstMaster v (record { 0 = k })) (zero_plus device.0) m))) in
-          let least = (is.lawful.rules Masters 2).threshold_least refl in
           let nothing : count_of (record { 0 = 0 }) ≤ 0 = ones_le_self 0 in
-          absurd (omega (arith, enough, least, nothing))
+          absurd (omega (arith, enough, (is.lawful.rules Masters 2).threshold_least refl, nothing))
     ]
   where
     zero_plus : (n : ℕ) → n ≡ 0 + n
@@ -156,9 +126,7 @@ in_time w t until dmax compression base path precision reach last first le lt la
 -- the last dispatch comes before the correction points
 dispatches_over : (v : View) (n t : ℕ) (block : IsInBlock v n t) → IsView v → (first_correction v.sizes block.before.hull +ℤ pos v.sizes.reach) ≤ℤ pos t
     → last_dispatch v.sizes block.before.hull ≤ℤ pos t
-dispatches_over v n t block is late =
-    let first = frames_come_first v.sizes block.before.hull (room v is) (before_narrow v n block.before) in
-    omega (arith, ints, first, late)
+dispatches_over v n t block is late = omega (arith, ints, frames_come_first v.sizes block.before.hull (room v is) (before_narrow v n block.before), late)
 
 -- each first master has one
 pub sends_up : BlocksGoSo → (v : View) (n t : ℕ) (block : IsInBlock v n t) (cm master : DeviceId) → IsView v
@@ -175,24 +143,15 @@ sends_up goes v n t block cm master is late one first =
       | inr ge ↦ ge
       | inl early ↦ (let wrong = (before.dispatches sent.0 master (suc n) sent.1 early).0 in absurd (omega (arith, wrong)))
     ] in
-    let there : IsInBlock v n w = record {
-      before = before;
-      next = block.next;
-      is_over = block.is_over;
-      from = from;
-      to = omega (arith, times.0, block.to);
-      in_run = omega (arith, times.0, block.in_run);
-    } in
+    let there : IsInBlock v n w = earlier_in_block _ _ _ _ block from (omega arith) in
     let so = (goes v n w there is).dispatches sent.0 master (suc n) sent.1 refl in
     let hull = so.inside in
-    let follows = follows_before v n before.hull hull.hull is before.is_hull hull.is in
-    let low : first_dispatch v.sizes before.hull ≤ℤ pos w = (let a = follows.least in let b = hull.least in omega (arith, ints, a, b)) in
-    let open_gates = dispatches_pass goes v n w there is low sent.2 times.2 in
+    let low : first_dispatch v.sizes before.hull ≤ℤ pos w = omega (arith, ints, (follows_before v n _ _ is before.is_hull hull.is).least, hull.least) in
     record {
       first = sent.0;
       dispatch = sent.1;
       inside = hull;
       low = low;
       high = sent.2;
-      brought = sound_frames_go_up v sent.0 master cm (suc n) is sent.1 one open_gates times.1;
+      brought = sound_frames_go_up v sent.0 master cm (suc n) is sent.1 one (dispatches_pass goes v n w there is low sent.2 times.2) times.1;
     }

@@ -1,29 +1,12 @@
 -- One master at most is broken, and no two masters have one member number.
-use Rattle.std.proofs.Common.{◌≡◌, ℕ, zero, suc, ◌<◌, ◌≤◌, Bool, true, false, List, [], ◌∷◌, ◌++◌, filter, Option, Some, None, inl, inr, refl, sym, ap, subst, ◌∙◌, arith}
-use Rattle.std.proofs.lemmas.Bool.{cases_eq, cases_lt}
-use Rattle.std.specs.Prelude.{IfSome, if◌then◌else◌, is_some, nat_le, option_and_then, slice_get}
-use Rattle.net_plan.specs.Places.{device_at, is_master}
-use Rattle.net_plan.specs.Ranges.{IsDeviceInRange}
-use Rattle.net_plan.specs.declared.event.Event.{Event}
+use Rattle.precision_law.proofs.words.Std.{◌++◌, ◌<◌, ◌∙◌, ◌∷◌, ◌≡◌, ◌≤◌, Bool, IfSome, List, Option, Some, [], ap, arith, cases_eq, cases_lt, false, filter, if◌then◌else◌, inl, inr, is_some, nat_le, refl, slice_get, subst, suc, sym, true, zero, ℕ}
+use Rattle.precision_law.proofs.words.Plans.{Device, DeviceId, Event, IsDeviceInRange, Masters, all_at, amount, device_at, is_master}
+use Rattle.precision_law.proofs.words.Runs.{Breaks, IsBroken, IsIn, SecondBreak, any_first, any_later, breaks_at, events_up_to, in_filter, in_parts, member_of, parted}
+use Rattle.precision_law.proofs.words.Laws.{IsBad, IsView, OneMasterBreaks, View}
 use Rattle.net_plan.specs.declared.event.What.TheVariants as events
-use Rattle.net_plan.specs.declared.ids.DeviceId.{DeviceId}
-use Rattle.net_plan.specs.declared.tables.Device.{Device}
 use Rattle.precision_law.proofs.faults.Masters.{any_in, breaks_it, device_of_place}
 use Rattle.precision_law.proofs.trips.Ascents.{bad_role}
-use Rattle.precision_law.specs.Masters.{OneMasterBreaks}
-use Rattle.precision_law.specs.Views.{IsBad, IsView, View}
-use Rattle.run_law.proofs.law.FirstPlaces.{in_filter}
-use Rattle.run_law.proofs.runs.Places.{in_parts, parted}
-use Rattle.run_law.proofs.scenario.Decisions.{any_first, any_later}
-use Rattle.run_law.specs.declared.outside.Outside.TheVariants.{SecondBreak}
-use Rattle.run_law.specs.records.Order.{IsIn}
-use Rattle.run_law.specs.scenario.Devices.{member_of}
-use Rattle.run_law.specs.scenario.Faults.{Breaks, IsBroken}
-use Rattle.run_law.specs.scenario.Hypothesis.{breaks_at}
-use Rattle.run_law.specs.scenario.Scenarios.{events_up_to}
-use Rattle.schedule_tables.proofs.EntryLemmas.{all_at}
-use Rattle.schedule_tables.specs.declared.rule.Rule.TheVariants.{Masters}
-use Rattle.tte_units.specs.Amount.{amount}
+use Rattle.precision_law.proofs.Plain.{reached}
 
 -- ---- one breaks
 
@@ -56,25 +39,22 @@ split_twice (p ∷ ps) mid qs e = ap (λ (t : List _). p ∷ t) (split_twice ps 
 
 pub one_bad : (v : View) (device other : DeviceId) → IsView v → IsBad v device → IsBad v other → other ≡ device
 one_bad v device other is bad bad' =
-    let s = v.scenario in
     let a = broke_by v device bad in
     let b = broke_by v other bad' in
-    let at = parted a.event s.events a.there in
+    let at = parted a.event v.scenario.events a.there in
     elim (in_parts b.event at.0 (a.event ∷ at.1) (subst (IsIn b.event) at.2 b.there)) [
       | inl before ↦ absurd (is.lawful.within at.0 at.1 a.event at.2 SecondBreak
           (record { device = device; broken = other; breaks = a.breaks; is_broken = broken_in at.0 b.event other before b.breaks }))
       | inr (inl same) ↦ (let both : events.Break other ≡ events.Break device = sym b.breaks ∙ ap (λ (e : Event). e.what) same ∙ a.breaks in cc)
       | inr (inr after) ↦
           let to = parted b.event at.1 after in
-          let whole : s.events ≡ (at.0 ++ a.event ∷ to.0) ++ b.event ∷ to.1 = at.2 ∙ ap (λ (t : List Event). at.0 ++ a.event ∷ t) to.2
-          ∙ sym (split_twice at.0 to.0 (b.event ∷ to.1) a.event) in
+          let whole = at.2 ∙ ap (λ (t : List Event). at.0 ++ a.event ∷ t) to.2 ∙ sym (split_twice at.0 to.0 (b.event ∷ to.1) a.event) in
           absurd (is.lawful.within (at.0 ++ a.event ∷ to.0) to.1 b.event whole SecondBreak
           (record {
             device = other;
             broken = device;
             breaks = b.breaks;
-            is_broken = broken_in (at.0 ++ a.event ∷ to.0) a.event device
-                (in_end at.0 to.0 a.event) a.breaks;
+            is_broken = broken_in (at.0 ++ a.event ∷ to.0) a.event device (in_end at.0 to.0 a.event) a.breaks;
           }))
     ]
 
@@ -91,10 +71,7 @@ kept_place {X} p (z ∷ zs) zero x at pass =
     (0, ap (λ (b : Bool). slice_get (if b then z ∷ filter p zs else filter p zs) 0) (ap p same ∙ pass) ∙ ap (λ (y : X). Some y) same)
 kept_place p (z ∷ zs) (suc i) x at pass =
     let more = kept_place p zs i x at pass in
-    elim (p z) as (λ b. (j : ℕ) × (slice_get (if b then z ∷ filter p zs else filter p zs) j ≡ Some x)) [
-      | true ↦ (suc more.0, more.1)
-      | false ↦ more
-    ]
+    elim (p z) as (λ b. (j : ℕ) × (slice_get (if b then z ∷ filter p zs else filter p zs) j ≡ Some x)) [ true ↦ (suc more.0, more.1) | false ↦ more ]
 
 kept_pair : {X : Type 0} (p : X → Bool) (xs : List X) (i k : ℕ) (x y : X) → i < k → slice_get xs i ≡ Some x → slice_get xs k ≡ Some y → p x ≡ true → p y ≡ true
     → (j : ℕ) × (l : ℕ) × (j < l) × (slice_get (filter p xs) j ≡ Some x) × (slice_get (filter p xs) l ≡ Some y)
@@ -113,10 +90,7 @@ kept_pair {X} p (z ∷ zs) zero (suc k) x y lt at to pass passed =
 kept_pair p (z ∷ zs) (suc i) (suc k) x y lt at to pass passed =
     let more = kept_pair p zs i k x y (omega (arith, lt)) at to pass passed in
     elim (p z) as (λ b. (j : ℕ) × (l : ℕ) × (j < l) × (slice_get (if b then z ∷ filter p zs else filter p zs) j ≡ Some x)
-    × (slice_get (if b then z ∷ filter p zs else filter p zs) l ≡ Some y)) [
-      | true ↦ (suc more.0, suc more.1, (let lt' = more.2 in omega (arith, lt')), more.3, more.4)
-      | false ↦ more
-    ]
+    × (slice_get (if b then z ∷ filter p zs else filter p zs) l ≡ Some y)) [ true ↦ (suc more.0, suc more.1, omega arith, more.3, more.4) | false ↦ more ]
 
 -- the device of a member number
 pub record HasMember (v : View) (device : DeviceId) (m : ℕ) : Type 0 where
@@ -127,19 +101,16 @@ pub record HasMember (v : View) (device : DeviceId) (m : ℕ) : Type 0 where
   pub small : m ≤ 31
 
 pub has_member : (v : View) (device : DeviceId) (m : ℕ) → IsView v → member_of v.scenario.network device ≡ Some m → HasMember v device m
-has_member v device m is e = by (device_at v.scenario.network device) refl e
-  where
-    by : (o : Option Device) → device_at v.scenario.network device ≡ o → option_and_then (λ d. d.member) o ≡ Some m → HasMember v device m
-    by None at e = absurd cc
-    by (Some d) at e =
-        let known : IsDeviceInRange d = all_at IsDeviceInRange v.scenario.network.device device.0 d is.lawful.range.devices at in
-        record {
-          d = d;
-          at = at;
-          member = e;
-          master = sym known.masters ∙ ap is_some e;
-          small = subst (λ (o : Option ℕ). IfSome o (λ k. k ≤ 31)) e known.member;
-        }
+has_member v device m is e =
+    let d = reached (λ (x : Device). x.member) (device_at v.scenario.network device) m e in
+    let known : IsDeviceInRange d.0 = all_at IsDeviceInRange v.scenario.network.device device.0 d.0 is.lawful.range.devices d.1 in
+    record {
+      d = d.0;
+      at = d.1;
+      member = d.2;
+      master = sym known.masters ∙ ap is_some d.2;
+      small = subst (λ (o : Option ℕ). IfSome o (λ k. k ≤ 31)) d.2 known.member;
+    }
 
 pub one_member : (v : View) (a b : DeviceId) (m : ℕ) → IsView v → member_of v.scenario.network a ≡ Some m → member_of v.scenario.network b ≡ Some m → a ≡ b
 one_member v a b m is of_a of_b =
@@ -153,8 +124,7 @@ one_member v a b m is of_a of_b =
             let p = kept_pair (λ (d : Device). is_master d.role) v.scenario.network.device a.0 b.0 x.d y.d lt x.at y.at x.master y.master in
             absurd (differ p.0 p.1 x.d y.d p.2 p.3 p.4 (x.member ∙ sym y.member))
         | inr ge ↦
-            let p = kept_pair (λ (d : Device). is_master d.role) v.scenario.network.device b.0 a.0 y.d x.d (strict a.0 b.0 ge other) y.at x.at y.master x.master
-            in
+            let p = kept_pair (λ (d : Device). is_master d.role) v.scenario.network.device b.0 a.0 _ _ (strict a.0 b.0 ge other) y.at x.at y.master x.master in
             absurd (differ p.0 p.1 y.d x.d p.2 p.3 p.4 (y.member ∙ sym x.member))
       ]
     ]

@@ -1,42 +1,14 @@
 -- Enough masters began on and are good.
-use Rattle.std.proofs.Common.{◌≡◌, ◌⊎◌, ℕ, zero, suc, ◌+◌, ◌/◌, ◌<◌, ◌≤◌, Bool, true, false, cond, not, List, [], ◌∷◌, ◌++◌, count_by, count_ones, filter, length, Option, Some, None, inl, inr, refl, sym, ap, subst, ◌∙◌, arith}
-use Rattle.std.proofs.lemmas.Bool.{and_parts, both_ways, cases_eq, cases_lt, eq-eqb, false_from_ne_true}
-use Rattle.std.proofs.lemmas.List.Sums.{sum_by-cons}
-use Rattle.std.proofs.lemmas.Nat.{ones_le_self}
-use Rattle.std.proofs.lemmas.Nat.Bits.{bit_at-pow_other, bit_at-suc, bit_at-zero, bit_at_lowest, bit_at_or}
-use Rattle.std.specs.Int.{bit_at}
-use Rattle.std.specs.Int.Count.{ones_step}
-use Rattle.std.specs.List.{enumerate_from, list_any}
-use Rattle.std.specs.Option.{option_map_or}
-use Rattle.std.specs.Prelude.{◌&&◌, IsNone, if◌then◌else◌, is_some, option_and_then, slice_get}
+use Rattle.precision_law.proofs.words.Std.{◌&&◌, ◌++◌, ◌+◌, ◌/◌, ◌<◌, ◌∙◌, ◌∷◌, ◌≡◌, ◌≤◌, ◌⊎◌, Bool, IsNone, List, None, Option, Some, [], and_parts, ap, arith, bit_at, bit_at-pow_other, bit_at-suc, bit_at-zero, bit_at_lowest, bit_at_or, both_ways, cases_eq, cases_lt, cond, count_by, count_ones, enumerate_from, eq-eqb, false, false_from_ne_true, filter, if◌then◌else◌, inl, inr, is_some, length, list_any, not, not-true, ones_le_self, ones_step, option_and_then, option_map_or, refl, slice_get, subst, suc, sum_by-cons, sym, true, zero, ℕ}
+use Rattle.precision_law.proofs.words.Plans.{Device, DeviceId, Event, IsDeviceInRange, IsMember, Masters, Members, Units, all_at, closed, count_of, device_at, is_master, none, single, union}
+use Rattle.precision_law.proofs.words.Runs.{Breaks, IsIn, TooFewMasters, breaks_at, is_broken, is_sound_master, member_of, parted, sound_masters}
+use Rattle.precision_law.proofs.words.Laws.{EnoughMasters, IsBad, IsFirstMaster, IsGood, IsView, View}
 use Rattle.membership.proofs.CountLemmas.{count_of-union_single}
-use Rattle.membership.specs.Members.{IsMember, count_of, none, single, union}
-use Rattle.net_plan.proofs.Trees.{closed}
-use Rattle.net_plan.specs.Places.{device_at, is_master}
-use Rattle.net_plan.specs.Ranges.{IsDeviceInRange}
-use Rattle.net_plan.specs.declared.event.Event.{Event}
-use Rattle.net_plan.specs.declared.ids.DeviceId.{DeviceId}
-use Rattle.net_plan.specs.declared.tables.Device.{Device}
-use Rattle.pcf_values.specs.declared.members.Members.{Members}
 use Rattle.precision_law.proofs.faults.Broken.{broke_by, one_bad, one_member}
 use Rattle.precision_law.proofs.faults.Masters.{in_any}
-use Rattle.precision_law.specs.Masters.{EnoughMasters, IsFirstMaster}
-use Rattle.precision_law.specs.Views.{IsBad, IsGood, IsView, View}
-use Rattle.run_law.proofs.runs.Places.{parted}
-use Rattle.run_law.specs.declared.outside.Outside.TheVariants.{TooFewMasters}
-use Rattle.run_law.specs.records.Order.{IsIn}
-use Rattle.run_law.specs.scenario.Devices.{member_of}
-use Rattle.run_law.specs.scenario.Faults.{Breaks}
-use Rattle.run_law.specs.scenario.Hypothesis.{breaks_at, is_sound_master, sound_masters}
-use Rattle.run_law.specs.scenario.Scenarios.{is_broken}
-use Rattle.schedule_tables.proofs.EntryLemmas.{all_at}
-use Rattle.schedule_tables.specs.declared.rule.Rule.TheVariants.{Masters}
-use Rattle.tte_units.specs.declared.units.Units.{Units}
+use Rattle.precision_law.proofs.Plain.{some_of}
 
 -- ---- bits
-
-bit_small : (n i : ℕ) → bit_at n i < 2
-bit_small n i = omega arith
 
 -- a number whose bits another one has has no more ones
 ones_within : (d n m : ℕ) → n ≤ d → ((i : ℕ) → bit_at n i ≤ bit_at m i) → count_ones n ≤ count_ones m
@@ -44,12 +16,11 @@ ones_within zero n m small each = (let few = ones_le_self n in omega (arith, few
 ones_within (suc d) n m small each =
     let halves = ones_within d (n / 2) (m / 2) (omega (arith, small))
     (λ i. (let up = each (suc i) in let a = bit_at-suc n i in let b = bit_at-suc m i in omega (arith, up, a, b))) in
-    let lowest = each 0 in
-    omega (arith, ones_step n, ones_step m, halves, lowest, bit_at_lowest n, bit_at_lowest m)
+    omega (arith, ones_step n, ones_step m, halves, each 0, bit_at_lowest n, bit_at_lowest m)
 
 -- a set within another has no more members
 pub sets_within : (a b : Members) → ((i : ℕ) → IsMember i a → IsMember i b) → count_of a ≤ count_of b
-sets_within a b each = ones_within a.0 a.0 b.0 (omega arith) (λ i. by i (bit_at a.0 i) refl (bit_small a.0 i))
+sets_within a b each = ones_within a.0 a.0 b.0 (omega arith) (λ i. by i (bit_at a.0 i) refl (omega arith))
   where
     by : (i x : ℕ) → bit_at a.0 i ≡ x → x < 2 → bit_at a.0 i ≤ bit_at b.0 i
     by i zero e lt = omega (arith, e)
@@ -58,12 +29,7 @@ sets_within a b each = ones_within a.0 a.0 b.0 (omega arith) (λ i. by i (bit_at
 
 -- what is in a set with one more
 in_union : (i k : ℕ) (m : Members) → IsMember i (union (single k) m) → (i ≡ k) ⊎ IsMember i m
-in_union i k m set =
-    elim (cases_eq i k) [
-      | inl same ↦ inl same
-      | inr other ↦ (let step = bit_at_or (single k).0 m.0 i in let clear = bit_at-pow_other k i other in let small = bit_small m.0 i in inr
-          (omega (arith, step, clear, set, small)))
-    ]
+in_union i k m set = elim (cases_eq i k) [ inl same ↦ inl same | inr other ↦ inr (omega (arith, bit_at_or (single k).0 m.0 i, bit_at-pow_other k i other)) ]
 
 -- ---- the sound masters' members
 
@@ -75,18 +41,9 @@ record IsSoundAt (v : View) (befallen : List Event) (i : ℕ) : Type 0 where
   pub sound : is_sound_master befallen (device.0, d) ≡ true
   pub is_member : member_of v.scenario.network device ≡ Some i
 
--- a set of as many members as there are sound masters in a part, and those of others before
-record HasSet (v : View) (befallen : List Event) (many : ℕ) : Type 0 where
-  pub set : Members
-  pub count : count_of set ≡ many
-  pub each : (i : ℕ) → IsMember i set → IsSoundAt v befallen i
-
 -- all members so far are those of devices before the place
 abbrev AreBelow : View → List Event → ℕ → Members → Type 0
 AreBelow v befallen place set = (i : ℕ) → IsMember i set → (s : IsSoundAt v befallen i) × (s.device.0 < place)
-
-device_no : ℕ → DeviceId
-device_no k = record { 0 = k }
 
 sound_member : (v : View) (befallen : List Event) (k : ℕ) (d : Device) → IsView v → slice_get v.scenario.network.device k ≡ Some d
     → is_sound_master befallen (k, d) ≡ true → (i : ℕ) × (member_of v.scenario.network (record { 0 = k }) ≡ Some i)
@@ -96,10 +53,6 @@ sound_member v befallen k d is at sound =
     (and_parts (is_master d.role && is_some d.start) (not (list_any (λ e. breaks_at k e.what) befallen)) sound).0).0 in
     let m = some_of d.member (known.masters ∙ role) in
     (m.0, ap (λ (o : Option Device). option_and_then (λ x. x.member) o) at ∙ m.1)
-  where
-    some_of : (o : Option ℕ) → is_some o ≡ true → (m : ℕ) × (o ≡ Some m)
-    some_of None e = absurd cc
-    some_of (Some m) e = (m, refl)
 
 grow : (v : View) (befallen : List Event) (xs : List Device) (k : ℕ) (set : Members) → IsView v
     → ((j : ℕ) (d : Device) → slice_get xs j ≡ Some d → slice_get v.scenario.network.device (k + j) ≡ Some d) → AreBelow v befallen k set
@@ -130,24 +83,19 @@ grow v befallen (d ∷ xs) k set is there below = by (is_sound_master befallen (
     by false e back =
         let r = back set is later (λ i m. (let b = below i m in let lt = b.1 in (b.0, omega (arith, lt)))) in
         let c = sum_by-cons (λ (x : ℕ × Device). cond (is_sound_master befallen x) 1 0) (k, d) (enumerate_from (k + 1) xs) in
-        let one : cond (is_sound_master befallen (k, d)) 1 0 ≡ 0 = ap (λ (b : Bool). let n : ℕ = cond b 1 0 in n) e in
-        let many = r.1 in
-        (r.0, omega (arith, many, c, one), r.2)
+        (r.0, omega (arith, r.1, c, ap (λ (b : Bool). let n : ℕ = cond b 1 0 in n) e), r.2)
     by true e back =
         let m = sound_member v befallen k d is here e in
         let new : IsMember m.0 set → ⊥ = λ old.
         (let b = below m.0 old in let lt = b.1 in let same = one_member v b.0.device (record { 0 = k }) m.0 is b.0.is_member
         m.1 in let place : b.0.device.0 ≡ k = ap (λ (x : DeviceId). x.0) same in absurd (omega (arith, lt, place))) in
-        let wider = union (single m.0) set in
         let grown = count_of-union_single m.0 set new in
-        let r = back wider is later (λ i j. elim (in_union i m.0 set j) [
+        let r = back (union (single m.0) set) is later (λ i j. elim (in_union i m.0 set j) [
           | inl same ↦ (record { device = record { 0 = k }; d = d; at = here; sound = e; is_member = m.1 ∙ ap (λ (x : ℕ). Some x) (sym same) }, omega arith)
           | inr old ↦ (let b = below i old in let lt = b.1 in (b.0, omega (arith, lt)))
         ]) in
         let c = sum_by-cons (λ (x : ℕ × Device). cond (is_sound_master befallen x) 1 0) (k, d) (enumerate_from (k + 1) xs) in
-        let one : cond (is_sound_master befallen (k, d)) 1 0 ≡ 1 = ap (λ (b : Bool). let n : ℕ = cond b 1 0 in n) e in
-        let many = r.1 in
-        (r.0, omega (arith, many, c, one, grown), r.2)
+        (r.0, omega (arith, r.1, c, ap (λ (b : Bool). let n : ℕ = cond b 1 0 in n) e, grown), r.2)
 
 -- a set that has all first masters has as many members as there are sound masters, where these are good
 enough_by : (v : View) (befallen : List Event) (members : Members) → IsView v
@@ -156,13 +104,10 @@ enough_by : (v : View) (befallen : List Event) (members : Members) → IsView v
     → IsGood v device)
     → sound_masters v.scenario.network befallen ≤ count_of members
 enough_by v befallen members is all good =
-    let n = v.scenario.network in
-    let r = grow v befallen n.device 0 none is (λ j d at. subst (λ (x : ℕ). slice_get n.device x ≡ Some d) (zero_plus j) at)
+    let r = grow v befallen v.scenario.network.device 0 none is (λ j d at. subst (λ (x : ℕ). slice_get v.scenario.network.device x ≡ Some d) (zero_plus j) at)
     (λ i m. (let z = bit_at-zero i in absurd (omega (arith, m, z)))) in
-    let few = sets_within r.0 members (λ i m. is_first i (r.2 i m)) in
-    let many = r.1 in
     let empty : count_of none ≡ 0 = (let le = ones_le_self 0 in omega (arith, le)) in
-    omega (arith, many, few, empty)
+    omega (arith, r.1, sets_within r.0 members (λ i m. is_first i (r.2 i m)), empty)
   where
     zero_plus : (n : ℕ) → n ≡ 0 + n
     zero_plus n = omega arith
@@ -181,12 +126,8 @@ enough_by v befallen members is all good =
         all s.device i (record {
           master = is_there (device_at v.scenario.network s.device) s.d s.at parts.0;
           on = closed (λ (x : Device). IsNone x.start → ⊥) (device_at v.scenario.network s.device) s.d s.at (starts s.d.start parts.1);
-          good = good s.device s.d s.at (false_by (list_any (λ e. breaks_at s.device.0 e.what) befallen) more.1);
+          good = good s.device s.d s.at (not-true (list_any (λ e. breaks_at s.device.0 e.what) befallen) more.1);
         }) s.is_member
-      where
-        false_by : (b : Bool) → not b ≡ true → b ≡ false
-        false_by true e = absurd cc
-        false_by false e = refl
 
 -- ---- the masters that begin on
 
@@ -195,33 +136,25 @@ none_befell : (xs : List Device) (k : ℕ) → count_by (is_sound_master []) (en
     (filter (λ d. is_master d.role) xs)
 none_befell [] k = refl
 none_befell (d ∷ xs) k =
-    let more = none_befell xs (k + 1) in
     let a = sum_by-cons (λ (x : ℕ × Device). cond (is_sound_master [] x) 1 0) (k, d) (enumerate_from (k + 1) xs) in
-    by (is_master d.role) (is_some d.start) refl refl more a
+    by (is_master d.role) (is_some d.start) refl refl (none_befell xs (k + 1)) a
   where
     by : (m s : Bool) → is_master d.role ≡ m → is_some d.start ≡ s → count_by (is_sound_master []) (enumerate_from (k + 1) xs) ≡ count_by (λ d. is_some d.start)
         (filter (λ d. is_master d.role) xs) → count_by (is_sound_master []) (enumerate_from k (d ∷ xs)) ≡ cond (is_sound_master [] (k, d)) 1 0 + count_by
         (is_sound_master []) (enumerate_from (k + 1) xs) → count_by (is_sound_master []) (enumerate_from k (d ∷ xs)) ≡ count_by (λ d. is_some d.start)
         (filter (λ d. is_master d.role) (d ∷ xs))
     by false s e f more a =
-        let kept : filter (λ d. is_master d.role) (d ∷ xs) ≡ filter (λ d. is_master d.role) xs =
-        ap (λ (b : Bool). if b then d ∷ filter (λ d. is_master d.role) xs else filter (λ d. is_master d.role) xs) e in
+        let kept = ap (λ (b : Bool). if b then d ∷ filter (λ d. is_master d.role) xs else filter (λ d. is_master d.role) xs) e in
         let one : cond (is_sound_master [] (k, d)) 1 0 ≡ 0 = ap (λ (b : Bool). let n : ℕ = cond (b && is_some d.start && true) 1 0 in n) e in
-        let same : count_by (λ d. is_some d.start) (filter (λ d. is_master d.role) (d ∷ xs)) ≡ count_by (λ d. is_some d.start)
-        (filter (λ d. is_master d.role) xs) = ap (λ (ys : List Device). count_by (λ d. is_some d.start) ys) kept in
-        omega (arith, more, a, one, same)
+        omega (arith, more, a, one, ap (λ (ys : List Device). count_by (λ d. is_some d.start) ys) kept)
     by true s e f more a =
-        let kept : filter (λ d. is_master d.role) (d ∷ xs) ≡ d
-        ∷ filter (λ d. is_master d.role) xs = ap (λ (b : Bool). if b then d ∷ filter (λ d. is_master d.role) xs else filter (λ d. is_master d.role) xs)
-        e in
+        let kept = ap (λ (b : Bool). if b then d ∷ filter (λ d. is_master d.role) xs else filter (λ d. is_master d.role) xs) e in
         let c = sum_by-cons (λ (x : Device). cond (is_some x.start) 1 0) d (filter (λ d. is_master d.role) xs) in
         let one : cond (is_sound_master [] (k, d)) 1 0 ≡ cond (s && true) 1 0 = ap (λ (b : Bool). let n : ℕ = cond (b && is_some d.start && true) 1 0 in n) e
         ∙ ap (λ (b : Bool). let n : ℕ = cond (b && true) 1 0 in n) f in
         let other : cond (is_some d.start) 1 0 ≡ cond s 1 0 = ap (λ (b : Bool). let n : ℕ = cond b 1 0 in n) f in
         let trues : cond (s && true) 1 0 ≡ cond s 1 0 = ap (λ (b : Bool). let n : ℕ = cond b 1 0 in n) (and_true s) in
-        let same : count_by (λ d. is_some d.start) (filter (λ d. is_master d.role) (d ∷ xs)) ≡ count_by (λ d. is_some d.start)
-        (d ∷ filter (λ d. is_master d.role) xs) = ap (λ (ys : List Device). count_by (λ d. is_some d.start) ys) kept in
-        omega (arith, more, a, one, same, c, other, trues)
+        omega (arith, more, a, one, ap (λ (ys : List Device). count_by (λ d. is_some d.start) ys) kept, c, other, trues)
       where
         and_true : (b : Bool) → (b && true) ≡ b
         and_true true = refl
@@ -258,10 +191,8 @@ enough_masters v members is all =
     let n = v.scenario.network in
     elim (some_bad v n.device 0) [
       | inr good ↦
-          let begun = (is.lawful.rules Masters 3).begin_on refl in
-          let same = none_befell n.device 0 in
           let enough = enough_by v [] members is all (λ device d at none_breaks. good_place device (good device.0 (within n.device device.0 d at))) in
-          omega (arith, begun, same, enough)
+          omega (arith, (is.lawful.rules Masters 3).begin_on refl, none_befell n.device 0, enough)
       | inl bad ↦
           let b = broke_by v bad.0 bad.1 in
           let at = parted b.event v.scenario.events b.there in

@@ -1,40 +1,10 @@
 -- What the fault hypothesis leaves.
-use Rattle.std.proofs.Common.{◌≡◌, ℕ, ◌≤◌, Bool, true, false, List, [], ◌∷◌, ◌++◌, Option, Some, inl, inr, refl, sym, ap, subst, ◌∙◌, arith, ◌||◌, le-leb}
-use Rattle.std.proofs.lemmas.Bool.{both_ways, eqb-true, false_from_ne_true, leb-true, or_left, not_from_true, or_right}
-use Rattle.std.specs.List.{list_any}
-use Rattle.std.specs.Prelude.{Any, IsSomeAnd, is_some, nat_le}
-use Rattle.net_plan.proofs.Trees.{opened}
-use Rattle.net_plan.specs.Places.{device_at, is_end_system, is_master, link_at, IsSwitchOf}
-use Rattle.net_plan.specs.Ranges.{IsDeviceInRange}
-use Rattle.net_plan.specs.Rules.{HasOffSwitch}
-use Rattle.net_plan.specs.declared.event.Event.{Event}
+use Rattle.precision_law.proofs.words.Std.{◌++◌, ◌||◌, ◌∙◌, ◌∷◌, ◌≡◌, ◌≤◌, Any, Bool, IsSomeAnd, List, Option, Some, [], ap, arith, both_ways, eqb-true, false, false_from_ne_true, inl, inr, is_some, le-leb, leb-true, list_any, nat_le, not_from_true, or_left, or_right, refl, subst, sym, true, ℕ}
+use Rattle.precision_law.proofs.words.Plans.{A, B, Channel, Cm, Device, DeviceId, Event, HasOffSwitch, IsDeviceInRange, IsSwitchOf, Link, LinkId, Masters, Network, Relay, Role, What, all_at, amount, device_at, is_end_system, is_master, link_at, opened}
+use Rattle.precision_law.proofs.words.Runs.{Cuts, IsFaulty, IsIn, IsLinkOf, NotMaster, Scenario, any_first, any_later, breaks_at, events_up_to, in_filter, is_broken, is_faulty, parted, same_some}
+use Rattle.precision_law.proofs.words.Laws.{GoodIsCorrect, IsBad, IsView, OneChannelIsSound, SwitchesAreGood, View}
 use Rattle.net_plan.specs.declared.event.What.TheVariants as events
-use Rattle.net_plan.specs.declared.event.What.{What}
-use Rattle.net_plan.specs.declared.ids.DeviceId.{DeviceId}
-use Rattle.net_plan.specs.declared.ids.LinkId.{LinkId}
-use Rattle.net_plan.specs.declared.network.Network.{Network}
-use Rattle.net_plan.specs.declared.tables.Device.{Device}
-use Rattle.net_plan.specs.declared.tables.Link.{Link}
-use Rattle.net_plan.specs.declared.tables.Role.TheVariants.{Master, Client, Cm, Relay}
-use Rattle.net_plan.specs.declared.tables.Role.{Role}
-use Rattle.pcf_values.specs.declared.channel.Channel.TheVariants.{A, B}
-use Rattle.pcf_values.specs.declared.channel.Channel.{Channel}
 use Rattle.precision_law.proofs.records.Times.{in_kept, passes}
-use Rattle.precision_law.specs.Masters.{GoodIsCorrect, OneChannelIsSound, SwitchesAreGood}
-use Rattle.precision_law.specs.Views.{IsBad, IsView, View}
-use Rattle.run_law.proofs.law.FirstPlaces.{in_filter}
-use Rattle.run_law.proofs.runs.Places.{parted}
-use Rattle.run_law.proofs.runs.SameSteps.{same_some}
-use Rattle.run_law.proofs.scenario.Conditions.{is_faulty}
-use Rattle.run_law.proofs.scenario.Decisions.{any_first, any_later}
-use Rattle.run_law.specs.declared.outside.Outside.TheVariants.{NotMaster}
-use Rattle.run_law.specs.records.Order.{IsIn}
-use Rattle.run_law.specs.scenario.Faults.{Cuts, IsFaulty, IsLinkOf}
-use Rattle.run_law.specs.scenario.Hypothesis.{breaks_at}
-use Rattle.run_law.specs.scenario.Scenarios.{Scenario, events_up_to, is_broken}
-use Rattle.schedule_tables.proofs.EntryLemmas.{all_at}
-use Rattle.schedule_tables.specs.declared.rule.Rule.TheVariants.{Masters}
-use Rattle.tte_units.specs.Amount.{amount}
 
 -- ---- lists
 
@@ -69,36 +39,31 @@ device_of_place d e same = ap (λ (n : ℕ). let x : DeviceId = record { 0 = n }
 pub bad_is_master : (v : View) (device : DeviceId) → IsView v → IsBad v device
     → (IsSomeAnd (device_at v.scenario.network device) (λ d. is_master d.role ≡ true) → ⊥) → ⊥
 bad_is_master v device is bad no_master =
-    let s = v.scenario in
-    let found = any_in (λ (e : Event). breaks_at device.0 e.what) (events_up_to s v.until) bad in
+    let found = any_in (λ (e : Event). breaks_at device.0 e.what) (events_up_to v.scenario v.until) bad in
     let breaks = breaks_it device.0 found.0.what found.2 in
     let same = device_of_place breaks.0 device breaks.2 in
-    let at = parted found.0 s.events (in_filter (λ e. nat_le (amount e.time) v.until) s.events found.0 found.1) in
+    let at = parted found.0 v.scenario.events (in_filter (λ e. nat_le (amount e.time) v.until) v.scenario.events found.0 found.1) in
     is.lawful.within at.0 at.1 found.0 at.2 NotMaster (record { device = device; breaks = breaks.1 ∙ ap events.Break same; no_master = no_master })
 
 pub master_ends : (role : Role) → is_master role ≡ true → is_end_system role ≡ true
-master_ends Master e = refl
-master_ends Client e = refl
 master_ends Cm e = absurd cc
 master_ends Relay e = absurd cc
+master_ends role e = refl
 
 pub switches_are_good : SwitchesAreGood
 switches_are_good v channel device is switch =
     false_from_ne_true (is_broken v.scenario device v.until) (λ bad. bad_is_master v device is bad (λ master.
-    let n = v.scenario.network in
-    let d = opened (λ (x : Device). x.channel ≡ Some channel) (device_at n device) switch in
-    let m = opened (λ (x : Device). is_master x.role ≡ true) (device_at n device) master in
-    let one : m.0 ≡ d.0 = same_some (device_at n device) m.0 d.0 m.1 d.1 in
-    let known : IsDeviceInRange d.0 = all_at IsDeviceInRange n.device device.0 d.0 is.lawful.range.devices d.1 in
-    let ends = master_ends d.0.role (ap (λ (x : Device). is_master x.role) (sym one) ∙ m.2) in
+    let d = opened (λ (x : Device). x.channel ≡ Some channel) (device_at v.scenario.network device) switch in
+    let m = opened (λ (x : Device). is_master x.role ≡ true) (device_at v.scenario.network device) master in
+    let known : IsDeviceInRange d.0 = all_at IsDeviceInRange v.scenario.network.device device.0 d.0 is.lawful.range.devices d.1 in
+    let ends = master_ends d.0.role (ap (λ (x : Device). is_master x.role) (sym (same_some (device_at v.scenario.network device) m.0 d.0 m.1 d.1)) ∙ m.2) in
     both_ways (is_some d.0.channel) (known.switches ∙ not_from_true (is_end_system d.0.role) ends) (ap (λ (c : Option Channel). is_some c) d.2)))
 
 -- an event up to a time is one up to a later one
 later_event : (s : Scenario) (t u : ℕ) (e : Event) → t ≤ u → IsIn e (events_up_to s t) → IsIn e (events_up_to s u)
 later_event s t u e le i =
     let early = leb-true (amount e.time) t (passes (λ x. nat_le (amount x.time) t) s.events e i) in
-    in_kept (λ x. nat_le (amount x.time) u) s.events e (in_filter (λ x. nat_le (amount x.time) t) s.events e i)
-    (le-leb (amount e.time) u (omega (arith, early, le)))
+    in_kept (λ x. nat_le (amount x.time) u) s.events e (in_filter (λ x. nat_le (amount x.time) t) s.events e i) (le-leb (amount e.time) u (omega arith))
 
 pub good_is_correct : GoodIsCorrect
 good_is_correct v device t good le =
@@ -129,12 +94,10 @@ pub link_of_one : (n : Network) (c d : Channel) (link : LinkId) → IsLinkOf n c
 link_of_one n c d link one other =
     let l = opened (λ (x : Link). IsSwitchOf n c x.parent) (link_at n link) one in
     let m = opened (λ (x : Link). IsSwitchOf n d x.parent) (link_at n link) other in
-    let same : m.0 ≡ l.0 = same_some (link_at n link) m.0 l.0 m.1 l.1 in
     let p = opened (λ (x : Device). x.channel ≡ Some c) (device_at n l.0.parent) l.2 in
-    let at : IsSwitchOf n d l.0.parent = subst (λ (x : Link). IsSwitchOf n d x.parent) same m.2 in
+    let at : IsSwitchOf n d l.0.parent = subst (λ (x : Link). IsSwitchOf n d x.parent) (same_some (link_at n link) m.0 l.0 m.1 l.1) m.2 in
     let q = opened (λ (x : Device). x.channel ≡ Some d) (device_at n l.0.parent) at in
-    let dev : q.0 ≡ p.0 = same_some (device_at n l.0.parent) q.0 p.0 q.1 p.1 in
-    same_some p.0.channel c d p.2 (subst (λ (x : Device). x.channel ≡ Some d) dev q.2)
+    same_some p.0.channel c d p.2 (subst (λ (x : Device). x.channel ≡ Some d) (same_some (device_at n l.0.parent) q.0 p.0 q.1 p.1) q.2)
 
 -- the link that an event cuts
 pub cut_link : (link other : LinkId) (e : Event) → Cuts link e → Cuts other e → other ≡ link
@@ -159,9 +122,8 @@ one_is_faulty n es c d off (inr a) (inr b) =
 
 pub one_channel_is_sound : OneChannelIsSound
 one_channel_is_sound s t lawful =
-    let n = s.network in
     let es = events_up_to s t in
-    elim (is_faulty n es A) [
+    elim (is_faulty s.network es A) [
       | inr sound ↦ (A, sound)
-      | inl faulty ↦ (B, λ other. (let wrong : A ≡ B = one_is_faulty n es A B ((lawful.rules Masters 5).one_faulty refl) faulty other in cc))
+      | inl faulty ↦ (B, λ other. (let wrong : A ≡ B = one_is_faulty s.network es A B ((lawful.rules Masters 5).one_faulty refl) faulty other in cc))
     ]

@@ -1,49 +1,14 @@
 -- A device that has the common time is not just turned on.
-use Rattle.std.proofs.Common.{◌≡◌, ◌⊎◌, ℕ, zero, suc, ◌<◌, ◌≤◌, Bool, true, false, ◌&&◌, List, [], ◌∷◌, ◌++◌, Option, Some, None, Any, IsSomeAnd, eqb-true, inl, inr, refl, sym, ap, subst, ◌∙◌, append_assoc, arith}
-use Rattle.std.proofs.lemmas.Bool.{and_parts, false_from_ne_true}
-use Rattle.std.specs.Prelude.{◌==◌, IsNone, if◌then◌else◌, not, option_and_then}
-use Rattle.net_plan.specs.Places.{device_at}
-use Rattle.net_plan.specs.declared.event.Event.{Event}
+use Rattle.precision_law.proofs.words.Std.{◌&&◌, ◌++◌, ◌<◌, ◌==◌, ◌∙◌, ◌∷◌, ◌≡◌, ◌≤◌, ◌⊎◌, Any, Bool, IsNone, IsSomeAnd, List, None, Option, Some, [], and_parts, ap, append_assoc, arith, eqb-true, false, false_from_ne_true, if◌then◌else◌, inl, inr, not, option_and_then, refl, subst, suc, sym, true, zero, ℕ}
+use Rattle.precision_law.proofs.words.Plans.{Device, DeviceId, Event, Integrating, Joining, Off, State, Units, What, amount, device_at, state_at_start}
+use Rattle.precision_law.proofs.words.Runs.{BecomesPermanent, ChangesState, Emits, Happening, Integrates, IsCaused, IsEventRecord, IsIn, NotOff, NoteBody, Scenario, TurnsOn, Why, adjustment_at_hearing, any_first, any_later, before_permanence, earlier, founded_at, has_joined_at, in_at, in_left, in_parts, in_right, is_joined_by, is_off, is_turned_on_at, numbered_in, observation_window, parted, plan_of, points_of, start_of, state_after, state_at_hearing, state_before, time_of, turns_on}
+use Rattle.precision_law.proofs.words.Laws.{AreBeforeCorrections, IsView, NoneTurnsOn, View, has_time, state_left}
+use Rattle.precision_law.proofs.words.Clocks.{Keeps, any_in, before_of, earlier_before, earlier_judge, in_earlier, kept_by_all, kept_if, point_has_time, same_device}
 use Rattle.net_plan.specs.declared.event.What.TheVariants as events
-use Rattle.net_plan.specs.declared.event.What.{What}
-use Rattle.net_plan.specs.declared.ids.DeviceId.{DeviceId}
-use Rattle.net_plan.specs.declared.tables.Device.{Device}
-use Rattle.precision_law.proofs.block.Joins.{integrates_by, ripe_integrates}
-use Rattle.precision_law.proofs.clocks.Epochs.{Keeps, kept_by_all, kept_if, same_device}
-use Rattle.precision_law.proofs.faults.Masters.{any_in}
-use Rattle.precision_law.proofs.records.Judged.{earlier_judge}
-use Rattle.precision_law.proofs.records.Points.{before_of, earlier_before, point_has_time}
-use Rattle.precision_law.proofs.records.Times.{in_earlier}
-use Rattle.precision_law.specs.BlockLaws.{AreBeforeCorrections, NoneTurnsOn}
-use Rattle.precision_law.specs.Blocks.{state_left}
-use Rattle.precision_law.specs.Epochs.{has_time}
-use Rattle.precision_law.specs.Views.{IsView, View}
-use Rattle.run_law.proofs.law.FirstPlaces.{founded_at, in_at, numbered_in}
-use Rattle.run_law.proofs.runs.Places.{in_left, in_parts, in_right, parted}
-use Rattle.run_law.proofs.scenario.Decisions.{any_first, any_later}
-use Rattle.run_law.specs.control.Collections.{points_of, observation_window}
-use Rattle.run_law.specs.control.Emissions.{Emits}
-use Rattle.run_law.specs.control.Permanence.{BecomesPermanent, before_permanence}
-use Rattle.run_law.specs.declared.judgement.Judgement.TheVariants.{Integrates}
 use Rattle.run_law.specs.declared.judgement.Why.TheVariants as whys
-use Rattle.run_law.specs.declared.judgement.Why.{Why}
 use Rattle.run_law.specs.declared.note.NoteBody.TheVariants as notes
-use Rattle.run_law.specs.declared.note.NoteBody.{NoteBody}
-use Rattle.run_law.specs.declared.outside.Outside.TheVariants.{NotOff}
 use Rattle.run_law.specs.declared.steps.Ripe.TheVariants as ripe
-use Rattle.run_law.specs.device.StateChanges.{ChangesState}
-use Rattle.run_law.specs.device.States.{adjustment_at_hearing, has_joined_at, is_joined_by, is_off, state_after, state_at_hearing, state_before}
-use Rattle.run_law.specs.records.Happenings.{Happening, earlier, time_of}
-use Rattle.run_law.specs.records.Order.{IsIn}
-use Rattle.run_law.specs.runs.DueRecords.{IsCaused, IsEventRecord}
-use Rattle.run_law.specs.scenario.Devices.{plan_of, start_of}
-use Rattle.run_law.specs.scenario.Faults.{TurnsOn}
-use Rattle.run_law.specs.scenario.Scenarios.{Scenario, is_turned_on_at, turns_on}
-use Rattle.sync_state.specs.Standing.{state_at_start}
-use Rattle.sync_state.specs.declared.state.State.TheVariants.{Off, Integrating, Joining, Synchronised}
-use Rattle.sync_state.specs.declared.state.State.{State}
-use Rattle.tte_units.specs.Amount.{amount}
-use Rattle.tte_units.specs.declared.units.Units.{Units}
+use Rattle.precision_law.proofs.block.Joins.{integrates_by, ripe_integrates}
 
 -- ---- states
 
@@ -54,8 +19,7 @@ is_on state = not (is_off state)
 timed_on : (state : State) → has_time state ≡ true → is_on state ≡ true
 timed_on Off e = absurd cc
 timed_on Integrating e = absurd cc
-timed_on Joining e = refl
-timed_on Synchronised e = refl
+timed_on state e = refl
 
 -- a device that hears so looks for the time when something comes
 before_hearing : (b : Bool) (state : State) → (if b then Joining else state) ≡ Integrating → state ≡ Integrating
@@ -66,18 +30,15 @@ before_hearing false state e = e
 pub looking_by : (s : Scenario) (ps : List Happening) (time : Units) (device : DeviceId) (body : NoteBody) → is_joined_by device body ≡ true
     → IsCaused s ps time body → state_before s ps device (amount time) ≡ Integrating
 looking_by s ps time device (notes.Permanent other link cause point Integrates) joined caused =
-    let c : BecomesPermanent s ps device (amount time) link cause point ripe.Integrates = subst
-    (λ (d : DeviceId). BecomesPermanent s ps d (amount time) link cause point ripe.Integrates) (same_device device other joined) caused in
+    let c = subst (λ (d : DeviceId). BecomesPermanent s ps d (amount time) link cause point ripe.Integrates) (same_device device other joined) caused in
     let judged = before_permanence ps device (amount time) link cause c.frame point in
     let looks = (ripe_integrates s.network device (state_at_hearing s judged device (amount time)) (adjustment_at_hearing s judged device (amount time)).0
     (points_of judged device) c.frame point.0 c.becomes).1.looks in
-    let before : state_before s judged device (amount time) ≡ Integrating = before_hearing (has_joined_at judged device (amount time))
-    (state_before s judged device (amount time)) looks in
+    let before = before_hearing (has_joined_at judged device (amount time)) (state_before s judged device (amount time)) looks in
     sym (ap (λ (hs : List Happening). if is_turned_on_at s device (amount time) then Integrating else state_after s hs device)
     (earlier_judge ps (amount time) device link cause c.frame point)) ∙ before
 looking_by s ps time device (notes.Compressed other opened at cycle members Integrates) joined caused =
-    let c : Emits s ps device (amount time) (record { opened = opened; at = at; cycle = cycle; members = members }) Integrates = subst
-    (λ (d : DeviceId). Emits s ps d (amount time) (record { opened = opened; at = at; cycle = cycle; members = members }) Integrates)
+    let c = subst (λ (d : DeviceId). Emits s ps d (amount time) (record { opened = opened; at = at; cycle = cycle; members = members }) Integrates)
     (same_device device other joined) caused in
     let looks = (integrates_by (plan_of s.network device) (observation_window s.network) (state_at_hearing s ps device (amount time))
     (adjustment_at_hearing s ps device (amount time)).0 at.0 cycle members (sym c.heard)).looks in
@@ -130,8 +91,7 @@ module _ (v : View) (device : DeviceId) (t : ℕ) (is : IsView v) (none : IsTurn
   never_joined : (h : Happening) → IsIn h v.records → time_of h < t → is_joined_by device h.note.body ≡ true → ⊥
   never_joined h i lt joined =
       let at = founded_at v.scenario v.records h is.run.founded i in
-      let looks = looking_by v.scenario at.front h.note.time device h.note.body joined at.due.cause in
-      never_on (time_of h) at.front (before_of v h is at) lt (ap is_on looks)
+      never_on (time_of h) at.front (before_of v h is at) lt (ap is_on (looking_by v.scenario at.front h.note.time device h.note.body joined at.due.cause))
 
   never_changes : (w : ℕ) (front : List Happening) (state : State) (cause : ℕ) (why : Why) → AreBeforeCorrections v w front → w < t
       → ChangesState v.scenario front device w state cause why → ⊥
@@ -140,21 +100,13 @@ module _ (v : View) (device : DeviceId) (t : ℕ) (is : IsView v) (none : IsTurn
       let i : IsIn h v.records = subst (IsIn h) (sym split.whole) (in_left h front split.rest (numbered_in front cause h c.2.2.there)) in
       let at = founded_at v.scenario v.records h is.run.founded i in
       let r : IsEventRecord v.scenario.events h.note.time c.2.0 (events.On device) = subst (IsCaused v.scenario at.front h.note.time) c.2.3 at.due.cause in
-      let same : time_of h ≡ amount r.event.time = ap amount r.at in
-      none (record {
-        event = r.event;
-        there = in_at v.scenario.events r.before r.event r.is;
-        turns = sym r.same;
-        early = omega (arith, same, c.2.2.same_time, lt);
-      })
+      none (record { event = r.event; there = in_at v.scenario.events r.before r.event r.is; turns = sym r.same; early = omega (arith, ap amount r.at) })
   never_changes w front state cause whys.Frame split lt c =
       let h = c.1.0 in
       let i : IsIn h v.records = subst (IsIn h) (sym split.whole) (in_left h front split.rest (numbered_in front cause h c.1.1.there)) in
       never_joined h i (omega (arith, c.1.1.same_time, lt)) c.1.2
   never_changes w front state cause whys.Correction split lt c = never_on w front split lt (ap is_on c.1)
-  never_changes w front state cause whys.SyncClique split lt c =
-      never_on w front split lt (timed_on _ (point_has_time (state_before v.scenario front device w) _ c.2.0 c.2.1.next))
-  never_changes w front state cause whys.AsyncClique split lt c =
+  never_changes w front state cause why split lt c =
       never_on w front split lt (timed_on _ (point_has_time (state_before v.scenario front device w) _ c.2.0 c.2.1.next))
 
   keeps_off : (h : Happening) (front : List Happening) (body : NoteBody) → IsIn h v.records → time_of h < t → h.note.body ≡ body
@@ -174,16 +126,14 @@ module _ (v : View) (device : DeviceId) (t : ℕ) (is : IsView v) (none : IsTurn
       kept_by_all is_on device (earlier t v.records) (λ h i.
       let back = in_earlier t v.records h i in
       let at = founded_at v.scenario v.records h is.run.founded back.0 in
-      keeps_off h at.front h.note.body back.0 back.1 refl (before_of v h is at) at.due.cause)
-      (state_at_start (start_of v.scenario.network device)) e
+      keeps_off h at.front h.note.body back.0 back.1 refl (before_of _ _ is at) at.due.cause) (state_at_start (start_of v.scenario.network device)) e
 
 -- a device that begins off and is not turned on before a time is off then
 off_until : (v : View) (device : DeviceId) (bound t : ℕ) → IsView v → t ≤ bound → (IsTurnedBefore v.scenario device t → ⊥)
     → (is_on (state_at_start (start_of v.scenario.network device)) ≡ true → ⊥) → is_on (state_left v device t) ≡ true → ⊥
 off_until v device zero t is le none begins e = begins (started_on v device t is none (λ w lt on. absurd (omega (arith, lt, le))) e)
 off_until v device (suc bound) t is le none begins e =
-    begins (started_on v device t is none
-    (λ w lt on. off_until v device bound w is (omega (arith, lt, le))
+    begins (started_on v device t is none (λ w lt on. off_until v device bound w is (omega arith)
     (λ x. none (record { event = x.event; there = x.there; turns = x.turns; early = omega (arith, x.early, lt) })) begins on) e)
 
 -- ---- a device is turned on once
@@ -205,9 +155,8 @@ pub not_turned_on_then : (v : View) (device : DeviceId) (u : ℕ) → IsView v �
     → is_turned_on_at v.scenario device u ≡ false
 not_turned_on_then v device u is timed =
     false_from_ne_true (is_turned_on_at v.scenario device u) (λ turned.
-    let s = v.scenario in
-    let x = turned_at s device u turned in
-    let parts = parted x.event s.events x.there in
+    let x = turned_at v.scenario device u turned in
+    let parts = parted x.event v.scenario.events x.there in
     off_until v device u u is (omega arith) (λ y. elim (in_parts y.event parts.0 (x.event ∷ parts.1) (subst (IsIn y.event) parts.2 y.there)) [
       | inl sooner ↦ is.lawful.within parts.0 parts.1 x.event parts.2 NotOff
           (record { device = device; what = x.turns; known = inr (inl (any_of_in (TurnsOn device) y.event parts.0 sooner y.turns)) })
@@ -215,8 +164,7 @@ not_turned_on_then v device u is timed =
           same in absurd (omega (arith, time, y.early, x.at)))
       | inr (inr later) ↦
           let more = parted y.event parts.1 later in
-          let whole : s.events ≡ (parts.0 ++ x.event ∷ more.0) ++ y.event ∷ more.1 = parts.2 ∙ ap (λ (es : List Event). parts.0 ++ x.event ∷ es) more.2
-          ∙ sym (append_assoc parts.0 (x.event ∷ more.0) (y.event ∷ more.1)) in
+          let whole = parts.2 ∙ ap (λ (es : List Event). parts.0 ++ x.event ∷ es) more.2 ∙ sym (append_assoc parts.0 (x.event ∷ more.0) (y.event ∷ more.1)) in
           is.lawful.within (parts.0 ++ x.event ∷ more.0) more.1 y.event whole NotOff
           (record {
             device = device;
@@ -225,7 +173,7 @@ not_turned_on_then v device u is timed =
                 (inl (any_of_in (TurnsOn device) x.event (parts.0 ++ x.event ∷ more.0) (in_right x.event parts.0 (x.event ∷ more.0) (inl refl)) x.turns));
           })
     ]) (λ on. is.lawful.within parts.0 parts.1 x.event parts.2 NotOff
-    (record { device = device; what = x.turns; known = inl (begins_by (device_at s.network device) on) }))
+    (record { device = device; what = x.turns; known = inl (begins_by (device_at v.scenario.network device) on) }))
     (timed_on (state_left v device u) timed))
 
 -- so none that has the common time is

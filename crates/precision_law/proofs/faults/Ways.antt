@@ -1,41 +1,15 @@
 -- The sound channel: no way of its links is cut, and its switches begin on.
-use Rattle.std.proofs.Common.{◌≡◌, ◌⊎◌, ℕ, zero, suc, ◌<◌, ◌≤◌, length, Bool, true, false, List, [], ◌∷◌, ◌++◌, filter, Option, Some, None, inl, inr, refl, sym, ap, subst, ◌∙◌, arith}
-use Rattle.std.proofs.lemmas.Bool.{and_parts, eqb-true, false_from_ne_true, le-leb, leb-true}
-use Rattle.std.proofs.lemmas.Int.{ints}
-use Rattle.std.proofs.lemmas.List.{append_assoc}
-use Rattle.std.proofs.lemmas.List.Elements.{filter-append}
-use Rattle.std.specs.List.{last_or}
-use Rattle.std.specs.Prelude.{◌==◌, Any, IsNone, filter_map, if◌then◌else◌, nat_le, slice_get, unwrap_or}
-use Rattle.net_plan.proofs.Trees.{closed, opened}
-use Rattle.net_plan.specs.Places.{device_at, link_at, IsSwitchOf}
-use Rattle.net_plan.specs.Rules.{HasOffSwitch}
-use Rattle.net_plan.specs.declared.event.Event.{Event}
+use Rattle.precision_law.proofs.words.Std.{◌++◌, ◌<◌, ◌==◌, ◌∙◌, ◌∷◌, ◌≡◌, ◌≤◌, ◌⊎◌, Any, Bool, IsNone, List, None, Option, Some, [], and_parts, ap, append_assoc, arith, eqb-true, false, false_from_ne_true, filter, filter-append, if◌then◌else◌, inl, inr, ints, last_or, le-leb, leb-true, length, nat_le, refl, slice_get, subst, suc, sym, true, unwrap_or, zero, ℕ}
+use Rattle.precision_law.proofs.words.Plans.{A, B, Channel, Device, Event, HasOffSwitch, IsSwitchOf, Joints, Link, LinkId, Network, Way, What, amount, closed, device_at, link_at, opened}
+use Rattle.precision_law.proofs.words.Runs.{Cuts, IsFaulty, IsIn, IsLinkOf, Scenario, any_first, any_later, any_of_none, any_parts, cut_set, events_up_to, in_filter, in_left, in_right, is_cut, is_faulty, is_way, is_way_of, parted}
+use Rattle.precision_law.proofs.words.Laws.{IsView, SoundSwitchesBeginOn, SoundWaysAreWhole, View}
 use Rattle.net_plan.specs.declared.event.What.TheVariants as events
-use Rattle.net_plan.specs.declared.event.What.{What}
-use Rattle.net_plan.specs.declared.ids.LinkId.{LinkId}
-use Rattle.net_plan.specs.declared.network.Network.{Network}
-use Rattle.net_plan.specs.declared.tables.Device.{Device}
-use Rattle.net_plan.specs.declared.tables.Link.{Link}
-use Rattle.net_plan.specs.declared.tables.Way.{Way}
-use Rattle.pcf_values.specs.declared.channel.Channel.TheVariants.{A, B}
-use Rattle.pcf_values.specs.declared.channel.Channel.{Channel}
+use Rattle.run_law.specs.declared.outside.Outside.TheVariants as outside
+use Rattle.std.proofs.Common.{filter_map}
 use Rattle.precision_law.proofs.records.Behind.{in_filter_map}
 use Rattle.precision_law.proofs.records.Points.{last_in}
 use Rattle.precision_law.proofs.records.Times.{passes}
 use Rattle.precision_law.proofs.trips.Ascents.{event_begins, no_earlier}
-use Rattle.precision_law.specs.Masters.{SoundSwitchesBeginOn, SoundWaysAreWhole}
-use Rattle.precision_law.specs.Views.{IsView, View}
-use Rattle.run_law.proofs.law.FirstPlaces.{in_filter}
-use Rattle.run_law.proofs.runs.Places.{in_left, in_right, parted}
-use Rattle.run_law.proofs.scenario.Conditions.{is_faulty}
-use Rattle.run_law.proofs.scenario.Decisions.{any_of_none, any_parts, any_first, any_later}
-use Rattle.run_law.specs.declared.outside.Outside.TheVariants as outside
-use Rattle.run_law.specs.records.Order.{IsIn}
-use Rattle.run_law.specs.scenario.Faults.{Cuts, IsFaulty, IsLinkOf}
-use Rattle.run_law.specs.scenario.Scenarios.{Scenario, events_up_to}
-use Rattle.run_law.specs.scenario.Ways.{cut_set, is_cut, is_way, is_way_of}
-use Rattle.schedule_tables.specs.declared.rule.Rule.TheVariants.{Joints}
-use Rattle.tte_units.specs.Amount.{amount}
 
 -- ---- switches
 
@@ -101,8 +75,7 @@ record IsCutBy (s : Scenario) (link : LinkId) (t : ℕ) : Type 0 where
 cut_by : (s : Scenario) (link : LinkId) (way : Way) (t : ℕ) → is_cut s link way t ≡ true → IsCutBy s link t
 cut_by s link way t cut =
     let sets = λ (e : Event). cut_set link way e.what in
-    let last = some_true (last_or None (filter_map sets (events_up_to s t))) cut in
-    elim (last_in None (filter_map sets (events_up_to s t)) true last) [
+    elim (last_in None (filter_map sets (events_up_to s t)) true (some_true (last_or None (filter_map sets (events_up_to s t))) cut)) [
       | inl none ↦ absurd cc
       | inr i ↦
           let made = in_filter_map sets (events_up_to s t) true i in
@@ -142,20 +115,17 @@ off_or_not n channel = elim (is_faulty n [] channel) [
     never_split (b ∷ before) cut behind e = absurd cc
 
 same_or_not : (c d : Channel) → (c ≡ d) ⊎ (c ≡ d → ⊥)
-same_or_not A A = inl refl
 same_or_not A B = inr (λ e. absurd cc)
 same_or_not B A = inr (λ e. absurd cc)
-same_or_not B B = inl refl
+same_or_not c d = inl refl
 
 -- a link that an event cuts is of a channel
 channel_cut : (v : View) (e : Event) (link : LinkId) → IsView v → IsIn e v.scenario.events → Cuts link e → (channel : Channel)
     × IsLinkOf v.scenario.network channel link
 channel_cut v e link is i cuts =
-    let n = v.scenario.network in
-    let within = is.lawful.named e link i cuts in
-    let l = there_within n.link link.0 within in
+    let l = there_within v.scenario.network.link link.0 (is.lawful.named e link i cuts) in
     let joint = is.lawful.rules Joints link.0 l.0 l.1 in
-    (joint.0, closed (λ (k : Link). IsSwitchOf n joint.0 k.parent) (link_at n link) l.0 l.1 joint.1)
+    (joint.0, closed (λ (k : Link). IsSwitchOf v.scenario.network joint.0 k.parent) (link_at v.scenario.network link) l.0 l.1 joint.1)
   where
     there_within : (xs : List Link) (i : ℕ) → i < length xs → (x : Link) × (slice_get xs i ≡ Some x)
     there_within [] i lt = absurd (omega (arith, lt))
@@ -203,8 +173,7 @@ where_first v link e before behind is of_channel whole early cuts on (cut_at b m
     let of_c = channel_cut v c l is in_all cuts_c in
     elim (same_or_not of_c.0 v.channel) [
       | inl same ↦
-          let parts : v.scenario.events ≡ b ++ c ∷ (m ++ e ∷ behind) = whole ∙ ap (λ (t : List Event). t ++ e ∷ behind) split
-          ∙ append_assoc b (c ∷ m) (e ∷ behind) in
+          let parts = whole ∙ ap (λ (t : List Event). t ++ e ∷ behind) split ∙ append_assoc b (c ∷ m) (e ∷ behind) in
           is.sound (inr (
             on,
             record {
@@ -228,13 +197,12 @@ none_off n a b B off = b off
 never_cut : (v : View) (link : LinkId) (e : Event) → IsView v → IsLinkOf v.scenario.network v.channel link → IsIn e v.scenario.events → amount e.time ≤ v.until
     → Cuts link e → ⊥
 never_cut v link e is of_channel i early cuts =
-    let n = v.scenario.network in
     let at = parted e v.scenario.events i in
-    elim (off_or_not n A) [
+    elim (off_or_not v.scenario.network A) [
       | inl off ↦ where_off v link e at.0 at.1 A is of_channel at.2 cuts off
-      | inr on_a ↦ elim (off_or_not n B) [
+      | inr on_a ↦ elim (off_or_not v.scenario.network B) [
         | inl off ↦ where_off v link e at.0 at.1 B is of_channel at.2 cuts off
-        | inr on_b ↦ where_first v link e at.0 at.1 is of_channel at.2 early cuts (none_off n on_a on_b) (first_cut at.0)
+        | inr on_b ↦ where_first v link e at.0 at.1 is of_channel at.2 early cuts (none_off v.scenario.network on_a on_b) (first_cut at.0)
       ]
     ]
 

@@ -1,59 +1,24 @@
 -- The frames with a good member that a device hears in a block.
-use Rattle.std.proofs.Common.{◌≡◌, ◌⊎◌, ℕ, suc, ◌+◌, ◌<◌, ◌≤◌, ℤ, pos, ◌<ℤ◌, ◌≤ℤ◌, true, Some, inl, inr, sym, ap, subst, ◌∙◌, arith}
-use Rattle.std.proofs.lemmas.Bool.{cases_lt}
-use Rattle.std.proofs.lemmas.Int.{ints}
-use Rattle.membership.specs.Members.{count_of}
-use Rattle.net_plan.specs.declared.ids.DeviceId.{DeviceId}
-use Rattle.pcf_values.specs.declared.channel.Channel.{Channel}
-use Rattle.pcf_values.specs.declared.members.Members.{Members}
-use Rattle.precision_law.proofs.block.Coming.{early_show}
-use Rattle.precision_law.proofs.block.Goings.{FramesGoSo, IsLate, WentSo, corrections_before, known_dispatch, narrow_at, tidy}
-use Rattle.precision_law.proofs.block.Halving.{hulls_are_narrow}
-use Rattle.precision_law.proofs.compression.OneEmission.{emission_is_one}
-use Rattle.precision_law.proofs.hearing.Hearers.{judged_as}
-use Rattle.precision_law.proofs.hearing.Timely.{cm_of}
-use Rattle.precision_law.proofs.law.Together.{follows_before}
-use Rattle.precision_law.proofs.records.Views.{room}
-use Rattle.precision_law.proofs.trips.SoundUp.{one_cm}
-use Rattle.precision_law.proofs.verdict.Judging.{IsInTimeOf, record_within}
-use Rattle.precision_law.specs.Bases.{AreGood, HasGood, IsEmission, base_of}
-use Rattle.precision_law.specs.BlockLaws.{BlocksGoSo}
-use Rattle.precision_law.specs.Blocks.{HasTimeAt, IsInBlock, IsOldAt, Stands}
-use Rattle.precision_law.specs.CompressionLaws.{HearsBy, IsNarrowIfThere, IsOfHearer}
-use Rattle.precision_law.specs.Hulls.{Hull, IsTidyBefore, first_correction, first_dispatch, hull_of}
-use Rattle.precision_law.specs.Standings.{IsNearHull, IsTimely}
-use Rattle.precision_law.specs.Views.{IsView, View}
-use Rattle.run_law.proofs.law.FirstPlaces.{founded_at}
-use Rattle.run_law.proofs.runs.SameSteps.{same_some}
-use Rattle.run_law.specs.declared.judgement.Judgement.TheVariants.{Within}
-use Rattle.run_law.specs.declared.judgement.Judgement.{Judgement}
+use Rattle.precision_law.proofs.words.Std.{◌+◌, ◌<ℤ◌, ◌<◌, ◌∙◌, ◌≡◌, ◌≤ℤ◌, ◌≤◌, ◌⊎◌, Some, ap, arith, cases_lt, inl, inr, ints, pos, subst, suc, sym, true, ℕ, ℤ}
+use Rattle.precision_law.proofs.words.Plans.{Channel, DeviceId, Members, count_of}
+use Rattle.precision_law.proofs.words.Runs.{Happening, IsCaused, Judgement, Within, channel_of, cycle_in, expected_by, founded_at, is_cm, members_in, same_some, time_of}
+use Rattle.precision_law.proofs.words.Laws.{AreGood, BlocksGoSo, HasGood, HasTimeAt, HearsBy, Hull, IsEmission, IsInBlock, IsNarrowIfThere, IsNearHull, IsOfHearer, IsOldAt, IsTidyBefore, IsTimely, IsView, Stands, View, base_of, first_correction, first_dispatch, hull_of}
+use Rattle.precision_law.proofs.words.Clocks.{room}
+use Rattle.precision_law.proofs.words.Blocks.{FramesGoSo, IsLate, WentSo, cm_of, corrections_before, earlier_in_block, emission_is_one, follows_before, hulls_are_narrow, known_dispatch, narrow_at, one_cm, tidy}
 use Rattle.run_law.specs.declared.note.NoteBody.TheVariants as notes
-use Rattle.run_law.specs.device.States.{cycle_in}
-use Rattle.run_law.specs.records.Happenings.{Happening, time_of}
-use Rattle.run_law.specs.records.Ranks.{members_in}
-use Rattle.run_law.specs.runs.DueRecords.{IsCaused}
-use Rattle.run_law.specs.scenario.Devices.{channel_of, expected_by, is_cm}
+use Rattle.precision_law.proofs.block.Coming.{early_show}
+use Rattle.precision_law.proofs.hearing.Hearers.{judged_as}
+use Rattle.precision_law.proofs.verdict.Judging.{IsInTimeOf, record_within}
 
 -- ---- what a block has had so far
 
 -- each earlier instant of the block went as it should
 pub went_so : BlocksGoSo → (v : View) (n t : ℕ) (block : IsInBlock v n t) → IsView v → WentSo v n block.before t
-went_so goes v n t block is u from lt =
-    goes v n u (record {
-      before = block.before;
-      next = block.next;
-      is_over = block.is_over;
-      from = from;
-      to = omega (arith, lt, block.to);
-      in_run = omega (arith, lt, block.in_run);
-    }) is
+went_so goes v n t block is u from lt = goes v n u (earlier_in_block _ _ _ _ block from (omega arith)) is
 
 -- the block begins before the dispatches of its cycle
 pub next_first : (v : View) (n : ℕ) (before : Stands v n) → IsView v → pos before.next ≤ℤ first_dispatch v.sizes before.hull
-next_first v n before is =
-    let shown = early_show v n before is in
-    let space = room v is in
-    omega (arith, ints, shown, space.cycles, space.eight_errors, space.grain, space.errors.reach_is)
+next_first v n before is = omega (arith, ints, early_show v n before is, room v is)
 
 -- ---- one frame a channel
 
@@ -70,9 +35,7 @@ pub emission_cm : (v : View) (h : Happening) (cm : DeviceId) (cycle : ℕ) (memb
     → is_cm v.scenario.network cm ≡ true
 emission_cm v h cm cycle members is e =
     let at = founded_at v.scenario v.records h is.run.founded e.there in
-    let emits : IsCaused v.scenario at.front h.note.time (notes.Compressed cm e.opened e.at cycle members e.verdict) = subst
-    (IsCaused v.scenario at.front h.note.time) e.is at.due.cause in
-    emits.cm
+    (subst (IsCaused v.scenario at.front h.note.time) e.is at.due.cause).cm
 
 -- one record sends one set of members
 one_set : (v : View) (a b : Happening) (c d : DeviceId) (cycle : ℕ) (members others : Members) → IsEmission v a c cycle members → IsEmission v b d cycle others
@@ -116,11 +79,9 @@ good_hearing laws v n t before device channel point judgement h is went hearer h
     let members : Members = record { 0 = members_in h } in
     let heard = laws.hearings v device channel point judgement h is hearer hears in
     let emission = heard.0 in
-    let e = heard.1.emission in
-    let tidy_t = tidy v n t before went in
-    let tidy_e : IsTidyBefore v (time_of emission) = λ g d c dispatch lt. tidy_t g d c dispatch (omega (arith, lt, heard.2, le)) in
-    let good = has_good emission heard.1.cm e in
-    let sent = laws.dispatched v emission heard.1.cm (cycle_in h) members is e good in
+    let tidy_e : IsTidyBefore v (time_of emission) = λ g d c dispatch lt. (tidy v n t before went) g d c dispatch (omega (arith, lt, heard.2, le)) in
+    let good = has_good emission heard.1.cm heard.1.emission in
+    let sent = laws.dispatched v emission heard.1.cm (cycle_in h) members is heard.1.emission good in
     let known = known_dispatch v n t before went sent.first sent.master (cycle_in h) sent.dispatch (omega (arith, sent.before, heard.2, le)) in
     let narrow : (c : ℕ) → cycle_in h ≡ suc c → IsNarrowIfThere v c = λ c same hull at. narrow_at v n c before hull (omega (arith, same, known.0)) at in
     let block = laws.in_blocks v device channel (cycle_in h) members emission (time_of h) point (expected_by v.scenario.network device) is tidy_e good narrow
@@ -136,13 +97,12 @@ good_hearing laws v n t before device channel point judgement h is went hearer h
     let one : block.before ≡ before.hull = same_some (hull_of v n) block.before before.hull hull_n before.is_hull in
     let hull_next : hull_of v (suc n) ≡ Some block.hull = subst (λ (c : ℕ). hull_of v c ≡ Some block.hull) same block.is_hull in
     let after = follows_before v n before.hull block.hull is before.is_hull hull_next in
-    let first = next_first v n before is in
     record {
       of_cycle = same;
       emission = emission;
       sent = record {
         cm = heard.1.cm;
-        emission = subst (λ (c : ℕ). IsEmission v emission heard.1.cm c members) same e;
+        emission = subst (λ (c : ℕ). IsEmission v emission heard.1.cm c members) same heard.1.emission;
         of_channel = heard.1.of_channel;
         good = good;
         before = omega (arith, heard.2);
@@ -152,7 +112,7 @@ good_hearing laws v n t before device channel point judgement h is went hearer h
       is_hull = hull_next;
       not_early = block.not_early;
       not_late = subst (λ (w : Hull). pos (time_of h) <ℤ first_correction v.sizes w) one block.not_late;
-      from = (let low = block.not_early in omega (arith, ints, first, after.least, low));
+      from = omega (arith, ints, next_first v n before is, after.least, block.not_early);
     }
 
 -- what comes behind the beginning of the block comes behind the first corrections of earlier cycles
@@ -166,17 +126,13 @@ pub in_time_of : FramesGoSo → BlocksGoSo → (v : View) (n t : ℕ) (block : I
     → IsInTimeOf v n device (base_of v.sizes (time_of g.emission)) point (time_of h)
 in_time_of laws goes v n t block device channel point h is lt g enough =
     let members : Members = record { 0 = members_in h } in
-    let sent = g.sent in
-    let tidy_t = tidy v n t block.before (went_so goes v n t block is) in
-    let sooner = sent.before in
-    let base = laws.bases v g.emission sent.cm (suc n) members is sent.emission
-    (λ x d c dispatch early. tidy_t x d c dispatch (omega (arith, early, sooner, lt))) enough in
-    let same : base.hull ≡ g.hull = same_some (hull_of v (suc n)) base.hull g.hull base.is g.is_hull in
+    let base = laws.bases v g.emission g.sent.cm (suc n) members is g.sent.emission
+    (λ x d c dispatch early. (tidy v n t block.before (went_so goes v n t block is)) x d c dispatch (omega (arith, early, g.sent.before, lt))) enough in
     let near : IsNearHull v.sizes base.hull (base_of v.sizes (time_of g.emission)) = record { least = base.least; most = base.most } in
     record {
       hull = g.hull;
       is_hull = g.is_hull;
-      near = subst (λ (w : Hull). IsNearHull v.sizes w (base_of v.sizes (time_of g.emission))) same near;
+      near = subst (λ (w : Hull). IsNearHull v.sizes w (base_of v.sizes (time_of g.emission))) (same_some _ _ _ base.is g.is_hull) near;
       timely = g.timely;
       begun = g.not_early;
     }

@@ -1,36 +1,15 @@
 -- What a device has heard since its last correction point.
-use Rattle.std.proofs.Common.{◌≡◌, ℕ, ◌+◌, ◌-◌, ◌<◌, ◌≤◌, pos, ◌+ℤ◌, Bool, true, false, List, [], ◌∷◌, ◌++◌, filter, Option, Some, None, inl, inr, refl, sym, ap, subst, ◌∙◌}
-use Rattle.std.proofs.lemmas.Bool.{and_from, both_ways, lt-ltb}
-use Rattle.std.specs.List.{after_last}
-use Rattle.std.specs.Option.{option_map_or}
-use Rattle.std.specs.Prelude.{◌==◌, ◌&&◌, ◌||◌, not, if◌then◌else◌, int_le, int_lt, nat_lt, option_map}
-use Rattle.membership.specs.BestFrame.{IsBest}
-use Rattle.membership.specs.Hearing.{Hearing, within_on}
-use Rattle.membership.specs.declared.frame.HeardFrame.{HeardFrame}
-use Rattle.net_plan.specs.declared.ids.DeviceId.{DeviceId}
-use Rattle.pcf_values.specs.declared.channel.Channel.{Channel}
+use Rattle.precision_law.proofs.words.Std.{◌&&◌, ◌++◌, ◌+ℤ◌, ◌+◌, ◌-◌, ◌<◌, ◌==◌, ◌||◌, ◌∙◌, ◌∷◌, ◌≡◌, ◌≤◌, Bool, List, None, Option, Some, [], after_last, and_from, ap, both_ways, false, filter, if◌then◌else◌, inl, inr, int_le, int_lt, lt-ltb, nat_lt, not, option_map, option_map_or, pos, refl, subst, sym, true, ℕ}
+use Rattle.precision_law.proofs.words.Plans.{Channel, DeviceId, HeardFrame, Hearing, IsBest, LinkId, Members, Units, within_on}
+use Rattle.precision_law.proofs.words.Runs.{Happening, IsIn, Judgement, NoteBody, Outside, Scenario, Within, adjustment_after, changes_adjustment, channel_of, channel_of_link, correction_value, cycle_in, has_cleared, heard_by, heard_since, hearing_by, in_filter, in_left, in_parts, in_right, is_integration_cycle, members_in, next_cycle, recorded_cycle, time_of}
+use Rattle.precision_law.proofs.words.Laws.{AreBeforeCorrections, HearsBy, IsOfHearer, IsView, View, last_setting}
+use Rattle.run_law.specs.declared.note.NoteBody.TheVariants as notes
 use Rattle.precision_law.proofs.clocks.Epochs.{same_device}
 use Rattle.precision_law.proofs.records.Behind.{behind_last, in_filter_map}
 use Rattle.precision_law.proofs.records.Points.{earlier_before}
 use Rattle.precision_law.proofs.records.Times.{AreSorted, passes}
 use Rattle.precision_law.proofs.records.Views.{in_order}
-use Rattle.precision_law.specs.BlockLaws.{AreBeforeCorrections}
-use Rattle.precision_law.specs.CompressionLaws.{HearsBy}
-use Rattle.precision_law.specs.Epochs.{last_setting}
-use Rattle.precision_law.specs.Views.{IsView, View}
-use Rattle.run_law.proofs.law.FirstPlaces.{in_filter}
-use Rattle.run_law.proofs.runs.Places.{in_left, in_parts, in_right}
-use Rattle.run_law.specs.control.Corrections.{correction_value, has_cleared, heard_by, heard_since, hearing_by, is_integration_cycle, next_cycle, recorded_cycle}
-use Rattle.run_law.specs.declared.judgement.Judgement.TheVariants.{Within, Outside}
-use Rattle.run_law.specs.declared.note.NoteBody.TheVariants as notes
-use Rattle.run_law.specs.declared.note.NoteBody.{NoteBody}
-use Rattle.run_law.specs.device.LocalClocks.{changes_adjustment}
-use Rattle.run_law.specs.device.States.{adjustment_after, cycle_in}
-use Rattle.run_law.specs.records.Happenings.{Happening, time_of}
-use Rattle.run_law.specs.records.Order.{IsIn}
-use Rattle.run_law.specs.records.Ranks.{members_in}
-use Rattle.run_law.specs.scenario.Devices.{channel_of, channel_of_link}
-use Rattle.run_law.specs.scenario.Scenarios.{Scenario}
+use Rattle.precision_law.proofs.Plain.{mapped}
 
 -- ---- what depends on earlier records alone
 
@@ -121,20 +100,28 @@ pub if_some : {X : Type 0} (b : Bool) (o : Option X) (x : X) → (if b then o el
 if_some true o x e = (refl, e)
 if_some false o x e = absurd cc
 
--- what is made of something that may be there is made of it
-pub mapped : {X Y : Type 0} (f : X → Y) (o : Option X) (y : Y) → option_map f o ≡ Some y → (x : X) × (o ≡ Some x) × (f x ≡ y)
-mapped f None y e = absurd cc
-mapped f (Some x) y e = (x, refl, cc)
+-- the record by which a device heard this, and its judgement
+pub record HearsThis (v : View) (device : DeviceId) (h : Happening) (hearing : Hearing) : Type 0 where
+  pub judgement : Judgement
+  pub hearer : IsOfHearer judgement
+  pub hears : HearsBy v device hearing.channel hearing.frame.point.0 judgement h
+  pub cycle : cycle_in h ≡ hearing.frame.cycle
+  pub members : members_in h ≡ hearing.frame.members.0
+  pub outside : hearing.within ≡ false → judgement ≡ Within → ⊥
+  pub inside : hearing.within ≡ true → judgement ≡ Within
 
-pub within_by : (v : View) (device : DeviceId) (channel : Channel) (frame : HeardFrame) (h : Happening) (body : NoteBody) → IsIn h v.records
-    → h.note.body ≡ body → hearing_by v.scenario.network device h body ≡ Some (within_on channel frame) → HearsFrame v device channel frame h
-within_by v device channel frame h (notes.Permanent other link cause point Within) i same e =
-    let both = if_some (device.0 == other.0) (option_map (λ c. heard_by c h point true) (channel_of_link v.scenario.network link)) (within_on channel frame) e
-    in
-    let at = mapped (λ (c : Channel). heard_by c h point true) (channel_of_link v.scenario.network link) (within_on channel frame) both.1 in
-    let one : other ≡ device = same_device device other both.0 in
-    let channel_is : at.0 ≡ channel = ap (λ (x : Hearing). x.channel) at.2 in
+-- what the record of a frame that came says
+from_afar : (v : View) (device other : DeviceId) (h : Happening) (hearing : Hearing) (link : LinkId) (cause : ℕ) (point : Units) (verdict : Judgement)
+    (within : Bool) → IsIn h v.records → h.note.body ≡ notes.Permanent other link cause point verdict → IsOfHearer verdict
+    → (within ≡ false → verdict ≡ Within → ⊥) → (within ≡ true → verdict ≡ Within)
+    → (if device.0 == other.0 then option_map (λ channel. heard_by channel h point within) (channel_of_link v.scenario.network link) else None) ≡ Some hearing
+    → HearsThis v device h hearing
+from_afar v device other h hearing link cause point verdict within i same hearer out ins e =
+    let both = if_some (device.0 == other.0) (option_map (λ c. heard_by c h point within) (channel_of_link v.scenario.network link)) hearing e in
+    let at = mapped (λ (c : Channel). heard_by c h point within) (channel_of_link v.scenario.network link) hearing both.1 in
     record {
+      judgement = verdict;
+      hearer = hearer;
       hears = record {
         there = i;
         how =
@@ -142,26 +129,29 @@ within_by v device channel frame h (notes.Permanent other link cause point Withi
               link,
               cause,
               point,
-              same ∙ ap (λ (d : DeviceId). notes.Permanent d link cause point Within) one,
-              at.1
-                  ∙ ap (λ (c : Channel). Some c) channel_is,
+              same ∙ ap (λ (d : DeviceId). notes.Permanent d link cause point verdict) (same_device device other both.0),
+              at.1 ∙ ap (λ (x : Hearing). Some x.channel) at.2,
               sym (ap (λ (x : Hearing). x.frame.point.0) at.2),
             );
       };
       cycle = ap (λ (x : Hearing). x.frame.cycle) at.2;
       members = ap (λ (x : Hearing). x.frame.members.0) at.2;
+      outside = λ e. out (ap (λ (x : Hearing). x.within) at.2 ∙ e);
+      inside = λ e. ins (ap (λ (x : Hearing). x.within) at.2 ∙ e);
     }
-within_by v device channel frame h (notes.Permanent other link cause point Outside) i same e =
-    let both = if_some (device.0 == other.0) (option_map (λ c. heard_by c h point false) (channel_of_link v.scenario.network link)) (within_on channel frame) e
-    in
-    let at = mapped (λ (c : Channel). heard_by c h point false) (channel_of_link v.scenario.network link) (within_on channel frame) both.1 in
-    let wrong : false ≡ true = ap (λ (x : Hearing). x.within) at.2 in absurd cc
-within_by v device channel frame h (notes.Compressed other opened point cycle members Within) i same e =
-    let both = if_some (device.0 == other.0) (option_map (λ c. heard_by c h point true) (channel_of v.scenario.network device)) (within_on channel frame) e in
-    let at = mapped (λ (c : Channel). heard_by c h point true) (channel_of v.scenario.network device) (within_on channel frame) both.1 in
-    let one : other ≡ device = same_device device other both.0 in
-    let channel_is : at.0 ≡ channel = ap (λ (x : Hearing). x.channel) at.2 in
+
+-- what the record of a frame that was sent says
+from_itself : (v : View) (device other : DeviceId) (h : Happening) (hearing : Hearing) (opened point : Units) (cycle : ℕ) (members : Members)
+    (verdict : Judgement) (within : Bool) → IsIn h v.records → h.note.body ≡ notes.Compressed other opened point cycle members verdict → IsOfHearer verdict
+    → (within ≡ false → verdict ≡ Within → ⊥) → (within ≡ true → verdict ≡ Within)
+    → (if device.0 == other.0 then option_map (λ channel. heard_by channel h point within) (channel_of v.scenario.network device) else None) ≡ Some hearing
+    → HearsThis v device h hearing
+from_itself v device other h hearing opened point cycle members verdict within i same hearer out ins e =
+    let both = if_some (device.0 == other.0) (option_map (λ c. heard_by c h point within) (channel_of v.scenario.network device)) hearing e in
+    let at = mapped (λ (c : Channel). heard_by c h point within) (channel_of v.scenario.network device) hearing both.1 in
     record {
+      judgement = verdict;
+      hearer = hearer;
       hears = record {
         there = i;
         how =
@@ -170,20 +160,35 @@ within_by v device channel frame h (notes.Compressed other opened point cycle me
               point,
               cycle,
               members,
-              same ∙ ap (λ (d : DeviceId). notes.Compressed d opened point cycle members Within) one,
-              at.1
-                  ∙ ap (λ (c : Channel). Some c) channel_is,
+              same ∙ ap (λ (d : DeviceId). notes.Compressed d opened point cycle members verdict) (same_device device other both.0),
+              at.1 ∙ ap (λ (x : Hearing). Some x.channel) at.2,
               sym (ap (λ (x : Hearing). x.frame.point.0) at.2),
             );
       };
       cycle = ap (λ (x : Hearing). x.frame.cycle) at.2;
       members = ap (λ (x : Hearing). x.frame.members.0) at.2;
+      outside = λ e. out (ap (λ (x : Hearing). x.within) at.2 ∙ e);
+      inside = λ e. ins (ap (λ (x : Hearing). x.within) at.2 ∙ e);
     }
-within_by v device channel frame h (notes.Compressed other opened point cycle members Outside) i same e =
-    let both = if_some (device.0 == other.0) (option_map (λ c. heard_by c h point false) (channel_of v.scenario.network device)) (within_on channel frame) e in
-    let at = mapped (λ (c : Channel). heard_by c h point false) (channel_of v.scenario.network device) (within_on channel frame) both.1 in
-    let wrong : false ≡ true = ap (λ (x : Hearing). x.within) at.2 in absurd cc
-within_by v device channel frame h body i same e = absurd cc
+
+pub hears_by : (v : View) (device : DeviceId) (h : Happening) (hearing : Hearing) (body : NoteBody) → IsIn h v.records → h.note.body ≡ body
+    → hearing_by v.scenario.network device h body ≡ Some hearing → HearsThis v device h hearing
+hears_by v device h hearing (notes.Permanent other link cause point Within) i same e =
+    from_afar v device other h hearing link cause point Within true i same tt (λ f w. absurd cc) (λ t. refl) e
+hears_by v device h hearing (notes.Permanent other link cause point Outside) i same e =
+    from_afar v device other h hearing link cause point Outside false i same tt (λ f w. absurd cc) (λ t. absurd cc) e
+hears_by v device h hearing (notes.Compressed other opened point cycle members Within) i same e =
+    from_itself v device other h hearing opened point cycle members Within true i same tt (λ f w. absurd cc) (λ t. refl) e
+hears_by v device h hearing (notes.Compressed other opened point cycle members Outside) i same e =
+    from_itself v device other h hearing opened point cycle members Outside false i same tt (λ f w. absurd cc) (λ t. absurd cc) e
+hears_by v device h hearing body i same e = absurd cc
+
+pub within_by : (v : View) (device : DeviceId) (channel : Channel) (frame : HeardFrame) (h : Happening) (body : NoteBody) → IsIn h v.records
+    → h.note.body ≡ body → hearing_by v.scenario.network device h body ≡ Some (within_on channel frame) → HearsFrame v device channel frame h
+within_by v device channel frame h body i same e =
+    let this = hears_by v device h (within_on channel frame) body i same e in
+    let hears = subst (λ (j : Judgement). HearsBy v device channel frame.point.0 j h) (this.inside refl) this.hears in
+    record { hears = hears; cycle = this.cycle; members = this.members }
 
 -- the best frame of a channel was heard
 pub best_is_heard : (heard : List Hearing) (channel : Channel) (frame : HeardFrame) → IsBest heard channel frame → IsIn (within_on channel frame) heard

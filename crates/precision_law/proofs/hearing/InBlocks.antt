@@ -1,21 +1,10 @@
 -- When frames are heard.
-use Rattle.std.proofs.Common.{◌≡◌, ℕ, zero, suc, ◌+◌, ◌≤◌, ℤ, Some, inl, inr, refl, subst, arith}
-use Rattle.std.proofs.lemmas.Int.{ints}
-use Rattle.net_plan.specs.declared.ids.DeviceId.{DeviceId}
-use Rattle.pcf_values.specs.declared.channel.Channel.{Channel}
-use Rattle.pcf_values.specs.declared.members.Members.{Members}
-use Rattle.precision_law.proofs.block.Halving.{has_dispatched}
-use Rattle.precision_law.proofs.block.Hulls.{has_before}
-use Rattle.precision_law.proofs.records.Points.{within_run}
-use Rattle.precision_law.proofs.records.Views.{room}
-use Rattle.precision_law.proofs.sizes.Instants.{frames_come_first}
-use Rattle.precision_law.specs.Bases.{IsHeard}
-use Rattle.precision_law.specs.CompressionLaws.{BasesAreNearHulls, EmissionsAreOfDispatches, HeardInTheirBlocks}
-use Rattle.precision_law.specs.Hulls.{hull_of}
-use Rattle.precision_law.specs.Sizes.{expectation}
-use Rattle.precision_law.specs.Trips.{HeardFramesAreTimely}
-use Rattle.precision_law.specs.Views.{View}
-use Rattle.run_law.specs.records.Happenings.{Happening}
+use Rattle.precision_law.proofs.words.Std.{◌+◌, ◌≡◌, ◌≤◌, Some, arith, inl, inr, ints, refl, subst, suc, zero, ℕ, ℤ}
+use Rattle.precision_law.proofs.words.Plans.{Channel, DeviceId, Members}
+use Rattle.precision_law.proofs.words.Runs.{Happening}
+use Rattle.precision_law.proofs.words.Laws.{BasesAreNearHulls, EmissionsAreOfDispatches, HeardFramesAreTimely, HeardInTheirBlocks, IsHeard, View, expectation, hull_of}
+use Rattle.precision_law.proofs.words.Clocks.{frames_come_first, has_before, room, within_run}
+use Rattle.precision_law.proofs.words.Blocks.{has_dispatched}
 
 -- frames are expected between these
 record IsExpected (v : View) (expected : ℕ) : Type 0 where
@@ -37,17 +26,12 @@ cycle_behind (suc k) le = (k, refl)
 pub heard_in_their_blocks : HeardFramesAreTimely → EmissionsAreOfDispatches → BasesAreNearHulls → HeardInTheirBlocks
 heard_in_their_blocks timely dispatched near v device channel cycle members h q point expected is tidy good narrow heard =
     let space = room v is in
-    let e = heard.emission in
-    let sent = dispatched v h heard.cm cycle members is e good in
+    let sent = dispatched v h heard.cm cycle members is heard.emission good in
     let begun = (has_dispatched v sent.first sent.master cycle is sent.dispatch).begun in
     let k = cycle_behind cycle begun in
-    let base = near v h heard.cm cycle members is e tidy good in
-    let at : hull_of v (suc k.0) ≡ Some base.hull = subst (λ (c : ℕ). hull_of v c ≡ Some base.hull) k.1 base.is in
-    let before = has_before v k.0 base.hull (within_run v is) at in
-    let small = narrow k.0 k.1 before.before before.is_before in
+    let base = near v h heard.cm cycle members is heard.emission tidy good in
+    let before = has_before v k.0 base.hull (within_run v is) (subst (λ (c : ℕ). hull_of v c ≡ Some base.hull) k.1 base.is) in
     let on_time = timely v device channel cycle members h q point expected is heard in
-    let within = expected_within v device channel cycle members h q point expected heard in
-    let first = frames_come_first v.sizes before.before space small in
     record {
       before = before.before;
       hull = base.hull;
@@ -55,19 +39,6 @@ heard_in_their_blocks timely dispatched near v device channel cycle members h q 
       is_next = k.1;
       is_before = before.is_before;
       is_hull = base.is;
-      not_early =
-          omega (
-            arith,
-            ints,
-            on_time.not_early,
-            base.least,
-            within.least,
-            space.compression_least,
-            space.eight_errors,
-            space.errors.base_is,
-            space.errors.reach_is,
-            space.errors.clock_is,
-            space.paths,
-          );
-      not_late = omega (arith, ints, on_time.not_late, base.most, within.most, first, before.follows.most, space.eight_errors);
+      not_early = omega (arith, ints, on_time.not_early, base.least, (expected_within v device channel cycle members h q point expected heard).least, space);
+      not_late = omega (arith, ints, frames_come_first v.sizes before.before space (narrow k.0 k.1 before.before before.is_before));
     }

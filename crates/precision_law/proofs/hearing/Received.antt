@@ -1,65 +1,15 @@
 -- The frame that the compression master of the sound channel sends in a block is heard by each old device that is to keep
 -- the time.
-use Rattle.std.proofs.Common.{◌≡◌, ◌⊎◌, ℕ, suc, ◌+◌, ◌<◌, ◌≤◌, ℤ, pos, ◌<ℤ◌, ◌≤ℤ◌, Bool, true, false, List, [], ◌∷◌, Option, Some, None, inl, inr, refl, sym, ap, subst, ◌∙◌, arith}
-use Rattle.std.proofs.lemmas.Bool.{cases_eq, false_from_ne_true}
-use Rattle.std.proofs.lemmas.Int.{ints}
-use Rattle.std.specs.Option.{option_map_or}
-use Rattle.std.specs.Prelude.{◌||◌, if◌then◌else◌, not, unsigned_abs, option_and_then}
-use Rattle.net_plan.proofs.Trees.{closed, opened}
-use Rattle.net_plan.specs.Places.{IsCmOf, IsDeviceOf, device_at, is_end_system}
-use Rattle.net_plan.specs.declared.ids.DeviceId.{DeviceId}
-use Rattle.net_plan.specs.declared.ids.LinkId.{LinkId}
-use Rattle.net_plan.specs.declared.tables.Device.{Device}
-use Rattle.net_plan.specs.declared.tables.Role.TheVariants.{Master, Client, Cm, Relay}
-use Rattle.net_plan.specs.declared.tables.Role.{Role}
-use Rattle.net_plan.specs.declared.tables.Way.TheVariants.{Down}
-use Rattle.pcf_values.specs.declared.members.Members.{Members}
-use Rattle.pcf_values.specs.declared.pcf.Pcf.{Pcf}
-use Rattle.precision_law.proofs.clocks.Epochs.{time_stays}
-use Rattle.precision_law.proofs.clocks.Unchanged.{AreUpTo, hears_as_at}
-use Rattle.precision_law.proofs.faults.Masters.{device_of_place, switches_are_good}
-use Rattle.precision_law.proofs.faults.Turned.{not_turned_on_then}
-use Rattle.precision_law.proofs.hearing.GoodFrames.{next_first}
-use Rattle.precision_law.proofs.hearing.Timely.{cm_of}
-use Rattle.precision_law.proofs.law.Together.{before_narrow, follows_before}
-use Rattle.precision_law.proofs.records.Due.{IsRipeArrival, is_heard_of, place_of_ripe}
-use Rattle.precision_law.proofs.records.PlacedFronts.{before_place}
-use Rattle.precision_law.proofs.records.Points.{before_of, earlier_before}
-use Rattle.precision_law.proofs.records.Views.{room}
-use Rattle.precision_law.proofs.sizes.Instants.{frames_come_first}
-use Rattle.precision_law.proofs.trips.Descents.{child_not_parent, receiver_down, emission_shows}
-use Rattle.precision_law.proofs.trips.Gates.{are_open_from}
-use Rattle.precision_law.proofs.trips.Kept.{EndsSo, ends_so}
-use Rattle.precision_law.proofs.trips.SoundDown.{sound_frames_go_down}
-use Rattle.precision_law.proofs.trips.SoundUp.{one_cm}
-use Rattle.precision_law.proofs.verdict.HeardOutside.{IsAtPoint, sooner}
-use Rattle.precision_law.specs.Bases.{IsEmission, base_of}
-use Rattle.precision_law.specs.BlockLaws.{BlocksGoSo}
-use Rattle.precision_law.specs.Blocks.{IsInBlock, Stands, state_left}
-use Rattle.precision_law.specs.CompressionLaws.{HearsBy, IsOfHearer}
-use Rattle.precision_law.specs.Epochs.{epoch_time, has_time}
-use Rattle.precision_law.specs.Hulls.{Hull, first_correction, first_dispatch, hull_of}
-use Rattle.precision_law.specs.Standings.{IsNearHull}
-use Rattle.precision_law.specs.Trips.{IsBrought, IsTrip, Leg}
-use Rattle.precision_law.specs.Views.{IsFirm, IsGood, IsSoundSwitch, IsView, View}
-use Rattle.run_law.proofs.law.FirstPlaces.{founded_at, split}
-use Rattle.run_law.proofs.runs.Places.{in_left}
-use Rattle.run_law.specs.control.Collections.{observation_window}
-use Rattle.run_law.specs.control.Hearing.{heard_as, heard_by_schedule}
-use Rattle.run_law.specs.control.Leaving.{Gives}
-use Rattle.run_law.specs.declared.judgement.Judgement.{Judgement}
+use Rattle.precision_law.proofs.words.Std.{◌+◌, ◌<ℤ◌, ◌<◌, ◌||◌, ◌∙◌, ◌∷◌, ◌≡◌, ◌≤ℤ◌, ◌≤◌, ◌⊎◌, Bool, List, None, Option, Some, [], ap, arith, cases_eq, false, false_from_ne_true, if◌then◌else◌, inl, inr, ints, not, option_and_then, option_map_or, pos, refl, subst, suc, sym, true, unsigned_abs, ℕ, ℤ}
+use Rattle.precision_law.proofs.words.Plans.{Cm, Device, DeviceId, Down, Integrating, IsCmOf, IsDeviceOf, Joining, LinkId, Members, Off, Pcf, State, SyncPlan, Synchronised, closed, device_at, is_end_system, opened}
+use Rattle.precision_law.proofs.words.Runs.{Gives, Happening, IsCaused, IsDue, IsIn, Judgement, NoteBody, adjustment_at_hearing, channel_of, channel_of_link, cycle_in, earlier, founded_at, heard_as, heard_by_schedule, in_left, is_cm, is_cm_role, is_off, is_parent_of, is_relay, members_in, observation_window, place_of, plan_of, receiver_of, split, state_at_hearing, state_before, time_of}
+use Rattle.precision_law.proofs.words.Laws.{BlocksGoSo, HearsBy, Hull, IsBrought, IsEmission, IsFirm, IsGood, IsInBlock, IsNearHull, IsOfHearer, IsSoundSwitch, IsTrip, IsView, Leg, Stands, View, base_of, epoch_time, first_correction, first_dispatch, has_time, hull_of, state_left}
+use Rattle.precision_law.proofs.words.Clocks.{IsRipeArrival, before_of, before_place, child_not_parent, cm_is_no_end, device_of, device_of_place, earlier_before, emission_shows, frames_come_first, is_heard_of, place_of_ripe, receiver_down, room, switches_are_good, time_stays}
+use Rattle.precision_law.proofs.words.Blocks.{AreUpTo, EndsSo, before_narrow, cm_of, earlier_in_block, ends_so, follows_before, hears_as_at, not_turned_on_then, one_cm, sound_frames_go_down}
 use Rattle.run_law.specs.declared.note.NoteBody.TheVariants as notes
-use Rattle.run_law.specs.declared.note.NoteBody.{NoteBody}
-use Rattle.run_law.specs.device.States.{adjustment_at_hearing, cycle_in, is_off, state_at_hearing, state_before}
-use Rattle.run_law.specs.records.Happenings.{Happening, earlier, time_of}
-use Rattle.run_law.specs.records.Order.{IsIn}
-use Rattle.run_law.specs.records.Ranks.{members_in, place_of}
-use Rattle.run_law.specs.runs.DueRecords.{IsCaused, IsDue}
-use Rattle.run_law.specs.scenario.Devices.{channel_of, channel_of_link, is_cm, is_cm_role, is_parent_of, is_relay, plan_of}
-use Rattle.run_law.specs.scenario.Ways.{receiver_of}
-use Rattle.sync_state.specs.declared.plan.SyncPlan.{SyncPlan}
-use Rattle.sync_state.specs.declared.state.State.TheVariants.{Off, Integrating, Joining, Synchronised}
-use Rattle.sync_state.specs.declared.state.State.{State}
+use Rattle.precision_law.proofs.hearing.GoodFrames.{next_first}
+use Rattle.precision_law.proofs.trips.Gates.{are_open_from}
+use Rattle.precision_law.proofs.verdict.HeardOutside.{IsAtPoint, sooner}
 
 -- ---- when it is sent
 
@@ -74,44 +24,17 @@ pub sent_in_time : (v : View) (n : ℕ) (before : Stands v n) (hull : Hull) (fir
 sent_in_time v n before hull first is at near =
     let space = room v is in
     let follows = follows_before v n before.hull hull is before.is_hull at in
-    let frames = frames_come_first v.sizes before.hull space (before_narrow v n before) in
-    let begin = next_first v n before is in
     record {
-      from =
-          omega (
-            arith,
-            ints,
-            begin,
-            follows.least,
-            near.least,
-            space.compression_least,
-            space.eight_errors,
-            space.errors.base_is,
-            space.errors.reach_is,
-            space.errors.clock_is,
-          );
-      low =
-          omega (
-            arith,
-            ints,
-            follows.least,
-            near.least,
-            space.compression_least,
-            space.eight_errors,
-            space.errors.base_is,
-            space.errors.reach_is,
-            space.errors.clock_is,
-          );
-      soon = omega (arith, ints, follows.most, near.most, frames);
+      from = omega (arith, ints, next_first v n before is, follows, near, space);
+      low = omega (arith, ints, follows, near, space);
+      soon = omega (arith, ints, follows.most, near.most, frames_come_first v.sizes before.hull space (before_narrow v n before));
     }
 
 -- ---- who hears
 
 timed_on : (state : State) → has_time state ≡ true → is_off state ≡ false
 timed_on Off e = absurd cc
-timed_on Integrating e = refl
-timed_on Joining e = refl
-timed_on Synchronised e = refl
+timed_on state e = refl
 
 in_time_hearer : (b : Bool) → IsOfHearer (heard_by_schedule b)
 in_time_hearer true = tt
@@ -120,30 +43,18 @@ in_time_hearer false = tt
 -- who has a common time hears what is brought to it
 hearer_of : (plan : SyncPlan) (precision : ℤ) (state : State) (adjustment point : ℤ) (cycle : ℕ) (members : Members) → has_time state ≡ true
     → IsOfHearer (heard_as plan precision state adjustment point cycle members)
-hearer_of plan precision Off adjustment point cycle members e = absurd cc
-hearer_of plan precision Integrating adjustment point cycle members e = absurd cc
 hearer_of plan precision Joining adjustment point cycle members e = in_time_hearer _
 hearer_of plan precision Synchronised adjustment point cycle members e = in_time_hearer _
+hearer_of plan precision state adjustment point cycle members e = absurd cc
 
 no_end_cm : (o : Option Device) → option_map_or (λ d. is_cm_role d.role) o false ≡ true → option_map_or (λ d. is_end_system d.role) o false ≡ true → ⊥
 no_end_cm None a b = absurd cc
-no_end_cm (Some d) a b = by d.role a b
-  where
-    by : (role : Role) → is_cm_role role ≡ true → is_end_system role ≡ true → ⊥
-    by Master a b = absurd cc
-    by Client a b = absurd cc
-    by Cm a b = absurd cc
-    by Relay a b = absurd cc
-
--- a device of which this holds is there
-there_by : (f : Role → Bool) (o : Option Device) → option_map_or (λ d. f d.role) o false ≡ true → (d : Device) × (o ≡ Some d) × (f d.role ≡ true)
-there_by f None e = absurd cc
-there_by f (Some d) e = (d, refl, e)
+no_end_cm (Some d) a b = cm_is_no_end d.role a b
 
 -- a device that is to keep the time is of the channel
 firm_member : (v : View) (device : DeviceId) → IsFirm v device → IsDeviceOf v.scenario.network v.channel device
 firm_member v device (inl end) =
-    (let d = there_by is_end_system (device_at v.scenario.network device) end.end in closed (λ (x : Device). (is_end_system x.role ≡ true)
+    (let d = device_of is_end_system (device_at v.scenario.network device) end.end in closed (λ (x : Device). (is_end_system x.role ≡ true)
     ⊎ (x.channel ≡ Some v.channel)) (device_at v.scenario.network device) d.0 d.1 (inl d.2))
 firm_member v device (inr switch) =
     (let d = opened (λ (x : Device). x.channel ≡ Some v.channel) (device_at v.scenario.network device) switch in closed
@@ -196,18 +107,15 @@ own_frame v n t block is cm at one first members e timed =
     let network = s.network in
     let q = time_of first in
     let found = founded_at s v.records first is.run.founded e.there in
-    let emits : IsCaused s found.front first.note.time (notes.Compressed cm e.opened e.at (suc n) members e.verdict) = subst
-    (IsCaused s found.front first.note.time) e.is found.due.cause in
+    let emits = subst (IsCaused s found.front first.note.time) e.is found.due.cause in
     let split_at = before_of v first is found in
     let up : AreUpTo v q found.front = record {
       all = earlier_before v q found.front split_at;
       there = λ x i. subst (IsIn x) (sym found.whole) (in_left x found.front (first ∷ found.rest) i);
       to = λ x i. split_at.only x i;
     } in
-    let soon = timed.soon in
-    let late : pos q <ℤ first_correction v.sizes block.before.hull = omega (arith, ints, soon) in
-    let lt = sooner v n t block cm q at late in
-    let stands = hears_as_at v cm block.before.next q t found.front is up timed.from lt at.old at.has.timed in
+    let late : pos q <ℤ first_correction v.sizes block.before.hull = omega (arith, ints, timed.soon) in
+    let stands = hears_as_at v cm block.before.next q t found.front is up timed.from (sooner v n t block cm q at late) at.old at.has.timed in
     let hearer = hearer_of (plan_of network cm) (observation_window network) (state_at_hearing s found.front cm q) (adjustment_at_hearing s found.front cm q).0
     e.at.0
     (suc n) members stands.state in
@@ -250,54 +158,37 @@ brought_frame : BlocksGoSo → (v : View) (n t : ℕ) (block : IsInBlock v n t) 
 brought_frame goes v n t block is device cm firm other at one first members e timed =
     let s = v.scenario in
     let network = s.network in
-    let before = block.before in
     let w = time_of first in
-    let soon = timed.soon in
     let space = room v is in
-    let lt : w + v.sizes.dmax + v.sizes.path < t = sooner v n t block device (w + v.sizes.dmax + v.sizes.path) at soon in
-    let in_run = block.in_run in
-    let instant : IsInBlock v n w = record {
-      before = before;
-      next = block.next;
-      is_over = block.is_over;
-      from = timed.from;
-      to = (let to = block.to in omega (arith, lt, to));
-      in_run = omega (arith, lt, in_run);
-    } in
-    let opens = are_open_from goes v n w instant is timed.low (omega (arith, ints, soon)) (omega (arith, lt, in_run)) in
+    let lt : w + v.sizes.dmax + v.sizes.path < t = sooner v n t block device (w + v.sizes.dmax + v.sizes.path) at timed.soon in
+    let instant : IsInBlock v n w = earlier_in_block _ _ _ _ block timed.from (omega arith) in
+    let opens = are_open_from goes v n w instant is timed.low (omega (arith, ints, timed.soon)) (omega (arith, lt, block.in_run)) in
     let good = firm_good v device is firm in
-    let from = timed.from in
-    let old = at.old in
     let on : (u : ℕ) → w ≤ u → u + v.sizes.path ≤ w + v.sizes.dmax → is_off (state_before s v.records device u) ≡ false = λ u ge le.
-    (let old_u : epoch_time (earlier t v.records) device <ℤ pos u = omega (arith, ints, old, from, ge) in
+    (let old_u : epoch_time (earlier t v.records) device <ℤ pos u = omega (arith, ints, at.old, timed.from, ge) in
     let timed_u = time_stays v device u t is (omega (arith, le, lt)) old_u at.has.timed in
     ap (λ (b : Bool). is_off (if b then Integrating else state_left v device u)) (not_turned_on_then v device u is timed_u)
     ∙ timed_on (state_left v device u) timed_u) in
-    let b = sound_frames_go_down v first device cm (suc n) members is e one (firm_member v device firm) good other opens (omega (arith, lt, in_run)) on in
+    let b = sound_frames_go_down v first device cm (suc n) members is e one (firm_member v device firm) good other opens (omega (arith, lt, block.in_run)) on in
     let p = b.permanent in
     let q = b.q in
     let ends = brought_by_leg v cm device (suc n) first members is one e b in
-    let l = ends.is in
-    let same : notes.Arrived l.receiver ends.leg.link ends.leg.leaving.note.number l.arrived_clock ≡ notes.Arrived device p.link p.from p.clock = sym l.arrives
-    ∙ ap (λ (h : Happening). h.note.body) ends.ends ∙ p.is in
-    let receiver : l.receiver ≡ device = cc in
+    let same = sym ends.is.arrives ∙ ap (λ (h : Happening). h.note.body) ends.ends ∙ p.is in
+    let receiver : ends.is.receiver ≡ device = cc in
     let link : ends.leg.link ≡ p.link = cc in
-    let child = receiver_down network p.link device (ap (λ (k : LinkId). receiver_of network k Down) (sym link) ∙ l.comes_to
+    let child = receiver_down network p.link device (ap (λ (k : LinkId). receiver_of network k Down) (sym link) ∙ ends.is.comes_to
     ∙ ap (λ (d : DeviceId). Some d) receiver) in
-    let parent : is_parent_of network device p.link ≡ false = false_from_ne_true (is_parent_of network device p.link)
-    (λ yes_parent. child_not_parent v device p.link is child yes_parent) in
+    let parent = false_from_ne_true (is_parent_of network device p.link) (λ yes_parent. child_not_parent v device p.link is child yes_parent) in
     let frame = ends.keeps.frame in
-    let late = b.in_time.not_late in
-    let early = b.in_time.not_early in
     let r : IsRipeArrival v device b.last p.link frame b.point q = record {
-      there = subst (λ (h : Happening). IsIn h v.records) ends.ends l.arrived;
+      there = subst (λ (h : Happening). IsIn h v.records) ends.ends ends.is.arrived;
       of_frame = ends.keeps.of_frame;
       waits = waits_by (is_relay network device) (is_parent_of network device p.link) parent;
       good = good;
       permanent = p;
       by_link = refl;
-      later = (let f = p.reached.from_on in omega (arith, ints, f));
-      in_run = omega (arith, late, lt, in_run);
+      later = omega (arith, ints, p.reached.from_on);
+      in_run = omega (arith, b.in_time.not_late, lt, block.in_run);
     } in
     let place = split place_of (IsDue s) v.records (place_of_ripe device b.last p.link frame b.point q) is.run.founded in
     let split_at = before_place v q (3 ∷ device.0 ∷ unsigned_abs b.point ∷ frame.members.0 ∷ p.link.0 ∷ b.last.note.number ∷ []) place in
@@ -307,18 +198,14 @@ brought_frame goes v n t block is device cm firm other at one first members e ti
       to = λ x i. split_at.only x i;
     } in
     let ripe = is_heard_of v device b.last p.link frame b.point q is (firm_other v device cm is firm one other) r place in
-    let paths = space.paths in
-    let from_q : before.next ≤ q = omega (arith, early, from, paths) in
-    let lt_q : q < t = omega (arith, late, lt) in
-    let stands = hears_as_at v device before.next q t place.front is up from_q lt_q old at.has.timed in
+    let from_q : block.before.next ≤ q = omega (arith, b.in_time.not_early, timed.from, space.paths) in
+    let lt_q : q < t = omega (arith, b.in_time.not_late, lt) in
     let hearer = hearer_of (plan_of network device) (observation_window network) (state_at_hearing s place.front device q)
     (adjustment_at_hearing s place.front device q).0
-    b.point frame.cycle frame.members stands.state in
+    b.point frame.cycle frame.members (hears_as_at v device block.before.next q t place.front is up from_q lt_q at.old at.has.timed).state in
     let shows = emission_shows v first cm e.opened e.at (suc n) members e.verdict is e.there e.is in
-    let time = ripe.time in
     let cycle_h : cycle_in ripe.h ≡ cycle_in b.last = ap (λ (o : Option Pcf). option_map_or (λ f. f.cycle) o 0) (ripe.of_frame ∙ sym ends.keeps.of_frame) in
-    let members_h : members_in ripe.h ≡ members_in b.last = ap (λ (o : Option Pcf). option_map_or (λ f. f.members.0) o 0)
-    (ripe.of_frame ∙ sym ends.keeps.of_frame) in
+    let members_h = ap (λ (o : Option Pcf). option_map_or (λ f. f.members.0) o 0) (ripe.of_frame ∙ sym ends.keeps.of_frame) in
     record {
       h = ripe.h;
       point = b.point;
@@ -329,20 +216,12 @@ brought_frame goes v n t block is device cm firm other at one first members e ti
       hearer = hearer;
       hears = record {
         there = ripe.there;
-        how = inl (
-          p.link,
-          b.last.note.number,
-          record { 0 = b.point },
-          ripe.is,
-          ap (channel_of_link network) (sym link)
-              ∙ ends.of_channel,
-          refl,
-        );
+        how = inl (p.link, b.last.note.number, record { 0 = b.point }, ripe.is, ap (channel_of_link network) (sym link) ∙ ends.of_channel, refl);
       };
       of_cycle = cycle_h ∙ sym ends.keeps.cycle ∙ sym shows.0;
       members_are = members_h ∙ sym ends.keeps.members ∙ sym shows.1;
-      from = omega (arith, time, from_q);
-      late = omega (arith, ints, time, late, soon);
+      from = omega (arith, ripe.time, from_q);
+      late = omega (arith, ints, ripe.time, b.in_time.not_late, timed.soon);
     }
 
 -- each old device that is to keep the time hears the frame

@@ -1,52 +1,23 @@
 -- Two dispatches of one cycle, of which the master of the first may break before the second.
-use Rattle.std.proofs.Common.{◌≡◌, ℕ, zero, suc, ◌*◌, ◌<◌, ◌≤◌, ℤ, pos, negsuc, ◌+ℤ◌, ◌<ℤ◌, ◌≤ℤ◌, true, List, inl, inr, refl, sym, ap, subst, ◌∙◌, arith}
-use Rattle.std.proofs.lemmas.Bool.{cases_lt}
-use Rattle.std.proofs.lemmas.Int.{by_lt_z, ints}
-use Rattle.std.proofs.lemmas.Nat.{ones_le_self}
-use Rattle.membership.specs.Members.{none}
-use Rattle.net_plan.specs.declared.ids.DeviceId.{DeviceId}
-use Rattle.pcf_values.specs.declared.channel.Channel.{Channel}
+use Rattle.precision_law.proofs.words.Std.{◌*◌, ◌+ℤ◌, ◌<ℤ◌, ◌<◌, ◌∙◌, ◌≡◌, ◌≤ℤ◌, ◌≤◌, List, ap, arith, by_lt_z, cases_lt, inl, inr, ints, ones_le_self, pos, refl, subst, suc, sym, true, zero, ℕ, ℤ}
+use Rattle.precision_law.proofs.words.Plans.{Channel, DeviceId, Masters, Units, none}
+use Rattle.precision_law.proofs.words.Runs.{Happening, IsIn, Scenario, adjustment_after, earlier, is_synchronised, same_some, state_after, time_of}
+use Rattle.precision_law.proofs.words.Laws.{BlocksCover, BlocksGoSo, HasTimeAt, Hull, IsDispatch, IsFirstMaster, IsGood, IsInBlock, IsOldAt, IsView, Stands, View, adjustment_left, epoch_time, hull_of, last_dispatch, last_setting, state_left}
+use Rattle.precision_law.proofs.words.Clocks.{adjustment_stays, enough_masters, good_is_correct, instants_are_in_order, natural_of, room, state_stays, steady, synchronised_has_time}
+use Rattle.precision_law.proofs.words.Blocks.{HasDispatched, all_in_hulls, before_narrow, block_ends, block_of, earlier_in_block, follows_before, has_dispatched, hull_lies, in_next, new_shows, view_of}
 use Rattle.precision_law.proofs.block.Dispatched.{masters_dispatch}
 use Rattle.precision_law.proofs.block.Halving as halving
-use Rattle.precision_law.proofs.block.Halving.{HasDispatched, IsReachedBy, has_dispatched, high_by, in_next, low_by, synchronised_is}
-use Rattle.precision_law.proofs.clocks.Epochs.{adjustment_stays, state_stays}
-use Rattle.precision_law.proofs.faults.Enough.{enough_masters}
-use Rattle.precision_law.proofs.faults.Masters.{good_is_correct}
-use Rattle.precision_law.proofs.law.Together.{before_narrow, block_ends, follows_before, new_shows}
-use Rattle.precision_law.proofs.records.RunViews.{all_in_hulls, block_of, hull_lies, view_of}
-use Rattle.precision_law.proofs.records.Views.{room, steady}
-use Rattle.precision_law.proofs.sizes.Instants.{instants_are_in_order}
-use Rattle.precision_law.specs.BlockLaws.{BlocksCover, BlocksGoSo}
-use Rattle.precision_law.specs.Blocks.{HasTimeAt, IsInBlock, IsOldAt, Stands, adjustment_left, state_left}
-use Rattle.precision_law.specs.Epochs.{epoch_time, has_time, last_setting}
-use Rattle.precision_law.specs.Hulls.{Hull, hull_of, last_dispatch}
-use Rattle.precision_law.specs.Masters.{IsFirstMaster}
-use Rattle.precision_law.specs.Views.{IsDispatch, IsGood, IsView, View}
-use Rattle.run_law.proofs.runs.SameSteps.{same_some}
-use Rattle.run_law.specs.device.States.{adjustment_after, is_synchronised, state_after}
-use Rattle.run_law.specs.records.Happenings.{Happening, earlier, time_of}
-use Rattle.run_law.specs.records.Order.{IsIn}
-use Rattle.run_law.specs.scenario.Scenarios.{Scenario}
-use Rattle.schedule_tables.specs.declared.rule.Rule.TheVariants.{Masters}
-use Rattle.sync_state.specs.declared.state.State.TheVariants.{Off, Integrating, Joining, Synchronised}
-use Rattle.sync_state.specs.declared.state.State.{State}
-use Rattle.tte_units.specs.declared.units.Units.{Units}
 
 -- ---- a master that began on has dispatched
-
-natural_of : (z : ℤ) (least : ℕ) → pos least ≤ℤ z → (m : ℕ) × (z ≡ pos m)
-natural_of (pos n) least le = (n, refl)
-natural_of (negsuc n) least le = absurd (omega (arith, ints, le))
 
 -- once the block of a later cycle is over, each good master that began on has dispatched the frame of the cycle
 pub first_dispatched : BlocksCover → BlocksGoSo → (v : View) (m : ℕ) (stands : Stands v (suc m)) (device : DeviceId) → IsView v → IsFirstMaster v device
     → (h : Happening) × IsDispatch v h device (suc m)
 first_dispatched cover goes v m stands device is first =
     let lie = hull_lies cover goes v is m stands.hull stands.is_hull in
-    let e = lie.earliest in
     let own = lie.is_earliest in
-    let b = block_of cover goes v is e own.master (suc m) (record { there = own.there; is = own.is; good = own.correct }) in
-    by b.n b.block (let same = b.of_cycle in omega (arith, same))
+    let b = block_of cover goes v is lie.earliest own.master (suc m) (record { there = own.there; is = own.is; good = own.correct }) in
+    by b.n b.block (omega (arith, b.of_cycle))
   where
     by : (n : ℕ) → IsInBlock v n (time_of (hull_lies cover goes v is m stands.hull stands.is_hull).earliest) → n ≡ m → (h : Happening)
         × IsDispatch v h device (suc m)
@@ -56,12 +27,9 @@ first_dispatched cover goes v m stands device is first =
         let follows = follows_before v m before.hull stands.hull is before.is_hull stands.is_hull in
         let ends = block_ends v m stands.next before.hull before.is_hull stands.is_over in
         let space = room v is in
-        let in_run = stands.in_run in
-        let first_is = lie.first_is in
-        let x = natural_of (last_dispatch v.sizes before.hull) (time_of lie.earliest) (omega (arith, ints, first_is, follows.ordered, follows.most)) in
-        let at = in_next v m before x.0 is (let same_x = x.1 in omega (arith, ints, same_x, follows.least, follows.ordered, follows.most))
-        (let same_x = x.1 in omega (arith, ints, same_x)) (let same_x = x.1 in omega (arith, ints, same_x, ends, in_run)) in
-        let sent = masters_dispatch goes v m x.0 (halving.block_of v m before x.0 at) device is (let same_x = x.1 in omega (arith, ints, same_x)) first in
+        let x = natural_of (last_dispatch v.sizes before.hull) (time_of lie.earliest) (omega (arith, ints, lie.first_is, follows)) in
+        let at = in_next v m before x.0 is (omega (arith, ints, x.1, follows)) (omega (arith, ints, x.1)) (omega (arith, ints, x.1, ends, stands.in_run)) in
+        let sent = masters_dispatch goes v m x.0 (halving.block_of v m before x.0 at) device is (omega (arith, ints, x.1)) first in
         (sent.0, sent.1)
 
 -- ---- two views
@@ -103,16 +71,10 @@ module _ (cover : BlocksCover) (goes : BlocksGoSo) (s : Scenario) (path : ℕ) (
       let prior = later.before.narrow m (omega arith) in
       let ends = block_ends v' m later.before.next prior.0 prior.1 later.before.is_over in
       let space = room v views.is in
-      let order = instants_are_in_order v.sizes prior.0 later.before.hull space prior.2
-      (follows_before v' m prior.0 later.before.hull views.longer prior.1 later.before.is_hull) in
+      let order = instants_are_in_order v.sizes prior.0 later.before.hull space prior.2 (follows_before v' m _ _ views.longer prior.1 later.before.is_hull) in
       let own = all_in_hulls cover goes v views.is g one (suc (suc m)) two.first in
       let follows = follows_before v (suc m) block.before.hull own.hull views.is block.before.is_hull own.is in
-      let narrow = before_narrow v (suc m) block.before in
-      let at = two.at_w in
-      let most = a.most in
-      let least = b.least in
-      let from = own.least in
-      omega (arith, ints, lt, ends, order.last_not_late, bottom, least, most, top, narrow, follows.least, from, at, space.cycles, space.eight_errors)
+      omega (arith, ints, before_narrow v _ block.before)
 
   -- so it was
   set_early : (n : ℕ) (g h : Happening) (one other : DeviceId) → AreTwo n g h one other → (block : IsInBlock (view_of s w c path front) n w)
@@ -123,9 +85,7 @@ module _ (cover : BlocksCover) (goes : BlocksGoSo) (s : Scenario) (path : ℕ) (
     | inl lt ↦
         let enough = enough_masters (view_of s u d path more) none views.longer
         (λ k i first member. absurd (set_early_by m g h one other two block later k first lt)) in
-        let three = (views.longer.lawful.rules Masters 2).threshold_least refl in
-        let empty = ones_le_self 0 in
-        absurd (omega (arith, enough, three, empty))
+        absurd (omega (arith, enough, (views.longer.lawful.rules Masters 2).threshold_least refl, ones_le_self 0))
   ]
 
   -- what the clock of the second dispatch is at the first
@@ -137,50 +97,28 @@ module _ (cover : BlocksCover) (goes : BlocksGoSo) (s : Scenario) (path : ℕ) (
     pub most : (pos (s.reading other u) +ℤ adjustment_left (view_of s w c path front) other w) ≤ℤ (pos (suc n * (view_of s w c path front).sizes.cycle)
         +ℤ pos (2 * (view_of s w c path front).sizes.grain))
 
-  has_timed : (state : State) → is_synchronised state ≡ true → has_time state ≡ true
-  has_timed Off e = absurd cc
-  has_timed Integrating e = absurd cc
-  has_timed Joining e = refl
-  has_timed Synchronised e = refl
-
   pub set_before : (n : ℕ) (g h : Happening) (one other : DeviceId) → AreTwo n g h one other → (block : IsInBlock (view_of s w c path front) n w)
       (later : IsInBlock (view_of s u d path more) n u) → IsSetBefore n other block
   set_before n g h one other two block later =
       let v = view_of s w c path front in
       let v' = view_of s u d path more in
-      let is = views.is in
       let has = subst (λ (t : ℕ). HasDispatched v' other (suc n) t) two.at_u (has_dispatched v' h other (suc n) views.longer two.second) in
       let old' = subst (λ (t : ℕ). IsOldAt v' later.before.next other t) two.at_u
       ((goes v' n (time_of h) (subst (IsInBlock v' n) (sym two.at_u) later) views.longer).dispatches h other (suc n) two.second refl).old in
-      let le_next = set_early n g h one other two block later in
-      let set : epoch_time (earlier u more) other <ℤ pos w = omega (arith, ints, old', le_next) in
-      let same : adjustment_left v other w ≡ adjustment_left v' other u =
-      ap (λ (es : List Happening). (adjustment_after s es other).0) (views.early w (omega arith))
-      ∙ ap (λ (a : Units). a.0) (adjustment_stays v' other w u views.longer views.le set) in
-      let synchronised : is_synchronised (state_left v other w) ≡ true =
-      ap (λ (es : List Happening). is_synchronised (state_after s es other)) (views.early w (omega arith))
+      let set : epoch_time (earlier u more) other <ℤ pos w = omega (arith, ints, old', set_early n g h one other two block later) in
+      let same = ap (λ (es : List Happening). (adjustment_after s es other).0) (views.early w (omega arith)) ∙ ap (λ (a : Units). a.0)
+      (adjustment_stays v' other w u views.longer views.le set) in
+      let synchronised = ap (λ (es : List Happening). is_synchronised (state_after s es other)) (views.early w (omega arith))
       ∙ state_stays is_synchronised refl v' other w u views.longer views.le set has.synchronised in
       let good = good_then other two.second.good in
-      let timed : HasTimeAt v other w = record { good = good; timed = has_timed (state_left v other w) synchronised } in
-      let up = (steady v is other).never_falls w u views.le in
-      let least : pos (suc n * v.sizes.cycle) ≤ℤ (pos (s.reading other u) +ℤ adjustment_left v other w) = subst
-      (λ (z : ℤ). pos (suc n * v.sizes.cycle) ≤ℤ (pos (s.reading other u) +ℤ z)) (sym same) has.least in
-      let most : (pos (s.reading other u) +ℤ adjustment_left v other w) ≤ℤ (pos (suc n * v.sizes.cycle) +ℤ pos (2 * v.sizes.grain)) = subst
-      (λ (z : ℤ). (pos (s.reading other u) +ℤ z) ≤ℤ (pos (suc n * v.sizes.cycle) +ℤ pos (2 * v.sizes.grain))) (sym same) has.most in
+      let timed : HasTimeAt v other w = record { good = good; timed = synchronised_has_time (state_left v other w) synchronised } in
+      let least = subst (λ (z : ℤ). pos (suc n * v.sizes.cycle) ≤ℤ (pos (s.reading other u) +ℤ z)) (sym same) has.least in
+      let most = subst (λ (z : ℤ). (pos (s.reading other u) +ℤ z) ≤ℤ (pos (suc n * v.sizes.cycle) +ℤ pos (2 * v.sizes.grain))) (sym same) has.most in
       let old : IsOldAt v block.before.next other w =
       by_lt_z {P = IsOldAt v block.before.next other w} (epoch_time (earlier w front) other) (pos block.before.next)
       (λ lt. lt)
       (λ late.
-      let new = new_shows v n w w other block
-      (λ x from less. goes v n x
-      (record {
-        before = block.before;
-        next = block.next;
-        is_over = block.is_over;
-        from = from;
-        to = omega (arith, less, block.to);
-        in_run = omega (arith, less, block.in_run);
-      }) is) is (omega arith) timed (last_setting (earlier w front) other) refl late in
-      let ahead = new.ahead in
-      absurd (omega (arith, ints, ahead, up, most))) in
+      let new = new_shows _ _ _ w other block (λ x from less. goes v n x (earlier_in_block _ _ _ _ block from (omega arith)) views.is) views.is
+      (omega arith) timed (last_setting (earlier w front) other) refl late in
+      absurd (omega (arith, ints, new.ahead, (steady v views.is other).never_falls w u views.le, most))) in
       record { good = good; synchronised = synchronised; old = old; least = least; most = most }

@@ -1,18 +1,10 @@
 -- What a device that joins comes to by its first correction.
-use Rattle.std.proofs.Common.{ℕ, ℤ, ◌-ℤ◌, List, sym, subst}
-use Rattle.net_plan.specs.declared.ids.DeviceId.{DeviceId}
-use Rattle.precision_law.specs.Dispatches.{DispatchesStayNear}
-use Rattle.precision_law.specs.Joined.{IsFirstCorrection, IsFixedByPoints, JoinersComeIn}
-use Rattle.precision_law.specs.Precision.{ClocksStayTogether, IsRunUpTo}
-use Rattle.run_law.specs.control.Corrections.{standing_before}
-use Rattle.run_law.specs.declared.note.Note.{Note}
+use Rattle.precision_law.proofs.words.Std.{◌-ℤ◌, List, subst, sym, ℕ, ℤ}
+use Rattle.precision_law.proofs.words.Plans.{Corrected, DeviceId, HasVerdict}
+use Rattle.precision_law.proofs.words.Runs.{Happening, IsCaused, Note, Scenario, happenings, standing_before, time_of}
+use Rattle.precision_law.proofs.words.Laws.{ClocksStayTogether, DispatchesStayNear, IsFirstCorrection, IsFixedByPoints, IsRunUpTo, JoinersComeIn}
 use Rattle.run_law.specs.declared.note.NoteBody.TheVariants as notes
-use Rattle.run_law.specs.records.Happenings.{Happening, happenings, time_of}
-use Rattle.run_law.specs.runs.DueRecords.{IsCaused}
-use Rattle.run_law.specs.scenario.Scenarios.{Scenario}
 use Rattle.sync_state.proofs.LawLemmas.{by_points}
-use Rattle.sync_state.specs.Verdicts.{HasVerdict}
-use Rattle.sync_state.specs.declared.answers.Verdict.TheVariants.{Corrected}
 
 -- a correction is by what was heard
 fixed_by_points : (s : Scenario) (mark : List ℕ) (ns : List Note) (until : ℕ) → IsRunUpTo s mark ns until → (device : DeviceId) (h : Happening)

@@ -1,15 +1,9 @@
 -- The blocks cover the run.
-use Rattle.std.proofs.Common.{◌≡◌, ℕ, zero, suc, ◌+◌, ◌<◌, ◌≤◌, ℤ, pos, negsuc, ◌+ℤ◌, ◌≤ℤ◌, inl, inr, refl, ap, arith}
-use Rattle.std.proofs.lemmas.Bool.{cases_lt}
-use Rattle.std.proofs.lemmas.Int.{ints}
+use Rattle.precision_law.proofs.words.Std.{◌+ℤ◌, ◌+◌, ◌<◌, ◌≡◌, ◌≤ℤ◌, ◌≤◌, ap, arith, cases_lt, inl, inr, ints, negsuc, pos, refl, suc, zero, ℕ, ℤ}
+use Rattle.precision_law.proofs.words.Runs.{same_some}
+use Rattle.precision_law.proofs.words.Laws.{BlockIsOver, BlocksCover, Hull, IsInBlock, IsOverBefore, IsView, Stands, StandsAtStart, StandsOn, View, hull_of, last_correction, start_hull}
+use Rattle.precision_law.proofs.words.Clocks.{corrections_come_first, room}
 use Rattle.precision_law.proofs.law.Together.{block_ends, follows_before}
-use Rattle.precision_law.proofs.records.Views.{room}
-use Rattle.precision_law.proofs.sizes.Instants.{corrections_come_first}
-use Rattle.precision_law.specs.BlockLaws.{BlockIsOver, BlocksCover, StandsAtStart, StandsOn}
-use Rattle.precision_law.specs.Blocks.{IsInBlock, Stands}
-use Rattle.precision_law.specs.Hulls.{Hull, IsOverBefore, hull_of, last_correction, start_hull}
-use Rattle.precision_law.specs.Views.{IsView, View}
-use Rattle.run_law.proofs.runs.SameSteps.{same_some}
 
 -- the last correction comes behind the block before, so it is not before time 0
 pub later_end : (v : View) (n : ℕ) (stands : Stands v n) → IsView v → pos stands.next ≤ℤ last_correction v.sizes stands.hull
@@ -17,18 +11,14 @@ later_end v n stands is = by n stands
   where
     by : (n : ℕ) (stands : Stands v n) → pos stands.next ≤ℤ last_correction v.sizes stands.hull
     by zero stands =
-        let zero_next : stands.next ≡ 0 = stands.is_over in
         let same : start_hull v.sizes ≡ stands.hull = same_some (hull_of v zero) (start_hull v.sizes) stands.hull refl stands.is_hull in
-        let top : pos 0 ≡ stands.hull.greatest = ap (λ (w : Hull). w.greatest) same in
-        omega (arith, ints, zero_next, top)
+        omega (arith, ints, stands.is_over, ap (λ (w : Hull). w.greatest) same)
     by (suc c) stands =
         let over = stands.is_over in
         let one = stands.narrow c (omega arith) in
-        let at = block_ends v c stands.next one.0 one.1 stands.is_over in
         let follows = follows_before v c one.0 stands.hull is one.1 stands.is_hull in
-        let later = corrections_come_first v.sizes one.0 stands.hull (room v is) one.2 follows in
         let space = room v is in
-        omega (arith, ints, at, later, follows.ordered)
+        omega (arith, ints, block_ends v c stands.next _ one.1 stands.is_over, corrections_come_first v.sizes one.0 stands.hull (room v is) one.2 follows)
 
 -- the natural number behind an instant
 pub record IsBehind (z : ℤ) (next : ℕ) : Type 0 where
@@ -51,8 +41,7 @@ reach_from on v t (suc fuel) n stands is in_run from short =
       | inr ge ↦
           let done : BlockIsOver v n = record { before = stands; next = next.0; is_over = over; in_run = omega (arith, ge, in_run) } in
           let more = on v n is done in
-          let at = block_ends v n more.next stands.hull stands.is_hull more.is_over in
-          let same : more.next ≡ next.0 = omega (arith, ints, at, next.1.behind) in
+          let same : more.next ≡ next.0 = omega (arith, ints, block_ends v n more.next stands.hull stands.is_hull more.is_over, next.1.behind) in
           let grows : stands.next < next.0 = omega (arith, ints, later, next.1.behind) in
           reach_from on v t fuel (suc n) more is in_run (omega (arith, same, ge)) (omega (arith, same, grows, short))
     ]

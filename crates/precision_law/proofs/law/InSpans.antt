@@ -1,31 +1,12 @@
 -- In the span of a cycle the clocks keep between the ideal clocks of that cycle.
-use Rattle.std.proofs.Common.{◌≡◌, ℕ, zero, suc, ◌+◌, ◌-◌, ◌*◌, ◌<◌, ◌≤◌, ℤ, pos, ◌+ℤ◌, ◌-ℤ◌, ◌<ℤ◌, ◌≤ℤ◌, List, Some, inl, inr, refl, sym, subst, ◌∙◌, arith}
-use Rattle.std.proofs.lemmas.Bool.{cases_lt}
-use Rattle.std.proofs.lemmas.Int.{by_lt_z, ints}
-use Rattle.net_plan.specs.declared.ids.DeviceId.{DeviceId}
-use Rattle.precision_law.proofs.block.Goings.{corrections_go_on, known_dispatch}
+use Rattle.precision_law.proofs.words.Std.{◌*◌, ◌+ℤ◌, ◌+◌, ◌-ℤ◌, ◌-◌, ◌<ℤ◌, ◌<◌, ◌∙◌, ◌≡◌, ◌≤ℤ◌, ◌≤◌, List, Some, arith, by_lt_z, cases_lt, inl, inr, ints, pos, refl, subst, suc, sym, zero, ℕ, ℤ}
+use Rattle.precision_law.proofs.words.Plans.{DeviceId, Synchronised, amount, clock_error, drift_of}
+use Rattle.precision_law.proofs.words.Runs.{Happening, Scenario, adjustment_after, earlier, happenings, is_turned_on_at, state_after}
+use Rattle.precision_law.proofs.words.Laws.{AreFromTo, BlocksCover, BlocksGoSo, ClocksKeepTheSpan, HasTimeAt, Hull, IsBehindCorrections, IsBetweenIdeals, IsInBlock, IsView, OneChannelIsSound, ShowsIn, View, adjustment_left, epoch_time, hull_of, last_setting, state_left}
+use Rattle.precision_law.proofs.words.Clocks.{IsCutAt, room}
+use Rattle.precision_law.proofs.words.Blocks.{all_in_hulls, before_narrow, block_ends, corrections_go_on, earlier_in_block, follows_before, hull_is_from_to, known_dispatch, not_integrating, of_cut, old_shows, timed_of, view_of, view_with}
 use Rattle.precision_law.proofs.law.Keeping.{ideal_least, ideal_most}
 use Rattle.precision_law.proofs.law.OnTime.{begins_late, corrected_late}
-use Rattle.precision_law.proofs.law.Precision.{not_integrating, timed_of}
-use Rattle.precision_law.proofs.law.Together.{before_narrow, block_ends, follows_before, old_shows}
-use Rattle.precision_law.proofs.records.Cutting.{IsCutAt}
-use Rattle.precision_law.proofs.records.RunViews.{all_in_hulls, hull_is_from_to, of_cut, view_of, view_with}
-use Rattle.precision_law.proofs.records.Views.{room}
-use Rattle.precision_law.specs.BlockLaws.{BlocksCover, BlocksGoSo}
-use Rattle.precision_law.specs.Blocks.{HasTimeAt, IsInBlock, adjustment_left, state_left}
-use Rattle.precision_law.specs.Dispatches.{AreFromTo}
-use Rattle.precision_law.specs.Epochs.{epoch_time, last_setting}
-use Rattle.precision_law.specs.Hulls.{Hull, hull_of}
-use Rattle.precision_law.specs.IdealClocks.{ClocksKeepTheSpan, IsBehindCorrections, IsBetweenIdeals}
-use Rattle.precision_law.specs.Masters.{OneChannelIsSound}
-use Rattle.precision_law.specs.Standings.{ShowsIn}
-use Rattle.precision_law.specs.Views.{IsView, View}
-use Rattle.run_law.specs.device.States.{adjustment_after, state_after}
-use Rattle.run_law.specs.records.Happenings.{Happening, earlier, happenings}
-use Rattle.run_law.specs.scenario.Scenarios.{Scenario, is_turned_on_at}
-use Rattle.schedule_tables.specs.Margins.{clock_error, drift_of}
-use Rattle.sync_state.specs.declared.state.State.TheVariants.{Synchronised}
-use Rattle.tte_units.specs.Amount.{amount}
 
 -- ---- one hull
 
@@ -38,11 +19,9 @@ one_span : (s : Scenario) (hs : List Happening) (t cycle : ℕ) (first last leas
 one_span s hs t zero first last least greatest a b = (a.0 ∙ sym b.0, a.1 ∙ sym b.1)
 one_span s hs t (suc c) first last least greatest a b =
     let one = (a.each b.earliest b.is_earliest).0 in
-    let two = (b.each a.earliest a.is_earliest).0 in
-    let three = (a.each b.latest b.is_latest).1 in
     let four = (b.each a.latest a.is_latest).1 in (
-      antisym first least (let e = b.first_is in omega (arith, ints, one, e)) (let e = a.first_is in omega (arith, ints, two, e)),
-      antisym last greatest (let e = a.last_is in omega (arith, ints, four, e)) (let e = b.last_is in omega (arith, ints, three, e)),
+      antisym first least (omega (arith, ints, one, b.first_is)) (omega (arith, ints, (b.each a.earliest a.is_earliest).0, a.first_is)),
+      antisym last greatest (omega (arith, ints, four, a.last_is)) (let e = b.last_is in omega (arith, ints, (a.each b.latest b.is_latest).1, e)),
     )
 
 -- ---- the block of the span
@@ -56,51 +35,28 @@ ComesBefore v t c =
 -- where it does, the block is not that of the cycle, nor of an earlier one
 not_earlier : BlocksCover → BlocksGoSo → (v : View) (k c : ℕ) (block : IsInBlock v k v.until) → IsView v → ComesBefore v v.until c → k ≤ c → ⊥
 not_earlier cover goes v k c block is before le =
-    let hull = block.before.hull in
-    let ends = block_ends v k block.next hull block.before.is_hull block.is_over in
-    let to = block.to in
-    let after = before.3 in
     elim (cases_lt k c) [
       | inr ge ↦
           let same : c ≡ k = omega (arith, le, ge) in
-          let at = one_span v.scenario v.records v.until k before.0 before.1 hull.least hull.greatest
+          let at = one_span v.scenario v.records v.until k before.0 before.1 block.before.hull.least block.before.hull.greatest
           (subst (λ (x : ℕ). AreFromTo v.scenario v.records v.until x before.0 before.1) same before.2)
-          (hull_is_from_to cover goes v is k hull block.before.is_hull) in
-          let top = at.1 in
-          omega (arith, ints, ends, to, after, top)
-      | inl lt ↦ by c lt before.2 after
+          (hull_is_from_to cover goes v is k block.before.hull block.before.is_hull) in
+          omega (arith, ints, block_ends v k block.next block.before.hull block.before.is_hull block.is_over, block.to, before.3, at.1)
+      | inl lt ↦ by c lt before.2 before.3
     ]
   where
     by : (c : ℕ) → k < c → AreFromTo v.scenario v.records v.until c before.0 before.1
         → ((before.1 +ℤ pos (v.sizes.cycle + v.sizes.correction)) +ℤ pos (2 * v.sizes.reach)) <ℤ pos v.until → ⊥
     by zero lt lie after = omega (arith, lt)
     by (suc d) lt lie after =
-        let hull = block.before.hull in
-        let ends = block_ends v k block.next hull block.before.is_hull block.is_over in
-        let to = block.to in
-        let e = lie.latest in
         let own = lie.is_latest in
-        let inside = all_in_hulls cover goes v is e own.master (suc d) (record { there = own.there; is = own.is; good = own.correct }) in
-        let known : suc d ≤ suc k =
-        (known_dispatch v k (v.until + 1) block.before
-        (λ u from less. goes v k u
-        (record {
-          before = block.before;
-          next = block.next;
-          is_over = block.is_over;
-          from = from;
-          to = omega (arith, less, to);
-          in_run = omega (arith, less);
-        }) is) e own.master (suc d) (record { there = own.there; is = own.is; good = own.correct })
-        (let within = own.by_then in omega (arith, within))).0 in
+        let inside = all_in_hulls cover goes v is lie.latest own.master (suc d) (record { there = own.there; is = own.is; good = own.correct }) in
+        let known = (known_dispatch v k (v.until + 1) block.before (λ u from less. goes v k u
+        (earlier_in_block _ _ _ _ block from (omega arith)) is) lie.latest own.master (suc d) (record { there = own.there; is = own.is; good = own.correct })
+        (omega (arith, own.by_then))).0 in
         let same : suc d ≡ suc k = omega (arith, known, lt) in
-        let at : hull_of v (suc k) ≡ Some inside.hull = subst (λ (x : ℕ). hull_of v x ≡ Some inside.hull) same inside.is in
-        let follows = follows_before v k hull inside.hull is block.before.is_hull at in
-        let space = room v is in
-        let narrow = before_narrow v k block.before in
-        let last_is = lie.last_is in
-        let low = inside.least in
-        omega (arith, ints, ends, to, after, last_is, low, follows.least, narrow, space.cycles, space.eight_errors)
+        let follows = follows_before v k _ _ is block.before.is_hull (subst (λ (x : ℕ). hull_of v x ≡ Some inside.hull) same inside.is) in
+        omega (arith, ints, block_ends v k block.next _ block.before.is_hull block.is_over, before_narrow v k block.before, room v is)
 
 -- where the first correction behind a cycle does not come before, the block is that behind the cycle, or an earlier one
 not_later : BlocksCover → BlocksGoSo → (v : View) (k cycle : ℕ) (first last : ℤ) (block : IsInBlock v k v.until) → IsView v
@@ -113,13 +69,8 @@ not_later cover goes v (suc j) cycle first last block is lie early lt =
     let there = stands.narrow j (omega arith) in
     let at = one_span v.scenario v.records v.until cycle first last one.0.least one.0.greatest lie (hull_is_from_to cover goes v is cycle one.0 one.1) in
     let gap : cycle + (j - cycle) ≡ j = omega (arith, lt) in
-    let at_j : hull_of v (cycle + (j - cycle)) ≡ Some there.0 = subst (λ (x : ℕ). hull_of v x ≡ Some there.0) (sym gap) there.1 in
-    let low = corrections_go_on v (suc j) cycle (j - cycle) stands one.0 there.0 is (omega (arith, lt)) one.1 at_j in
-    let late = begins_late v j stands is in
-    let follows = follows_before v j there.0 stands.hull is there.1 stands.is_hull in
-    let from = block.from in
-    let bottom = at.0 in
-    omega (arith, ints, low, late, follows.least, follows.ordered, from, early, bottom)
+    let low = corrections_go_on v _ cycle (j - cycle) stands _ _ is (omega arith) one.1 (subst (λ (x : ℕ). hull_of v x ≡ Some there.0) (sym gap) there.1) in
+    omega (arith, ints, low, begins_late v j stands is, follows_before v j there.0 stands.hull is there.1 stands.is_hull, block.from, early, at.0)
 
 -- ---- in the span
 
@@ -145,17 +96,15 @@ span_shows cover goes v cycle first last device is lie behind early has synchron
     let at_hull = subst (λ (x : ℕ). AreFromTo v.scenario v.records v.until x hull.least hull.greatest) same
     (hull_is_from_to cover goes v is k hull block.before.is_hull) in
     let at = one_span v.scenario v.records v.until cycle first last hull.least hull.greatest lie at_hull in
-    let soon = early_by v.until v.sizes.reach v.sizes.cycle v.sizes.correction first hull.least at.0 early in
     let shows = by_lt_z {P = ShowsIn v.sizes (pos (v.scenario.reading device v.until) +ℤ adjustment_left v device v.until) k hull v.until}
     (epoch_time (earlier v.until v.records) device) (pos block.before.next)
     (λ old. old_shows v k v.until v.until device block is (omega arith) has old)
     (λ late. (let after = corrected_late v k v.until block device (last_setting (earlier v.until v.records) device) goes is has synchronised refl
-    late in absurd (omega (arith, ints, after, soon)))) in (
+    late in absurd (omega (arith, ints, after, early_by v.until v.sizes.reach v.sizes.cycle v.sizes.correction first hull.least at.0 early)))) in (
       hull,
       at.0,
       at.1,
-      subst (λ (x : ℕ). ShowsIn v.sizes (pos (v.scenario.reading device v.until) +ℤ adjustment_left v device v.until) x hull v.until) same
-          shows,
+      subst (λ (x : ℕ). ShowsIn v.sizes (pos (v.scenario.reading device v.until) +ℤ adjustment_left v device v.until) x hull v.until) same shows,
     )
   where
     earlier_not : (cycle : ℕ) → (cover v v.until is (omega arith)).0 < cycle → ((c : ℕ) → cycle ≡ suc c → ComesBefore v v.until c) → ⊥

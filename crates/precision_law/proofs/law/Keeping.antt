@@ -1,38 +1,12 @@
 -- The clock of a synchronised device keeps between the ideal clocks of a cycle.
-use Rattle.std.proofs.Common.{◌≡◌, ℕ, suc, ◌+◌, ◌*◌, ◌≤◌, ℤ, pos, negsuc, ◌+ℤ◌, ◌-ℤ◌, ◌≤ℤ◌, Bool, true, false, List, Option, Some, None, refl, sym, ap, subst, ◌∙◌, arith}
-use Rattle.std.proofs.lemmas.Int.{by_lt_z, ints}
-use Rattle.std.specs.Option.{option_map_or}
-use Rattle.net_plan.specs.declared.ids.DeviceId.{DeviceId}
-use Rattle.pcf_values.specs.declared.channel.Channel.{Channel}
-use Rattle.precision_law.proofs.block.Halving.{hulls_are_narrow}
-use Rattle.precision_law.proofs.clocks.Epochs.{settings_stay, time_stays}
-use Rattle.precision_law.proofs.law.OnTime.{corrects_by}
-use Rattle.precision_law.proofs.law.Precision.{not_integrating, up_to_is, timed_of}
-use Rattle.precision_law.proofs.law.Together.{before_narrow, new_shows, old_shows, set_shows}
-use Rattle.precision_law.proofs.records.Cutting.{IsCutAt}
-use Rattle.precision_law.proofs.records.Points.{IsSetting, before_of, point_timed, setting_is}
-use Rattle.precision_law.proofs.records.RunViews.{from_to_of_run, hull_is_from_to, view_of, view_with}
-use Rattle.precision_law.specs.BlockLaws.{BlockGoesSo, BlocksCover, BlocksGoSo, ComesTo}
-use Rattle.precision_law.specs.Blocks.{HasTimeAt, IsInBlock, adjustment_left}
-use Rattle.precision_law.specs.Epochs.{cycle_set, epoch_cycle, epoch_time, last_setting}
-use Rattle.precision_law.specs.Hulls.{Hull, IsNarrow, hull_of}
-use Rattle.precision_law.specs.IdealClocks.{ClocksKeepTheirCycles, KeepsCycle}
-use Rattle.precision_law.specs.Masters.{OneChannelIsSound}
-use Rattle.precision_law.specs.Standings.{ShowsIn}
-use Rattle.precision_law.specs.Views.{IsView, View}
-use Rattle.run_law.proofs.law.FirstPlaces.{founded_at}
+use Rattle.precision_law.proofs.words.Std.{◌*◌, ◌+ℤ◌, ◌+◌, ◌-ℤ◌, ◌∙◌, ◌≡◌, ◌≤ℤ◌, ◌≤◌, Bool, List, None, Option, Some, ap, arith, by_lt_z, false, ints, negsuc, option_map_or, pos, refl, subst, suc, sym, true, ℕ, ℤ}
+use Rattle.precision_law.proofs.words.Plans.{Channel, Corrected, DeviceId, Synchronised, amount, clock_error, drift_of}
+use Rattle.precision_law.proofs.words.Runs.{Happening, IsCaused, IsInStep, IsInStepBefore, NoteBody, Scenario, adjustment_after, cycle_in, earlier, founded_at, happenings, is_joined_by, is_turned_on_at, local, local_before, state_after, time_of, up_to}
+use Rattle.precision_law.proofs.words.Laws.{BlockGoesSo, BlocksCover, BlocksGoSo, ClocksKeepTheirCycles, ComesTo, HasTimeAt, Hull, IsInBlock, IsNarrow, IsView, KeepsCycle, OneChannelIsSound, ShowsIn, View, adjustment_left, cycle_set, epoch_cycle, epoch_time, hull_of, last_setting}
+use Rattle.precision_law.proofs.words.Clocks.{IsCutAt, IsSetting, before_of, point_timed, setting_is, settings_stay, time_stays}
+use Rattle.precision_law.proofs.words.Blocks.{before_narrow, earlier_in_block, from_to_of_run, hull_is_from_to, hulls_are_narrow, new_shows, not_integrating, old_shows, set_shows, timed_of, up_to_is, view_of, view_with}
 use Rattle.run_law.specs.declared.note.NoteBody.TheVariants as notes
-use Rattle.run_law.specs.declared.note.NoteBody.{NoteBody}
-use Rattle.run_law.specs.device.LocalClocks.{local, local_before}
-use Rattle.run_law.specs.device.States.{adjustment_after, state_after, cycle_in, is_joined_by}
-use Rattle.run_law.specs.law.Safety.{IsInStep, IsInStepBefore}
-use Rattle.run_law.specs.records.Happenings.{Happening, earlier, happenings, time_of, up_to}
-use Rattle.run_law.specs.runs.DueRecords.{IsCaused}
-use Rattle.run_law.specs.scenario.Scenarios.{Scenario, is_turned_on_at}
-use Rattle.schedule_tables.specs.Margins.{clock_error, drift_of}
-use Rattle.sync_state.specs.declared.answers.Verdict.TheVariants.{Corrected}
-use Rattle.sync_state.specs.declared.state.State.TheVariants.{Synchronised}
-use Rattle.tte_units.specs.Amount.{amount}
+use Rattle.precision_law.proofs.law.OnTime.{corrects_by}
 
 -- ---- of a view
 
@@ -55,19 +29,8 @@ set_for goes v n t u device block is most has None e late = absurd (omega (arith
 set_for goes v n t u device block is most has (Some h) e late =
     let at = setting_is v device u h e in
     let from : block.before.next ≤ time_of h = omega (arith, ints, late) in
-    let early = at.early in
-    let to = block.to in
-    let in_run = block.in_run in
-    let here : IsInBlock v n (time_of h) = record {
-      before = block.before;
-      next = block.next;
-      is_over = block.is_over;
-      from = from;
-      to = omega (arith, early, most, to);
-      in_run = omega (arith, early, most, in_run);
-    } in
-    let so = goes v n (time_of h) here is in
-    by so at (is_joined_by device h.note.body) refl
+    let here : IsInBlock v n (time_of h) = earlier_in_block _ _ _ _ block from (omega arith) in
+    by (goes v n (time_of h) here is) at (is_joined_by device h.note.body) refl
   where
     by : BlockGoesSo v n block.before.next (time_of h) block.before.hull → IsSetting v device u h → (b : Bool) → is_joined_by device h.note.body ≡ b
         → cycle_set h h.note.body ≡ suc n
@@ -75,13 +38,11 @@ set_for goes v n t u device block is most has (Some h) e late =
     by so at false none =
         let c = corrects_by device h.note.body at.sets none in
         let found = founded_at v.scenario v.records h is.run.founded at.there in
-        let cause : IsCaused v.scenario found.front h.note.time (notes.Corrected device c.cycle c.by c.adjustment) = subst
-        (IsCaused v.scenario found.front h.note.time) c.is found.due.cause in
+        let cause = subst (IsCaused v.scenario found.front h.note.time) c.is found.due.cause in
         let split = before_of v h is found in
         let then_has : HasTimeAt v device (time_of h) = record {
           good = has.good;
-          timed = point_timed v (time_of h) device c.cycle (Corrected c.by) found.front
-              split cause.corrected;
+          timed = point_timed v (time_of h) device c.cycle (Corrected c.by) found.front split cause.corrected;
         } in
         let comes : ComesTo v (time_of h) device c.cycle (Corrected c.by) = record { front = found.front; split = split; point = cause.corrected } in
         let old = so.old_alone device c.cycle (Corrected c.by) then_has comes (λ z. cc) in
@@ -97,8 +58,7 @@ shows_cycle goes v n t u device block is le most has =
     (epoch_time (earlier u v.records) device) (pos before.next)
     (λ old.
     let from : before.next ≤ u = omega (arith, block.from, le) in
-    let timed = time_stays v device before.next u is from old has.timed in
-    let set = before.clocks device (record { good = has.good; timed = timed }) in
+    let set = before.clocks device (record { good = has.good; timed = (time_stays v device before.next u is from old has.timed) }) in
     let index : epoch_cycle (earlier u v.records) device ≡ n = ap (λ (o : Option Happening). option_map_or (λ h. cycle_set h h.note.body) o 0)
     (sym (settings_stay v device before.next u is from old)) ∙ set.index in
     let here : ShowsCycle v t n shown = record {
@@ -109,25 +69,15 @@ shows_cycle goes v n t u device block is le most has =
     } in
     subst (λ (c : ℕ). ShowsCycle v t c shown) (sym index) here)
     (λ late.
-    let set = new_shows v n t u device block
-    (λ w from lt. goes v n w
-    (record {
-      before = before;
-      next = block.next;
-      is_over = block.is_over;
-      from = from;
-      to = omega (arith, lt, most, block.to);
-      in_run = omega (arith, lt, most, block.in_run);
-    }) is) is most has (last_setting (earlier u v.records) device) refl late in
-    let index = set_for goes v n t u device block is most has (last_setting (earlier u v.records) device) refl late in
+    let set = new_shows _ _ _ u device block (λ w from lt. goes v n w (earlier_in_block _ _ _ _ block from (omega arith)) is) is most has
+    (last_setting (earlier u v.records) device) refl late in
     let here : ShowsCycle v t (suc n) shown = record {
       hull = set.hull;
       is_hull = set.is_hull;
-      narrow = hulls_are_narrow goes v n before set.hull is
-          set.is_hull;
+      narrow = hulls_are_narrow goes v n before set.hull is set.is_hull;
       shows = set_shows v n t device (adjustment_left v device u) block is set;
     } in
-    subst (λ (c : ℕ). ShowsCycle v t c shown) (sym index) here)
+    subst (λ (c : ℕ). ShowsCycle v t c shown) (sym (set_for goes v n t u device block is most has (last_setting (earlier u v.records) device) refl late)) here)
 
 -- ---- of a run
 
@@ -164,19 +114,14 @@ clocks_keep_their_cycles sound cover goes s mark ns until beta up is_beta t devi
         let at = view_with s mark ns until t channel.0 beta up is_beta le channel.1 in
         let v = view_of s t channel.0 beta at.cut.front in
         let block = cover v t at.is (omega arith) in
-        let same : up_to t (happenings s.network ns) ≡ earlier (t + 1) at.cut.front = up_to_is t (happenings s.network ns)
-        ∙ sym (at.cut.early (t + 1) (omega arith)) in
+        let same = up_to_is t (happenings s.network ns) ∙ sym (at.cut.early (t + 1) (omega arith)) in
         let has : HasTimeAt v device (t + 1) = record {
           good = step.correct;
-          timed =
-              timed_of (state_after s (earlier (t + 1) at.cut.front) device)
-              (subst (λ (gs : List Happening). state_after s gs device ≡ Synchronised) same step.synchronised);
+          timed = timed_of _ (subst (λ (gs : List Happening). state_after s gs device ≡ Synchronised) same step.synchronised);
         } in
         let shows = shows_cycle goes v block.0 t (t + 1) device block.1 at.is (omega arith) (omega arith) has in
-        subst (λ (gs : List Happening). KeepsCycle s (happenings s.network ns) beta t (epoch_cycle gs device)
-        (pos (s.reading device t) +ℤ (adjustment_after s gs device).0)) (sym same)
-        (keeps_by cover goes s (happenings s.network ns) t channel.0 beta at.cut (epoch_cycle (earlier (t + 1) at.cut.front) device)
-        (pos (s.reading device t) +ℤ adjustment_left v device (t + 1)) at.is shows)
+        subst (λ (gs : List Happening). KeepsCycle s (happenings s.network ns) beta t (epoch_cycle gs device) (pos (s.reading device t) +ℤ
+        (adjustment_after s gs device).0)) (sym same) (keeps_by cover goes s _ t channel.0 beta at.cut _ _ at.is shows)
 
     before : IsInStepBefore s (happenings s.network ns) device t
         → KeepsCycle s (happenings s.network ns) beta t (epoch_cycle (earlier t (happenings s.network ns)) device)
@@ -190,12 +135,9 @@ clocks_keep_their_cycles sound cover goes s mark ns until beta up is_beta t devi
         let has : HasTimeAt v device t = record {
           good = step.correct;
           timed =
-              timed_of (state_after s (earlier t at.cut.front) device)
-              (subst (λ (gs : List Happening). state_after s gs device ≡ Synchronised) same
-              (not_integrating (is_turned_on_at s device t) (state_after s (earlier t (happenings s.network ns)) device) step.synchronised));
+              timed_of _ (subst (λ (gs : List Happening). state_after s gs device ≡ Synchronised) same (not_integrating (is_turned_on_at s device t)
+              (state_after s (earlier t (happenings s.network ns)) device) step.synchronised));
         } in
-        let shows = shows_cycle goes v block.0 t t device block.1 at.is (omega arith) (omega arith) has in
-        subst (λ (gs : List Happening). KeepsCycle s (happenings s.network ns) beta t (epoch_cycle gs device)
-        (pos (s.reading device t) +ℤ (adjustment_after s gs device).0)) (sym same)
-        (keeps_by cover goes s (happenings s.network ns) t channel.0 beta at.cut (epoch_cycle (earlier t at.cut.front) device)
-        (pos (s.reading device t) +ℤ adjustment_left v device t) at.is shows)
+        subst (λ (gs : List Happening). KeepsCycle s (happenings s.network ns) beta t (epoch_cycle gs device) (pos (s.reading device t) +ℤ
+        (adjustment_after s gs device).0)) (sym same)
+        (keeps_by cover goes s _ t channel.0 beta at.cut _ _ at.is (shows_cycle goes v _ t t _ block.1 at.is (omega arith) (omega arith) has))

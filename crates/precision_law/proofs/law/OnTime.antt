@@ -1,40 +1,11 @@
 -- The clocks of synchronised devices reach the values of the schedule on time.
-use Rattle.std.proofs.Common.{◌≡◌, ℕ, zero, suc, ◌+◌, ◌*◌, ◌<◌, ◌≤◌, ℤ, pos, negsuc, ◌+ℤ◌, ◌-ℤ◌, ◌<ℤ◌, ◌≤ℤ◌, true, false, List, Option, Some, None, inl, inr, refl, sym, ap, subst, arith}
-use Rattle.std.proofs.Math.Nat.{mul-le-mul_right}
-use Rattle.std.proofs.lemmas.Bool.{both_ways, cases_lt, false_from_ne_true}
-use Rattle.std.proofs.lemmas.Int.{by_lt_z, ints}
-use Rattle.std.specs.Option.{option_map_or}
-use Rattle.drift_clock.specs.Reach.{IsReach}
-use Rattle.net_plan.specs.declared.ids.DeviceId.{DeviceId}
-use Rattle.precision_law.proofs.clocks.Anchored.{one_more}
-use Rattle.precision_law.proofs.clocks.Epochs.{clocks_reach_sharply, same_device}
-use Rattle.precision_law.proofs.clocks.Joiners.{joiner_waits}
-use Rattle.precision_law.proofs.law.Precision.{not_integrating, timed_of}
-use Rattle.precision_law.proofs.law.Together.{before_narrow, block_ends, follows_before, new_shows, old_shows, set_shows}
-use Rattle.precision_law.proofs.records.Points.{before_of, point_timed, setting_is}
-use Rattle.precision_law.proofs.records.RunViews.{from_to_of_run, hull_is_from_to, view_of, view_with}
-use Rattle.precision_law.proofs.records.Views.{room}
-use Rattle.precision_law.proofs.sizes.Instants.{instants_are_in_order, set_clocks_stay_at_correction}
-use Rattle.precision_law.specs.BlockLaws.{BlocksCover, BlocksGoSo, ComesTo}
-use Rattle.precision_law.specs.Blocks.{HasTimeAt, IsInBlock, Stands, adjustment_left, state_left}
-use Rattle.precision_law.specs.Epochs.{epoch_time, last_setting}
-use Rattle.precision_law.specs.Hulls.{Hull, IsNarrow, first_correction, hull_of}
-use Rattle.precision_law.specs.IdealClocks.{ValuesAreReachedOnTime}
-use Rattle.precision_law.specs.Masters.{OneChannelIsSound}
-use Rattle.precision_law.specs.Standings.{ShowsIn}
-use Rattle.precision_law.specs.Views.{IsView, View}
-use Rattle.run_law.proofs.law.FirstPlaces.{founded_at}
+use Rattle.precision_law.proofs.words.Std.{◌*◌, ◌+ℤ◌, ◌+◌, ◌-ℤ◌, ◌<ℤ◌, ◌<◌, ◌≡◌, ◌≤ℤ◌, ◌≤◌, List, None, Option, Some, ap, arith, both_ways, by_lt_z, cases_lt, false, false_from_ne_true, inl, inr, ints, mul-le-mul_right, negsuc, option_map_or, pos, refl, subst, suc, sym, true, zero, ℕ, ℤ}
+use Rattle.precision_law.proofs.words.Plans.{Corrected, DeviceId, IsReach, Synchronised, Units, amount}
+use Rattle.precision_law.proofs.words.Runs.{Happening, IsCaused, NoteBody, Reaches, Scenario, adjustment_after, changes_adjustment, earlier, founded_at, happenings, is_joined_by, is_synchronised, is_turned_on_at, state_after, time_of}
+use Rattle.precision_law.proofs.words.Laws.{BlocksCover, BlocksGoSo, ComesTo, HasTimeAt, Hull, IsInBlock, IsNarrow, IsView, OneChannelIsSound, ShowsIn, Stands, ValuesAreReachedOnTime, View, adjustment_left, epoch_time, first_correction, hull_of, last_setting, state_left}
+use Rattle.precision_law.proofs.words.Clocks.{before_of, clocks_reach_sharply, instants_are_in_order, joiner_waits, one_more, point_timed, room, same_device, set_clocks_stay_at_correction, setting_is}
+use Rattle.precision_law.proofs.words.Blocks.{before_narrow, block_ends, earlier_in_block, follows_before, from_to_of_run, hull_is_from_to, new_shows, not_integrating, old_shows, set_shows, timed_of, view_of, view_with}
 use Rattle.run_law.specs.declared.note.NoteBody.TheVariants as notes
-use Rattle.run_law.specs.declared.note.NoteBody.{NoteBody}
-use Rattle.run_law.specs.device.LocalClocks.{Reaches, changes_adjustment}
-use Rattle.run_law.specs.device.States.{adjustment_after, is_joined_by, is_synchronised, state_after}
-use Rattle.run_law.specs.records.Happenings.{Happening, earlier, happenings, time_of}
-use Rattle.run_law.specs.runs.DueRecords.{IsCaused}
-use Rattle.run_law.specs.scenario.Scenarios.{Scenario, is_turned_on_at}
-use Rattle.sync_state.specs.declared.answers.Verdict.TheVariants.{Corrected}
-use Rattle.sync_state.specs.declared.state.State.TheVariants.{Synchronised}
-use Rattle.tte_units.specs.Amount.{amount}
-use Rattle.tte_units.specs.declared.units.Units.{Units}
 
 -- ---- a synchronised device's clock was corrected last
 
@@ -73,27 +44,17 @@ corrected_late v n t block device (Some h) goes is has synchronised e late =
     let at = setting_is v device t h e in
     let set = last_corrects v device t h is synchronised e in
     let found = founded_at v.scenario v.records h is.run.founded at.there in
-    let cause : IsCaused v.scenario found.front h.note.time (notes.Corrected device set.cycle set.by set.adjustment) = subst
-    (IsCaused v.scenario found.front h.note.time) set.is found.due.cause in
+    let cause = subst (IsCaused v.scenario found.front h.note.time) set.is found.due.cause in
     let split = before_of v h is found in
     let then_has : HasTimeAt v device (time_of h) = record {
       good = has.good;
-      timed = point_timed v (time_of h) device set.cycle (Corrected set.by) found.front
-          split cause.corrected;
+      timed = point_timed v (time_of h) device set.cycle (Corrected set.by) found.front split cause.corrected;
     } in
     let comes : ComesTo v (time_of h) device set.cycle (Corrected set.by) = record { front = found.front; split = split; point = cause.corrected } in
-    let here : IsInBlock v n (time_of h) = record {
-      before = block.before;
-      next = block.next;
-      is_over = block.is_over;
-      from = omega (arith, ints, late);
-      to = omega (arith, at.early, block.to);
-      in_run = omega (arith, at.early, block.in_run);
-    } in
+    let here : IsInBlock v n (time_of h) = earlier_in_block _ _ _ _ block (omega (arith, ints, late)) (omega arith) in
     let so = goes v n (time_of h) here is in
     let old = so.old_alone device set.cycle (Corrected set.by) then_has comes (λ e. cc) in
-    let point = so.points device set.cycle (Corrected set.by) then_has old comes in
-    omega (arith, ints, point.not_early, at.early)
+    omega (arith, ints, (so.points device set.cycle (Corrected set.by) then_has old comes).not_early, at.early)
 
 -- ---- reaching
 
@@ -107,9 +68,8 @@ pub begins_late : (v : View) (n : ℕ) (stands : Stands v (suc n)) → IsView v
     → ((stands.hull.greatest +ℤ pos (v.sizes.correction + v.sizes.reach)) +ℤ pos 1) ≤ℤ pos stands.next
 begins_late v n stands is =
     let there = stands.narrow n (omega arith) in
-    let ends = block_ends v n stands.next there.0 there.1 stands.is_over in
     let order = instants_are_in_order v.sizes there.0 stands.hull (room v is) there.2 (follows_before v n there.0 stands.hull is there.1 stands.is_hull) in
-    omega (arith, ints, ends, order.last_not_early)
+    omega (arith, ints, block_ends v n stands.next there.0 there.1 stands.is_over, order.last_not_early)
 
 -- a clock that was set before the block reaches the value in no other cycle
 same_cycle : (v : View) (n k value t : ℕ) (block : IsInBlock v k t) (shown : ℤ) → IsView v → IsInCycle v value → ShowsIn v.sizes shown k block.before.hull t
@@ -117,26 +77,18 @@ same_cycle : (v : View) (n k value t : ℕ) (block : IsInBlock v k t) (shown : �
 same_cycle v n k value t block shown is within shows least most =
     let space = room v is in
     let ends = block_ends v k block.next block.before.hull block.before.is_hull block.is_over in
-    let narrow = before_narrow v k block.before in
     elim (cases_lt k n) [
       | inl lt ↦
           let more : suc k * v.sizes.cycle ≤ n * v.sizes.cycle = mul-le-mul_right v.sizes.cycle (omega (arith, lt)) in
-          let one = one_more k v.sizes.cycle in
-          absurd (omega (arith, ints, more, one, least, shows.most, block.to, ends, narrow, within.begins, space.eight_errors, space.errors.reach_is))
-      | inr ge ↦ elim (cases_lt n k) [
-        | inl lt ↦ absurd (by k block shows lt)
-        | inr le ↦ omega (arith, ge, le)
-      ]
+          absurd (omega (arith, ints, more, one_more k v.sizes.cycle, least, shows.most, block.to, ends, before_narrow v k block.before, within.begins, space))
+      | inr ge ↦ elim (cases_lt n k) [ inl lt ↦ absurd (by k block shows lt) | inr le ↦ omega (arith, ge, le) ]
     ]
   where
     by : (k : ℕ) (block : IsInBlock v k t) → ShowsIn v.sizes shown k block.before.hull t → n < k → ⊥
     by zero block shows lt = absurd (omega (arith, lt))
     by (suc j) block shows lt =
-        let space = room v is in
-        let late = begins_late v j block.before is in
         let more : suc n * v.sizes.cycle ≤ suc j * v.sizes.cycle = mul-le-mul_right v.sizes.cycle (omega (arith, lt)) in
-        let one = one_more n v.sizes.cycle in
-        absurd (omega (arith, ints, more, one, most, shows.least, block.from, late, within.ends, space.eight_errors, space.errors.reach_is))
+        absurd (omega (arith, ints, more, one_more n v.sizes.cycle, most, shows.least, block.from, begins_late v j block.before is, within.ends, room v is))
 
 -- the instant lies so far from the hull of the cycle
 pub record IsReachedFrom (v : View) (n value t : ℕ) : Type 0 where
@@ -168,20 +120,16 @@ new_reaches_none : (v : View) (n k value t : ℕ) (block : IsInBlock v k t) (sho
     → shown ≤ℤ (pos (n * v.sizes.cycle + value) +ℤ pos (2 * v.sizes.grain)) → ⊥
 new_reaches_none v n k value t block shown hull is within is_hull shows after least most =
     let space = room v is in
-    let ends = block_ends v k block.next block.before.hull block.before.is_hull block.is_over in
-    let narrow = before_narrow v k block.before in
-    let to = block.to in
-    let near = set_clocks_stay_at_correction v.sizes shown (suc k) t block.before.hull hull space narrow
+    let near = set_clocks_stay_at_correction v.sizes shown (suc k) t block.before.hull hull space (before_narrow v k block.before)
     (follows_before v k block.before.hull hull is block.before.is_hull is_hull)
-    (omega (arith, ints, after)) (omega (arith, ints, ends, to)) shows in
+    (omega (arith, ints, after)) (omega (arith, ints, block_ends v k block.next block.before.hull block.before.is_hull block.is_over, block.to)) shows in
     elim (cases_lt k n) [
       | inl lt ↦
           let more : suc k * v.sizes.cycle ≤ n * v.sizes.cycle = mul-le-mul_right v.sizes.cycle (omega (arith, lt)) in
-          omega (arith, ints, more, least, near.most, within.begins, space.eight_errors, space.errors.reach_is, space.errors.clock_is)
+          omega (arith, ints, more, least, near.most, within.begins, space)
       | inr ge ↦
           let more : n * v.sizes.cycle ≤ k * v.sizes.cycle = mul-le-mul_right v.sizes.cycle ge in
-          let one = one_more k v.sizes.cycle in
-          omega (arith, ints, more, one, most, near.least, within.ends, space.eight_errors, space.errors.reach_is, space.errors.clock_is)
+          omega (arith, ints, more, one_more k v.sizes.cycle, most, near.least, within.ends, space)
     ]
 
 pub value_reached : BlocksCover → BlocksGoSo → (v : View) (n value t : ℕ) (device : DeviceId) → IsView v → HasTimeAt v device t
@@ -198,16 +146,8 @@ value_reached cover goes v n value t device is has synchronised in_run within re
     by_lt_z {P = IsReachedFrom v n value t} (epoch_time (earlier t v.records) device) (pos block.before.next)
     (λ old. old_reaches v n k value t block shown is within (old_shows v k t t device block is (omega arith) has old) least most)
     (λ late.
-    let set = new_shows v k t t device block
-    (λ w from lt. goes v k w
-    (record {
-      before = block.before;
-      next = block.next;
-      is_over = block.is_over;
-      from = from;
-      to = omega (arith, lt, block.to);
-      in_run = omega (arith, lt, block.in_run);
-    }) is) is (omega arith) has (last_setting (earlier t v.records) device) refl late in
+    let set = new_shows v k t t device block (λ w from lt. goes v k w (earlier_in_block _ _ _ _ block from (omega arith)) is) is (omega arith) has
+    (last_setting (earlier t v.records) device) refl late in
     absurd (new_reaches_none v n k value t block shown set.hull is within set.is_hull (set_shows v k t device (adjustment_left v device t) block is set)
     (corrected_late v k t block device (last_setting (earlier t v.records) device) goes is has synchronised refl late) least most))
 

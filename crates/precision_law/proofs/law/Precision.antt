@@ -1,43 +1,11 @@
 -- The precision, from what blocks bring.
-use Rattle.std.proofs.Common.{◌≡◌, ℕ, ◌+◌, ◌≤◌, pos, ◌+ℤ◌, Bool, true, false, List, inl, inr, refl, sym, subst, ◌∙◌, arith}
-use Rattle.std.proofs.lemmas.Bool.{cases_lt, le-ltb, lt-ltb, lt-leb, le-leb}
-use Rattle.std.specs.Prelude.{nat_le, nat_lt, if◌then◌else◌}
-use Rattle.net_plan.proofs.Beta.{beta_exists}
-use Rattle.net_plan.proofs.Shape.{rules_give_trees}
-use Rattle.net_plan.specs.Bounds.{IsBeta, beta_at}
-use Rattle.net_plan.specs.Places.{IsSwitchOf}
-use Rattle.net_plan.specs.declared.ids.DeviceId.{DeviceId}
-use Rattle.pcf_values.specs.declared.channel.Channel.{Channel}
-use Rattle.precision_law.proofs.records.Cutting.{IsCutAt, cut_at}
-use Rattle.precision_law.proofs.records.Points.{before_of, point_timed}
-use Rattle.precision_law.proofs.records.Times.{same_kept}
-use Rattle.precision_law.specs.BlockLaws.{BlocksCover, BlocksGoSo, ClocksAgreeInBlocks, ComesTo, FirmDevicesCorrect}
-use Rattle.precision_law.specs.Blocks.{HasTimeAt, IsClique}
-use Rattle.precision_law.specs.Epochs.{has_time}
-use Rattle.precision_law.specs.Masters.{OneChannelIsSound}
-use Rattle.precision_law.specs.Precision.{ClocksStayTogether, IsRunUpTo, TimeIsKept}
-use Rattle.precision_law.specs.Sizes.{sizes_of}
-use Rattle.precision_law.specs.Views.{IsFirm, IsSound, IsView, View}
-use Rattle.run_law.proofs.law.FirstPlaces.{founded_at}
-use Rattle.run_law.specs.control.Corrections.{ComesToCorrection}
+use Rattle.precision_law.proofs.words.Std.{◌+ℤ◌, ◌+◌, ◌∙◌, ◌≡◌, ◌≤◌, Bool, List, arith, cases_lt, false, if◌then◌else◌, inl, inr, le-leb, le-ltb, lt-leb, lt-ltb, nat_le, nat_lt, pos, refl, subst, sym, true, ℕ}
+use Rattle.precision_law.proofs.words.Plans.{AsyncClique, Channel, Cleared, Corrected, DeviceId, Integrating, IsBeta, IsSwitchOf, State, SyncClique, Synchronised, Units, Verdict, beta_at, beta_exists, rules_give_trees, shape_rules}
+use Rattle.precision_law.proofs.words.Runs.{AreClose, ChangesState, ComesToCorrection, Happening, IsCaused, IsIn, IsInStep, IsInStepBefore, Note, Scenario, Why, adjustment_after, earlier, founded_at, happenings, is_broken, is_end, is_turned_on_at, state_after, time_of, up_to}
+use Rattle.precision_law.proofs.words.Laws.{BlocksCover, BlocksGoSo, ClocksAgreeInBlocks, ClocksStayTogether, ComesTo, FirmDevicesCorrect, HasTimeAt, IsClique, IsFirm, IsRunUpTo, IsSound, IsView, OneChannelIsSound, TimeIsKept, View, has_time, sizes_of}
+use Rattle.precision_law.proofs.words.Clocks.{IsCutAt, before_of, cut_at, point_timed, same_kept}
 use Rattle.run_law.specs.declared.judgement.Why.TheVariants as whys
-use Rattle.run_law.specs.declared.judgement.Why.{Why}
-use Rattle.run_law.specs.declared.note.Note.{Note}
 use Rattle.run_law.specs.declared.note.NoteBody.TheVariants as notes
-use Rattle.run_law.specs.device.StateChanges.{ChangesState}
-use Rattle.run_law.specs.device.States.{adjustment_after, state_after}
-use Rattle.run_law.specs.law.Safety.{AreClose, IsInStep, IsInStepBefore}
-use Rattle.run_law.specs.records.Happenings.{Happening, earlier, happenings, time_of, up_to}
-use Rattle.run_law.specs.records.Order.{IsIn}
-use Rattle.run_law.specs.runs.DueRecords.{IsCaused}
-use Rattle.run_law.specs.scenario.Devices.{is_end}
-use Rattle.run_law.specs.scenario.Scenarios.{Scenario, is_broken, is_turned_on_at}
-use Rattle.schedule_tables.proofs.Margins.{shape_rules}
-use Rattle.sync_state.specs.declared.answers.Verdict.TheVariants.{AsyncClique, Cleared, Corrected, SyncClique}
-use Rattle.sync_state.specs.declared.answers.Verdict.{Verdict}
-use Rattle.sync_state.specs.declared.state.State.TheVariants.{Integrating, Synchronised}
-use Rattle.sync_state.specs.declared.state.State.{State}
-use Rattle.tte_units.specs.declared.units.Units.{Units}
 
 -- ---- the view up to a time
 
@@ -53,18 +21,10 @@ view_at s mark ns until t channel up le sound =
     let n = s.network in
     let cut = cut_at s mark (happenings n ns) until t up.run up.covers le in
     let beta = (beta_exists n (rules_give_trees n (shape_rules n up.lawful.rules))).1 in
-    let path = beta_at n beta.jitter beta.links in
     record {
       cut = cut;
-      path = path;
-      is = record {
-        lawful = up.lawful;
-        run = cut.run;
-        short = omega (arith, up.short, le);
-        beta = subst (IsBeta n) beta.value beta;
-        sizes = refl;
-        sound = sound;
-      };
+      path = beta_at n beta.jitter beta.links;
+      is = record { lawful = up.lawful; run = cut.run; short = omega arith; beta = subst (IsBeta n) beta.value beta; sizes = refl; sound = sound };
     }
 
 -- the view itself
@@ -106,9 +66,7 @@ clocks_stay_together sound cover agree s mark ns until up =
           let same : up_to t hs ≡ earlier (t + 1) at.cut.front = up_to_is t hs ∙ sym (at.cut.early (t + 1) (omega arith)) in
           let timed : (x : DeviceId) → IsInStep s hs x t → HasTimeAt v x (t + 1) = λ x step. record {
             good = step.correct;
-            timed =
-                timed_of (state_after s (earlier (t + 1) at.cut.front) x)
-                (subst (λ (gs : List Happening). state_after s gs x ≡ Synchronised) same step.synchronised);
+            timed = timed_of _ (subst (λ (gs : List Happening). state_after s gs x ≡ Synchronised) same step.synchronised);
           } in
           let near = agree v block.0 t (t + 1) d e block.1 at.is (omega arith) (omega arith) (timed d one) (timed e other) in
           subst (λ (gs : List Happening). AreClose s.network (pos (s.reading d t) +ℤ (adjustment_after s gs d).0)
@@ -122,9 +80,8 @@ clocks_stay_together sound cover agree s mark ns until up =
           let timed : (x : DeviceId) → IsInStepBefore s hs x t → HasTimeAt v x t = λ x step. record {
             good = step.correct;
             timed =
-                timed_of (state_after s (earlier t at.cut.front) x)
-                (subst (λ (gs : List Happening). state_after s gs x ≡ Synchronised) same
-                (not_integrating (is_turned_on_at s x t) (state_after s (earlier t hs) x) step.synchronised));
+                timed_of _ (subst (λ (gs : List Happening). state_after s gs x ≡ Synchronised) same (not_integrating (is_turned_on_at s x t) (state_after s
+                (earlier t hs) x) step.synchronised));
           } in
           let near = agree v block.0 t t d e block.1 at.is (omega arith) (omega arith) (timed d one) (timed e other) in
           subst (λ (gs : List Happening). AreClose s.network (pos (s.reading d t) +ℤ (adjustment_after s gs d).0)
@@ -143,9 +100,6 @@ pub record IsCliquePoint (s : Scenario) (ps : List Happening) (t : ℕ) (device 
 
 pub clique_point : (s : Scenario) (ps : List Happening) (t : ℕ) (device : DeviceId) (state : State) (cause : ℕ) (why : Why) → IsClique why
     → ChangesState s ps device t state cause why → IsCliquePoint s ps t device
-clique_point s ps t device state cause whys.On clique c = absurd clique
-clique_point s ps t device state cause whys.Frame clique c = absurd clique
-clique_point s ps t device state cause whys.Correction clique c = absurd clique
 clique_point s ps t device state cause whys.SyncClique clique c = record {
   cycle = c.2.0;
   verdict = SyncClique;
@@ -160,6 +114,7 @@ clique_point s ps t device state cause whys.AsyncClique clique c = record {
   not_corrected = λ by e. cc;
   not_cleared = λ e. cc;
 }
+clique_point s ps t device state cause why clique c = absurd clique
 
 -- no firm device comes to a clique
 never_lost : BlocksCover → BlocksGoSo → FirmDevicesCorrect → (s : Scenario) (mark : List ℕ) (ns : List Note) (until : ℕ) (h : Happening) (device : DeviceId)
@@ -167,15 +122,12 @@ never_lost : BlocksCover → BlocksGoSo → FirmDevicesCorrect → (s : Scenario
     → h.note.body ≡ notes.State device state cause why → IsClique why → IsSound s (time_of h) channel
     → ((v : View) → v.scenario ≡ s → v.until ≡ time_of h → v.channel ≡ channel → is_broken s device (time_of h) ≡ false → IsFirm v device) → ⊥
 never_lost cover goes correct s mark ns until h device state cause why channel up i le body clique sound firm =
-    let hs = happenings s.network ns in
     let t = time_of h in
     let at = view_at s mark ns until t channel up le sound in
-    let v = view_of s hs t channel at in
+    let v = view_of s (happenings s.network ns) t channel at in
     let block = cover v t at.is (omega arith) in
-    let there : IsIn h at.cut.front = at.cut.has h i (omega arith) in
-    let found = founded_at s at.cut.front h at.cut.run.founded there in
-    let caused : IsCaused s found.front h.note.time (notes.State device state cause why) = subst (IsCaused s found.front h.note.time) body found.due.cause in
-    let point = clique_point s found.front t device state cause why clique caused in
+    let found = founded_at s at.cut.front h at.cut.run.founded (at.cut.has h i (omega arith)) in
+    let point = clique_point s found.front t device state cause why clique (subst (IsCaused s found.front h.note.time) body found.due.cause) in
     let split = before_of v h at.is found in
     let has : HasTimeAt v device t = record {
       good = point.point.correct;
@@ -192,8 +144,7 @@ pub time_is_kept : OneChannelIsSound → BlocksCover → BlocksGoSo → FirmDevi
 time_is_kept sound cover goes correct s mark ns until up h device state cause why i le body clique = (
   λ end.
       let channel = sound s (time_of h) up.lawful in
-      never_lost cover goes correct s mark ns until h device state cause why channel.0 up i le body clique channel.1
-      (λ v same at of good. inl (record {
+      never_lost cover goes correct s _ ns _ h device state cause why _ up i le body clique channel.1 (λ v same at of good. inl (record {
         end = subst (λ (x : Scenario). is_end x.network device ≡ true) (sym same) end;
         good =
             subst (λ (u : ℕ). is_broken v.scenario device u ≡ false) (sym at)

@@ -1,43 +1,11 @@
 -- How near to one another all dispatches of a cycle lie, those of a master that breaks later among them.
-use Rattle.std.proofs.Common.{◌≡◌, ℕ, zero, suc, ◌+◌, ◌*◌, ◌<◌, ◌≤◌, ℤ, pos, ◌+ℤ◌, ◌-ℤ◌, ◌<ℤ◌, ◌≤ℤ◌, true, false, List, inl, inr, refl, sym, ap, subst, ◌∙◌, arith}
-use Rattle.std.proofs.lemmas.Bool.{cases_lt}
-use Rattle.std.proofs.lemmas.Int.{ints}
-use Rattle.net_plan.proofs.Beta.{beta_exists}
-use Rattle.net_plan.proofs.Shape.{rules_give_trees}
-use Rattle.net_plan.specs.Bounds.{IsBeta, beta_at}
-use Rattle.net_plan.specs.declared.ids.DeviceId.{DeviceId}
-use Rattle.pcf_values.specs.declared.channel.Channel.{Channel}
-use Rattle.precision_law.proofs.block.Halving.{HasDispatched, IsReachedBy, has_dispatched, high_by, low_by, shared_near, start_near, synchronised_is}
-use Rattle.precision_law.proofs.clocks.Anchored.{anchored_clocks_reach, anchored_clocks_show, one_more, shared_clocks_halve, starts_stay_together}
-use Rattle.precision_law.proofs.clocks.Epochs.{adjustment_stays, state_stays}
-use Rattle.precision_law.proofs.clocks.Readings.{short_by_reading}
+use Rattle.precision_law.proofs.words.Std.{◌*◌, ◌+ℤ◌, ◌+◌, ◌-ℤ◌, ◌<ℤ◌, ◌<◌, ◌∙◌, ◌≡◌, ◌≤ℤ◌, ◌≤◌, List, ap, arith, cases_lt, false, inl, inr, ints, pos, refl, subst, suc, sym, true, zero, ℕ, ℤ}
+use Rattle.precision_law.proofs.words.Plans.{Channel, DeviceId, IsBeta, Units, amount, beta_at, beta_exists, rules_give_trees, shape_rules}
+use Rattle.precision_law.proofs.words.Runs.{Happening, IsCaused, IsIn, Note, Scenario, earlier, founded_at, happenings, is_broken, is_end, is_synchronised, time_of}
+use Rattle.precision_law.proofs.words.Laws.{AreShared, BlocksCover, BlocksGoSo, DispatchesHalve, DispatchesStayNear, IsAnchored, IsDispatch, IsDispatchOf, IsGood, IsInBlock, IsOldAt, IsRunUpTo, IsView, OneChannelIsSound, Stands, View, adjustment_left, epoch_time, last_dispatch, sizes_of, start_hull, state_left}
+use Rattle.precision_law.proofs.words.Clocks.{adjustment_stays, anchored_clocks_reach, anchored_clocks_show, one_more, room, shared_clocks_halve, short_by_reading, starts_stay_together, state_stays, steady, within_run}
+use Rattle.precision_law.proofs.words.Blocks.{HasDispatched, IsReachedBy, all_in_hulls, before_narrow, block_of, follows_before, has_dispatched, high_by, hull_lies, low_by, shared_near, start_near, synchronised_is, view_of, view_with}
 use Rattle.precision_law.proofs.law.Breaking.{AreTwo, IsFrontOf, set_before}
-use Rattle.precision_law.proofs.law.Together.{before_narrow, follows_before}
-use Rattle.precision_law.proofs.records.Points.{within_run}
-use Rattle.precision_law.proofs.records.RunViews.{all_in_hulls, block_of, hull_lies, view_of, view_with}
-use Rattle.precision_law.proofs.records.Views.{room, steady}
-use Rattle.precision_law.specs.Anchors.{IsAnchored}
-use Rattle.precision_law.specs.BlockLaws.{BlocksCover, BlocksGoSo}
-use Rattle.precision_law.specs.Blocks.{AreShared, IsInBlock, IsOldAt, Stands, adjustment_left, state_left}
-use Rattle.precision_law.specs.Dispatches.{DispatchesHalve, DispatchesStayNear, IsDispatchOf}
-use Rattle.precision_law.specs.Epochs.{epoch_time}
-use Rattle.precision_law.specs.Hulls.{last_dispatch, start_hull}
-use Rattle.precision_law.specs.Masters.{OneChannelIsSound}
-use Rattle.precision_law.specs.Precision.{IsRunUpTo}
-use Rattle.precision_law.specs.Sizes.{sizes_of}
-use Rattle.precision_law.specs.Views.{IsDispatch, IsGood, IsView, View}
-use Rattle.run_law.proofs.law.FirstPlaces.{founded_at}
-use Rattle.run_law.specs.declared.note.Note.{Note}
-use Rattle.run_law.specs.declared.note.NoteBody.TheVariants as notes
-use Rattle.run_law.specs.device.States.{is_synchronised}
-use Rattle.run_law.specs.records.Happenings.{Happening, earlier, happenings, time_of}
-use Rattle.run_law.specs.records.Order.{IsIn}
-use Rattle.run_law.specs.runs.DueRecords.{IsCaused}
-use Rattle.run_law.specs.scenario.Devices.{is_end}
-use Rattle.run_law.specs.scenario.Scenarios.{Scenario, is_broken}
-use Rattle.schedule_tables.proofs.Margins.{shape_rules}
-use Rattle.tte_units.specs.Amount.{amount}
-use Rattle.tte_units.specs.declared.units.Units.{Units}
 
 -- ---- a clock that reaches the next cycle later
 
@@ -58,33 +26,16 @@ later_near v n w u before device share is at =
     let reading = v.scenario.reading device in
     let still = state_stays is_synchronised refl v device before.next w is at.from at.old at.synchronised in
     let by = share.each device (record { end = at.end; good = at.good }) (synchronised_is (state_left v device before.next) still) in
-    let same : adjustment_left v device before.next ≡ adjustment_left v device w = ap (λ (a : Units). a.0)
-    (adjustment_stays v device before.next w is at.from at.old) in
+    let same = ap (λ (a : Units). a.0) (adjustment_stays v device before.next w is at.from at.old) in
     let low = low_by v.sizes share.shared by.other in
     let high = high_by v.sizes share.shared by.other in
     let anchored = subst (λ (a : ℤ). IsAnchored v.sizes (pos (reading by.set_at) +ℤ a) n low high by.set_at) same by.anchored in
-    let space = room v is in
     let product = one_more n v.sizes.cycle in
-    let first : by.set_at ≤ u = (let behind = by.not_behind in let from = at.from in let le = at.le in omega (arith, behind, from, le)) in
+    let first : by.set_at ≤ u = omega (arith, by.not_behind, at) in
     let short : reading u + v.sizes.drift < reading by.set_at + 2 * v.sizes.cycle =
     (let a = anchored.least in let m = at.most in let near = share.near.most in let far = by.near.most in let begun = by.not_before in let narrow =
     before_narrow v n before in
-    omega (
-      arith,
-      ints,
-      a,
-      m,
-      near,
-      far,
-      begun,
-      narrow,
-      product,
-      space.cycles,
-      space.eight_errors,
-      space.errors.reach_is,
-      space.errors.clock_is,
-      space.errors.base_is,
-    )) in
+    omega (arith, ints, a, m, near, far, begun, narrow, product, room v is)) in
     let within = short_by_reading v.sizes reading by.set_at u (steady v is device) first short in
     let shows = anchored_clocks_show v.sizes reading (adjustment_left v device w) n low high by.set_at u (steady v is device) first (omega (arith, within))
     anchored in
@@ -92,7 +43,7 @@ later_near v n w u before device share is at =
       other = by.other;
       near = by.near;
       reached = anchored_clocks_reach v.sizes (pos (reading u) +ℤ adjustment_left v device w) n low high v.sizes.cycle u shows
-          (let l = at.least in omega (arith, ints, l, product)) (let m = at.most in omega (arith, ints, m, product));
+          (omega (arith, ints, at.least, product)) (omega (arith, ints, at.most, product));
     }
 
 -- ---- two dispatches
@@ -118,13 +69,11 @@ module _ (cover : BlocksCover) (goes : BlocksGoSo) (s : Scenario) (path : ℕ) (
       let has = subst (λ (t : ℕ). HasDispatched v one (suc n) t) two.at_w (has_dispatched v g one (suc n) is two.first) in
       let end = (has_dispatched (view_of s u d path more) h other (suc n) views.longer two.second).end in
       let own = all_in_hulls cover goes v is g one (suc n) two.first in
-      let follows = follows_before v n before.hull own.hull is before.is_hull own.is in
-      let late : pos w ≤ℤ last_dispatch v.sizes before.hull = (let at = two.at_w in let most = own.most in omega (arith, ints, at, most, follows.most)) in
+      let late : pos w ≤ℤ last_dispatch v.sizes before.hull = omega (arith, ints, two.at_w, own.most, (follows_before v n _ _ is before.is_hull own.is).most) in
       let old = subst (λ (t : ℕ). IsOldAt v before.next one t) two.at_w ((goes v n (time_of g) (subst (IsInBlock v n) (sym two.at_w) block) is).dispatches g one
       (suc n) two.first refl).old in
       let x = shared_near v n w before one share is two.first.good has block.from old late in
-      let y = later_near v n w u before other share is
-      (record {
+      let y = later_near _ _ w u before other share is (record {
         good = set.good;
         end = end;
         synchronised = set.synchronised;
@@ -146,29 +95,24 @@ module _ (cover : BlocksCover) (goes : BlocksGoSo) (s : Scenario) (path : ℕ) (
   start_two g h one other two block later =
       let v = view_of s w c path front in
       let v' = view_of s u d path more in
-      let start_is : block.before.next ≡ 0 = block.before.is_over in
-      let later_is : later.before.next ≡ 0 = later.before.is_over in
       let has = subst (λ (t : ℕ). HasDispatched v one 1 t) two.at_w (has_dispatched v g one 1 views.is two.first) in
       let has' = subst (λ (t : ℕ). HasDispatched v' other 1 t) two.at_u (has_dispatched v' h other 1 views.longer two.second) in
-      let old = subst (λ (x : ℕ). epoch_time (earlier w front) one <ℤ pos x) start_is
+      let old = subst (λ (x : ℕ). epoch_time (earlier w front) one <ℤ pos x) block.before.is_over
       (subst (λ (t : ℕ). IsOldAt v block.before.next one t) two.at_w
       ((goes v 0 (time_of g) (subst (IsInBlock v 0) (sym two.at_w) block) views.is).dispatches g one 1 two.first refl).old) in
-      let old' = subst (λ (x : ℕ). epoch_time (earlier u more) other <ℤ pos x) later_is
+      let old' = subst (λ (x : ℕ). epoch_time (earlier u more) other <ℤ pos x) later.before.is_over
       (subst (λ (t : ℕ). IsOldAt v' later.before.next other t) two.at_u
       ((goes v' 0 (time_of h) (subst (IsInBlock v' 0) (sym two.at_u) later) views.longer).dispatches h other 1 two.second refl).old) in
       let own = all_in_hulls cover goes v views.is g one 1 two.first in
       let own' = all_in_hulls cover goes v' views.longer h other 1 two.second in
       let follows = follows_before v 0 (start_hull v.sizes) own.hull views.is refl own.is in
-      let follows' = follows_before v' 0 (start_hull v'.sizes) own'.hull views.longer refl own'.is in
-      let late : pos w ≤ℤ last_dispatch v.sizes (start_hull v.sizes) = (let at = two.at_w in let most = own.most in omega (arith, ints, at, most, follows.most))
-      in
+      let late : pos w ≤ℤ last_dispatch v.sizes (start_hull v.sizes) = omega (arith, ints, two.at_w, own.most, follows.most) in
       let late' : pos u ≤ℤ last_dispatch v'.sizes (start_hull v'.sizes) =
-      (let at = two.at_u in let most = own'.most in omega (arith, ints, at, most, follows'.most)) in
+      (omega (arith, ints, two.at_u, own'.most, (follows_before v' 0 (start_hull v'.sizes) own'.hull views.longer refl own'.is).most)) in
       let x = start_near v one w views.is two.first.good has old late in
       let y = start_near v' other u views.longer two.second.good has' old' late' in
       let a = starts_stay_together v.sizes w u (room v views.is) x y in
-      let b = starts_stay_together v.sizes u w (room v views.is) y x in
-      record { one = omega (arith, ints, b); other = omega (arith, ints, a) }
+      record { one = omega (arith, ints, starts_stay_together v.sizes u w (room v views.is) y x); other = omega (arith, ints, a) }
 
 -- ---- in a run
 
@@ -177,8 +121,7 @@ sends_correct : (s : Scenario) (mark : List ℕ) (ns : List Note) (until cycle :
     → (d : IsDispatchOf (happenings s.network ns) until cycle h) → is_broken s d.master (time_of h) ≡ false
 sends_correct s mark ns until cycle up h d =
     let found = founded_at s (happenings s.network ns) h up.run.founded d.there in
-    let sends : IsCaused s found.front h.note.time (notes.Sent d.master cycle) = subst (IsCaused s found.front h.note.time) d.is found.due.cause in
-    sends.up.correct
+    (subst (IsCaused s found.front h.note.time) d.is found.due.cause).up.correct
 
 -- the view at a dispatch, and that at a later one
 record HasViews (s : Scenario) (hs : List Happening) (path : ℕ) (g h : Happening) (one other : DeviceId) (cycle : ℕ) : Type 0 where
@@ -249,24 +192,18 @@ apart_by cover goes s hs path until zero g h one other x to block later =
     }
 apart_by cover goes s hs path until (suc m) g h one other x to block later =
     let v = view_of s (time_of g) x.c path x.front in
-    let is = x.views.is in
     let half = halve_two cover goes s path x.c x.d (time_of g) (time_of h) x.front x.more x.views m g h one other
     (record { first = x.first; second = x.second; at_w = refl; at_u = refl }) block later in
     let hull = block.before.hull in
     record {
-      near =
-          spread_by (time_of g) (time_of h) v.sizes.settled v.sizes.spread v.sizes.gamma hull.least hull.greatest half (before_narrow v (suc m) block.before)
-          (room v is).errors.spread_is;
+      near = spread_by _ _ v.sizes.settled _ v.sizes.gamma hull.least hull.greatest half (before_narrow v _ block.before) (room v x.views.is).errors.spread_is;
       halves = λ first last begun lie.
-          let ends = hull_lies cover goes v is m hull block.before.is_hull in
+          let ends = hull_lies cover goes v x.views.is m hull block.before.is_hull in
           let a = ends.is_earliest in
           let b = ends.is_latest in
-          let low = (lie ends.earliest
-          (record { there = x.inside ends.earliest a.there; master = a.master; is = a.is; by_then = (let t = a.by_then in omega (arith, t, to)) })).0 in
-          let high = (lie ends.latest
-          (record { there = x.inside ends.latest b.there; master = b.master; is = b.is; by_then = (let t = b.by_then in omega (arith, t, to)) })).1 in
-          wider_by (time_of g) (time_of h) v.sizes.settled hull.least hull.greatest first last half (let e = ends.first_is in omega (arith, ints, low, e))
-          (let e = ends.last_is in omega (arith, ints, high, e));
+          let low = (lie ends.earliest (record { there = x.inside ends.earliest a.there; master = a.master; is = a.is; by_then = omega arith })).0 in
+          let high = (lie ends.latest (record { there = x.inside ends.latest b.there; master = b.master; is = b.is; by_then = omega arith })).1 in
+          wider_by (time_of g) (time_of h) v.sizes.settled hull.least hull.greatest first last half (omega (arith, ints)) (omega (arith, ints));
     }
 
 apart : OneChannelIsSound → BlocksCover → BlocksGoSo → (s : Scenario) (mark : List ℕ) (ns : List Note) (until k : ℕ) → IsRunUpTo s mark ns until
@@ -279,8 +216,8 @@ apart sound cover goes s mark ns until k up g h a b le =
     let x = has_views sound s mark ns until path (suc k) up (subst (IsBeta n) beta.value beta) g h a b le in
     let one = block_of cover goes (view_of s (time_of g) x.c path x.front) x.views.is g a.master (suc k) x.first in
     let other = block_of cover goes (view_of s (time_of h) x.d path x.more) x.views.longer h b.master (suc k) x.second in
-    let at : one.n ≡ k = (let e = one.of_cycle in omega (arith, e)) in
-    let too : other.n ≡ k = (let e = other.of_cycle in omega (arith, e)) in
+    let at : one.n ≡ k = omega (arith, one.of_cycle) in
+    let too : other.n ≡ k = omega (arith, other.of_cycle) in
     apart_by cover goes s (happenings s.network ns) path until k g h a.master b.master x a.by_then
     (subst (λ (j : ℕ). IsInBlock (view_of s (time_of g) x.c path x.front) j (time_of g)) at one.block)
     (subst (λ (j : ℕ). IsInBlock (view_of s (time_of h) x.d path x.more) j (time_of h)) too other.block)
@@ -290,8 +227,7 @@ none_of_start : (s : Scenario) (mark : List ℕ) (ns : List Note) (until cycle :
     → IsDispatchOf (happenings s.network ns) until cycle h → 1 ≤ cycle
 none_of_start s mark ns until cycle up h d =
     let found = founded_at s (happenings s.network ns) h up.run.founded d.there in
-    let sends : IsCaused s found.front h.note.time (notes.Sent d.master cycle) = subst (IsCaused s found.front h.note.time) d.is found.due.cause in
-    sends.begun
+    (subst (IsCaused s found.front h.note.time) d.is found.due.cause).begun
 
 pub dispatches_stay_near : OneChannelIsSound → BlocksCover → BlocksGoSo → DispatchesStayNear
 dispatches_stay_near sound cover goes s mark ns until up zero g h a b = (let begun = none_of_start s mark ns until zero up g a in absurd (omega (arith, begun)))

@@ -1,37 +1,10 @@
 -- In a block the clocks of any two good devices with the common time are near.
-use Rattle.std.proofs.Common.{◌≡◌, ◌⊎◌, ℕ, suc, ◌+◌, ◌≤◌, ℤ, pos, negsuc, ◌+ℤ◌, ◌≤ℤ◌, true, Option, Some, None, inl, inr, refl, sym, ap, subst, ◌∙◌, arith, ◌*◌, ◌<◌, ◌<ℤ◌}
-use Rattle.std.proofs.lemmas.Int.{by_lt_z, ints}
-use Rattle.std.specs.Option.{option_map_or}
-use Rattle.net_plan.specs.declared.ids.DeviceId.{DeviceId}
-use Rattle.precision_law.proofs.block.Hulls.{has_before}
-use Rattle.precision_law.proofs.clocks.Anchored.{clocks_of_one_cycle, clocks_of_two_cycles, set_clocks_show}
-use Rattle.precision_law.proofs.clocks.Epochs.{adjustment_is_last, adjustment_set, adjustment_stays, joined_changes, same_device, time_stays}
-use Rattle.precision_law.proofs.records.Points.{before_of, point_timed, same_adjustment, setting_is, within_run}
-use Rattle.precision_law.proofs.records.Views.{room, steady}
-use Rattle.precision_law.proofs.sizes.Instants.{instants_are_in_order, set_clocks_stay_at_correction}
-use Rattle.precision_law.specs.Anchors.{IsAnchoredIn}
-use Rattle.precision_law.specs.BlockLaws.{BlockGoesSo, BlocksGoSo, ClocksAgreeInBlocks, ComesTo, HullsAreNarrow}
-use Rattle.precision_law.specs.Blocks.{HasTimeAt, IsInBlock, IsOldAt, Stands, adjustment_left}
-use Rattle.precision_law.specs.EpochLaws.{set_adjustment}
-use Rattle.precision_law.specs.Epochs.{epoch_time, last_setting}
-use Rattle.precision_law.specs.Hulls.{Hull, IsNarrow, IsOverBefore, hull_of, last_correction}
-use Rattle.precision_law.specs.Sizes.{Sizes}
-use Rattle.precision_law.specs.Standings.{AreNear, Follows, ShowsIn}
-use Rattle.precision_law.specs.Views.{IsGood, IsView, View}
-use Rattle.run_law.proofs.law.FirstPlaces.{founded_at}
-use Rattle.run_law.proofs.runs.SameSteps.{same_some}
+use Rattle.precision_law.proofs.words.Std.{◌*◌, ◌+ℤ◌, ◌+◌, ◌<ℤ◌, ◌<◌, ◌∙◌, ◌≡◌, ◌≤ℤ◌, ◌≤◌, ◌⊎◌, None, Option, Some, ap, arith, by_lt_z, inl, inr, ints, negsuc, option_map_or, pos, refl, subst, suc, sym, true, ℕ, ℤ}
+use Rattle.precision_law.proofs.words.Plans.{Corrected, DeviceId, Units, adjustment_at_start}
+use Rattle.precision_law.proofs.words.Runs.{Happening, IsCaused, IsIn, NoteBody, adjustment_with, changes_adjustment, cycle_in, earlier, founded_at, is_joined_by, same_some, start_of, time_of}
+use Rattle.precision_law.proofs.words.Laws.{AreNear, BlockGoesSo, BlocksGoSo, ClocksAgreeInBlocks, ComesTo, Follows, HasTimeAt, Hull, HullsAreNarrow, IsAnchoredIn, IsGood, IsInBlock, IsNarrow, IsOldAt, IsOverBefore, IsView, ShowsIn, Stands, View, adjustment_left, epoch_time, hull_of, last_correction, last_setting, set_adjustment}
+use Rattle.precision_law.proofs.words.Clocks.{adjustment_is_last, adjustment_set, adjustment_stays, before_of, clocks_of_one_cycle, clocks_of_two_cycles, has_before, instants_are_in_order, joined_changes, point_timed, room, same_adjustment, same_device, set_clocks_show, set_clocks_stay_at_correction, setting_is, sizes_are, steady, time_stays, within_run}
 use Rattle.run_law.specs.declared.note.NoteBody.TheVariants as notes
-use Rattle.run_law.specs.declared.note.NoteBody.{NoteBody}
-use Rattle.run_law.specs.device.LocalClocks.{changes_adjustment}
-use Rattle.run_law.specs.device.States.{adjustment_before, adjustment_with, cycle_in, is_joined_by}
-use Rattle.run_law.specs.records.Happenings.{Happening, earlier, time_of}
-use Rattle.run_law.specs.records.Order.{IsIn}
-use Rattle.run_law.specs.runs.DueRecords.{IsCaused}
-use Rattle.run_law.specs.scenario.Devices.{start_of}
-use Rattle.sync_state.specs.Standing.{adjustment_at_start}
-use Rattle.sync_state.specs.declared.answers.Verdict.TheVariants.{Corrected}
-use Rattle.tte_units.specs.Amount.{amount}
-use Rattle.tte_units.specs.declared.units.Units.{Units}
 
 -- ---- the hulls of a block
 
@@ -39,23 +12,19 @@ use Rattle.tte_units.specs.declared.units.Units.{Units}
 pub before_narrow : (v : View) (n : ℕ) (stands : Stands v n) → IsNarrow v.sizes stands.hull
 before_narrow v n stands =
     let there = stands.narrow n (omega arith) in
-    let same : there.0 ≡ stands.hull = same_some (hull_of v n) there.0 stands.hull there.1 stands.is_hull in
-    subst (IsNarrow v.sizes) same there.2
+    subst (IsNarrow v.sizes) (same_some (hull_of v n) there.0 stands.hull there.1 stands.is_hull) there.2
 
 -- a block is over behind the last correction
 pub block_ends : (v : View) (n next : ℕ) (hull : Hull) → hull_of v n ≡ Some hull → IsOverBefore v (suc n) next
     → pos next ≡ (last_correction v.sizes hull +ℤ pos 1)
-block_ends v n next hull is over =
-    let same : over.0 ≡ hull = same_some (hull_of v n) over.0 hull over.1 is in
-    subst (λ (w : Hull). pos next ≡ (last_correction v.sizes w +ℤ pos 1)) same over.2
+block_ends v n next hull is over = subst (λ (w : Hull). pos next ≡ (last_correction v.sizes w +ℤ pos 1)) (same_some (hull_of v n) over.0 hull over.1 is) over.2
 
 -- the hull of the block's cycle follows the one before
 pub follows_before : (v : View) (n : ℕ) (before hull : Hull) → IsView v → hull_of v n ≡ Some before → hull_of v (suc n) ≡ Some hull
     → Follows v.sizes before hull
 follows_before v n before hull is is_before is_hull =
     let has = has_before v n hull (within_run v is) is_hull in
-    let same : has.before ≡ before = same_some (hull_of v n) has.before before has.is_before is_before in
-    subst (λ (w : Hull). Follows v.sizes w hull) same has.follows
+    subst (λ (w : Hull). Follows v.sizes w hull) (same_some (hull_of v n) has.before before has.is_before is_before) has.follows
 
 -- ---- what a clock shows
 
@@ -69,17 +38,11 @@ pub old_shows : (v : View) (n t u : ℕ) (d : DeviceId) (block : IsInBlock v n t
 old_shows v n t u d block is le has old =
     let before = block.before in
     let from : before.next ≤ u = omega (arith, block.from) in
-    let timed = time_stays v d before.next u is from old has.timed in
-    let set = before.clocks d (record { good = has.good; timed = timed }) in
+    let set = before.clocks d (record { good = has.good; timed = (time_stays v d before.next u is from old has.timed) }) in
     let same : adjustment_left v d before.next ≡ adjustment_left v d u = ap (λ (a : Units). a.0) (adjustment_stays v d before.next u is from old) in
     let anchored = subst (λ (a : ℤ). IsAnchoredIn v.sizes (v.scenario.reading d) a n before.hull set.set_at) same set.anchored in
-    let ends = block_ends v n block.next before.hull before.is_hull block.is_over in
-    let narrow = before_narrow v n before in
-    let space = room v is in
-    set_clocks_show v.sizes (v.scenario.reading d) (adjustment_left v d u) n before.hull set.set_at t (steady v is d)
-    (omega (arith, set.not_behind, block.from))
-    (omega (arith, ints, ends, block.to, set.not_before, narrow, space.eight_errors, space.cycles))
-    anchored
+    set_clocks_show v.sizes (v.scenario.reading d) (adjustment_left v d u) n before.hull set.set_at t (steady _ is d)
+    (omega arith) (omega (arith, ints, block_ends v n block.next _ before.is_hull block.is_over, before_narrow _ _ before, room v is)) anchored
 
 -- a clock was set at r in the block, within the hull of its cycle
 pub record IsSetInBlock (v : View) (n t : ℕ) (d : DeviceId) (adjustment : ℤ) : Type 0 where
@@ -92,7 +55,7 @@ pub record IsSetInBlock (v : View) (n t : ℕ) (d : DeviceId) (adjustment : ℤ)
   pub ahead : pos (suc n * v.sizes.cycle + 2 * v.sizes.grain) <ℤ (pos (v.scenario.reading d t) +ℤ adjustment)
 
 -- an earlier time of the block
-pub earlier_in_block : (v : View) (n t w : ℕ) (block : IsInBlock v n t) → block.before.next ≤ w → w ≤ t → IsInBlock v n w
+abbrev pub earlier_in_block : (v : View) (n t w : ℕ) (block : IsInBlock v n t) → block.before.next ≤ w → w ≤ t → IsInBlock v n w
 earlier_in_block v n t w block from to = record {
   before = block.before;
   next = block.next;
@@ -108,18 +71,15 @@ pub set_by : (v : View) (n t : ℕ) (d : DeviceId) (block : IsInBlock v n t) (h 
     → h.note.body ≡ body → changes_adjustment d body ≡ true
     → IsSetInBlock v n t d (adjustment_with v.scenario d (cycle_in h) (adjustment_at_start (start_of v.scenario.network d)) body).0
 set_by v n t d block h (notes.Corrected e number by adjustment) so is good from to i body sets =
-    let same : e ≡ d = same_device d e sets in
     let found = founded_at v.scenario v.records h is.run.founded i in
-    let cause : IsCaused v.scenario found.front h.note.time (notes.Corrected d number by adjustment) = subst
-    (λ (x : DeviceId). IsCaused v.scenario found.front h.note.time (notes.Corrected x number by adjustment)) same
+    let cause = subst (λ (x : DeviceId). IsCaused v.scenario found.front h.note.time (notes.Corrected x number by adjustment)) (same_device d e sets)
     (subst (IsCaused v.scenario found.front h.note.time) body found.due.cause) in
     let split = before_of v h is found in
     let has : HasTimeAt v d (time_of h) = record { good = good; timed = point_timed v (time_of h) d number (Corrected by) found.front split cause.corrected } in
     let comes : ComesTo v (time_of h) d number (Corrected by) = record { front = found.front; split = split; point = cause.corrected } in
     let old = so.old_alone d number (Corrected by) has comes (λ e. cc) in
     let set = so.corrects d number by has old comes in
-    let left : (adjustment_before v.scenario found.front d (time_of h)).0 ≡ adjustment_left v d (time_of h) = ap (λ (a : Units). a.0)
-    (same_adjustment v d (time_of h) found.front split) in
+    let left = ap (λ (a : Units). a.0) (same_adjustment v d (time_of h) found.front split) in
     let sum : (adjustment_left v d (time_of h) +ℤ by.0) ≡ adjustment.0 = ap (λ (z : ℤ). z +ℤ by.0) (sym left) ∙ sym cause.sum in
     let shows : (adjustment_with v.scenario d (cycle_in h) (adjustment_at_start (start_of v.scenario.network d)) (notes.Corrected e number by adjustment)).0 ≡
     adjustment.0 = rw sets refl in
@@ -129,20 +89,16 @@ set_by v n t d block h (notes.Corrected e number by adjustment) so is good from 
     let follows = follows_before v n before.hull set.hull is before.is_hull set.is_hull in
     let order = instants_are_in_order v.sizes before.hull set.hull space (before_narrow v n before) follows in
     let shown_then = set_clocks_show v.sizes (v.scenario.reading d) (adjustment_left v d (time_of h) +ℤ by.0) (suc n) set.hull set.set_at (time_of h)
-    (steady v is d) set.not_behind
-    (omega (arith, ints, point.not_late, order.last_not_late, set.not_before, space.eight_errors, space.cycles)) set.anchored in
+    (steady v is d) set.not_behind (omega (arith, ints, point.not_late, order.last_not_late, set.not_before, space)) set.anchored in
     let near = set_clocks_stay_at_correction v.sizes (pos (v.scenario.reading d (time_of h)) +ℤ (adjustment_left v d (time_of h) +ℤ by.0)) (suc n) (time_of h)
-    before.hull set.hull space (before_narrow v n before) follows
-    (omega (arith, ints, point.not_early)) (omega (arith, ints, point.not_late)) shown_then in
-    let up = (steady v is d).never_falls (time_of h) t to in
+    before.hull set.hull space (before_narrow v n before) follows (omega (arith, ints)) (omega (arith, ints)) shown_then in
     record {
       hull = set.hull;
       is_hull = set.is_hull;
       set_at = set.set_at;
       not_before = set.not_before;
       not_behind = omega (arith, set.not_behind, to);
-      ahead =
-          omega (arith, ints, near.least, up, sum, shows, space.corrections, space.eight_errors, space.errors.reach_is, space.grain, space.compression_least);
+      ahead = omega (arith, ints, near.least, (steady v is d).never_falls (time_of h) t to, sum, shows, space);
       anchored = subst (λ (a : ℤ). IsAnchoredIn v.sizes (v.scenario.reading d) a (suc n) set.hull set.set_at) (sum ∙ sym shows) set.anchored;
     }
 set_by v n t d block h body so is good from to i same sets =
@@ -157,18 +113,14 @@ set_by v n t d block h body so is good from to i same sets =
         let join = so.joins h d i at good refl in
         let changes : changes_adjustment d h.note.body ≡ true = joined_changes d h.note.body at in
         let one = adjustment_set v.scenario d (cycle_in h) (record { 0 = pos 0 }) (adjustment_at_start (start_of v.scenario.network d)) h.note.body changes in
-        let two : adjustment_with v.scenario d (cycle_in h) (adjustment_at_start (start_of v.scenario.network d)) h.note.body ≡ adjustment_with v.scenario d
-        (cycle_in h) (adjustment_at_start (start_of v.scenario.network d)) body =
-        ap (adjustment_with v.scenario d (cycle_in h) (adjustment_at_start (start_of v.scenario.network d))) same in
-        let up = (steady v is d).never_falls (time_of h) t to in
-        let same_a = ap (λ (a : Units). a.0) (one ∙ two) in
+        let two = ap (adjustment_with v.scenario d (cycle_in h) (adjustment_at_start (start_of v.scenario.network d))) same in
         record {
           hull = join.hull;
           is_hull = join.is_hull;
           set_at = time_of h;
           not_before = join.not_early;
           not_behind = to;
-          ahead = omega (arith, ints, join.ahead, same_a, up);
+          ahead = omega (arith, ints, join.ahead, ap (λ (a : Units). a.0) (one ∙ two), (steady v is d).never_falls (time_of h) t to);
           anchored = subst (λ (a : Units). IsAnchoredIn v.sizes (v.scenario.reading d) a.0 (suc n) join.hull (time_of h)) (one ∙ two) join.anchored;
         }
 
@@ -183,9 +135,7 @@ new_shows v n t u d block goes is le has (Some h) e late =
     let set = set_by v n t d block h h.note.body (goes (time_of h) (omega (arith, ints, late)) at.early) is has.good (omega (arith, ints, late))
     (omega (arith, at.early)) at.there refl at.sets in
     let last = adjustment_is_last v.scenario (earlier u v.records) d ∙ ap (set_adjustment v.scenario d) e in
-    let same : adjustment_left v d u ≡ (adjustment_with v.scenario d (cycle_in h) (adjustment_at_start (start_of v.scenario.network d)) h.note.body).0 =
-    ap (λ (a : Units). a.0) last in
-    subst (IsSetInBlock v n t d) (sym same) set
+    subst (IsSetInBlock v n t d) (sym (ap (λ (a : Units). a.0) last)) set
 
 -- what it shows
 pub set_shows : (v : View) (n t : ℕ) (d : DeviceId) (adjustment : ℤ) (block : IsInBlock v n t) → IsView v → (set : IsSetInBlock v n t d adjustment)
@@ -193,22 +143,16 @@ pub set_shows : (v : View) (n t : ℕ) (d : DeviceId) (adjustment : ℤ) (block 
 set_shows v n t d adjustment block is set =
     let before = block.before in
     let space = room v is in
-    let order = instants_are_in_order v.sizes before.hull set.hull space (before_narrow v n before)
-    (follows_before v n before.hull set.hull is before.is_hull set.is_hull) in
-    let ends = block_ends v n block.next before.hull before.is_hull block.is_over in
+    let order = instants_are_in_order v.sizes before.hull set.hull space (before_narrow v n before) (follows_before v n _ _ is before.is_hull set.is_hull) in
     set_clocks_show v.sizes (v.scenario.reading d) adjustment (suc n) set.hull set.set_at t (steady v is d) set.not_behind
-    (omega (arith, ints, ends, block.to, order.last_not_late, set.not_before, space.eight_errors, space.cycles))
-    set.anchored
+    (omega (arith, ints, block_ends v n block.next _ before.is_hull block.is_over, block.to, order.last_not_late, set.not_before, space)) set.anchored
 
 -- each clock shows one of the two
 shows_one : (v : View) (n t u : ℕ) (d : DeviceId) (block : IsInBlock v n t) → BlocksGoSo → IsView v → t ≤ u → u ≤ t + 1 → HasTimeAt v d u
     → ShowsOneOf v n block.before.hull t (pos (v.scenario.reading d t) +ℤ adjustment_left v d u)
-unfolding earlier_in_block
 shows_one v n t u d block goes is le most has =
     by_lt_z {P = ShowsOneOf v n block.before.hull t (pos (v.scenario.reading d t) +ℤ adjustment_left v d u)} (epoch_time (earlier u v.records) d)
-    (pos block.before.next)
-    (λ old. inl (old_shows v n t u d block is le has old))
-    (λ late.
+    (pos block.before.next) (λ old. inl (old_shows _ _ _ _ _ block is le has old)) (λ late.
     let set = new_shows v n t u d block (λ w from lt. goes v n w (earlier_in_block v n t w block from (omega (arith, lt, most))) is) is most has
     (last_setting (earlier u v.records) d) refl late in
     inr (set.hull, set.is_hull, set_shows v n t d (adjustment_left v d u) block is set))
@@ -232,5 +176,4 @@ near_each v n t x y before halve is (inr a) (inr b) =
 pub clocks_agree_in_blocks : BlocksGoSo → HullsAreNarrow → ClocksAgreeInBlocks
 clocks_agree_in_blocks goes halve v n t u d e block is le most one other =
     let near = near_each v n t _ _ block.before halve is (shows_one v n t u d block goes is le most one) (shows_one v n t u e block goes is le most other) in
-    let size : v.sizes.precision ≡ amount v.scenario.network.precision = ap (λ (s : Sizes). s.precision) is.sizes in
-    record { one = omega (arith, ints, near.one, size); other = omega (arith, ints, near.other, size) }
+    record { one = omega (arith, ints, near.one, sizes_are v is); other = omega (arith, ints, near.other, sizes_are v is) }

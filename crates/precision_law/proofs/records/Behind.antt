@@ -1,10 +1,7 @@
 -- What stands behind the last element of a kind.
-use Rattle.std.proofs.Common.{◌≡◌, ◌+◌, ◌-◌, Bool, true, false, not, List, [], ◌∷◌, ◌++◌, reverse, length, drop, Option, Some, None, All, inl, inr, refl, sym, ap, subst, ◌∙◌, append_assoc, append-nil, length-append, drop_at, zero-add, arith}
-use Rattle.std.specs.List.{after_last, cons_option, filter_map, prefix_len, suffix_len}
-use Rattle.std.proofs.lemmas.Bool.{cond-false, cond-true, not_from_false, not_from_true}
+use Rattle.precision_law.proofs.words.Std.{◌++◌, ◌+◌, ◌-◌, ◌∙◌, ◌∷◌, ◌≡◌, All, All-append, All-cons, All-head, All-nil, All-tail, Bool, List, None, Option, Some, [], after_last, ap, append-nil, append_assoc, arith, cond-false, cond-true, cons_option, drop, drop_at, false, filter_map, inl, inr, length, length-append, not, not_from_false, not_from_true, prefix_len, refl, reverse, subst, suffix_len, sym, true, zero-add}
+use Rattle.precision_law.proofs.words.Runs.{IsIn}
 use Rattle.std.proofs.lemmas.List.{length-reverse, length_push, reverse-append}
-use Rattle.std.proofs.lemmas.List.Elements.{All-append, All-cons, All-head, All-nil, All-tail}
-use Rattle.run_law.specs.records.Order.{IsIn}
 
 -- ---- the last of a kind
 
@@ -28,8 +25,7 @@ module _ {X : Type 0} (p : X → Bool) where
 
   suffix_len_at : (xs : List X) (y : X) (ys : List X) → p y ≡ false → All (λ x. p x ≡ true) ys → suffix_len p (xs ++ y ∷ ys) ≡ length ys
   suffix_len_at xs y ys stop h =
-      let turned : reverse (xs ++ y ∷ ys) ≡ reverse ys ++ (y ∷ reverse xs) =
-      reverse-append xs (y ∷ ys) ∙ ap (λ zs. zs ++ reverse xs) (reverse-append (y ∷ []) ys) ∙ append_assoc (reverse ys) (y ∷ []) (reverse xs) in
+      let turned = reverse-append xs (y ∷ ys) ∙ ap (λ zs. zs ++ reverse xs) (reverse-append (y ∷ []) ys) ∙ append_assoc (reverse ys) (y ∷ []) (reverse xs) in
       let none : prefix_len p (y ∷ reverse xs) ≡ 0 = cond-false (p y) _ 0 stop in
       ap (prefix_len p) turned ∙ prefix_len-append (reverse ys) _ (All-reverse (λ x. p x ≡ true) ys h) ∙ omega (arith, length-reverse ys)
 

@@ -1,19 +1,8 @@
 -- A run up to an earlier time.
-use Rattle.std.proofs.Common.{◌≡◌, ℕ, ◌+◌, ◌<◌, ◌≤◌, List, [], ◌∷◌, ◌++◌, inl, inr, sym, ap, subst, ◌∙◌, append_assoc, arith}
-use Rattle.std.proofs.lemmas.Bool.{cases_lt, le-ltb, lt-ltb}
-use Rattle.std.proofs.lemmas.List.{append-nil}
-use Rattle.std.proofs.lemmas.List.Elements.{filter-append}
-use Rattle.std.specs.Prelude.{nat_lt}
+use Rattle.precision_law.proofs.words.Std.{◌++◌, ◌+◌, ◌<◌, ◌∙◌, ◌∷◌, ◌≡◌, ◌≤◌, List, [], ap, append-nil, append_assoc, arith, cases_lt, filter-append, inl, inr, le-ltb, lt-ltb, nat_lt, subst, sym, ℕ}
+use Rattle.precision_law.proofs.words.Runs.{Happening, IsBefore, IsDue, IsFounded, IsIn, IsRun, IsSplit, Scenario, chain, earlier, earlier_time, front_founded, in_front_of, in_left, in_parts, key, members_in, none_kept, place_of, rank, split, time_of}
+use Rattle.precision_law.proofs.words.Laws.{Covers}
 use Rattle.precision_law.proofs.records.Times.{all_kept}
-use Rattle.precision_law.specs.Views.{Covers}
-use Rattle.run_law.proofs.law.FirstPlaces.{IsSplit, front_founded, in_front_of, none_kept, split}
-use Rattle.run_law.proofs.runs.Places.{chain, earlier_time, in_left, in_parts}
-use Rattle.run_law.specs.records.Happenings.{Happening, earlier, time_of}
-use Rattle.run_law.specs.records.Order.{IsBefore, IsIn}
-use Rattle.run_law.specs.records.Ranks.{key, members_in, place_of, rank}
-use Rattle.run_law.specs.runs.DueRecords.{IsDue}
-use Rattle.run_law.specs.runs.Runs.{IsFounded, IsRun}
-use Rattle.run_law.specs.scenario.Scenarios.{Scenario}
 
 -- the records of a run before an earlier place are the run up to this place
 pub cut_run : {N : Type 0} (place : N → List ℕ) (IsDue : List N → N → Type 0) (mark p : List ℕ) (ns : List N) (at : IsSplit place ns p)
@@ -72,8 +61,7 @@ cut_at s mark hs until t run covers le =
     ]) in
     sym (append-nil (earlier u at.front)) ∙ ap (λ (gs : List Happening). earlier u at.front ++ gs) (sym none)
     ∙ sym (filter-append (λ h. nat_lt (time_of h) u) at.front at.rest) ∙ ap (earlier u) (sym at.whole) in
-    let all : earlier (t + 1) at.front ≡ at.front = all_kept (λ h. nat_lt (time_of h) (t + 1)) at.front
-    (λ h i. lt-ltb (time_of h) (t + 1) (of_earlier h (t + 1) (at.before h i))) in
+    let all = all_kept (λ h. nat_lt (time_of h) (t + 1)) at.front (λ h i. lt-ltb (time_of h) (t + 1) (of_earlier h (t + 1) (at.before h i))) in
     record {
       front = at.front;
       run = cut_run place_of (IsDue s) mark ((t + 1) ∷ []) hs at (λ q b. before_cover mark until t q covers le b) run;

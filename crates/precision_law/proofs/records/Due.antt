@@ -1,55 +1,20 @@
 -- What is due is recorded: the frames of clusters, and what is permanent.
-use Rattle.std.proofs.Common.{◌≡◌, ◌⊎◌, ℕ, ◌+◌, ◌<◌, ◌≤◌, ℤ, pos, Bool, true, false, List, [], ◌∷◌, length, Option, Some, None, inl, inr, refl, sym, ap, subst, ◌∙◌, arith}
-use Rattle.std.proofs.lemmas.Bool.{cases_lt}
-use Rattle.std.proofs.lemmas.Int.{ints}
-use Rattle.std.specs.Option.{option_map_or}
-use Rattle.std.specs.Prelude.{Contains, MatchBool, option_and_then, unsigned_abs}
-use Rattle.net_plan.specs.declared.ids.DeviceId.{DeviceId}
-use Rattle.net_plan.specs.declared.ids.LinkId.{LinkId}
-use Rattle.pcf_values.specs.declared.pcf.Pcf.{Pcf}
-use Rattle.precision_law.specs.Trips.{IsPermanentAt}
-use Rattle.precision_law.specs.Views.{IsGood, IsView, View}
-use Rattle.run_law.proofs.law.FirstPlaces.{IsSplit, by_number, due_is_there, front_founded, in_front_of}
-use Rattle.run_law.specs.declared.judgement.Reason.TheVariants.{Cycle}
-use Rattle.run_law.specs.declared.judgement.Reason.{Reason}
-use Rattle.run_law.specs.declared.note.Note.{Note}
-use Rattle.run_law.specs.declared.note.NoteBody.TheVariants as notes
-use Rattle.run_law.specs.declared.note.NoteBody.{NoteBody}
-use Rattle.run_law.specs.device.States.{adjustment_at_hearing, state_at_hearing}
-use Rattle.run_law.specs.records.Happenings.{Happening, happening, numbered, time_of}
-use Rattle.run_law.specs.records.Order.{AllBefore, IsBefore, IsIn, NoneBefore}
-use Rattle.run_law.specs.records.Ranks.{key, members_in, place_of, rank, sign}
-use Rattle.run_law.specs.runs.DueRecords.{IsCaused, IsDue}
-use Rattle.run_law.specs.runs.Runs.{IsFounded}
-use Rattle.run_law.specs.scenario.Devices.{is_cm, plan_of}
-use Rattle.run_law.specs.scenario.Scenarios.{Scenario}
-use Rattle.tte_units.specs.Amount.{amount, units_of}
-use Rattle.compression.proofs.Times.{one_list_of_clusters}
-use Rattle.compression.specs.Clusters.{AreClusters, Cluster, Point, point_at}
-use Rattle.compression.specs.Emission.{emission}
-use Rattle.compression.specs.Role.{role}
-use Rattle.compression.specs.declared.taken.Taken.{Taken}
+use Rattle.precision_law.proofs.words.Std.{◌+◌, ◌<◌, ◌∙◌, ◌∷◌, ◌≡◌, ◌≤◌, ◌⊎◌, Bool, Contains, List, MatchBool, None, Option, Some, [], ap, arith, cases_lt, false, inl, inr, ints, length, option_and_then, option_map_or, pos, refl, subst, sym, true, unsigned_abs, ℕ, ℤ}
+use Rattle.precision_law.proofs.words.Plans.{AreClusters, Cluster, DeviceId, IsReach, LinkId, Pcf, Point, Taken, amount, emission, one_list_of_clusters, point_at, point_of, role, units_of}
+use Rattle.precision_law.proofs.words.Runs.{AllBefore, BecomesPermanent, Emits, Happening, IsBefore, IsCaused, IsCollectedOrDropped, IsCollectionOutcome, IsDue, IsFounded, IsIn, IsJudgedBy, IsPermanenceOutcome, IsPermanent, IsSplit, Judgement, NoneBefore, Note, NoteBody, Reason, Scenario, adjustment_at_hearing, by_number, due_is_there, front_founded, happening, heard_as, in_front_of, is_cm, key, master_of, members_in, numbered, observation_window, place_of, plan_of, point_fault, points_of, rank, ripe_as, sign, state_at_hearing, time_of, waits_for}
+use Rattle.precision_law.proofs.words.Laws.{IsEmission, IsGood, IsPermanentAt, IsView, Sizes, View}
 use Rattle.compression.specs.declared.taken.Taken.TheVariants as taken
-use Rattle.drift_clock.specs.Reach.{IsReach}
-use Rattle.precision_law.specs.Bases.{IsEmission}
-use Rattle.precision_law.specs.Sizes.{Sizes}
-use Rattle.precision_law.proofs.records.Judged.{all_judge}
-use Rattle.precision_law.proofs.faults.Masters.{good_is_correct}
-use Rattle.run_law.specs.control.Collections.{master_of, point_fault, points_of, ripe_by_role, observation_window}
-use Rattle.run_law.specs.control.Emissions.{Emits}
-use Rattle.run_law.specs.control.Hearing.{heard_as}
-use Rattle.run_law.specs.control.Permanence.{IsCollectedOrDropped, IsJudgedBy, IsPermanent, IsPermanenceOutcome, IsCollectionOutcome, BecomesPermanent, before_permanence, ripe_as, waits_for}
-use Rattle.run_law.specs.declared.judgement.Judgement.{Judgement}
 use Rattle.run_law.specs.declared.judgement.Judgement.TheVariants as judgements
-use Rattle.run_law.specs.declared.steps.Ripe.TheVariants as ripe
-use Rattle.transparent_clock.specs.Points.{point_of}
+use Rattle.run_law.specs.declared.note.NoteBody.TheVariants as notes
+use Rattle.precision_law.proofs.faults.Masters.{good_is_correct}
+use Rattle.precision_law.proofs.records.Judged.{all_judge}
 
 -- ---- what is sent
 
-abbrev next_note : List Happening → ℕ → NoteBody → Note
+abbrev pub next_note : List Happening → ℕ → NoteBody → Note
 next_note ps t body = record { number = length ps + 1; time = units_of t; body = body }
 
-next_due : (s : Scenario) (ps : List Happening) (t : ℕ) (body : NoteBody) → IsCaused s ps (units_of t) body
+pub next_due : (s : Scenario) (ps : List Happening) (t : ℕ) (body : NoteBody) → IsCaused s ps (units_of t) body
     → IsDue s ps (happening s.network ps (next_note ps t body))
 next_due s ps t body cause = record { number = refl; same = refl; begun = omega (arith, ints); cause = cause }
 
@@ -156,8 +121,7 @@ is_recorded v device arrival link frame point q verdict is r at becomes =
     (key (members_in arrival) arrival.note.body) (device.0 ∷ unsigned_abs point ∷ frame.members.0 ∷ link.0 ∷ number ∷ []) r.later
     (let two : rank arrival.note.body ≡ 2 = ap rank arrives in omega (arith, two)) in
     let front = front_founded place_of (IsDue s) at.front at.rest (subst (IsFounded place_of (IsDue s)) at.whole is.run.founded) in
-    let found : numbered at.front number ≡ Some arrival = by_number s at.front arrival front
-    (in_front_of place_of v.records (place_of_ripe device arrival link frame point q) at arrival r.there sooner) in
+    let found : numbered at.front number ≡ Some arrival = by_number s at.front arrival front (in_front_of _ _ _ at arrival r.there sooner) in
     let dmax_is : n.dmax.0 ≡ pos v.sizes.dmax = (let least = is.lawful.range.dmax.least in let size : v.sizes.dmax ≡ amount n.dmax = ap (λ (x : Sizes). x.dmax)
     is.sizes in omega (arith, ints, least, size)) in
     let permanent : IsPermanent s at.front device q link number frame (record { 0 = point }) = record {
@@ -172,17 +136,14 @@ is_recorded v device arrival link frame point q verdict is r at becomes =
       reached = p.reached;
       correct = good_is_correct v device q r.good r.in_run;
     } in
-    let judged : IsJudgedBy s (before_permanence at.front device q link number frame (record { 0 = point })) device q frame (record { 0 = point })
-    (ripe_as verdict) =
-    subst (λ (hs : List Happening). IsJudgedBy s hs device q frame (record { 0 = point }) (ripe_as verdict))
+    let judged = subst (λ (hs : List Happening). IsJudgedBy s hs device q frame (record { 0 = point }) (ripe_as verdict))
     (sym (all_judge at.front q device link number frame (record { 0 = point }) at.before)) becomes in
     let ripens : BecomesPermanent s at.front device q link number (record { 0 = point }) (ripe_as verdict) =
     record { frame = frame; permanent = permanent; becomes = judged } in
     let h : Happening = happening n at.front (next_note at.front q body) in
     let framed : h.frame ≡ Some frame = ap (λ (o : Option Happening). option_and_then (λ x. x.frame) o) found ∙ r.of_frame in
     let members : members_in h ≡ frame.members.0 = ap (λ (o : Option Pcf). option_map_or (λ f. f.members.0) o 0) framed in
-    let place : place_of h ≡ place_of_ripe device arrival link frame point q = ap (λ (m : ℕ). q ∷ 3 ∷ device.0 ∷ unsigned_abs point ∷ m ∷ link.0 ∷ number ∷ [])
-    members in
+    let place = ap (λ (m : ℕ). q ∷ 3 ∷ device.0 ∷ unsigned_abs point ∷ m ∷ link.0 ∷ number ∷ []) members in
     let moved : IsSplit place_of v.records (place_of h) = record {
       front = at.front;
       rest = at.rest;
@@ -190,23 +151,15 @@ is_recorded v device arrival link frame point q verdict is r at becomes =
       before = subst (AllBefore place_of at.front) (sym place) at.before;
       none = subst (NoneBefore place_of at.rest) (sym place) at.none;
     } in
-    let in_run = r.in_run in
     record {
       h = h;
-      there = due_is_there s ((v.until + 1) ∷ []) v.records h moved is.run (next_due s at.front q body ripens) (inl (omega (arith, in_run)));
+      there = due_is_there s ((v.until + 1) ∷ []) v.records h moved is.run (next_due s at.front q body ripens) (inl (omega (arith, r.in_run)));
       is = refl;
       time = refl;
       of_frame = framed;
     }
 
 -- ---- what a compression master collects
-
--- the judgement of a role
-pub judged_by : (taken : Taken) → (ripe_by_role taken ≡ ripe.Dropped Cycle) ⊎ ((verdict : Judgement) × (ripe_as verdict ≡ ripe_by_role taken))
-judged_by taken.Opened = inr (judgements.Opened, refl)
-judged_by taken.Joined = inr (judgements.Joined, refl)
-judged_by taken.Repeat = inr (judgements.Repeat, refl)
-judged_by taken.OtherCycle = inl refl
 
 -- a frame that is permanent at a compression master, and has no fault, has a record that gives its point, but where it
 -- is dropped since it lies in the time of a cluster of another cycle
@@ -218,8 +171,7 @@ pub is_collected : (v : View) (cm : DeviceId) (arrival : Happening) (link : Link
     × (role clusters (point_at point (master_of frame.members.0) frame.cycle) ≡ taken.OtherCycle))
     ⊎ ((verdict : Judgement) × IsRipeRecord v cm arrival link point q verdict frame)
 is_collected v cm arrival link frame point q is one r at fine =
-    let n = v.scenario.network in
-    let found = one_list_of_clusters (observation_window n) (points_of at.front cm) in
+    let found = one_list_of_clusters (observation_window v.scenario.network) (points_of at.front cm) in
     by found.0 found.1 (role found.0 (point_at point (master_of frame.members.0) frame.cycle)) refl
   where
     becomes : (verdict : Judgement) (points : List Point) (o : Option Reason) → o ≡ None

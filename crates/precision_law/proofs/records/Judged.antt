@@ -1,17 +1,8 @@
 -- The records by which a frame that is permanent is judged.
-use Rattle.std.proofs.Common.{◌≡◌, ℕ, Bool, true, false, ◌&&◌, ◌||◌, List, [], ◌∷◌, filter, nat_lt, inl, inr, refl, ap, ◌∙◌, arith}
-use Rattle.std.proofs.lemmas.Bool.{eq-eqb, le-ltb, lt-ltb, or_left}
-use Rattle.std.specs.Prelude.{◌==◌, if◌then◌else◌}
-use Rattle.net_plan.specs.declared.ids.DeviceId.{DeviceId}
-use Rattle.net_plan.specs.declared.ids.LinkId.{LinkId}
-use Rattle.pcf_values.specs.declared.pcf.Pcf.{Pcf}
+use Rattle.precision_law.proofs.words.Std.{◌&&◌, ◌==◌, ◌||◌, ◌∙◌, ◌∷◌, ◌≡◌, Bool, List, [], ap, arith, eq-eqb, false, filter, if◌then◌else◌, inl, inr, le-ltb, lt-ltb, nat_lt, or_left, refl, true, ℕ}
+use Rattle.precision_law.proofs.words.Plans.{DeviceId, LinkId, Pcf, Units, amount}
+use Rattle.precision_law.proofs.words.Runs.{AllBefore, Happening, IsBefore, before_permanence, earlier, is_before, place_of, time_of}
 use Rattle.precision_law.proofs.records.Times.{all_kept}
-use Rattle.run_law.specs.control.Permanence.{before_permanence}
-use Rattle.run_law.specs.records.Happenings.{Happening, earlier, time_of}
-use Rattle.run_law.specs.records.Order.{AllBefore, IsBefore, is_before}
-use Rattle.run_law.specs.records.Ranks.{place_of}
-use Rattle.tte_units.specs.Amount.{amount}
-use Rattle.tte_units.specs.declared.units.Units.{Units}
 
 -- the test of what comes before
 before_is : (p q : List ℕ) → IsBefore p q → is_before p q ≡ true
@@ -19,8 +10,7 @@ before_is p [] b = absurd b
 before_is [] (y ∷ ys) b = refl
 before_is (x ∷ xs) (y ∷ ys) (inl lt) = or_left (nat_lt x y) _ (lt-ltb x y lt)
 before_is (x ∷ xs) (y ∷ ys) (inr b) =
-    ap (λ (c : Bool). c || (x == y && is_before xs ys)) (le-ltb x y (omega (arith, b.0)))
-    ∙ ap (λ (c : Bool). c && is_before xs ys) (eq-eqb x y b.0)
+    ap (λ (c : Bool). c || (x == y && is_before xs ys)) (le-ltb x y (omega arith)) ∙ ap (λ (c : Bool). c && is_before xs ys) (eq-eqb x y b.0)
     ∙ before_is xs ys b.1
 
 -- where all records are before the place of the frame's permanence, all count
@@ -28,9 +18,8 @@ pub all_judge : (hs : List Happening) (t : ℕ) (device : DeviceId) (link : Link
     → AllBefore place_of hs (t ∷ 3 ∷ device.0 ∷ amount point ∷ frame.members.0 ∷ link.0 ∷ cause ∷ [])
     → before_permanence hs device t link cause frame point ≡ hs
 all_judge hs t device link cause frame point all =
-    let here = t ∷ 3 ∷ device.0 ∷ amount point ∷ frame.members.0 ∷ link.0 ∷ cause ∷ [] in
     all_kept (λ h. is_before (place_of h) (t ∷ 3 ∷ device.0 ∷ amount point ∷ frame.members.0 ∷ link.0 ∷ cause ∷ [])) hs
-    (λ h i. before_is (place_of h) here (all h i))
+    (λ h i. before_is (place_of h) (t ∷ 3 ∷ device.0 ∷ amount point ∷ frame.members.0 ∷ link.0 ∷ cause ∷ []) (all h i))
 
 -- a filter that keeps all earlier records
 earlier_kept : (t : ℕ) (q : Happening → Bool) (hs : List Happening) → ((h : Happening) → nat_lt (time_of h) t ≡ true → q h ≡ true)

@@ -1,32 +1,11 @@
 -- The records of a view with those before them, and the correction points that they come of.
-use Rattle.std.proofs.Common.{◌≡◌, ◌⊎◌, ℕ, ◌+◌, ◌<◌, ◌≤◌, Bool, true, false, List, [], ◌∷◌, ◌++◌, filter, Option, Some, None, inl, inr, refl, sym, ap, subst, ◌∙◌, arith, ℤ, pos, ◌+ℤ◌, ◌<ℤ◌, ◌-ℤ◌}
-use Rattle.std.proofs.lemmas.Bool.{le-ltb}
-use Rattle.std.proofs.lemmas.List.{append-nil}
-use Rattle.std.proofs.lemmas.List.Elements.{filter-append}
-use Rattle.std.specs.List.{last_or}
-use Rattle.std.specs.Option.{option_map_or}
-use Rattle.std.specs.Prelude.{nat_lt, if◌then◌else◌}
-use Rattle.drift_clock.specs.Reach.{IsReach}
-use Rattle.net_plan.specs.declared.ids.DeviceId.{DeviceId}
+use Rattle.precision_law.proofs.words.Std.{◌++◌, ◌+ℤ◌, ◌+◌, ◌-ℤ◌, ◌<ℤ◌, ◌<◌, ◌∙◌, ◌∷◌, ◌≡◌, ◌≤◌, ◌⊎◌, Bool, List, None, Option, Some, [], ap, append-nil, arith, false, filter, filter-append, if◌then◌else◌, inl, inr, last_or, le-ltb, nat_lt, option_map_or, pos, refl, subst, sym, true, ℕ, ℤ}
+use Rattle.precision_law.proofs.words.Plans.{DeviceId, Integrating, IsReach, Off, State, Units, Verdict, point_in}
+use Rattle.precision_law.proofs.words.Runs.{ComesToCorrection, Happening, IsFoundedAt, IsIn, Reaches, adjustment_after, adjustment_before, changed_at, changes_adjustment, earlier, in_filter, is_turned_on_at, none_kept, state_after, state_before, time_of}
+use Rattle.precision_law.proofs.words.Laws.{AreBeforeCorrections, IsView, View, has_time, last_setting, state_left}
 use Rattle.precision_law.proofs.records.Cutting.{of_earlier}
 use Rattle.precision_law.proofs.records.Times.{AreSorted, in_earlier, passes}
 use Rattle.precision_law.proofs.records.Views.{in_order}
-use Rattle.precision_law.specs.BlockLaws.{AreBeforeCorrections}
-use Rattle.precision_law.specs.Blocks.{state_left}
-use Rattle.precision_law.specs.Epochs.{has_time, last_setting}
-use Rattle.precision_law.specs.Views.{IsView, View}
-use Rattle.run_law.proofs.law.FirstPlaces.{IsFoundedAt, in_filter, none_kept}
-use Rattle.run_law.specs.control.Corrections.{ComesToCorrection}
-use Rattle.run_law.specs.device.LocalClocks.{Reaches, changed_at, changes_adjustment}
-use Rattle.run_law.specs.device.States.{adjustment_after, adjustment_before, state_after, state_before}
-use Rattle.run_law.specs.records.Happenings.{Happening, earlier, time_of}
-use Rattle.run_law.specs.records.Order.{IsIn}
-use Rattle.run_law.specs.scenario.Scenarios.{is_turned_on_at}
-use Rattle.sync_state.specs.Standing.{point_in}
-use Rattle.sync_state.specs.declared.answers.Verdict.{Verdict}
-use Rattle.sync_state.specs.declared.state.State.TheVariants.{Off, Integrating, Joining, Synchronised}
-use Rattle.sync_state.specs.declared.state.State.{State}
-use Rattle.tte_units.specs.declared.units.Units.{Units}
 
 -- ---- records with those before them
 
@@ -55,12 +34,7 @@ sorted_parts (p ∷ ps) qs x order =
 pub before_of : (v : View) (h : Happening) → IsView v → (at : IsFoundedAt v.scenario v.records h) → AreBeforeCorrections v (time_of h) at.front
 before_of v h is at =
     let parts = sorted_parts at.front at.rest h (subst AreSorted at.whole (in_order v is)) in
-    record {
-      rest = h ∷ at.rest;
-      whole = at.whole;
-      later = λ g i. elim i [ inl same ↦ (rw same (omega arith)) | inr more ↦ parts.1 g more ];
-      only = parts.0;
-    }
+    record { rest = h ∷ at.rest; whole = at.whole; later = λ g i. elim i [ inl same ↦ (rw same (omega arith)) | inr more ↦ parts.1 g more ]; only = parts.0 }
 
 -- they have all earlier records
 pub earlier_before : (v : View) (t : ℕ) (front : List Happening) → AreBeforeCorrections v t front → earlier t front ≡ earlier t v.records
@@ -75,15 +49,13 @@ earlier_before v t front split =
 pub point_has_time : (state : State) (n cycle : ℕ) → point_in state n ≡ Some cycle → has_time state ≡ true
 point_has_time Off n cycle e = absurd cc
 point_has_time Integrating n cycle e = absurd cc
-point_has_time Joining n cycle e = refl
-point_has_time Synchronised n cycle e = refl
+point_has_time state n cycle e = refl
 
 -- and the point is that of the number
 pub point_is : (state : State) (n cycle : ℕ) → point_in state n ≡ Some cycle → cycle ≡ n
 point_is Off n cycle e = absurd cc
 point_is Integrating n cycle e = absurd cc
-point_is Joining n cycle e = cc
-point_is Synchronised n cycle e = cc
+point_is state n cycle e = cc
 
 -- a device that is not just turned on has the state that the records leave
 not_turned_on : (b : Bool) (state : State) → has_time (if b then Integrating else state) ≡ true → has_time state ≡ true
@@ -94,9 +66,8 @@ not_turned_on false state e = e
 pub left_with_time : (v : View) (device : DeviceId) (t : ℕ) (front : List Happening) → AreBeforeCorrections v t front
     → has_time (state_before v.scenario front device t) ≡ true → has_time (state_left v device t) ≡ true
 left_with_time v device t front split e =
-    let same = earlier_before v t front split in
     let here = not_turned_on (is_turned_on_at v.scenario device t) (state_after v.scenario (earlier t front) device) e in
-    subst (λ (hs : List Happening). has_time (state_after v.scenario hs device) ≡ true) same here
+    subst (λ (hs : List Happening). has_time (state_after v.scenario hs device) ≡ true) (earlier_before v t front split) here
 
 -- so does one that comes to a correction point
 pub point_timed : (v : View) (t : ℕ) (device : DeviceId) (cycle : ℕ) (verdict : Verdict) (front : List Happening) → AreBeforeCorrections v t front
@@ -142,11 +113,8 @@ setting_is v device t h e =
 pub reaches_whole : (v : View) (device : DeviceId) (value : ℤ) (t : ℕ) (front : List Happening) → AreBeforeCorrections v t front
     → Reaches v.scenario front device value t → Reaches v.scenario v.records device value t
 reaches_whole v device value t front split reaches =
-    let same = earlier_before v t front split in
-    let time : changed_at front device t ≡ changed_at v.records device t = ap (λ (hs : List Happening). option_map_or time_of (last_setting hs device) 0) same
-    in
-    let left : (adjustment_before v.scenario front device t).0 ≡ (adjustment_before v.scenario v.records device t).0 = ap (λ (a : Units). a.0)
-    (same_adjustment v device t front split) in
+    let time = ap (λ (hs : List Happening). option_map_or time_of (last_setting hs device) 0) (earlier_before v t front split) in
+    let left = ap (λ (a : Units). a.0) (same_adjustment v device t front split) in
     record {
       below =
           subst (λ (x : ℕ). (pos (v.scenario.reading device x) +ℤ (adjustment_before v.scenario v.records device t).0) <ℤ value) time

@@ -1,50 +1,12 @@
 -- The correction points of good devices are recorded.
-use Rattle.std.proofs.Common.{◌≡◌, ℕ, ◌+◌, ◌<◌, ◌≤◌, pos, ◌+ℤ◌, Bool, true, false, List, [], ◌∷◌, ◌++◌, filter, length, Option, Some, None, inl, inr, refl, sym, ap, subst, ◌∙◌, arith}
-use Rattle.std.proofs.lemmas.Bool.{cases_lt, le-ltb}
-use Rattle.std.proofs.lemmas.Int.{ints}
-use Rattle.std.proofs.lemmas.List.{append-nil, append_assoc}
-use Rattle.std.proofs.lemmas.List.Elements.{filter-append, filter_map-append}
-use Rattle.std.specs.List.{after_last, cons_option, filter_map}
-use Rattle.std.specs.Prelude.{◌&&◌, ◌||◌, if◌then◌else◌, nat_lt, not}
-use Rattle.membership.specs.Hearing.{Hearing}
-use Rattle.membership.specs.Summary.{Summary, Summarizes}
-use Rattle.net_plan.specs.declared.ids.DeviceId.{DeviceId}
-use Rattle.precision_law.proofs.faults.Masters.{good_is_correct}
-use Rattle.precision_law.proofs.hearing.Heard.{cleared_by, same_cleared, same_next}
-use Rattle.precision_law.proofs.records.Behind.{PartsAtLast, after_last_at, after_last_none, all_of, none, parts_at_last, some}
-use Rattle.precision_law.proofs.records.PlacedFronts.{reaches_front}
-use Rattle.precision_law.proofs.records.Points.{earlier_before}
-use Rattle.precision_law.proofs.records.Times.{same_kept}
-use Rattle.precision_law.proofs.verdict.Verdicts.{summary_of, verdict_of}
-use Rattle.precision_law.specs.BlockLaws.{AreBeforeCorrections, IsPointRecord, NoneTurnsOn, PointsAreRecorded}
-use Rattle.precision_law.specs.Blocks.{HasTimeAt}
-use Rattle.precision_law.specs.Epochs.{has_time}
-use Rattle.precision_law.specs.Views.{IsView, View}
-use Rattle.run_law.proofs.law.FirstPlaces.{IsSplit, due_is_there, front_founded, in_filter, split}
-use Rattle.run_law.proofs.runs.Places.{chain, in_parts, in_right}
-use Rattle.run_law.specs.control.Corrections.{ComesToCorrection, correction_value, has_cleared, heard_since, hearing_by, integration_cycle, next_cycle, recorded_cycle, standing_before}
+use Rattle.precision_law.proofs.words.Std.{◌&&◌, ◌++◌, ◌+ℤ◌, ◌+◌, ◌<◌, ◌||◌, ◌∙◌, ◌∷◌, ◌≡◌, ◌≤◌, Bool, List, None, Option, Some, [], after_last, ap, append-nil, append_assoc, arith, cons_option, false, filter, filter-append, filter_map, filter_map-append, if◌then◌else◌, inl, inr, ints, le-ltb, length, nat_lt, not, pos, refl, subst, sym, true, ℕ}
+use Rattle.precision_law.proofs.words.Plans.{AsyncClique, Corrected, DeviceId, HasVerdict, Hearing, Integrating, IsAtIntegration, Off, Standing, State, Summarizes, Summary, SyncClique, Units, Verdict, point_in}
+use Rattle.precision_law.proofs.words.Runs.{ChangesState, ComesToCorrection, Happening, IsBefore, IsDue, IsFounded, IsIn, IsSplit, Note, NoteBody, Reaches, Why, adjustment_after, adjustment_before, chain, changes_adjustment, correction_value, due_is_there, earlier, front_founded, happening, has_cleared, heard_since, hearing_by, in_filter, in_parts, in_right, integration_cycle, is_turned_on_at, next_cycle, place_of, plan_of, rank, recorded_cycle, split, standing_before, state_after, time_of}
+use Rattle.precision_law.proofs.words.Laws.{AreBeforeCorrections, HasTimeAt, IsPointRecord, IsView, NoneTurnsOn, PointsAreRecorded, View, has_time}
+use Rattle.precision_law.proofs.words.Clocks.{PartsAtLast, after_last_at, after_last_none, all_of, before_place, cleared_by, earlier_before, good_is_correct, none, parts_at_last, reaches_front, same_cleared, same_kept, same_next, some}
 use Rattle.run_law.specs.declared.judgement.Why.TheVariants as whys
-use Rattle.run_law.specs.declared.judgement.Why.{Why}
-use Rattle.run_law.specs.declared.note.Note.{Note}
 use Rattle.run_law.specs.declared.note.NoteBody.TheVariants as notes
-use Rattle.run_law.specs.declared.note.NoteBody.{NoteBody}
-use Rattle.run_law.specs.device.LocalClocks.{Reaches, changes_adjustment}
-use Rattle.run_law.specs.device.StateChanges.{ChangesState}
-use Rattle.run_law.specs.device.States.{adjustment_after, adjustment_before, state_after}
-use Rattle.run_law.specs.records.Happenings.{Happening, earlier, happening, time_of}
-use Rattle.run_law.specs.records.Order.{IsBefore, IsIn}
-use Rattle.run_law.specs.records.Ranks.{key, members_in, place_of, rank}
-use Rattle.run_law.specs.runs.DueRecords.{IsDue}
-use Rattle.run_law.specs.runs.Runs.{IsFounded}
-use Rattle.run_law.specs.scenario.Devices.{plan_of}
-use Rattle.run_law.specs.scenario.Scenarios.{is_turned_on_at}
-use Rattle.sync_state.specs.Standing.{IsAtIntegration, Standing, point_in}
-use Rattle.sync_state.specs.Verdicts.{HasVerdict}
-use Rattle.sync_state.specs.declared.answers.Verdict.TheVariants.{Corrected, SyncClique, AsyncClique}
-use Rattle.sync_state.specs.declared.answers.Verdict.{Verdict}
-use Rattle.sync_state.specs.declared.state.State.TheVariants.{Off, Integrating, Joining, Synchronised}
-use Rattle.sync_state.specs.declared.state.State.{State}
-use Rattle.tte_units.specs.declared.units.Units.{Units}
+use Rattle.precision_law.proofs.verdict.Verdicts.{summary_of, verdict_of}
 
 -- ---- lists
 
@@ -92,11 +54,9 @@ heard_more v device u front mid cleared cleared_at at high =
     let f = λ (h : Happening). hearing_by s.network device h h.note.body in
     let late = λ (h : Happening). not (has_cleared s front device u u) || has_cleared s front device u (time_of h) in
     let late_more = λ (h : Happening). not (has_cleared s (front ++ mid) device u u) || has_cleared s (front ++ mid) device u (time_of h) in
-    let since : after_last set (front ++ mid) ≡ after_last set front
-    ++ mid = after_more set front mid
+    let since = after_more set front mid
     (λ m i. ap (λ (b : Bool). b && changes_adjustment device m.note.body) (le-ltb (time_of m) u (let e = at m i in omega (arith, e)))) in
-    let quiet : filter_map f (filter late mid) ≡ [] = makes_none f (filter late mid)
-    (λ m i. (let back = in_filter late mid m i in high_quiet v device u m m.note.body (at m back) (high m back))) in
+    let quiet = makes_none f (filter late mid) (λ m i. (let back = in_filter late mid m i in high_quiet v device u m m.note.body (at m back) (high m back))) in
     ap (λ (hs : List Happening). filter_map f (filter late_more hs)) since
     ∙ ap (filter_map f)
     (same_kept late_more late (after_last set front ++ mid) (λ h i. ap (λ (b : Bool). not b || has_cleared s (front ++ mid) device u (time_of h)) cleared
@@ -111,21 +71,7 @@ heard_more v device u front mid cleared cleared_at at high =
 point_of_timed : (state : State) (n : ℕ) → has_time state ≡ true → point_in state n ≡ Some n
 point_of_timed Off n e = absurd cc
 point_of_timed Integrating n e = absurd cc
-point_of_timed Joining n e = refl
-point_of_timed Synchronised n e = refl
-
--- a part of the records that ends at a place of the time is before corrections
-split_before : (v : View) (u : ℕ) (more : List ℕ) (at : IsSplit place_of v.records (u ∷ more)) → AreBeforeCorrections v u at.front
-split_before v u more at = record {
-  rest = at.rest;
-  whole = at.whole;
-  later = λ h i. elim (cases_lt (time_of h) u) [ inl lt ↦ absurd (at.none h i (inl lt)) | inr ge ↦ ge ];
-  only = λ h i. at_most (time_of h) u (rank h.note.body ∷ key (members_in h) h.note.body) more (at.before h i);
-}
-  where
-    at_most : (t u : ℕ) (xs ys : List ℕ) → IsBefore (t ∷ xs) (u ∷ ys) → t ≤ u
-    at_most t u xs ys (inl lt) = omega (arith, lt)
-    at_most t u xs ys (inr both) = (let e = both.0 in omega (arith, e))
+point_of_timed state n e = refl
 
 -- the point comes, given such a part
 comes_given : (v : View) (device : DeviceId) (u : ℕ) (front : List Happening) (summary : Summary) (verdict : Verdict) → IsView v → NoneTurnsOn → u ≤ v.until
@@ -135,11 +81,8 @@ comes_given : (v : View) (device : DeviceId) (u : ℕ) (front : List Happening) 
     → ComesToCorrection v.scenario front device u (next_cycle v.scenario v.records device u) verdict
 comes_given v device u front summary verdict is steady_on le timed before reaches heard has =
     let s = v.scenario in
-    let same = earlier_before v u front before in
-    let off = steady_on v device u is timed in
-    let state : has_time (if is_turned_on_at s device u then Integrating else state_after s (earlier u front) device) ≡ true =
-    ap (λ (b : Bool). has_time (if b then Integrating else state_after s (earlier u front) device)) off
-    ∙ ap (λ (hs : List Happening). has_time (state_after s hs device)) same ∙ timed.timed in
+    let state = ap (λ (b : Bool). has_time (if b then Integrating else state_after s (earlier u front) device)) (steady_on v device u is timed) ∙ ap
+    (λ (hs : List Happening). has_time (state_after s hs device)) (earlier_before v u front before) ∙ timed.timed in
     record {
       next =
           point_of_timed (if is_turned_on_at s device u then Integrating else state_after s (earlier u front) device) (next_cycle s front device u) state
@@ -186,10 +129,9 @@ record HasParts (v : View) (device : DeviceId) (u : ℕ) : Type 0 where
 
 parts_of : (v : View) (device : DeviceId) (u : ℕ) → IsView v → HasParts v device u
 parts_of v device u is =
-    let s = v.scenario in
-    let seven = split place_of (IsDue s) v.records (u ∷ 7 ∷ device.0 ∷ 0 ∷ []) is.run.founded in
-    let founded = front_founded place_of (IsDue s) seven.front seven.rest (subst (IsFounded place_of (IsDue s)) seven.whole is.run.founded) in
-    let six = split place_of (IsDue s) seven.front (u ∷ 6 ∷ device.0 ∷ []) founded in
+    let seven = split place_of (IsDue v.scenario) v.records (u ∷ 7 ∷ device.0 ∷ 0 ∷ []) is.run.founded in
+    let founded = front_founded place_of (IsDue v.scenario) seven.front seven.rest (subst (IsFounded place_of (IsDue v.scenario)) seven.whole is.run.founded) in
+    let six = split place_of (IsDue v.scenario) seven.front (u ∷ 6 ∷ device.0 ∷ []) founded in
     record {
       six = record {
         front = six.front;
@@ -217,37 +159,27 @@ corrected_there v device u cycle by at is le comes =
     let x : Happening = happening s.network at.front note in
     let due : IsDue s at.front x = record { number = refl; same = refl; begun = omega (arith, ints); cause = record { corrected = comes; sum = refl } } in (
       x,
-      record {
-        there = due_is_there s ((v.until + 1) ∷ []) v.records x at is.run due (inl (omega (arith, le)));
-        at = refl;
-        says = inl (cycle, by, adjustment, refl);
-      },
+      record { there = due_is_there s ((v.until + 1) ∷ []) v.records x at is.run due (inl (omega arith)); at = refl; says = inl (cycle, by, adjustment, refl) },
     )
 
 -- and that of the loss of the time
 lost_there : (v : View) (device : DeviceId) (u : ℕ) (why : Why) (at : IsSplit place_of v.records (u ∷ 7 ∷ device.0 ∷ 0 ∷ [])) → IsView v → u ≤ v.until
     → ChangesState v.scenario at.front device u Integrating 0 why → (h : Happening) × IsPointRecord v device u h
 lost_there v device u why at is le changes =
-    let s = v.scenario in
     let note : Note = record { number = length at.front + 1; time = record { 0 = pos u }; body = notes.State device Integrating 0 why } in
-    let x : Happening = happening s.network at.front note in
-    let due : IsDue s at.front x = record { number = refl; same = refl; begun = omega (arith, ints); cause = changes } in (
+    let x : Happening = happening v.scenario.network at.front note in
+    let due : IsDue v.scenario at.front x = record { number = refl; same = refl; begun = omega (arith, ints); cause = changes } in (
       x,
-      record {
-        there = due_is_there s ((v.until + 1) ∷ []) v.records x at is.run due (inl (omega (arith, le)));
-        at = refl;
-        says = inr (0, why, refl);
-      },
+      record { there = due_is_there v.scenario ((v.until + 1) ∷ []) v.records x at is.run due (inl (omega (arith, le))); at = refl; says = inr (0, why, refl) },
     )
 
 pub points_are_recorded : NoneTurnsOn → PointsAreRecorded
 points_are_recorded steady_on v device u is le timed reaches never =
     let s = v.scenario in
     let p = parts_of v device u is in
-    let six = split_before v u (6 ∷ device.0 ∷ []) p.six in
-    let seven = split_before v u (7 ∷ device.0 ∷ 0 ∷ []) p.seven in
-    let standing : standing_before s p.seven.front device u ≡ standing_before s p.six.front device u = same_standing v device u p.seven.front seven
-    ∙ sym (same_standing v device u p.six.front six) in
+    let six = before_place v u (6 ∷ device.0 ∷ []) p.six in
+    let seven = before_place v u (7 ∷ device.0 ∷ 0 ∷ []) p.seven in
+    let standing = same_standing v device u p.seven.front seven ∙ sym (same_standing v device u p.six.front six) in
     let cleared : (x : ℕ) → has_cleared s (p.six.front ++ p.mid) device u x ≡ has_cleared s p.six.front device u x = λ x.
     subst (λ (hs : List Happening). has_cleared s hs device u x ≡ has_cleared s p.six.front device u x) p.whole (same_cleared v device u x p.seven.front seven
     ∙ sym (same_cleared v device u x p.six.front six)) in
@@ -263,20 +195,12 @@ points_are_recorded steady_on v device u is le timed reaches never =
           lost_there v device u whys.SyncClique p.seven is le (
             refl,
             refl,
-            (
-              next_cycle s v.records device u,
-              comes_given v device u p.seven.front summary.0 SyncClique is steady_on le timed seven reaches summary.1
-                  sync,
-            ),
+            (next_cycle s v.records device u, comes_given v device u p.seven.front summary.0 SyncClique is steady_on le timed seven reaches summary.1 sync),
           )
       | inr (inr async) ↦
           lost_there v device u whys.AsyncClique p.seven is le (
             refl,
             refl,
-            (
-              next_cycle s v.records device u,
-              comes_given v device u p.seven.front summary.0 AsyncClique is steady_on le timed seven reaches
-                  summary.1 async,
-            ),
+            (next_cycle s v.records device u, comes_given v device u p.seven.front summary.0 AsyncClique is steady_on le timed seven reaches summary.1 async),
           )
     ]

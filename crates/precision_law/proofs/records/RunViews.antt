@@ -1,29 +1,12 @@
 -- The views of a run, and where the dispatches of their cycles lie.
-use Rattle.std.proofs.Common.{◌≡◌, ℕ, zero, suc, ◌+◌, ◌≤◌, ℤ, pos, ◌-ℤ◌, ◌≤ℤ◌, List, filter, Option, Some, None, inl, inr, refl, sym, ap, subst, ◌∙◌, arith}
-use Rattle.std.specs.Prelude.{option_and_then}
-use Rattle.net_plan.specs.Bounds.{IsBeta}
-use Rattle.net_plan.specs.declared.ids.DeviceId.{DeviceId}
-use Rattle.pcf_values.specs.declared.channel.Channel.{Channel}
+use Rattle.precision_law.proofs.words.Std.{◌+◌, ◌-ℤ◌, ◌∙◌, ◌≡◌, ◌≤ℤ◌, ◌≤◌, List, None, Option, Some, ap, arith, filter, inl, inr, option_and_then, pos, refl, subst, suc, sym, zero, ℕ, ℤ}
+use Rattle.precision_law.proofs.words.Plans.{Channel, DeviceId, IsBeta}
+use Rattle.precision_law.proofs.words.Runs.{Happening, IsIn, Note, Scenario, happenings, in_filter, same_some, time_of}
+use Rattle.precision_law.proofs.words.Laws.{AreFromTo, BlocksCover, BlocksGoSo, Hull, IsDispatch, IsDispatchedBy, IsInBlock, IsInHull, IsRunUpTo, IsSound, IsView, LieFromTo, View, hull_of, hull_over, is_dispatch, sizes_of, start_hull}
+use Rattle.precision_law.proofs.words.Clocks.{IsCutAt, cut_at, has_before, never_some, passes, sizes_are, tested, within_run}
 use Rattle.precision_law.proofs.block.Goings.{known_dispatch}
 use Rattle.precision_law.proofs.block.Halving.{ends_of}
-use Rattle.precision_law.proofs.block.Hulls.{has_before, over, tested}
-use Rattle.precision_law.proofs.records.Cutting.{IsCutAt, cut_at}
-use Rattle.precision_law.proofs.records.Points.{within_run}
-use Rattle.precision_law.proofs.records.Times.{passes}
-use Rattle.precision_law.specs.BlockLaws.{BlocksCover, BlocksGoSo}
-use Rattle.precision_law.specs.Blocks.{IsInBlock}
-use Rattle.precision_law.specs.Dispatches.{AreFromTo, IsDispatchedBy, LieFromTo}
-use Rattle.precision_law.specs.Hulls.{Hull, IsInHull, hull_of, hull_over, is_dispatch, start_hull}
-use Rattle.precision_law.specs.Precision.{IsRunUpTo}
-use Rattle.precision_law.specs.Sizes.{Sizes, sizes_of}
-use Rattle.precision_law.specs.Views.{IsDispatch, IsSound, IsView, View}
-use Rattle.run_law.proofs.law.FirstPlaces.{in_filter}
-use Rattle.run_law.proofs.runs.SameSteps.{same_some}
-use Rattle.run_law.specs.declared.note.Note.{Note}
-use Rattle.run_law.specs.records.Happenings.{Happening, happenings, time_of}
-use Rattle.run_law.specs.records.Order.{IsIn}
-use Rattle.run_law.specs.scenario.Scenarios.{Scenario}
-use Rattle.tte_units.specs.Amount.{amount}
+use Rattle.precision_law.proofs.law.Together.{earlier_in_block}
 
 -- ---- views
 
@@ -39,18 +22,7 @@ pub view_with : (s : Scenario) (mark : List ℕ) (ns : List Note) (until t : ℕ
     → IsBeta s.network (pos path) → t ≤ until → IsSound s t channel → IsViewWith s (happenings s.network ns) t channel path
 view_with s mark ns until t channel path up beta le sound =
     let cut = cut_at s mark (happenings s.network ns) until t up.run up.covers le in
-    let short = up.short in
-    record {
-      cut = cut;
-      is = record {
-        lawful = up.lawful;
-        run = cut.run;
-        short = omega (arith, short, le);
-        beta = beta;
-        sizes = refl;
-        sound = sound;
-      };
-    }
+    record { cut = cut; is = record { lawful = up.lawful; run = cut.run; short = omega (arith, up.short, le); beta = beta; sizes = refl; sound = sound } }
 
 -- ---- dispatches
 
@@ -59,13 +31,9 @@ pub all_in_hulls : BlocksCover → BlocksGoSo → (v : View) → IsView v → (h
     → IsInHull v cycle (time_of h)
 all_in_hulls cover goes v is h device cycle dispatch =
     let found = cover v v.until is (omega arith) in
-    let n = found.0 in
-    let block = found.1 in
-    let to = block.to in
-    (known_dispatch v n (v.until + 1) block.before
-    (λ u from lt. goes v n u
-    (record { before = block.before; next = block.next; is_over = block.is_over; from = from; to = omega (arith, lt, to); in_run = omega (arith, lt) }) is)
-    h device cycle dispatch (let in_run = within_run v is h dispatch.there in omega (arith, in_run))).1
+    (known_dispatch v found.0 (v.until + 1) found.1.before
+    (λ u from lt. goes v found.0 u (earlier_in_block _ _ _ _ found.1 from (omega arith)) is) h device cycle dispatch
+    (let in_run = within_run v is h dispatch.there in omega (arith, in_run))).1
 
 -- the hull of a cycle is from its first to its last dispatch
 pub hull_lies : BlocksCover → BlocksGoSo → (v : View) → IsView v → (cycle : ℕ) (hull : Hull) → hull_of v (suc cycle) ≡ Some hull
@@ -73,9 +41,8 @@ pub hull_lies : BlocksCover → BlocksGoSo → (v : View) → IsView v → (cycl
 hull_lies cover goes v is cycle hull at =
     let has = has_before v cycle hull (within_run v is) at in
     let test = λ (g : Happening). is_dispatch v has.before (suc cycle) g g.note.body in
-    let over_is : over None (filter test v.records) ≡ Some hull = subst
-    (λ (o : Option Hull). option_and_then (λ w. hull_over (filter (λ h. is_dispatch v w (suc cycle) h h.note.body) v.records)) o ≡ Some hull)
-    has.is_before at in
+    let over_is = subst (λ (o : Option Hull). option_and_then (λ w. hull_over (filter (λ h. is_dispatch v w (suc cycle) h h.note.body) v.records)) o
+    ≡ Some hull) has.is_before at in
     let ends = ends_of None (filter test v.records) hull over_is in
     let dispatched : (h : Happening) → IsIn h (filter test v.records) → IsDispatchedBy v.scenario v.records v.until (suc cycle) h = λ h i.
     (let t = tested v has.before (suc cycle) h h.note.body (passes test v.records h i) in
@@ -99,17 +66,13 @@ hull_lies cover goes v is cycle hull at =
         }
       ]
     ]
-  where
-    never_some : (w : Hull) → None ≡ Some w → ⊥
-    never_some w e = cc
 
 -- so that of any cycle
 pub hull_is_from_to : BlocksCover → BlocksGoSo → (v : View) → IsView v → (cycle : ℕ) (hull : Hull) → hull_of v cycle ≡ Some hull
     → AreFromTo v.scenario v.records v.until cycle hull.least hull.greatest
 hull_is_from_to cover goes v is zero hull at =
     let same : start_hull v.sizes ≡ hull = same_some (hull_of v zero) (start_hull v.sizes) hull refl at in
-    let settled : v.sizes.settled ≡ amount v.scenario.network.settled = ap (λ (x : Sizes). x.settled) is.sizes in
-    (ap (λ (w : Hull). w.least) (sym same) ∙ ap (λ (x : ℕ). pos 0 -ℤ pos x) settled, ap (λ (w : Hull). w.greatest) (sym same))
+    (ap (λ (w : Hull). w.least) (sym same) ∙ ap (λ (x : ℕ). pos 0 -ℤ pos x) (sizes_are v is).settled, ap (λ (w : Hull). w.greatest) (sym same))
 hull_is_from_to cover goes v is (suc c) hull at = hull_lies cover goes v is c hull at
 
 -- ---- the records up to a time

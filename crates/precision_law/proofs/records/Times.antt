@@ -1,16 +1,7 @@
 -- The records of a run in the order of their times.
-use Rattle.std.proofs.Common.{◌≡◌, ℕ, ◌<◌, ◌≤◌, Bool, true, false, List, [], ◌∷◌, ◌++◌, filter, Option, Some, inl, inr, refl, sym, ap, subst, ◌∙◌, arith}
-use Rattle.std.proofs.lemmas.Bool.{cases_lt, le-ltb, lt-ltb, ltb-true}
-use Rattle.std.specs.List.{last_or}
-use Rattle.std.specs.Prelude.{nat_lt, not, if◌then◌else◌}
-use Rattle.run_law.proofs.law.FirstPlaces.{in_filter, none_kept}
-use Rattle.run_law.proofs.runs.Lacking.{behind_first}
-use Rattle.run_law.specs.records.Happenings.{Happening, earlier, time_of}
-use Rattle.run_law.specs.records.Order.{IsBefore, IsIn}
-use Rattle.run_law.specs.records.Ranks.{key, members_in, place_of, rank}
-use Rattle.run_law.specs.runs.DueRecords.{IsDue}
-use Rattle.run_law.specs.runs.Runs.{IsFounded}
-use Rattle.run_law.specs.scenario.Scenarios.{Scenario}
+use Rattle.precision_law.proofs.words.Std.{◌++◌, ◌<◌, ◌∙◌, ◌∷◌, ◌≡◌, ◌≤◌, Bool, List, Option, Some, [], ap, append_assoc, arith, cases_lt, false, filter, if◌then◌else◌, inl, inr, last_or, le-ltb, lt-ltb, ltb-true, nat_lt, not, refl, subst, sym, true, ℕ}
+use Rattle.precision_law.proofs.words.Runs.{Happening, IsDue, IsFounded, IsIn, Scenario, behind_first, earlier, in_filter, key, members_in, none_kept, place_of, rank, time_of}
+use Rattle.precision_law.proofs.Plain.{no_later}
 
 -- ---- order
 
@@ -19,23 +10,14 @@ abbrev pub AreSorted : List Happening → Type 0
 AreSorted [] = Unit {0}
 AreSorted (h ∷ hs) = ((g : Happening) → IsIn g hs → time_of h ≤ time_of g) × AreSorted hs
 
--- a place that is before another is of no later time
-no_later : (t u : ℕ) (xs ys : List ℕ) → IsBefore (t ∷ xs) (u ∷ ys) → t ≤ u
-no_later t u xs ys (inl lt) = omega arith
-no_later t u xs ys (inr both) = omega (arith, both.0)
-
 -- what is founded behind some records is sorted
 sorted_behind : (s : Scenario) (ps qs : List Happening) → IsFounded place_of (IsDue s) (ps ++ qs) → AreSorted qs
 sorted_behind s ps [] founded = tt
 sorted_behind s ps (q ∷ qs) founded = (
   λ g i. no_later (time_of q) (time_of g) (rank q.note.body ∷ key (members_in q) q.note.body) (rank g.note.body ∷ key (members_in g) g.note.body)
       (behind_first place_of (IsDue s) ps qs q g founded i),
-  sorted_behind s (ps ++ q ∷ []) qs (subst (IsFounded place_of (IsDue s)) (sym (moved ps q qs)) founded),
+  sorted_behind s (ps ++ q ∷ []) qs (subst (IsFounded place_of (IsDue s)) (sym (append_assoc ps (q ∷ []) qs)) founded),
 )
-  where
-    moved : (ps : List Happening) (q : Happening) (qs : List Happening) → (ps ++ q ∷ []) ++ qs ≡ ps ++ q ∷ qs
-    moved [] q qs = refl
-    moved (p ∷ ps) q qs = ap (λ (t : List Happening). p ∷ t) (moved ps q qs)
 
 -- the records of a run are
 pub sorted : (s : Scenario) (hs : List Happening) → IsFounded place_of (IsDue s) hs → AreSorted hs
@@ -100,9 +82,7 @@ in_between u t hs h i =
     )
 
 pub is_between : (u t : ℕ) (hs : List Happening) (h : Happening) → IsIn h hs → u ≤ time_of h → time_of h < t → IsIn h (between u t hs)
-is_between u t hs h i late early =
-    let e = le-ltb (time_of h) u late in
-    in_kept (λ x. not (nat_lt (time_of x) u)) (earlier t hs) h (is_earlier t hs h i early) (rw e refl)
+is_between u t hs h i late early = in_kept (λ x. not (nat_lt (time_of x) u)) (earlier t hs) h (is_earlier t hs h i early) (rw (le-ltb (time_of h) u late) refl)
 
 -- where the first record is not before u, none is
 none_earlier : (u : ℕ) (h : Happening) (hs : List Happening) → AreSorted (h ∷ hs) → u ≤ time_of h → earlier u (h ∷ hs) ≡ []
@@ -116,16 +96,11 @@ pub earlier_parts : (u t : ℕ) (hs : List Happening) → AreSorted hs → u ≤
 earlier_parts u t [] order le = refl
 earlier_parts u t (h ∷ hs) order le =
     elim (cases_lt (time_of h) u) [
-      | inl lt ↦
-          let a : nat_lt (time_of h) u ≡ true = lt-ltb (time_of h) u lt in
-          let b : nat_lt (time_of h) t ≡ true = lt-ltb (time_of h) t (omega arith) in
-          let more = earlier_parts u t hs order.1 le in
-          rw (b, a) (ap (λ (gs : List Happening). h ∷ gs) more)
+      | inl lt ↦ rw (lt-ltb (time_of h) t (omega arith), lt-ltb (time_of h) u lt) (ap (λ (gs : List Happening). h ∷ gs) (earlier_parts u t hs order.1 le))
       | inr ge ↦
           let none = none_earlier u h hs order ge in
           let all : between u t (h ∷ hs) ≡ earlier t (h ∷ hs) = all_kept (λ x. not (nat_lt (time_of x) u)) (earlier t (h ∷ hs)) (λ x i.
-          let there = in_earlier t (h ∷ hs) x i in
-          let late : nat_lt (time_of x) u ≡ false = elim there.0 [
+          let late : nat_lt (time_of x) u ≡ false = elim (in_earlier t (h ∷ hs) x i).0 [
             | inl same ↦ rw same (le-ltb (time_of h) u ge)
             | inr more ↦ (let up = order.0 x more in le-ltb (time_of x) u (omega arith))
           ] in rw late refl) in

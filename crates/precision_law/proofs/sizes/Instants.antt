@@ -1,48 +1,37 @@
 -- The order of the instants of a cycle.
-use Rattle.std.proofs.Common.{ℕ, ◌+◌, ◌*◌, ◌^◌, ◌≤◌, inl, inr, arith}
-use Rattle.std.proofs.Math.Nat.{mul-le-mul_left, mul-le-mul_right}
-use Rattle.std.proofs.lemmas.Bool.{cases_lt}
-use Rattle.std.proofs.lemmas.Int.{ints}
-use Rattle.precision_law.specs.Instants.{CorrectionsComeFirst, CyclesAreFew, DispatchesComeLater, FramesComeFirst, HullsGoOn, InstantsAreInOrder, SetClocksShowCorrection, SetClocksStayAtCorrection}
+use Rattle.precision_law.proofs.words.Std.{◌*◌, ◌+◌, ◌^◌, ◌≤◌, arith, cases_lt, inl, inr, ints, mul-le-mul_left, mul-le-mul_right, ℕ}
+use Rattle.precision_law.proofs.words.Laws.{CorrectionsComeFirst, CyclesAreFew, DispatchesComeLater, FramesComeFirst, HullsGoOn, InstantsAreInOrder, SetClocksShowCorrection, SetClocksStayAtCorrection}
 
 pub corrections_come_first : CorrectionsComeFirst
-corrections_come_first n before hull room narrow follows =
-    omega (arith, ints, narrow, follows.least, follows.most, room.cycles, room.eight_errors, room.errors.reach_is)
+corrections_come_first n before hull room narrow follows = omega (arith, ints, narrow, follows, room)
 
 pub dispatches_come_later : DispatchesComeLater
-dispatches_come_later n room = omega (arith, ints, room.many_errors, room.many_starts, room.errors.reach_is, room.errors.clock_is)
+dispatches_come_later n room = omega (arith, ints, room)
 
 pub frames_come_first : FramesComeFirst
-frames_come_first n before room narrow =
-    omega (arith, ints, narrow, room.corrections, room.eight_errors, room.errors.reach_is, room.errors.clock_is, room.errors.base_is)
+frames_come_first n before room narrow = omega (arith, ints, narrow, room)
 
 pub instants_are_in_order : InstantsAreInOrder
 instants_are_in_order n before hull room narrow follows = record {
-  corrections = omega (arith, ints, narrow, follows.least, follows.most, follows.ordered, room.eight_errors);
-  two_cycles = omega (arith, ints, narrow, room.eight_errors, room.cycles);
+  corrections = omega (arith, ints, narrow, follows, room.eight_errors);
+  two_cycles = omega (arith, ints, narrow, room);
   last_not_early = omega (arith, ints, follows.most);
   last_not_late = omega (arith, ints, narrow, follows.least);
   near = omega (arith, ints, narrow, follows.most);
   first_not_early = omega (arith, ints, narrow, follows.most);
   next_later = omega (arith, ints, follows.least, room.many_errors);
-  hulls = omega (arith, ints, narrow, follows.least, room.eight_errors, room.cycles);
+  hulls = omega (arith, ints, narrow, follows.least, room);
 }
 
 pub set_clocks_show_correction : SetClocksShowCorrection
 set_clocks_show_correction n shown cycle t before hull room narrow follows at shows =
     let order = instants_are_in_order n before hull room narrow follows in
-    record {
-      least = omega (arith, ints, at, order.last_not_early, shows.least, room.errors.reach_is);
-      most = omega (arith, ints, at, order.last_not_late, shows.most, room.errors.reach_is, room.eight_errors);
-    }
+    record { least = omega (arith, ints); most = omega (arith, ints) }
 
 pub set_clocks_stay_at_correction : SetClocksStayAtCorrection
 set_clocks_stay_at_correction n shown cycle t before hull room narrow follows from to shows =
     let order = instants_are_in_order n before hull room narrow follows in
-    record {
-      least = omega (arith, ints, from, order.first_not_early, shows.least, room.errors.reach_is, room.eight_errors);
-      most = omega (arith, ints, to, order.last_not_late, shows.most, room.errors.reach_is, room.eight_errors);
-    }
+    record { least = omega (arith, ints); most = omega (arith, ints) }
 
 pub hulls_go_on : HullsGoOn
 hulls_go_on n cycle before hull not_before follows = omega (arith, ints, not_before, follows.least)
@@ -61,5 +50,4 @@ few cycle length reach settled until errors starts some short late =
 
 pub cycles_are_few : CyclesAreFew
 cycles_are_few n cycle until hull room not_before early short =
-    few cycle n.cycle n.reach n.settled until room.many_errors room.many_starts (omega (arith, room.many_errors, room.errors.reach_is, room.errors.clock_is))
-    short (omega (arith, ints, not_before, early))
+    few cycle n.cycle n.reach n.settled until room.many_errors room.many_starts (omega (arith, room)) short (omega (arith, ints, not_before, early))

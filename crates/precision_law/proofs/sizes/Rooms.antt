@@ -1,26 +1,16 @@
 -- The sizes of an accepted network leave room.
-use Rattle.std.proofs.Common.{◌≡◌, ℕ, suc, ◌+◌, ◌*◌, ◌≤◌, Bool, true, false, List, [], ◌∷◌, length, Some, slice_get, refl, arith, filter}
-use Rattle.std.specs.Prelude.{if◌then◌else◌}
-use Rattle.net_plan.proofs.Trees.{closed, opened}
-use Rattle.net_plan.specs.Places.{is_end_system, is_master, link_at, IsEndSystem, IsSwitchOf}
-use Rattle.net_plan.specs.declared.network.Network.{Network}
-use Rattle.net_plan.specs.declared.tables.Device.{Device}
-use Rattle.net_plan.specs.declared.tables.Link.{Link}
-use Rattle.pcf_values.specs.declared.channel.Channel.TheVariants.{A}
-use Rattle.precision_law.proofs.faults.Masters.{master_ends}
-use Rattle.precision_law.specs.Sizes.{HaveRoom, sizes_of}
-use Rattle.schedule_tables.proofs.EntryLemmas.{all_at}
-use Rattle.schedule_tables.specs.Delays.{pcf_port_time}
-use Rattle.schedule_tables.specs.Margins.{HasMargins}
+use Rattle.precision_law.proofs.words.Std.{◌*◌, ◌+◌, ◌∷◌, ◌≡◌, ◌≤◌, Bool, List, Some, [], arith, false, filter, if◌then◌else◌, length, refl, slice_get, suc, true, ℕ}
+use Rattle.precision_law.proofs.words.Plans.{A, Connections, Device, HasMargins, IsSwitchOf, Link, Masters, Network, all_at, amount, closed, is_end_system, is_master, link_at, opened, pcf_port_time}
+use Rattle.precision_law.proofs.words.Laws.{HaveRoom, sizes_of}
 use Rattle.schedule_tables.specs.Rules.{KeepsRules}
-use Rattle.schedule_tables.specs.declared.rule.Rule.TheVariants.{Connections, Masters}
-use Rattle.tte_units.specs.Amount.{amount}
+use Rattle.precision_law.proofs.faults.Masters.{master_ends}
 
 -- an element that a filter keeps
 kept : {X : Type 0} (p : X → Bool) (xs : List X) → 1 ≤ length (filter p xs) → (i : ℕ) × (x : X) × (slice_get xs i ≡ Some x) × (p x ≡ true)
 kept p [] h = absurd (omega arith)
 kept p (x ∷ xs) h =
-    elim (p x) as (λ b. p x ≡ b → 1 ≤ length (if b then x ∷ filter p xs else filter p xs) → (i : ℕ) × (y : _) × (slice_get (x ∷ xs) i ≡ Some y) × (p y ≡ true)) [
+    elim (p x) as (λ b. p x ≡ b → 1 ≤ length (if b then x ∷ filter p xs else filter p xs) → (i : ℕ) × (y : _) × (slice_get (x ∷ xs) i ≡ Some y) × (p y
+    ≡ true)) [
       | true ↦ λ e g. (0, x, refl, e)
       | false ↦ λ e g. let r = kept p xs g in (suc r.0, r.1, r.2, r.3)
     ] refl h
@@ -28,10 +18,8 @@ kept p (x ∷ xs) h =
 -- some device is a master, so there is a link
 some_link : (n : Network) → KeepsRules n → (place : ℕ) × (link : Link) × (slice_get n.link place ≡ Some link)
 some_link n keeps =
-    let four = (keeps Masters 0).least refl in
-    let m = kept (λ (d : Device). is_master d.role) n.device (omega (arith, four)) in
-    let end : IsEndSystem n (record { 0 = m.0 }) = closed (λ (d : Device). is_end_system d.role ≡ true) (slice_get n.device m.0) m.1 m.2
-    (master_ends m.1.role m.3) in
+    let m = kept (λ (d : Device). is_master d.role) n.device (omega (arith, (keeps Masters 0).least refl)) in
+    let end = closed (λ (d : Device). is_end_system d.role ≡ true) (slice_get n.device m.0) m.1 m.2 (master_ends m.1.role m.3) in
     let up = (keeps Connections m.0).ends end A in
     let l = opened (λ (l : Link). (l.child ≡ record { 0 = m.0 }) × IsSwitchOf n A l.parent) (link_at n up.0) up.1 in
     (up.0.0, l.0, l.1)

@@ -1,11 +1,9 @@
 -- What a frame says stays as it is on a trip.
-use Rattle.std.proofs.Common.{◌≡◌, List, [], ◌∷◌, Some, refl, sym, ap, ◌∙◌}
-use Rattle.net_plan.specs.declared.tables.Way.{Way}
-use Rattle.pcf_values.specs.declared.pcf.Pcf.{Pcf}
+use Rattle.precision_law.proofs.words.Std.{◌∙◌, ◌∷◌, ◌≡◌, List, Some, [], ap, refl, sym}
+use Rattle.precision_law.proofs.words.Plans.{Pcf, Way}
+use Rattle.precision_law.proofs.words.Runs.{Happening, with_clock}
+use Rattle.precision_law.proofs.words.Laws.{IsTrip, IsView, Leg, View}
 use Rattle.precision_law.proofs.trips.Paths.{leg_frame}
-use Rattle.precision_law.specs.Trips.{IsTrip, Leg}
-use Rattle.precision_law.specs.Views.{IsView, View}
-use Rattle.run_law.specs.records.Happenings.{Happening, with_clock}
 
 -- the frame of the record is of the cycle and of the members of the other frame
 pub record SaysSo (h : Happening) (frame : Pcf) : Type 0 where

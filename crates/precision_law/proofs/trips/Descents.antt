@@ -1,59 +1,14 @@
 -- Compressed frames come down from compression masters.
-use Rattle.std.proofs.Common.{◌≡◌, ◌⊎◌, ℕ, zero, suc, ◌+◌, ◌<◌, ◌≤◌, Bool, true, false, List, [], ◌∷◌, ◌++◌, length, Option, Some, None, inl, inr, refl, sym, ap, subst, ◌∙◌, arith}
-use Rattle.std.proofs.lemmas.Bool.{eq-eqb, eqb-true, false_from_ne_true}
-use Rattle.std.specs.Option.{option_map_or}
-use Rattle.std.specs.Prelude.{◌==◌, Ok, if◌then◌else◌, option_and_then, option_map}
-use Rattle.net_plan.proofs.Shape.{rules_give_trees}
-use Rattle.net_plan.proofs.Trees.{closed, opened}
-use Rattle.net_plan.specs.Paths.{IsPath, IsTree, IsUplink}
-use Rattle.net_plan.specs.Places.{device_at, link_at, IsDeviceOf, IsSwitchOf, is_end_system}
-use Rattle.net_plan.specs.Rules.{IsChildOf}
-use Rattle.net_plan.specs.declared.event.What.TheVariants.{Send}
-use Rattle.net_plan.specs.declared.ids.DeviceId.{DeviceId}
-use Rattle.net_plan.specs.declared.ids.LinkId.{LinkId}
+use Rattle.precision_law.proofs.words.Std.{◌++◌, ◌+◌, ◌<◌, ◌==◌, ◌∙◌, ◌∷◌, ◌≡◌, ◌⊎◌, Bool, List, None, Ok, Option, Some, [], ap, arith, eq-eqb, eqb-true, false, false_from_ne_true, if◌then◌else◌, inl, inr, length, option_and_then, option_map, option_map_or, refl, subst, suc, sym, true, zero, ℕ}
+use Rattle.precision_law.proofs.words.Plans.{Channel, Device, DeviceId, Down, IsChildOf, IsPath, IsSwitchOf, IsTree, IsUplink, Joints, Link, LinkId, Master, Members, Network, Pcf, Relay, Role, Send, Units, Up, Way, amount, closed, device_at, field, is_end_system, link_at, opened, rules_give_trees, shape_rules, target_by}
+use Rattle.precision_law.proofs.words.Runs.{Arrival, ArrivesAs, Gives, Happening, IsArrivedRecord, IsBefore, IsCaused, IsIn, IsParentOf, Judgement, Launch, NoteBody, Reason, Signal, Standpoint, arrival_of, cause_of, channel_of, channel_of_link, control, cycle_in, founded_at, frame_by, in_left, is_cut, is_end, is_parent_of, is_relay, is_relay_role, key, last_taken, launched, members_in, number_is, numbered, numbered_front, numbered_in, numbered_within, place_of, rank, receiver_of, same_some, signal_of, standpoint, time_of, timed, way_from, way_to, with_clock}
+use Rattle.precision_law.proofs.words.Laws.{FramesDownAreOfCms, IsLeg, IsOfCm, IsTrip, IsView, Leg, View}
 use Rattle.net_plan.specs.declared.ids.VlId.{VlId}
-use Rattle.net_plan.specs.declared.network.Network.{Network}
-use Rattle.net_plan.specs.declared.tables.Device.{Device}
-use Rattle.net_plan.specs.declared.tables.Link.{Link}
-use Rattle.net_plan.specs.declared.tables.Role.TheVariants.{Master, Client, Cm, Relay}
-use Rattle.net_plan.specs.declared.tables.Role.{Role}
-use Rattle.net_plan.specs.declared.tables.Way.TheVariants.{Up, Down}
-use Rattle.net_plan.specs.declared.tables.Way.{Way}
-use Rattle.pcf_codec.specs.Fields.{field}
-use Rattle.pcf_values.specs.declared.channel.Channel.{Channel}
-use Rattle.pcf_values.specs.declared.members.Members.{Members}
-use Rattle.pcf_values.specs.declared.pcf.Pcf.{Pcf}
-use Rattle.precision_law.proofs.records.Points.{before_of}
-use Rattle.precision_law.specs.Trips.{FramesDownAreOfCms, IsLeg, IsOfCm, IsTrip, Leg}
-use Rattle.precision_law.specs.Views.{IsView, View}
-use Rattle.run_law.proofs.law.FirstPlaces.{founded_at, number_is, numbered_front, numbered_in, numbered_within}
-use Rattle.run_law.proofs.runs.Places.{in_left}
-use Rattle.run_law.proofs.runs.SameSteps.{same_some}
-use Rattle.run_law.specs.control.Leaving.{Gives}
-use Rattle.run_law.specs.control.Wires.{Signal, signal_of, Launch, control, launched, timed}
-use Rattle.run_law.specs.declared.judgement.Judgement.{Judgement}
-use Rattle.run_law.specs.declared.judgement.Reason.{Reason}
 use Rattle.run_law.specs.declared.note.NoteBody.TheVariants as notes
-use Rattle.run_law.specs.declared.note.NoteBody.{NoteBody}
 use Rattle.run_law.specs.declared.steps.Arrival.TheVariants as arrivals
-use Rattle.run_law.specs.declared.steps.Arrival.{Arrival}
-use Rattle.run_law.specs.device.Standpoints.{standpoint, Standpoint}
-use Rattle.run_law.specs.device.States.{cycle_in}
-use Rattle.run_law.specs.records.Causes.{cause_of}
-use Rattle.run_law.specs.records.Happenings.{Happening, numbered, time_of, with_clock, frame_by}
-use Rattle.run_law.specs.records.Order.{IsIn}
-use Rattle.run_law.specs.records.Ranks.{members_in}
-use Rattle.run_law.specs.runs.DueRecords.{IsArrivedRecord, IsCaused}
-use Rattle.run_law.specs.scenario.Devices.{IsParentOf, is_parent_of, channel_of, channel_of_link, is_relay, is_relay_role, is_end}
-use Rattle.run_law.specs.scenario.Ways.{is_cut, receiver_of, way_from, way_to}
 use Rattle.run_law.specs.timed.Arrivals.{entry_arrival, entry_entering, octets_fault, octets_or_fault, taken_or_fault}
-use Rattle.run_law.specs.timed.Receptions.{last_taken, ArrivesAs, arrival_of}
-use Rattle.schedule_tables.proofs.Margins.{shape_rules}
-use Rattle.schedule_tables.specs.Entries.{target_by}
 use Rattle.schedule_tables.specs.declared.entry.Entry.{Entry}
-use Rattle.schedule_tables.specs.declared.rule.Rule.TheVariants.{Joints}
-use Rattle.tte_units.specs.Amount.{amount}
-use Rattle.tte_units.specs.declared.units.Units.{Units}
+use Rattle.precision_law.proofs.Plain.{device_of, mapped}
 
 -- ---- no link leads from a device to itself
 
@@ -78,8 +33,7 @@ no_loop v link l is at same =
     let tree = rules_give_trees n (shape_rules n is.lawful.rules) in
     let joint = is.lawful.rules Joints link.0 l at in
     let p = opened (λ (d : Device). d.channel ≡ Some joint.0) (device_at n l.parent) joint.1 in
-    let member : IsDeviceOf n joint.0 l.parent = closed (λ (d : Device). (is_end_system d.role ≡ true) ⊎ (d.channel ≡ Some joint.0)) (device_at n l.parent) p.0
-    p.1 (inr p.2) in
+    let member = closed (λ (d : Device). (is_end_system d.role ≡ true) ⊎ (d.channel ≡ Some joint.0)) (device_at n l.parent) p.0 p.1 (inr p.2) in
     let path = tree.reach joint.0 l.parent member in
     no_loop_on n joint.0 l.parent link l tree at same refl joint.1 path.0 path.2
 
@@ -87,8 +41,7 @@ no_loop v link l is at same =
 pub child_not_parent : (v : View) (device : DeviceId) (link : LinkId) → IsView v → IsChildOf v.scenario.network device link
     → is_parent_of v.scenario.network device link ≡ true → ⊥
 child_not_parent v device link is child parent =
-    let n = v.scenario.network in
-    let l = opened (λ (k : Link). k.child ≡ device) (link_at n link) child in
+    let l = opened (λ (k : Link). k.child ≡ device) (link_at v.scenario.network link) child in
     let shown : (l.0.parent.0 == device.0) ≡ true = sym (ap (λ (o : Option Link). option_map_or (λ k. k.parent.0 == device.0) o false) l.1) ∙ parent in
     let same : l.0.parent ≡ device = ap (λ (i : ℕ). let d : DeviceId = record { 0 = i } in d) (eqb-true l.0.parent.0 device.0 shown) in
     no_loop v link l.0 is l.1 (l.2 ∙ sym same)
@@ -96,7 +49,7 @@ child_not_parent v device link is child parent =
 -- ---- what was put on the wire
 
 -- what arrives as a control frame is one that left, or what a `send` event put on a way up
-record IsPutAs (v : View) (ps : List Happening) (device : DeviceId) (link : LinkId) (cause : ℕ) (way : Way) : Type 0 where
+pub record IsPutAs (v : View) (ps : List Happening) (device : DeviceId) (link : LinkId) (cause : ℕ) (way : Way) : Type 0 where
   pub putting : Happening
   pub there : numbered ps cause ≡ Some putting
   pub sender : DeviceId
@@ -151,39 +104,30 @@ put_event : (cut : Bool) (link : LinkId) (signal : Signal) (l : Launch)
     → (if cut then None else Some (record { link = link; way = Up; signal = signal })) ≡ Some l → l.way ≡ Up
 put_event true link signal l e = absurd cc
 put_event false link signal l e =
-    let same : (record { link = link; way = Up; signal = signal }) ≡ l = same_some (Some (record { link = link; way = Up; signal = signal }))
-    (record { link = link; way = Up; signal = signal }) l refl e in
+    let same = same_some (Some (record { link = link; way = Up; signal = signal })) (record { link = link; way = Up; signal = signal }) l refl e in
     ap (λ (x : Launch). x.way) (sym same)
 
 -- what a device receives on a way up it receives as the parent
 pub receiver_up : (n : Network) (link : LinkId) (device : DeviceId) → receiver_of n link Up ≡ Some device → way_to n device link ≡ Up
-receiver_up n link device e = by (link_at n link) refl e
-  where
-    by : (o : Option Link) → link_at n link ≡ o → option_map (target_by Up) o ≡ Some device → way_to n device link ≡ Up
-    by None at e = absurd cc
-    by (Some l) at e =
-        let same : l.parent ≡ device = cc in
-        let test : is_parent_of n device link ≡ true = ap (λ (o : Option Link). option_map_or (λ k. k.parent.0 == device.0) o false) at
-        ∙ eq-eqb l.parent.0 device.0 (ap (λ (d : DeviceId). d.0) same) in
-        ap (λ (b : Bool). if b then Up else Down) test
+receiver_up n link device e =
+    let l = mapped (λ (l : Link). l.parent) (link_at n link) device e in
+    let test = ap (λ (o : Option Link). option_map_or (λ k. k.parent.0 == device.0) o false) l.1 ∙ eq-eqb l.0.parent.0 device.0
+    (ap (λ (d : DeviceId). d.0) l.2) in
+    ap (λ (b : Bool). if b then Up else Down) test
 
 -- and on a way down as the child
 pub receiver_down : (n : Network) (link : LinkId) (device : DeviceId) → receiver_of n link Down ≡ Some device → IsChildOf n device link
-receiver_down n link device e = by (link_at n link) refl e
-  where
-    by : (o : Option Link) → link_at n link ≡ o → option_map (target_by Down) o ≡ Some device → IsChildOf n device link
-    by None at e = absurd cc
-    by (Some l) at e = (let same : l.child ≡ device = cc in closed (λ (k : Link). k.child ≡ device) (link_at n link) l at same)
+receiver_down n link device e =
+    (let l = mapped (λ (l : Link). l.child) (link_at n link) device e in closed (λ (k : Link). k.child ≡ device) (link_at n link) l.0 l.1 l.2)
 
 -- what is carried on down a link left its parent
 put_down : (v : View) (ps : List Happening) (t : ℕ) (device : DeviceId) (link : LinkId) (cause : ℕ) (a : Arrival)
     → ArrivesAs v.scenario ps device t link cause a → IsCarried a → way_to v.scenario.network device link ≡ Down → IsPutAs v ps device link cause Down
     × IsChildOf v.scenario.network device link
 put_down v ps t device link cause a comes carried down =
-    let n = v.scenario.network in
     let put = comes.arrives in
     let way_down : put.way ≡ Down = which put.way put.receiver in
-    let child = receiver_down n link device (subst (λ (w : Way). receiver_of n link w ≡ Some device) way_down put.receiver) in
+    let child = receiver_down v.scenario.network link device (subst (λ (w : Way). receiver_of v.scenario.network link w ≡ Some device) way_down put.receiver) in
     (by comes.putting.note.body refl put.put comes.there way_down (subst IsCarried comes.becomes carried), child)
   where
     which : (w : Way) → receiver_of v.scenario.network link w ≡ Some device → w ≡ Down
@@ -194,8 +138,7 @@ put_down v ps t device link cause a comes carried down =
         body ≡ Some (record { link = link; way = comes.arrives.way; signal = comes.signal }) → numbered ps cause ≡ Some comes.putting → comes.arrives.way ≡ Down
         → IsCarried (arrival_of v.scenario ps device t link cause comes.signal) → IsPutAs v ps device link cause Down
     by (notes.Left sender out given clock) same put there way c =
-        let l = put_left comes.putting.frame out (way_from v.scenario.network sender out)
-        (record { link = link; way = comes.arrives.way; signal = comes.signal }) put in
+        let l = put_left comes.putting.frame out (way_from v.scenario.network sender out) _ put in
         record {
           putting = comes.putting;
           there = there;
@@ -206,11 +149,7 @@ put_down v ps t device link cause a comes carried down =
           from_way = ap (way_from v.scenario.network sender) l.0 ∙ sym l.1 ∙ way;
         }
     by (notes.TtSent sender out from vl cycle) same put there way c =
-        let l : (record { link = out; way = way_from v.scenario.network sender out; signal = timed comes.putting.octets }) ≡
-        (record { link = link; way = comes.arrives.way; signal = comes.signal }) = same_some
-        (Some (record { link = out; way = way_from v.scenario.network sender out; signal = timed comes.putting.octets }))
-        (record { link = out; way = way_from v.scenario.network sender out; signal = timed comes.putting.octets })
-        (record { link = link; way = comes.arrives.way; signal = comes.signal }) refl put in
+        let l = same_some _ (record { link = out; way = way_from v.scenario.network sender out; signal = timed comes.putting.octets }) _ refl put in
         let signal : comes.signal ≡ timed comes.putting.octets = ap (λ (x : Launch). x.signal) (sym l) in
         absurd (never_timed v ps t device link cause comes.putting.octets (subst (λ (x : Signal). IsCarried (arrival_of v.scenario ps device t link cause x))
         signal c))
@@ -229,15 +168,14 @@ trip_more v way first last next (l ∷ legs) leg trip giving arriving is =
     (trip.0, trip.1, trip_more v way l.arriving last next legs leg trip.2 giving arriving is)
 
 -- the record of what arrived, with that of its leaving and that of its giving
-record HasLeg (v : View) (h : Happening) (device : DeviceId) (link : LinkId) : Type 0 where
+pub record HasLeg (v : View) (way : Way) (h : Happening) (device : DeviceId) (link : LinkId) : Type 0 where
   pub leaving : Happening
   pub giving : Happening
-  pub leg : IsLeg v Down (record { link = link; giving = giving; leaving = leaving; arriving = h })
-  pub from_parent : is_parent_of v.scenario.network leg.sender link ≡ true
+  pub leg : IsLeg v way (record { link = link; giving = giving; leaving = leaving; arriving = h })
   pub left : numbered v.records (cause_of h.note.body) ≡ Some leaving
   pub given : numbered v.records (cause_of leaving.note.body) ≡ Some giving
   pub sooner : giving.note.number < h.note.number
-  pub in_time : time_of giving ≤ time_of h
+  pub in_time : time_of giving < time_of h
   pub of_frame : Pcf
   pub frame : giving.frame ≡ Some of_frame
   pub clock : ℕ
@@ -253,82 +191,73 @@ pub parent_by : (b : Bool) → (if b then Down else Up) ≡ Down → b ≡ true
 parent_by true e = refl
 parent_by false e = absurd cc
 
-has_leg : (v : View) (h : Happening) (device : DeviceId) (link : LinkId) (cause clock : ℕ) → IsView v → IsIn h v.records
-    → h.note.body ≡ notes.Arrived device link cause clock → way_to v.scenario.network device link ≡ Down → HasLeg v h device link
-has_leg v h device link cause clock is i body down =
+-- what left before an arrival left at an earlier time
+strictly : (t u : ℕ) (xs ys : List ℕ) → IsBefore (t ∷ 8 ∷ xs) (u ∷ 2 ∷ ys) → t < u
+strictly t u xs ys (inl lt) = lt
+strictly t u xs ys (inr (same, inl rank)) = absurd (omega (arith, rank))
+strictly t u xs ys (inr (same, inr both)) = absurd (omega (arith, both.0))
+
+pub has_leg : (v : View) (way : Way) (h : Happening) (device : DeviceId) (link : LinkId) (cause clock : ℕ) (is : IsView v) → (i : IsIn h v.records)
+    → h.note.body ≡ notes.Arrived device link cause clock → way_to v.scenario.network device link ≡ way
+    → receiver_of v.scenario.network link way ≡ Some device → IsPutAs v (founded_at v.scenario v.records h is.run.founded i).front device link cause way
+    → HasLeg v way h device link
+has_leg v way h device link cause clock is i body on to put =
     let s = v.scenario in
     let at = founded_at s v.records h is.run.founded i in
-    let caused : IsCaused s at.front h.note.time (notes.Arrived device link cause clock) = subst (IsCaused s at.front h.note.time) body at.due.cause in
-    let put = put_of caused in
-    let putting = put.0.putting in
-    let in_all : IsIn putting v.records = subst (IsIn putting) (sym at.whole)
-    (in_left putting at.front (h ∷ at.rest) (numbered_in at.front cause putting put.0.there)) in
+    let putting = put.putting in
+    let in_front : IsIn putting at.front = numbered_in at.front cause putting put.there in
+    let in_all : IsIn putting v.records = subst (IsIn putting) (sym at.whole) (in_left putting at.front (h ∷ at.rest) in_front) in
     let at_l = founded_at s v.records putting is.run.founded in_all in
-    let departs : IsCaused s at_l.front putting.note.time (notes.Left put.0.sender link put.0.given put.0.clock) = subst
-    (IsCaused s at_l.front putting.note.time) put.0.left at_l.due.cause in
+    let departs = subst (IsCaused s at_l.front putting.note.time) put.left at_l.due.cause in
     let giving = departs.giving in
     let in_giving : IsIn giving v.records = subst (IsIn giving) (sym at_l.whole)
-    (in_left giving at_l.front (putting ∷ at_l.rest) (numbered_in at_l.front put.0.given giving departs.there)) in
-    let number_l = number_is s at.front cause putting at.founded put.0.there in
-    let number_g = number_is s at_l.front put.0.given giving at_l.founded departs.there in
-    let within_l = numbered_within at.front cause putting put.0.there in
-    let within_g = numbered_within at_l.front put.0.given giving departs.there in
-    let frame_l : putting.frame ≡ Some (with_clock put.0.clock departs.frame) =
-    ap (λ (x : Happening). x.frame) at_l.due.same ∙ ap (frame_by s.network at_l.front) put.0.left
-    ∙ ap (λ (o : Option Happening). option_map (with_clock put.0.clock) (option_and_then (λ x. x.frame) o)) departs.there
-    ∙ ap (option_map (with_clock put.0.clock)) departs.of_frame in
-    let frame_h : h.frame ≡ Some (with_clock clock (with_clock put.0.clock departs.frame)) =
-    ap (λ (x : Happening). x.frame) at.due.same ∙ ap (frame_by s.network at.front) body
-    ∙ ap (λ (o : Option Happening). option_map (with_clock clock) (option_and_then (λ x. x.frame) o)) put.0.there
-    ∙ ap (option_map (with_clock clock)) frame_l in
-    let by_h : cause_of h.note.body ≡ cause = ap cause_of body in
-    let by_l : cause_of putting.note.body ≡ put.0.given = ap cause_of put.0.left in
+    (in_left giving at_l.front (putting ∷ at_l.rest) (numbered_in at_l.front put.given giving departs.there)) in
+    let number_l = number_is s at.front cause putting at.founded put.there in
+    let number_g = number_is s at_l.front put.given giving at_l.founded departs.there in
+    let frame_l = ap (λ (x : Happening). x.frame) at_l.due.same ∙ ap (frame_by s.network at_l.front) put.left ∙ ap
+    (λ (o : Option Happening). option_map (with_clock put.clock) (option_and_then (λ x. x.frame) o)) departs.there ∙ ap
+    (option_map (with_clock put.clock)) departs.of_frame in
+    let frame_h = ap (λ (x : Happening). x.frame) at.due.same ∙ ap (frame_by s.network at.front) body ∙ ap
+    (λ (o : Option Happening). option_map (with_clock clock) (option_and_then (λ x. x.frame) o)) put.there ∙ ap (option_map (with_clock clock)) frame_l in
+    let placed = (is.run.founded at.front at.rest h at.whole).0 putting in_front in
+    let placed_l = subst
+    (λ (b : NoteBody). IsBefore (time_of putting ∷ rank b ∷ key (members_in putting) b)
+    (time_of h ∷ rank (notes.Arrived device link cause clock) ∷ key (members_in h) (notes.Arrived device link cause clock))) put.left
+    (subst (λ (b : NoteBody). IsBefore (place_of putting) (time_of h ∷ rank b ∷ key (members_in h) b)) body placed) in
+    let later = strictly (time_of putting) (time_of h) (key (members_in putting) (notes.Left put.sender link put.given put.clock))
+    (key (members_in h) (notes.Arrived device link cause clock)) placed_l in
     record {
       leaving = putting;
       giving = giving;
       leg = record {
-        sender = put.0.sender;
+        sender = put.sender;
         receiver = device;
         given = in_giving;
         gives = departs.gives;
         left = in_all;
-        left_clock = put.0.clock;
-        leaves = put.0.left ∙ ap (λ (n : ℕ). notes.Left put.0.sender link n put.0.clock) (sym number_g);
+        left_clock = put.clock;
+        leaves = put.left ∙ ap (λ (n : ℕ). notes.Left put.sender link n put.clock) (sym number_g);
         arrived = i;
         arrived_clock = clock;
         arrives = body ∙ ap (λ (n : ℕ). notes.Arrived device link n clock) (sym number_l);
-        from_way = put.0.from_way;
-        on_way = down;
-        comes_to = received v device link put.1;
+        from_way = put.from_way;
+        on_way = on;
+        comes_to = to;
       };
-      from_parent = parent_by (is_parent_of s.network put.0.sender link) put.0.from_way;
       left =
-          subst (λ (n : ℕ). numbered v.records n ≡ Some putting) (sym by_h)
-          (subst (λ (hs : List Happening). numbered hs cause ≡ Some putting) (sym at.whole) (numbered_front at.front (h ∷ at.rest) cause putting put.0.there));
+          subst (λ (n : ℕ). numbered v.records n ≡ Some putting) (sym (ap cause_of body))
+          (subst (λ (hs : List Happening). numbered hs cause ≡ Some putting) (sym at.whole) (numbered_front at.front (h ∷ at.rest) cause putting put.there));
       given =
-          subst (λ (n : ℕ). numbered v.records n ≡ Some giving) (sym by_l)
-          (subst (λ (hs : List Happening). numbered hs put.0.given ≡ Some giving) (sym at_l.whole)
-          (numbered_front at_l.front (putting ∷ at_l.rest) put.0.given giving departs.there));
-      sooner = omega (arith, number_l, number_g, within_l, within_g, at.due.number, at_l.due.number);
-      in_time =
-          (let one = (before_of v putting is at_l).only giving (numbered_in at_l.front put.0.given giving departs.there) in let other =
-          (before_of v h is at).only putting (numbered_in at.front cause putting put.0.there) in omega (arith, one, other));
+          subst (λ (n : ℕ). numbered v.records n ≡ Some giving) (sym (ap cause_of put.left))
+          (subst (λ (hs : List Happening). numbered hs put.given ≡ Some giving) (sym at_l.whole)
+          (numbered_front at_l.front (putting ∷ at_l.rest) put.given giving departs.there));
+      sooner = omega (arith, numbered_within at.front cause _ put.there, numbered_within at_l.front put.given _ departs.there);
+      in_time = omega (arith, departs.held, later);
       of_frame = departs.frame;
       frame = departs.of_frame;
       clock = clock;
       shows = frame_h;
     }
-  where
-    put_of : IsArrivedRecord v.scenario (founded_at v.scenario v.records h is.run.founded i).front device (amount h.note.time) link cause clock
-        → IsPutAs v (founded_at v.scenario v.records h is.run.founded i).front device link cause Down × IsChildOf v.scenario.network device link
-    put_of a = elim a.taken [
-      | inl waits ↦ put_down v (founded_at v.scenario v.records h is.run.founded i).front (amount h.note.time) device link cause
-          (arrivals.Waits a.frame a.point) waits tt down
-      | inr (inl passes) ↦ put_down v (founded_at v.scenario v.records h is.run.founded i).front (amount h.note.time) device link cause
-          (arrivals.Passes a.frame a.way) passes tt down
-      | inr (inr both) ↦ put_down v (founded_at v.scenario v.records h is.run.founded i).front (amount h.note.time) device link cause
-          (arrivals.PassesAndWaits a.frame a.way a.point) both tt down
-    ]
 
 -- ---- from the compression master
 
@@ -359,19 +288,12 @@ emission_shows v g cm opened at cycle members verdict is i body =
 pub parent_channel : (v : View) (device : DeviceId) (link : LinkId) → IsParentOf v.scenario.network device link
     → channel_of_link v.scenario.network link ≡ channel_of v.scenario.network device
 parent_channel v device link parent =
-    let n = v.scenario.network in
-    let l = opened (λ (k : Link). k.parent ≡ device) (link_at n link) parent in
-    ap (λ (o : Option Link). option_and_then (λ k. channel_of n k.parent) o) l.1 ∙ ap (channel_of n) l.2
+    let l = opened (λ (k : Link). k.parent ≡ device) (link_at v.scenario.network link) parent in
+    ap (λ (o : Option Link). option_and_then (λ k. channel_of v.scenario.network k.parent) o) l.1 ∙ ap (channel_of v.scenario.network) l.2
 
 relay_not_end : (role : Role) → is_relay_role role ≡ true → is_end_system role ≡ true → ⊥
 relay_not_end Master e end = absurd cc
-relay_not_end Client e end = absurd cc
-relay_not_end Cm e end = absurd cc
-relay_not_end Relay e end = absurd cc
-
-relay_device : (o : Option Device) → option_map_or (λ d. is_relay_role d.role) o false ≡ true → (d : Device) × (o ≡ Some d) × (is_relay_role d.role ≡ true)
-relay_device None e = absurd cc
-relay_device (Some d) e = (d, refl, e)
+relay_not_end role e end = absurd cc
 
 -- a relay is of the channel of the link whose child it is
 pub child_channel : (v : View) (device : DeviceId) (link : LinkId) → IsView v → is_relay v.scenario.network device ≡ true
@@ -380,43 +302,48 @@ child_channel v device link is relay child =
     let n = v.scenario.network in
     let l = opened (λ (k : Link). k.child ≡ device) (link_at n link) child in
     let joint = is.lawful.rules Joints link.0 l.0 l.1 in
-    let r = relay_device (device_at n device) relay in
+    let r = device_of is_relay_role (device_at n device) relay in
     let p = opened (λ (d : Device). d.channel ≡ Some joint.0) (device_at n l.0.parent) joint.1 in
     let of_link : channel_of_link n link ≡ Some joint.0 = ap (λ (o : Option Link). option_and_then (λ k. channel_of n k.parent) o) l.1
     ∙ ap (λ (o : Option Device). option_and_then (λ d. d.channel) o) p.1 ∙ p.2 in
     elim joint.2 [
       | inl end ↦
           let e = opened (λ (d : Device). is_end_system d.role ≡ true) (device_at n l.0.child) end in
-          let at : device_at n device ≡ Some e.0 = ap (device_at n) (sym l.2) ∙ e.1 in
-          let same : e.0 ≡ r.0 = same_some (device_at n device) e.0 r.0 at r.1 in
-          absurd (relay_not_end r.0.role r.2 (ap (λ (d : Device). is_end_system d.role) (sym same) ∙ e.2))
+          absurd (relay_not_end r.0.role r.2 (ap (λ (d : Device). is_end_system d.role) (sym (same_some _ _ _ (ap (device_at n) (sym l.2) ∙ e.1) r.1)) ∙ e.2))
       | inr role ↦
           let e = opened (λ (d : Device). (d.role ≡ Relay) × (d.channel ≡ Some joint.0)) (device_at n l.0.child) role in
-          let at : device_at n device ≡ Some e.0 = ap (device_at n) (sym l.2) ∙ e.1 in
-          ap (λ (o : Option Device). option_and_then (λ d. d.channel) o) at ∙ e.2.1 ∙ sym of_link
+          ap (λ (o : Option Device). option_and_then (λ d. d.channel) o) (ap (device_at n) (sym l.2) ∙ e.1) ∙ e.2.1 ∙ sym of_link
     ]
 
 comes_from : (v : View) (n : ℕ) (h : Happening) (device : DeviceId) (link : LinkId) (cause clock : ℕ) → IsView v → IsIn h v.records → h.note.number < n
     → h.note.body ≡ notes.Arrived device link cause clock → way_to v.scenario.network device link ≡ Down → IsOfCm v h
 comes_from v zero h device link cause clock is i small body down = absurd (omega (arith, small))
 comes_from v (suc n) h device link cause clock is i small body down =
-    let l = has_leg v h device link cause clock is i body down in
+    let at = founded_at v.scenario v.records h is.run.founded i in
+    let put = put_of (subst (IsCaused v.scenario at.front h.note.time) body at.due.cause) in
+    let l = has_leg v Down h device link cause clock is i body down (received v device link put.1) put.0 in
     given_by v n h device link is l (λ g d k c t j less at way. comes_from v n g d k c t is j (omega (arith, less, l.sooner, small)) at way) l.giving.note.body
     refl l.leg.gives
   where
-    given_by : (v : View) (n : ℕ) (h : Happening) (device : DeviceId) (link : LinkId) → IsView v → (l : HasLeg v h device link)
+    put_of : IsArrivedRecord v.scenario (founded_at v.scenario v.records h is.run.founded i).front device (amount h.note.time) link cause clock
+        → IsPutAs v (founded_at v.scenario v.records h is.run.founded i).front device link cause Down × IsChildOf v.scenario.network device link
+    put_of a = elim a.taken [
+      | inl waits ↦ put_down v _ _ _ _ _ _ waits tt down
+      | inr (inl passes) ↦ put_down v _ _ _ _ _ _ passes tt down
+      | inr (inr both) ↦ put_down v _ _ _ _ _ _ both tt down
+    ]
+
+    given_by : (v : View) (n : ℕ) (h : Happening) (device : DeviceId) (link : LinkId) → IsView v → (l : HasLeg v Down h device link)
         → ((g : Happening) (d : DeviceId) (k : LinkId) (c t : ℕ) → IsIn g v.records → g.note.number < l.giving.note.number + 1
         → g.note.body ≡ notes.Arrived d k c t → way_to v.scenario.network d k ≡ Down → IsOfCm v g)
         → (b : NoteBody) → l.giving.note.body ≡ b → Gives v.scenario.network b l.leg.sender link → IsOfCm v h
-    given_by v n h device link is l back (notes.Sent master cycle) same gives = absurd (child_not_parent v l.leg.sender link is gives.1 l.from_parent)
+    given_by v n h device link is l back (notes.Sent master cycle) same gives =
+        absurd (child_not_parent v l.leg.sender link is gives.1 (parent_by (is_parent_of v.scenario.network l.leg.sender link) l.leg.from_way))
     given_by v n h device link is l back (notes.Compressed cm opened at cycle members verdict) same gives =
         let shown = emission_shows v l.giving cm opened at cycle members verdict is l.leg.given same in
         let kept = same_cycle h l.giving l.of_frame l.clock l.frame l.shows in
-        let cycle_is : cycle ≡ cycle_in h = shown.0 ∙ kept.0 in
-        let members_are : members.0 ≡ members_in h = shown.1 ∙ kept.1 in
-        let body_is : l.giving.note.body ≡ notes.Compressed cm opened at (cycle_in h) (record { 0 = members_in h }) verdict =
-        same ∙ ap (λ (c : ℕ). notes.Compressed cm opened at c members verdict) cycle_is
-        ∙ ap (λ (m : ℕ). notes.Compressed cm opened at (cycle_in h) (record { 0 = m }) verdict) members_are in
+        let body_is = same ∙ ap (λ (c : ℕ). notes.Compressed cm opened at c members verdict) (shown.0 ∙ kept.0) ∙ ap
+        (λ (m : ℕ). notes.Compressed cm opened at (cycle_in h) (record { 0 = m }) verdict) (shown.1 ∙ kept.1) in
         record {
           first = l.giving;
           cm = cm;
@@ -424,7 +351,7 @@ comes_from v (suc n) h device link cause clock is i small body down =
           legs = record { link = link; giving = l.giving; leaving = l.leaving; arriving = h } ∷ [];
           trip = (refl, l.leg, refl);
           back = record { causes = l.leaving ∷ l.giving ∷ []; chain = (l.left, (l.given, tt)); begins = refl };
-          in_order = l.in_time;
+          in_order = omega (arith, l.in_time);
           same_channel = λ d k c t at.
               let link_is : link ≡ k = (let both = sym l.leg.arrives ∙ at in cc) in
               subst (λ (x : LinkId). channel_of_link v.scenario.network x ≡ channel_of v.scenario.network cm) link_is
@@ -432,10 +359,9 @@ comes_from v (suc n) h device link cause clock is i small body down =
         }
     given_by v n h device link is l back (notes.Arrived relay by from t) same gives =
         elim gives.1.on [
-          | inl up ↦ absurd (child_not_parent v l.leg.sender link is up.1 l.from_parent)
+          | inl up ↦ absurd (child_not_parent v l.leg.sender link is up.1 (parent_by (is_parent_of v.scenario.network l.leg.sender link) l.leg.from_way))
           | inr down ↦
-              let way : way_to v.scenario.network relay by ≡ Down = child_down v relay by is
-              (subst (λ (d : DeviceId). IsChildOf v.scenario.network d by) gives.0 down.0) in
+              let way = child_down v relay by is (subst (λ (d : DeviceId). IsChildOf v.scenario.network d by) gives.0 down.0) in
               let from_cm = back l.giving relay by from t l.leg.given (omega arith) same way in
               let kept = same_cycle h l.giving l.of_frame l.clock l.frame l.shows in
               let e = from_cm.emission in
@@ -452,15 +378,13 @@ comes_from v (suc n) h device link cause clock is i small body down =
                       ∙ ap (λ (m : ℕ). notes.Compressed from_cm.cm e.opened e.at (cycle_in h) (record { 0 = m }) e.verdict) kept.1;
                 };
                 legs = from_cm.legs ++ record { link = link; giving = l.giving; leaving = l.leaving; arriving = h } ∷ [];
-                trip =
-                    trip_more v Down from_cm.first l.giving h from_cm.legs (record { link = link; giving = l.giving; leaving = l.leaving; arriving = h })
-                    from_cm.trip refl refl l.leg;
+                trip = trip_more v _ from_cm.first l.giving h from_cm.legs _ from_cm.trip refl refl l.leg;
                 back = record {
                   causes = l.leaving ∷ l.giving ∷ from_cm.back.causes;
                   chain = (l.left, (l.given, from_cm.back.chain));
                   begins = from_cm.back.begins;
                 };
-                in_order = (let one = from_cm.in_order in let other = l.in_time in omega (arith, one, other));
+                in_order = omega (arith, from_cm.in_order, l.in_time);
                 same_channel = λ d k c u at.
                     let link_is : link ≡ k = (let both = sym l.leg.arrives ∙ at in cc) in
                     let up = from_cm.same_channel relay by from t same in

@@ -1,30 +1,12 @@
 -- The gates of the sound channel are open while the frames of a cycle come.
-use Rattle.std.proofs.Common.{◌≡◌, ℕ, suc, ◌+◌, ◌*◌, ◌%◌, ◌-◌, ◌<◌, ◌≤◌, ℤ, pos, ◌+ℤ◌, ◌<ℤ◌, ◌≤ℤ◌, Bool, false, ◌&&◌, inr, ap, ◌∙◌, arith}
-use Rattle.std.proofs.lemmas.Bool.{and_right, le-ltb}
-use Rattle.std.proofs.lemmas.Int.{int_rem_euclid_is, ints}
-use Rattle.std.proofs.lemmas.Nat.{mod-mul-add}
-use Rattle.std.specs.Prelude.{int_lt}
-use Rattle.net_plan.specs.declared.ids.DeviceId.{DeviceId}
-use Rattle.net_plan.specs.declared.network.Network.{Network}
-use Rattle.precision_law.proofs.block.Dispatched.{IsCalm, hull_ordered, old_then, synchronised_then}
-use Rattle.precision_law.proofs.clocks.Anchored.{natural, natural_of, one_more}
-use Rattle.precision_law.proofs.faults.Masters.{switches_are_good}
-use Rattle.precision_law.proofs.faults.Ways.{sound_switches_begin_on}
-use Rattle.precision_law.proofs.law.Together.{before_narrow, block_ends, old_shows}
-use Rattle.precision_law.proofs.records.Views.{room}
-use Rattle.precision_law.proofs.sizes.Instants.{frames_come_first}
-use Rattle.precision_law.specs.BlockLaws.{BlocksGoSo}
-use Rattle.precision_law.specs.Blocks.{HasTimeAt, IsInBlock, Stands, adjustment_left}
-use Rattle.precision_law.specs.Epochs.{has_time}
-use Rattle.precision_law.specs.Hulls.{Hull, IsNarrow, first_correction, first_dispatch, last_correction, last_dispatch}
-use Rattle.precision_law.specs.Sizes.{HaveRoom, Sizes}
-use Rattle.precision_law.specs.Standings.{ShowsIn}
-use Rattle.precision_law.specs.Trips.{AreOpenFrom, IsOpen}
-use Rattle.precision_law.specs.Views.{IsSoundSwitch, IsView, View}
-use Rattle.run_law.specs.device.Standpoints.{offset_in_cycle, standpoint}
-use Rattle.run_law.specs.device.States.{is_synchronised}
-use Rattle.run_law.specs.scenario.Devices.{is_relay}
-use Rattle.tte_units.specs.Amount.{amount}
+use Rattle.precision_law.proofs.words.Std.{◌%◌, ◌&&◌, ◌*◌, ◌+ℤ◌, ◌+◌, ◌-◌, ◌<ℤ◌, ◌<◌, ◌∙◌, ◌≡◌, ◌≤ℤ◌, ◌≤◌, Bool, and_right, ap, arith, false, inr, int_lt, int_rem_euclid_is, ints, le-ltb, mod-mul-add, pos, suc, ℕ, ℤ}
+use Rattle.precision_law.proofs.words.Plans.{DeviceId, Network, amount}
+use Rattle.precision_law.proofs.words.Runs.{is_relay, is_synchronised, offset_in_cycle, standpoint}
+use Rattle.precision_law.proofs.words.Laws.{AreOpenFrom, BlocksGoSo, HasTimeAt, HaveRoom, Hull, IsInBlock, IsNarrow, IsOpen, IsSoundSwitch, IsView, ShowsIn, Sizes, Stands, View, adjustment_left, first_correction, first_dispatch, has_time, last_correction, last_dispatch}
+use Rattle.precision_law.proofs.words.Clocks.{frames_come_first, natural, natural_of, one_more, room, sizes_are, sound_switches_begin_on, switches_are_good}
+use Rattle.precision_law.proofs.words.Blocks.{before_narrow, block_ends, old_shows}
+use Rattle.precision_law.proofs.block.Dispatched.{IsCalm, old_then, synchronised_then}
+use Rattle.precision_law.proofs.block.Onward.{hull_ordered}
 
 -- ---- a value's place in its cycle
 
@@ -32,8 +14,7 @@ use Rattle.tte_units.specs.Amount.{amount}
 placed : (n : Network) (c r m : ℕ) (z : ℤ) → 0 < amount n.cycle → pos 0 ≤ℤ n.cycle.0 → r < amount n.cycle → m ≡ c * amount n.cycle + r → z ≡ pos m
     → offset_in_cycle n z ≡ pos r
 placed n c r m z some begun small is same =
-    let whole : n.cycle.0 ≡ pos (amount n.cycle) = natural n.cycle.0 begun in
-    int_rem_euclid_is z n.cycle.0 (amount n.cycle) 0 m some whole (omega (arith, ints, same))
+    int_rem_euclid_is z n.cycle.0 (amount n.cycle) 0 m some (natural n.cycle.0 begun) (omega (arith, ints, same))
     ∙ ap pos (ap (λ (x : ℕ). x % amount n.cycle) is ∙ mod-mul-add c (amount n.cycle) r small)
 
 -- what a clock shows from shortly before the beginning of a cycle to its correction point
@@ -45,10 +26,7 @@ in_window : (s : Sizes) (shown : ℤ) (n u : ℕ) (hull : Hull) → HaveRoom s �
     → pos u ≤ℤ first_correction s hull → IsInWindow s (suc n) shown
 in_window s shown n u hull space narrow shows low high =
     let more = one_more n s.cycle in
-    record {
-      least = omega (arith, ints, more, narrow, shows.least, low, space.eight_errors, space.errors.reach_is);
-      most = omega (arith, ints, more, shows.most, high, space.errors.reach_is);
-    }
+    record { least = omega (arith, ints, more, narrow, shows.least, low, space); most = omega (arith, ints, more, shows.most, high, space.errors.reach_is) }
 
 -- ---- gates
 
@@ -62,13 +40,12 @@ open_by : (v : View) (cycle : ℕ) (shown : ℤ) → IsView v → IsInWindow v.s
 open_by v cycle shown is window =
     let n = v.scenario.network in
     let space = room v is in
-    let precision : v.sizes.precision ≡ amount n.precision = ap (λ (x : Sizes). x.precision) is.sizes in
-    let correction : v.sizes.correction ≡ amount n.correction = ap (λ (x : Sizes). x.correction) is.sizes in
-    let length : v.sizes.cycle ≡ amount n.cycle = ap (λ (x : Sizes). x.cycle) is.sizes in
+    let precision = (sizes_are v is).precision in
+    let correction = (sizes_are v is).correction in
+    let length = (sizes_are v is).cycle in
     let product : cycle * v.sizes.cycle ≡ cycle * amount n.cycle = ap (λ (x : ℕ). cycle * x) length in
     let z = shown +ℤ pos (2 * amount n.precision) in
-    let from : pos (cycle * amount n.cycle) ≤ℤ z = from_by (cycle * v.sizes.cycle) (cycle * amount n.cycle) shown v.sizes.precision (amount n.precision) product
-    precision window.least in
+    let from = from_by (cycle * v.sizes.cycle) (cycle * amount n.cycle) shown v.sizes.precision (amount n.precision) product precision window.least in
     let m = natural_of z (cycle * amount n.cycle) from in
     let rest = behind (cycle * amount n.cycle) m.0 z from m.1 in
     let top = top_by (cycle * v.sizes.cycle) (cycle * amount n.cycle) shown v.sizes.precision (amount n.precision) v.sizes.correction (amount n.correction)
@@ -91,8 +68,7 @@ open_by v cycle shown is window =
 
     small_by : (p q c d l k dmax spread reach clock path drift grain r : ℕ) → p ≡ q → c ≡ d → l ≡ k → r ≤ d + 2 * q → c + dmax + 8 * p ≤ l
         → spread + 8 * reach ≤ p → reach ≡ clock + drift + 2 * grain → 1 ≤ grain → r < k
-    small_by p q c d l k dmax spread reach clock path drift grain r x y z le cycles errors reach_is some =
-        omega (arith, x, y, z, le, cycles, errors, reach_is, some)
+    small_by p q c d l k dmax spread reach clock path drift grain r x y z le cycles errors reach_is some = omega arith
 
     not_less : (a b : ℕ) → b ≤ a → int_lt (pos a) (pos b) ≡ false
     not_less a b le = le-ltb a b le
@@ -104,9 +80,8 @@ open_by v cycle shown is window =
 switch_calm : (v : View) (n u : ℕ) (block : IsInBlock v n u) (switch : DeviceId) → IsView v → IsSoundSwitch v switch
     → pos u ≤ℤ first_correction v.sizes block.before.hull → IsCalm v n u block switch u
 switch_calm v n u block switch is sound high =
-    let space = room v is in
     record {
-      before = omega (arith, ints, high, space.errors.reach_is, space.grain);
+      before = omega (arith, ints, high, room v is);
       to = omega arith;
       firm = inr sound;
       good = switches_are_good v v.channel switch is sound;
@@ -119,29 +94,23 @@ pub gate_is_open : BlocksGoSo → (v : View) (n u : ℕ) (block : IsInBlock v n 
 gate_is_open goes v n u block switch is sound low high =
     let s = v.scenario in
     let calm = switch_calm v n u block switch is sound high in
-    let synchronised = synchronised_then goes v n u block switch u u is calm (omega arith) in
-    let old = old_then goes v n u block switch u u is calm (omega arith) in
-    let has : HasTimeAt v switch u = record { good = calm.good; timed = ap has_time synchronised } in
-    let shows = old_shows v n u u switch block is (omega arith) has old in
+    let has : HasTimeAt v switch u = record { good = calm.good; timed = ap has_time (synchronised_then goes v n u block switch u u is calm (omega arith)) } in
     let window = in_window v.sizes (pos (s.reading switch u) +ℤ adjustment_left v switch u) n u block.before.hull (room v is) (before_narrow v n block.before)
-    shows low high in
-    and_third (is_relay s.network switch) (is_synchronised (standpoint s v.records switch u).state) _
-    (open_by v (suc n) (pos (s.reading switch u) +ℤ adjustment_left v switch u) is window)
+    (old_shows v n u u switch block is (omega arith) has (old_then goes v n u block switch u u is calm (omega arith))) low high in
+    and_third (is_relay s.network switch) (is_synchronised (standpoint s v.records switch u).state) _ (open_by v _ _ is window)
 
 -- so they are while a frame that is given then may travel
 pub are_open_from : BlocksGoSo → (v : View) (n w : ℕ) (block : IsInBlock v n w) → IsView v → first_dispatch v.sizes block.before.hull ≤ℤ pos w
     → pos (w + v.sizes.dmax) ≤ℤ first_correction v.sizes block.before.hull → w + v.sizes.dmax ≤ v.until + v.sizes.path → AreOpenFrom v w
 are_open_from goes v n w block is low high in_run switch u sound from to =
-    let ends = block_ends v n block.next block.before.hull block.before.is_hull block.is_over in
     let space = room v is in
     let narrow = before_narrow v n block.before in
-    let ordered = corrections_ordered v n block.before is in
     let at : IsInBlock v n u = record {
       before = block.before;
       next = block.next;
       is_over = block.is_over;
       from = omega (arith, block.from, from);
-      to = omega (arith, ints, ends, high, to, ordered);
+      to = omega (arith, ints, block_ends v n block.next _ block.before.is_hull block.is_over, high, to, corrections_ordered v n block.before is);
       in_run = omega (arith, to, in_run);
     } in
     gate_is_open goes v n u at switch is sound (omega (arith, ints, low, from)) (omega (arith, ints, high, to))

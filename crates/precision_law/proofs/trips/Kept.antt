@@ -1,47 +1,10 @@
 -- A frame keeps its cycle and its members on its way down, and stays on the channel.
-use Rattle.std.proofs.Common.{◌≡◌, true, List, [], ◌∷◌, Option, Some, inl, inr, sym, ap, subst, ◌∙◌}
-use Rattle.std.specs.Prelude.{option_and_then, option_map}
-use Rattle.net_plan.specs.declared.ids.DeviceId.{DeviceId}
-use Rattle.net_plan.specs.declared.ids.LinkId.{LinkId}
-use Rattle.net_plan.specs.declared.tables.Link.{Link}
-use Rattle.net_plan.specs.declared.tables.Way.TheVariants.{Down}
-use Rattle.net_plan.specs.declared.tables.Way.{Way}
-use Rattle.pcf_values.specs.declared.channel.Channel.{Channel}
-use Rattle.pcf_values.specs.declared.pcf.Pcf.{Pcf}
-use Rattle.precision_law.proofs.trips.Descents.{same_cycle}
-use Rattle.precision_law.proofs.trips.Paths.{leaving_is}
+use Rattle.precision_law.proofs.words.Std.{◌∙◌, ◌∷◌, ◌≡◌, List, Option, Some, [], ap, option_and_then, subst, true}
+use Rattle.precision_law.proofs.words.Plans.{Channel, DeviceId, Down, Link, LinkId, Pcf, Way}
+use Rattle.precision_law.proofs.words.Runs.{Gives, Happening, NoteBody, channel_of, channel_of_link, cycle_in, is_relay, members_in, with_clock}
+use Rattle.precision_law.proofs.words.Laws.{IsLeg, IsTrip, IsView, Leg, View}
+use Rattle.precision_law.proofs.words.Clocks.{arrived_frame, leaving_is, same_cycle}
 use Rattle.precision_law.proofs.trips.Travels.{leg_down, through}
-use Rattle.precision_law.specs.Trips.{IsLeg, IsTrip, Leg}
-use Rattle.precision_law.specs.Views.{IsView, View}
-use Rattle.run_law.proofs.law.FirstPlaces.{by_number, founded_at, numbered_front}
-use Rattle.run_law.proofs.runs.SameSteps.{same_some}
-use Rattle.run_law.specs.control.Leaving.{Gives}
-use Rattle.run_law.specs.declared.note.NoteBody.TheVariants as notes
-use Rattle.run_law.specs.declared.note.NoteBody.{NoteBody}
-use Rattle.run_law.specs.device.States.{cycle_in}
-use Rattle.run_law.specs.records.Happenings.{Happening, frame_by, numbered, with_clock}
-use Rattle.run_law.specs.records.Ranks.{members_in}
-use Rattle.run_law.specs.runs.DueRecords.{IsCaused}
-use Rattle.run_law.specs.scenario.Devices.{channel_of, channel_of_link, is_relay}
-
--- the frame that arrives by a leg is the one that left, but for its clock
-arrived_frame : (v : View) (way : Way) (leg : Leg) (frame : Pcf) → IsView v → (l : IsLeg v way leg) → leg.leaving.frame ≡ Some frame
-    → leg.arriving.frame ≡ Some (with_clock l.arrived_clock frame)
-arrived_frame v way leg frame is l framed =
-    let s = v.scenario in
-    let at = founded_at s v.records leg.arriving is.run.founded l.arrived in
-    let a : IsCaused s at.front leg.arriving.note.time (notes.Arrived l.receiver leg.link leg.leaving.note.number l.arrived_clock) = subst
-    (IsCaused s at.front leg.arriving.note.time) l.arrives at.due.cause in
-    let put = elim a.taken as (λ _. (h : Happening) × (numbered at.front leg.leaving.note.number ≡ Some h))
-    [ inl w ↦ (w.putting, w.there) | inr (inl p) ↦ (p.putting, p.there) | inr (inr b) ↦ (b.putting, b.there) ] in
-    let in_all : numbered v.records leg.leaving.note.number ≡ Some put.0 = subst (λ (hs : List Happening). numbered hs leg.leaving.note.number ≡ Some put.0)
-    (sym at.whole) (numbered_front at.front (leg.arriving ∷ at.rest) leg.leaving.note.number put.0 put.1) in
-    let same : put.0 ≡ leg.leaving = same_some (numbered v.records leg.leaving.note.number) put.0 leg.leaving in_all
-    (by_number s v.records leg.leaving is.run.founded l.left) in
-    let of_put : put.0.frame ≡ Some frame = ap (λ (h : Happening). h.frame) same ∙ framed in
-    ap (λ (x : Happening). x.frame) at.due.same ∙ ap (frame_by s.network at.front) l.arrives
-    ∙ ap (λ (o : Option Happening). option_map (with_clock l.arrived_clock) (option_and_then (λ x. x.frame) o)) put.1
-    ∙ ap (option_map (with_clock l.arrived_clock)) of_put
 
 -- the later record is of the same frame as the earlier one, but for its clock
 pub record KeepsFrame (g h : Happening) : Type 0 where
@@ -60,8 +23,7 @@ leg_keeps v way leg is l =
       frame = with_clock l.arrived_clock (with_clock l.left_clock left.frame);
       of_frame = arrived;
       cycle = first.0 ∙ second.0;
-      members = first.1
-          ∙ second.1;
+      members = first.1 ∙ second.1;
     }
 
 -- the last leg of a way down, and what came by it

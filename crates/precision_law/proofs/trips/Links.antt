@@ -1,59 +1,14 @@
 -- A frame goes over a link: it leaves, and it arrives.
-use Rattle.std.proofs.Common.{◌≡◌, ◌⊎◌, ℕ, ◌+◌, ◌-◌, ◌*◌, ◌^◌, ◌<◌, ◌≤◌, Bool, true, false, List, [], ◌∷◌, length, Option, Some, None, inl, inr, refl, sym, ap, subst, ◌∙◌, arith}
-use Rattle.std.proofs.Math.Nat.{mul-le-mul_left}
-use Rattle.std.proofs.lemmas.Bool.{cases_lt, le-ltb}
-use Rattle.std.proofs.lemmas.Int.{ints}
-use Rattle.std.specs.Option.{option_map_or}
-use Rattle.std.specs.Prelude.{Ok, nat_lt, not, ◌&&◌, option_and_then, option_map, if◌then◌else◌}
-use Rattle.drift_clock.specs.ClockLaws.{Measures}
-use Rattle.net_plan.specs.Places.{link_at}
-use Rattle.net_plan.specs.Ranges.{IsLinkInRange}
-use Rattle.net_plan.specs.declared.ids.DeviceId.{DeviceId}
-use Rattle.net_plan.specs.declared.ids.LinkId.{LinkId}
-use Rattle.net_plan.specs.declared.network.Network.{Network}
-use Rattle.net_plan.specs.declared.tables.Link.{Link}
-use Rattle.net_plan.specs.declared.tables.Way.TheVariants.{Up, Down}
-use Rattle.net_plan.specs.declared.tables.Way.{Way}
-use Rattle.pcf_values.specs.declared.pcf.Pcf.{Pcf}
-use Rattle.precision_law.proofs.trips.Paths.{delay_is}
-use Rattle.precision_law.specs.Trips.{IsLeg}
-use Rattle.precision_law.specs.Views.{IsView, View}
-use Rattle.run_law.proofs.law.FirstDelays.{delay_least, hold_most}
-use Rattle.run_law.proofs.law.FirstPlaces.{by_number, due_is_there, front_founded, in_front_of, same_earlier, split}
-use Rattle.run_law.specs.control.Arrivals.{clock_on_arrival, control_arrival, frame_fault, frame_or_fault, point_on_arrival}
-use Rattle.run_law.specs.control.Leaving.{Departs, Gives, clock_at_leaving, leaves, on_cut_way, too_old}
-use Rattle.run_law.specs.control.Wires.{Arrives, Launch, control}
-use Rattle.run_law.specs.declared.judgement.Reason.{Reason}
-use Rattle.run_law.specs.declared.note.Note.{Note}
+use Rattle.precision_law.proofs.words.Std.{◌&&◌, ◌*◌, ◌+◌, ◌-◌, ◌<◌, ◌^◌, ◌∙◌, ◌∷◌, ◌≡◌, ◌≤◌, ◌⊎◌, Bool, List, None, Ok, Option, Some, [], ap, arith, cases_lt, false, if◌then◌else◌, inl, inr, le-ltb, mul-le-mul_left, nat_lt, not, option_and_then, option_map, option_map_or, refl, subst, sym, true, ℕ}
+use Rattle.precision_law.proofs.words.Plans.{DeviceId, Down, Integrating, IsLinkInRange, Link, LinkId, Measures, Network, Pcf, Units, Up, Way, all_at, amount, delay_by, link_at}
+use Rattle.precision_law.proofs.words.Runs.{Arrival, Arrives, ArrivesAs, Departs, Gives, Happening, IsArrivedRecord, IsBefore, IsDue, IsFounded, IsIn, Launch, NoteBody, Reason, Scenario, Standpoint, adjustment_after, by_number, clock_at_leaving, clock_on_arrival, control, control_arrival, delay_at, delay_least, due_is_there, frame_fault, frame_or_fault, front_founded, happening, hold_at, hold_most, in_front_of, is_broken, is_cut, is_off, is_parent_of, is_relay, is_turned_on_at, key, leaves, members_in, numbered, on_cut_way, place_of, point_on_arrival, rank, receiver_of, same_earlier, split, standpoint, state_after, time_of, too_old, way_from, way_to, wire_of, with_clock}
+use Rattle.precision_law.proofs.words.Laws.{IsLeg, IsView, View}
 use Rattle.run_law.specs.declared.note.NoteBody.TheVariants as notes
-use Rattle.run_law.specs.declared.note.NoteBody.{NoteBody}
 use Rattle.run_law.specs.declared.steps.Arrival.TheVariants as arrivals
-use Rattle.run_law.specs.declared.steps.Arrival.{Arrival}
-use Rattle.run_law.specs.device.Standpoints.{Standpoint, standpoint}
-use Rattle.run_law.specs.device.States.{adjustment_after, is_off, state_after}
-use Rattle.run_law.specs.records.Happenings.{Happening, happening, numbered, time_of, with_clock}
-use Rattle.run_law.specs.records.Order.{IsBefore, IsIn}
-use Rattle.run_law.specs.records.Ranks.{key, members_in, place_of, rank}
-use Rattle.run_law.specs.runs.DueRecords.{IsArrivedRecord, IsCaused, IsDue}
-use Rattle.run_law.specs.runs.Runs.{IsFounded}
-use Rattle.run_law.specs.scenario.Devices.{is_parent_of, is_relay}
-use Rattle.run_law.specs.scenario.Scenarios.{Scenario, is_broken, is_turned_on_at}
-use Rattle.run_law.specs.scenario.Ways.{delay_at, hold_at, is_cut, receiver_of, way_from, way_to, wire_of}
-use Rattle.run_law.specs.timed.Receptions.{ArrivesAs}
-use Rattle.schedule_tables.proofs.EntryLemmas.{all_at}
-use Rattle.schedule_tables.specs.Delays.{delay_by}
-use Rattle.sync_state.specs.declared.state.State.TheVariants.{Integrating}
-use Rattle.tte_units.specs.Amount.{amount, units_of}
-use Rattle.tte_units.specs.declared.units.Units.{Units}
+use Rattle.precision_law.proofs.trips.Paths.{delay_is}
+use Rattle.precision_law.proofs.records.Due.{next_due, next_note}
 
 -- ---- records that are due
-
-abbrev next_note : List Happening → ℕ → NoteBody → Note
-next_note ps t body = record { number = length ps + 1; time = units_of t; body = body }
-
-next_due : (s : Scenario) (ps : List Happening) (t : ℕ) (body : NoteBody) → IsCaused s ps (units_of t) body
-    → IsDue s ps (happening s.network ps (next_note ps t body))
-next_due s ps t body cause = record { number = refl; same = refl; begun = omega (arith, ints); cause = cause }
 
 -- what gives a frame has a low rank
 gives_low : (n : Network) (body : NoteBody) (device : DeviceId) (link : LinkId) → Gives n body device link → rank body < 8
@@ -130,12 +85,10 @@ pub record HasGone (v : View) (way : Way) (r : Happening) (frame : Pcf) (receive
 pub takes_at_most : (v : View) (way : Way) (link : LinkId) (l : Link) (t : ℕ) → IsView v → link_at v.scenario.network link ≡ Some l
     → (arrives_at v.scenario link way t ≤ t + delay_by l) × (leaves_at v.scenario link way t < arrives_at v.scenario link way t)
 takes_at_most v way link l t is there =
-    let n = v.scenario.network in
-    let known : IsLinkInRange n l = all_at (IsLinkInRange n) n.link link.0 l is.lawful.range.links there in
+    let known : IsLinkInRange v.scenario.network l = all_at (IsLinkInRange v.scenario.network) v.scenario.network.link link.0 l is.lawful.range.links there in
     let hold = hold_most v.scenario link l way t is.lawful there known.hold.least in
     let delay = delay_is v link l way (leaves_at v.scenario link way t) is there in
-    let least = delay_least v.scenario link l way (leaves_at v.scenario link way t) is.lawful there known.wire.least in
-    (omega (arith, hold, delay.1), omega (arith, least))
+    (omega (arith, hold, delay.1), omega (arith, delay_least v.scenario link l way (leaves_at v.scenario link way t) is.lawful there known.wire.least))
 
 -- what the clock of the frame grows by
 grown : (rho grain held hold wire jitter clock seen : ℕ) → Measures rho grain held seen → held ≤ hold
@@ -167,21 +120,18 @@ goes_over v way r frame sender receiver link l is g young fair in_run =
     let seen : ℕ = s.reading sender t - s.reading sender (time_of r) in
     let clock : ℕ = clock_at_leaving s sender frame (time_of r) t in
     let hold_is : t - time_of r ≡ hold_at s link way (time_of r) = omega arith in
-    let measures : Measures n.rho (amount n.grain) (hold_at s link way (time_of r)) seen = subst (λ (x : ℕ). Measures n.rho (amount n.grain) x seen) hold_is
-    ((is.lawful.clocks sender).drifts (time_of r) t (omega arith)) in
+    let measures = subst (λ (x : ℕ). Measures n.rho (amount n.grain) x seen) hold_is ((is.lawful.clocks sender).drifts (time_of r) t (omega arith)) in
     let grows = grown n.rho (amount n.grain) (hold_at s link way (time_of r)) (amount l.hold) (amount l.wire) (amount l.jitter) frame.clock seen measures held
     in
     let then_clock : ℕ = clock + wire_of n link in
-    let grows_so : 10 ^ 9 * then_clock ≤ 10 ^ 9 * frame.clock + 10 ^ 9 * delay_by l + n.rho * delay_by l + 2 * amount n.grain * 10 ^ 9 = subst
-    (λ (x : ℕ). 10 ^ 9 * (clock + x) ≤ 10 ^ 9 * frame.clock + 10 ^ 9 * delay_by l + n.rho * delay_by l + 2 * amount n.grain * 10 ^ 9) (sym nominal)
-    grows in
+    let grows_so = subst (λ (x : ℕ). 10 ^ 9 * (clock + x) ≤ 10 ^ 9 * frame.clock + 10 ^ 9 * delay_by l + n.rho * delay_by l + 2 * amount n.grain * 10 ^ 9)
+    (sym nominal) grows in
     let small : then_clock ≤ amount n.dmax = young then_clock grows_so in
     let at = split place_of (IsDue s) hs (t ∷ 8 ∷ sender.0 ∷ link.0 ∷ r.note.number ∷ []) is.run.founded in
     let sooner : IsBefore (place_of r) (t ∷ 8 ∷ sender.0 ∷ link.0 ∷ r.note.number ∷ []) = before_leaving (time_of r) (hold_at s link way (time_of r))
     (rank r.note.body) (key (members_in r) r.note.body) (sender.0 ∷ link.0 ∷ r.note.number ∷ []) (gives_low n r.note.body sender link g.gives) in
     let front = front_founded place_of (IsDue s) at.front at.rest (subst (IsFounded place_of (IsDue s)) at.whole is.run.founded) in
-    let found : numbered at.front r.note.number ≡ Some r = by_number s at.front r front
-    (in_front_of place_of hs (t ∷ 8 ∷ sender.0 ∷ link.0 ∷ r.note.number ∷ []) at r g.given sooner) in
+    let found = by_number s at.front r front (in_front_of place_of hs (t ∷ 8 ∷ sender.0 ∷ link.0 ∷ r.note.number ∷ []) at r g.given sooner) in
     let old : nat_lt (amount n.dmax) clock ≡ false = le-ltb (amount n.dmax) clock (omega (arith, small)) in
     let cut : is_cut s link (way_from n sender link) t ≡ false = ap (λ (w : Way). is_cut s link w t) g.from_way ∙ g.whole in
     let departs : Departs s at.front sender t link r.note.number (leaves clock) = record {
@@ -214,12 +164,9 @@ goes_over v way r frame sender receiver link l is g young fair in_run =
       receiver = g.comes_to;
       at = omega arith;
     } in
-    let stands : standpoint s by.front receiver u ≡ standpoint s hs receiver u = ap (standpoint_by s receiver u)
-    (same_earlier u (2 ∷ receiver.0 ∷ link.0 ∷ leaving.note.number ∷ []) hs by) in
-    let no_fault : frame_fault n receiver link (standpoint s by.front receiver u) (with_clock clock frame) ≡ None =
-    ap (λ (p : Standpoint). frame_fault n receiver link p (with_clock clock frame)) stands ∙ fair clock small in
-    let taken = taken_without n receiver link (standpoint s by.front receiver u) (with_clock clock frame)
-    (frame_fault n receiver link (standpoint s by.front receiver u) (with_clock clock frame)) no_fault in
+    let stands = ap (standpoint_by s receiver u) (same_earlier u (2 ∷ receiver.0 ∷ link.0 ∷ leaving.note.number ∷ []) hs by) in
+    let no_fault = ap (λ (p : Standpoint). frame_fault n receiver link p (with_clock clock frame)) stands ∙ fair clock small in
+    let taken = taken_without n receiver link (standpoint s by.front receiver u) (with_clock clock frame) _ no_fault in
     let as_taken : (a : Arrival) → control_arrival n receiver link (standpoint s by.front receiver u) (Ok (with_clock clock frame)) ≡ a
     → ArrivesAs s by.front receiver u link leaving.note.number a =
     λ a e. record { putting = leaving; there = found_by; signal = control (Ok (with_clock clock frame)); arrives = arrives; becomes = sym e } in

@@ -1,51 +1,11 @@
 -- The links of a trip down are the path of the device that it leads to.
-use Rattle.std.proofs.Common.{◌≡◌, ◌⊎◌, ℕ, ◌+◌, ◌-◌, ◌≤◌, Bool, true, false, List, [], ◌∷◌, Option, Some, None, inl, inr, refl, sym, ap, subst, ◌∙◌, arith, ◌==◌, Ok, ◌<ℤ◌, not, ◌+ℤ◌, nat_lt}
-use Rattle.std.specs.Option.{option_map_or}
-use Rattle.std.specs.Prelude.{if◌then◌else◌, option_map, Ok, nat_lt, not, option_and_then}
-use Rattle.std.proofs.lemmas.Bool.{and_parts, eqb-true, ltb-false}
-use Rattle.std.proofs.lemmas.Int.{by_lt_z, ints}
-use Rattle.drift_clock.specs.ClockLaws.{Measures}
-use Rattle.net_plan.proofs.Trees.{closed}
-use Rattle.net_plan.specs.Places.{link_at}
-use Rattle.net_plan.specs.Ranges.{IsLinkInRange}
-use Rattle.net_plan.specs.declared.event.Event.{Event}
-use Rattle.net_plan.specs.declared.event.What.TheVariants as events
-use Rattle.net_plan.specs.declared.event.What.{What}
-use Rattle.net_plan.specs.declared.ids.DeviceId.{DeviceId}
-use Rattle.net_plan.specs.declared.ids.LinkId.{LinkId}
-use Rattle.net_plan.specs.declared.network.Network.{Network}
-use Rattle.net_plan.specs.declared.tables.Link.{Link}
-use Rattle.net_plan.specs.declared.tables.Way.TheVariants.{Up, Down}
-use Rattle.net_plan.specs.declared.tables.Way.{Way}
-use Rattle.pcf_values.specs.declared.pcf.Pcf.{Pcf}
-use Rattle.precision_law.specs.Trips.{IsLeg, Leg, clock_in}
-use Rattle.precision_law.specs.Views.{IsView, View}
-use Rattle.run_law.proofs.law.FirstDelays.{hold_most, last_is}
-use Rattle.run_law.proofs.law.FirstPlaces.{by_number, founded_at, numbered_front}
-use Rattle.run_law.proofs.runs.Places.{parted}
-use Rattle.run_law.proofs.runs.SameSteps.{same_some}
-use Rattle.run_law.specs.control.Arrivals.{clock_on_arrival, control_arrival, frame_fault, frame_or_fault, is_cold_start, is_gate_shut, is_of_other_domain, is_of_other_member, point_on_arrival}
-use Rattle.run_law.specs.control.Leaving.{clock_at_leaving, leaves, on_cut_way, too_old}
-use Rattle.run_law.specs.control.Wires.{Launch, control, launched, time_on_port}
-use Rattle.run_law.specs.declared.judgement.Reason.TheVariants.{Off, ColdStart, Domain, Member, Old, Gate}
-use Rattle.run_law.specs.declared.judgement.Reason.{Reason}
-use Rattle.run_law.specs.declared.note.NoteBody.TheVariants as notes
-use Rattle.run_law.specs.declared.note.NoteBody.{NoteBody}
-use Rattle.run_law.specs.declared.outside.Outside.TheVariants.{Wire}
+use Rattle.precision_law.proofs.words.Std.{◌+ℤ◌, ◌+◌, ◌-◌, ◌<ℤ◌, ◌∙◌, ◌∷◌, ◌≡◌, ◌≤◌, ◌⊎◌, Bool, List, None, Ok, Option, Some, [], ap, arith, by_lt_z, false, if◌then◌else◌, inl, inr, ints, ltb-false, nat_lt, not, option_and_then, option_map, option_map_or, refl, subst, sym, true, ℕ}
+use Rattle.precision_law.proofs.words.Plans.{DeviceId, Down, Event, Hop, IsHop, IsLinkInRange, Link, LinkId, Measures, Network, Pcf, Units, Up, Way, all_at, amount, closed, delay_by, delay_of, link_at}
+use Rattle.precision_law.proofs.words.Runs.{Arrival, ArrivesAs, ColdStart, Domain, Gate, Happening, IsCaused, IsIn, Launch, Member, NoteBody, Old, Reason, Standpoint, Wire, arrival_of, by_number, clock_at_leaving, clock_on_arrival, control, control_arrival, delay_at, first_reason, founded_at, frame_by, frame_fault, frame_or_fault, hold_at, hold_most, is_cold_start, is_cut, is_gate_shut, is_of_other_domain, is_of_other_member, is_parent_of, is_relay, last_is, launched, leaves, numbered, numbered_front, on_cut_way, parted, point_on_arrival, same_some, standpoint, time_of, time_on_port, too_old, way_from, wire_of, wire_set, with_clock}
+use Rattle.precision_law.proofs.words.Laws.{IsLeg, IsView, Leg, View, clock_in}
+use Rattle.run_law.specs.declared.judgement.Reason.TheVariants.{Off}
 use Rattle.run_law.specs.declared.steps.Arrival.TheVariants as arrivals
-use Rattle.run_law.specs.declared.steps.Arrival.{Arrival}
-use Rattle.run_law.specs.device.Standpoints.{Standpoint, first_reason, standpoint}
-use Rattle.run_law.specs.records.Happenings.{frame_by, numbered, with_clock, Happening, time_of}
-use Rattle.run_law.specs.records.Order.{IsIn}
-use Rattle.run_law.specs.runs.DueRecords.{IsCaused}
-use Rattle.run_law.specs.scenario.Devices.{is_relay, is_parent_of}
-use Rattle.run_law.specs.scenario.Ways.{is_way, is_way_of, wire_of, wire_set, is_cut, way_from, delay_at, hold_at}
-use Rattle.run_law.specs.timed.Receptions.{ArrivesAs, arrival_of}
-use Rattle.schedule_tables.proofs.EntryLemmas.{all_at}
-use Rattle.schedule_tables.specs.Delays.{delay_by, delay_of}
-use Rattle.transparent_clock.specs.Hops.{Hop, IsHop}
-use Rattle.tte_units.specs.Amount.{amount}
-use Rattle.tte_units.specs.declared.units.Units.{Units}
+use Rattle.run_law.proofs.law.FirstDelays.{sets_wire}
 
 -- ---- one leg as a hop
 
@@ -60,25 +20,6 @@ pub record HasHop (v : View) (leg : Leg) : Type 0 where
   pub jitter : hop.jitter ≡ option_map_or (λ l. amount l.jitter) (link_at v.scenario.network leg.link) 0
 
 -- ---- the delay of a link
-
--- the wire delay that an event sets on a way of the link
-record SetsWire (link : LinkId) (what : What) (d : ℕ) : Type 0 where
-  pub way : Way
-  pub delay : Units
-  pub is : what ≡ events.Wire link way delay
-  pub sets : amount delay ≡ d
-
-set_if : (b : Bool) (n d : ℕ) → (if b then Some n else None) ≡ Some d → (b ≡ true) × (n ≡ d)
-set_if true n d e = (refl, cc)
-set_if false n d e = absurd cc
-
-sets_wire : (link : LinkId) (way : Way) (what : What) (d : ℕ) → wire_set link way what ≡ Some d → SetsWire link what d
-sets_wire link way (events.Wire other turned delay) d e =
-    let both = set_if (is_way_of link way other turned) (amount delay) d e in
-    let parts = and_parts (link.0 == other.0) (is_way way turned) both.0 in
-    let same : other ≡ link = ap (λ (n : ℕ). let l : LinkId = record { 0 = n } in l) (sym (eqb-true link.0 other.0 parts.0)) in
-    record { way = turned; delay = delay; is = ap (λ (l : LinkId). events.Wire l turned delay) same; sets = both.1 }
-sets_wire link way other d e = absurd cc
 
 -- the delay is that of the wire, but for its jitter
 abbrev pub IsDelay : Link → ℕ → Type 0
@@ -119,19 +60,14 @@ pub delay_is : (v : View) (link : LinkId) (l : Link) (way : Way) (t : ℕ) → I
     → IsDelay l (delay_at v.scenario link way t)
 delay_is v link l way t is there =
     let nominal : wire_of v.scenario.network link ≡ amount l.wire = ap (λ (o : Option Link). option_map_or (λ k. amount k.wire) o 0) there in
-    last_is (IsDelay l) v.scenario (wire_set link way) (wire_of v.scenario.network link) t (omega (arith, nominal), omega (arith, nominal))
-    (set_delay v link l way is there)
+    last_is (IsDelay l) v.scenario (wire_set link way) (wire_of v.scenario.network link) t (omega arith, omega arith) (set_delay v link l way is there)
 
 -- ---- arrivals
 
 -- a frame whose first fault is none is not too old
 not_old : (a b c d e f : Bool) (p q r s t u : Reason) → first_reason ((a, p) ∷ (b, q) ∷ (c, r) ∷ (d, s) ∷ (e, t) ∷ (f, u) ∷ []) ≡ None → e ≡ false
-not_old true b c d e f p q r s t u none = absurd cc
-not_old false true c d e f p q r s t u none = absurd cc
-not_old false false true d e f p q r s t u none = absurd cc
-not_old false false false true e f p q r s t u none = absurd cc
-not_old false false false false true f p q r s t u none = absurd cc
 not_old false false false false false f p q r s t u none = refl
+not_old a b c d e f p q r s t u none = absurd cc
 
 -- the frame with which an arrival is taken
 abbrev pub TakesWith : Arrival → Pcf → Type 0
@@ -167,9 +103,8 @@ taken_young n device link at frame taken takes = by (frame_fault n device link a
 
 -- what a departure says of the clock
 left_with : (old cut : Bool) (clock left : ℕ) → leaves left ≡ (if old then too_old else (if cut then on_cut_way else leaves clock)) → left ≡ clock
-left_with true cut clock left e = absurd cc
-left_with false true clock left e = absurd cc
 left_with false false clock left e = cc
+left_with old cut clock left e = absurd cc
 
 -- the record of a leaving, read
 pub record LeavingIs (v : View) (leg : Leg) (sender : DeviceId) (left_clock : ℕ) : Type 0 where
@@ -185,13 +120,10 @@ pub leaving_is : (v : View) (way : Way) (leg : Leg) → IsView v → (is_leg : I
 leaving_is v way leg is l =
     let s = v.scenario in
     let at = founded_at s v.records leg.leaving is.run.founded l.left in
-    let departs : IsCaused s at.front leg.leaving.note.time (notes.Left l.sender leg.link leg.giving.note.number l.left_clock) = subst
-    (IsCaused s at.front leg.leaving.note.time) l.leaves at.due.cause in
-    let in_all : numbered v.records leg.giving.note.number ≡ Some departs.giving = subst
-    (λ (hs : List Happening). numbered hs leg.giving.note.number ≡ Some departs.giving) (sym at.whole)
+    let departs = subst (IsCaused s at.front leg.leaving.note.time) l.leaves at.due.cause in
+    let in_all = subst (λ (hs : List Happening). numbered hs leg.giving.note.number ≡ Some departs.giving) (sym at.whole)
     (numbered_front at.front (leg.leaving ∷ at.rest) leg.giving.note.number departs.giving departs.there) in
-    let same : departs.giving ≡ leg.giving = same_some (numbered v.records leg.giving.note.number) departs.giving leg.giving in_all
-    (by_number s v.records leg.giving is.run.founded l.given) in
+    let same : departs.giving ≡ leg.giving = same_some _ _ _ in_all (by_number s v.records leg.giving is.run.founded l.given) in
     let given : time_of departs.giving ≡ time_of leg.giving = ap time_of same in
     let clock = left_with (nat_lt (amount s.network.dmax) (clock_at_leaving s l.sender departs.frame (time_of departs.giving) (time_of leg.leaving)))
     (is_cut s leg.link (way_from s.network l.sender leg.link) (time_of leg.leaving))
@@ -200,7 +132,7 @@ leaving_is v way leg is l =
       frame = departs.frame;
       of_frame = ap (λ (h : Happening). h.frame) (sym same) ∙ departs.of_frame;
       hold = hold_at s leg.link (way_from s.network l.sender leg.link) (time_of departs.giving);
-      held = (let h = departs.held in omega (arith, h, given));
+      held = omega (arith, departs.held, given);
       most =
           λ k at_k. hold_most s leg.link k (way_from s.network l.sender leg.link) (time_of departs.giving) is.lawful at_k
           (all_at (IsLinkInRange s.network) s.network.link leg.link.0 k is.lawful.range.links at_k).hold.least;
@@ -223,11 +155,9 @@ record ArrivingIs (v : View) (leg : Leg) (left arrived_clock : ℕ) : Type 0 whe
 put_is : (o : Option Pcf) (frame : Pcf) (link : LinkId) (way : Way) (l : Launch) → o ≡ Some frame
     → option_map (λ f. record { link = link; way = way; signal = control (Ok f) }) o ≡ Some l → l.signal ≡ control (Ok frame)
 put_is o frame link way l e put =
-    let at : Some (record { link = link; way = way; signal = control (Ok frame) }) ≡ Some l =
-    sym (ap (option_map (λ f. record { link = link; way = way; signal = control (Ok f) })) e) ∙ put in
     ap (λ (x : Launch). x.signal)
     (sym (same_some (Some (record { link = link; way = way; signal = control (Ok frame) })) (record { link = link; way = way; signal = control (Ok frame) })
-    l refl at))
+    l refl (sym (ap (option_map (λ f. record { link = link; way = way; signal = control (Ok f) })) e) ∙ put)))
 
 arriving_by : (v : View) (way : Way) (leg : Leg) (is : IsView v) (l : IsLeg v way leg) (frame taken : Pcf) (front : List Happening) (a : Arrival)
     → ((n : ℕ) (h : Happening) → numbered front n ≡ Some h → numbered v.records n ≡ Some h) → leg.leaving.frame ≡ Some frame
@@ -238,36 +168,27 @@ arriving_by v way leg is l frame taken front a in_all framed comes takes shows =
     let same : comes.putting ≡ leg.leaving = same_some (numbered v.records leg.leaving.note.number) comes.putting leg.leaving
     (in_all leg.leaving.note.number comes.putting comes.there) (by_number s v.records leg.leaving is.run.founded l.left) in
     let launch : Launch = record { link = leg.link; way = comes.arrives.way; signal = comes.signal } in
-    let put : launched s leg.leaving (time_of leg.leaving) leg.leaving.note.body ≡ Some launch = subst
-    (λ (h : Happening). launched s h (time_of h) h.note.body ≡ Some launch) same comes.arrives.put in
-    let put_left : launched s leg.leaving (time_of leg.leaving) (notes.Left l.sender leg.link leg.giving.note.number l.left_clock) ≡ Some launch = subst
-    (λ (b : NoteBody). launched s leg.leaving (time_of leg.leaving) b ≡ Some launch) l.leaves put in
+    let put = subst (λ (h : Happening). launched s h (time_of h) h.note.body ≡ Some launch) same comes.arrives.put in
+    let put_left = subst (λ (b : NoteBody). launched s leg.leaving (time_of leg.leaving) b ≡ Some launch) l.leaves put in
     let signal : comes.signal ≡ control (Ok frame) = put_is leg.leaving.frame frame leg.link (way_from s.network l.sender leg.link) launch framed put_left in
-    let port : time_on_port s.network leg.link comes.signal ≡ 0 = ap (time_on_port s.network leg.link) signal in
-    let arrival : a ≡ arrival_of s front l.receiver (time_of leg.arriving) leg.link leg.leaving.note.number (control (Ok frame)) = comes.becomes
-    ∙ ap (arrival_of s front l.receiver (time_of leg.arriving) leg.link leg.leaving.note.number) signal in
+    let arrival = comes.becomes ∙ ap (arrival_of s front l.receiver (time_of leg.arriving) leg.link leg.leaving.note.number) signal in
     let young = taken_young s.network l.receiver leg.link (standpoint s front l.receiver (time_of leg.arriving)) frame taken
     (subst (λ (x : Arrival). TakesWith x taken) arrival takes) in
-    let then_at = comes.arrives.at in
     let put_time : time_of comes.putting ≡ time_of leg.leaving = ap time_of same in
-    let delay : delay_at s leg.link comes.arrives.way (time_of comes.putting) ≡ delay_at s leg.link comes.arrives.way (time_of leg.leaving) =
-    ap (delay_at s leg.link comes.arrives.way) put_time in
     record {
       delay = delay_at s leg.link comes.arrives.way (time_of leg.leaving);
       way = comes.arrives.way;
       is_delay = refl;
-      at = omega (arith, then_at, port, put_time, delay);
+      at = omega (arith, comes.arrives.at, ap (time_on_port s.network leg.link) signal, put_time, ap (delay_at s leg.link comes.arrives.way) put_time);
       clock = shows ∙ young.1;
-      young = (let small = young.0 in let same_clock = young.1 in omega (arith, small, same_clock, shows));
+      young = omega (arith, young, shows);
     }
 
 arriving_is : (v : View) (way : Way) (leg : Leg) (is : IsView v) (l : IsLeg v way leg) (frame : Pcf) → leg.leaving.frame ≡ Some frame
     → ArrivingIs v leg frame.clock l.arrived_clock
 arriving_is v way leg is l frame framed =
-    let s = v.scenario in
-    let at = founded_at s v.records leg.arriving is.run.founded l.arrived in
-    let a : IsCaused s at.front leg.arriving.note.time (notes.Arrived l.receiver leg.link leg.leaving.note.number l.arrived_clock) = subst
-    (IsCaused s at.front leg.arriving.note.time) l.arrives at.due.cause in
+    let at = founded_at v.scenario v.records leg.arriving is.run.founded l.arrived in
+    let a = subst (IsCaused v.scenario at.front leg.arriving.note.time) l.arrives at.due.cause in
     let in_all : (n : ℕ) (h : Happening) → numbered at.front n ≡ Some h
     → numbered v.records n ≡ Some h = λ n h e. subst (λ (hs : List Happening). numbered hs n ≡ Some h) (sym at.whole)
     (numbered_front at.front (leg.arriving ∷ at.rest) n h e) in
@@ -278,19 +199,17 @@ arriving_is v way leg is l frame framed =
     ]
 
 -- the frame that arrived
-arrived_frame : (v : View) (way : Way) (leg : Leg) (frame : Pcf) → IsView v → (l : IsLeg v way leg) → leg.leaving.frame ≡ Some frame
+pub arrived_frame : (v : View) (way : Way) (leg : Leg) (frame : Pcf) → IsView v → (l : IsLeg v way leg) → leg.leaving.frame ≡ Some frame
     → leg.arriving.frame ≡ Some (with_clock l.arrived_clock frame)
 arrived_frame v way leg frame is l framed =
     let s = v.scenario in
     let at = founded_at s v.records leg.arriving is.run.founded l.arrived in
-    let a : IsCaused s at.front leg.arriving.note.time (notes.Arrived l.receiver leg.link leg.leaving.note.number l.arrived_clock) = subst
-    (IsCaused s at.front leg.arriving.note.time) l.arrives at.due.cause in
+    let a = subst (IsCaused s at.front leg.arriving.note.time) l.arrives at.due.cause in
     let put = elim a.taken as (λ _. (h : Happening) × (numbered at.front leg.leaving.note.number ≡ Some h))
     [ inl w ↦ (w.putting, w.there) | inr (inl p) ↦ (p.putting, p.there) | inr (inr b) ↦ (b.putting, b.there) ] in
     let in_all : numbered v.records leg.leaving.note.number ≡ Some put.0 = subst (λ (hs : List Happening). numbered hs leg.leaving.note.number ≡ Some put.0)
     (sym at.whole) (numbered_front at.front (leg.arriving ∷ at.rest) leg.leaving.note.number put.0 put.1) in
-    let same : put.0 ≡ leg.leaving = same_some (numbered v.records leg.leaving.note.number) put.0 leg.leaving in_all
-    (by_number s v.records leg.leaving is.run.founded l.left) in
+    let same = same_some (numbered v.records leg.leaving.note.number) put.0 leg.leaving in_all (by_number s v.records leg.leaving is.run.founded l.left) in
     let of_put : put.0.frame ≡ Some frame = ap (λ (h : Happening). h.frame) same ∙ framed in
     ap (λ (x : Happening). x.frame) at.due.same ∙ ap (frame_by s.network at.front) l.arrives
     ∙ ap (λ (o : Option Happening). option_map (with_clock l.arrived_clock) (option_and_then (λ x. x.frame) o)) put.1
@@ -306,9 +225,7 @@ pub leg_frame : (v : View) (way : Way) (leg : Leg) (frame : Pcf) → IsView v �
     × (leg.arriving.frame ≡ Some (with_clock clock frame))
 leg_frame v way leg frame is l framed =
     let d = leaving_is v way leg is l in
-    let same : d.frame ≡ frame = same_some leg.giving.frame d.frame frame d.of_frame framed in
-    let whole = arrived_frame v way leg (with_clock l.left_clock d.frame) is l d.left_frame in
-    (l.arrived_clock, whole ∙ ap (λ (f : Pcf). Some (with_clock l.arrived_clock f)) same)
+    (l.arrived_clock, (arrived_frame v _ _ _ is l d.left_frame) ∙ ap (λ (f : Pcf). Some (with_clock l.arrived_clock f)) (same_some _ _ _ d.of_frame framed))
 
 -- a leg is a hop
 pub leg_hop : (v : View) (way : Way) (leg : Leg) (link : Link) → IsView v → IsLeg v way leg → link_at v.scenario.network leg.link ≡ Some link → HasHop v leg
@@ -319,12 +236,11 @@ leg_hop v way leg link is l there =
     let clock = arrived_clock_is v way leg (with_clock l.left_clock d.frame) is l d.left_frame in
     let given : clock_in leg.giving ≡ d.frame.clock = ap (λ (o : Option Pcf). option_map_or (λ f. f.clock) o 0) d.of_frame in
     let reading = v.scenario.reading l.sender in
-    let drifts = (is.lawful.clocks l.sender).drifts (time_of leg.giving) (time_of leg.leaving) (let h = d.held in omega (arith, h)) in
-    let hold : time_of leg.leaving - time_of leg.giving ≡ d.hold = (let h = d.held in omega (arith, h)) in
+    let drifts = (is.lawful.clocks l.sender).drifts (time_of leg.giving) (time_of leg.leaving) (omega (arith, d.held)) in
+    let hold : time_of leg.leaving - time_of leg.giving ≡ d.hold = omega (arith, d.held) in
     let within : IsDelay link a.delay = subst (IsDelay link) (sym a.is_delay) (delay_is v leg.link link a.way (time_of leg.leaving) is there) in
     let wire : wire_of n leg.link ≡ amount link.wire = ap (λ (o : Option Link). option_map_or (λ k. amount k.wire) o 0) there in
-    let jitter : option_map_or (λ k. amount k.jitter) (link_at n leg.link) 0 ≡ amount link.jitter =
-    ap (λ (o : Option Link). option_map_or (λ k. amount k.jitter) o 0) there in
+    let jitter = ap (λ (o : Option Link). option_map_or (λ k. amount k.jitter) o 0) there in
     record {
       hop = record {
         hold = d.hold;
@@ -338,9 +254,9 @@ leg_hop v way leg link is l there =
         least = omega (arith, within.0, wire);
         most = omega (arith, within.1, wire, jitter);
       };
-      travels = (let h = d.held in let t = a.at in omega (arith, h, t));
-      grows = (let c = d.clock in let e = a.clock in omega (arith, clock, given, c, e));
-      young = (let y = a.young in omega (arith, clock, y));
+      travels = omega (arith, d.held, a.at);
+      grows = omega (arith, clock, given, d.clock, a.clock);
+      young = omega (arith, clock, a.young);
       fits =
           (let h = d.most link there in let all : delay_of n leg.link ≡ delay_by link = ap (λ (o : Option Link). option_map_or delay_by o 0) there in omega
           (arith, h, within.1, all));

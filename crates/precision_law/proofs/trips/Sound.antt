@@ -1,58 +1,23 @@
 -- The sound channel delivers: up to its compression master, and down from it.
-use Rattle.std.proofs.Common.{◌≡◌, ℕ, suc, ◌+◌, ◌*◌, ◌/◌, ◌^◌, ◌<◌, ◌≤◌, ℤ, pos, Bool, true, false, List, [], ◌∷◌, fold, Option, Some, None, inl, inr, refl, ap, subst, ◌∙◌, arith}
-use Rattle.std.proofs.Math.Nat.{mul-le-mul_left}
-use Rattle.std.proofs.lemmas.Bool.{eq-eqb, le-ltb}
-use Rattle.std.proofs.lemmas.Int.{by_lt_z, ints}
-use Rattle.std.specs.Prelude.{◌==◌, ◌&&◌, IsNone, IsSomeAnd, if◌then◌else◌, nat_lt, not, option_and_then}
-use Rattle.drift_clock.specs.Reach.{IsReach}
-use Rattle.net_plan.proofs.Trees.{opened}
-use Rattle.net_plan.specs.Places.{device_at}
-use Rattle.net_plan.specs.declared.ids.DeviceId.{DeviceId}
-use Rattle.net_plan.specs.declared.ids.LinkId.{LinkId}
-use Rattle.net_plan.specs.declared.network.Network.{Network}
-use Rattle.net_plan.specs.declared.tables.Device.{Device}
-use Rattle.pcf_values.specs.declared.pcf.Pcf.{Pcf}
+use Rattle.precision_law.proofs.words.Std.{◌&&◌, ◌*◌, ◌+◌, ◌/◌, ◌<◌, ◌==◌, ◌^◌, ◌∙◌, ◌∷◌, ◌≡◌, ◌≤◌, Bool, IsNone, IsSomeAnd, List, None, Option, Some, [], ap, arith, by_lt_z, eq-eqb, false, fold, if◌then◌else◌, inl, inr, ints, le-ltb, mul-le-mul_left, nat_lt, not, option_and_then, pos, refl, subst, suc, true, ℕ, ℤ}
+use Rattle.precision_law.proofs.words.Plans.{Device, DeviceId, Integrating, IsReach, Joining, LinkId, Network, Pcf, State, Units, amount, device_at, opened, point_of, state_at_start}
+use Rattle.precision_law.proofs.words.Runs.{BeginsOn, ChangesState, ColdStart, Domain, Gate, Happening, IsCaused, IsIn, Member, NoteBody, Old, Reason, Standpoint, Why, earlier, first_reason, founded_at, frame_fault, in_filter, is_cold_start, is_joined_by, is_of_other_member, is_off, is_turned_on_at, standpoint, start_of, state_after, state_before, state_with, time_of, wire_of, with_clock}
+use Rattle.precision_law.proofs.words.Laws.{IsGood, IsOpen, IsPermanentAt, IsSoundSwitch, IsView, View}
 use Rattle.pcf_values.specs.declared.pcf.PcfKind.TheVariants.{Integration}
+use Rattle.run_law.specs.declared.judgement.Reason.TheVariants.{Off as IsOffReason}
+use Rattle.run_law.specs.declared.judgement.Why.TheVariants as whys
+use Rattle.run_law.specs.declared.note.NoteBody.TheVariants as notes
 use Rattle.precision_law.proofs.clocks.Readings.{reach_is_there}
 use Rattle.precision_law.proofs.faults.Masters.{good_is_correct}
 use Rattle.precision_law.proofs.faults.Ways.{sound_switches_begin_on}
 use Rattle.precision_law.proofs.records.Views.{room, steady}
-use Rattle.precision_law.specs.Trips.{IsOpen, IsPermanentAt}
-use Rattle.precision_law.specs.Views.{IsGood, IsSoundSwitch, IsView, View}
-use Rattle.run_law.proofs.law.FirstPlaces.{founded_at, in_filter}
-use Rattle.run_law.specs.control.Arrivals.{clock_on_arrival, frame_fault, is_cold_start, is_gate_shut, is_of_other_domain, is_of_other_member}
-use Rattle.run_law.specs.declared.judgement.Reason.TheVariants.{Off as IsOffReason, ColdStart, Domain, Member, Old, Gate}
-use Rattle.run_law.specs.declared.judgement.Reason.{Reason}
-use Rattle.run_law.specs.declared.judgement.Why.TheVariants as whys
-use Rattle.run_law.specs.declared.judgement.Why.{Why}
-use Rattle.run_law.specs.declared.note.NoteBody.TheVariants as notes
-use Rattle.run_law.specs.declared.note.NoteBody.{NoteBody}
-use Rattle.run_law.specs.device.Standpoints.{Standpoint, first_reason, standpoint}
-use Rattle.run_law.specs.device.StateChanges.{ChangesState}
-use Rattle.run_law.specs.device.States.{is_joined_by, is_off, state_after, state_before, state_with}
-use Rattle.run_law.specs.records.Happenings.{Happening, earlier, time_of, with_clock}
-use Rattle.run_law.specs.records.Order.{IsIn}
-use Rattle.run_law.specs.runs.DueRecords.{IsCaused}
-use Rattle.run_law.specs.scenario.Devices.{start_of}
-use Rattle.run_law.specs.scenario.Faults.{BeginsOn}
-use Rattle.run_law.specs.scenario.Scenarios.{is_broken, is_turned_on_at}
-use Rattle.run_law.specs.scenario.Ways.{wire_of}
-use Rattle.sync_state.specs.Standing.{state_at_start}
-use Rattle.sync_state.specs.declared.state.State.TheVariants.{Integrating, Joining}
-use Rattle.sync_state.specs.declared.state.State.{State}
-use Rattle.transparent_clock.specs.Points.{point_of}
-use Rattle.tte_units.specs.Amount.{amount}
-use Rattle.tte_units.specs.declared.units.Units.{Units}
 
 -- ---- the switches of the sound channel are on
 
 state_is_on : (s : _) (ps : List Happening) (t : ℕ) (device : DeviceId) (state : State) (cause : ℕ) (why : Why) → ChangesState s ps device t state cause why
     → is_off state ≡ false
 state_is_on s ps t device state cause whys.On c = ap is_off c.0
-state_is_on s ps t device state cause whys.Frame c = ap is_off c.0
-state_is_on s ps t device state cause whys.Correction c = ap is_off c.0
-state_is_on s ps t device state cause whys.SyncClique c = ap is_off c.0
-state_is_on s ps t device state cause whys.AsyncClique c = ap is_off c.0
+state_is_on s ps t device state cause why c = ap is_off c.0
 
 joined_or : (b : Bool) (old : State) → is_off old ≡ false → is_off (if b then Joining else old) ≡ false
 joined_or true old e = refl
@@ -112,17 +77,11 @@ pub record IsClean (n : Network) (frame : Pcf) : Type 0 where
 none_holds : (a b c d e f : Bool) (p q r s t u : Reason) → a ≡ false → b ≡ false → c ≡ false → d ≡ false → e ≡ false → f ≡ false
     → first_reason ((a, p) ∷ (b, q) ∷ (c, r) ∷ (d, s) ∷ (e, t) ∷ (f, u) ∷ []) ≡ None
 none_holds false false false false false false p q r s t u ea eb ec ed ee ef = refl
-none_holds true b c d e f p q r s t u ea eb ec ed ee ef = absurd cc
-none_holds false true c d e f p q r s t u ea eb ec ed ee ef = absurd cc
-none_holds false false true d e f p q r s t u ea eb ec ed ee ef = absurd cc
-none_holds false false false true e f p q r s t u ea eb ec ed ee ef = absurd cc
-none_holds false false false false true f p q r s t u ea eb ec ed ee ef = absurd cc
-none_holds false false false false false true p q r s t u ea eb ec ed ee ef = absurd cc
+none_holds a b c d e f p q r s t u ea eb ec ed ee ef = absurd cc
 
 taking_part : (off broken : Bool) → off ≡ false → broken ≡ false → not (not off && not broken) ≡ false
 taking_part false false a b = refl
-taking_part true broken a b = absurd cc
-taking_part false true a b = absurd cc
+taking_part off broken a b = absurd cc
 
 same_domain : (a b c d : ℕ) → a ≡ b → c ≡ d → not (a == b && c == d) ≡ false
 same_domain a b c d one other = ap (λ (x : Bool). not (x && c == d)) (eq-eqb a b one) ∙ ap (λ (x : Bool). not x) (eq-eqb c d other)
@@ -139,11 +98,8 @@ pub no_fault : (v : View) (device : DeviceId) (link : LinkId) (u clock : ℕ) (f
 no_fault v device link u clock frame is clean good within on is_open member small =
     let n = v.scenario.network in
     let at : Standpoint = standpoint v.scenario v.records device u in
-    none_holds (not at.takes_part) (is_cold_start frame.kind) (is_of_other_domain n (with_clock clock frame)) (is_of_other_member n device link frame.members)
-    (nat_lt (amount n.dmax) (clock_on_arrival n link (with_clock clock frame))) (is_gate_shut n device at) IsOffReason ColdStart Domain Member Old Gate
-    (taking_part (is_off (state_before v.scenario v.records device u)) (is_broken v.scenario device u) on (good_is_correct v device u good within))
-    (ap is_cold_start clean.kind) (same_domain frame.priority n.priority frame.domain n.domain clean.priority clean.domain) member
-    (le-ltb (amount n.dmax) (clock + wire_of n link) small) is_open
+    none_holds _ _ _ _ _ _ IsOffReason ColdStart Domain Member Old Gate (taking_part _ _ on (good_is_correct v device u good within))
+    (ap is_cold_start clean.kind) (same_domain _ _ _ _ clean.priority clean.domain) member (le-ltb (amount n.dmax) (clock + wire_of n link) small) is_open
 
 -- ---- the budget of a path
 
@@ -182,12 +138,10 @@ will_be_permanent v last device link cause clock is body small =
     } in
     by_lt_z {P = WillBePermanent v last device clock} (pos (reading a)) point
     (λ below.
-    let slow = (steady v is device).slow a (a + v.sizes.cycle) (omega arith) (omega arith) in
     let cycles = space.cycles in
     let errors = space.eight_errors in
     let reach_is = space.errors.reach_is in
     let there = reach_is_there v.sizes reading a a point (a + v.sizes.cycle) (steady v is device) (omega arith) (omega (arith, cycles, errors, reach_is)) below
-    (omega (arith, ints, slow, cycles, errors, reach_is)) in
+    (omega (arith, ints, (steady v is device).slow a (a + v.sizes.cycle) (omega arith) (omega arith), cycles, errors, reach_is)) in
     of_reach there.0 there.3)
-    (λ enough. of_reach a
-    (record { from_on = omega (arith, ints); reached = enough; not_before = λ y from_y y_before. absurd (omega (arith, ints, from_y, y_before)) }))
+    (λ enough. of_reach a (record { from_on = omega (arith, ints); reached = enough; not_before = λ y from_y y_before. absurd (omega (arith, ints)) }))

@@ -1,55 +1,14 @@
 -- The sound channel brings compressed frames down to its devices.
-use Rattle.std.proofs.Common.{◌≡◌, ◌⊎◌, ℕ, ◌+◌, ◌*◌, ◌^◌, ◌≤◌, Bool, true, false, List, [], ◌∷◌, ◌++◌, length, Option, Some, inl, inr, refl, sym, ap, subst, ◌∙◌, arith}
-use Rattle.std.proofs.lemmas.Bool.{eq-eqb}
-use Rattle.std.proofs.lemmas.Int.{ints}
-use Rattle.std.proofs.lemmas.List.Sums.{sum_by-cons}
-use Rattle.std.specs.Option.{option_map_or}
-use Rattle.std.specs.Prelude.{◌==◌, ◌&&◌, if◌then◌else◌, option_map}
-use Rattle.net_plan.proofs.Shape.{rules_give_trees}
-use Rattle.net_plan.proofs.Trees.{closed, opened}
-use Rattle.net_plan.specs.Bounds.{beta_at}
-use Rattle.net_plan.specs.Paths.{IsPath}
-use Rattle.net_plan.specs.Places.{device_at, is_end_system, link_at, IsCmOf, IsDeviceOf, IsSwitchOf}
-use Rattle.net_plan.specs.Rules.{IsChildOf}
-use Rattle.net_plan.specs.declared.ids.DeviceId.{DeviceId}
-use Rattle.net_plan.specs.declared.ids.LinkId.{LinkId}
-use Rattle.net_plan.specs.declared.tables.Device.{Device}
-use Rattle.net_plan.specs.declared.tables.Link.{Link}
-use Rattle.net_plan.specs.declared.tables.Role.TheVariants.{Master, Client, Cm, Relay}
-use Rattle.net_plan.specs.declared.tables.Role.{Role}
-use Rattle.net_plan.specs.declared.tables.Way.TheVariants.{Up, Down}
-use Rattle.pcf_values.specs.declared.pcf.Pcf.{Pcf}
-use Rattle.precision_law.proofs.faults.Masters.{good_is_correct, switches_are_good}
-use Rattle.precision_law.proofs.faults.Ways.{sound_ways_are_whole}
-use Rattle.precision_law.proofs.hearing.Timely.{path_member}
-use Rattle.precision_law.proofs.trips.Descents.{child_down}
-use Rattle.precision_law.proofs.trips.Links.{IsGivenOn, arrives_at, goes_over, leaves_at, takes_at_most}
-use Rattle.precision_law.proofs.trips.Sound.{IsClean, IsReady, budget, no_fault, sound_switch_on, will_be_permanent}
-use Rattle.precision_law.specs.Sizes.{Sizes}
-use Rattle.precision_law.specs.Trips.{AreOpenFrom, IsOpen, IsTrip, Leg, clock_in}
-use Rattle.precision_law.specs.Views.{IsGood, IsSoundSwitch, IsView, View}
-use Rattle.run_law.proofs.law.FirstPlaces.{founded_at}
-use Rattle.run_law.specs.control.Arrivals.{are_others, is_of_other_member}
-use Rattle.run_law.specs.control.Leaving.{Gives}
+use Rattle.precision_law.proofs.words.Std.{◌&&◌, ◌*◌, ◌++◌, ◌+◌, ◌==◌, ◌^◌, ◌∙◌, ◌∷◌, ◌≡◌, ◌≤◌, ◌⊎◌, Bool, List, Option, Some, [], ap, arith, eq-eqb, false, if◌then◌else◌, inl, inr, ints, length, option_map, option_map_or, refl, subst, sum_by-cons, sym, true, ℕ}
+use Rattle.precision_law.proofs.words.Plans.{Device, DeviceId, Down, IsChildOf, IsCmOf, IsDeviceOf, IsPath, IsSwitchOf, Link, LinkId, Members, Pcf, Relay, Role, Up, amount, beta_at, closed, delay_by, delay_of, delay_on, device_at, is_end_system, link_at, opened, rules_give_trees, shape_rules, target_by}
+use Rattle.precision_law.proofs.words.Runs.{Gives, Happening, IsIn, IsParentOf, NoteBody, are_others, founded_at, frame_by, integration_frame, is_end, is_parent_of, is_relay, is_relay_role, member_of, receiver_of, time_of, with_clock}
+use Rattle.precision_law.proofs.words.Laws.{AreOpenFrom, IsEmission, IsGood, IsOpen, IsSoundSwitch, IsTrip, IsView, Leg, SoundFramesGoDown, View, clock_in, links_back}
+use Rattle.precision_law.proofs.words.Clocks.{IsClean, IsGivenOn, IsReady, arrives_at, budget, child_down, goes_over, good_is_correct, leaves_at, no_fault, sizes_are, sound_switch_on, sound_ways_are_whole, switches_are_good, takes_at_most, trip_more, will_be_permanent}
 use Rattle.run_law.specs.declared.note.NoteBody.TheVariants as notes
-use Rattle.run_law.specs.declared.note.NoteBody.{NoteBody}
-use Rattle.run_law.specs.records.Happenings.{Happening, frame_by, time_of, with_clock}
-use Rattle.run_law.specs.records.Order.{IsIn}
-use Rattle.run_law.specs.scenario.Devices.{is_end, is_parent_of, is_relay, is_relay_role, member_of, IsParentOf}
-use Rattle.run_law.specs.scenario.Ways.{receiver_of}
-use Rattle.schedule_tables.proofs.Margins.{shape_rules}
-use Rattle.schedule_tables.specs.Delays.{delay_by, delay_of, delay_on}
-use Rattle.schedule_tables.specs.Entries.{target_by}
-use Rattle.tte_units.specs.Amount.{amount}
+use Rattle.precision_law.proofs.hearing.Timely.{emission_clock, emission_gives, path_member}
 use Rattle.precision_law.proofs.trips.SoundUp.{child_relays, one_cm, path_fits}
-use Rattle.precision_law.proofs.hearing.Timely.{emission_clock, emission_gives}
-use Rattle.precision_law.proofs.trips.Upward.{trips_down_take_dmax}
 use Rattle.precision_law.proofs.trips.Travels.{path_down}
-use Rattle.precision_law.proofs.trips.Descents.{trip_more}
-use Rattle.precision_law.specs.Bases.{IsEmission}
-use Rattle.precision_law.specs.Trips.{SoundFramesGoDown, links_back}
-use Rattle.pcf_values.specs.declared.members.Members.{Members}
-use Rattle.run_law.specs.records.Frames.{integration_frame}
+use Rattle.precision_law.proofs.trips.Upward.{trips_down_take_dmax}
 
 -- ---- one link down
 
@@ -83,7 +42,6 @@ go_down : (links : List LinkId) (v : View) (first : Happening) (cm device : Devi
     → time_of first + v.sizes.dmax + v.sizes.path ≤ v.until
     → ComesDown v first cm device (delay_on v.scenario.network links) (length links)
 go_down [] v first cm device cycle members is e one path good ready opens in_run =
-    let n = v.scenario.network in
     let at = founded_at v.scenario v.records first is.run.founded e.there in
     let same : cm ≡ device = one_cm v v.channel cm device is one path in
     record {
@@ -91,10 +49,10 @@ go_down [] v first cm device cycle members is e one path good ready opens in_run
       last = first;
       trip = refl;
       there = e.there;
-      frame = integration_frame n cm cycle members;
-      of_frame = ap (λ (x : Happening). x.frame) at.due.same ∙ ap (frame_by n at.front) e.is;
+      frame = integration_frame v.scenario.network cm cycle members;
+      of_frame = ap (λ (x : Happening). x.frame) at.due.same ∙ ap (frame_by v.scenario.network at.front) e.is;
       clean = record { kind = refl; priority = refl; domain = refl };
-      gives = λ link parent switch. subst (λ (b : NoteBody). Gives n b device link) (sym e.is) (sym same, parent);
+      gives = λ link parent switch. subst (λ (b : NoteBody). Gives v.scenario.network b device link) (sym e.is) (sym same, parent);
       clock = omega arith;
       small = omega arith;
       time = omega arith;
@@ -102,8 +60,7 @@ go_down [] v first cm device cycle members is e one path good ready opens in_run
       how = inl (sym same);
     }
 go_down (link ∷ rest) v first cm device cycle members is e one path good ready opens in_run =
-    let s = v.scenario in
-    let n = s.network in
+    let n = v.scenario.network in
     let l = opened (λ (x : Link). (x.child ≡ device) × IsSwitchOf n v.channel x.parent × IsPath n v.channel x.parent rest) (link_at n link) path in
     let sender : DeviceId = l.0.parent in
     let switch : IsSoundSwitch v sender = l.2.1 in
@@ -114,24 +71,19 @@ go_down (link ∷ rest) v first cm device cycle members is e one path good ready
     let t0 : ℕ = time_of first in
     let child : IsChildOf n device link = closed (λ (x : Link). x.child ≡ device) (link_at n link) l.0 l.1 l.2.0 in
     let parent : IsParentOf n sender link = closed (λ (x : Link). x.parent ≡ sender) (link_at n link) l.0 l.1 refl in
-    let is_parent : is_parent_of n sender link ≡ true = ap (λ (o : Option Link). option_map_or (λ k. k.parent.0 == sender.0) o false) l.1
-    ∙ eq-eqb sender.0 sender.0 refl in
+    let is_parent = ap (λ (o : Option Link). option_map_or (λ k. k.parent.0 == sender.0) o false) l.1 ∙ eq-eqb sender.0 sender.0 refl in
     let on_way = child_down v device link is child in
     let to : receiver_of n link Down ≡ Some device = ap (λ (o : Option Link). option_map (target_by Down) o) l.1 ∙ ap (λ (x : DeviceId). Some x) l.2.0 in
-    let delay : delay_on n (link ∷ rest) ≡ delay_by l.0 + delay_on n rest = sum_by-cons (delay_of n) link rest
-    ∙ ap (λ (x : ℕ). x + delay_on n rest) (ap (λ (o : Option Link). option_map_or delay_by o 0) l.1) in
+    let delay = sum_by-cons (delay_of n) link rest ∙ ap (λ (x : ℕ). x + delay_on n rest) (ap (λ (o : Option Link). option_map_or delay_by o 0) l.1) in
     let takes = takes_at_most v Down link l.0 (time_of r) is l.1 in
-    let dmax : v.sizes.dmax ≡ amount n.dmax = ap (λ (z : Sizes). z.dmax) is.sizes in
-    let value : v.sizes.path ≡ beta_at n is.beta.jitter is.beta.links = (let b = is.beta.value in omega (arith, ints, b)) in
+    let value : v.sizes.path ≡ beta_at n is.beta.jitter is.beta.links = omega (arith, ints, is.beta.value) in
     let whole = path_fits v v.channel device (link ∷ rest) is (path_member v v.channel device (link ∷ rest) is path) path in
-    let time = above.time in
-    let after = above.after in
-    let fits : v.sizes.path + (delay_on n rest + (delay_by l.0 + 0)) ≤ amount n.dmax = (let w = whole.0 in omega (arith, w, delay, dmax)) in
-    let u : ℕ = arrives_at s link Down (time_of r) in
-    let soon : u ≤ t0 + (delay_on n rest + delay_by l.0) = omega (arith, takes.0, time) in
-    let within : u ≤ v.until = omega (arith, soon, fits, in_run, dmax) in
-    let behind : t0 ≤ u = omega (arith, after) in
-    let stands = ready u behind (omega (arith, soon, fits, dmax)) in
+    let fits : v.sizes.path + (delay_on n rest + (delay_by l.0 + 0)) ≤ amount n.dmax = omega (arith, whole.0, delay, sizes_are v is) in
+    let u : ℕ = arrives_at v.scenario link Down (time_of r) in
+    let soon : u ≤ t0 + (delay_on n rest + delay_by l.0) = omega (arith, takes.0, above.time) in
+    let within : u ≤ v.until = omega (arith, soon, fits, in_run, sizes_are v is) in
+    let behind : t0 ≤ u = omega (arith, above.after) in
+    let stands = ready u behind (omega (arith, soon, fits, sizes_are v is)) in
     let g : IsGivenOn v Down r above.frame sender device link l.0 = record {
       given = above.there;
       of_frame = above.of_frame;
@@ -140,34 +92,28 @@ go_down (link ∷ rest) v first cm device cycle members is e one path good ready
       from_way = ap (λ (b : Bool). if b then Down else Up) is_parent;
       on_way = on_way;
       comes_to = to;
-      correct = good_is_correct v sender (leaves_at s link Down (time_of r)) of_sender (omega (arith, takes.1, within));
+      correct = good_is_correct v sender (leaves_at v.scenario link Down (time_of r)) of_sender (omega (arith, takes.1, within));
       whole =
-          sound_ways_are_whole v link Down (leaves_at s link Down (time_of r)) is
+          sound_ways_are_whole v link Down (leaves_at v.scenario link Down (time_of r)) is
           (closed (λ (x : Link). IsSwitchOf n v.channel x.parent) (link_at n link) l.0 l.1 switch) (omega (arith, takes.1, within));
     } in
-    let spend : (next : ℕ) → 10 ^ 9 * next ≤ 10 ^ 9 * above.frame.clock + 10 ^ 9 * delay_by l.0 + n.rho * delay_by l.0 + 2 * amount n.grain * 10 ^ 9
-    → (next ≤ amount n.dmax)
-    × (10 ^ 9 * next ≤ 10 ^ 9 * (delay_on n rest + delay_by l.0) + n.rho * (delay_on n rest + delay_by l.0) + 2 * amount n.grain * 10 ^
-    9 * (length rest + 1)) = λ next grows.
-    budget n.rho (amount n.grain) (amount n.dmax) v.sizes.path is.beta.jitter is.beta.links (delay_on n rest) (delay_by l.0) 0 (length rest) 0 above.frame.clock
-    next value fits (let w = whole.1 in omega (arith, w)) above.clock grows in
-    let member : is_of_other_member n device link above.frame.members ≡ false =
-    ap (λ (o : Option Link). option_map_or (λ x. x.parent.0 == device.0 && is_end n x.child && are_others (member_of n x.child) above.frame.members) o false)
-    l.1
-    ∙ first_false (l.0.parent.0 == device.0) (is_end n l.0.child) (are_others (member_of n l.0.child) above.frame.members)
+    let spend : (next : ℕ) → 10 ^ 9 * next ≤ 10 ^ 9 * above.frame.clock + 10 ^ 9 * delay_by l.0 + n.rho * delay_by l.0 + 2 * amount n.grain * 10 ^ 9 →
+    (next ≤ amount n.dmax) ×
+    (10 ^ 9 * next ≤ 10 ^ 9 * (delay_on n rest + delay_by l.0) + n.rho * (delay_on n rest + delay_by l.0) + 2 * amount n.grain * 10 ^ 9 *
+    (length rest + 1)) = λ next grows. budget n.rho (amount n.grain) (amount n.dmax) _ is.beta.jitter is.beta.links (delay_on n rest) (delay_by l.0) 0
+    (length rest) 0 above.frame.clock next value fits (omega (arith, whole.1)) above.clock grows in
+    let member = ap (λ (o : Option Link). option_map_or (λ x. x.parent.0 == device.0 && is_end n x.child && are_others
+    (member_of n x.child) above.frame.members) o false) l.1 ∙ first_false _ (is_end n l.0.child) (are_others (member_of n l.0.child) above.frame.members)
     (sym (ap (λ (o : Option Link). option_map_or (λ k. k.parent.0 == device.0) o false) l.1) ∙ not_parent (is_parent_of n device link) on_way) in
     let gone = goes_over v Down r above.frame sender device link l.0 is g (λ next grows. (spend next grows).0)
     (λ next small. no_fault v device link u next above.frame is above.clean good within stands.0 stands.1 member small) within in
-    let arrived = gone.at in
     let spent = spend gone.clock gone.grows in
     let many : length rest + 1 ≡ length (link ∷ rest) = omega arith in
     let sum : delay_on n rest + delay_by l.0 ≡ delay_on n (link ∷ rest) = omega (arith, delay) in
     record {
       legs = above.legs ++ record { link = link; giving = r; leaving = gone.leaving; arriving = gone.arriving } ∷ [];
       last = gone.arriving;
-      trip =
-          trip_more v Down first r gone.arriving above.legs (record { link = link; giving = r; leaving = gone.leaving; arriving = gone.arriving }) above.trip
-          refl refl gone.is;
+      trip = trip_more v _ first r gone.arriving above.legs _ above.trip refl refl gone.is;
       there = gone.is.arrived;
       frame = with_clock gone.clock above.frame;
       of_frame = gone.of_frame;
@@ -179,31 +125,25 @@ go_down (link ∷ rest) v first cm device cycle members is e one path good ready
           (subst (λ (x : ℕ). 10 ^ 9 * gone.clock ≤ 10 ^ 9 * (delay_on n rest + delay_by l.0) + n.rho * (delay_on n rest + delay_by l.0) + 2 * amount
           n.grain * 10 ^ 9 * x) many spent.1);
       small = spent.0;
-      time = omega (arith, arrived, soon, sum);
-      after = omega (arith, arrived, behind);
+      time = omega (arith, gone.at, soon, sum);
+      after = omega (arith, gone.at, behind);
       how = inr (link, gone.cause, gone.body);
     }
 
 -- ---- the law
 
 relay_no_end : (role : Role) → is_end_system role ≡ true → is_relay_role role ≡ false
-relay_no_end Master e = refl
-relay_no_end Client e = refl
-relay_no_end Cm e = refl
 relay_no_end Relay e = absurd cc
+relay_no_end role e = refl
 
 -- the gate of a device of the channel is open
 is_open_at : (v : View) (device : DeviceId) (u : ℕ) → IsDeviceOf v.scenario.network v.channel device → (IsSoundSwitch v device → IsOpen v device u)
     → IsOpen v device u
 is_open_at v device u member opens =
-    let n = v.scenario.network in
-    let d = opened (λ (x : Device). (is_end_system x.role ≡ true) ⊎ (x.channel ≡ Some v.channel)) (device_at n device) member in
+    let d = opened (λ (x : Device). (is_end_system x.role ≡ true) ⊎ (x.channel ≡ Some v.channel)) (device_at v.scenario.network device) member in
     elim d.2 [
-      | inl end ↦
-          let no_relay : is_relay n device ≡ false = ap (λ (o : Option Device). option_map_or (λ x. is_relay_role x.role) o false) d.1
-          ∙ relay_no_end d.0.role end in
-          shut no_relay
-      | inr channel ↦ opens (closed (λ (x : Device). x.channel ≡ Some v.channel) (device_at n device) d.0 d.1 channel)
+      | inl end ↦ shut (ap (λ (o : Option Device). option_map_or (λ x. is_relay_role x.role) o false) d.1 ∙ relay_no_end d.0.role end)
+      | inr channel ↦ opens (closed (λ (x : Device). x.channel ≡ Some v.channel) (device_at v.scenario.network device) d.0 d.1 channel)
     ]
   where
     shut : is_relay v.scenario.network device ≡ false → IsOpen v device u
@@ -211,17 +151,13 @@ is_open_at v device u member opens =
 
 pub sound_frames_go_down : SoundFramesGoDown
 sound_frames_go_down v h device cm cycle members is e one member good other opens in_run on =
-    let n = v.scenario.network in
-    let tree = rules_give_trees n (shape_rules n is.lawful.rules) in
-    let reach = tree.reach v.channel device member in
+    let reach = (rules_give_trees v.scenario.network (shape_rules v.scenario.network is.lawful.rules)).reach v.channel device member in
     let ready : IsReady v device (time_of h) = λ u from to. (on u from to, is_open_at v device u member (λ switch. opens device u switch from to)) in
     let goes = go_down reach.0 v h cm device cycle members is e one reach.2 good ready opens in_run in
-    let dmax : v.sizes.dmax ≡ amount n.dmax = ap (λ (z : Sizes). z.dmax) is.sizes in
-    let small = goes.small in
     elim goes.how [
       | inl same ↦ absurd (other same)
       | inr arrived ↦
-          let will = will_be_permanent v goes.last device arrived.0 arrived.1 goes.frame.clock is arrived.2 (omega (arith, small, dmax)) in
+          let will = will_be_permanent v goes.last device arrived.0 arrived.1 goes.frame.clock is arrived.2 (omega (arith, goes.small, sizes_are v is)) in
           let gives = emission_gives v h cm cycle members e is in
           let path = path_down v gives.0 h goes.last goes.legs cm [] is gives.1 goes.trip device arrived.0 arrived.1 goes.frame.clock arrived.2 in
           let clock_is : clock_in goes.last ≡ goes.frame.clock = ap (λ (o : Option Pcf). option_map_or (λ f. f.clock) o 0) goes.of_frame in

@@ -1,72 +1,23 @@
 -- The sound channel brings dispatches up to its compression master.
-use Rattle.std.proofs.Common.{◌≡◌, ◌⊎◌, ℕ, suc, ◌+◌, ◌*◌, ◌^◌, ◌≤◌, Bool, true, false, List, [], ◌∷◌, length, Option, Some, None, inl, inr, refl, sym, ap, subst, ◌∙◌, arith}
-use Rattle.std.proofs.lemmas.Bool.{both_ways, eq-eqb}
-use Rattle.std.proofs.lemmas.Int.{ints}
-use Rattle.std.proofs.lemmas.List.Sums.{sum_by-cons}
-use Rattle.std.specs.Option.{option_map_or}
-use Rattle.std.specs.Prelude.{◌==◌, ◌&&◌, if◌then◌else◌, is_some, not, option_map, unwrap_or}
-use Rattle.net_plan.proofs.Shape.{rules_give_trees}
-use Rattle.net_plan.proofs.Trees.{closed, opened}
-use Rattle.net_plan.specs.Bounds.{beta_at}
-use Rattle.net_plan.specs.Paths.{IsPath}
-use Rattle.net_plan.specs.Places.{device_at, is_end_system, link_at, IsCmOf, IsDeviceOf, IsSwitchOf, is_master}
-use Rattle.net_plan.specs.Ranges.{IsDeviceInRange}
-use Rattle.net_plan.specs.Rules.{IsChildOf}
-use Rattle.net_plan.specs.declared.ids.DeviceId.{DeviceId}
-use Rattle.net_plan.specs.declared.ids.LinkId.{LinkId}
-use Rattle.net_plan.specs.declared.tables.Device.{Device}
-use Rattle.net_plan.specs.declared.tables.Link.{Link}
-use Rattle.net_plan.specs.declared.tables.Role.TheVariants.{Master, Client, Cm, Relay}
-use Rattle.net_plan.specs.declared.tables.Role.{Role}
-use Rattle.net_plan.specs.declared.tables.Way.TheVariants.{Up, Down}
-use Rattle.pcf_values.specs.declared.channel.Channel.TheVariants.{A, B}
-use Rattle.pcf_values.specs.declared.channel.Channel.{Channel}
-use Rattle.pcf_values.specs.declared.pcf.Pcf.{Pcf}
-use Rattle.precision_law.proofs.compression.Made.{dispatch_clock}
-use Rattle.precision_law.proofs.faults.Masters.{good_is_correct, master_ends, switches_are_good}
-use Rattle.precision_law.proofs.faults.Ways.{sound_ways_are_whole}
-use Rattle.precision_law.proofs.trips.Ascents.{master_member}
-use Rattle.precision_law.proofs.trips.Descents.{child_down, receiver_up}
-use Rattle.precision_law.proofs.trips.Links.{HasGone, IsGivenOn, arrives_at, goes_over, leaves_at, takes_at_most}
-use Rattle.precision_law.proofs.trips.Sound.{IsClean, budget, no_fault, sound_switch_on, will_be_permanent}
-use Rattle.precision_law.proofs.trips.Upward.{path_up, trips_up_take_dmax}
-use Rattle.precision_law.specs.Sizes.{Sizes}
-use Rattle.precision_law.specs.Trips.{AreOpenFrom, IsBrought, IsTrip, Leg, SoundFramesGoUp, clock_in}
-use Rattle.precision_law.specs.Views.{IsGood, IsSoundSwitch, IsView, View}
-use Rattle.run_law.proofs.law.FirstPlaces.{founded_at}
-use Rattle.run_law.proofs.runs.SameSteps.{same_some}
-use Rattle.run_law.specs.control.Arrivals.{are_others, is_of_other_member}
-use Rattle.run_law.specs.control.Leaving.{Gives}
+use Rattle.precision_law.proofs.words.Std.{◌&&◌, ◌*◌, ◌+◌, ◌==◌, ◌^◌, ◌∙◌, ◌∷◌, ◌≡◌, ◌≤◌, ◌⊎◌, Bool, List, None, Option, Some, [], ap, arith, both_ways, eq-eqb, false, if◌then◌else◌, inl, inr, ints, is_some, length, not, not-true, option_map, option_map_or, refl, subst, suc, sum_by-cons, sym, true, unwrap_or, ℕ}
+use Rattle.precision_law.proofs.words.Plans.{A, B, Channel, Cm, CompressionMasters, Device, DeviceId, Down, IsChildOf, IsCmOf, IsDeviceInRange, IsDeviceOf, IsPath, IsSwitchOf, Joints, Link, LinkId, Master, Pcf, Relay, Role, Up, all_at, amount, beta_at, closed, delay_by, delay_of, delay_on, device_at, is_end_system, is_master, link_at, margins, opened, rules_give_trees, shape_rules, target_by}
+use Rattle.precision_law.proofs.words.Runs.{Gives, Happening, IsCaused, IsIn, IsParentOf, NoteBody, are_others, dispatched_frame, founded_at, frame_by, is_end, is_of_other_member, is_parent_of, is_relay, is_relay_role, member_of, receiver_of, same_some, time_of, with_clock}
+use Rattle.precision_law.proofs.words.Laws.{AreOpenFrom, IsBrought, IsGood, IsSoundSwitch, IsTrip, IsView, Leg, SoundFramesGoUp, View, clock_in}
+use Rattle.precision_law.proofs.words.Clocks.{HasGone, IsClean, IsGivenOn, arrives_at, budget, child_down, device_of, goes_over, good_is_correct, leaves_at, master_ends, master_member, no_fault, receiver_up, sizes_are, sound_switch_on, sound_ways_are_whole, switches_are_good, takes_at_most, will_be_permanent}
 use Rattle.run_law.specs.declared.note.NoteBody.TheVariants as notes
-use Rattle.run_law.specs.declared.note.NoteBody.{NoteBody}
-use Rattle.run_law.specs.records.Frames.{dispatched_frame}
-use Rattle.run_law.specs.records.Happenings.{Happening, frame_by, time_of, with_clock}
-use Rattle.run_law.specs.records.Order.{IsIn}
-use Rattle.run_law.specs.runs.DueRecords.{IsCaused}
-use Rattle.run_law.specs.scenario.Devices.{is_end, is_parent_of, is_relay, is_relay_role, member_of, IsParentOf}
-use Rattle.run_law.specs.scenario.Ways.{receiver_of}
-use Rattle.schedule_tables.proofs.EntryLemmas.{all_at}
-use Rattle.schedule_tables.proofs.Margins.{margins, shape_rules}
-use Rattle.schedule_tables.specs.Delays.{delay_by, delay_of, delay_on}
-use Rattle.schedule_tables.specs.Entries.{target_by}
-use Rattle.schedule_tables.specs.declared.rule.Rule.TheVariants.{CompressionMasters, Joints}
-use Rattle.tte_units.specs.Amount.{amount}
+use Rattle.precision_law.proofs.compression.Made.{dispatch_clock}
+use Rattle.precision_law.proofs.trips.Upward.{path_up, trips_up_take_dmax}
 
 -- ---- roles
-
-not_end : (b : Bool) → true ≡ not b → b ≡ false
-not_end true e = absurd cc
-not_end false e = refl
 
 -- a switch is no end system
 pub switch_ends : (v : View) (device : DeviceId) (channel : Channel) → IsView v → IsSwitchOf v.scenario.network channel device
     → is_end v.scenario.network device ≡ false
 switch_ends v device channel is switch =
-    let n = v.scenario.network in
-    let d = opened (λ (x : Device). x.channel ≡ Some channel) (device_at n device) switch in
-    let known : IsDeviceInRange d.0 = all_at IsDeviceInRange n.device device.0 d.0 is.lawful.range.devices d.1 in
+    let d = opened (λ (x : Device). x.channel ≡ Some channel) (device_at v.scenario.network device) switch in
+    let known : IsDeviceInRange d.0 = all_at IsDeviceInRange v.scenario.network.device device.0 d.0 is.lawful.range.devices d.1 in
     ap (λ (o : Option Device). option_map_or (λ x. is_end_system x.role) o false) d.1
-    ∙ not_end (is_end_system d.0.role) (ap (λ (c : Option Channel). is_some c) (sym d.2) ∙ known.switches)
+    ∙ not-true (is_end_system d.0.role) (sym (ap (λ (c : Option Channel). is_some c) (sym d.2) ∙ known.switches))
 
 -- one that is a link's child is a relay
 pub child_relays : (v : View) (device : DeviceId) (channel : Channel) (link : LinkId) (l : Link) → IsView v → link_at v.scenario.network link ≡ Some l
@@ -91,8 +42,7 @@ turned false e = refl
 
 last_false : (a b c : Bool) → (b ≡ true → c ≡ false) → (a && b && c) ≡ false
 last_false true true c f = f refl
-last_false true false c f = refl
-last_false false b c f = refl
+last_false a b c f = refl
 
 -- a channel has one compression master
 pub one_cm : (v : View) (channel : Channel) (a b : DeviceId) → IsView v → IsCmOf v.scenario.network channel a → IsCmOf v.scenario.network channel b → a ≡ b
@@ -133,26 +83,20 @@ step_up : (v : View) (t0 : ℕ) (link : LinkId) (rest : List LinkId) (r : Happen
     → CanGoUp v t0 link rest r frame sender d k is.beta.links → AreOpenFrom v t0 → t0 + v.sizes.dmax + v.sizes.path ≤ v.until
     → Stepped v t0 link rest r frame d k is.beta.links
 step_up v t0 link rest r frame sender d k is c opens in_run =
-    let s = v.scenario in
-    let n = s.network in
+    let n = v.scenario.network in
     let l = opened (λ (x : Link). (x.child ≡ sender) × IsSwitchOf n v.channel x.parent × IsPath n v.channel x.parent rest) (link_at n link) c.path in
     let receiver : DeviceId = l.0.parent in
     let child : IsChildOf n sender link = closed (λ (x : Link). x.child ≡ sender) (link_at n link) l.0 l.1 l.2.0 in
     let to : receiver_of n link Up ≡ Some receiver = ap (λ (o : Option Link). option_map (target_by Up) o) l.1 in
-    let delay : delay_on n (link ∷ rest) ≡ delay_by l.0 + delay_on n rest = sum_by-cons (delay_of n) link rest
-    ∙ ap (λ (x : ℕ). x + delay_on n rest) (ap (λ (o : Option Link). option_map_or delay_by o 0) l.1) in
+    let delay = sum_by-cons (delay_of n) link rest ∙ ap (λ (x : ℕ). x + delay_on n rest) (ap (λ (o : Option Link). option_map_or delay_by o 0) l.1) in
     let takes = takes_at_most v Up link l.0 (time_of r) is l.1 in
-    let dmax : v.sizes.dmax ≡ amount n.dmax = ap (λ (z : Sizes). z.dmax) is.sizes in
-    let value : v.sizes.path ≡ beta_at n is.beta.jitter is.beta.links = (let e = is.beta.value in omega (arith, ints, e)) in
-    let time = c.time in
-    let after = c.after in
-    let room_left = c.fits in
-    let fits : v.sizes.path + ((d + delay_by l.0) + delay_on n rest) ≤ v.sizes.dmax = omega (arith, room_left, delay) in
-    let fits_so : v.sizes.path + (d + (delay_by l.0 + delay_on n rest)) ≤ amount n.dmax = omega (arith, fits, dmax) in
-    let u : ℕ = arrives_at s link Up (time_of r) in
-    let soon : u ≤ t0 + (d + delay_by l.0) = omega (arith, takes.0, time) in
+    let value : v.sizes.path ≡ beta_at n is.beta.jitter is.beta.links = omega (arith, ints, is.beta.value) in
+    let fits : v.sizes.path + ((d + delay_by l.0) + delay_on n rest) ≤ v.sizes.dmax = omega (arith, c.fits, delay) in
+    let fits_so : v.sizes.path + (d + (delay_by l.0 + delay_on n rest)) ≤ amount n.dmax = omega (arith, fits, (sizes_are v is).dmax) in
+    let u : ℕ = arrives_at v.scenario link Up (time_of r) in
+    let soon : u ≤ t0 + (d + delay_by l.0) = omega (arith, takes.0, c.time) in
     let within : u ≤ v.until = omega (arith, soon, fits, in_run) in
-    let behind : t0 ≤ u = omega (arith, after) in
+    let behind : t0 ≤ u = omega (arith, c.after) in
     let g : IsGivenOn v Up r frame sender receiver link l.0 = record {
       given = c.there;
       of_frame = c.of_frame;
@@ -161,16 +105,15 @@ step_up v t0 link rest r frame sender d k is c opens in_run =
       from_way = turned (is_parent_of n sender link) (child_down v sender link is child);
       on_way = receiver_up n link receiver to;
       comes_to = to;
-      correct = good_is_correct v sender (leaves_at s link Up (time_of r)) c.good (omega (arith, takes.1, within));
+      correct = good_is_correct v sender (leaves_at v.scenario link Up (time_of r)) c.good (omega (arith, takes.1, within));
       whole =
-          sound_ways_are_whole v link Up (leaves_at s link Up (time_of r)) is
+          sound_ways_are_whole v link Up (leaves_at v.scenario link Up (time_of r)) is
           (closed (λ (x : Link). IsSwitchOf n v.channel x.parent) (link_at n link) l.0 l.1 l.2.1) (omega (arith, takes.1, within));
     } in
     let spend : (next : ℕ) → 10 ^ 9 * next ≤ 10 ^ 9 * frame.clock + 10 ^ 9 * delay_by l.0 + n.rho * delay_by l.0 + 2 * amount n.grain * 10 ^ 9
     → (next ≤ amount n.dmax) × (10 ^ 9 * next ≤ 10 ^ 9 * (d + delay_by l.0) + n.rho * (d + delay_by l.0) + 2 * amount n.grain * 10 ^ 9 * (k + 1)) =
-    λ next grows.
-    budget n.rho (amount n.grain) (amount n.dmax) v.sizes.path is.beta.jitter is.beta.links d (delay_by l.0) (delay_on n rest) k (length rest) frame.clock next
-    value fits_so c.few c.clock grows in
+    λ next grows. budget n.rho (amount n.grain) (amount n.dmax) _ is.beta.jitter is.beta.links d (delay_by l.0) (delay_on n rest) k
+    (length rest) frame.clock next value fits_so c.few c.clock grows in
     let member : is_of_other_member n receiver link frame.members ≡ false =
     ap (λ (o : Option Link). option_map_or (λ x. x.parent.0 == receiver.0 && is_end n x.child && are_others (member_of n x.child) frame.members) o false) l.1
     ∙ last_false (l.0.parent.0 == receiver.0) (is_end n l.0.child) (are_others (member_of n l.0.child) frame.members)
@@ -178,7 +121,6 @@ step_up v t0 link rest r frame sender d k is c opens in_run =
     let gone = goes_over v Up r frame sender receiver link l.0 is g (λ next grows. (spend next grows).0)
     (λ next small. no_fault v receiver link u next frame is c.clean (switches_are_good v v.channel receiver is l.2.1) within
     (sound_switch_on v receiver u is l.2.1) (opens receiver u l.2.1 behind (omega (arith, soon, fits))) member small) within in
-    let arrived = gone.at in
     let spent = spend gone.clock gone.grows in
     record {
       l = l.0;
@@ -188,8 +130,8 @@ step_up v t0 link rest r frame sender d k is c opens in_run =
       gone = gone;
       small = spent.0;
       clock = spent.1;
-      time = omega (arith, arrived, soon);
-      after = omega (arith, arrived, behind);
+      time = omega (arith, gone.at, soon);
+      after = omega (arith, gone.at, behind);
       fits = fits;
     }
 
@@ -233,7 +175,6 @@ go_up v t0 link (next ∷ rest) r frame sender d k is c opens in_run =
     let relay = child_relays v device v.channel next m.0 is m.1 m.2.0 p.switch in
     let parent : IsParentOf n device link = closed (λ (x : Link). x.parent ≡ device) (link_at n link) p.l p.at refl in
     let child : IsChildOf n device next = closed (λ (x : Link). x.child ≡ device) (link_at n next) m.0 m.1 m.2.0 in
-    let few = c.few in
     let more = go_up v t0 next rest p.gone.arriving (with_clock p.gone.clock frame) device (d + delay_by p.l) (k + 1) is (record {
       path = p.path;
       there = p.gone.is.arrived;
@@ -246,7 +187,7 @@ go_up v t0 link (next ∷ rest) r frame sender d k is c opens in_run =
       time = p.time;
       after = p.after;
       fits = p.fits;
-      few = omega (arith, few);
+      few = omega (arith, c.few);
     }) opens in_run in
     record {
       legs = record { link = link; giving = r; leaving = p.gone.leaving; arriving = p.gone.arriving } ∷ more.legs;
@@ -264,15 +205,9 @@ go_up v t0 link (next ∷ rest) r frame sender d k is c opens in_run =
 
 -- ---- the law
 
-master_device : (o : Option Device) → option_map_or (λ d. is_master d.role) o false ≡ true → (d : Device) × (o ≡ Some d) × (is_master d.role ≡ true)
-master_device None e = absurd cc
-master_device (Some d) e = (d, refl, e)
-
 master_no_cm : (role : Role) → is_master role ≡ true → role ≡ Cm → ⊥
 master_no_cm Master e f = cc
-master_no_cm Client e f = cc
-master_no_cm Cm e f = cc
-master_no_cm Relay e f = cc
+master_no_cm role e f = cc
 
 own_member : (o : Option ℕ) (m : ℕ) → o ≡ Some m → are_others o (record { 0 = 2 ^ unwrap_or o 0 }) ≡ false
 own_member None m e = absurd cc
@@ -282,26 +217,20 @@ own_member (Some x) m e = ap not (eq-eqb (2 ^ x) (2 ^ x) refl)
 pub path_fits : (v : View) (channel : Channel) (device : DeviceId) (links : List LinkId) (is : IsView v) → IsDeviceOf v.scenario.network channel device
     → IsPath v.scenario.network channel device links → (v.sizes.path + delay_on v.scenario.network links ≤ v.sizes.dmax) × (length links ≤ is.beta.links)
 path_fits v channel device links is member path =
-    let n = v.scenario.network in
-    let margin = margins rules_give_trees n v.sizes.path is.lawful.range is.lawful.rules is.beta in
-    let fits = margin.dmax.paths channel device links member path in
-    let dmax : v.sizes.dmax ≡ amount n.dmax = ap (λ (z : Sizes). z.dmax) is.sizes in
-    (omega (arith, fits, dmax), is.beta.links_greatest.most (length links) (channel, (device, (links, member, path, refl))))
+    let fits = (margins rules_give_trees v.scenario.network v.sizes.path is.lawful.range is.lawful.rules is.beta).dmax.paths channel device links member path in
+    (omega (arith, fits, (sizes_are v is).dmax), is.beta.links_greatest.most (length links) (channel, (device, (links, member, path, refl))))
 
 pub sound_frames_go_up : SoundFramesGoUp
 sound_frames_go_up v h master cm cycle is d one opens in_run =
-    let s = v.scenario in
-    let n = s.network in
-    let at = founded_at s v.records h is.run.founded d.there in
-    let sends : IsCaused s at.front h.note.time (notes.Sent master cycle) = subst (IsCaused s at.front h.note.time) d.is at.due.cause in
-    let role = master_device (device_at n master) sends.master in
-    let member = master_member v master is sends.master in
+    let n = v.scenario.network in
+    let at = founded_at v.scenario v.records h is.run.founded d.there in
+    let sends : IsCaused v.scenario at.front h.note.time (notes.Sent master cycle) = subst (IsCaused v.scenario at.front h.note.time) d.is at.due.cause in
+    let role = device_of is_master (device_at n master) sends.master in
     let of_channel : IsDeviceOf n v.channel master = closed (λ (x : Device). (is_end_system x.role ≡ true) ⊎ (x.channel ≡ Some v.channel)) (device_at n master)
     role.0 role.1 (inl (master_ends role.0.role role.2)) in
-    let tree = rules_give_trees n (shape_rules n is.lawful.rules) in
-    let reach = tree.reach v.channel master of_channel in
+    let reach = (rules_give_trees n (shape_rules n is.lawful.rules)).reach v.channel master of_channel in
     let framed : h.frame ≡ Some (dispatched_frame n master cycle) = ap (λ (x : Happening). x.frame) at.due.same ∙ ap (frame_by n at.front) d.is in
-    by reach.0 reach.2 role of_channel member framed
+    by reach.0 reach.2 role of_channel (master_member v master is sends.master) framed
   where
     by : (links : List LinkId) → IsPath v.scenario.network v.channel master links
         → (role : (x : Device) × (device_at v.scenario.network master ≡ Some x) × (is_master x.role ≡ true)) → IsDeviceOf v.scenario.network v.channel master
@@ -327,14 +256,11 @@ sound_frames_go_up v h master cm cycle is d one opens in_run =
           clock = omega arith;
           time = omega arith;
           after = omega arith;
-          fits = (let f = fits.0 in omega (arith, f));
-          few = (let f = fits.1 in omega (arith, f));
+          fits = omega (arith, fits.0);
+          few = omega (arith, fits.1);
         }) opens in_run in
-        let dmax : v.sizes.dmax ≡ amount n.dmax = ap (λ (z : Sizes). z.dmax) is.sizes in
-        let same : goes.cm ≡ cm = one_cm v v.channel goes.cm cm is goes.is_cm one in
-        let body : goes.last.note.body ≡ notes.Arrived cm goes.link goes.cause goes.clock = goes.body
-        ∙ ap (λ (x : DeviceId). notes.Arrived x goes.link goes.cause goes.clock) same in
-        let will = will_be_permanent v goes.last cm goes.link goes.cause goes.clock is body (let small = goes.small in omega (arith, small, dmax)) in
+        let body = goes.body ∙ ap (λ (x : DeviceId). notes.Arrived x goes.link goes.cause goes.clock) (one_cm v v.channel goes.cm cm is goes.is_cm one) in
+        let will = will_be_permanent v goes.last cm goes.link goes.cause goes.clock is body (omega (arith, goes.small, sizes_are v is)) in
         let up = path_up v v.channel h goes.last goes.legs master cm cycle goes.link goes.cause goes.clock is one goes.trip body d.is in
         record {
           legs = goes.legs;

@@ -1,38 +1,12 @@
 -- What the legs of a trip add up to, and the path that they go.
-use Rattle.std.proofs.Common.{◌≡◌, ℕ, suc, ◌+◌, ◌≤◌, true, false, List, [], ◌∷◌, fold, length, Option, Some, None, refl, sym, ap, subst, ◌∙◌, arith}
-use Rattle.std.proofs.lemmas.Bool.{eqb-true}
-use Rattle.std.proofs.lemmas.List.Elements.{All-cons, All-nil}
-use Rattle.std.proofs.lemmas.List.Sums.{sum_by-cons}
-use Rattle.std.specs.List.{sum_by}
-use Rattle.std.specs.Option.{option_map_or}
-use Rattle.std.specs.Prelude.{◌==◌, All, option_and_then, option_map}
-use Rattle.net_plan.proofs.Trees.{closed}
-use Rattle.net_plan.specs.Bounds.{jitter_of, jitter_on}
-use Rattle.net_plan.specs.Paths.{IsPath}
-use Rattle.net_plan.specs.Places.{device_at, link_at, IsSwitchOf}
-use Rattle.net_plan.specs.declared.ids.DeviceId.{DeviceId}
-use Rattle.net_plan.specs.declared.ids.LinkId.{LinkId}
-use Rattle.net_plan.specs.declared.network.Network.{Network}
-use Rattle.net_plan.specs.declared.tables.Device.{Device}
-use Rattle.net_plan.specs.declared.tables.Link.{Link}
-use Rattle.net_plan.specs.declared.tables.Way.TheVariants.{Down}
-use Rattle.net_plan.specs.declared.tables.Way.{Way}
-use Rattle.pcf_values.specs.declared.channel.Channel.{Channel}
-use Rattle.precision_law.proofs.block.Joins.{arrival_link}
-use Rattle.precision_law.proofs.trips.Descents.{child_channel, parent_by}
-use Rattle.precision_law.proofs.trips.Paths.{leg_hop}
-use Rattle.precision_law.specs.Trips.{IsLeg, IsTrip, Leg, clock_in, links_back}
-use Rattle.precision_law.specs.Views.{IsView, View}
-use Rattle.run_law.proofs.law.FirstPlaces.{founded_at}
-use Rattle.run_law.specs.control.Leaving.{Gives}
+use Rattle.precision_law.proofs.words.Std.{◌+◌, ◌==◌, ◌∙◌, ◌∷◌, ◌≡◌, ◌≤◌, All, All-cons, All-nil, List, Option, Some, [], ap, arith, eqb-true, false, fold, length, option_and_then, option_map, option_map_or, refl, subst, suc, sum_by, sum_by-cons, sym, true, ℕ}
+use Rattle.precision_law.proofs.words.Plans.{Channel, Device, DeviceId, Down, Hop, IsHop, IsPath, IsSwitchOf, Link, LinkId, Network, Way, amount, closed, device_at, growth, jitter_of, jitter_on, link_at, target_by, travel}
+use Rattle.precision_law.proofs.words.Runs.{Gives, Happening, IsCaused, NoteBody, channel_of, founded_at, is_parent_of, is_relay, time_of}
+use Rattle.precision_law.proofs.words.Laws.{IsLeg, IsTrip, IsView, Leg, View, clock_in, links_back}
+use Rattle.precision_law.proofs.words.Clocks.{child_channel, leg_hop, parent_by}
 use Rattle.run_law.specs.declared.note.NoteBody.TheVariants as notes
-use Rattle.run_law.specs.declared.note.NoteBody.{NoteBody}
-use Rattle.run_law.specs.records.Happenings.{Happening, time_of}
-use Rattle.run_law.specs.runs.DueRecords.{IsCaused}
-use Rattle.run_law.specs.scenario.Devices.{channel_of, is_parent_of, is_relay}
-use Rattle.schedule_tables.specs.Entries.{target_by}
-use Rattle.transparent_clock.specs.Hops.{Hop, IsHop, growth, travel}
-use Rattle.tte_units.specs.Amount.{amount}
+use Rattle.precision_law.proofs.block.Joins.{arrival_link}
+use Rattle.precision_law.proofs.Plain.{reached}
 
 -- ---- sums
 
@@ -53,19 +27,15 @@ pub record AddsUp (v : View) (first last : Happening) (legs : List Leg) : Type 0
 pub leg_link : (v : View) (way : Way) (leg : Leg) → IsView v → IsLeg v way leg → (l : Link) × (link_at v.scenario.network leg.link ≡ Some l)
 leg_link v way leg is l =
     let at = founded_at v.scenario v.records leg.arriving is.run.founded l.arrived in
-    let a : IsCaused v.scenario at.front leg.arriving.note.time (notes.Arrived l.receiver leg.link leg.leaving.note.number l.arrived_clock) = subst
-    (IsCaused v.scenario at.front leg.arriving.note.time) l.arrives at.due.cause in
-    arrival_link v at.front (amount leg.arriving.note.time) l.receiver leg.link leg.leaving.note.number l.arrived_clock a
+    arrival_link v _ _ _ _ _ _ (subst (IsCaused v.scenario at.front leg.arriving.note.time) l.arrives at.due.cause)
 
 pub adds_up : (v : View) (way : Way) (first last : Happening) (legs : List Leg) → IsView v → IsTrip v way first legs last → AddsUp v first last legs
 adds_up v way first last [] is trip =
-    let t : time_of first ≡ time_of last = ap time_of trip in
-    let c : clock_in first ≡ clock_in last = ap clock_in trip in
     record {
       hops = [];
       are = All-nil (IsHop v.scenario.network.rho (amount v.scenario.network.grain));
-      travels = omega (arith, t);
-      grows = omega (arith, c);
+      travels = omega (arith, ap time_of trip);
+      grows = omega (arith, ap clock_in trip);
       many = refl;
       jitter = refl;
     }
@@ -73,19 +43,13 @@ adds_up v way first last (leg ∷ legs) is trip =
     let more = adds_up v way leg.arriving last legs is trip.2 in
     let link = leg_link v way leg is trip.1 in
     let hop = leg_hop v way leg link.0 is trip.1 link.1 in
-    let t : time_of leg.giving ≡ time_of first = ap time_of trip.0 in
-    let c : clock_in leg.giving ≡ clock_in first = ap clock_in trip.0 in
-    let a = sum_by-cons (λ (h : Hop). h.hold + h.delay) hop.hop more.hops in
-    let b = sum_by-cons (λ (h : Hop). h.measured + h.wire) hop.hop more.hops in
-    let j = sum_by-cons (λ (h : Hop). h.jitter) hop.hop more.hops in
-    let k = sum_by-cons (λ (x : Leg). jitter_of v.scenario.network x.link) leg legs in
     record {
       hops = hop.hop ∷ more.hops;
       are = All-cons (IsHop v.scenario.network.rho (amount v.scenario.network.grain)) hop.hop more.hops hop.is more.are;
-      travels = (let x = hop.travels in let y = more.travels in omega (arith, a, t, x, y));
-      grows = (let x = hop.grows in let y = more.grows in omega (arith, b, c, x, y));
+      travels = omega (arith, sum_by-cons (λ (h : Hop). h.hold + h.delay) hop.hop more.hops, ap time_of trip.0, hop.travels, more.travels);
+      grows = omega (arith, sum_by-cons (λ (h : Hop). h.measured + h.wire) hop.hop more.hops, ap clock_in trip.0, hop.grows, more.grows);
       many = ap suc more.many;
-      jitter = (let x = hop.jitter in let y = more.jitter in omega (arith, j, k, x, y));
+      jitter = omega (arith, sum_by-cons (λ (h : Hop). h.jitter) hop.hop more.hops, sum_by-cons (λ (x : Leg). jitter_of v.scenario.network x.link) leg legs);
     }
 
 -- what a trip's last leg brings is not too old
@@ -94,18 +58,14 @@ pub last_young : (v : View) (way : Way) (first last : Happening) (legs : List Le
 last_young v way first last [] is trip zero_clock = (let c : clock_in first ≡ clock_in last = ap clock_in trip in omega (arith, c, zero_clock))
 last_young v way first last (leg ∷ []) is trip zero_clock =
     let link = leg_link v way leg is trip.1 in
-    let hop = leg_hop v way leg link.0 is trip.1 link.1 in
-    let c : clock_in leg.arriving ≡ clock_in last = ap clock_in trip.2 in
-    (let y = hop.young in omega (arith, c, y))
+    (omega (arith, ap clock_in trip.2, (leg_hop v way leg link.0 is trip.1 link.1).young))
 last_young v way first last (leg ∷ next ∷ legs) is trip zero_clock = last_of_more v way leg.arriving last next legs is trip.2
   where
     last_of_more : (v : View) (way : Way) (first last : Happening) (leg : Leg) (legs : List Leg) → IsView v → IsTrip v way first (leg ∷ legs) last
         → clock_in last ≤ amount v.scenario.network.dmax
     last_of_more v way first last leg [] is trip =
         let link = leg_link v way leg is trip.1 in
-        let hop = leg_hop v way leg link.0 is trip.1 link.1 in
-        let c : clock_in leg.arriving ≡ clock_in last = ap clock_in trip.2 in
-        (let y = hop.young in omega (arith, c, y))
+        (omega (arith, ap clock_in trip.2, (leg_hop v way leg link.0 is trip.1 link.1).young))
     last_of_more v way first last leg (next ∷ legs) is trip = last_of_more v way leg.arriving last next legs is trip.2
 
 -- ---- links from the last to the first
@@ -113,11 +73,7 @@ last_young v way first last (leg ∷ next ∷ legs) is trip zero_clock = last_of
 pub back_sum : (f : LinkId → ℕ) (legs : List Leg) (acc : List LinkId) → sum_by f (fold (λ links leg. leg.link ∷ links) acc legs) ≡ sum_by f acc + sum_by
     (λ leg. f leg.link) legs
 back_sum f [] acc = omega arith
-back_sum f (leg ∷ legs) acc =
-    let more = back_sum f legs (leg.link ∷ acc) in
-    let a = sum_by-cons f leg.link acc in
-    let b = sum_by-cons (λ (x : Leg). f x.link) leg legs in
-    omega (arith, more, a, b)
+back_sum f (leg ∷ legs) acc = omega (arith, back_sum f legs (leg.link ∷ acc), sum_by-cons f leg.link acc, sum_by-cons (λ (x : Leg). f x.link) leg legs)
 
 back_length : (legs : List Leg) (acc : List LinkId) → length (fold (λ links leg. leg.link ∷ links) acc legs) ≡ length acc + length legs
 back_length [] acc = omega arith
@@ -133,22 +89,18 @@ many_back legs = (let e = back_length legs [] in omega (arith, e))
 
 -- a device of a channel is a switch of it
 pub switch_of : (n : Network) (channel : Channel) (device : DeviceId) → channel_of n device ≡ Some channel → IsSwitchOf n channel device
-switch_of n channel device e = by (device_at n device) refl e
-  where
-    by : (o : Option Device) → device_at n device ≡ o → option_and_then (λ d. d.channel) o ≡ Some channel → IsSwitchOf n channel device
-    by None at e = absurd cc
-    by (Some d) at e = closed (λ (x : Device). x.channel ≡ Some channel) (device_at n device) d at e
+switch_of n channel device e =
+    let d = reached (λ (x : Device). x.channel) (device_at n device) channel e in
+    closed (λ (x : Device). x.channel ≡ Some channel) (device_at n device) d.0 d.1 d.2
 
 -- the link of a leg down leads from its receiver to its sender
 pub leg_down : (v : View) (leg : Leg) → IsView v → (l : IsLeg v Down leg) → (link : Link) × (link_at v.scenario.network leg.link ≡ Some link)
     × (link.child ≡ l.receiver) × (link.parent ≡ l.sender)
 leg_down v leg is l =
-    let n = v.scenario.network in
     let link = leg_link v Down leg is l in
     let to : Some link.0.child ≡ Some l.receiver = ap (λ (o : Option Link). option_map (target_by Down) o) (sym link.1) ∙ l.comes_to in
-    let parent = parent_by (is_parent_of n l.sender leg.link) l.from_way in
-    let shown : (link.0.parent.0 == l.sender.0) ≡ true = sym (ap (λ (o : Option Link). option_map_or (λ k. k.parent.0 == l.sender.0) o false) link.1)
-    ∙ parent in
+    let parent = parent_by (is_parent_of v.scenario.network l.sender leg.link) l.from_way in
+    let shown = sym (ap (λ (o : Option Link). option_map_or (λ k. k.parent.0 == l.sender.0) o false) link.1) ∙ parent in
     (link.0, link.1, cc, ap (λ (i : ℕ). let d : DeviceId = record { 0 = i } in d) (eqb-true link.0.parent.0 l.sender.0 shown))
 
 -- what gives a frame down is of the channel, and has this path
@@ -163,9 +115,8 @@ pub through : (v : View) (channel : Channel) (leg : Leg) → IsView v → (l : I
     → m.child ≡ l.receiver → m.parent ≡ l.sender → channel_of v.scenario.network l.sender ≡ Some channel → is_relay v.scenario.network l.receiver ≡ true
     → channel_of v.scenario.network l.receiver ≡ Some channel
 through v channel leg is l m at child parent of_sender relay =
-    let n = v.scenario.network in
-    let up = child_channel v l.receiver leg.link is relay (closed (λ (x : Link). x.child ≡ l.receiver) (link_at n leg.link) m at child) in
-    up ∙ ap (λ (o : Option Link). option_and_then (λ x. channel_of n x.parent) o) at ∙ ap (channel_of n) parent ∙ of_sender
+    let up = child_channel v l.receiver leg.link is relay (closed (λ (x : Link). x.child ≡ l.receiver) (link_at v.scenario.network leg.link) m at child) in
+    up ∙ ap (λ (o : Option Link). option_and_then (λ x. channel_of v.scenario.network x.parent) o) at ∙ ap (channel_of v.scenario.network) parent ∙ of_sender
 
 pub path_down : (v : View) (channel : Channel) (first last : Happening) (legs : List Leg) (giver : DeviceId) (links : List LinkId) → IsView v
     → GivesDown v channel first giver links → IsTrip v Down first legs last → (device : DeviceId) (link : LinkId) (cause clock : ℕ)

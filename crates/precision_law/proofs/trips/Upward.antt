@@ -1,50 +1,19 @@
 -- A trip up takes dmax.
-use Rattle.std.proofs.Common.{◌≡◌, ℕ, suc, ◌-◌, ℤ, pos, true, List, [], ◌∷◌, length, Option, Some, inl, inr, refl, sym, ap, subst, ◌∙◌, arith}
-use Rattle.std.proofs.lemmas.Bool.{both_ways}
-use Rattle.std.proofs.lemmas.List.Sums.{sum_by-cons}
-use Rattle.std.specs.Prelude.{option_and_then, option_map}
-use Rattle.drift_clock.specs.Reach.{IsReach}
-use Rattle.net_plan.proofs.Trees.{closed, opened}
-use Rattle.net_plan.specs.Bounds.{jitter_of, jitter_on}
-use Rattle.net_plan.specs.Paths.{IsPath}
-use Rattle.net_plan.specs.Places.{device_at, link_at, IsCmOf, IsSwitchOf}
-use Rattle.net_plan.specs.Rules.{IsChildOf}
-use Rattle.net_plan.specs.declared.ids.DeviceId.{DeviceId}
-use Rattle.net_plan.specs.declared.ids.LinkId.{LinkId}
-use Rattle.net_plan.specs.declared.network.Network.{Network}
-use Rattle.net_plan.specs.declared.tables.Device.{Device}
-use Rattle.net_plan.specs.declared.tables.Link.{Link}
-use Rattle.net_plan.specs.declared.tables.Role.TheVariants.{Cm}
-use Rattle.net_plan.specs.declared.tables.Way.TheVariants.{Up, Down}
-use Rattle.net_plan.specs.declared.tables.Way.{Way}
-use Rattle.pcf_values.specs.declared.channel.Channel.{Channel}
-use Rattle.precision_law.proofs.hearing.Timely.{trip_in_time}
-use Rattle.precision_law.proofs.trips.Ascents.{child_by, shown_parent}
-use Rattle.precision_law.proofs.trips.Descents.{child_channel}
-use Rattle.precision_law.proofs.trips.Travels.{jitter_back, jitter_of_legs, last_young, many_back, leg_link, switch_of}
-use Rattle.precision_law.specs.Sizes.{Sizes}
-use Rattle.precision_law.specs.Trips.{IsInTime, IsLeg, IsPermanentAt, IsTrip, Leg, TripsDownTakeDmax, TripsUpTakeDmax, clock_in, links_back, links_of}
-use Rattle.precision_law.specs.Views.{IsView, View}
-use Rattle.run_law.proofs.runs.SameSteps.{same_some}
-use Rattle.run_law.specs.control.Leaving.{Gives}
+use Rattle.precision_law.proofs.words.Std.{◌∙◌, ◌∷◌, ◌≡◌, List, Option, Some, [], ap, arith, both_ways, inl, inr, length, option_and_then, option_map, pos, refl, subst, suc, sum_by-cons, sym, true, ℕ, ℤ}
+use Rattle.precision_law.proofs.words.Plans.{Channel, Cm, Device, DeviceId, Down, IsChildOf, IsCmOf, IsPath, IsReach, IsSwitchOf, Link, LinkId, Network, Up, Way, amount, closed, device_at, jitter_of, jitter_on, link_at, opened, point_of, target_by, waits_for_point}
+use Rattle.precision_law.proofs.words.Runs.{Gives, Happening, NoteBody, channel_of, is_parent_of, is_relay, same_some, time_of}
+use Rattle.precision_law.proofs.words.Laws.{IsInTime, IsLeg, IsPermanentAt, IsTrip, IsView, Leg, TripsDownTakeDmax, TripsUpTakeDmax, View, clock_in, links_back, links_of}
+use Rattle.precision_law.proofs.words.Clocks.{child_by, child_channel, shown_parent, sizes_are}
 use Rattle.run_law.specs.declared.note.NoteBody.TheVariants as notes
-use Rattle.run_law.specs.declared.note.NoteBody.{NoteBody}
-use Rattle.run_law.specs.records.Happenings.{Happening, time_of}
-use Rattle.run_law.specs.scenario.Devices.{channel_of, is_parent_of, is_relay}
-use Rattle.schedule_tables.specs.Entries.{target_by}
-use Rattle.transparent_clock.proofs.WaitLaw.{waits_for_point}
-use Rattle.transparent_clock.specs.Points.{point_of}
-use Rattle.tte_units.specs.Amount.{amount}
+use Rattle.precision_law.proofs.hearing.Timely.{trip_in_time}
+use Rattle.precision_law.proofs.trips.Travels.{jitter_back, jitter_of_legs, last_young, leg_link, many_back, switch_of}
 
 -- ---- sums
 
 pub jitter_up : (n : Network) (legs : List Leg) → jitter_on n (links_of legs) ≡ jitter_of_legs n legs
 jitter_up n [] = refl
 jitter_up n (leg ∷ legs) =
-    let more = jitter_up n legs in
-    let a = sum_by-cons (jitter_of n) leg.link (links_of legs) in
-    let b = sum_by-cons (λ (x : Leg). jitter_of n x.link) leg legs in
-    omega (arith, more, a, b)
+    omega (arith, jitter_up n legs, sum_by-cons (jitter_of n) leg.link (links_of legs), sum_by-cons (λ (x : Leg). jitter_of n x.link) leg legs)
 
 pub many_up : (legs : List Leg) → length (links_of legs) ≡ length legs
 many_up [] = refl
@@ -96,15 +65,13 @@ path_from v channel g last (leg ∷ legs) cm relay by to c d t u is one trip end
     let n = v.scenario.network in
     let l = trip.1 in
     let up = path_from v channel leg.arriving last legs cm l.receiver leg.link to leg.leaving.note.number d l.arrived_clock u is one trip.2 ends l.arrives in
-    let gives : Gives n (notes.Arrived relay by c t) l.sender leg.link = subst (λ (b : NoteBody). Gives n b l.sender leg.link)
-    (ap (λ (h : Happening). h.note.body) trip.0 ∙ body) l.gives in
+    let gives = subst (λ (b : NoteBody). Gives n b l.sender leg.link) (ap (λ (h : Happening). h.note.body) trip.0 ∙ body) l.gives in
     let child : IsChildOf n l.sender leg.link = passes_up v leg relay by is l gives in
     let path = leg_up v channel leg (links_of legs) is l (λ link at. child_is n l.sender leg.link link child at) up in
     let link = leg_link v Up leg is l in
     let recv : Some link.0.parent ≡ Some l.receiver = ap (λ (o : Option Link). option_map (target_by Up) o) (sym link.1) ∙ l.comes_to in
     let parent : link.0.parent ≡ l.receiver = cc in
-    let relays : is_relay n l.sender ≡ true = subst (λ (x : DeviceId). is_relay n x ≡ true) refl gives.1.relay in
-    let own = child_channel v l.sender leg.link is relays child in
+    let own = child_channel v l.sender leg.link is (subst (λ (x : DeviceId). is_relay n x ≡ true) refl gives.1.relay) child in
     let of_link : channel_of n l.sender ≡ Some channel = own ∙ ap (λ (o : Option Link). option_and_then (λ x. channel_of n x.parent) o) link.1
     ∙ ap (channel_of n) parent ∙ channel_is n channel l.receiver up.switch in
     record {
@@ -127,13 +94,11 @@ pub path_up : (v : View) (channel : Channel) (first last : Happening) (legs : Li
 path_up v channel first last [] master cm cycle to d u is one trip ends body =
     (let wrong : notes.Sent master cycle ≡ notes.Arrived cm to d u = sym body ∙ ap (λ (h : Happening). h.note.body) trip ∙ ends in absurd cc)
 path_up v channel first last (leg ∷ legs) master cm cycle to d u is one trip ends body =
-    let n = v.scenario.network in
     let l = trip.1 in
     let up = path_from v channel leg.arriving last legs cm l.receiver leg.link to leg.leaving.note.number d l.arrived_clock u is one trip.2 ends l.arrives in
-    let gives : Gives n (notes.Sent master cycle) l.sender leg.link = subst (λ (b : NoteBody). Gives n b l.sender leg.link)
-    (ap (λ (h : Happening). h.note.body) trip.0 ∙ body) l.gives in
-    let path = leg_up v channel leg (links_of legs) is l (λ link at. child_is n l.sender leg.link link gives.1 at) up in
-    subst (λ (x : DeviceId). IsPath n channel x (leg.link ∷ links_of legs)) gives.0 path
+    let gives = subst (λ (b : NoteBody). Gives v.scenario.network b l.sender leg.link) (ap (λ (h : Happening). h.note.body) trip.0 ∙ body) l.gives in
+    let path = leg_up v channel leg (links_of legs) is l (λ link at. child_is v.scenario.network l.sender leg.link link gives.1 at) up in
+    subst (λ (x : DeviceId). IsPath v.scenario.network channel x (leg.link ∷ links_of legs)) gives.0 path
 
 -- ---- the time of a trip
 
@@ -142,20 +107,14 @@ trip_takes_dmax : (v : View) (way : Way) (first last : Happening) (legs : List L
     → IsPath v.scenario.network channel device links → clock_in first ≡ 0 → IsTrip v way first legs last → (p : IsPermanentAt v last at point q)
     → clock_in last ≡ p.clock → IsInTime v first q
 trip_takes_dmax v way first last legs links channel device at point q is jitters many path fresh trip p p_clock =
-    let s = v.scenario in
-    let n = s.network in
+    let n = v.scenario.network in
     let young = last_young v way first last legs is trip fresh in
-    let reading = s.reading at in
-    let dmax : v.sizes.dmax ≡ amount n.dmax = ap (λ (x : Sizes). x.dmax) is.sizes in
-    let at_point : point ≡ point_of (pos (reading (time_of last))) (clock_in last) (pos (amount n.dmax)) = p.at_point
-    ∙ ap (λ (c : ℕ). point_of (pos (reading (time_of last))) c (pos v.sizes.dmax)) (sym p_clock)
-    ∙ ap (λ (x : ℕ). point_of (pos (reading (time_of last))) (clock_in last) (pos x)) dmax in
-    let reached : IsReach reading (pos (time_of last)) (point_of (pos (reading (time_of last))) (clock_in last) (pos (amount n.dmax))) (pos q) = subst
-    (λ (z : ℤ). IsReach reading (pos (time_of last)) z (pos q)) at_point p.reached in
+    let reading = v.scenario.reading at in
+    let at_point = p.at_point ∙ ap (λ (c : ℕ). point_of (pos (reading (time_of last))) c (pos v.sizes.dmax)) (sym p_clock) ∙ ap
+    (λ (x : ℕ). point_of (pos (reading (time_of last))) (clock_in last) (pos x)) (sizes_are v is).dmax in
     let waits = waits_for_point n.rho (amount n.grain) (amount n.dmax) (clock_in last) (time_of last) q reading is.lawful.range.rho (is.lawful.clocks at) young
-    reached in
-    let in_time = trip_in_time v way first last legs links channel device q (reading q - reading (time_of last)) is jitters many path trip fresh waits.0 waits.1
-    in
+    (subst (λ (z : ℤ). IsReach reading (pos (time_of last)) z (pos q)) at_point p.reached) in
+    let in_time = trip_in_time v way first last legs links channel device q _ is jitters many path trip fresh waits.0 waits.1 in
     record { not_early = in_time.0; not_late = in_time.1 }
 
 pub trips_up_take_dmax : TripsUpTakeDmax
@@ -164,11 +123,4 @@ trips_up_take_dmax v first last legs channel device cm point q is member path fr
 
 pub trips_down_take_dmax : TripsDownTakeDmax
 trips_down_take_dmax v first last legs channel device point q is member path fresh trip p clock =
-    trip_takes_dmax v Down first last legs (links_back legs) channel device device point q is (jitter_back v.scenario.network legs) (many_back legs) path fresh
-    trip p clock
-
-pub trip_up_takes_dmax : (v : View) (first last : Happening) (legs : List Leg) (channel : Channel) (device cm : DeviceId) (point : ℤ) (q : ℕ) → IsView v
-    → IsPath v.scenario.network channel device (links_of legs) → clock_in first ≡ 0 → IsTrip v Up first legs last → (p : IsPermanentAt v last cm point q)
-    → clock_in last ≡ p.clock → IsInTime v first q
-trip_up_takes_dmax v first last legs channel device cm point q is path fresh trip p clock =
-    trip_takes_dmax v Up first last legs (links_of legs) channel device cm point q is (jitter_up v.scenario.network legs) (many_up legs) path fresh trip p clock
+    trip_takes_dmax v Down first _ legs (links_back legs) channel device _ _ q is (jitter_back v.scenario.network legs) (many_back legs) path fresh trip p clock

@@ -1,45 +1,16 @@
 -- The correction points of the devices that are to keep the time correct their clocks, and share one frame.
-use Rattle.std.proofs.Common.{◌≡◌, ◌⊎◌, ℕ, suc, ◌+◌, ◌<◌, ◌≤◌, ℤ, Bool, true, List, [], ◌∷◌, Option, Some, None, All, inl, inr, refl, sym, ap, subst, ◌∙◌, arith, le-leb}
-use Rattle.std.proofs.lemmas.List.Elements.{All-head, All-tail}
-use Rattle.std.specs.Prelude.{IfSome, if◌then◌else◌, nat_le, option_and_then}
-use Rattle.clock_correction.specs.Correction.{correction_of}
-use Rattle.membership.specs.BestFrame.{IsBehind, IsBestOf, IsLevel}
-use Rattle.membership.specs.Hearing.{Hearing, IsWithinOn, within_on}
-use Rattle.membership.specs.Members.{count_of}
-use Rattle.membership.specs.Summary.{Summary, Summarizes, best_on}
-use Rattle.membership.specs.declared.frame.HeardFrame.{HeardFrame}
-use Rattle.net_plan.specs.declared.ids.DeviceId.{DeviceId}
-use Rattle.pcf_values.specs.declared.channel.Channel.TheVariants.{A, B}
-use Rattle.pcf_values.specs.declared.channel.Channel.{Channel}
-use Rattle.pcf_values.specs.declared.members.Members.{Members}
+use Rattle.precision_law.proofs.words.Std.{◌+◌, ◌<◌, ◌∙◌, ◌∷◌, ◌≡◌, ◌≤◌, ◌⊎◌, All, All-head, All-tail, Bool, IfSome, List, None, Option, Some, [], ap, arith, if◌then◌else◌, inl, inr, le-leb, nat_le, option_and_then, refl, subst, suc, sym, true, ℕ, ℤ}
+use Rattle.precision_law.proofs.words.Plans.{A, AsyncClique, B, Channel, Cleared, Corrected, DeviceId, HasVerdict, HeardFrame, Hearing, IsBehind, IsBestOf, IsLevel, IsWithinOn, Masters, Members, SomeQualifies, Standing, Summarizes, Summary, SyncClique, Units, Verdict, best_on, correction_of, count_of, deviation_by, deviation_on, within_on}
+use Rattle.precision_law.proofs.words.Runs.{Happening, IsIn, Judgement, Within, heard_by, heard_since, in_parts, members_in, standing_before, time_of}
+use Rattle.precision_law.proofs.words.Laws.{AreBeforeCorrections, BlocksGoSo, FirmDevicesCorrect, HearsBy, Hull, IsFirm, IsGoodEnd, IsInBlock, IsSharedCorrection, IsView, SendsSo, SoundMasterSends, View, base_of, hull_of}
+use Rattle.precision_law.proofs.words.Blocks.{FramesGoSo}
 use Rattle.precision_law.proofs.block.Brings.{channel_shows}
-use Rattle.precision_law.proofs.block.Goings.{FramesGoSo}
 use Rattle.precision_law.proofs.hearing.GoodFrames.{good_hearing, heard_within, late_from, went_so}
 use Rattle.precision_law.proofs.hearing.Hearers.{heard_within_by}
 use Rattle.precision_law.proofs.hearing.Received.{IsSentInTime, cm_of_channel, receives, sent_in_time}
 use Rattle.precision_law.proofs.hearing.Since.{is_since, not_integrating}
 use Rattle.precision_law.proofs.verdict.HeardOutside.{IsAtPoint, SoundIsSent, few_heard_outside, sooner}
 use Rattle.precision_law.proofs.verdict.Shared.{HasBase, IsByFrame, is_by_frame, is_by_sound, shared_first, shared_second}
-use Rattle.precision_law.specs.Bases.{base_of}
-use Rattle.precision_law.specs.BlockLaws.{AreBeforeCorrections, BlocksGoSo, FirmDevicesCorrect, IsSharedCorrection}
-use Rattle.precision_law.specs.Blocks.{IsInBlock}
-use Rattle.precision_law.specs.CompressionLaws.{HearsBy}
-use Rattle.precision_law.specs.Hulls.{Hull, hull_of}
-use Rattle.precision_law.specs.SoundEmissions.{SendsSo, SoundMasterSends}
-use Rattle.precision_law.specs.Views.{IsFirm, IsGoodEnd, IsView, View}
-use Rattle.run_law.proofs.runs.Places.{in_parts}
-use Rattle.run_law.specs.control.Corrections.{heard_by, heard_since, standing_before}
-use Rattle.run_law.specs.declared.judgement.Judgement.TheVariants.{Within}
-use Rattle.run_law.specs.declared.judgement.Judgement.{Judgement}
-use Rattle.run_law.specs.records.Happenings.{Happening, time_of}
-use Rattle.run_law.specs.records.Order.{IsIn}
-use Rattle.run_law.specs.records.Ranks.{members_in}
-use Rattle.schedule_tables.specs.declared.rule.Rule.TheVariants.{Masters}
-use Rattle.sync_state.specs.Standing.{Standing}
-use Rattle.sync_state.specs.Verdicts.{HasVerdict, SomeQualifies, deviation_by, deviation_on}
-use Rattle.sync_state.specs.declared.answers.Verdict.TheVariants.{AsyncClique, Cleared, Corrected, SyncClique}
-use Rattle.sync_state.specs.declared.answers.Verdict.{Verdict}
-use Rattle.tte_units.specs.declared.units.Units.{Units}
 
 -- ---- the best frame
 
@@ -50,8 +21,8 @@ all_is {X} P (y ∷ xs) x all (inr more) = all_is P xs x (All-tail P y xs all) m
 
 not_more : (frame other : HeardFrame) → IsBehind frame other ⊎ IsLevel frame other → count_of frame.members ≤ count_of other.members
 not_more frame other (inl (inl lt)) = omega (arith, lt)
-not_more frame other (inl (inr both)) = (let e = both.0 in omega (arith, e))
-not_more frame other (inr level) = (let e = level.0 in omega (arith, e))
+not_more frame other (inl (inr both)) = omega (arith, both.0)
+not_more frame other (inr level) = omega (arith, level.0)
 
 -- where a frame was heard within by the channel, its best frame has no fewer members
 pub best_has : (heard : List Hearing) (channel : Channel) (frame : HeardFrame) (o : Option HeardFrame) → IsBestOf heard channel o
@@ -139,8 +110,7 @@ module _ (laws : FramesGoSo) (goes : BlocksGoSo) (v : View) (n t : ℕ) (block :
       let heard = heard_sound front split in
       let best = best_has (heard_since v.scenario front device t) v.channel heard.0 (best_on v.channel summary) (sums.best v.channel) heard.1 in
       let few = few_heard_outside laws goes v n t block is device at sends.first sends.members sound front split summary.outside sums.outside in
-      let enough = sends.enough in
-      record { best = best.0; is = best.1; enough = omega (arith, enough, heard.2, best.2); more = omega (arith, few, three, heard.2, best.2) }
+      record { best = best.0; is = best.1; enough = omega (arith, sends.enough, heard.2, best.2); more = omega (arith, few, three, heard.2, best.2) }
 
   -- the deviations of both channels
   by_frame : (front : List Happening) (summary : Summary) → AreBeforeCorrections v t front → Summarizes summary (heard_since v.scenario front device t)
@@ -178,15 +148,11 @@ module _ (laws : FramesGoSo) (goes : BlocksGoSo) (v : View) (n t : ℕ) (block :
       on : (channel : Channel) → v.channel ≡ channel → IsSharedCorrection v n t hull (base_of v.sizes (time_of sends.first)) device by
       on A same =
           let o = own A same in
-          shared_first v n t block is device hull is_hull (base_of v.sizes (time_of sends.first))
-          (deviation_by (standing_before v.scenario front device t) best.best) (deviation_on (standing_before v.scenario front device t) summary B) by o.1
-          (other B)
+          shared_first v n t _ is _ _ is_hull _ _ (deviation_on (standing_before v.scenario front device t) summary B) by o.1 (other B)
           (ap (λ (x : Option Units). correction_of x (deviation_on (standing_before v.scenario front device t) summary B)) (sym o.0) ∙ e)
       on B same =
           let o = own B same in
-          shared_second v n t block is device hull is_hull (base_of v.sizes (time_of sends.first))
-          (deviation_by (standing_before v.scenario front device t) best.best) (deviation_on (standing_before v.scenario front device t) summary A) by o.1
-          (other A)
+          shared_second v n t _ is _ _ is_hull _ _ (deviation_on (standing_before v.scenario front device t) summary A) by o.1 (other A)
           (ap (λ (x : Option Units). correction_of (deviation_on (standing_before v.scenario front device t) summary A) x) (sym o.0) ∙ e)
 
   -- the point comes to a correction
@@ -198,10 +164,8 @@ module _ (laws : FramesGoSo) (goes : BlocksGoSo) (v : View) (n t : ℕ) (block :
       absurd (has.1 (some_qualifies (standing_before v.scenario front device t) summary v.channel (has_best front summary split sums)))
   corrects front summary AsyncClique split sums has =
       let best = has_best front summary split sums in
-      let few : count_of best.best.members ≤ count_of summary.outside = subst
-      (λ (o : Option HeardFrame). IfSome o (λ frame. count_of frame.members ≤ count_of summary.outside)) best.is (has.2 v.channel) in
-      let more = best.more in
-      absurd (omega (arith, few, more))
+      let few = subst (λ (o : Option HeardFrame). IfSome o (λ frame. count_of frame.members ≤ count_of summary.outside)) best.is (has.2 v.channel) in
+      absurd (omega (arith, few, best.more))
   corrects front summary (Corrected by) split sums has = (by, refl, λ end. shared_by front summary split sums (has_best front summary split sums) by has.3)
 
 -- ---- the law
@@ -209,9 +173,8 @@ module _ (laws : FramesGoSo) (goes : BlocksGoSo) (v : View) (n t : ℕ) (block :
 pub firm_devices_correct : FramesGoSo → SoundMasterSends → BlocksGoSo → FirmDevicesCorrect
 firm_devices_correct laws sent goes v n t block is late =
     let s = sent v n t block is late in
-    let hull = s.0 in
     let sends = s.2 in (
-      hull,
+      s.0,
       s.1,
       record {
         shared = base_of v.sizes (time_of sends.first);
@@ -219,7 +182,7 @@ firm_devices_correct laws sent goes v n t block is late =
         each = λ u own device cycle verdict firm has old comes.
             (let point = (goes v n u own is).points device cycle verdict has old comes in
             let at : IsAtPoint v n u own device = record { has = has; old = old; late = point.not_early } in
-            corrects laws goes v n u own is device firm at hull s.1 sends comes.front comes.point.summary verdict comes.split comes.point.heard
+            corrects laws goes v n u own is device firm at s.0 s.1 sends comes.front comes.point.summary verdict comes.split comes.point.heard
             comes.point.comes);
       },
     )

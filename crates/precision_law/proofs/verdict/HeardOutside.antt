@@ -1,32 +1,14 @@
 -- What an old device hears outside at its correction point: two masters at most.
-use Rattle.std.proofs.Common.{◌≡◌, ◌⊎◌, ℕ, ◌<◌, ◌≤◌, pos, ◌+ℤ◌, ◌<ℤ◌, ◌≤ℤ◌, Bool, true, false, List, ◌∷◌, inl, inr, refl, sym, ap, subst, ◌∙◌, arith}
-use Rattle.std.proofs.lemmas.Bool.{cases_lt}
-use Rattle.std.proofs.lemmas.Int.{ints}
-use Rattle.std.specs.Int.{bit_at}
-use Rattle.membership.specs.Hearing.{Hearing, IsOutside}
-use Rattle.membership.specs.Members.{IsMember, count_of}
-use Rattle.membership.specs.Summary.{AreOutside}
-use Rattle.net_plan.specs.declared.ids.DeviceId.{DeviceId}
-use Rattle.pcf_values.specs.declared.channel.Channel.{Channel}
-use Rattle.pcf_values.specs.declared.members.Members.{Members}
+use Rattle.precision_law.proofs.words.Std.{◌+ℤ◌, ◌<ℤ◌, ◌<◌, ◌∙◌, ◌∷◌, ◌≡◌, ◌≤ℤ◌, ◌≤◌, ◌⊎◌, Bool, List, ap, arith, bit_at, cases_lt, false, inl, inr, ints, pos, refl, subst, sym, true, ℕ}
+use Rattle.precision_law.proofs.words.Plans.{AreOutside, Channel, DeviceId, Hearing, IsMember, IsOutside, Members, count_of}
+use Rattle.precision_law.proofs.words.Runs.{Happening, IsIn, cycle_in, heard_since, in_left, members_in, time_of}
+use Rattle.precision_law.proofs.words.Laws.{AreBeforeCorrections, AreGood, BlocksGoSo, HasGood, HasTimeAt, IsEmission, IsInBlock, IsOldAt, IsView, View, first_correction}
+use Rattle.precision_law.proofs.words.Clocks.{HearsThis, hearing_of}
+use Rattle.precision_law.proofs.words.Blocks.{FramesGoSo, made_of, member_of_point, members_are_masters}
 use Rattle.precision_law.proofs.block.Brings.{heard_late}
-use Rattle.precision_law.proofs.block.Goings.{FramesGoSo}
-use Rattle.precision_law.proofs.compression.Made.{made_of, member_of_point, members_are_masters}
 use Rattle.precision_law.proofs.hearing.GoodFrames.{IsGoodHearing, IsSentOn, good_hearing, heard_within, same_sent, went_so}
-use Rattle.precision_law.proofs.hearing.Heard.{hearing_of}
-use Rattle.precision_law.proofs.hearing.Hearers.{HearsThis, hears_this}
+use Rattle.precision_law.proofs.hearing.Hearers.{hears_this}
 use Rattle.precision_law.proofs.verdict.Outsiders.{IsLone, IsPair, either_channel, few_outside, good_or_bad, other_channel}
-use Rattle.precision_law.specs.Bases.{AreGood, HasGood, IsEmission}
-use Rattle.precision_law.specs.BlockLaws.{AreBeforeCorrections, BlocksGoSo}
-use Rattle.precision_law.specs.Blocks.{HasTimeAt, IsInBlock, IsOldAt}
-use Rattle.precision_law.specs.Hulls.{first_correction}
-use Rattle.precision_law.specs.Views.{IsView, View}
-use Rattle.run_law.proofs.runs.Places.{in_left}
-use Rattle.run_law.specs.control.Corrections.{heard_since}
-use Rattle.run_law.specs.device.States.{cycle_in}
-use Rattle.run_law.specs.records.Happenings.{Happening, time_of}
-use Rattle.run_law.specs.records.Order.{IsIn}
-use Rattle.run_law.specs.records.Ranks.{members_in}
 
 -- what is sent has a member
 some_member : (v : View) (h : Happening) (cm : DeviceId) (cycle : ℕ) (members : Members) → IsView v → IsEmission v h cm cycle members → (i : ℕ)
@@ -63,7 +45,6 @@ hears_so laws goes v n t block is device at front split hearing i =
     let h = heard.h in
     let in_all : IsIn h v.records = subst (IsIn h) (sym split.whole) (in_left h front split.rest heard.there) in
     let this = hears_this v device h hearing in_all heard.shows in
-    let late = heard_late v n t block device front hearing is at.has at.old split heard in
     let by_then = split.only h heard.there in
     let sent = laws.hearings v device hearing.channel hearing.frame.point.0 this.judgement h is this.hearer this.hears in (
       h,
@@ -75,14 +56,14 @@ hears_so laws goes v n t block is device at front split hearing i =
         is_emission = sent.1.emission;
         good =
             λ good. good_hearing laws v n t block.before device hearing.channel hearing.frame.point.0 this.judgement h is (went_so goes v n t block is)
-            this.hearer this.hears by_then late (λ e c f. good);
+            this.hearer this.hears by_then (heard_late v n t block device front hearing is at.has at.old split heard) (λ e c f. good);
       },
     )
 
 -- what is heard before the first correction is heard before the point
 pub sooner : (v : View) (n t : ℕ) (block : IsInBlock v n t) (device : DeviceId) (q : ℕ) → IsAtPoint v n t block device
     → pos q <ℤ first_correction v.sizes block.before.hull → q < t
-sooner v n t block device q at lt = (let late = at.late in omega (arith, ints, late, lt))
+sooner v n t block device q at lt = omega (arith, ints, at.late, lt)
 
 -- a frame with a good member that an old device hears outside is a pair of the other channel
 is_pair : FramesGoSo → BlocksGoSo → (v : View) (n t : ℕ) (block : IsInBlock v n t) → IsView v → (device : DeviceId) → IsAtPoint v n t block device
@@ -99,21 +80,12 @@ is_pair laws goes v n t block is device at first members sound h hearing hears g
     this.hears g enough) in
     let two : count_of own ≤ 2 = elim (cases_lt 2 (count_of own)) [ inl many ↦ absurd (never (inl (omega (arith, many)))) | inr few ↦ few ] in
     let sent : IsSentOn v n t hearing.channel own g.emission =
-    (let s = g.sent in let early = s.before in record {
-      cm = s.cm;
-      emission = s.emission;
-      of_channel = s.of_channel;
-      good = s.good;
-      before = omega (arith, early, lt);
-    }) in
+    (let s = g.sent in let early = s.before in record { cm = s.cm; emission = s.emission; of_channel = s.of_channel; good = s.good; before = omega arith }) in
     let other : hearing.channel ≡ other_channel v.channel = elim (either_channel v.channel hearing.channel) [
       | inr yes_other ↦ yes_other
       | inl same ↦
-          let both = same_sent goes v n t block is v.channel first g.emission members own sound.sent
-          (subst (λ (c : Channel). IsSentOn v n t c own g.emission) same sent) in
-          let counts = ap (λ (m : Members). count_of m) both.1 in
-          let three = sound.three in
-          absurd (omega (arith, counts, three, two))
+          let both = same_sent goes v n t block is _ _ _ _ own sound.sent (subst (λ (c : Channel). IsSentOn v n t c own g.emission) same sent) in
+          absurd (omega (arith, ap (λ (m : Members). count_of m) both.1, sound.three, two))
     ] in
     elim (good_or_bad v hears.emission hears.cm (cycle_in h) own is hears.is_emission) [
       | inr all ↦ absurd (never (inr all))
@@ -155,8 +127,7 @@ few_heard_outside laws goes v n t block is device at first members sound front s
         let hears = found.1 in
         let own : Members = record { 0 = members_in h } in
         let same = same_set v device h hearing hears.this in
-        let masters = members_are_masters v hears.emission hears.cm (cycle_in h) own is hears.is_emission in
-        elim masters.1 [
+        elim (members_are_masters v hears.emission hears.cm (cycle_in h) own is hears.is_emission).1 [
           | inr bad ↦
               let some = some_member v hears.emission hears.cm (cycle_in h) own is hears.is_emission in
               inr (λ out. subst (IsLone v) same (record { bad = bad.0; one = bad.1; member = some.0; is_member = some.1 }))

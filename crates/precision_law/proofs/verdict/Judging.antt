@@ -1,33 +1,11 @@
 -- A device that has had a common time since before the block finds the frames of its cycle within their time.
-use Rattle.std.proofs.Common.{◌≡◌, ℕ, suc, ◌+◌, ◌*◌, ◌<◌, ◌≤◌, ℤ, pos, ◌+ℤ◌, ◌-ℤ◌, ◌≤ℤ◌, true, List, Some, refl, ap, ◌∙◌, arith, le-leb}
-use Rattle.std.proofs.lemmas.Int.{ints}
-use Rattle.std.specs.Prelude.{nat_le}
-use Rattle.net_plan.specs.declared.ids.DeviceId.{DeviceId}
-use Rattle.pcf_values.specs.declared.members.Members.{Members}
-use Rattle.precision_law.proofs.block.Joins.{expected_is}
-use Rattle.precision_law.proofs.clocks.Unchanged.{AreUpTo, hears_as_at}
+use Rattle.precision_law.proofs.words.Std.{◌*◌, ◌+ℤ◌, ◌+◌, ◌-ℤ◌, ◌<◌, ◌∙◌, ◌≡◌, ◌≤ℤ◌, ◌≤◌, List, Some, ap, arith, ints, le-leb, nat_le, pos, refl, suc, true, ℕ, ℤ}
+use Rattle.precision_law.proofs.words.Plans.{DeviceId, Joining, Members, State, SyncPlan, Synchronised, expected_at}
+use Rattle.precision_law.proofs.words.Runs.{Happening, Judgement, Within, adjustment_at_hearing, cycle_in, expected_by, heard_as, last_cycle, observation_window, plan_of, state_at_hearing, time_of}
+use Rattle.precision_law.proofs.words.Laws.{HasTimeAt, Hull, IsInBlock, IsNearHull, IsOldAt, IsTimely, IsView, View, adjustment_left, has_time, hull_of}
+use Rattle.precision_law.proofs.words.Clocks.{room, sizes_are}
+use Rattle.precision_law.proofs.words.Blocks.{AreUpTo, before_narrow, earlier_in_block, expected_is, few_cycles, follows_before, hears_as_at, old_shows}
 use Rattle.precision_law.proofs.emission.Fits.{heard_as_within, heard_within}
-use Rattle.precision_law.proofs.law.Together.{before_narrow, follows_before, old_shows}
-use Rattle.precision_law.proofs.records.Views.{room}
-use Rattle.precision_law.proofs.sizes.Few.{few_cycles}
-use Rattle.precision_law.specs.Blocks.{HasTimeAt, IsInBlock, IsOldAt, adjustment_left}
-use Rattle.precision_law.specs.Epochs.{has_time}
-use Rattle.precision_law.specs.Hulls.{Hull, hull_of}
-use Rattle.precision_law.specs.Sizes.{Sizes}
-use Rattle.precision_law.specs.Standings.{IsNearHull, IsTimely}
-use Rattle.precision_law.specs.Views.{IsView, View}
-use Rattle.run_law.specs.control.Collections.{observation_window}
-use Rattle.run_law.specs.control.Hearing.{heard_as, last_cycle}
-use Rattle.run_law.specs.declared.judgement.Judgement.TheVariants.{Within}
-use Rattle.run_law.specs.declared.judgement.Judgement.{Judgement}
-use Rattle.run_law.specs.device.States.{adjustment_at_hearing, cycle_in, state_at_hearing}
-use Rattle.run_law.specs.records.Happenings.{Happening, time_of}
-use Rattle.run_law.specs.scenario.Devices.{expected_by, plan_of}
-use Rattle.sync_state.specs.Plan.{expected_at}
-use Rattle.sync_state.specs.declared.plan.SyncPlan.{SyncPlan}
-use Rattle.sync_state.specs.declared.state.State.TheVariants.{Off, Integrating, Joining, Synchronised}
-use Rattle.sync_state.specs.declared.state.State.{State}
-use Rattle.tte_units.specs.Amount.{amount}
 
 -- ---- a frame of the block's cycle
 
@@ -44,12 +22,11 @@ within_by : (plan : SyncPlan) (precision : ℤ) (state : State) (adjustment poin
     → (nat_le cycle last_cycle ≡ true) → (expected_at plan cycle -ℤ precision) ≤ℤ (point +ℤ adjustment)
     → (point +ℤ adjustment) ≤ℤ (expected_at plan cycle +ℤ precision)
     → heard_as plan precision state adjustment point cycle members ≡ Within
-within_by plan precision Off adjustment point cycle members timed few low high = absurd cc
-within_by plan precision Integrating adjustment point cycle members timed few low high = absurd cc
 within_by plan precision Joining adjustment point cycle members timed few low high =
     (heard_as_within plan precision Joining adjustment point cycle members few low high).1 refl
 within_by plan precision Synchronised adjustment point cycle members timed few low high =
     (heard_as_within plan precision Synchronised adjustment point cycle members few low high).0 refl
+within_by plan precision state adjustment point cycle members timed few low high = absurd cc
 
 -- numbers
 low_by : (expected point adjustment left : ℤ) (place precision other : ℕ) → (expected -ℤ point) ≡ (pos place -ℤ point) → precision ≡ other
@@ -68,30 +45,19 @@ pub judged_within : (v : View) (n q t : ℕ) (block : IsInBlock v n t) (device :
 judged_within v n q t block device base point hs members is has old le lt up frame =
     let s = v.scenario in
     let before = block.before in
-    let at : IsInBlock v n q = record {
-      before = before;
-      next = block.next;
-      is_over = block.is_over;
-      from = le;
-      to = omega (arith, lt, block.to);
-      in_run = omega (arith, lt, block.in_run);
-    } in
+    let at : IsInBlock v n q = earlier_in_block _ _ _ _ block le (omega arith) in
     let stands = hears_as_at v device before.next q t hs is up le lt old has.timed in
-    let shows = old_shows v n q t device at is (omega (arith, lt)) has old in
     let follows = follows_before v n before.hull frame.hull is before.is_hull frame.is_hull in
     let within = heard_within v.sizes before.hull frame.hull n (adjustment_left v device t) point base (s.reading device) q (expected_by s.network device)
-    (room v is) (before_narrow v n before) shows follows.least follows.most frame.near frame.timely in
-    let begun = frame.begun in
-    let few = few_cycles v (suc n) frame.hull is frame.is_hull (omega (arith, ints, begun, lt, block.in_run)) in
+    (room v is) (before_narrow v n before) (old_shows v n q t device at is (omega (arith, lt)) has old) follows.least follows.most frame.near frame.timely in
     let expected = expected_is v device (suc n) point is in
-    let precision : v.sizes.precision ≡ amount s.network.precision = ap (λ (x : Sizes). x.precision) is.sizes in
-    within_by (plan_of s.network device) (observation_window s.network) (state_at_hearing s hs device q) (adjustment_at_hearing s hs device q).0 point (suc n)
-    members
-    stands.state (le-leb (suc n) last_cycle few)
-    (low_by (expected_at (plan_of s.network device) (suc n)) point (adjustment_at_hearing s hs device q).0 (adjustment_left v device t)
-    (suc n * v.sizes.cycle + expected_by s.network device) v.sizes.precision (amount s.network.precision) expected precision stands.adjustment within.least)
-    (high_by (expected_at (plan_of s.network device) (suc n)) point (adjustment_at_hearing s hs device q).0 (adjustment_left v device t)
-    (suc n * v.sizes.cycle + expected_by s.network device) v.sizes.precision (amount s.network.precision) expected precision stands.adjustment within.most)
+    let precision = (sizes_are v is).precision in
+    within_by (plan_of s.network device) (observation_window s.network) (state_at_hearing s hs device q) (adjustment_at_hearing s hs device q).0 point
+    (suc n) members stands.state (le-leb (suc n) last_cycle (few_cycles v (suc n) _ is frame.is_hull (omega (arith, ints, frame.begun, lt, block.in_run))))
+    (low_by (expected_at (plan_of s.network device) (suc n)) point _ _
+    (suc n * v.sizes.cycle + expected_by s.network device) _ _ expected precision stands.adjustment within.least)
+    (high_by (expected_at (plan_of s.network device) (suc n)) point _ _
+    (suc n * v.sizes.cycle + expected_by s.network device) _ _ expected precision stands.adjustment within.most)
 
 -- ---- a record by which a device hears
 
@@ -109,7 +75,6 @@ pub record_within : (v : View) (n t : ℕ) (block : IsInBlock v n t) (device : D
     → IsInTimeOf v n device base point (time_of h) → IsJudgedAs v device h point judgement → judgement ≡ Within
 record_within v n t block device base point h judgement is has old le lt of_cycle frame j =
     let s = v.scenario in
-    j.is
-    ∙ ap (λ (c : ℕ). heard_as (plan_of s.network device) (observation_window s.network) (state_at_hearing s j.judged device (time_of h))
+    j.is ∙ ap (λ (c : ℕ). heard_as (plan_of s.network device) (observation_window s.network) (state_at_hearing s j.judged device (time_of h))
     (adjustment_at_hearing s j.judged device (time_of h)).0 point c j.members) of_cycle
-    ∙ judged_within v n (time_of h) t block device base point j.judged j.members is has old le lt j.up_to frame
+    ∙ judged_within v n _ t block _ _ _ _ j.members is has old le lt j.up_to frame

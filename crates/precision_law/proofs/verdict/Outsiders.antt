@@ -1,28 +1,11 @@
 -- The masters that a device hears outside are few.
-use Rattle.std.proofs.Common.{◌≡◌, ◌⊎◌, ℕ, ◌≤◌, List, [], ◌∷◌, Some, Any, inl, inr, refl, sym, ap, subst, ◌∙◌, arith}
-use Rattle.std.specs.Int.{bit_at}
-use Rattle.std.proofs.lemmas.Nat.{ones_le_self}
-use Rattle.membership.specs.Hearing.{Hearing, IsOutside}
-use Rattle.membership.specs.Members.{IsMember, count_of, none}
-use Rattle.membership.specs.Summary.{AreOutside}
-use Rattle.net_plan.specs.declared.ids.DeviceId.{DeviceId}
-use Rattle.pcf_values.specs.declared.channel.Channel.TheVariants.{A, B}
-use Rattle.pcf_values.specs.declared.channel.Channel.{Channel}
-use Rattle.pcf_values.specs.declared.members.Members.{Members}
-use Rattle.precision_law.proofs.compression.Made.{IsBadPoint, IsGoodPoint, made_of, member_of_point, point_is, point_of_member}
-use Rattle.precision_law.proofs.faults.Broken.{one_bad}
-use Rattle.precision_law.proofs.faults.Enough.{sets_within}
+use Rattle.precision_law.proofs.words.Std.{◌∙◌, ◌∷◌, ◌≡◌, ◌≤◌, ◌⊎◌, List, Some, [], ap, arith, bit_at, inl, inr, ones_le_self, refl, subst, sym, ℕ}
+use Rattle.precision_law.proofs.words.Plans.{A, AreOutside, B, Channel, DeviceId, Hearing, IsMember, IsOutside, Members, count_of, none}
+use Rattle.precision_law.proofs.words.Runs.{Happening, IsIn, founded_at, member_of, same_some, time_of}
+use Rattle.precision_law.proofs.words.Laws.{AreBad, AreGood, BlocksGoSo, IsBadMember, IsEmission, IsInBlock, IsView, View}
+use Rattle.precision_law.proofs.words.Clocks.{any_is, one_bad, sets_within}
+use Rattle.precision_law.proofs.words.Blocks.{IsBadPoint, IsGoodPoint, made_of, member_of_point, point_is, point_of_member}
 use Rattle.precision_law.proofs.hearing.GoodFrames.{IsSentOn, same_sent}
-use Rattle.precision_law.specs.Bases.{AreBad, AreGood, IsBadMember, IsEmission}
-use Rattle.precision_law.specs.BlockLaws.{BlocksGoSo}
-use Rattle.precision_law.specs.Blocks.{IsInBlock}
-use Rattle.precision_law.specs.Views.{IsView, View}
-use Rattle.run_law.proofs.law.FirstPlaces.{founded_at}
-use Rattle.run_law.proofs.runs.SameSteps.{same_some}
-use Rattle.run_law.proofs.scenario.Decisions.{any_of_none, any_parts}
-use Rattle.run_law.specs.records.Happenings.{Happening, time_of}
-use Rattle.run_law.specs.records.Order.{IsIn}
-use Rattle.run_law.specs.scenario.Devices.{member_of}
 
 -- ---- lists
 
@@ -37,20 +20,11 @@ one_or_all {X} P Q (x ∷ xs) each = by (each x (inl refl)) (one_or_all P Q xs (
     by (inr q) (inr all) = inr (λ y i. elim i as (λ _. Q y) [ inl same ↦ subst Q (sym same) q | inr later ↦ all y later ])
 
 -- what holds of some element holds of one
-pub any_is : {X : Type 0} (P : X → Type 0) (xs : List X) → Any P xs → (x : X) × IsIn x xs × P x
-any_is P [] any = absurd (any_of_none P any)
-any_is {X} P (x ∷ xs) any = elim (any_parts P x xs any) as (λ _. (y : X) × IsIn y (x ∷ xs) × P y) [
-  | inl p ↦ (x, inl refl, p)
-  | inr more ↦ (let r = any_is P xs more in (r.0, inr r.1, r.2))
-]
-
 -- ---- members
 
 -- there is one broken member at most
 pub one_bad_member : (v : View) (i j : ℕ) → IsView v → IsBadMember v i → IsBadMember v j → i ≡ j
-one_bad_member v i j is a b =
-    let same = one_bad v a.0 b.0 is a.2 b.2 in
-    same_some (Some j) i j (sym b.1 ∙ ap (member_of v.scenario.network) same ∙ a.1) refl
+one_bad_member v i j is a b = same_some (Some j) i j (sym b.1 ∙ ap (member_of v.scenario.network) (one_bad v a.0 b.0 is a.2 b.2) ∙ a.1) refl
 
 -- the members of what is sent are good, or a broken one is among them
 pub good_or_bad : (v : View) (h : Happening) (cm : DeviceId) (cycle : ℕ) (members : Members) → IsView v → IsEmission v h cm cycle members
@@ -85,10 +59,9 @@ other_channel B = A
 
 -- a channel is this one or the other
 pub either_channel : (c d : Channel) → (d ≡ c) ⊎ (d ≡ other_channel c)
-either_channel A A = inl refl
 either_channel A B = inr refl
 either_channel B A = inr refl
-either_channel B B = inl refl
+either_channel c d = inl refl
 
 -- the members are a broken master alone
 pub record IsLone (v : View) (members : Members) : Type 0 where
@@ -114,40 +87,28 @@ pub few_outside : BlocksGoSo → (v : View) (n t : ℕ) (block : IsInBlock v n t
 few_outside goes v n t block is channel heard outside are each decided =
     elim (one_or_all (λ h. IsOutside h × IsPair v n t channel h.frame.members) (λ h. IsOutside h → IsLone v h.frame.members) heard each) [
       | inl pair ↦
-          let p = pair.2.1 in
           let within : (i : ℕ) → IsMember i outside → IsMember i pair.0.frame.members = λ i set.
-          (let found = any_is (λ h. IsOutside h × IsMember i h.frame.members) heard ((are i).0 set) in in_pair pair.0.frame.members p i found.0 found.2.0
+          (let found = any_is (λ h. IsOutside h × IsMember i h.frame.members) heard ((are i).0 set) in in_pair pair.0.frame.members pair.2.1 i found.0 found.2.0
           found.2.1 (each found.0 found.1)) in
-          let few = sets_within outside pair.0.frame.members within in
-          let two = p.two in
-          omega (arith, few, two)
+          omega (arith, sets_within outside pair.0.frame.members within, pair.2.1.two)
       | inr lone ↦ elim (one_or_all IsOutside (λ h. IsOutside h → ⊥) heard decided) [
         | inl some ↦
             let l = lone some.0 some.1 some.2 in
             let within : (i : ℕ) → IsMember i outside → IsMember i some.0.frame.members = λ i set.
             (let found = any_is (λ h. IsOutside h × IsMember i h.frame.members) heard ((are i).0 set) in
-            let m = lone found.0 found.1 found.2.0 in
-            let same = one_bad_member v i l.member is (m.bad i found.2.1) (l.bad l.member l.is_member) in
+            let same = one_bad_member v i l.member is ((lone found.0 found.1 found.2.0).bad i found.2.1) (l.bad l.member l.is_member) in
             subst (λ (j : ℕ). IsMember j some.0.frame.members) (sym same) l.is_member) in
-            let few = sets_within outside some.0.frame.members within in
-            let one = l.one in
-            omega (arith, few, one)
+            omega (arith, sets_within outside some.0.frame.members within, l.one)
         | inr all ↦
             let within : (i : ℕ) → IsMember i outside → IsMember i none = λ i set.
             (let found = any_is (λ h. IsOutside h × IsMember i h.frame.members) heard ((are i).0 set) in absurd (all found.0 found.1 found.2.0)) in
-            let few = sets_within outside none within in
-            let zero = ones_le_self 0 in
-            omega (arith, few, zero)
+            omega (arith, sets_within outside none within, ones_le_self 0)
       ]
     ]
   where
     in_pair : (members : Members) → IsPair v n t channel members → (i : ℕ) (h : Hearing) → IsOutside h → IsMember i h.frame.members
         → (IsOutside h × IsPair v n t channel h.frame.members) ⊎ (IsOutside h → IsLone v h.frame.members) → IsMember i members
     in_pair members p i h out set (inl both) =
-        let q = both.1 in
-        let same = same_sent goes v n t block is channel q.emission p.emission h.frame.members members q.sent p.sent in
-        subst (IsMember i) same.1 set
+        subst (IsMember i) (same_sent goes v n t block is channel both.1.emission p.emission h.frame.members members both.1.sent p.sent).1 set
     in_pair members p i h out set (inr lone) =
-        let m = lone out in
-        let same = one_bad_member v i p.member is (m.bad i set) p.bad in
-        subst (λ (j : ℕ). IsMember j members) (sym same) p.is_member
+        subst (λ (j : ℕ). IsMember j members) (sym (one_bad_member v i p.member is ((lone out).bad i set) p.bad)) p.is_member

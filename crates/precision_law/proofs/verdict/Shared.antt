@@ -1,35 +1,13 @@
 -- The corrections that share the frame of the sound channel.
-use Rattle.std.proofs.Common.{◌≡◌, ℕ, suc, ◌+◌, ◌*◌, ◌≤◌, ℤ, pos, ◌+ℤ◌, ◌-ℤ◌, ◌*ℤ◌, ◌<ℤ◌, ◌≤ℤ◌, Option, Some, None, inl, inr, refl, ap, subst, arith}
-use Rattle.std.proofs.lemmas.Bool.{cases_lt}
-use Rattle.std.proofs.lemmas.Int.{ints}
-use Rattle.std.specs.Option.{option_map_or}
-use Rattle.clock_correction.specs.Correction.{correction_of}
-use Rattle.net_plan.specs.declared.ids.DeviceId.{DeviceId}
-use Rattle.pcf_values.specs.declared.channel.Channel.{Channel}
-use Rattle.pcf_values.specs.declared.members.Members.{Members}
+use Rattle.precision_law.proofs.words.Std.{◌*ℤ◌, ◌*◌, ◌+ℤ◌, ◌+◌, ◌-ℤ◌, ◌<ℤ◌, ◌≡◌, ◌≤ℤ◌, ◌≤◌, None, Option, Some, ap, arith, cases_lt, inl, inr, ints, option_map_or, pos, refl, subst, suc, ℕ, ℤ}
+use Rattle.precision_law.proofs.words.Plans.{Channel, DeviceId, IsMean, Members, Units, correction_of, mean_of, mean_of-floor}
+use Rattle.precision_law.proofs.words.Runs.{Happening, Within, expected_by, members_in, same_some, time_of}
+use Rattle.precision_law.proofs.words.Laws.{BlocksGoSo, Hull, IsAnchored, IsInBlock, IsNearHull, IsSharedCorrection, IsTimely, IsView, View, adjustment_left, base_of, first_correction, hull_of, setting}
+use Rattle.precision_law.proofs.words.Clocks.{anchors_widen, instants_are_in_order, one_frame_anchors, room, steady, two_frames_anchor}
+use Rattle.precision_law.proofs.words.Blocks.{FramesGoSo, before_narrow, follows_before}
 use Rattle.precision_law.proofs.block.Brings.{IsShown, mean_sum, mean_turned}
-use Rattle.precision_law.proofs.block.Goings.{FramesGoSo}
-use Rattle.precision_law.proofs.clocks.Anchored.{anchors_widen, one_frame_anchors, two_frames_anchor}
 use Rattle.precision_law.proofs.hearing.GoodFrames.{IsSentOn, good_hearing, in_time_of, same_sent, went_so}
-use Rattle.precision_law.proofs.law.Together.{before_narrow, follows_before}
-use Rattle.precision_law.proofs.records.Views.{room, steady}
-use Rattle.precision_law.proofs.sizes.Instants.{instants_are_in_order}
 use Rattle.precision_law.proofs.verdict.HeardOutside.{IsAtPoint, SoundIsSent, sooner}
-use Rattle.precision_law.specs.Anchors.{IsAnchored}
-use Rattle.precision_law.specs.Bases.{base_of}
-use Rattle.precision_law.specs.BlockLaws.{BlocksGoSo, IsSharedCorrection}
-use Rattle.precision_law.specs.Blocks.{IsInBlock, adjustment_left}
-use Rattle.precision_law.specs.Hulls.{Hull, first_correction, hull_of}
-use Rattle.precision_law.specs.Standings.{IsNearHull, IsTimely, setting}
-use Rattle.precision_law.specs.Views.{IsView, View}
-use Rattle.run_law.proofs.runs.SameSteps.{same_some}
-use Rattle.run_law.specs.declared.judgement.Judgement.TheVariants.{Within}
-use Rattle.run_law.specs.records.Happenings.{Happening, time_of}
-use Rattle.run_law.specs.records.Ranks.{members_in}
-use Rattle.run_law.specs.scenario.Devices.{expected_by}
-use Rattle.tte_units.proofs.Means.{mean_of-floor}
-use Rattle.tte_units.specs.Mean.{IsMean, mean_of}
-use Rattle.tte_units.specs.declared.units.Units.{Units}
 
 -- ---- deviations by frames of the hull
 
@@ -63,11 +41,10 @@ is_by_frame laws goes v n t block is device at hull is_hull channel dev shown =
     let frame = in_time_of laws goes v n t block device channel shown.point h is lt g (inl shown.enough) in
     let same : frame.hull ≡ hull = same_some (hull_of v (suc n)) frame.hull hull frame.is_hull is_hull in
     let s = g.sent in
-    let early = s.before in
     record {
       emission = g.emission;
       members = members;
-      sent = record { cm = s.cm; emission = s.emission; of_channel = s.of_channel; good = s.good; before = omega (arith, early, lt) };
+      sent = record { cm = s.cm; emission = s.emission; of_channel = s.of_channel; good = s.good; before = omega (arith, s.before, lt) };
       has = record {
         q = time_of h;
         point = shown.point;
@@ -90,25 +67,18 @@ is_by_sound goes v n t block is device hull dev first members sound frame =
 
 -- ---- anchors
 
--- the anchor of one frame is one of it and itself
-one_low : (base : ℤ) (path grain drift : ℕ) → ((base +ℤ base) -ℤ pos (2 * path + 4 * grain + drift)) ≤ℤ ((pos 2 *ℤ base) -ℤ pos (2 * path + 4 * grain))
-one_low base path grain drift = omega (arith, ints)
-
-one_high : (base : ℤ) (path drift : ℕ) → ((pos 2 *ℤ base) +ℤ pos (2 * path)) ≤ℤ ((base +ℤ base) +ℤ pos (2 * path + drift + 1))
-one_high base path drift = omega (arith, ints)
-
 -- what one frame corrects
 one_shared : (v : View) (n t : ℕ) (block : IsInBlock v n t) → IsView v → (device : DeviceId) (hull : Hull) (shared : ℤ) (by : Units)
     → HasBase v n t block device hull shared by → IsSharedCorrection v n t hull shared device by
 one_shared v n t block is device hull shared by b =
     let reading = v.scenario.reading device in
     let expected = expected_by v.scenario.network device in
-    let sum : setting v.sizes (suc n) expected b.point ≡ (adjustment_left v device t +ℤ by.0) = (let e = b.is in omega (arith, ints, e)) in
+    let sum : setting v.sizes (suc n) expected b.point ≡ (adjustment_left v device t +ℤ by.0) = omega (arith, ints, b.is) in
     let anchored = one_frame_anchors v.sizes reading shared b.q b.point expected (suc n) b.timely in
     let wide = anchors_widen v.sizes (pos (reading b.q) +ℤ setting v.sizes (suc n) expected b.point) (suc n)
     ((pos 2 *ℤ shared) -ℤ pos (2 * v.sizes.path + 4 * v.sizes.grain)) ((pos 2 *ℤ shared) +ℤ pos (2 * v.sizes.path))
     ((shared +ℤ shared) -ℤ pos (2 * v.sizes.path + 4 * v.sizes.grain + v.sizes.drift)) ((shared +ℤ shared) +ℤ pos (2 * v.sizes.path + v.sizes.drift + 1)) b.q
-    (one_low shared v.sizes.path v.sizes.grain v.sizes.drift) (one_high shared v.sizes.path v.sizes.drift) anchored in
+    (omega (arith, ints)) (omega (arith, ints)) anchored in
     record {
       other = shared;
       near = b.near;
@@ -136,27 +106,11 @@ two_anchor v n t block is device hull is_hull first second a b by x y le mean =
     let order = instants_are_in_order v.sizes block.before.hull hull space (before_narrow v n block.before)
     (follows_before v n block.before.hull hull is block.before.is_hull is_hull) in
     let within : y.q ≤ x.q + 2 * v.sizes.cycle =
-    (let late = y.not_late in let early = x.not_early in omega (
-      arith,
-      ints,
-      late,
-      early,
-      order.corrections,
-      order.last_not_late,
-      space.cycles,
-      space.eight_errors,
-    )) in
-    let sum : mean_of one two ≡ (adjustment_left v device t +ℤ by.0) = mean_sum (adjustment_left v device t) one two a.0 b.0 by.0 mean (mean_of-floor one two)
-    x.is y.is in
+    (omega (arith, ints, y.not_late, x.not_early, order, space)) in
+    let sum = mean_sum (adjustment_left v device t) one two a.0 b.0 by.0 mean (mean_of-floor one two) x.is y.is in
     let anchored = two_frames_anchor v.sizes reading first second x.q y.q x.point y.point expected (suc n) (steady v is device) le within x.timely y.timely in
     subst (λ (z : ℤ). IsAnchored v.sizes (pos (reading y.q) +ℤ z) (suc n) ((first +ℤ second) -ℤ pos (2 * v.sizes.path + 4 * v.sizes.grain + v.sizes.drift))
     ((first +ℤ second) +ℤ pos (2 * v.sizes.path + v.sizes.drift + 1)) y.q) sum anchored
-
-turned_low : (a b : ℤ) (k : ℕ) → ((b +ℤ a) -ℤ pos k) ≤ℤ ((a +ℤ b) -ℤ pos k)
-turned_low a b k = omega (arith, ints)
-
-turned_high : (a b : ℤ) (k : ℕ) → ((a +ℤ b) +ℤ pos k) ≤ℤ ((b +ℤ a) +ℤ pos k)
-turned_high a b k = omega (arith, ints)
 
 -- what two frames correct
 two_shared : (v : View) (n t : ℕ) (block : IsInBlock v n t) → IsView v → (device : DeviceId) (hull : Hull) → hull_of v (suc n) ≡ Some hull
@@ -184,8 +138,7 @@ two_shared v n t block is device hull is_hull shared other a b by x y mean =
             not_behind = x.by_then;
             anchored =
                 anchors_widen v.sizes (pos (v.scenario.reading device x.q) +ℤ (adjustment_left v device t +ℤ by.0)) (suc n) ((other +ℤ shared) -ℤ pos k)
-                ((other +ℤ shared) +ℤ pos m) ((shared +ℤ other) -ℤ pos k) ((shared +ℤ other) +ℤ pos m) x.q (turned_low other shared k)
-                (turned_high other shared m) anchored;
+                ((other +ℤ shared) +ℤ pos m) ((shared +ℤ other) -ℤ pos k) ((shared +ℤ other) +ℤ pos m) x.q (omega (arith, ints)) (omega (arith, ints)) anchored;
           }
     ]
 
@@ -212,6 +165,5 @@ shared_second v n t block is device hull is_hull shared sound None by x others e
     (let same : sound ≡ by = cc in one_shared v n t block is device hull shared by (subst (HasBase v n t block device hull shared) same x))
 shared_second v n t block is device hull is_hull shared sound (Some b) by x others e =
     let y = others b refl in
-    let shown : mean_of b.0 sound.0 ≡ by.0 = ap (λ (o : Option Units). option_map_or (λ u. u.0) o (pos 0)) e in
     two_shared v n t block is device hull is_hull shared y.0 sound b by x y.1
-    (mean_turned b.0 sound.0 by.0 (subst (IsMean b.0 sound.0) shown (mean_of-floor b.0 sound.0)))
+    (mean_turned b.0 sound.0 by.0 (subst (IsMean b.0 sound.0) (ap (λ (o : Option Units). option_map_or (λ u. u.0) o (pos 0)) e) (mean_of-floor b.0 sound.0)))

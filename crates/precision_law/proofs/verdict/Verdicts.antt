@@ -1,22 +1,8 @@
 -- Each correction point comes to a verdict.
-use Rattle.std.proofs.Common.{◌≡◌, ◌⊎◌, ℕ, ◌≤◌, Bool, true, false, List, [], ◌∷◌, ◌++◌, Option, Some, None, inl, inr, refl, sym, ap, subst, ◌∙◌, arith, le-leb}
-use Rattle.std.proofs.lemmas.Bool.{cases_lt}
-use Rattle.std.proofs.lemmas.List.{append-nil, append_assoc}
-use Rattle.std.specs.Prelude.{IfSome, if◌then◌else◌, nat_le, option_and_then}
-use Rattle.clock_correction.specs.Correction.{correction_of}
+use Rattle.precision_law.proofs.words.Std.{◌++◌, ◌∙◌, ◌∷◌, ◌≡◌, ◌≤◌, ◌⊎◌, Bool, IfSome, List, None, Option, Some, [], ap, append-nil, append_assoc, arith, cases_lt, false, if◌then◌else◌, inl, inr, le-leb, nat_le, option_and_then, refl, subst, sym, true, ℕ}
+use Rattle.precision_law.proofs.words.Plans.{A, AsyncClique, B, Channel, Corrected, HasVerdict, HeardFrame, Hearing, IsAtIntegration, IsBetterOf, IsOutnumbered, Qualifies, Standing, Summarizes, Summary, SyncClique, Units, correction_of, count_of, deviation_by, deviation_on, silence, union, within_on}
+use Rattle.precision_law.proofs.words.Runs.{IsDecided, decided_and, decided_less, decided_less_int, decided_or, decided_same, decided_some}
 use Rattle.membership.proofs.SummaryLemmas.{hears_on_a, hears_on_b, hears_outside, silence_summarizes}
-use Rattle.membership.specs.BestFrame.{IsBetterOf, Qualifies}
-use Rattle.membership.specs.Hearing.{Hearing, within_on}
-use Rattle.membership.specs.Members.{count_of, union}
-use Rattle.membership.specs.Summary.{Summary, Summarizes, silence}
-use Rattle.membership.specs.declared.frame.HeardFrame.{HeardFrame}
-use Rattle.pcf_values.specs.declared.channel.Channel.TheVariants.{A, B}
-use Rattle.pcf_values.specs.declared.channel.Channel.{Channel}
-use Rattle.run_law.proofs.scenario.Decisions.{IsDecided, decided_less, decided_less_int, decided_same, decided_some, decided_and, decided_or}
-use Rattle.sync_state.specs.Standing.{IsAtIntegration, Standing}
-use Rattle.sync_state.specs.Verdicts.{HasVerdict, IsOutnumbered, deviation_by, deviation_on}
-use Rattle.sync_state.specs.declared.answers.Verdict.TheVariants.{Corrected, SyncClique, AsyncClique}
-use Rattle.tte_units.specs.declared.units.Units.{Units}
 
 -- ---- summaries
 
@@ -25,10 +11,7 @@ better None later = (later, refl)
 better (Some best) later =
     elim (decided_or (decided_less (count_of later.members) (count_of best.members))
     (decided_and (decided_same (count_of later.members) (count_of best.members)) (decided_less_int later.point.0 best.point.0))) as
-    (λ _. (frame : HeardFrame) × IsBetterOf (Some best) later frame) [
-      | inl behind ↦ (best, inl (behind, refl))
-      | inr other ↦ (later, inr (other, refl))
-    ]
+    (λ _. (frame : HeardFrame) × IsBetterOf (Some best) later frame) [ inl behind ↦ (best, inl (behind, refl)) | inr other ↦ (later, inr (other, refl)) ]
 
 hearing_is : (h : Hearing) (channel : Channel) → h.channel ≡ channel → h.within ≡ true → within_on channel h.frame ≡ h
 hearing_is h channel a b =
@@ -67,10 +50,7 @@ summary_of heard = summary_from heard [] silence silence_summarizes
 -- ---- verdicts
 
 decided_le : (a b : ℕ) → IsDecided (a ≤ b)
-decided_le a b = elim (cases_lt b a) [
-  | inl lt ↦ inr (λ le. absurd (omega (arith, lt, le)))
-  | inr ge ↦ inl ge
-]
+decided_le a b = elim (cases_lt b a) [ inl lt ↦ inr (λ le. absurd (omega (arith, lt, le))) | inr ge ↦ inl ge ]
 
 qualifies : (threshold : ℕ) (o : Option HeardFrame) → IsDecided (Qualifies threshold o)
 qualifies threshold o = decided_some o (λ frame. threshold ≤ count_of frame.members) (λ frame. decided_le threshold (count_of frame.members))
@@ -82,10 +62,7 @@ few (Some frame) n = decided_le (count_of frame.members) n
 outnumbered : (heard : Summary) → IsDecided (IsOutnumbered heard)
 outnumbered heard = elim (few heard.best_a (count_of heard.outside)) [
   | inr no_a ↦ inr (λ all. no_a (all A))
-  | inl a ↦ elim (few heard.best_b (count_of heard.outside)) [
-    | inr no_b ↦ inr (λ all. no_b (all B))
-    | inl b ↦ inl (both a b)
-  ]
+  | inl a ↦ elim (few heard.best_b (count_of heard.outside)) [ inr no_b ↦ inr (λ all. no_b (all B)) | inl b ↦ inl (both a b) ]
 ]
   where
     both : IfSome heard.best_a (λ frame. count_of frame.members ≤ count_of heard.outside)

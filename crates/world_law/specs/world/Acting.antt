@@ -44,6 +44,7 @@ judged_as ripe.Integrates = judgements.Integrates
 judged_as ripe.Ignored = judgements.Ignored
 judged_as (ripe.Dropped reason) = judgements.Ignored
 
+-- a frame of its own that tells a device the time makes it joining
 abbrev pub joining_bodies : DeviceId → Ripe → List NoteBody
 joining_bodies device ripe.Integrates = kinds.State device Joining none_yet whys.Frame ∷ []
 joining_bodies device other = []
@@ -53,6 +54,7 @@ abbrev pub first_bodies : DeviceId → State → List NoteBody
 first_bodies device Joining = kinds.State device Synchronised none_yet whys.Correction ∷ []
 first_bodies device other = []
 
+-- what comes of a correction point: a correction, a loss of the common time, or no record
 abbrev pub correction_bodies : DeviceId → State → ℕ → Units → Verdict → List NoteBody
 correction_bodies device was cycle adjustment (verdicts.Corrected by) =
     kinds.Corrected device cycle by adjustment ∷ first_bodies device was

@@ -38,6 +38,7 @@ HasHeard stands network device moment link octets result old new =
     → (result ≡ arrival_at network device node moment link (signal_of octets))
     × stands new network device (called moment arriving (after_arrival node moment result))
 
+-- the first frame on a wire arrives: the machine of its device hears it, and its record is settled
 abbrev pub HeardStep : {C M : Type 0} → (C → ℕ → ℕ) → (M → Network → DeviceId → Node → Type 0) → Type 0
 HeardStep {C} {M} reading stands =
     (s : Scenario) (world : World C M) (notes : List Note) (e : OnWire) (machine heard : M) (octets : List ℕ)

@@ -1,0 +1,64 @@
+-- Plain facts of choices, lists, roles and states that several files use.
+use Rattle.precision_law.proofs.words.Std.{◌∙◌, ◌∷◌, ◌≡◌, ◌≤◌, Any, Bool, List, None, Option, Some, [], ap, arith, cons_option, false, filter_map, inl, inr, is_some, option_and_then, option_map, option_map_or, refl, subst, sym, true, ℕ}
+use Rattle.precision_law.proofs.words.Plans.{Device, Master, Role, State, Synchronised, is_end_system}
+use Rattle.precision_law.proofs.words.Runs.{IsBefore, IsIn, any_of_none, any_parts, is_cm_role, is_synchronised}
+use Rattle.precision_law.proofs.words.Laws.{has_time}
+
+-- ---- choices
+
+pub never_some : {X : Type 0} (x : X) → None ≡ Some x → ⊥
+never_some x e = cc
+
+pub some_of : {X : Type 0} (o : Option X) → is_some o ≡ true → (x : X) × (o ≡ Some x)
+some_of None e = absurd cc
+some_of (Some x) e = (x, refl)
+
+-- what is made of something there
+pub mapped : {X Y : Type 0} (f : X → Y) (o : Option X) (y : Y) → option_map f o ≡ Some y → (x : X) × (o ≡ Some x) × (f x ≡ y)
+mapped f None y e = absurd cc
+mapped f (Some x) y e = (x, refl, cc)
+
+pub reached : {X Y : Type 0} (f : X → Option Y) (o : Option X) (y : Y) → option_and_then f o ≡ Some y → (x : X) × (o ≡ Some x) × (f x ≡ Some y)
+reached f None y e = absurd cc
+reached f (Some x) y e = (x, refl, e)
+
+-- ---- lists
+
+-- a place that is before another is of no later time
+pub no_later : (t u : ℕ) (xs ys : List ℕ) → IsBefore (t ∷ xs) (u ∷ ys) → t ≤ u
+no_later t u xs ys (inl lt) = omega arith
+no_later t u xs ys (inr both) = omega (arith, both.0)
+
+-- what is made of an element is there
+pub made_in : {X Y : Type 0} (f : X → Option Y) (xs : List X) (x : X) (y : Y) → IsIn x xs → f x ≡ Some y → IsIn y (filter_map f xs)
+made_in f [] x y i e = absurd i
+made_in {X} {Y} f (z ∷ xs) x y (inl same) e = subst (λ (o : Option Y). IsIn y (cons_option o (filter_map f xs))) (sym (ap f (sym same) ∙ e)) (inl refl)
+made_in f (z ∷ xs) x y (inr more) e = by (f z) (made_in f xs x y more e)
+  where
+    by : (o : Option _) → IsIn y (filter_map f xs) → IsIn y (cons_option o (filter_map f xs))
+    by None i = i
+    by (Some w) i = inr i
+
+-- the element of which something holds
+pub any_is : {X : Type 0} (P : X → Type 0) (xs : List X) → Any P xs → (x : X) × IsIn x xs × P x
+any_is P [] any = absurd (any_of_none P any)
+any_is {X} P (x ∷ xs) any = elim (any_parts P x xs any) as (λ _. (y : X) × IsIn y (x ∷ xs) × P y) [
+  | inl p ↦ (x, inl refl, p)
+  | inr more ↦ (let r = any_is P xs more in (r.0, inr r.1, r.2))
+]
+
+-- ---- roles and states
+
+-- a device of which this holds is there
+pub device_of : (f : Role → Bool) (o : Option Device) → option_map_or (λ d. f d.role) o false ≡ true → (d : Device) × (o ≡ Some d) × (f d.role ≡ true)
+device_of f None e = absurd cc
+device_of f (Some d) e = (d, refl, e)
+
+pub cm_is_no_end : (role : Role) → is_cm_role role ≡ true → is_end_system role ≡ true → ⊥
+cm_is_no_end Master a b = absurd cc
+cm_is_no_end role a b = absurd cc
+
+-- who is synchronised has the time
+pub synchronised_has_time : (state : State) → is_synchronised state ≡ true → has_time state ≡ true
+synchronised_has_time Synchronised e = refl
+synchronised_has_time state e = absurd cc
