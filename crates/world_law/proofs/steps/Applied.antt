@@ -33,7 +33,7 @@ use Rattle.world_law.proofs.steps.AppliedDevices.{IsApplying, event_moves, held_
 use Rattle.world_law.proofs.steps.AppliedParts.{IsBefalling, agree_before, before_others, nothing_due, ports_apply, turned_more, waiting_apply, wires_apply}
 use Rattle.world_law.specs.source.Agreeing.{scenario}
 use Rattle.world_law.specs.source.Applying.{IsEventBody, MayBefall, note_of_event, place_of_event}
-use Rattle.world_law.specs.world.Steps.{AppliedStep, MayTurnOn, also_befell, ends_world}
+use Rattle.world_law.specs.world.Steps.{AppliedStep, FitsWorld, also_befell, ends_world}
 use Rattle.world_law.specs.world.World.{AreAtPorts, AreInOrder, AreOfNetwork, AreOnWires, AreSettled, AreUntold, AreWaiting, Befell, IsFromEnd, IsHeld, IsOnWire, OnWire, World, clock_place, has_outcome, hidden}
 
 -- ---- the end
@@ -135,14 +135,14 @@ untold_apply hs cursor now number line pending befell ev what untold early numbe
 -- ---- devices of the network
 
 of_network : {C M : Type 0} (stands : M → Network → DeviceId → Node → Type 0) (world : World C M) (network : Network) (what : What) (device : DeviceId)
-    → MayTurnOn stands network world what → length network.device ≤ device.0 → turns_on device what ≡ false
+    → FitsWorld stands network world what → length network.device ≤ device.0 → turns_on device what ≡ false
 of_network stands world network (events.On other) device may le =
     Rattle.std.proofs.lemmas.Bool.false_from_ne_true (device.0 == other.0)
     (λ same. let at = Rattle.std.proofs.lemmas.Bool.eqb-true device.0 other.0 same in let lt = may.0 in absurd (omega (arith, at, lt, le)))
 of_network stands world network other device may le = refl
 
 known_apply : {C M : Type 0} (stands : M → Network → DeviceId → Node → Type 0) (world : World C M) (network : Network) (f g : DeviceId → ℕ → ℕ)
-    (past : List Event) (event : Event) (hs : List Happening) (now : ℕ) (ev : Happening) → MayTurnOn stands network world event.what → IsEventBody ev.note.body
+    (past : List Event) (event : Event) (hs : List Happening) (now : ℕ) (ev : Happening) → FitsWorld stands network world event.what → IsEventBody ev.note.body
     → AreOfNetwork (scenario network f past) (hs ++ []) → AreOfNetwork (scenario network g (past ++ event ∷ [])) ((hs ++ ev ∷ []) ++ [])
 known_apply stands world network f g past event hs now ev may is known = record {
   unmoved = λ device le h i. elim (in_parts h hs (ev ∷ []) (subst (λ (l : List Happening). IsIn h l) (append-nil (hs ++ ev ∷ [])) i)) [
@@ -165,8 +165,8 @@ no_coming hs (z ∷ coming) s mark cursor now are early = absurd (never_self (no
 -- octets are sent by an end system
 sent_by : {C M : Type 0} (stands : M → Network → DeviceId → Node → Type 0) (network : Network) (world : World C M) (what : What) (link : LinkId)
     (octets : List ℕ)
-    → MayTurnOn stands network world what → what ≡ events.Send link octets → IsFromEnd network link
-sent_by stands network world what link octets may is = subst (λ (w : What). MayTurnOn stands network world w) is may
+    → FitsWorld stands network world what → what ≡ events.Send link octets → IsFromEnd network link
+sent_by stands network world what link octets may is = subst (λ (w : What). FitsWorld stands network world w) is may
 
 under_two : (now line : ℕ) → IsBefore (now ∷ 1 ∷ line ∷ []) (now ∷ 2 ∷ [])
 under_two now line = inr (refl, inl (omega arith))

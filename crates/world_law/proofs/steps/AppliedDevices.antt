@@ -43,7 +43,7 @@ use Rattle.world_law.specs.device.Own.{bears_on, moves}
 use Rattle.world_law.specs.device.Takings.{frames_taken}
 use Rattle.world_law.specs.source.Agreeing.{scenario}
 use Rattle.world_law.specs.source.Applying.{IsEventBody}
-use Rattle.world_law.specs.world.Steps.{MayTurnOn, befallen_node}
+use Rattle.world_law.specs.world.Steps.{FitsWorld, befallen_node}
 use Rattle.world_law.specs.world.World.{IsCalledBy, IsHeld, IsKept, IsOut, World, act_place, rank_of_call}
 
 -- ---- what an event makes of a node
@@ -86,7 +86,7 @@ node_out on other device node out = refl
 
 -- it is off where it may be turned on
 pub off_before : {C M : Type 0} (stands : M → Network → DeviceId → Node → Type 0) (network : Network) (world : World C M) (what : What) (device : DeviceId)
-    (machine : M) (node : Node) → MayTurnOn stands network world what → turns_on device what ≡ true
+    (machine : M) (node : Node) → FitsWorld stands network world what → turns_on device what ≡ true
     → slice_get world.machines device.0 ≡ Some machine → stands machine network device node → node.standing.state ≡ Off
 off_before {C} {M} stands network world (events.On other) device machine node may it there is =
     let same = eqb-true device.0 other.0 it in

@@ -131,7 +131,7 @@ begun {C} {M} reading stands network f world fresh forward steady zero_first le 
       given = fresh.given;
       ended = λ time. (λ ends. absurd (none_in _ ends), λ it. absurd (let e : false ≡ true = sym fresh.ended ∙ it.0 in cc));
       befallen = record { past = λ i e at. absurd cc; told = λ i e at. absurd cc; begun = λ i e at. absurd cc; sent = λ i e link octets at. absurd cc };
-      clocks = fresh.clocks;
+      clocks = λ device lt. let own = fresh.clocks device lt in (own.0, own.1, λ t late. own.2 t (omega arith));
       broken = fresh.broken;
       ways = subst (λ (n : ℕ). Rattle.world_law.specs.world.World.AreWays s n world.ups world.downs) now fresh.ways;
       coming = [];

@@ -126,7 +126,7 @@ passed_but_devices reading stands s world notes t old settled lt few running non
           begun = old.befallen.begun;
           sent = old.befallen.sent;
         };
-        clocks = old.clocks;
+        clocks = λ device in_it. let own = old.clocks device in_it in (own.0, own.1, λ x late. own.2 x (omega (arith, le, late)));
         broken = λ device in_it. old.broken device in_it ∙ ap Some (sym (no_later_breaks s old.mark now t device old.befallen le));
         ways = record {
           up = λ link in_it. old.ways.up link in_it ∙ ap Some (ways_stay s old.mark now t link Up old.befallen le);

@@ -1,5 +1,5 @@
--- How the records before a time leave a device: its node is a function of the scenario and the records, but for what
--- is of no use in its state.
+-- How the records before a time leave a device: its node is a function of the scenario and the records, but for what is
+-- of no use in its state.
 use Rattle.std.specs.Prelude.{◌≡◌, ℕ, ◌≤◌, ◌<◌, pos, ◌-ℤ◌, ◌<ℤ◌, ◌≤ℤ◌, Bool, true, false, List, IfSome}
 use Rattle.std.specs.List.{Contains}
 use Rattle.compression.specs.declared.compressed.Compressed.{Compressed}

@@ -48,8 +48,7 @@ HasRipened stands network device moment link frame point result old new =
     (called moment ripening (after_permanence node moment (channel_of_link network link) frame point result))
 
 -- the first frame that waits, to whose point its device's reading has come, is permanent: the machine judges it, and
--- its
--- record is settled, with that of the change of state that follows it where it tells the device the time
+-- its record is settled, with that of the change of state that follows it where it tells the device the time
 abbrev pub RipenedStep : {C M : Type 0} → (C → ℕ → ℕ) → (M → Network → DeviceId → Node → Type 0) → Type 0
 RipenedStep {C} {M} reading stands =
     (s : Scenario) (world : World C M) (notes : List Note) (e : Waiting) (machine ripe : M) (result : Ripe)

@@ -254,14 +254,15 @@ pub record HaveBeen {M : Type 0} (stands : M → Network → DeviceId → Node �
       × ((node : Node) → stands machine s.network device node
       → stands after s.network device (befallen_node (is_turned_on_at s device now) what device node))
 
--- an event turns on a device of the network only where it is off, and octets are sent only by an end system
-abbrev pub MayTurnOn : {C M : Type 0} → (M → Network → DeviceId → Node → Type 0) → Network → World C M → What → Type 0
-MayTurnOn {C} {M} stands network world (events.On device) =
+-- the event fits the world: it turns on a device of the network only where it is off, and has octets sent only by an end
+-- system
+abbrev pub FitsWorld : {C M : Type 0} → (M → Network → DeviceId → Node → Type 0) → Network → World C M → What → Type 0
+FitsWorld {C} {M} stands network world (events.On device) =
     (device.0 < length network.device)
     × ((machine : M) (node : Node) → slice_get world.machines device.0 ≡ Some machine
     → stands machine network device node → node.standing.state ≡ Off)
-MayTurnOn stands network world (events.Send link octets) = IsFromEnd network link
-MayTurnOn stands network world other = Unit {0}
+FitsWorld stands network world (events.Send link octets) = IsFromEnd network link
+FitsWorld stands network world other = Unit {0}
 
 -- what is pending with it
 abbrev pub also_befell : ℕ → What → List Befell
@@ -280,12 +281,12 @@ AppliedStep {C} {M} reading stands =
     (notes : List Note)
     (clocks : List C) (machines : List M) (broken : List Bool) (ups downs : List WayNow) (waiting : List Waiting)
     (old : Stands reading stands (scenario network f past) world notes) → world.ended ≡ false
-    → event.time.0 ≡ pos world.now → MayTurnOn stands network world event.what
+    → event.time.0 ≡ pos world.now → FitsWorld stands network world event.what
     → world.early ≡ true → length notes + 1 < none_yet
     → ((device : DeviceId) (x : ℕ) → x ≤ world.now → g device x ≡ f device x)
     → ((device : DeviceId) → IsSteady (g device) (amount network.precision))
     → ((device : DeviceId) → device.0 < length network.device → (clock : C) × (slice_get clocks device.0 ≡ Some clock)
-    × IsClockOf reading (scenario network g (past ++ event ∷ [])) device clock)
+    × IsClockOf reading (scenario network g (past ++ event ∷ [])) world.now device clock)
     → IsForward (scenario network g (past ++ event ∷ [])) → HaveBeen stands (scenario network f past) event.what
     world.now world.machines machines
     → ((device : DeviceId) → device.0 < length network.device
@@ -318,7 +319,7 @@ pub record IsFresh {C M : Type 0} (reading : C → ℕ → ℕ) (stands : M → 
     (network : Network) (f : DeviceId → ℕ → ℕ) (world : World C M) : Type 0 where
   pub of_it : world.network ≡ network
   pub clocks : (device : DeviceId) → device.0 < length network.device → (clock : C)
-      × (slice_get world.clocks device.0 ≡ Some clock) × IsClockOf reading (scenario network f []) device clock
+      × (slice_get world.clocks device.0 ≡ Some clock) × IsClockOf reading (scenario network f []) 0 device clock
   pub machines : (device : DeviceId) → device.0 < length network.device → (machine : M)
       × (slice_get world.machines device.0 ≡ Some machine) × stands machine network device (begun_node network device)
   pub broken : (device : DeviceId) → device.0 < length network.device → slice_get world.broken device.0 ≡ Some false

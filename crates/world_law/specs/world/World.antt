@@ -85,11 +85,9 @@ pub record WayNow : Type 0 where
   pub cut : Bool
 
 -- a world. While it is `early` at the present instant, nothing but events of it is worked off. While some are
--- `pending`,
--- what befell is kept: a later event of the instant may change what comes of it. What is settled are records of the
--- present instant that are still to be given, in their order, with the number 0, and where they follow one of the
--- others
--- with the cause `none_yet`
+-- `pending`, what befell is kept: a later event of the instant may change what comes of it. What is settled are records
+-- of the present instant that are still to be given, in their order, with the number 0, and where they follow one of
+-- the others with the cause `none_yet`
 pub record World (C M : Type 0) : Type 0 where
   pub network : Network
   pub clocks : List C
@@ -275,10 +273,9 @@ IsCalledBy node cursor now =
 
 -- the machine of a sound device stands for a node that the records, those given and those to come, leave it; it has
 -- taken what they say, it has done and sent what its clock had come to, and it may be called from now on. While it
--- acts,
--- something more is due. Only a compression master has points, and sends for them.
--- Where it has not acted, no record of the instant moves it but that it was turned on; where it has, its acts are
--- worked off, or it had none, as a frame told it the time
+-- acts, something more is due. Only a compression master has points, and sends for them. Where it has not acted, no
+-- record of the instant moves it but that it was turned on; where it has, its acts are worked off, or it had none, as a
+-- frame told it the time
 pub record IsKept {M : Type 0} (stands : M → Network → DeviceId → Node → Type 0) (s : Scenario)
     (hs coming : List Happening) (cursor : List ℕ) (now : ℕ) (device : DeviceId) (machine : M) : Type 0 where
   pub node : Node
@@ -373,9 +370,10 @@ pub record AreWays (s : Scenario) (now : ℕ) (ups downs : List WayNow) : Type 0
 
 -- ---- the world
 
--- a clock of the device in the scenario
-abbrev pub IsClockOf : {C : Type 0} → (C → ℕ → ℕ) → Scenario → DeviceId → C → Type 0
-IsClockOf reading s device clock = (t : ℕ) → s.reading device t ≡ reading clock t
+-- a clock of the device in the scenario: from the time on it reads what the scenario says. What it says of times before
+-- is that of the last step of its rate
+abbrev pub IsClockOf : {C : Type 0} → (C → ℕ → ℕ) → Scenario → ℕ → DeviceId → C → Type 0
+IsClockOf reading s now device clock = (t : ℕ) → now ≤ t → s.reading device t ≡ reading clock t
 
 -- the link leads from an end system
 abbrev pub IsFromEnd : Network → LinkId → Type 0
@@ -441,7 +439,7 @@ pub record Stands {C M : Type 0} (reading : C → ℕ → ℕ) (stands : M → N
   pub ended : (time : Units) → EndsAt s.events time ↔ ((world.ended ≡ true) × (time.0 ≡ pos world.now))
   pub befallen : HaveBefallen s mark world.now
   pub clocks : (device : DeviceId) → device.0 < length s.network.device → (clock : C)
-      × (slice_get world.clocks device.0 ≡ Some clock) × IsClockOf reading s device clock
+      × (slice_get world.clocks device.0 ≡ Some clock) × IsClockOf reading s world.now device clock
   pub broken : (device : DeviceId) → device.0 < length s.network.device
       → slice_get world.broken device.0 ≡ Some (is_broken s device world.now)
   pub ways : AreWays s world.now world.ups world.downs
