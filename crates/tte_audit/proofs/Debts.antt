@@ -38,20 +38,26 @@ due_in {N} place IsDue ns m founded i =
     }
 
 -- two records that are due in a list at one place are one
-one_due : {N : Type 0} (place : N → List ℕ) (IsDue : List N → N → Type 0) (ns : List N) (x y : N) → IsDetermined place IsDue → IsDueIn place IsDue ns x → IsDueIn place IsDue ns y → place x ≡ place y → x ≡ y
+one_due : {N : Type 0} (place : N → List ℕ) (IsDue : List N → N → Type 0) (ns : List N) (x y : N) → IsDetermined place IsDue → IsDueIn place IsDue ns x
+    → IsDueIn place IsDue ns y → place x ≡ place y → x ≡ y
 one_due {N} place IsDue ns x y one a b same =
     let fronts = one_split place (place x) a.before a.behind b.before b.behind (sym a.parts ∙ b.parts) a.all_before a.none_before
-    (subst (λ (p : List ℕ). AllBefore place b.before p) (sym same) b.all_before) (subst (λ (p : List ℕ). NoneBefore place b.behind p) (sym same) b.none_before) in
+    (subst (λ (p : List ℕ). AllBefore place b.before p) (sym same) b.all_before)
+    (subst (λ (p : List ℕ). NoneBefore place b.behind p) (sym same) b.none_before) in
     one a.before x y a.due (subst (λ (t : List N). IsDue t y) (sym fronts) b.due) same
 
-lacking_of : {N : Type 0} (place : N → List ℕ) (IsDue : List N → N → Type 0) (ns : List N) (x : N) → IsDueIn place IsDue ns x → ((m : N) → IsIn m ns → place m ≡ place x → ⊥) → IsLacking place IsDue ns x
-lacking_of place IsDue ns x h absent = record { before = h.before; behind = h.behind; parts = h.parts; all_before = h.all_before; none_before = h.none_before; due = h.due; absent = absent }
+lacking_of : {N : Type 0} (place : N → List ℕ) (IsDue : List N → N → Type 0) (ns : List N) (x : N) → IsDueIn place IsDue ns x
+    → ((m : N) → IsIn m ns → place m ≡ place x → ⊥) → IsLacking place IsDue ns x
+lacking_of place IsDue ns x h absent =
+    record { before = h.before; behind = h.behind; parts = h.parts; all_before = h.all_before; none_before = h.none_before; due = h.due; absent = absent }
 
 due_of_lack : {N : Type 0} (place : N → List ℕ) (IsDue : List N → N → Type 0) (ns : List N) (x : N) → IsLacking place IsDue ns x → IsDueIn place IsDue ns x
-due_of_lack place IsDue ns x h = record { before = h.before; behind = h.behind; parts = h.parts; all_before = h.all_before; none_before = h.none_before; due = h.due }
+due_of_lack place IsDue ns x h =
+    record { before = h.before; behind = h.behind; parts = h.parts; all_before = h.all_before; none_before = h.none_before; due = h.due }
 
 -- what is lacking before the mark owes a debt that nothing pays
-pub unpaid_of_lack : {N O : Type 0} (place : N → List ℕ) (IsDue : List N → N → Type 0) (mark : List ℕ) (ns : List N) (IsOwed : O → Type 0) (Pays : N → O → Type 0)
+pub unpaid_of_lack : {N O : Type 0} (place : N → List ℕ) (IsDue : List N → N → Type 0) (mark : List ℕ) (ns : List N) (IsOwed : O → Type 0)
+    (Pays : N → O → Type 0)
     → AreDebts place IsDue mark ns IsOwed Pays → AreSound place IsDue mark ns → (x : N) → IsLacking place IsDue ns x → IsBefore (place x) mark
     → (o : O) × IsOwed o × Pays x o × (IsPaid ns Pays o → ⊥)
 unpaid_of_lack place IsDue mark ns IsOwed Pays debts sound x lack here =
@@ -66,20 +72,27 @@ unpaid_of_lack place IsDue mark ns IsOwed Pays debts sound x lack here =
     )
 
 -- a debt that nothing pays is lacking its record
-pub lack_of_unpaid : {N O : Type 0} (place : N → List ℕ) (IsDue : List N → N → Type 0) (mark : List ℕ) (ns : List N) (IsOwed : O → Type 0) (Pays : N → O → Type 0)
+pub lack_of_unpaid : {N O : Type 0} (place : N → List ℕ) (IsDue : List N → N → Type 0) (mark : List ℕ) (ns : List N) (IsOwed : O → Type 0)
+    (Pays : N → O → Type 0)
     → IsDetermined place IsDue → AreDebts place IsDue mark ns IsOwed Pays → AreSound place IsDue mark ns → (o : O) → IsOwed o → (IsPaid ns Pays o → ⊥)
     → (x : N) × IsLacking place IsDue ns x × IsBefore (place x) mark × Pays x o
 lack_of_unpaid {N} place IsDue mark ns IsOwed Pays one debts sound o owed unpaid =
     let x = debts.some o owed in (
       x.0,
       lacking_of place IsDue ns x.0 x.1 (λ m i same.
-          unpaid (m, i, subst (λ (t : N). Pays t o) (sym (one_due place IsDue ns m x.0 one (due_in place IsDue ns m (founded_of_sound place IsDue mark ns sound) i) x.1 same)) x.3)),
+          unpaid (
+            m,
+            i,
+            subst (λ (t : N). Pays t o) (sym (one_due place IsDue ns m x.0 one
+                (due_in place IsDue ns m (founded_of_sound place IsDue mark ns sound) i) x.1 same)) x.3,
+          )),
       x.2,
       x.3,
     )
 
 -- the list lacks nothing where each debt is paid
-pub lacks_nothing : {N O : Type 0} (place : N → List ℕ) (IsDue : List N → N → Type 0) (mark : List ℕ) (ns : List N) (IsOwed : O → Type 0) (Pays : N → O → Type 0)
+pub lacks_nothing : {N O : Type 0} (place : N → List ℕ) (IsDue : List N → N → Type 0) (mark : List ℕ) (ns : List N) (IsOwed : O → Type 0)
+    (Pays : N → O → Type 0)
     → AreDebts place IsDue mark ns IsOwed Pays → AreSound place IsDue mark ns → ((o : O) → IsOwed o → IsPaid ns Pays o) → LacksNothing place IsDue mark ns
 lacks_nothing place IsDue mark ns IsOwed Pays debts sound all x lack here =
     let h = unpaid_of_lack place IsDue mark ns IsOwed Pays debts sound x lack here in

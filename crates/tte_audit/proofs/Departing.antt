@@ -30,7 +30,8 @@ departed device link cause on_cut_way = notes.Lost device link cause
 departed device link cause too_old = notes.Dropped device link cause Old
 
 -- a frame is given by a record of a lower rank than that of its leaving
-given_before : (network : Network) (body : NoteBody) (device : DeviceId) (link : LinkId) (cause : ℕ) (d : Departure) → Gives network body device link → rank body < rank (departed device link cause d)
+given_before : (network : Network) (body : NoteBody) (device : DeviceId) (link : LinkId) (cause : ℕ) (d : Departure) → Gives network body device link
+    → rank body < rank (departed device link cause d)
 given_before network (notes.Sent master cycle) device link cause (leaves clock) g = omega arith
 given_before network (notes.Sent master cycle) device link cause on_cut_way g = omega arith
 given_before network (notes.Sent master cycle) device link cause too_old g = omega arith
@@ -42,7 +43,8 @@ given_before network (notes.Arrived relay by from clock) device link cause on_cu
 given_before network (notes.Arrived relay by from clock) device link cause too_old g = omega arith
 given_before network other device link cause d g = absurd g
 
-caused : (s : Scenario) (before : List Happening) (t : ℕ) (device : DeviceId) (link : LinkId) (cause : ℕ) (d : Departure) → Departs s before device t link cause d → IsCaused s before (units_of t) (departed device link cause d)
+caused : (s : Scenario) (before : List Happening) (t : ℕ) (device : DeviceId) (link : LinkId) (cause : ℕ) (d : Departure)
+    → Departs s before device t link cause d → IsCaused s before (units_of t) (departed device link cause d)
 caused s before t device link cause (leaves clock) h = h
 caused s before t device link cause on_cut_way h = inl h
 caused s before t device link cause too_old h = inr (inr (h, refl))
@@ -53,7 +55,8 @@ tells device link cause on_cut_way = (refl, refl)
 tells device link cause too_old = (refl, refl)
 
 -- the key of such a record does not have the members of its frame
-same_key : (m n : ℕ) (device : DeviceId) (link : LinkId) (cause : ℕ) (d : Departure) → key m (departed device link cause d) ≡ key n (departed device link cause d)
+same_key : (m n : ℕ) (device : DeviceId) (link : LinkId) (cause : ℕ) (d : Departure)
+    → key m (departed device link cause d) ≡ key n (departed device link cause d)
 same_key m n device link cause (leaves clock) = refl
 same_key m n device link cause on_cut_way = refl
 same_key m n device link cause too_old = refl
@@ -73,7 +76,8 @@ pub record IsDeparting (s : Scenario) (hs : List Happening) (until cause : ℕ) 
   pub within : IsBefore (place_of x) ((until + 1) ∷ [])
   pub tells : TellsDeparture cause link x.note.body
 
-pub some_departure : (s : Scenario) (hs : List Happening) (until cause : ℕ) (link : LinkId) → IsFounded place_of (IsDue s) hs → OwesDeparture s hs until cause link → IsDeparting s hs until cause link
+pub some_departure : (s : Scenario) (hs : List Happening) (until cause : ℕ) (link : LinkId) → IsFounded place_of (IsDue s) hs
+    → OwesDeparture s hs until cause link → IsDeparting s hs until cause link
 some_departure s hs until cause link founded o =
     let t = leaves_at s o.device link o.giving in
     let d = departure s o.device link o.frame (time_of o.giving) t in
@@ -84,10 +88,12 @@ some_departure s hs until cause link founded o =
     let x = happening s.network at.front note in
     let place : place_of x ≡ p = ap (λ (ks : List ℕ). t ∷ rank body ∷ ks) (same_key _ 0 o.device link cause d) in
     let front = front_founded place_of (IsDue s) at.front at.rest (subst (IsFounded place_of (IsDue s)) at.whole founded) in
-    let sooner : IsBefore (place_of o.giving) p = ahead (time_of o.giving) t (rank o.giving.note.body) (rank body) _ _ (omega arith) (given_before s.network o.giving.note.body o.device link cause d o.gives) in
+    let sooner : IsBefore (place_of o.giving) p = ahead (time_of o.giving) t (rank o.giving.note.body) (rank body) _ _ (omega arith)
+    (given_before s.network o.giving.note.body o.device link cause d o.gives) in
     let there = in_front_of place_of hs p at o.giving (numbered_in hs cause o.giving o.there) sooner in
     let number = number_is s hs cause o.giving founded o.there in
-    let numbered_there : numbered at.front cause ≡ Some o.giving = subst (λ (n : ℕ). numbered at.front n ≡ Some o.giving) number (by_number s at.front o.giving front there) in
+    let numbered_there : numbered at.front cause ≡ Some o.giving = subst (λ (n : ℕ). numbered at.front n ≡ Some o.giving) number
+    (by_number s at.front o.giving front there) in
     let departs : Departs s at.front o.device t link cause d = record {
       giving = o.giving;
       there = numbered_there;
@@ -115,7 +121,8 @@ some_departure s hs until cause link founded o =
 -- ---- what leaves was owed, and becomes one thing
 
 -- a frame that departs, given a front of the list, was owed by the list
-pub departure_owed : (s : Scenario) (hs before rest : List Happening) (t : ℕ) (device : DeviceId) (link : LinkId) (cause : ℕ) (d : Departure) (until : ℕ) → hs ≡ before ++ rest → Departs s before device t link cause d → t ≤ until → OwesDeparture s hs until cause link
+pub departure_owed : (s : Scenario) (hs before rest : List Happening) (t : ℕ) (device : DeviceId) (link : LinkId) (cause : ℕ) (d : Departure) (until : ℕ)
+    → hs ≡ before ++ rest → Departs s before device t link cause d → t ≤ until → OwesDeparture s hs until cause link
 departure_owed s hs before rest t device link cause d until e h le = record {
   giving = h.giving;
   there = subst (λ (gs : List Happening). numbered gs cause ≡ Some h.giving) (sym e) (numbered_front before rest cause h.giving h.there);
@@ -128,7 +135,8 @@ departure_owed s hs before rest t device link cause d until e h le = record {
 }
 
 -- a record gives its frame for one device
-one_giver : (network : Network) (body : NoteBody) (device other : DeviceId) (link : LinkId) → Gives network body device link → Gives network body other link → device ≡ other
+one_giver : (network : Network) (body : NoteBody) (device other : DeviceId) (link : LinkId) → Gives network body device link → Gives network body other link
+    → device ≡ other
 one_giver network (notes.Sent master cycle) device other link a b = a.0 ∙ sym b.0
 one_giver network (notes.Compressed cm opened at cycle members verdict) device other link a b = a.0 ∙ sym b.0
 one_giver network (notes.Arrived relay by from clock) device other link a b = a.0 ∙ sym b.0
@@ -140,14 +148,16 @@ pub record IsOneDeparture (t u : ℕ) (device other : DeviceId) (d e : Departure
   pub outcomes : d ≡ e
 
 -- one frame departs by one link once, whatever fronts of the list it is judged by
-pub one_departure : (s : Scenario) (hs ps qs ls rs : List Happening) (t u : ℕ) (device other : DeviceId) (link : LinkId) (cause : ℕ) (d e : Departure) → hs ≡ ps ++ qs → hs ≡ ls ++ rs
+pub one_departure : (s : Scenario) (hs ps qs ls rs : List Happening) (t u : ℕ) (device other : DeviceId) (link : LinkId) (cause : ℕ) (d e : Departure)
+    → hs ≡ ps ++ qs → hs ≡ ls ++ rs
     → Departs s ps device t link cause d → Departs s ls other u link cause e → IsOneDeparture t u device other d e
 one_departure s hs ps qs ls rs t u device other link cause d e whole parts a b =
     let here = subst (λ (gs : List Happening). numbered gs cause ≡ Some a.giving) (sym whole) (numbered_front ps qs cause a.giving a.there) in
     let there = subst (λ (gs : List Happening). numbered gs cause ≡ Some b.giving) (sym parts) (numbered_front ls rs cause b.giving b.there) in
     let one : b.giving ≡ a.giving = same_some (numbered hs cause) b.giving a.giving there here in
     let frames : b.frame ≡ a.frame = same_some a.giving.frame b.frame a.frame (ap (λ (h : Happening). h.frame) (sym one) ∙ b.of_frame) a.of_frame in
-    let devices : device ≡ other = one_giver s.network a.giving.note.body device other link a.gives (subst (λ (h : Happening). Gives s.network h.note.body other link) one b.gives) in
+    let devices : device ≡ other = one_giver s.network a.giving.note.body device other link a.gives
+    (subst (λ (h : Happening). Gives s.network h.note.body other link) one b.gives) in
     let times : t ≡ u =
     a.held
     ∙ ap (λ (x : DeviceId). leaves_at s x link a.giving) devices

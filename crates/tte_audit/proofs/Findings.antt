@@ -33,12 +33,14 @@ abbrev HasCauseAt : List Happening → ℕ → Type 0
 HasCauseAt before cause = (cause ≡ 0) ⊎ ((h : Happening) × (numbered before cause ≡ Some h))
 
 -- what a switch has at hand was given by a record before, and by its number
-has_number : (s : Scenario) (before : List Happening) (device : DeviceId) (vl : VlId) (t cause cycle : ℕ) → IsFounded place_of (IsDue s) before → HasAccepted before device vl t cause cycle → HasCauseAt before cause
+has_number : (s : Scenario) (before : List Happening) (device : DeviceId) (vl : VlId) (t cause cycle : ℕ) → IsFounded place_of (IsDue s) before
+    → HasAccepted before device vl t cause cycle → HasCauseAt before cause
 has_number s before device vl t cause cycle founded has =
     let found = by_number s before has.taken founded (accepted_in before device vl t cause cycle has) in
     inr (has.taken, subst (λ (n : ℕ). numbered before n ≡ Some has.taken) (sym has.number) found)
 
-caused : (s : Scenario) (before : List Happening) (time : Units) (body : NoteBody) → IsFounded place_of (IsDue s) before → IsCaused s before time body → HasCauseAt before (cause_of body)
+caused : (s : Scenario) (before : List Happening) (time : Units) (body : NoteBody) → IsFounded place_of (IsDue s) before → IsCaused s before time body
+    → HasCauseAt before (cause_of body)
 caused s before time (notes.Event line what) founded h = inl refl
 caused s before time (notes.Arrived device link cause clock) founded h =
     elim h.taken [
@@ -62,7 +64,8 @@ caused s before time (notes.Lost device link cause) founded h =
       | inr (inl row) ↦ elim row.2.at_hand [ inl own ↦ inl own.1 | inr taken ↦ has_number s before device _ (amount time) cause _ founded taken.1 ]
       | inr (inr send) ↦ inr (send.event, send.is.there)
     ]
-caused s before time (notes.TtSent device link cause vl cycle) founded h = elim h.dispatches.at_hand [ inl own ↦ inl own.1 | inr taken ↦ has_number s before device _ (amount time) cause _ founded taken.1 ]
+caused s before time (notes.TtSent device link cause vl cycle) founded h =
+    elim h.dispatches.at_hand [ inl own ↦ inl own.1 | inr taken ↦ has_number s before device _ (amount time) cause _ founded taken.1 ]
 caused s before time (notes.Accepted device link cause vl cycle) founded h = inr (h.putting, h.there)
 caused s before time (notes.Delivered device link cause vl cycle) founded h = inr (h.putting, h.there)
 caused s before time (notes.Dropped device link cause reason) founded h =
@@ -81,7 +84,8 @@ gap_law s mark hs sound = record {
   );
   linked = λ before behind h e.
       let x = sound before behind h e in
-      let front = front_founded place_of (IsDue s) before (h ∷ behind) (subst (IsFounded place_of (IsDue s)) e (founded_of_sound place_of (IsDue s) mark hs sound)) in
+      let front = front_founded place_of (IsDue s) before (h ∷ behind) (subst (IsFounded place_of (IsDue s)) e
+      (founded_of_sound place_of (IsDue s) mark hs sound)) in
       caused s before h.note.time h.note.body front x.due.cause;
 }
 

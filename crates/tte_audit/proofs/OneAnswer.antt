@@ -44,9 +44,11 @@ any_last : (front : List Event) (time : Units) → Any (λ e. e.what ≡ End) (f
 any_last [] time = any_first (λ (e : Event). e.what ≡ End) (record { time = time; what = End }) [] refl
 any_last (e ∷ es) time = any_later (λ (e : Event). e.what ≡ End) e (es ++ record { time = time; what = End } ∷ []) (any_last es time)
 
-ends_or_faults : (network : Network) (octets : List ℕ) (ns : List Note) (time : Units) (n : ℕ) → IsOfEvents network octets ns time → IsEventsFault network ns n → ⊥
+ends_or_faults : (network : Network) (octets : List ℕ) (ns : List Note) (time : Units) (n : ℕ) → IsOfEvents network octets ns time → IsEventsFault network ns n
+    → ⊥
 ends_or_faults network octets ns time n of (inl a) = right_or_fault network ns n of.right a
-ends_or_faults network octets ns time n of (inr a) = a.unended (subst (λ (es : List Event). Any (λ e. e.what ≡ End) es) (sym of.ends.1) (any_last of.ends.0 time))
+ends_or_faults network octets ns time n of (inr a) =
+    a.unended (subst (λ (es : List Event). Any (λ e. e.what ≡ End) es) (sym of.ends.1) (any_last of.ends.0 time))
 
 last_same : {A : Type 0} (xs ys : List A) (a b : A) → xs ++ a ∷ [] ≡ ys ++ b ∷ [] → a ≡ b
 last_same [] [] a b e = cc
@@ -67,7 +69,8 @@ record AreSame (notes others : List Note) (time last : Units) : Type 0 where
   lists : notes ≡ others
   times : time ≡ last
 
-same_of : (network : Network) (octets : List ℕ) (notes others : List Note) (time last : Units) → IsNamed network → IsOfEvents network octets notes time → IsOfEvents network octets others last → AreSame notes others time last
+same_of : (network : Network) (octets : List ℕ) (notes others : List Note) (time last : Units) → IsNamed network → IsOfEvents network octets notes time
+    → IsOfEvents network octets others last → AreSame notes others time last
 same_of network octets notes others time last named a b =
     let lists = one_list network octets notes others named a.text b.text in
     record {
@@ -82,7 +85,8 @@ one_lack network ns end t u a b =
 
 -- ---- answers
 
-events_and_form : (network : Network) (octets : List ℕ) (ns : List Note) (time : Units) (n : ℕ) → IsNamed network → IsOfEvents network octets ns time → (refusal : AuditRefusal) → (refusal ≡ refusals.Form n) ⊎ (refusal ≡ refusals.Events n) → IsRefusedBy network octets refusal → ⊥
+events_and_form : (network : Network) (octets : List ℕ) (ns : List Note) (time : Units) (n : ℕ) → IsNamed network → IsOfEvents network octets ns time
+    → (refusal : AuditRefusal) → (refusal ≡ refusals.Form n) ⊎ (refusal ≡ refusals.Events n) → IsRefusedBy network octets refusal → ⊥
 events_and_form network octets ns time n named of refusal (inl is) h =
     form_or_report network octets ns n named (subst (IsRefusedBy network octets) is h) of.text
 events_and_form network octets ns time n named of refusal (inr is) h =
@@ -90,7 +94,8 @@ events_and_form network octets ns time n named of refusal (inr is) h =
     let same = one_list network octets fault.0 ns named fault.1 of.text in
     ends_or_faults network octets ns time n of (subst (λ (ms : List Note). IsEventsFault network ms n) same fault.2)
 
-not_both : (network : Network) (octets : List ℕ) (count : ℕ) (refusal : AuditRefusal) → IsNamed network → IsOfReport refusal → IsAudited network octets count → IsRefusedBy network octets refusal → ⊥
+not_both : (network : Network) (octets : List ℕ) (count : ℕ) (refusal : AuditRefusal) → IsNamed network → IsOfReport refusal → IsAudited network octets count
+    → IsRefusedBy network octets refusal → ⊥
 not_both network octets count (refusals.Form n) named of a h = events_and_form network octets a.notes a.time n named a.events (refusals.Form n) (inl refl) h
 not_both network octets count (refusals.Events n) named of a h = events_and_form network octets a.notes a.time n named a.events (refusals.Events n) (inr refl) h
 not_both network octets count (refusals.Unfounded n) named of a h =
@@ -105,19 +110,22 @@ not_both network octets count (refusals.Lacking t) named of a h =
     full_of_run place_of (IsDue (scenario_of network a.notes)) (behind_time a.time) (happenings network a.notes) a.run lack.missing lack.lacking lack.within
 not_both network octets count refusals.OutOfMemory named of a h = of
 
-one_count : (network : Network) (octets : List ℕ) (count other : ℕ) → IsNamed network → IsAudited network octets count → IsAudited network octets other → count ≡ other
+one_count : (network : Network) (octets : List ℕ) (count other : ℕ) → IsNamed network → IsAudited network octets count → IsAudited network octets other
+    → count ≡ other
 one_count network octets count other named a b =
     let same = same_of network octets a.notes b.notes a.time b.time named a.events b.events in
     a.counted ∙ ap length same.lists ∙ sym b.counted
 
-unfounded_or_lacking : (network : Network) (octets : List ℕ) (n : ℕ) (t : Units) → IsNamed network → IsRefusedBy network octets (refusals.Unfounded n) → IsRefusedBy network octets (refusals.Lacking t) → ⊥
+unfounded_or_lacking : (network : Network) (octets : List ℕ) (n : ℕ) (t : Units) → IsNamed network → IsRefusedBy network octets (refusals.Unfounded n)
+    → IsRefusedBy network octets (refusals.Lacking t) → ⊥
 unfounded_or_lacking network octets n t named a b =
     let same = same_of network octets a.0 b.0 a.1 b.1 named a.2 b.2 in
     let found = subst (λ (t : Units). IsUnfoundedAt place_of (IsDue (scenario_of network b.0)) (behind_time t) (happenings network b.0) n) same.times
     (subst (λ (ns : List Note). IsUnfoundedAt place_of (IsDue (scenario_of network ns)) (behind_time a.1) (happenings network ns) n) same.lists a.3) in
     none_unsound place_of (IsDue (scenario_of network b.0)) (behind_time b.1) (happenings network b.0) n b.3 found
 
-one_refusal : (network : Network) (octets : List ℕ) (refusal other : AuditRefusal) → IsNamed network → IsOfReport refusal → IsOfReport other → IsRefusedBy network octets refusal → IsRefusedBy network octets other → refusal ≡ other
+one_refusal : (network : Network) (octets : List ℕ) (refusal other : AuditRefusal) → IsNamed network → IsOfReport refusal → IsOfReport other
+    → IsRefusedBy network octets refusal → IsRefusedBy network octets other → refusal ≡ other
 one_refusal network octets (refusals.Form n) (refusals.Form m) named of so a b = ap refusals.Form (one_form network octets n m named a b)
 one_refusal network octets (refusals.Form n) (refusals.Events m) named of so a b = absurd (form_or_report network octets b.0 n named a b.1)
 one_refusal network octets (refusals.Form n) (refusals.Unfounded m) named of so a b = absurd (form_or_report network octets b.0 n named a b.2.text)
@@ -126,10 +134,13 @@ one_refusal network octets (refusals.Events n) (refusals.Form m) named of so a b
 one_refusal network octets (refusals.Events n) (refusals.Events m) named of so a b =
     let same = one_list network octets a.0 b.0 named a.1 b.1 in
     ap refusals.Events (one_events network b.0 n m (subst (λ (ns : List Note). IsEventsFault network ns n) same a.2) b.2)
-one_refusal network octets (refusals.Events n) (refusals.Unfounded m) named of so a b = absurd (events_and_form network octets b.0 b.1 n named b.2 (refusals.Events n) (inr refl) a)
-one_refusal network octets (refusals.Events n) (refusals.Lacking m) named of so a b = absurd (events_and_form network octets b.0 b.1 n named b.2 (refusals.Events n) (inr refl) a)
+one_refusal network octets (refusals.Events n) (refusals.Unfounded m) named of so a b =
+    absurd (events_and_form network octets b.0 b.1 n named b.2 (refusals.Events n) (inr refl) a)
+one_refusal network octets (refusals.Events n) (refusals.Lacking m) named of so a b =
+    absurd (events_and_form network octets b.0 b.1 n named b.2 (refusals.Events n) (inr refl) a)
 one_refusal network octets (refusals.Unfounded n) (refusals.Form m) named of so a b = absurd (form_or_report network octets a.0 m named b a.2.text)
-one_refusal network octets (refusals.Unfounded n) (refusals.Events m) named of so a b = absurd (events_and_form network octets a.0 a.1 m named a.2 (refusals.Events m) (inr refl) b)
+one_refusal network octets (refusals.Unfounded n) (refusals.Events m) named of so a b =
+    absurd (events_and_form network octets a.0 a.1 m named a.2 (refusals.Events m) (inr refl) b)
 one_refusal network octets (refusals.Unfounded n) (refusals.Unfounded m) named of so a b =
     let same = same_of network octets a.0 b.0 a.1 b.1 named a.2 b.2 in
     let found = subst (λ (t : Units). IsUnfoundedAt place_of (IsDue (scenario_of network b.0)) (behind_time t) (happenings network b.0) n) same.times
@@ -137,7 +148,8 @@ one_refusal network octets (refusals.Unfounded n) (refusals.Unfounded m) named o
     ap refusals.Unfounded (one_unsound place_of (IsDue (scenario_of network b.0)) (behind_time b.1) (happenings network b.0) n m found b.3)
 one_refusal network octets (refusals.Unfounded n) (refusals.Lacking m) named of so a b = absurd (unfounded_or_lacking network octets n m named a b)
 one_refusal network octets (refusals.Lacking n) (refusals.Form m) named of so a b = absurd (form_or_report network octets a.0 m named b a.2.text)
-one_refusal network octets (refusals.Lacking n) (refusals.Events m) named of so a b = absurd (events_and_form network octets a.0 a.1 m named a.2 (refusals.Events m) (inr refl) b)
+one_refusal network octets (refusals.Lacking n) (refusals.Events m) named of so a b =
+    absurd (events_and_form network octets a.0 a.1 m named a.2 (refusals.Events m) (inr refl) b)
 one_refusal network octets (refusals.Lacking n) (refusals.Unfounded m) named of so a b = absurd (unfounded_or_lacking network octets m n named b a)
 one_refusal network octets (refusals.Lacking n) (refusals.Lacking m) named of so a b =
     let same = same_of network octets a.0 b.0 a.1 b.1 named a.2 b.2 in

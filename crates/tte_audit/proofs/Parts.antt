@@ -21,7 +21,8 @@ use Rattle.tte_audit.specs.Report.{AreNumbered, BeginsWith, IsFormFault, BeginsW
 abbrev PartedAt : (ℕ → Bool) → List ℕ → Option ℕ → Type 0
 PartedAt p xs found = MatchOption found (slice_split p xs ≡ xs ∷ []) (λ i. slice_split p xs ≡ take i xs ∷ slice_split p (drop (i + 1) xs))
 
-parted_case : (p : ℕ → Bool) (xs : List ℕ) (b : Bool) → nat_lt (position_or_len p xs) (length xs) ≡ b → PartedAt p xs (cond b (Some (position_or_len p xs)) None)
+parted_case : (p : ℕ → Bool) (xs : List ℕ) (b : Bool) → nat_lt (position_or_len p xs) (length xs) ≡ b
+    → PartedAt p xs (cond b (Some (position_or_len p xs)) None)
 parted_case p xs true e = slice_split_first p xs 0 (grind (arith, nat_tests))
 parted_case p xs false e =
     let none : length xs ≤ position_or_len p xs = grind (arith, nat_tests) in
@@ -30,7 +31,8 @@ parted_case p xs false e =
 parted : (p : ℕ → Bool) (xs : List ℕ) → PartedAt p xs (position p xs)
 parted p xs = parted_case p xs (nat_lt (position_or_len p xs) (length xs)) refl
 
-split_at : (octets : List ℕ) (i : ℕ) → position is_line_end octets ≡ Some i → slice_split is_line_end octets ≡ take i octets ∷ slice_split is_line_end (drop (i + 1) octets)
+split_at : (octets : List ℕ) (i : ℕ) → position is_line_end octets ≡ Some i
+    → slice_split is_line_end octets ≡ take i octets ∷ slice_split is_line_end (drop (i + 1) octets)
 split_at octets i e = let h : PartedAt is_line_end octets (position is_line_end octets) = parted is_line_end octets in rw e at h
 
 split_whole : (octets : List ℕ) → position is_line_end octets ≡ None → slice_split is_line_end octets ≡ octets ∷ []
@@ -66,7 +68,8 @@ tail_of : List (List ℕ) → List (List ℕ)
 tail_of [] = []
 tail_of (w ∷ ws) = ws
 
-split_line : (network : Network) (n : ℕ) (octets left : List ℕ) → IsNamed network → (h : LineThen network n octets left) → slice_split is_line_end octets ≡ note_text network h.note ∷ slice_split is_line_end left
+split_line : (network : Network) (n : ℕ) (octets left : List ℕ) → IsNamed network → (h : LineThen network n octets left)
+    → slice_split is_line_end octets ≡ note_text network h.note ∷ slice_split is_line_end left
 split_line network n octets left named h =
     let text = note_text network h.note in
     let whole : octets ≡ text ++ lf ∷ left = h.text ∙ append_assoc text (codes "\n") left in
@@ -83,28 +86,34 @@ no_lf network n octets named e h =
     some_part h.rest (sym (ap tail_of (split_line network n octets h.rest named (then_of network n octets h))) ∙ ap tail_of (split_whole octets e))
 
 -- the text of the line with which they begin
-pub text_at : (network : Network) (n : ℕ) (octets left : List ℕ) (i : ℕ) → IsNamed network → position is_line_end octets ≡ Some i → (h : LineThen network n octets left) → take i octets ≡ note_text network h.note
+pub text_at : (network : Network) (n : ℕ) (octets left : List ℕ) (i : ℕ) → IsNamed network → position is_line_end octets ≡ Some i
+    → (h : LineThen network n octets left) → take i octets ≡ note_text network h.note
 unfolding head_of
 text_at network n octets left i named e h = ap (head_of []) (sym (split_at octets i e) ∙ split_line network n octets left named h)
 
 -- where the octets before the first LF are a record's text, its line is the first
-pub line_at : (network : Network) (octets : List ℕ) (i : ℕ) (note : Note) → position is_line_end octets ≡ Some i → IsTextOf network note (take i octets) → LineThen network note.number octets (drop (i + 1) octets)
+pub line_at : (network : Network) (octets : List ℕ) (i : ℕ) (note : Note) → position is_line_end octets ≡ Some i → IsTextOf network note (take i octets)
+    → LineThen network note.number octets (drop (i + 1) octets)
 line_at network octets i note e h = record {
   note = note;
   of_network = h.of_network;
   in_range = h.in_range;
   number = refl;
-  text = parts_at octets i e ∙ ap (λ (t : List ℕ). t ++ lf ∷ drop (i + 1) octets) h.same ∙ sym (append_assoc (note_text network note) (codes "\n") (drop (i + 1) octets));
+  text = parts_at octets i e ∙ ap (λ (t : List ℕ). t ++ lf ∷ drop (i + 1) octets) h.same
+      ∙ sym (append_assoc (note_text network note) (codes "\n") (drop (i + 1) octets));
 }
 
 -- the same of a record of any number
-pub record_at : (network : Network) (octets : List ℕ) (i : ℕ) (note : Note) → position is_line_end octets ≡ Some i → IsTextOf network note (take i octets) → BeginsWithRecord network note octets (drop (i + 1) octets)
+pub record_at : (network : Network) (octets : List ℕ) (i : ℕ) (note : Note) → position is_line_end octets ≡ Some i → IsTextOf network note (take i octets)
+    → BeginsWithRecord network note octets (drop (i + 1) octets)
 record_at network octets i note e h =
     let line = line_at network octets i note e h in
     record { of_network = h.of_network; in_range = h.in_range; text = text_of network octets i note e h }
   where
-    text_of : (network : Network) (octets : List ℕ) (i : ℕ) (note : Note) → position is_line_end octets ≡ Some i → IsTextOf network note (take i octets) → octets ≡ note_line network note ++ drop (i + 1) octets
-    text_of network octets i note e h = parts_at octets i e ∙ ap (λ (t : List ℕ). t ++ lf ∷ drop (i + 1) octets) h.same ∙ sym (append_assoc (note_text network note) (codes "\n") (drop (i + 1) octets))
+    text_of : (network : Network) (octets : List ℕ) (i : ℕ) (note : Note) → position is_line_end octets ≡ Some i → IsTextOf network note (take i octets)
+        → octets ≡ note_line network note ++ drop (i + 1) octets
+    text_of network octets i note e h = parts_at octets i e ∙ ap (λ (t : List ℕ). t ++ lf ∷ drop (i + 1) octets) h.same
+        ∙ sym (append_assoc (note_text network note) (codes "\n") (drop (i + 1) octets))
 
 -- ---- a reading goes on by a line
 
@@ -115,7 +124,9 @@ numbered_on notes note numbers next before behind x e =
       | inr r ↦ by_others notes note numbers next before behind x r.others r.last r.whole
     ]
   where
-    by_others : (notes : List Note) (note : Note) → AreNumbered notes → note.number ≡ length notes + 1 → (before behind : List Note) (x : Note) (others : List Note) → x ∷ behind ≡ others ++ note ∷ [] → notes ≡ before ++ others → x.number ≡ length before + 1
+    by_others : (notes : List Note) (note : Note) → AreNumbered notes → note.number ≡ length notes + 1
+        → (before behind : List Note) (x : Note) (others : List Note) → x ∷ behind ≡ others ++ note ∷ [] → notes ≡ before ++ others
+        → x.number ≡ length before + 1
     by_others notes note numbers next before behind x [] last whole =
         let same : x ≡ note = cc in
         ap (λ (n : Note). n.number) same ∙ next ∙ ap (λ (ns : List Note). length ns + 1) (whole ∙ append-nil before)
@@ -123,11 +134,14 @@ numbered_on notes note numbers next before behind x e =
         let same : x ≡ o = cc in
         numbers before others x (whole ∙ ap (λ n. before ++ n ∷ others) (sym same))
 
-pub report_on : (network : Network) (notes : List Note) (note : Note) → concat (report_of network (notes ++ note ∷ [])) ≡ concat (report_of network notes) ++ note_line network note
+pub report_on : (network : Network) (notes : List Note) (note : Note)
+    → concat (report_of network (notes ++ note ∷ [])) ≡ concat (report_of network notes) ++ note_line network note
 report_on network [] note = append-nil (note_line network note)
-report_on network (n ∷ ns) note = ap (λ (t : List ℕ). note_line network n ++ t) (report_on network ns note) ∙ sym (append_assoc (note_line network n) (concat (report_of network ns)) (note_line network note))
+report_on network (n ∷ ns) note = ap (λ (t : List ℕ). note_line network n ++ t) (report_on network ns note)
+    ∙ sym (append_assoc (note_line network n) (concat (report_of network ns)) (note_line network note))
 
-pub begins_on : (network : Network) (octets rest left : List ℕ) (notes : List Note) → BeginsWith network octets notes rest → (h : LineThen network (length notes + 1) rest left) → BeginsWith network octets (notes ++ h.note ∷ []) left
+pub begins_on : (network : Network) (octets rest left : List ℕ) (notes : List Note) → BeginsWith network octets notes rest
+    → (h : LineThen network (length notes + 1) rest left) → BeginsWith network octets (notes ++ h.note ∷ []) left
 begins_on network octets rest left notes begins h = record {
   records = record {
     of_network = All-push (IsNoteOf network) notes h.note begins.records.of_network h.of_network;
@@ -159,7 +173,8 @@ begins_none network octets = record {
     no_note (b ∷ before) behind note e = cc
 
 -- where octets are left that begin with no line, that is the fault
-pub fault_of : (network : Network) (octets rest : List ℕ) (notes : List Note) (n : ℕ) → BeginsWith network octets notes rest → n ≡ length notes → rest ≢ [] → (BeginsWithLine network (n + 1) rest → ⊥) → IsFormFault network octets (n + 1)
+pub fault_of : (network : Network) (octets rest : List ℕ) (notes : List Note) (n : ℕ) → BeginsWith network octets notes rest → n ≡ length notes → rest ≢ []
+    → (BeginsWithLine network (n + 1) rest → ⊥) → IsFormFault network octets (n + 1)
 fault_of network octets rest notes n begins count some none = record {
   before = notes;
   rest = rest;

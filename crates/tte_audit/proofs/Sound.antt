@@ -8,13 +8,16 @@ use Rattle.tte_audit.specs.Findings.{AreSound, IsGap, IsLacking, IsUnfoundedAt, 
 
 -- ---- sound lists
 
-pub founded_of_sound : {N : Type 0} (place : N → List ℕ) (IsDue : List N → N → Type 0) (mark : List ℕ) (ns : List N) → AreSound place IsDue mark ns → IsFounded place IsDue ns
+pub founded_of_sound : {N : Type 0} (place : N → List ℕ) (IsDue : List N → N → Type 0) (mark : List ℕ) (ns : List N) → AreSound place IsDue mark ns
+    → IsFounded place IsDue ns
 founded_of_sound place IsDue mark ns sound ps qs x e = let h = sound ps qs x e in (h.behind_all, h.due)
 
-within_of_sound : {N : Type 0} (place : N → List ℕ) (IsDue : List N → N → Type 0) (mark : List ℕ) (ns : List N) → AreSound place IsDue mark ns → AllBefore place ns mark
+within_of_sound : {N : Type 0} (place : N → List ℕ) (IsDue : List N → N → Type 0) (mark : List ℕ) (ns : List N) → AreSound place IsDue mark ns
+    → AllBefore place ns mark
 within_of_sound place IsDue mark ns sound n i = let at = parted n ns i in (sound at.0 at.1 n at.2).within
 
-pub sound_of_run : {N : Type 0} (place : N → List ℕ) (IsDue : List N → N → Type 0) (mark : List ℕ) (ns : List N) → IsRun place IsDue mark ns → AreSound place IsDue mark ns
+pub sound_of_run : {N : Type 0} (place : N → List ℕ) (IsDue : List N → N → Type 0) (mark : List ℕ) (ns : List N) → IsRun place IsDue mark ns
+    → AreSound place IsDue mark ns
 sound_of_run place IsDue mark ns run ps qs x e =
     let h = run.founded ps qs x e in
     record {
@@ -25,7 +28,8 @@ sound_of_run place IsDue mark ns run ps qs x e =
 
 -- ---- what a list lacks
 
-pub full_of_run : {N : Type 0} (place : N → List ℕ) (IsDue : List N → N → Type 0) (mark : List ℕ) (ns : List N) → IsRun place IsDue mark ns → LacksNothing place IsDue mark ns
+pub full_of_run : {N : Type 0} (place : N → List ℕ) (IsDue : List N → N → Type 0) (mark : List ℕ) (ns : List N) → IsRun place IsDue mark ns
+    → LacksNothing place IsDue mark ns
 full_of_run place IsDue mark ns run x lack here =
     let there = run.full lack.before lack.behind x lack.parts lack.all_before lack.none_before lack.due here in
     lack.absent there.0 there.1 there.2
@@ -40,29 +44,48 @@ at_place {N} place (n ∷ ns) p =
           let head : place n ≡ p → ⊥ → ((m : N) × IsIn m (n ∷ ns) × (place m ≡ p)) ⊎ ((m : N) → IsIn m (n ∷ ns) → place m ≡ p → ⊥) = λ e f. absurd f in
           elim (either_way (place n) p) [
             | inr (inl e) ↦ inl (n, inl refl, e)
-            | inl lt ↦ inr (λ m i e. elim i [ inl same ↦ never_self p (subst (λ (q : List ℕ). IsBefore q p) (ap place (sym same) ∙ e) lt) | inr later ↦ none m later e ])
-            | inr (inr gt) ↦ inr (λ m i e. elim i [ inl same ↦ never_self p (subst (λ (q : List ℕ). IsBefore p q) (ap place (sym same) ∙ e) gt) | inr later ↦ none m later e ])
+            | inl lt ↦ inr (λ m i e. elim i [
+              | inl same ↦ never_self p (subst (λ (q : List ℕ). IsBefore q p)
+                  (ap place (sym same) ∙ e) lt)
+              | inr later ↦ none m later e
+            ])
+            | inr (inr gt) ↦ inr (λ m i e. elim i [
+              | inl same ↦ never_self p (subst (λ (q : List ℕ). IsBefore p q)
+                  (ap place (sym same) ∙ e) gt)
+              | inr later ↦ none m later e
+            ])
           ]
     ]
 
-run_of_sound : {N : Type 0} (place : N → List ℕ) (IsDue : List N → N → Type 0) (mark : List ℕ) (ns : List N) → AreSound place IsDue mark ns → LacksNothing place IsDue mark ns → IsRun place IsDue mark ns
+run_of_sound : {N : Type 0} (place : N → List ℕ) (IsDue : List N → N → Type 0) (mark : List ℕ) (ns : List N) → AreSound place IsDue mark ns
+    → LacksNothing place IsDue mark ns → IsRun place IsDue mark ns
 run_of_sound place IsDue mark ns sound nothing = record {
   founded = founded_of_sound place IsDue mark ns sound;
   full = λ ps qs x e before none due here.
       elim (at_place place ns (place x)) [
         | inl there ↦ there
-        | inr absent ↦ absurd (nothing x (record { before = ps; behind = qs; parts = e; all_before = before; none_before = none; due = due; absent = absent }) here)
+        | inr absent ↦ absurd (nothing x (record {
+          before = ps;
+          behind = qs;
+          parts = e;
+          all_before = before;
+          none_before = none;
+          due = due;
+          absent = absent;
+        }) here)
       ];
   within = within_of_sound place IsDue mark ns sound;
 }
 
-pub run_exactly : {N : Type 0} (place : N → List ℕ) (IsDue : List N → N → Type 0) (mark : List ℕ) (ns : List N) → IsRun place IsDue mark ns ↔ (AreSound place IsDue mark ns × LacksNothing place IsDue mark ns)
+pub run_exactly : {N : Type 0} (place : N → List ℕ) (IsDue : List N → N → Type 0) (mark : List ℕ) (ns : List N)
+    → IsRun place IsDue mark ns ↔ (AreSound place IsDue mark ns × LacksNothing place IsDue mark ns)
 run_exactly place IsDue mark ns =
     (λ run. (sound_of_run place IsDue mark ns run, full_of_run place IsDue mark ns run), λ h. run_of_sound place IsDue mark ns h.0 h.1)
 
 -- ---- the first unsound record
 
-pub none_unsound : {N : Type 0} (place : N → List ℕ) (IsDue : List N → N → Type 0) (mark : List ℕ) (ns : List N) (n : ℕ) → AreSound place IsDue mark ns → IsUnfoundedAt place IsDue mark ns n → ⊥
+pub none_unsound : {N : Type 0} (place : N → List ℕ) (IsDue : List N → N → Type 0) (mark : List ℕ) (ns : List N) (n : ℕ) → AreSound place IsDue mark ns
+    → IsUnfoundedAt place IsDue mark ns n → ⊥
 none_unsound place IsDue mark ns n sound found = found.unsound (sound found.before found.behind found.record_there found.parts)
 
 -- of two such parts of one list, the shorter front is a front of the other, unless they are one
@@ -83,7 +106,8 @@ fronts (a ∷ ls) bs (c ∷ cs) ds x y e =
       | inr (inr h) ↦ inr (inr (record { rest = h.rest; is = ap (λ t. t ∷ ls) head ∙ ap (λ (t : List _). c ∷ t) h.is }))
     ]
 
-pub one_unsound : {N : Type 0} (place : N → List ℕ) (IsDue : List N → N → Type 0) (mark : List ℕ) (ns : List N) (n m : ℕ) → IsUnfoundedAt place IsDue mark ns n → IsUnfoundedAt place IsDue mark ns m → n ≡ m
+pub one_unsound : {N : Type 0} (place : N → List ℕ) (IsDue : List N → N → Type 0) (mark : List ℕ) (ns : List N) (n m : ℕ) → IsUnfoundedAt place IsDue mark ns n
+    → IsUnfoundedAt place IsDue mark ns m → n ≡ m
 one_unsound place IsDue mark ns n m a b =
     elim (fronts a.before a.behind b.before b.behind a.record_there b.record_there (sym a.parts ∙ b.parts)) [
       | inl same ↦ omega (arith, a.number, b.number, same)
@@ -94,7 +118,8 @@ one_unsound place IsDue mark ns n m a b =
 -- ---- gaps
 
 -- what a front of a founded list has not reached is behind it
-gap_of_lack : {N : Type 0} (place : N → List ℕ) (IsDue : List N → N → Type 0) (ns : List N) (x : N) → (h : IsLacking place IsDue ns x) → IsGap place IsDue h.before h.behind x
+gap_of_lack : {N : Type 0} (place : N → List ℕ) (IsDue : List N → N → Type 0) (ns : List N) (x : N) → (h : IsLacking place IsDue ns x)
+    → IsGap place IsDue h.before h.behind x
 gap_of_lack place IsDue ns x h = record {
   all_before = h.all_before;
   due = h.due;
@@ -106,7 +131,8 @@ gap_of_lack place IsDue ns x h = record {
       ];
 }
 
-lack_of_gap : {N : Type 0} (place : N → List ℕ) (IsDue : List N → N → Type 0) (ns before rest : List N) (x : N) → ns ≡ before ++ rest → IsGap place IsDue before rest x → IsLacking place IsDue ns x
+lack_of_gap : {N : Type 0} (place : N → List ℕ) (IsDue : List N → N → Type 0) (ns before rest : List N) (x : N) → ns ≡ before ++ rest
+    → IsGap place IsDue before rest x → IsLacking place IsDue ns x
 lack_of_gap place IsDue ns before rest x parts gap = record {
   before = before;
   behind = rest;
@@ -127,7 +153,8 @@ pub record HasGapIn {N : Type 0} (place : N → List ℕ) (IsDue : List N → N 
   pub parts : ns ≡ before ++ rest
   pub gap : IsGap place IsDue before rest x
 
-pub lacks_in_gaps : {N : Type 0} (place : N → List ℕ) (IsDue : List N → N → Type 0) (ns : List N) (x : N) → IsLacking place IsDue ns x ↔ HasGapIn place IsDue ns x
+pub lacks_in_gaps : {N : Type 0} (place : N → List ℕ) (IsDue : List N → N → Type 0) (ns : List N) (x : N)
+    → IsLacking place IsDue ns x ↔ HasGapIn place IsDue ns x
 lacks_in_gaps place IsDue ns x = (
   λ h. record { before = h.before; rest = h.behind; parts = h.parts; gap = gap_of_lack place IsDue ns x h },
   λ g. lack_of_gap place IsDue ns g.before g.rest x g.parts g.gap,
@@ -135,7 +162,8 @@ lacks_in_gaps place IsDue ns x = (
 
 -- ---- the next record of a run
 
-next_of_grown : {N : Type 0} (place : N → List ℕ) (IsDue : List N → N → Type 0) (mark : List ℕ) (ns : List N) (x : N) → IsRun place IsDue mark ns → IsRun place IsDue (behind (place x)) (ns ++ x ∷ []) → IsNextOf place IsDue mark ns x
+next_of_grown : {N : Type 0} (place : N → List ℕ) (IsDue : List N → N → Type 0) (mark : List ℕ) (ns : List N) (x : N) → IsRun place IsDue mark ns
+    → IsRun place IsDue (behind (place x)) (ns ++ x ∷ []) → IsNextOf place IsDue mark ns x
 next_of_grown {N} place IsDue mark ns x run grown =
     let here = grown.founded ns [] x refl in
     record {
@@ -159,6 +187,7 @@ next_of_grown {N} place IsDue mark ns x run grown =
       };
     }
 
-pub next_exactly : {N : Type 0} (place : N → List ℕ) (IsDue : List N → N → Type 0) (mark : List ℕ) (ns : List N) (x : N) → IsRun place IsDue mark ns → IsRun place IsDue (behind (place x)) (ns ++ x ∷ []) ↔ IsNextOf place IsDue mark ns x
+pub next_exactly : {N : Type 0} (place : N → List ℕ) (IsDue : List N → N → Type 0) (mark : List ℕ) (ns : List N) (x : N) → IsRun place IsDue mark ns
+    → IsRun place IsDue (behind (place x)) (ns ++ x ∷ []) ↔ IsNextOf place IsDue mark ns x
 next_exactly place IsDue mark ns x run =
     (λ grown. next_of_grown place IsDue mark ns x run grown, λ next. grow place IsDue mark ns x run next.behind_all next.due next.first)

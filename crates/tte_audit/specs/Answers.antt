@@ -24,7 +24,8 @@ pub record IsAudited (network : Network) (octets : List ℕ) (count : ℕ) : Typ
 
 -- the records are all sound
 abbrev pub AreSoundNotes : Network → List Note → Units → Type 0
-AreSoundNotes network ns time = AreSound place_of (IsDue (scenario_of network ns)) (behind_time time) (happenings network ns)
+AreSoundNotes network ns time =
+    AreSound place_of (IsDue (scenario_of network ns)) (behind_time time) (happenings network ns)
 
 -- at this time, the first such, a record is due up to the end that is not there
 pub record IsFirstLack (network : Network) (ns : List Note) (end : Units) (time : Units) : Type 0 where
@@ -32,7 +33,8 @@ pub record IsFirstLack (network : Network) (ns : List Note) (end : Units) (time 
   pub lacking : IsLacking place_of (IsDue (scenario_of network ns)) (happenings network ns) missing
   pub within : IsBefore (place_of missing) (behind_time end)
   pub at : time ≡ units_of (time_of missing)
-  pub first : (other : Happening) → IsLacking place_of (IsDue (scenario_of network ns)) (happenings network ns) other → time_of missing ≤ time_of other
+  pub first : (other : Happening) → IsLacking place_of (IsDue (scenario_of network ns)) (happenings network ns) other
+      → time_of missing ≤ time_of other
 
 -- the events of these records are not right, from the record of this number on
 abbrev pub IsEventsFault : Network → List Note → ℕ → Type 0
@@ -42,10 +44,12 @@ IsEventsFault network ns n = IsEventFault network ns n ⊎ IsEndless network ns 
 -- a record that is not there
 abbrev pub IsRefusedBy : Network → List ℕ → AuditRefusal → Type 0
 IsRefusedBy network octets (refusals.Form n) = IsFormFault network octets n
-IsRefusedBy network octets (refusals.Events n) = (ns : List Note) × BeginsWith network octets ns [] × IsEventsFault network ns n
+IsRefusedBy network octets (refusals.Events n) = (ns : List Note) × BeginsWith network octets ns []
+    × IsEventsFault network ns n
 IsRefusedBy network octets (refusals.Unfounded n) =
     (ns : List Note) × (time : Units) × IsOfEvents network octets ns time
     × IsUnfoundedAt place_of (IsDue (scenario_of network ns)) (behind_time time) (happenings network ns) n
 IsRefusedBy network octets (refusals.Lacking t) =
-    (ns : List Note) × (time : Units) × IsOfEvents network octets ns time × AreSoundNotes network ns time × IsFirstLack network ns time t
+    (ns : List Note) × (time : Units) × IsOfEvents network octets ns time × AreSoundNotes network ns time
+    × IsFirstLack network ns time t
 IsRefusedBy network octets refusals.OutOfMemory = Unit {0}

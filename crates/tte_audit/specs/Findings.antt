@@ -3,7 +3,8 @@ use Rattle.std.specs.Prelude.{◌≡◌, ℕ, ◌+◌, List, ◌∷◌, ◌++◌
 use Rattle.run_law.specs.records.Order.{IsBefore, IsIn, AllBefore, NoneBefore}
 
 -- the record stands behind those before it, is due given them, and is before the mark
-pub record IsSound {N : Type 0} (place : N → List ℕ) (IsDue : List N → N → Type 0) (mark : List ℕ) (before : List N) (x : N) : Type 0 where
+pub record IsSound {N : Type 0} (place : N → List ℕ) (IsDue : List N → N → Type 0) (mark : List ℕ) (before : List N)
+    (x : N) : Type 0 where
   pub behind_all : AllBefore place before (place x)
   pub due : IsDue before x
   pub within : IsBefore (place x) mark
@@ -13,7 +14,8 @@ abbrev pub AreSound : {N : Type 0} → (N → List ℕ) → (List N → N → Ty
 AreSound {N} place IsDue mark ns = (ps qs : List N) (x : N) → ns ≡ ps ++ x ∷ qs → IsSound place IsDue mark ps x
 
 -- the record of this number, counted from 1, is the first that is not sound
-pub record IsUnfoundedAt {N : Type 0} (place : N → List ℕ) (IsDue : List N → N → Type 0) (mark : List ℕ) (ns : List N) (n : ℕ) : Type 0 where
+pub record IsUnfoundedAt {N : Type 0} (place : N → List ℕ) (IsDue : List N → N → Type 0) (mark : List ℕ) (ns : List N)
+    (n : ℕ) : Type 0 where
   pub before : List N
   pub record_there : N
   pub behind : List N
@@ -23,7 +25,8 @@ pub record IsUnfoundedAt {N : Type 0} (place : N → List ℕ) (IsDue : List N �
   pub unsound : IsSound place IsDue mark before record_there → ⊥
 
 -- a record is due given those of the list that stand before its place, and none of the list stands there
-pub record IsLacking {N : Type 0} (place : N → List ℕ) (IsDue : List N → N → Type 0) (ns : List N) (x : N) : Type 0 where
+pub record IsLacking {N : Type 0} (place : N → List ℕ) (IsDue : List N → N → Type 0) (ns : List N)
+    (x : N) : Type 0 where
   pub before : List N
   pub behind : List N
   pub parts : ns ≡ before ++ behind
@@ -37,7 +40,8 @@ abbrev pub LacksNothing : {N : Type 0} → (N → List ℕ) → (List N → N �
 LacksNothing {N} place IsDue mark ns = (x : N) → IsLacking place IsDue ns x → IsBefore (place x) mark → ⊥
 
 -- a front of the list has a record due behind it, and before all that the list has left
-pub record IsGap {N : Type 0} (place : N → List ℕ) (IsDue : List N → N → Type 0) (before behind : List N) (x : N) : Type 0 where
+pub record IsGap {N : Type 0} (place : N → List ℕ) (IsDue : List N → N → Type 0) (before behind : List N)
+    (x : N) : Type 0 where
   pub all_before : AllBefore place before (place x)
   pub due : IsDue before x
   pub first : (m : N) → IsIn m behind → IsBefore (place x) (place m)

@@ -16,7 +16,8 @@ use Rattle.tte_audit.specs.Linked.{AreLinked}
 
 -- a list of records is the run exactly where it is sound and lacks nothing; and one unsound record is the first
 pub record HasOneFinding (s : Scenario) (mark : List ℕ) (hs : List Happening) : Type 0 where
-  pub run : IsRun place_of (IsDue s) mark hs ↔ (AreSound place_of (IsDue s) mark hs × LacksNothing place_of (IsDue s) mark hs)
+  pub run : IsRun place_of (IsDue s) mark hs ↔
+      (AreSound place_of (IsDue s) mark hs × LacksNothing place_of (IsDue s) mark hs)
   pub sound : (n : ℕ) → AreSound place_of (IsDue s) mark hs → IsUnfoundedAt place_of (IsDue s) mark hs n → ⊥
   pub one : (n m : ℕ) → IsUnfoundedAt place_of (IsDue s) mark hs n → IsUnfoundedAt place_of (IsDue s) mark hs m → n ≡ m
 
@@ -52,9 +53,11 @@ IsOfReport other = Unit {0}
 
 -- a report has one answer: it is the report of a run, of so many records, or it is refused, by one thing
 pub record HasOneAnswer (network : Network) (octets : List ℕ) : Type 0 where
-  pub not_both : (count : ℕ) (refusal : AuditRefusal) → IsOfReport refusal → IsAudited network octets count → IsRefusedBy network octets refusal → ⊥
+  pub not_both : (count : ℕ) (refusal : AuditRefusal) → IsOfReport refusal → IsAudited network octets count
+      → IsRefusedBy network octets refusal → ⊥
   pub one_count : (count other : ℕ) → IsAudited network octets count → IsAudited network octets other → count ≡ other
-  pub one_refusal : (refusal other : AuditRefusal) → IsOfReport refusal → IsOfReport other → IsRefusedBy network octets refusal → IsRefusedBy network octets other → refusal ≡ other
+  pub one_refusal : (refusal other : AuditRefusal) → IsOfReport refusal → IsOfReport other
+      → IsRefusedBy network octets refusal → IsRefusedBy network octets other → refusal ≡ other
 
 abbrev pub AnswerLaw : Type 0
 AnswerLaw = (network : Network) (octets : List ℕ) → IsNamed network → HasOneAnswer network octets

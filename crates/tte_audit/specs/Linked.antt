@@ -5,7 +5,8 @@ use Rattle.run_law.specs.records.Happenings.{Happening, numbered}
 
 -- the record has no cause, or its cause is a record before it
 abbrev pub HasCause : List Happening → Happening → Type 0
-HasCause before h = (cause_of h.note.body ≡ 0) ⊎ ((cause : Happening) × (numbered before (cause_of h.note.body) ≡ Some cause))
+HasCause before h =
+    (cause_of h.note.body ≡ 0) ⊎ ((cause : Happening) × (numbered before (cause_of h.note.body) ≡ Some cause))
 
 -- each record has no cause or one before it
 abbrev pub AreLinked : List Happening → Type 0

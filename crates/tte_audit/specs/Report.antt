@@ -34,7 +34,8 @@ pub record IsTextOf (network : Network) (note : Note) (text : List ℕ) : Type 0
 
 -- each record has its place as its number, from 1
 abbrev pub AreNumbered : List Note → Type 0
-AreNumbered notes = (before behind : List Note) (note : Note) → notes ≡ before ++ note ∷ behind → note.number ≡ length before + 1
+AreNumbered notes = (before behind : List Note) (note : Note) → notes ≡ before ++ note ∷ behind
+    → note.number ≡ length before + 1
 
 -- the octets begin with the lines of these records, and then these are left
 pub record BeginsWith (network : Network) (octets : List ℕ) (notes : List Note) (rest : List ℕ) : Type 0 where
@@ -98,12 +99,14 @@ pub record MayBefall (network : Network) (befallen : List Event) (line : ℕ) (e
 
 -- a record with this may come at the time, given the events before it: what is no event always may
 abbrev pub MayCome : Network → List Event → Units → NoteBody → Type 0
-MayCome network befallen time (notes.Event line what) = MayBefall network befallen line (record { time = time; what = what })
+MayCome network befallen time (notes.Event line what) =
+    MayBefall network befallen line (record { time = time; what = what })
 MayCome network befallen time other = Unit {0}
 
 -- each record may come, given the events before it
 abbrev pub AreEventsRight : Network → List Note → Type 0
-AreEventsRight network ns = (before behind : List Note) (note : Note) → ns ≡ before ++ note ∷ behind → MayCome network (events_of before) note.time note.body
+AreEventsRight network ns = (before behind : List Note) (note : Note) → ns ≡ before ++ note ∷ behind
+    → MayCome network (events_of before) note.time note.body
 
 -- the record of this number is the first that may not come
 pub record IsEventFault (network : Network) (ns : List Note) (n : ℕ) : Type 0 where
@@ -130,7 +133,8 @@ clock_reading network events device time =
 
 -- the network under the events of the records
 abbrev pub scenario_of : Network → List Note → Scenario
-scenario_of network ns = record { network = network; reading = clock_reading network (events_of ns); events = events_of ns }
+scenario_of network ns =
+    record { network = network; reading = clock_reading network (events_of ns); events = events_of ns }
 
 -- just behind all that is of this time
 abbrev pub behind_time : Units → List ℕ

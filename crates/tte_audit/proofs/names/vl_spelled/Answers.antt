@@ -24,10 +24,13 @@ returns-in-Ok-clause-value c =
 
 pub returns-in-Ok-clause-of_network : goal.returns-in-Ok-clause-of_network
 returns-in-Ok-clause-of_network c =
-    named_within number (λ (x : VirtualLink). x.name) c.args.network.now.vl c.in-Ok.name.now c.vl_named.result (record { first = c.vl_named.ensures.first; none = c.vl_named.ensures.none })
+    named_within number (λ (x : VirtualLink). x.name) c.args.network.now.vl c.in-Ok.name.now c.vl_named.result
+    (record { first = c.vl_named.ensures.first; none = c.vl_named.ensures.none })
 
 pub returns-in-Err-clause-value : goal.returns-in-Err-clause-value
 unfolding vl_spelled
 returns-in-Err-clause-value c =
-    let names = All-weaker (IsVlInRange c.args.network.now) (λ (x : VirtualLink). IsNameText x.name) (λ x h. h.name) c.args.network.now.vl c.requires.in_range.vls in
-    sym (ap (option_map vl_id) (place_absent (vl_names c.args.network.now.vl) c.args.word.now (bears_utf8 (λ (x : VirtualLink). x.name) c.args.network.now.vl c.args.word.now names c.in-Err.ensures.cases.0)))
+    let names = All-weaker (IsVlInRange c.args.network.now) (λ (x : VirtualLink). IsNameText x.name)
+    (λ x h. h.name) c.args.network.now.vl c.requires.in_range.vls in
+    sym (ap (option_map vl_id) (place_absent (vl_names c.args.network.now.vl) c.args.word.now
+    (bears_utf8 (λ (x : VirtualLink). x.name) c.args.network.now.vl c.args.word.now names c.in-Err.ensures.cases.0)))
