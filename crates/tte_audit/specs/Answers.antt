@@ -53,3 +53,9 @@ IsRefusedBy network octets (refusals.Lacking t) =
     (ns : List Note) × (time : Units) × IsOfEvents network octets ns time × AreSoundNotes network ns time
     × IsFirstLack network ns time t
 IsRefusedBy network octets refusals.OutOfMemory = Unit {0}
+
+-- a refusal of the form of a line, or of an event
+abbrev pub IsOfFormOrEvents : AuditRefusal → Type 0
+IsOfFormOrEvents (refusals.Form n) = Unit {0}
+IsOfFormOrEvents (refusals.Events n) = Unit {0}
+IsOfFormOrEvents other = ⊥

@@ -8,7 +8,8 @@ ghost use Rattle.pcf_values.specs.declared.members.Members.{Members as MembersVa
 ghost use Rattle.report_text.specs.NoteLine.{passage_words, stream_words};
 ghost use Rattle.report_text.specs.NoteWords.{members_text, state_text, judgement_text, why_text, reason_words};
 ghost use Rattle.net_plan.specs.Belonging.{HasVl, device_name, HasDevice, IsOfNetwork};
-ghost use Rattle.report_text.specs.Ranges.{HasPassage, HasStream, IsBodyOf, IsBodyInRange, IsCount, IsShortCount, IsSignedUnits, IsReasonInRange};
+ghost use Rattle.report_text.specs.Ranges.{HasPassage, HasStream, IsBodyOf, IsBodyInRange, IsCount};
+ghost use Rattle.report_text.specs.Ranges.{IsShortCount, IsSignedUnits, IsReasonInRange};
 ghost use Rattle.run_law.specs.declared.judgement.Judgement.{Judgement as JudgementValue};
 ghost use Rattle.run_law.specs.declared.judgement.Reason.{Reason as ReasonValue};
 ghost use Rattle.run_law.specs.declared.judgement.Why.{Why as WhyValue};
@@ -20,16 +21,18 @@ ghost use Rattle.tte_audit.specs.Named.{IsNamed};
 ghost use Rattle.tte_units.specs.declared.units.Units.{Units as UnitsValue};
 
 use crate::enums::{judgement, state, why};
+use crate::line_words::next;
 use crate::names::{device, link, vl};
 use crate::numbers::{count, members, short, units};
-use crate::reasons::{next, reason};
+use crate::reasons::reason;
 use net_plan::{Network, What};
 use run_law::NoteBody;
 use trace_text::{Words, what};
 
 fn event_what(network: &Network, words: &mut Words) -> Option<What>
     requires { IsNamed network.now }
-    ensures back { (w : WhatValue) → IsOfNetwork network.now w → IsWhatInRange w → words.old ≡ what_words network.now w → result ≡ Some w }
+    ensures back { (w : WhatValue) → IsOfNetwork network.now w → IsWhatInRange w
+        → words.old ≡ what_words network.now w → result ≡ Some w }
     ensures of_network { IfSome result (IsOfNetwork network.now) }
     ensures range { IfSome result IsWhatInRange }
 {
@@ -106,7 +109,8 @@ pub(crate) fn permanent(network: &Network, words: &mut Words) -> Option<NoteBody
     requires { IsNamed network.now }
     ensures back { (d : DeviceIdValue) (l : LinkIdValue) (cause : ℕ) (point : UnitsValue) (verdict : JudgementValue)
         → HasPassage network.now d l → IsCount cause → IsSignedUnits point
-        → words.old ≡ passage_words network.now d l cause ++ codes "point" ∷ signed_decimal point.0 ∷ judgement_text verdict ∷ []
+        → words.old ≡ passage_words network.now d l cause ++ codes "point" ∷ signed_decimal point.0
+        ∷ judgement_text verdict ∷ []
         → result ≡ Some (bodies.Permanent d l cause point verdict) }
     ensures of_network { IfSome result (IsBodyOf network.now) }
     ensures range { IfSome result IsBodyInRange }
@@ -128,9 +132,12 @@ pub(crate) fn permanent(network: &Network, words: &mut Words) -> Option<NoteBody
 
 pub(crate) fn compressed(network: &Network, words: &mut Words) -> Option<NoteBody>
     requires { IsNamed network.now }
-    ensures back { (d : DeviceIdValue) (opened at : UnitsValue) (cycle : ℕ) (m : MembersValue) (verdict : JudgementValue)
+    ensures back { (d : DeviceIdValue) (opened at : UnitsValue) (cycle : ℕ) (m : MembersValue)
+        (verdict : JudgementValue)
         → HasDevice network.now d → IsSignedUnits opened → IsSignedUnits at → IsShortCount cycle → IsShortCount m.0
-        → words.old ≡ device_name network.now d ∷ codes "opened" ∷ signed_decimal opened.0 ∷ codes "at" ∷ signed_decimal at.0 ∷ codes "cycle" ∷ decimal cycle ∷ codes "members" ∷ members_text m ∷ judgement_text verdict ∷ []
+        → words.old ≡ device_name network.now d ∷ codes "opened" ∷ signed_decimal opened.0
+        ∷ codes "at" ∷ signed_decimal at.0 ∷ codes "cycle" ∷ decimal cycle
+        ∷ codes "members" ∷ members_text m ∷ judgement_text verdict ∷ []
         → result ≡ Some (bodies.Compressed d opened at cycle m verdict) }
     ensures of_network { IfSome result (IsBodyOf network.now) }
     ensures range { IfSome result IsBodyInRange }
@@ -177,7 +184,8 @@ pub(crate) fn corrected(network: &Network, words: &mut Words) -> Option<NoteBody
     requires { IsNamed network.now }
     ensures back { (d : DeviceIdValue) (cycle : ℕ) (by adjustment : UnitsValue)
         → HasDevice network.now d → IsShortCount cycle → IsSignedUnits by → IsSignedUnits adjustment
-        → words.old ≡ device_name network.now d ∷ codes "cycle" ∷ decimal cycle ∷ codes "by" ∷ signed_decimal by.0 ∷ codes "adj" ∷ signed_decimal adjustment.0 ∷ []
+        → words.old ≡ device_name network.now d ∷ codes "cycle" ∷ decimal cycle ∷ codes "by" ∷ signed_decimal by.0
+        ∷ codes "adj" ∷ signed_decimal adjustment.0 ∷ []
         → result ≡ Some (bodies.Corrected d cycle by adjustment) }
     ensures of_network { IfSome result (IsBodyOf network.now) }
     ensures range { IfSome result IsBodyInRange }
@@ -337,7 +345,8 @@ pub(crate) fn clock(network: &Network, words: &mut Words) -> Option<NoteBody>
     requires { IsNamed network.now }
     ensures back { (d : DeviceIdValue) (reading adjustment : UnitsValue) (last : StateValue)
         → HasDevice network.now d → IsSignedUnits reading → IsSignedUnits adjustment
-        → words.old ≡ device_name network.now d ∷ codes "reading" ∷ signed_decimal reading.0 ∷ codes "adj" ∷ signed_decimal adjustment.0 ∷ codes "state" ∷ state_text last ∷ []
+        → words.old ≡ device_name network.now d ∷ codes "reading" ∷ signed_decimal reading.0
+        ∷ codes "adj" ∷ signed_decimal adjustment.0 ∷ codes "state" ∷ state_text last ∷ []
         → result ≡ Some (bodies.Clock d reading adjustment last) }
     ensures of_network { IfSome result (IsBodyOf network.now) }
     ensures range { IfSome result IsBodyInRange }

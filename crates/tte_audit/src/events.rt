@@ -1,4 +1,5 @@
-ghost use Rattle.std.specs.Prelude.{◌≡◌, ◌↔◌, IsTrue, ◌<◌, ◌^◌, ◌++◌, ◌∷◌, [], ℕ, List, length, MatchBool, MatchOption, Any, Some, IfSome};
+ghost use Rattle.std.specs.Prelude.{◌≡◌, ◌↔◌, ◌<◌, ◌^◌, ◌++◌, ◌∷◌, [], ℕ, List, length};
+ghost use Rattle.std.specs.Prelude.{IsTrue, MatchBool, MatchOption, Any, Some, IfSome};
 ghost use Rattle.fault_hypothesis.specs.Watching.{Watches};
 ghost use Rattle.net_plan.specs.declared.event.Event.{Event as EventValue};
 ghost use Rattle.net_plan.specs.declared.event.What.TheVariants.{End};
@@ -9,7 +10,8 @@ ghost use Rattle.tte_audit.specs.Answers.{IsEventsFault};
 ghost use Rattle.tte_audit.specs.Named.{IsNamed};
 ghost use Rattle.tte_units.specs.declared.units.Units.{Units as UnitsValue};
 ghost use Rattle.tte_audit.specs.Following.{Follows};
-ghost use Rattle.tte_audit.specs.Report.{AreEventsRight, BeginsWith, EndWith, MayBefall, MayCome, events_of, with_event};
+ghost use Rattle.tte_audit.specs.Report.{AreEventsRight, BeginsWith, EndWith, MayBefall, MayCome};
+ghost use Rattle.tte_audit.specs.Report.{events_of, with_event};
 ghost use Rattle.net_plan.specs.Belonging.{IsOfNetwork};
 
 use crate::lines::first_record;
@@ -50,9 +52,11 @@ impl<'a> Befallen<'a> {
     fn admit(&mut self, line: u64, event: &Event) -> bool
         requires { self.old.count < 2 ^ 63 }
         ensures { (network : NetworkValue) (befallen : List EventValue)
-            → Follows network self.old.watch self.old.count self.old.ended befallen → IsOfNetwork network event.now.what
+            → Follows network self.old.watch self.old.count self.old.ended befallen
+            → IsOfNetwork network event.now.what
             → MatchBool result
-            (MayBefall network befallen line event.now × Follows network self.new.watch self.new.count self.new.ended (befallen ++ event.now ∷ []))
+            (MayBefall network befallen line event.now
+            × Follows network self.new.watch self.new.count self.new.ended (befallen ++ event.now ∷ []))
             (MayBefall network befallen line event.now → ⊥) }
     {
         if self.ended || line != self.count + 1 {
@@ -75,12 +79,25 @@ impl<'a> Befallen<'a> {
         ensures { (network : NetworkValue) (befallen : List EventValue)
             → Follows network self.old.watch self.old.count self.old.ended befallen → IsBodyOf network body
             → MatchBool result
-            (MayCome network befallen time body × Follows network self.new.watch self.new.count self.new.ended (with_event befallen time body))
+            (MayCome network befallen time body
+            × Follows network self.new.watch self.new.count self.new.ended (with_event befallen time body))
             (MayCome network befallen time body → ⊥) }
     {
         match body {
             NoteBody::Event { line, what } => self.admit(line, &Event { time, what }),
-            _ => true,
+            NoteBody::Arrived { .. }
+            | NoteBody::Permanent { .. }
+            | NoteBody::Compressed { .. }
+            | NoteBody::Sent { .. }
+            | NoteBody::Corrected { .. }
+            | NoteBody::State { .. }
+            | NoteBody::Left { .. }
+            | NoteBody::Lost { .. }
+            | NoteBody::TtSent { .. }
+            | NoteBody::Accepted { .. }
+            | NoteBody::Delivered { .. }
+            | NoteBody::Dropped { .. }
+            | NoteBody::Clock { .. } => true,
         }
     }
 }

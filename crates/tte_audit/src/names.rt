@@ -11,7 +11,8 @@ use trace_text::{device_spelled, link_spelled};
 /// The device whose name the word is.
 pub(crate) fn device(network: &Network, word: &[u8]) -> Option<DeviceId>
     requires { IsNamed network.now }
-    ensures back { (d : DeviceIdValue) → HasDevice network.now d → word.now ≡ device_name network.now d → result ≡ Some d }
+    ensures back { (d : DeviceIdValue) → HasDevice network.now d
+        → word.now ≡ device_name network.now d → result ≡ Some d }
     ensures of_network { IfSome result (HasDevice network.now) }
 {
     device_spelled(network, word)

@@ -13,8 +13,8 @@ use crate::bodies::{
     lost, permanent, sent, ttsent,
 };
 use crate::kind::Kind;
+use crate::line_words::next;
 use crate::numbers::{count, units};
-use crate::reasons::next;
 use net_plan::Network;
 use report_text::make_note_line;
 use run_law::{Note, NoteBody};
@@ -50,7 +50,8 @@ fn body_of(network: &Network, kind: Kind, words: &mut Words) -> Option<NoteBody>
 // What the words were written for.
 fn body(network: &Network, words: &mut Words) -> Option<NoteBody>
     requires { IsNamed network.now }
-    ensures back { (b : NoteBodyValue) → IsBodyOf network.now b → IsBodyInRange b → words.old ≡ body_words network.now b → result ≡ Some b }
+    ensures back { (b : NoteBodyValue) → IsBodyOf network.now b → IsBodyInRange b
+        → words.old ≡ body_words network.now b → result ≡ Some b }
     ensures of_network { IfSome result (IsBodyOf network.now) }
     ensures range { IfSome result IsBodyInRange }
 {

@@ -83,7 +83,7 @@ fn numbers_that_are_not_written_so(rt: HostRuntime) -> Result<(), Fail> {
     Ok(())
 }
 
-const WORDS: [&str; 12] = [
+const WORDS: [&str; 13] = [
     "1 0 Sent m1 cycle 1",
     "1 0 sent m9 cycle 1",
     "1 0 sent M1 cycle 1",
@@ -95,6 +95,7 @@ const WORDS: [&str; 12] = [
     "1 0 state c1 integrating 1 off",
     "1 0 permanent ca ra_ca 29 point 0 dropped",
     "1 0 dropped c1 c1_b 95 twice",
+    "1 0 dropped c1 c1_b 95 refused ethertyp",
     "1 0 event 1 heal m1_a left",
 ];
 
@@ -113,6 +114,7 @@ const UPPER_CASE: &str =
 fn octets_that_are_not_printed_so(rt: HostRuntime) -> Result<(), Fail> {
     let network = worked(&rt, rt.alloc())?;
     try_none(&rt, &network, &[UPPER_CASE]);
+    keep_names_apart(&network);
     let no_text = note_line(network.network(), b"1 0 sent m1\xff cycle 1");
     assert!(rt; no_text.is_none());
     Ok(())
