@@ -21,6 +21,7 @@ pub record HasOneFinding (s : Scenario) (mark : List ℕ) (hs : List Happening) 
   pub sound : (n : ℕ) → AreSound place_of (IsDue s) mark hs → IsUnfoundedAt place_of (IsDue s) mark hs n → ⊥
   pub one : (n m : ℕ) → IsUnfoundedAt place_of (IsDue s) mark hs n → IsUnfoundedAt place_of (IsDue s) mark hs m → n ≡ m
 
+-- so it is of every list, under every scenario and up to every mark
 abbrev pub AuditLaws : Type 0
 AuditLaws = (s : Scenario) (mark : List ℕ) (hs : List Happening) → HasOneFinding s mark hs
 
@@ -36,6 +37,7 @@ pub record HasGapsOnly (s : Scenario) (hs : List Happening) : Type 0 where
   pub lacks : (x : Happening) → IsLacking place_of (IsDue s) hs x ↔ HasGap s hs x
   pub linked : AreLinked hs
 
+-- so it is of every list whose records are all sound
 abbrev pub GapLaw : Type 0
 GapLaw = (s : Scenario) (mark : List ℕ) (hs : List Happening) → AreSound place_of (IsDue s) mark hs → HasGapsOnly s hs
 
@@ -59,5 +61,6 @@ pub record HasOneAnswer (network : Network) (octets : List ℕ) : Type 0 where
   pub one_refusal : (refusal other : AuditRefusal) → IsOfReport refusal → IsOfReport other
       → IsRefusedBy network octets refusal → IsRefusedBy network octets other → refusal ≡ other
 
+-- so it is of every text, over a network without two things of one name
 abbrev pub AnswerLaw : Type 0
 AnswerLaw = (network : Network) (octets : List ℕ) → IsNamed network → HasOneAnswer network octets

@@ -33,13 +33,8 @@ fn try_line(
 }
 
 #[test]
-fn events_of_all_kinds(rt: HostRuntime) -> Result<(), Fail> {
+fn events_of_delays(rt: HostRuntime) -> Result<(), Fail> {
     let network = worked(&rt, rt.alloc())?;
-    let body = NoteBody::Event {
-        line: 1,
-        what: What::Rate(DeviceId(0), Ppb(-50_000)),
-    };
-    try_line(&rt, &network, "1 0 event 1 rate m1 -50000", 1, 0, body);
     let body = NoteBody::Event {
         line: 2,
         what: What::Wire(LinkId(0), Way::Up, Units(32_768_000)),
@@ -57,6 +52,12 @@ fn events_of_all_kinds(rt: HostRuntime) -> Result<(), Fail> {
         what: What::Hold(LinkId(11), Way::Down, Units(0)),
     };
     try_line(&rt, &network, "3 7 event 3 hold rb_cb down 0", 3, 7, body);
+    Ok(())
+}
+
+#[test]
+fn events_of_ways(rt: HostRuntime) -> Result<(), Fail> {
+    let network = worked(&rt, rt.alloc())?;
     let body = NoteBody::Event {
         line: 4,
         what: What::Cut(LinkId(4), Way::Down),
@@ -67,6 +68,17 @@ fn events_of_all_kinds(rt: HostRuntime) -> Result<(), Fail> {
         what: What::Heal(LinkId(4), Way::Down),
     };
     try_line(&rt, &network, "5 7 event 5 heal c1_a down", 5, 7, body);
+    Ok(())
+}
+
+#[test]
+fn events_of_devices(rt: HostRuntime) -> Result<(), Fail> {
+    let network = worked(&rt, rt.alloc())?;
+    let body = NoteBody::Event {
+        line: 1,
+        what: What::Rate(DeviceId(0), Ppb(-50_000)),
+    };
+    try_line(&rt, &network, "1 0 event 1 rate m1 -50000", 1, 0, body);
     let body = NoteBody::Event {
         line: 6,
         what: What::On(DeviceId(8)),
@@ -77,6 +89,12 @@ fn events_of_all_kinds(rt: HostRuntime) -> Result<(), Fail> {
         what: What::Break(DeviceId(3)),
     };
     try_line(&rt, &network, "7 7 event 7 break m4", 7, 7, body);
+    Ok(())
+}
+
+#[test]
+fn a_frame_that_is_made_and_the_end(rt: HostRuntime) -> Result<(), Fail> {
+    let network = worked(&rt, rt.alloc())?;
     let body = NoteBody::Event {
         line: 8,
         what: What::Send(LinkId(9), Octets::new(&[0x0a; 60])),
@@ -105,7 +123,7 @@ fn events_of_all_kinds(rt: HostRuntime) -> Result<(), Fail> {
 }
 
 #[test]
-fn frames_that_are_sent(rt: HostRuntime) -> Result<(), Fail> {
+fn frames_that_leave(rt: HostRuntime) -> Result<(), Fail> {
     let network = worked(&rt, rt.alloc())?;
     let body = NoteBody::Sent {
         device: DeviceId(0),
@@ -133,6 +151,12 @@ fn frames_that_are_sent(rt: HostRuntime) -> Result<(), Fail> {
         131_072_000_000,
         body,
     );
+    Ok(())
+}
+
+#[test]
+fn frames_that_are_lost_or_arrive(rt: HostRuntime) -> Result<(), Fail> {
+    let network = worked(&rt, rt.alloc())?;
     let body = NoteBody::Lost {
         device: DeviceId(0),
         link: LinkId(6),
@@ -164,7 +188,7 @@ fn frames_that_are_sent(rt: HostRuntime) -> Result<(), Fail> {
 }
 
 #[test]
-fn what_devices_do(rt: HostRuntime) -> Result<(), Fail> {
+fn compressed_frames(rt: HostRuntime) -> Result<(), Fail> {
     let network = worked(&rt, rt.alloc())?;
     let body = NoteBody::Compressed {
         device: DeviceId(6),
@@ -182,6 +206,12 @@ fn what_devices_do(rt: HostRuntime) -> Result<(), Fail> {
         136_511_488_000,
         body,
     );
+    Ok(())
+}
+
+#[test]
+fn clocks(rt: HostRuntime) -> Result<(), Fail> {
+    let network = worked(&rt, rt.alloc())?;
     let body = NoteBody::Corrected {
         device: DeviceId(0),
         cycle: 1,
@@ -213,84 +243,56 @@ fn what_devices_do(rt: HostRuntime) -> Result<(), Fail> {
     Ok(())
 }
 
+const CHANGES: [(&str, State, u64, Why); 5] = [
+    (
+        "171 149422080000 state c1 integrating 1 on",
+        State::Integrating,
+        1,
+        Why::On,
+    ),
+    (
+        "171 149422080000 state c1 joining 140 frame",
+        State::Joining,
+        140,
+        Why::Frame,
+    ),
+    (
+        "171 149422080000 state c1 synchronised 170 correction",
+        State::Synchronised,
+        170,
+        Why::Correction,
+    ),
+    (
+        "171 149422080000 state c1 integrating 0 sync_clique",
+        State::Integrating,
+        0,
+        Why::SyncClique,
+    ),
+    (
+        "171 149422080000 state c1 off 0 async_clique",
+        State::Off,
+        0,
+        Why::AsyncClique,
+    ),
+];
+
 #[test]
 fn changes_of_state(rt: HostRuntime) -> Result<(), Fail> {
     let network = worked(&rt, rt.alloc())?;
-    let body = NoteBody::State {
-        device: DeviceId(4),
-        state: State::Integrating,
-        cause: 1,
-        why: Why::On,
-    };
-    try_line(
-        &rt,
-        &network,
-        "171 149422080000 state c1 integrating 1 on",
-        171,
-        149_422_080_000,
-        body,
-    );
-    let body = NoteBody::State {
-        device: DeviceId(4),
-        state: State::Joining,
-        cause: 140,
-        why: Why::Frame,
-    };
-    try_line(
-        &rt,
-        &network,
-        "171 149422080000 state c1 joining 140 frame",
-        171,
-        149_422_080_000,
-        body,
-    );
-    let body = NoteBody::State {
-        device: DeviceId(4),
-        state: State::Synchronised,
-        cause: 170,
-        why: Why::Correction,
-    };
-    try_line(
-        &rt,
-        &network,
-        "171 149422080000 state c1 synchronised 170 correction",
-        171,
-        149_422_080_000,
-        body,
-    );
-    let body = NoteBody::State {
-        device: DeviceId(4),
-        state: State::Integrating,
-        cause: 0,
-        why: Why::SyncClique,
-    };
-    try_line(
-        &rt,
-        &network,
-        "171 149422080000 state c1 integrating 0 sync_clique",
-        171,
-        149_422_080_000,
-        body,
-    );
-    let body = NoteBody::State {
-        device: DeviceId(4),
-        state: State::Off,
-        cause: 0,
-        why: Why::AsyncClique,
-    };
-    try_line(
-        &rt,
-        &network,
-        "171 149422080000 state c1 off 0 async_clique",
-        171,
-        149_422_080_000,
-        body,
-    );
+    for (text, state, cause, why) in &CHANGES {
+        let body = NoteBody::State {
+            device: DeviceId(4),
+            state: *state,
+            cause: *cause,
+            why: *why,
+        };
+        try_line(&rt, &network, text, 171, 149_422_080_000, body);
+    }
     Ok(())
 }
 
 #[test]
-fn time_triggered_frames(rt: HostRuntime) -> Result<(), Fail> {
+fn dispatched_frames(rt: HostRuntime) -> Result<(), Fail> {
     let network = worked(&rt, rt.alloc())?;
     let body = NoteBody::TtSent {
         device: DeviceId(0),
@@ -307,6 +309,12 @@ fn time_triggered_frames(rt: HostRuntime) -> Result<(), Fail> {
         157_614_080_000,
         body,
     );
+    Ok(())
+}
+
+#[test]
+fn taken_frames(rt: HostRuntime) -> Result<(), Fail> {
+    let network = worked(&rt, rt.alloc())?;
     let body = NoteBody::Accepted {
         device: DeviceId(5),
         link: LinkId(0),
