@@ -102,7 +102,9 @@ fn a_frame_that_is_made_and_the_end(rt: HostRuntime) -> Result<(), Fail> {
     try_line(
         &rt,
         &network,
-        "8 7 event 8 send m4_b 0a0a0a0a0a0a0a0a0a0a0a0a0a0a0a0a0a0a0a0a0a0a0a0a0a0a0a0a0a0a0a0a0a0a0a0a0a0a0a0a0a0a0a0a0a0a0a0a0a0a0a0a0a0a0a0a0a0a0a0a",
+        "8 7 event 8 send m4_b \
+            0a0a0a0a0a0a0a0a0a0a0a0a0a0a0a0a0a0a0a0a0a0a0a0a0a0a0a0a0a0a\
+            0a0a0a0a0a0a0a0a0a0a0a0a0a0a0a0a0a0a0a0a0a0a0a0a0a0a0a0a0a0a",
         8,
         7,
         body,

@@ -107,8 +107,9 @@ fn words_of_no_meaning(rt: HostRuntime) -> Result<(), Fail> {
 }
 
 /// A record of a send event, but that the digits of its frame are `0A`.
-const UPPER_CASE: &str =
-    "1 0 event 1 send m4_b 0A0A0A0A0A0A0A0A0A0A0A0A0A0A0A0A0A0A0A0A0A0A0A0A0A0A0A0A0A0A0A0A0A0A0A0A0A0A0A0A0A0A0A0A0A0A0A0A0A0A0A0A0A0A0A0A0A0A0A0A";
+const UPPER_CASE: &str = "1 0 event 1 send m4_b \
+        0A0A0A0A0A0A0A0A0A0A0A0A0A0A0A0A0A0A0A0A0A0A0A0A0A0A0A0A0A0A\
+        0A0A0A0A0A0A0A0A0A0A0A0A0A0A0A0A0A0A0A0A0A0A0A0A0A0A0A0A0A0A";
 
 #[test]
 fn octets_that_are_not_printed_so(rt: HostRuntime) -> Result<(), Fail> {
