@@ -91,23 +91,17 @@ pub text_at : (network : Network) (n : ℕ) (octets left : List ℕ) (i : ℕ) �
 unfolding head_of
 text_at network n octets left i named e h = ap (head_of []) (sym (split_at octets i e) ∙ split_line network n octets left named h)
 
--- where the octets before the first LF are a record's text, its line is the first
-pub line_at : (network : Network) (octets : List ℕ) (i : ℕ) (note : Note) → position is_line_end octets ≡ Some i → IsTextOf network note (take i octets)
-    → LineThen network note.number octets (drop (i + 1) octets)
-line_at network octets i note e h = record {
-  note = note;
-  of_network = h.of_network;
-  in_range = h.in_range;
-  number = refl;
-  text = parts_at octets i e ∙ ap (λ (t : List ℕ). t ++ lf ∷ drop (i + 1) octets) h.same
-      ∙ sym (append_assoc (note_text network note) (codes "\n") (drop (i + 1) octets));
-}
+-- the text of the first line is one
+pub one_text : (network : Network) (n m : ℕ) (octets left rest : List ℕ) → IsNamed network → (a : LineThen network n octets left)
+    → (b : LineThen network m octets rest) → note_text network a.note ≡ note_text network b.note
+unfolding head_of
+one_text network n m octets left rest named a b =
+    ap (head_of []) (sym (split_line network n octets left named a) ∙ split_line network m octets rest named b)
 
--- the same of a record of any number
+-- where the octets before the first LF are a record's text, its line is the first
 pub record_at : (network : Network) (octets : List ℕ) (i : ℕ) (note : Note) → position is_line_end octets ≡ Some i → IsTextOf network note (take i octets)
     → BeginsWithRecord network note octets (drop (i + 1) octets)
 record_at network octets i note e h =
-    let line = line_at network octets i note e h in
     record { of_network = h.of_network; in_range = h.in_range; text = text_of network octets i note e h }
   where
     text_of : (network : Network) (octets : List ℕ) (i : ℕ) (note : Note) → position is_line_end octets ≡ Some i → IsTextOf network note (take i octets)
