@@ -11,7 +11,7 @@ use Rattle.run_law.specs.declared.note.Note.{Note}
 use Rattle.run_law.proofs.scenario.Decisions.{any_first, any_later}
 use Rattle.tte_units.specs.Amount.{units_of}
 use Rattle.tte_units.specs.declared.units.Units.{Units}
-use Rattle.tte_audit.specs.Answers.{IsAudited, IsRefusedBy, IsFirstLack, IsEventsFault}
+use Rattle.tte_audit.specs.Answers.{IsAudited, IsOfFormOrEvents, IsRefusedBy, IsFirstLack, IsEventsFault}
 use Rattle.tte_audit.specs.Findings.{IsUnfoundedAt}
 use Rattle.tte_audit.specs.Laws.{AnswerLaw, IsOfReport}
 use Rattle.tte_audit.specs.Named.{IsNamed}
@@ -158,9 +158,19 @@ one_refusal network octets (refusals.Lacking n) (refusals.Lacking m) named of so
 one_refusal network octets refusals.OutOfMemory other named of so a b = absurd of
 one_refusal network octets refusal refusals.OutOfMemory named of so a b = absurd so
 
+not_refused : (network : Network) (octets : List ℕ) (notes : List Note) (time : Units) (refusal : AuditRefusal) → IsNamed network
+    → IsOfFormOrEvents refusal → IsOfEvents network octets notes time → IsRefusedBy network octets refusal → ⊥
+not_refused network octets notes time (refusals.Form n) named kind of h = events_and_form network octets notes time n named of (refusals.Form n) (inl refl) h
+not_refused network octets notes time (refusals.Events n) named kind of h =
+    events_and_form network octets notes time n named of (refusals.Events n) (inr refl) h
+not_refused network octets notes time (refusals.Unfounded n) named kind of h = kind
+not_refused network octets notes time (refusals.Lacking t) named kind of h = kind
+not_refused network octets notes time refusals.OutOfMemory named kind of h = kind
+
 pub answer_law : AnswerLaw
 answer_law network octets named = record {
   not_both = λ count refusal of a h. not_both network octets count refusal named of a h;
+  not_refused = λ notes time refusal kind of h. not_refused network octets notes time refusal named kind of h;
   one_count = λ count other a b. one_count network octets count other named a b;
   one_refusal = λ refusal other of so a b. one_refusal network octets refusal other named of so a b;
 }

@@ -7,12 +7,15 @@ use Rattle.run_law.specs.runs.DueRecords.{IsDue}
 use Rattle.run_law.specs.runs.Runs.{IsNextOf, IsRun}
 use Rattle.run_law.specs.scenario.Scenarios.{Scenario}
 use Rattle.net_plan.specs.declared.network.Network.{Network}
-use Rattle.tte_audit.specs.Answers.{IsAudited, IsRefusedBy}
+use Rattle.tte_audit.specs.Answers.{IsAudited, IsOfFormOrEvents, IsRefusedBy}
 use Rattle.tte_audit.specs.Named.{IsNamed}
 use Rattle.tte_audit.specs.declared.refusal.AuditRefusal.{AuditRefusal}
 use Rattle.tte_audit.specs.declared.refusal.AuditRefusal.TheVariants as refusals
 use Rattle.tte_audit.specs.Findings.{AreSound, IsGap, IsLacking, IsUnfoundedAt, LacksNothing}
 use Rattle.tte_audit.specs.Linked.{AreLinked}
+use Rattle.tte_audit.specs.Report.{IsOfEvents}
+use Rattle.run_law.specs.declared.note.Note.{Note}
+use Rattle.tte_units.specs.declared.units.Units.{Units}
 
 -- a list of records is the run exactly where it is sound and lacks nothing; and one unsound record is the first
 pub record HasOneFinding (s : Scenario) (mark : List ℕ) (hs : List Happening) : Type 0 where
@@ -57,6 +60,8 @@ IsOfReport other = Unit {0}
 pub record HasOneAnswer (network : Network) (octets : List ℕ) : Type 0 where
   pub not_both : (count : ℕ) (refusal : AuditRefusal) → IsOfReport refusal → IsAudited network octets count
       → IsRefusedBy network octets refusal → ⊥
+  pub not_refused : (notes : List Note) (time : Units) (refusal : AuditRefusal) → IsOfFormOrEvents refusal
+      → IsOfEvents network octets notes time → IsRefusedBy network octets refusal → ⊥
   pub one_count : (count other : ℕ) → IsAudited network octets count → IsAudited network octets other → count ≡ other
   pub one_refusal : (refusal other : AuditRefusal) → IsOfReport refusal → IsOfReport other
       → IsRefusedBy network octets refusal → IsRefusedBy network octets other → refusal ≡ other
