@@ -1,0 +1,34 @@
+-- One more event of a report.
+use Rattle.std.proofs.Common.{◌≡◌, ◌⊎◌, List, [], ◌∷◌, ◌++◌, inl, inr, ap}
+use Rattle.std.specs.Prelude.{Any, Bool, true, false, MatchBool}
+use Rattle.net_plan.specs.declared.event.Event.{Event}
+use Rattle.net_plan.specs.declared.event.What.{What}
+use Rattle.net_plan.specs.declared.event.What.TheVariants.{End}
+use Rattle.run_law.proofs.scenario.Decisions.{any_first, any_later, any_of_none, any_parts}
+use Rattle.tte_audit.specs.Report.{EndWith}
+use Rattle.tte_units.specs.declared.units.Units.{Units}
+
+-- what is so of one of some events and one more is so of one of those or of this
+pub any_or_last : {X : Type 0} (P : X → Type 0) (xs : List X) (y : X) → Any P (xs ++ y ∷ []) → Any P xs ⊎ P y
+any_or_last P [] y h = elim (any_parts P y [] h) [ inl p ↦ inr p | inr none ↦ absurd (any_of_none P none) ]
+any_or_last P (x ∷ xs) y h =
+    elim (any_parts P x (xs ++ y ∷ []) h) [
+      | inl p ↦ inl (any_first P x xs p)
+      | inr later ↦ elim (any_or_last P xs y later) [ inl q ↦ inl (any_later P x xs q) | inr p ↦ inr p ]
+    ]
+
+event_at : Units → What → Event
+event_at time what = record { time = time; what = what }
+
+-- an end is the last event
+pub ends_with : (befallen : List Event) (event : Event) → event.what ≡ End → (time : Units) × EndWith (befallen ++ event ∷ []) time
+unfolding event_at
+ends_with befallen event is = (event.time, (befallen, ap (λ w. befallen ++ event_at event.time w ∷ []) is))
+
+pub match_false : (b : Bool) (A B : Type 0) → MatchBool b A B → b ≡ false → B
+match_false false A B h e = h
+match_false true A B h e = absurd cc
+
+pub match_true : (b : Bool) (A B : Type 0) → MatchBool b A B → b ≡ true → A
+match_true true A B h e = h
+match_true false A B h e = absurd cc

@@ -1,0 +1,25 @@
+-- What a list of records owes: each record that is due answers a debt, which earlier records have made.
+use Rattle.std.specs.Prelude.{◌≡◌, ℕ, List, ◌++◌}
+use Rattle.run_law.specs.records.Order.{IsBefore, IsIn, AllBefore, NoneBefore}
+
+-- the record is due given those of the list that stand before its place
+pub record IsDueIn {N : Type 0} (place : N → List ℕ) (IsDue : List N → N → Type 0) (ns : List N) (x : N) : Type 0 where
+  pub before : List N
+  pub behind : List N
+  pub parts : ns ≡ before ++ behind
+  pub all_before : AllBefore place before (place x)
+  pub none_before : NoneBefore place behind (place x)
+  pub due : IsDue before x
+
+-- these are the debts of the list: each record that is due before the mark pays one, each is to be paid by one that is
+-- due before the mark, and what pays one debt has one place
+pub record AreDebts {N O : Type 0} (place : N → List ℕ) (IsDue : List N → N → Type 0) (mark : List ℕ) (ns : List N)
+    (IsOwed : O → Type 0) (Pays : N → O → Type 0) : Type 0 where
+  pub each : (x : N) → IsDueIn place IsDue ns x → IsBefore (place x) mark → (o : O) × IsOwed o × Pays x o
+  pub some : (o : O) → IsOwed o → (x : N) × IsDueIn place IsDue ns x × IsBefore (place x) mark × Pays x o
+  pub one : (o : O) (x y : N) → IsDueIn place IsDue ns x → IsDueIn place IsDue ns y → Pays x o → Pays y o
+      → place x ≡ place y
+
+-- a record of the list pays the debt
+abbrev pub IsPaid : {N O : Type 0} → List N → (N → O → Type 0) → O → Type 0
+IsPaid {N} ns Pays o = (m : N) × IsIn m ns × Pays m o

@@ -1,0 +1,4 @@
+mod audits;
+mod records_read;
+mod worked;
+mod wrong_lines;
