@@ -6,6 +6,7 @@ pub mod growing
 pub mod runs
 pub mod giving
 pub mod putting
+pub mod acting
 pub mod steps
 pub mod befalling
 pub mod hearing

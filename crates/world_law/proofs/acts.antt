@@ -2,4 +2,6 @@
 pub mod Acted
 pub mod Acting
 pub mod Ready
+pub mod Dispatched
 pub mod NoActs
+pub mod Recorded

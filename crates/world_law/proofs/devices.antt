@@ -1,4 +1,5 @@
 -- How the records leave a device, as records come and time passes.
+pub mod Leaps
 pub mod OwnRecords
 pub mod Passes
 pub mod Borne

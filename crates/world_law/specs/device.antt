@@ -8,3 +8,4 @@ pub mod Acted
 pub mod Growing
 pub mod Ready
 pub mod Takings
+pub mod Recorded

@@ -1,6 +1,7 @@
 ghost use Rattle.world_law.specs.device.Growing.{ActsAreFew, ActsGrow, FewAreEmitted};
 ghost use Rattle.world_law.specs.source.Applying.{RunGoesOnByEvent};
 ghost use Rattle.world_law.specs.source.Sources.{DueIsSourced};
+ghost use Rattle.world_law.specs.world.Acting.{ActedStep, LastActedStep};
 ghost use Rattle.world_law.specs.world.Befalling.{BefellStep};
 ghost use Rattle.world_law.specs.world.Arriving.{HeardStep};
 ghost use Rattle.world_law.specs.world.Ripening.{RipenedStep};
@@ -96,6 +97,17 @@ pub fn befell_step<C: Clock, M: Machine + Drop>()
 /// Where a world stands and the first frame that waits is permanent, it stands again.
 pub fn ripened_step<C: Clock, M: Machine + Drop>()
     ensures { RipenedStep C.reading M.stands }
+{}
+
+/// Where a world stands and a device acts that has more to do at the instant, it stands again, and the device may
+/// act again.
+pub fn acted_step<C: Clock, M: Machine + Drop>()
+    ensures { ActedStep C.reading M.stands }
+{}
+
+/// Where a world stands and a device acts that has nothing more to do at the instant, it stands again.
+pub fn last_acted_step<C: Clock, M: Machine + Drop>()
+    ensures { LastActedStep C.reading M.stands }
 {}
 
 /// A machine that acts again and again at one moment: how often it has acted.

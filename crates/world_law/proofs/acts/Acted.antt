@@ -12,21 +12,21 @@ use Rattle.membership.specs.Summary.{Summary}
 use Rattle.net_plan.specs.declared.ids.DeviceId.{DeviceId}
 use Rattle.net_plan.specs.declared.network.Network.{Network}
 use Rattle.pcf_values.specs.declared.members.Members.{Members}
-use Rattle.run_law.specs.machines.Calls.{MayCall}
 use Rattle.run_law.specs.control.Collections.{observation_window}
 use Rattle.run_law.specs.control.Corrections.{correction_value}
-use Rattle.run_law.specs.scenario.Devices.{is_cm, plan_of}
 use Rattle.run_law.specs.control.Hearing.{heard_as, heard_enough, heard_by_schedule, is_in_schedule, last_cycle}
-use Rattle.run_law.specs.machines.Answers.{IsActOf, after_correction, after_emission, called, own_hearing, with_clique, with_corrected, with_done}
-use Rattle.run_law.specs.machines.Nodes.{ClockTask, Node, acting, correcting, dispatching, sending}
 use Rattle.run_law.specs.control.Permanence.{ripe_as}
-use Rattle.run_law.specs.device.States.{is_synchronised}
-use Rattle.run_law.specs.machines.Tasks.{IsDeedOf, IsPending, IsUndone, IsWaiting, Task, doing, emitting, value_of}
 use Rattle.run_law.specs.declared.steps.Act.TheVariants as acts
 use Rattle.run_law.specs.declared.steps.Act.{Act}
 use Rattle.run_law.specs.declared.steps.Moment.{Moment}
 use Rattle.run_law.specs.declared.steps.Ripe.TheVariants as ripe
 use Rattle.run_law.specs.declared.steps.Ripe.{Ripe}
+use Rattle.run_law.specs.device.States.{is_synchronised}
+use Rattle.run_law.specs.machines.Answers.{IsActOf, after_correction, after_emission, called, own_hearing, with_clique, with_corrected, with_done}
+use Rattle.run_law.specs.machines.Calls.{MayCall}
+use Rattle.run_law.specs.machines.Nodes.{ClockTask, Node, acting, correcting, dispatching, sending}
+use Rattle.run_law.specs.machines.Tasks.{IsDeedOf, IsPending, IsUndone, IsWaiting, Task, doing, emitting, value_of}
+use Rattle.run_law.specs.scenario.Devices.{is_cm, plan_of}
 use Rattle.sync_state.specs.Calls.{state_by}
 use Rattle.sync_state.specs.Standing.{Standing, next_point, point_in}
 use Rattle.sync_state.specs.declared.answers.Verdict.TheVariants.{Corrected, SyncClique, AsyncClique, Cleared}
@@ -106,7 +106,7 @@ pub no_cluster : (ow : ℤ) (clusters : List Cluster) (cluster : Cluster) → Ar
 no_cluster ow [] cluster are there = absurd (omega (arith, there.1))
 no_cluster ow (c ∷ cs) cluster are there = absurd are
 
-beyond_it : (changed reading adjustment value : ℤ) → changed ≡ (reading +ℤ adjustment) → changed <ℤ value → reading <ℤ (value -ℤ adjustment)
+pub beyond_it : (changed reading adjustment value : ℤ) → changed ≡ (reading +ℤ adjustment) → changed <ℤ value → reading <ℤ (value -ℤ adjustment)
 beyond_it changed reading adjustment value is lt = omega (arith, ints, is, lt)
 
 -- where its clock showed this much after the change, and nothing is left of its points, all that it has before it is
@@ -201,7 +201,7 @@ one_more Integrating number cycle n e f = absurd cc
 one_more Joining number cycle n e f = let a : number ≡ cycle = cc in let b : number + 1 ≡ n = cc in omega (arith, a, b)
 one_more Synchronised number cycle n e f = let a : number ≡ cycle = cc in let b : number + 1 ≡ n = cc in omega (arith, a, b)
 
-next_turn : (r c cycle n : ℕ) (a reading precision : ℤ) → n ≡ cycle + 1 → reading <ℤ ((pos (cycle * r + c) -ℤ a) +ℤ precision) → precision ≤ℤ pos r
+pub next_turn : (r c cycle n : ℕ) (a reading precision : ℤ) → n ≡ cycle + 1 → reading <ℤ ((pos (cycle * r + c) -ℤ a) +ℤ precision) → precision ≤ℤ pos r
     → reading <ℤ (pos (n * r + c) -ℤ a)
 next_turn r c cycle n a reading precision is lt wide = let more : n * r ≡ (cycle + 1) * r = ap (λ (k : ℕ). k * r) is in omega (arith, ints, lt, wide, more)
 

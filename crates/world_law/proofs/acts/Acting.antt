@@ -1,22 +1,22 @@
 -- When a device acts by itself, it has a task that is due.
-use Rattle.std.proofs.Common.{◌≡◌, ℕ, ◌+◌, ◌-◌, ◌≤◌, ◌<◌, ℤ, pos, ◌+ℤ◌, ◌-ℤ◌, ◌<ℤ◌, ◌≤ℤ◌, Bool, true, false, if◌then◌else◌, int_lt, int_le, List, Some, inl, inr, refl, sym, ap, subst, ◌∙◌, arith}
+use Rattle.std.proofs.Common.{◌≡◌, Contains, ℕ, ◌+◌, ◌-◌, ◌≤◌, ◌<◌, ℤ, pos, ◌+ℤ◌, ◌-ℤ◌, ◌<ℤ◌, ◌≤ℤ◌, Bool, true, false, if◌then◌else◌, int_lt, int_le, List, Some, inl, inr, refl, sym, ap, subst, ◌∙◌, arith}
 use Rattle.std.proofs.lemmas.Bool.{and_from, and_parts, both_ways, cases_Bool}
 use Rattle.std.proofs.lemmas.Int.{ints}
 use Rattle.compression.proofs.Held.{int_le-false, int_le-true, int_lt-false}
 use Rattle.compression.specs.Clusters.{AreClusters}
 use Rattle.compression.specs.declared.compressed.Compressed.{Compressed}
 use Rattle.net_plan.specs.declared.ids.DeviceId.{DeviceId}
-use Rattle.run_law.specs.device.LocalClocks.{Reaches, changed_at, local_at_change}
 use Rattle.run_law.specs.control.Collections.{observation_window}
 use Rattle.run_law.specs.control.Corrections.{correction_value, has_cleared, is_integration_cycle, next_cycle, recorded_cycle}
-use Rattle.run_law.specs.timed.Dispatching.{Sends}
 use Rattle.run_law.specs.control.Emissions.{Emits}
-use Rattle.run_law.specs.records.Happenings.{Happening, earlier}
-use Rattle.run_law.specs.machines.Nodes.{ClockTask, Node, correcting, sending}
-use Rattle.run_law.specs.scenario.Scenarios.{Scenario, is_broken, is_turned_on_at}
-use Rattle.run_law.specs.device.States.{adjustment_before, state_before}
-use Rattle.run_law.specs.machines.Tasks.{IsDeedOf, IsUndone, doing, emitting, value_of}
 use Rattle.run_law.specs.declared.judgement.Judgement.{Judgement}
+use Rattle.run_law.specs.device.LocalClocks.{Reaches, changed_at, local_at_change}
+use Rattle.run_law.specs.device.States.{adjustment_before, state_before}
+use Rattle.run_law.specs.machines.Nodes.{ClockTask, Node, correcting, sending}
+use Rattle.run_law.specs.machines.Tasks.{IsDeedOf, IsUndone, doing, emitting, value_of}
+use Rattle.run_law.specs.records.Happenings.{Happening, earlier}
+use Rattle.run_law.specs.scenario.Scenarios.{Scenario, is_broken, is_turned_on_at}
+use Rattle.run_law.specs.timed.Dispatching.{Sends}
 use Rattle.sync_state.specs.Standing.{point_in}
 use Rattle.sync_state.specs.declared.state.State.TheVariants.{Off, Integrating, Joining, Synchronised}
 use Rattle.sync_state.specs.declared.state.State.{State}
@@ -121,13 +121,13 @@ less_is a b e = elim (cases_int a b) [ inl lt ↦ lt | inr ge ↦ absurd (both_w
 at_most_is : (a b : ℤ) → int_le a b ≡ true → a ≤ℤ b
 at_most_is a b e = elim (cases_int b a) [ inl lt ↦ absurd (both_ways _ (int_le-false a b lt) e) | inr ge ↦ ge ]
 
-point_number : (state : State) (number cycle : ℕ) → point_in state number ≡ Some cycle → (is_timed state ≡ true) × (number ≡ cycle)
+pub point_number : (state : State) (number cycle : ℕ) → point_in state number ≡ Some cycle → (is_timed state ≡ true) × (number ≡ cycle)
 point_number Off number cycle e = absurd cc
 point_number Integrating number cycle e = absurd cc
 point_number Joining number cycle e = (refl, cc)
 point_number Synchronised number cycle e = (refl, cc)
 
-point_of_timed : (state : State) (number : ℕ) → is_timed state ≡ true → point_in state number ≡ Some number
+pub point_of_timed : (state : State) (number : ℕ) → is_timed state ≡ true → point_in state number ≡ Some number
 point_of_timed Off number e = absurd cc
 point_of_timed Integrating number e = absurd cc
 point_of_timed Joining number e = refl
@@ -174,10 +174,14 @@ cleared_on s hs device t later u did =
     ∙ and_from _ _ joining.0 (and_from _ _ came.0 (int_le-true _ _ (onward _ (adjustment_before s hs device t).0 _ _ there fell)))
 
 -- a device with a next correction point, whose clock had come to it before a time, has a task that was due before it
-pub had_come_before : (s : Scenario) (hs : List Happening) (device : DeviceId) (t later : ℕ) (node : Node) → IsUnmoved s hs device t later
-    → IsLeft s hs device t node → HasDone s hs device t node → is_timed node.standing.state ≡ true
+pub had_come_by : (s : Scenario) (hs : List Happening) (device : DeviceId) (t later : ℕ) (node : Node) → IsUnmoved s hs device t later
+    → IsLeft s hs device t node
+    → ((cycle : ℕ) → IsDeedOf s.network device node (correcting cycle) → node.changed <ℤ correction_value s.network cycle
+    → Contains node.done (correcting cycle) → (x : ℕ) × (changed_at hs device t ≤ x) × (x < t)
+    × ((correction_value s.network cycle -ℤ node.standing.adjustment.0) ≤ℤ pos (s.reading device x)))
+    → is_timed node.standing.state ≡ true
     → has_cleared s hs device t t ≡ false → has_cleared s hs device later later ≡ true → node.broken ≡ false → HasTaskBy s device node (later - 1)
-had_come_before s hs device t later node u left has timed not_yet cleared sound =
+had_come_by s hs device t later node u left has timed not_yet cleared sound =
     let moved : has_cleared s hs device t later ≡ true = sym (cleared_still s hs device t later later u.le u.still) ∙ cleared in
     let joining = and_parts (is_integration_cycle (earlier t hs) device) _ moved in
     let came = and_parts (int_lt (local_at_change s hs device t) (correction_value s.network (recorded_cycle (earlier t hs) device))) _ joining.1 in
@@ -200,12 +204,19 @@ had_come_before s hs device t later node u left has timed not_yet cleared sound 
           own = own;
           ahead = before;
           not_yet = λ did.
-              let x = has.done (correcting node.standing.number) did in
+              let x = has node.standing.number own before did in
               both_ways _ not_yet (cleared_by_then s hs device t node x.0 left timed number joining.0 came.0 u.never_falls x.2 x.3);
         },
       ),
       come_back v node.standing.adjustment.0 (s.reading device (later - 1)) (s.reading device (later - 1)) reached (omega arith),
     )
+
+-- the same of what it has done before the time
+pub had_come_before : (s : Scenario) (hs : List Happening) (device : DeviceId) (t later : ℕ) (node : Node) → IsUnmoved s hs device t later
+    → IsLeft s hs device t node → HasDone s hs device t node → is_timed node.standing.state ≡ true
+    → has_cleared s hs device t t ≡ false → has_cleared s hs device later later ≡ true → node.broken ≡ false → HasTaskBy s device node (later - 1)
+had_come_before s hs device t later node u left has timed not_yet cleared sound =
+    had_come_by s hs device t later node u left (λ cycle own ahead there. has.done (correcting cycle) there) timed not_yet cleared sound
 
 later_still : (z : ℤ) (r m : ℕ) → z ≤ℤ pos r → r ≤ m → z ≤ℤ pos m
 later_still z r m le fell = omega (arith, ints, le, fell)

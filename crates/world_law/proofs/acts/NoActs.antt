@@ -17,23 +17,23 @@ use Rattle.net_plan.specs.declared.tables.Device.{Device}
 use Rattle.net_plan.specs.declared.tables.Role.{Role}
 use Rattle.run_law.proofs.law.FirstPlaces.{in_filter}
 use Rattle.run_law.proofs.runs.Places.{chain, in_left, in_parts, in_right}
-use Rattle.run_law.specs.device.LocalClocks.{changed_at}
 use Rattle.run_law.specs.control.Collections.{ends_stretch, point_by, points_of, observation_window}
 use Rattle.run_law.specs.control.Corrections.{next_cycle}
-use Rattle.run_law.specs.scenario.Devices.{has_role, start_of}
 use Rattle.run_law.specs.control.Emissions.{Emits}
-use Rattle.run_law.specs.records.Happenings.{Happening, earlier, happenings, time_of}
-use Rattle.run_law.specs.machines.Nodes.{Node}
-use Rattle.run_law.specs.records.Order.{IsBefore, IsIn}
-use Rattle.run_law.specs.records.Ranks.{place_of, rank}
-use Rattle.run_law.specs.scenario.Scenarios.{Scenario, is_broken, is_turned_on_at}
-use Rattle.run_law.specs.device.States.{state_after, state_before, state_with}
-use Rattle.run_law.specs.machines.Tasks.{emitting, reading_for}
 use Rattle.run_law.specs.declared.judgement.Judgement.{Judgement}
 use Rattle.run_law.specs.declared.judgement.Why.TheVariants.{On}
 use Rattle.run_law.specs.declared.note.Note.{Note}
 use Rattle.run_law.specs.declared.note.NoteBody.TheVariants as notes
 use Rattle.run_law.specs.declared.note.NoteBody.{NoteBody}
+use Rattle.run_law.specs.device.LocalClocks.{changed_at}
+use Rattle.run_law.specs.device.States.{state_after, state_before, state_with}
+use Rattle.run_law.specs.machines.Nodes.{Node}
+use Rattle.run_law.specs.machines.Tasks.{emitting, reading_for}
+use Rattle.run_law.specs.records.Happenings.{Happening, earlier, happenings, time_of}
+use Rattle.run_law.specs.records.Order.{IsBefore, IsIn}
+use Rattle.run_law.specs.records.Ranks.{place_of, rank}
+use Rattle.run_law.specs.scenario.Devices.{has_role, start_of}
+use Rattle.run_law.specs.scenario.Scenarios.{Scenario, is_broken, is_turned_on_at}
 use Rattle.sync_state.specs.Standing.{next_point, point_in, state_at_start}
 use Rattle.sync_state.specs.declared.state.State.TheVariants.{Integrating, Off, Synchronised}
 use Rattle.sync_state.specs.declared.state.State.{State}
@@ -77,7 +77,7 @@ no_point : (device : DeviceId) (z : Happening) (body : NoteBody) → 4 ≤ rank 
 no_point device z (notes.Permanent other link cause point verdict) high = absurd (omega (arith, high))
 no_point device z other high = refl
 
-points_same : (zs hs : List Happening) (device : DeviceId) → ((z : Happening) → IsIn z zs → IsQuiet device z.note.body × (4 ≤ rank z.note.body))
+pub points_same : (zs hs : List Happening) (device : DeviceId) → ((z : Happening) → IsIn z zs → IsQuiet device z.note.body × (4 ≤ rank z.note.body))
     → points_of (hs ++ zs) device ≡ points_of hs device
 points_same [] hs device quiet = ap (λ (l : List Happening). points_of l device) (append-nil hs)
 points_same (z ∷ zs) hs device quiet =

@@ -7,16 +7,16 @@ use Rattle.std.proofs.lemmas.Bool.{cases_Bool}
 use Rattle.std.proofs.lemmas.List.{map_push}
 use Rattle.net_plan.specs.declared.ids.DeviceId.{DeviceId}
 use Rattle.net_plan.specs.declared.network.Network.{Network}
-use Rattle.run_law.specs.device.LocalClocks.{changed_at, changes_adjustment}
 use Rattle.run_law.specs.control.Collections.{ends_stretch, point_by, points_of}
 use Rattle.run_law.specs.control.Corrections.{correction_value, cycle_after, has_cleared, hearing_by, heard_since, integration_cycle, recorded_cycle}
-use Rattle.run_law.specs.records.Happenings.{Happening, earlier, time_of}
-use Rattle.run_law.specs.machines.Nodes.{Node}
-use Rattle.run_law.specs.scenario.Scenarios.{Scenario, is_turned_on_at}
-use Rattle.run_law.specs.device.States.{adjustment_after, adjustment_before, adjustment_with, cycle_in, is_joined_by, state_after, state_with}
 use Rattle.run_law.specs.declared.judgement.Why.TheVariants as whys
 use Rattle.run_law.specs.declared.note.NoteBody.TheVariants as notes
 use Rattle.run_law.specs.declared.note.NoteBody.{NoteBody}
+use Rattle.run_law.specs.device.LocalClocks.{changed_at, changes_adjustment}
+use Rattle.run_law.specs.device.States.{adjustment_after, adjustment_before, adjustment_with, cycle_in, is_joined_by, state_after, state_with}
+use Rattle.run_law.specs.machines.Nodes.{Node}
+use Rattle.run_law.specs.records.Happenings.{Happening, earlier, time_of}
+use Rattle.run_law.specs.scenario.Scenarios.{Scenario, is_turned_on_at}
 use Rattle.sync_state.specs.declared.state.State.TheVariants.{Integrating}
 use Rattle.sync_state.specs.declared.state.State.{State}
 use Rattle.tte_units.specs.declared.units.Units.{Units}
@@ -147,7 +147,7 @@ integration_plain hs device t = ap (λ (l : List Happening). integration_cycle l
 recorded_plain : (hs : List Happening) (device : DeviceId) (t : ℕ) → recorded_cycle (earlier t (plains hs)) device ≡ recorded_cycle (earlier t hs) device
 recorded_plain hs device t = ap (λ (l : List Happening). recorded_cycle l device) (earlier_plain t hs) ∙ cycles_plain (earlier t hs) device
 
-before_plain : (s : Scenario) (hs : List Happening) (device : DeviceId) (t : ℕ) → adjustment_before s (plains hs) device t ≡ adjustment_before s hs device t
+pub before_plain : (s : Scenario) (hs : List Happening) (device : DeviceId) (t : ℕ) → adjustment_before s (plains hs) device t ≡ adjustment_before s hs device t
 before_plain s hs device t = ap (λ (l : List Happening). adjustment_after s l device) (earlier_plain t hs) ∙ adjustments_plain s (earlier t hs) device
 
 cleared_plain : (s : Scenario) (hs : List Happening) (device : DeviceId) (t by : ℕ) → has_cleared s (plains hs) device t by ≡ has_cleared s hs device t by

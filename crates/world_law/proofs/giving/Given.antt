@@ -16,22 +16,23 @@ use Rattle.pcf_values.specs.declared.pcf.Pcf.{Pcf}
 use Rattle.run_law.proofs.law.FirstPlaces.{numbered_next}
 use Rattle.run_law.proofs.runs.NetworkRuns.{one_more}
 use Rattle.run_law.proofs.runs.Places.{before_behind, before_later, before_next_time, chain, in_left, never_self, nothing_between}
-use Rattle.run_law.specs.device.LocalClocks.{changed_at}
-use Rattle.run_law.specs.records.Happenings.{Happening, earlier, happening, happenings, numbered, time_of, up_to}
-use Rattle.run_law.specs.scenario.Hypothesis.{breaks_at}
-use Rattle.run_law.specs.machines.Nodes.{Node}
-use Rattle.run_law.specs.records.Order.{IsBefore, IsIn, behind}
 use Rattle.run_law.specs.control.Permanence.{IsPermanent}
-use Rattle.run_law.specs.records.Ranks.{key, members_in, place_of, rank}
-use Rattle.run_law.specs.runs.DueRecords.{IsCaused, IsDue, IsEventRecord, IsScenarioRun}
-use Rattle.run_law.specs.scenario.Scenarios.{Scenario, events_up_to, is_broken}
-use Rattle.run_law.specs.device.States.{adjustment_after, state_after}
 use Rattle.run_law.specs.declared.note.Note.{Note}
 use Rattle.run_law.specs.declared.note.NoteBody.TheVariants as kinds
 use Rattle.run_law.specs.declared.note.NoteBody.{NoteBody}
+use Rattle.run_law.specs.device.LocalClocks.{changed_at}
+use Rattle.run_law.specs.device.States.{adjustment_after, state_after}
+use Rattle.run_law.specs.machines.Nodes.{Node}
+use Rattle.run_law.specs.records.Happenings.{Happening, earlier, happening, happenings, numbered, time_of, up_to}
+use Rattle.run_law.specs.records.Order.{IsBefore, IsIn, behind}
+use Rattle.run_law.specs.records.Ranks.{key, members_in, place_of, rank}
+use Rattle.run_law.specs.runs.DueRecords.{IsCaused, IsDue, IsEventRecord, IsScenarioRun}
+use Rattle.run_law.specs.scenario.Hypothesis.{breaks_at}
+use Rattle.run_law.specs.scenario.Scenarios.{Scenario, events_up_to, is_broken}
 use Rattle.sync_state.specs.declared.state.State.TheVariants.{Off}
 use Rattle.tte_units.specs.Amount.{amount, units_of}
 use Rattle.tte_units.specs.declared.units.Units.{Units}
+use Rattle.world_law.proofs.acts.Recorded.{recorded_given}
 use Rattle.world_law.proofs.giving.GivenParts.{IsGiving, settled_then, up_to_place, worked_by_then}
 use Rattle.world_law.proofs.giving.Naming.{IsFollowing, named_right, shown_as}
 use Rattle.world_law.proofs.lists.Lists.{filter_same}
@@ -275,6 +276,8 @@ kept_then stands s hs z rest mark cursor now device machine g k =
             befell = record { there = numbered_still hs z was.event was.number was.befell.there; same_time = was.befell.same_time };
             turned = λ b. subst (λ (l : List Happening). IsTurnedOnBy l device now) parts (was.turned (g.are.begun z (inl refl)));
           };
+      cleared = k.cleared;
+      recorded = λ same. recorded_given s hs rest z now device k.node (k.recorded same);
       phase = λ at p b. g.are.not_past z (inl refl) p (k.phase at p b);
     }
 

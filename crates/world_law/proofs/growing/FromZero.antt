@@ -28,6 +28,7 @@ use Rattle.run_law.specs.declared.steps.Arrival.TheVariants as arrivals
 use Rattle.run_law.specs.declared.steps.Arrival.{Arrival}
 use Rattle.run_law.specs.device.Standpoints.{Standpoint, clock_of, cycle_at, standpoint}
 use Rattle.run_law.specs.device.States.{cycle_in}
+use Rattle.run_law.specs.machines.Nodes.{Node}
 use Rattle.run_law.specs.records.Happenings.{Happening, time_of, with_clock}
 use Rattle.run_law.specs.records.Order.{IsIn}
 use Rattle.run_law.specs.records.Ranks.{members_in, place_of}
@@ -37,7 +38,6 @@ use Rattle.run_law.specs.scenario.Devices.{is_end, is_parent_of, is_relay}
 use Rattle.run_law.specs.scenario.Scenarios.{Scenario}
 use Rattle.run_law.specs.timed.Arrivals.{entry_arrival, entry_entering, octets_fault, octets_or_fault, row_fault, taken_or_fault}
 use Rattle.run_law.specs.timed.Receptions.{arrival_of, last_taken}
-use Rattle.run_law.specs.machines.Nodes.{Node}
 use Rattle.schedule_tables.specs.declared.entry.Entry.{Entry}
 use Rattle.transparent_clock.specs.Points.{point_of}
 use Rattle.tte_units.specs.Amount.{amount}
@@ -139,7 +139,8 @@ point_natural : (reading clock : ℕ) (dmax point : Units) → point.0 ≡ point
     → pos 0 ≤ℤ point.0
 point_natural reading clock dmax point at le some = let whole = natural dmax.0 some in omega (arith, ints, at, le, whole)
 
-permanent_natural : (s : Scenario) (hs : List Happening) (device : DeviceId) (t : ℕ) (link : LinkId) (cause : ℕ) (frame : Pcf) (point : Units)
+-- nor was any frame permanent at a point before it
+pub permanent_natural : (s : Scenario) (hs : List Happening) (device : DeviceId) (t : ℕ) (link : LinkId) (cause : ℕ) (frame : Pcf) (point : Units)
     → IsInRange s.network → IsFounded place_of (IsDue s) hs → IsPermanent s hs device t link cause frame point → pos 0 ≤ℤ point.0
 permanent_natural s hs device t link cause frame point range founded p =
     let at = founded_at s hs p.arrival founded (numbered_in hs cause p.arrival p.there) in

@@ -11,6 +11,7 @@ use Rattle.run_law.specs.records.Happenings.{Happening}
 use Rattle.run_law.specs.records.Order.{IsBefore}
 use Rattle.run_law.specs.scenario.Scenarios.{Scenario}
 use Rattle.world_law.proofs.acts.Acted.{IsAlike, undone_alike, waiting_alike}
+use Rattle.world_law.proofs.acts.Recorded.{recorded_alike}
 use Rattle.world_law.specs.device.Ready.{IsReadyAt}
 use Rattle.world_law.specs.device.Left.{HasTaskBy, IsLeft}
 use Rattle.world_law.specs.world.Calls.{moment_of}
@@ -111,6 +112,8 @@ kept_by stands then_ s hs coming cursor now device machine k is = record {
   ready = k.ready;
   still = k.still;
   turned = k.turned;
+  cleared = k.cleared;
+  recorded = k.recorded;
   phase = k.phase;
 }
 
@@ -145,6 +148,8 @@ kept_called stands s hs coming cursor now device machine after phase k come =
       ready = ready_called s now device k.node phase k.ready;
       still = k.still;
       turned = k.turned;
+      cleared = k.cleared;
+      recorded = λ same. recorded_alike s (hs ++ coming) coming now device k.node (called m phase k.node) refl refl refl (k.recorded same);
       phase = λ at p b. come p b;
     }
 

@@ -12,13 +12,14 @@ use Rattle.run_law.specs.declared.steps.Arrival.{Arrival}
 use Rattle.run_law.specs.machines.Answers.{after_arrival, arrival_at, called}
 use Rattle.run_law.specs.machines.Calls.{MayArrive}
 use Rattle.run_law.specs.machines.Nodes.{Node, TakenFrame, arriving}
-use Rattle.run_law.specs.records.Happenings.{Happening}
+use Rattle.run_law.specs.records.Happenings.{Happening, time_of}
 use Rattle.run_law.specs.records.Order.{IsBefore, behind}
 use Rattle.run_law.specs.records.Ranks.{place_of, rank}
 use Rattle.run_law.specs.scenario.Devices.{is_end}
 use Rattle.run_law.specs.scenario.Scenarios.{Scenario}
 use Rattle.run_law.specs.timed.Receptions.{arrival_of}
 use Rattle.tte_units.specs.Amount.{amount}
+use Rattle.world_law.proofs.acts.Recorded.{is_sending}
 use Rattle.world_law.proofs.hearing.Called.{After, kept_by, kept_called, out_called}
 use Rattle.world_law.proofs.hearing.Calling.{may_call}
 use Rattle.world_law.proofs.hearing.Judging.{broken_drops, out_drops}
@@ -111,6 +112,15 @@ quiet_body device of link cause (arrivals.PassesAndWaits frame way point) = refl
 quiet_body device of link cause (arrivals.Accepted vl cycle) = refl
 quiet_body device of link cause (arrivals.Delivered vl cycle) = refl
 
+-- and it is no sending
+sends_nothing : (device of : DeviceId) (link : LinkId) (cause : ℕ) (is : Arrival) → is_sending device (arrival_body of link cause is) ≡ false
+sends_nothing device of link cause (arrivals.Dropped reason) = refl
+sends_nothing device of link cause (arrivals.Waits frame point) = refl
+sends_nothing device of link cause (arrivals.Passes frame way) = refl
+sends_nothing device of link cause (arrivals.PassesAndWaits frame way point) = refl
+sends_nothing device of link cause (arrivals.Accepted vl cycle) = refl
+sends_nothing device of link cause (arrivals.Delivered vl cycle) = refl
+
 -- and another device takes nothing by it
 pub others_take : (device of : DeviceId) (link : LinkId) (cause : ℕ) (is : Arrival) → (device.0 == of.0) ≡ false
     → IsNoTaking device (arrival_body of link cause is)
@@ -126,6 +136,7 @@ pub quiet_for : {M : Type 0} (stands : M → Network → DeviceId → Node → T
     → (device : DeviceId) → IsQuiet hs front back w device
 quiet_for stands s hs front back mark cursor now e is w a r device = record {
   bears = ap (bears_on device) r.body ∙ quiet_body device e.device e.link e.cause is;
+  sends = ap (is_sending device) r.body ∙ sends_nothing device e.device e.link e.cause is;
   sooner = λ h i.
       let at = r.at in
       elim (in_parts h hs (front ++ back) i) [
@@ -143,16 +154,17 @@ four_not now device more same = let four : ◌≡◌ {A = ℕ} 4 2 = cc in omega
 plain_there : {M : Type 0} (stands : M → Network → DeviceId → Node → Type 0) (s : Scenario) (n : ℕ) (hs front back : List Happening) (mark cursor : List ℕ)
     (now : ℕ)
     (e : OnWire) (machine heard : M) (w : Happening) → IsMoving s hs (front ++ back) mark cursor now 2 (e.device.0 ∷ e.link.0 ∷ e.cause ∷ [])
-    → IsQuiet hs front back w e.device → IsNoTaking e.device w.note.body
+    → IsQuiet hs front back w e.device → time_of w ≡ now → IsNoTaking e.device w.note.body
     → (k : IsKept stands s hs (front ++ back) cursor now e.device machine)
     → stands heard s.network e.device (called (moment_of s e.device now) arriving k.node)
     → IsHeld stands s hs (placed n front w back) (behind (now ∷ 2 ∷ e.device.0 ∷ e.link.0 ∷ e.cause ∷ [])) now e.device heard
-plain_there stands s n hs front back mark cursor now e machine heard w moving quiet none k is =
+plain_there stands s n hs front back mark cursor now e machine heard w moving quiet at none k is =
     let more = e.device.0 ∷ e.link.0 ∷ e.cause ∷ [] in
     let by = After stands heard (called (moment_of s e.device now) arriving) in
     let on = kept_moves by s hs (front ++ back) mark cursor now 2 more e.device machine moving (four_not now e.device more)
     (kept_by stands by s hs (front ++ back) cursor now e.device machine k is) in
-    held_aside stands s n hs front back (behind (now ∷ 2 ∷ more)) now e.device heard w quiet.bears (frames_aside s n hs front back w e.device quiet none)
+    held_aside stands s n hs front back (behind (now ∷ 2 ∷ more)) now e.device heard w quiet.bears quiet.sends at
+    (frames_aside s n hs front back w e.device quiet none)
     (inl (kept_called stands s hs (front ++ back) (behind (now ∷ 2 ∷ more)) now e.device machine heard arriving on (after_here s now e)))
 
 -- no place behind it, and before what acts, is before the cursor
@@ -227,15 +239,19 @@ kept_there stands s n hs front back mark cursor now e machine heard octets resul
     (self_takes e.device vl cycle)) h.steady h.precise k is
 kept_there stands s n hs front back mark cursor now e machine heard octets result (arrivals.Dropped reason) w h r so k is =
     plain_there stands s n hs front back mark cursor now e machine heard w h.moving (quiet_for stands s hs front back mark cursor now e _ w h.given r e.device)
+    r.at
     (λ at. ap (taken_in e.device at) r.body) k is
 kept_there stands s n hs front back mark cursor now e machine heard octets result (arrivals.Waits frame point) w h r so k is =
     plain_there stands s n hs front back mark cursor now e machine heard w h.moving (quiet_for stands s hs front back mark cursor now e _ w h.given r e.device)
+    r.at
     (λ at. ap (taken_in e.device at) r.body) k is
 kept_there stands s n hs front back mark cursor now e machine heard octets result (arrivals.Passes frame way) w h r so k is =
     plain_there stands s n hs front back mark cursor now e machine heard w h.moving (quiet_for stands s hs front back mark cursor now e _ w h.given r e.device)
+    r.at
     (λ at. ap (taken_in e.device at) r.body) k is
 kept_there stands s n hs front back mark cursor now e machine heard octets result (arrivals.PassesAndWaits frame way point) w h r so k is =
     plain_there stands s n hs front back mark cursor now e machine heard w h.moving (quiet_for stands s hs front back mark cursor now e _ w h.given r e.device)
+    r.at
     (λ at. ap (taken_in e.device at) r.body) k is
 
 -- a broken device takes nothing, and is kept
@@ -253,7 +269,7 @@ held_there stands s n hs front back mark cursor now e machine heard octets resul
 held_there stands s n hs front back mark cursor now e machine heard octets result is w h r so (inr k) =
     let quiet = quiet_for stands s hs front back mark cursor now e is w h.given r e.device in
     let dropped = so ∙ broken_drops s (hs ++ (front ++ back)) e.device now e.link e.cause e.signal k.broken in
-    held_aside stands s n hs front back (behind (now ∷ 2 ∷ e.device.0 ∷ e.link.0 ∷ e.cause ∷ [])) now e.device heard w quiet.bears
+    held_aside stands s n hs front back (behind (now ∷ 2 ∷ e.device.0 ∷ e.link.0 ∷ e.cause ∷ [])) now e.device heard w quiet.bears quiet.sends r.at
     (frames_aside s n hs front back w e.device quiet
     (λ at. ap (taken_in e.device at) (r.body ∙ ap (arrival_body e.device e.link e.cause) dropped)))
     (inr (out_heard stands s hs (front ++ back) mark cursor now e machine heard octets result h k).1)

@@ -1,5 +1,5 @@
 -- A record that bears on no device is put in among those of its instant: what each device took, and the device that took a frame by it.
-use Rattle.std.proofs.Common.{◌≡◌, ℕ, ◌≤◌, ℤ, pos, ◌+ℤ◌, ◌≤ℤ◌, false, List, [], ◌∷◌, ◌++◌, map, append_assoc, inl, inr, sym, ap, subst, ◌∙◌}
+use Rattle.std.proofs.Common.{◌≡◌, ℕ, ◌≤◌, ℤ, pos, ◌+ℤ◌, ◌≤ℤ◌, false, List, [], ◌∷◌, ◌++◌, map, append_assoc, inl, inr, refl, sym, ap, subst, ◌∙◌}
 use Rattle.net_plan.specs.declared.ids.DeviceId.{DeviceId}
 use Rattle.net_plan.specs.declared.ids.VlId.{VlId}
 use Rattle.net_plan.specs.declared.network.Network.{Network}
@@ -10,6 +10,7 @@ use Rattle.run_law.specs.records.Order.{IsBefore, IsIn}
 use Rattle.run_law.specs.scenario.Scenarios.{Scenario}
 use Rattle.tte_units.specs.Amount.{amount}
 use Rattle.tte_units.specs.declared.units.Units.{Units}
+use Rattle.world_law.proofs.acts.Recorded.{is_sending, recorded_alike, recorded_put}
 use Rattle.world_law.proofs.devices.Borne.{moves_no_other}
 use Rattle.world_law.proofs.hearing.Called.{After}
 use Rattle.world_law.proofs.hearing.Took.{done_took, left_took, ready_took, sent_took, took}
@@ -30,6 +31,7 @@ use Rattle.world_law.specs.world.World.{IsKept}
 -- the record, as it is put in, bears on the device by nothing, and is not earlier than any other
 pub record IsQuiet (hs front back : List Happening) (w : Happening) (device : DeviceId) : Type 0 where
   pub bears : bears_on device w.note.body ≡ false
+  pub sends : is_sending device w.note.body ≡ false
   pub sooner : (h : Happening) → IsIn h (hs ++ (front ++ back)) → time_of h ≤ time_of w
 
 -- a device that takes none by it has taken the same
@@ -105,5 +107,10 @@ kept_taking stands s n hs front back w cursor now device machine after vl cycle 
       ready = ready_took s now device k.node vl cycle steady precise k.ready;
       still = λ same. still_aside s n hs front back now device w (moves_no_other device w.note.body none) (k.still same);
       turned = λ on. turned_aside s n hs front back cursor now device w (k.turned on) (earlier_aside s n hs front back w device now none);
+      cleared = k.cleared;
+      recorded = λ same.
+          recorded_put s hs front back (placed n front w back) now device (took m vl cycle k.node) w (plains_placed n front back w) t.at
+          (none, inl t.quiet.sends)
+          (recorded_alike s (hs ++ (front ++ back)) (front ++ back) now device k.node (took m vl cycle k.node) refl refl refl (k.recorded same));
       phase = λ same p b. come p b;
     }

@@ -7,20 +7,10 @@ use Rattle.net_plan.specs.declared.ids.LinkId.{LinkId}
 use Rattle.net_plan.specs.declared.ids.VlId.{VlId}
 use Rattle.net_plan.specs.declared.network.Network.{Network}
 use Rattle.pcf_values.specs.declared.pcf.Pcf.{Pcf}
-use Rattle.run_law.specs.records.Causes.{cause_of}
 use Rattle.run_law.specs.control.Arrivals.{control_arrival}
-use Rattle.run_law.specs.records.Frames.{tt_frame}
-use Rattle.run_law.specs.records.Happenings.{Happening, earlier, frame_by, happening, numbered, octets_by, up_to, with_clock}
 use Rattle.run_law.specs.control.Leaving.{Departs, Departure}
-use Rattle.run_law.specs.control.Permanence.{BecomesPermanent, before_permanence}
-use Rattle.run_law.specs.records.Ranks.{rank}
-use Rattle.run_law.specs.timed.Receptions.{ArrivesAs, arrival_of, last_taken}
 use Rattle.run_law.specs.control.Losses.{IsDropped, IsLost, IsSendLost}
-use Rattle.run_law.specs.runs.DueRecords.{IsCaused}
-use Rattle.run_law.specs.scenario.Scenarios.{Scenario, is_broken, is_turned_on_at}
-use Rattle.run_law.specs.device.Standpoints.{Standpoint}
-use Rattle.run_law.specs.device.States.{adjustment_after, is_off, state_after}
-use Rattle.run_law.specs.timed.Arrivals.{timed_arrival}
+use Rattle.run_law.specs.control.Permanence.{BecomesPermanent, before_permanence}
 use Rattle.run_law.specs.control.Wires.{Signal, control, timed}
 use Rattle.run_law.specs.declared.judgement.Reason.{Reason}
 use Rattle.run_law.specs.declared.note.Note.{Note}
@@ -28,6 +18,16 @@ use Rattle.run_law.specs.declared.note.NoteBody.TheVariants as notes
 use Rattle.run_law.specs.declared.note.NoteBody.{NoteBody}
 use Rattle.run_law.specs.declared.steps.Arrival.{Arrival}
 use Rattle.run_law.specs.declared.steps.Ripe.{Ripe}
+use Rattle.run_law.specs.device.Standpoints.{Standpoint}
+use Rattle.run_law.specs.device.States.{adjustment_after, is_off, state_after}
+use Rattle.run_law.specs.records.Causes.{cause_of}
+use Rattle.run_law.specs.records.Frames.{tt_frame}
+use Rattle.run_law.specs.records.Happenings.{Happening, earlier, frame_by, happening, numbered, octets_by, up_to, with_clock}
+use Rattle.run_law.specs.records.Ranks.{rank}
+use Rattle.run_law.specs.runs.DueRecords.{IsCaused}
+use Rattle.run_law.specs.scenario.Scenarios.{Scenario, is_broken, is_turned_on_at}
+use Rattle.run_law.specs.timed.Arrivals.{timed_arrival}
+use Rattle.run_law.specs.timed.Receptions.{ArrivesAs, arrival_of, last_taken}
 use Rattle.sync_state.specs.declared.state.State.TheVariants.{Integrating}
 use Rattle.tte_units.specs.Amount.{amount}
 use Rattle.tte_units.specs.declared.units.Units.{Units}
@@ -163,7 +163,7 @@ pub own_alike : (s : Scenario) (t known members : ℕ) (js gs : List Happening) 
 own_alike s t known members js gs (notes.Left device link cause clock) w a late le o = o
 own_alike s t known members js gs (notes.Lost device link cause) w a late le (inl d) = inl (d.0, departs_alike s t known js gs device link cause _ a le d.1)
 own_alike s t known members js gs (notes.Lost device link cause) w a late le (inr (inl d)) =
-    inr (inl (d.0, (d.1.0, d.1.1, dispatches_back s js gs t device link cause d.1.0 d.1.1 a.before d.1.2)))
+    inr (inl (d.0, (d.1.0, d.1.1, dispatches_back s js gs t device link cause d.1.0 d.1.1 a.before d.1.2, d.1.3)))
 own_alike s t known members js gs (notes.Lost device link cause) w a late le (inr (inr l)) =
     inr (inr (l.0, send_alike s t known js gs device link cause a le l.1))
 own_alike s t known members js gs (notes.TtSent device link cause vl cycle) w a late le o = o

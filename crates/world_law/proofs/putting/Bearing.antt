@@ -1,28 +1,31 @@
 -- A device on which a record does not bear stands with it as without it.
-use Rattle.std.proofs.Common.{◌≡◌, ◌⊎◌, ℕ, ◌≤◌, false, if◌then◌else◌, List, ◌∷◌, ◌++◌, length, map, append_assoc, inl, inr, refl, sym, ap, subst, ◌∙◌}
+use Rattle.std.proofs.Common.{pos, ◌+ℤ◌, ◌≡◌, ◌⊎◌, ℕ, ◌≤◌, false, if◌then◌else◌, List, ◌∷◌, ◌++◌, length, map, append_assoc, inl, inr, refl, sym, ap, subst, ◌∙◌}
 use Rattle.std.specs.Prelude.{nat_le, nat_lt}
 use Rattle.net_plan.specs.declared.ids.DeviceId.{DeviceId}
 use Rattle.net_plan.specs.declared.network.Network.{Network}
 use Rattle.run_law.proofs.runs.Places.{in_left, in_parts, in_right}
 use Rattle.run_law.specs.declared.note.NoteBody.{NoteBody}
-use Rattle.run_law.specs.device.LocalClocks.{changed_at}
+use Rattle.run_law.specs.device.LocalClocks.{changed_at, local_before}
 use Rattle.run_law.specs.device.States.{adjustment_after, adjustment_with, cycle_in, state_after, state_before, state_with}
-use Rattle.run_law.specs.machines.Nodes.{Node}
+use Rattle.run_law.specs.machines.Nodes.{Node, TakenFrame}
 use Rattle.run_law.specs.records.Happenings.{Happening, earlier, time_of, up_to}
 use Rattle.run_law.specs.records.Order.{IsIn}
 use Rattle.run_law.specs.scenario.Scenarios.{Scenario, is_turned_on_at}
-use Rattle.sync_state.specs.declared.state.State.{State}
 use Rattle.sync_state.specs.declared.state.State.TheVariants.{Integrating}
+use Rattle.sync_state.specs.declared.state.State.{State}
+use Rattle.tte_units.specs.declared.units.Units.{Units}
+use Rattle.world_law.proofs.acts.Recorded.{is_sending, recorded_put}
 use Rattle.world_law.proofs.devices.Borne.{left_alike, moves_no_other, tell_alike}
 use Rattle.world_law.proofs.devices.OwnRecords.{keeps_adjustment, keeps_state}
 use Rattle.world_law.proofs.devices.Plains.{adjustments_plain, changes_at_plain, earlier_plain, states_plain, told_by_others}
 use Rattle.world_law.proofs.putting.Bumped.{bump_behind, in_placed, placed, placed_in, raised, raised_moves, raised_turning}
 use Rattle.world_law.proofs.putting.Idle.{drop_one, fold_skip, up_to_plain}
 use Rattle.world_law.proofs.putting.NearPut.{plains_placed}
+use Rattle.world_law.proofs.rows.Takings.{IsNoTaking, frames_plain, taken_parts, taken_same}
 use Rattle.world_law.specs.device.Deeds.{HasDoneFrom}
 use Rattle.world_law.specs.device.Left.{IsLeft}
 use Rattle.world_law.specs.device.Own.{bears_on, borne, moves}
-use Rattle.world_law.specs.device.Takings.{frames_taken}
+use Rattle.world_law.specs.device.Takings.{frames_taken, taken_by}
 use Rattle.world_law.specs.world.World.{AreOfNetwork, HasTurnedOn, IsAtRest, IsHeld, IsKept, is_turning}
 
 -- ---- by lists
@@ -212,13 +215,32 @@ turned_aside s n hs front back cursor now device w it same = record {
       };
 }
 
+-- what the device took is told alike, where it takes nothing by the record
+pub frames_aside : (s : Scenario) (n : ℕ) (hs front back : List Happening) (w : Happening) (device : DeviceId) → bears_on device w.note.body ≡ false
+    → IsNoTaking device w.note.body → frames_taken s (hs ++ (front ++ back)) device ≡ frames_taken s (hs ++ placed n front w back) device
+frames_aside s n hs front back w device misses takes =
+    let old = (hs ++ front) ++ back in
+    let mid = (hs ++ front) ++ w ∷ back in
+    ap (λ (l : List Happening). frames_taken s l device) (sym (append_assoc hs front back))
+    ∙ taken_same device (local_before s old device) (local_before s mid device) old
+    (λ h i. ap (λ (u : Units). pos (s.reading device (time_of h)) +ℤ u.0)
+    (tell_alike s old mid device (time_of h) (borne_aside (hs ++ front) back w device misses)).adjustment)
+    ∙ taken_parts device (local_before s mid device) (hs ++ front) back
+    ∙ ap (λ (l : List TakenFrame). taken_by device (local_before s mid device) (hs ++ front) ++ (l ++ taken_by device (local_before s mid device) back))
+    (sym (takes (local_before s mid device (time_of w))))
+    ∙ sym (taken_parts device (local_before s mid device) (hs ++ front) (w ∷ back))
+    ∙ sym (frames_plain s mid device) ∙ ap (λ (l : List Happening). frames_taken s l device) (plains_placed n (hs ++ front) back w)
+    ∙ frames_plain s ((hs ++ front) ++ w ∷ map (bump_behind n) back) device
+    ∙ ap (λ (l : List Happening). frames_taken s l device) (append_assoc hs front (w ∷ map (bump_behind n) back))
+
 -- ---- the device
 
 pub kept_aside : {M : Type 0} (stands : M → Network → DeviceId → Node → Type 0) (s : Scenario) (n : ℕ) (hs front back : List Happening) (cursor : List ℕ)
     (now : ℕ) (device : DeviceId) (machine : M) (w : Happening) → bears_on device w.note.body ≡ false
-    → frames_taken s (hs ++ (front ++ back)) device ≡ frames_taken s (hs ++ placed n front w back) device
+    → is_sending device w.note.body ≡ false → time_of w ≡ now → frames_taken s (hs ++ (front ++ back)) device ≡ frames_taken s (hs ++ placed n front w back)
+    device
     → IsKept stands s hs (front ++ back) cursor now device machine → IsKept stands s hs (placed n front w back) cursor now device machine
-kept_aside stands s n hs front back cursor now device machine w misses frames k = record {
+kept_aside stands s n hs front back cursor now device machine w misses sends at frames k = record {
   node = k.node;
   is = k.is;
   sound = k.sound;
@@ -239,17 +261,21 @@ kept_aside stands s n hs front back cursor now device machine w misses frames k 
   ready = k.ready;
   still = λ same. still_aside s n hs front back now device w (moves_no_other device w.note.body misses) (k.still same);
   turned = λ on. turned_aside s n hs front back cursor now device w (k.turned on) (earlier_aside s n hs front back w device now misses);
+  cleared = k.cleared;
+  recorded =
+      λ same. recorded_put s hs front back (placed n front w back) now device k.node w (plains_placed n front back w) at (misses, inl sends) (k.recorded same);
   phase = k.phase;
 }
 
 -- the device, sound or broken, stands with the record as without it
 pub held_aside : {M : Type 0} (stands : M → Network → DeviceId → Node → Type 0) (s : Scenario) (n : ℕ) (hs front back : List Happening) (cursor : List ℕ)
     (now : ℕ) (device : DeviceId) (machine : M) (w : Happening) → bears_on device w.note.body ≡ false
-    → frames_taken s (hs ++ (front ++ back)) device ≡ frames_taken s (hs ++ placed n front w back) device
+    → is_sending device w.note.body ≡ false → time_of w ≡ now → frames_taken s (hs ++ (front ++ back)) device ≡ frames_taken s (hs ++ placed n front w back)
+    device
     → IsHeld stands s hs (front ++ back) cursor now device machine → IsHeld stands s hs (placed n front w back) cursor now device machine
-held_aside stands s n hs front back cursor now device machine w misses frames (inl k) =
-    inl (kept_aside stands s n hs front back cursor now device machine w misses frames k)
-held_aside stands s n hs front back cursor now device machine w misses frames (inr k) = inr (record {
+held_aside stands s n hs front back cursor now device machine w misses sends at frames (inl k) =
+    inl (kept_aside stands s n hs front back cursor now device machine w misses sends at frames k)
+held_aside stands s n hs front back cursor now device machine w misses sends at frames (inr k) = inr (record {
   node = k.node;
   is = k.is;
   broken = k.broken;

@@ -1,22 +1,22 @@
 -- The cursor comes to the source that comes first, and stays there: a device acts at it, and has more to do.
 use Rattle.std.proofs.Common.{◌≡◌, ℕ, ℤ, pos, ◌+◌, ◌<◌, Bool, true, false, List, [], ◌∷◌, ◌++◌, length, map, slice_get, Some, inl, inr, refl, sym, ap, subst, ◌∙◌, arith}
 use Rattle.net_plan.specs.declared.ids.DeviceId.{DeviceId}
+use Rattle.net_plan.specs.declared.ids.LinkId.{LinkId}
 use Rattle.net_plan.specs.declared.network.Network.{Network}
 use Rattle.pcf_values.specs.declared.pcf.Pcf.{Pcf}
-use Rattle.net_plan.specs.declared.ids.LinkId.{LinkId}
 use Rattle.run_law.proofs.runs.Places.{before_behind, before_later, before_next_time, before_or_not}
+use Rattle.run_law.specs.declared.note.Note.{Note}
 use Rattle.run_law.specs.declared.note.NoteBody.TheVariants as kinds
-use Rattle.transparent_clock.specs.Points.{point_of}
-use Rattle.tte_units.specs.declared.units.Units.{Units}
 use Rattle.run_law.specs.machines.Nodes.{Node}
 use Rattle.run_law.specs.records.Happenings.{Happening, happenings, numbered, time_of}
 use Rattle.run_law.specs.records.Order.{IsBefore, IsIn, behind}
 use Rattle.run_law.specs.scenario.Scenarios.{Scenario}
-use Rattle.run_law.specs.declared.note.Note.{Note}
+use Rattle.transparent_clock.specs.Points.{point_of}
 use Rattle.tte_units.specs.Amount.{amount}
+use Rattle.tte_units.specs.declared.units.Units.{Units}
 use Rattle.world_law.proofs.giving.Given.{some_same}
-use Rattle.world_law.proofs.putting.Moving.{IsMoving, out_moves, stays}
 use Rattle.world_law.proofs.giving.GivenParts.{up_to_place}
+use Rattle.world_law.proofs.putting.Moving.{IsMoving, out_moves, stays}
 use Rattle.world_law.proofs.putting.StandsOn.{source_told}
 use Rattle.world_law.proofs.runs.SourcesBack.{no_higher}
 use Rattle.world_law.specs.source.Sources.{IsRipening, IsSource}
@@ -114,6 +114,8 @@ kept_comes stands s hs coming mark cursor now r more device machine m k = record
   ready = k.ready;
   still = k.still;
   turned = λ on. turned_comes s hs coming mark cursor now r more device m (k.turned on);
+  cleared = k.cleared;
+  recorded = k.recorded;
   phase = λ at p b. comes s hs coming mark cursor now r more m p (k.phase at p b);
 }
 

@@ -5,8 +5,8 @@ use Rattle.net_plan.specs.declared.ids.DeviceId.{DeviceId}
 use Rattle.net_plan.specs.declared.network.Network.{Network}
 use Rattle.pcf_values.specs.declared.pcf.Pcf.{Pcf}
 use Rattle.run_law.proofs.runs.Places.{before_behind, before_later, before_or_not, chain, either_way, in_left}
-use Rattle.run_law.specs.records.Happenings.{Happening, time_of}
 use Rattle.run_law.specs.machines.Nodes.{Node}
+use Rattle.run_law.specs.records.Happenings.{Happening, time_of}
 use Rattle.run_law.specs.records.Order.{AllBefore, IsBefore, IsIn, NoneBefore, behind}
 use Rattle.run_law.specs.records.Ranks.{members_in, place_of}
 use Rattle.run_law.specs.runs.DueRecords.{IsDue}
@@ -186,7 +186,7 @@ waiting_moves s hs coming mark cursor now r more waiting m other are = record {
 
 -- ---- a device, which is not the one that acts
 
-turned_moves : (s : Scenario) (hs coming : List Happening) (mark cursor : List ℕ) (now r : ℕ) (more : List ℕ) (device : DeviceId)
+pub turned_moves : (s : Scenario) (hs coming : List Happening) (mark cursor : List ℕ) (now r : ℕ) (more : List ℕ) (device : DeviceId)
     → IsMoving s hs coming mark cursor now r more → HasTurnedOn s hs coming cursor device now → HasTurnedOn s hs coming (behind (now ∷ r ∷ more)) device now
 turned_moves s hs coming mark cursor now r more device m it = record {
   off = it.off;
@@ -234,6 +234,8 @@ kept_moves stands s hs coming mark cursor now r more device machine m other k = 
   ready = k.ready;
   still = k.still;
   turned = λ on. turned_moves s hs coming mark cursor now r more device m (k.turned on);
+  cleared = k.cleared;
+  recorded = k.recorded;
   phase = λ at p b. stays s hs coming mark cursor now r more m p (k.phase at p b);
 }
 

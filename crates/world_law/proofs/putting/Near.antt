@@ -23,8 +23,8 @@ use Rattle.run_law.specs.control.Permanence.{BecomesPermanent, IsJudgedBy, befor
 use Rattle.run_law.specs.control.Wires.{Signal, control, timed}
 use Rattle.run_law.specs.declared.judgement.Judgement.{Judgement}
 use Rattle.run_law.specs.declared.judgement.Reason.{Reason}
-use Rattle.run_law.specs.declared.judgement.Why.{Why}
 use Rattle.run_law.specs.declared.judgement.Why.TheVariants as whys
+use Rattle.run_law.specs.declared.judgement.Why.{Why}
 use Rattle.run_law.specs.declared.note.Note.{Note}
 use Rattle.run_law.specs.declared.note.NoteBody.TheVariants as notes
 use Rattle.run_law.specs.declared.note.NoteBody.{NoteBody}
@@ -40,14 +40,14 @@ use Rattle.run_law.specs.runs.DueRecords.{IsCaused, IsDue}
 use Rattle.run_law.specs.runs.Runs.{IsFounded}
 use Rattle.run_law.specs.scenario.Devices.{plan_of}
 use Rattle.run_law.specs.scenario.Scenarios.{Scenario, is_turned_on_at}
+use Rattle.run_law.specs.timed.Arrivals.{timed_arrival}
 use Rattle.run_law.specs.timed.Dispatching.{Dispatches, is_accepted}
 use Rattle.run_law.specs.timed.Receptions.{ArrivesAs, arrival_of, last_taken}
-use Rattle.run_law.specs.timed.Arrivals.{timed_arrival}
 use Rattle.sync_state.specs.Standing.{Standing, next_point}
 use Rattle.sync_state.specs.Verdicts.{HasVerdict}
 use Rattle.sync_state.specs.declared.answers.Verdict.{Verdict}
-use Rattle.sync_state.specs.declared.state.State.{State}
 use Rattle.sync_state.specs.declared.state.State.TheVariants.{Integrating, Joining}
+use Rattle.sync_state.specs.declared.state.State.{State}
 use Rattle.tte_units.specs.Amount.{amount}
 use Rattle.tte_units.specs.declared.units.Units.{Units}
 use Rattle.world_law.proofs.giving.Given.{same_permanent}
@@ -311,7 +311,7 @@ pub own_near : (s : Scenario) (t n m : ℕ) (at : List ℕ) (put : NoteBody) (js
 own_near s t n m at put js gs (notes.Lost device link cause) p a le under (inl d) =
     inl (d.0, departs_near s js gs t device link cause _ (a.first cause le) d.1)
 own_near s t n m at put js gs (notes.Lost device link cause) p a le under (inr (inl d)) =
-    inr (inl (d.0, (d.1.0, d.1.1, dispatches_back s js gs t device link cause d.1.0 d.1.1 a.before d.1.2)))
+    inr (inl (d.0, (d.1.0, d.1.1, dispatches_back s js gs t device link cause d.1.0 d.1.1 a.before d.1.2, d.1.3)))
 own_near s t n m at put js gs (notes.Lost device link cause) p a le under (inr (inr l)) =
     inr (inr (l.0, send_near s js gs t device link cause (a.first cause le) l.1))
 own_near s t n m at put js gs (notes.Dropped device link cause reason) p a le under (inl x) =

@@ -4,34 +4,35 @@ use Rattle.std.proofs.lemmas.List.{length-append, length-map}
 use Rattle.net_plan.specs.declared.ids.DeviceId.{DeviceId}
 use Rattle.net_plan.specs.declared.network.Network.{Network}
 use Rattle.run_law.proofs.runs.Places.{before_behind, chain, either_way, in_left, in_parts, in_right, never_self}
-use Rattle.run_law.specs.records.Causes.{cause_of}
+use Rattle.run_law.specs.declared.note.NoteBody.{NoteBody}
 use Rattle.run_law.specs.device.LocalClocks.{changed_at}
-use Rattle.run_law.specs.records.Happenings.{Happening, earlier, time_of, up_to}
+use Rattle.run_law.specs.device.States.{adjustment_after, state_after, state_before}
 use Rattle.run_law.specs.machines.Nodes.{Node}
+use Rattle.run_law.specs.records.Causes.{cause_of}
+use Rattle.run_law.specs.records.Happenings.{Happening, earlier, time_of, up_to}
 use Rattle.run_law.specs.records.Order.{AllBefore, IsBefore, IsIn, NoneBefore, behind}
 use Rattle.run_law.specs.records.Ranks.{key, members_in, place_of, rank}
 use Rattle.run_law.specs.runs.DueRecords.{IsDue}
 use Rattle.run_law.specs.runs.Runs.{IsFounded}
 use Rattle.run_law.specs.scenario.Scenarios.{Scenario, is_turned_on_at}
-use Rattle.run_law.specs.device.States.{adjustment_after, state_after, state_before}
-use Rattle.run_law.specs.declared.note.NoteBody.{NoteBody}
 use Rattle.sync_state.specs.declared.state.State.TheVariants.{Integrating}
 use Rattle.sync_state.specs.declared.state.State.{State}
+use Rattle.world_law.proofs.acts.Recorded.{DispatchesNone, recorded_put}
 use Rattle.world_law.proofs.devices.Borne.{moves_no_other}
 use Rattle.world_law.proofs.giving.GivenParts.{taken_on, up_to_place}
 use Rattle.world_law.proofs.putting.Alike.{AreAlike, alike_back, caused_alike, happening_alike, own_alike}
-use Rattle.world_law.proofs.putting.Idle.{IsIdle, IsPut, adjusted_put, alike_put, bump, bumped_in, changed_put, earlier_state_put, idle_bears, idle_rank, in_bumped, left_put, stated_put}
+use Rattle.world_law.proofs.putting.Idle.{plains_put, IsIdle, IsPut, adjusted_put, alike_put, bump, bumped_in, changed_put, earlier_state_put, idle_bears, idle_rank, in_bumped, left_put, stated_put}
 use Rattle.world_law.proofs.putting.Moving.{IsMoving, stays, worked_or_here}
 use Rattle.world_law.proofs.putting.PutIn.{known_cause, late_source, own_time, split_bumped, first_bumped, split_three, split_two}
 use Rattle.world_law.proofs.rows.Takings.{frames_idle}
-use Rattle.world_law.proofs.runs.SourcesBack.{at_least, no_higher}
+use Rattle.world_law.proofs.runs.SourcesBack.{dispatches_back, earlier_still, at_least, no_higher}
 use Rattle.world_law.specs.device.Deeds.{HasDoneFrom}
 use Rattle.world_law.specs.device.Left.{IsLeft}
 use Rattle.world_law.specs.device.Own.{bears_on, moves}
 use Rattle.world_law.specs.device.Plain.{renumbered}
 use Rattle.world_law.specs.device.Takings.{frames_taken}
-use Rattle.world_law.specs.source.Sources.{IsOwnSource, IsSource}
-use Rattle.world_law.specs.world.World.{AreOfNetwork, AreSettled, HasTurnedOn, IsAtRest, IsHeld, IsKept, IsTakenUp, IsWorkedOff, is_at_source, is_turning}
+use Rattle.world_law.specs.source.Sources.{IsActing, IsOwnSource, IsSource}
+use Rattle.world_law.specs.world.World.{AreOfNetwork, AreSettled, HasTurnedOn, IsAtRest, IsHeld, IsKept, IsTakenUp, IsWorkedOff, act_place, is_at_source, is_turning}
 
 -- what a step that puts in a record starts from: the record is due at its place among those to come, and whatever comes
 -- from the source is at that place
@@ -485,11 +486,20 @@ before_put s hs front back w idle device now =
     ap (λ (state : State). if is_turned_on_at s device now then Integrating else state) (still_before s hs front back w idle device now)
 
 pub kept_put : {M : Type 0} (stands : M → Network → DeviceId → Node → Type 0) (s : Scenario) (hs front back : List Happening) (cursor : List ℕ) (now : ℕ)
-    (device : DeviceId) (machine : M) (w : Happening) → IsIdle w.note.body
+    (device : DeviceId) (machine : M) (w : Happening) → IsIdle w.note.body → time_of w ≡ now → IsBefore (act_place now device) cursor
     → IsKept stands s hs (front ++ back) cursor now device machine → IsKept stands s hs (put_list front w back) cursor now device machine
-kept_put stands s hs front back cursor now device machine w idle k =
+kept_put stands s hs front back cursor now device machine w idle at past k =
     let old = append_assoc hs front back in
     let new = append_assoc hs front (w ∷ map bump back) in
+    let none_now : k.up ≡ now → DispatchesNone s (hs ++ (front ++ back)) now device = λ same link cause vl cycle d.
+    elim k.acted [
+      | inr over ↦ (let bad = over.0 in omega (arith, bad, same))
+      | inl yet ↦
+          yet.1 past
+          (IsActing.dispatching link cause vl cycle
+          (dispatches_back s (hs ++ (front ++ back)) hs now device link cause vl cycle
+          (earlier_still now hs (front ++ back) (λ z i. let t = (k.recorded same).of_now z i in omega (arith, t))) d))
+    ] in
     record {
       node = k.node;
       is = k.is;
@@ -515,14 +525,18 @@ kept_put stands s hs front back cursor now device machine w idle k =
       still = λ same. still_put s hs front back now device w idle (k.still same);
       turned = λ on. turned_put s hs front back cursor now device w idle (k.turned on)
           (still_before s hs front back w idle device now);
+      cleared = k.cleared;
+      recorded = λ same. recorded_put s hs front back (put_list front w back) now device k.node w (sym (plains_put front back w)) at
+          (idle_bears device w.note.body idle, inr (idle_rank w.note.body idle, none_now same)) (k.recorded same);
       phase = k.phase;
     }
 
 pub held_put : {M : Type 0} (stands : M → Network → DeviceId → Node → Type 0) (s : Scenario) (hs front back : List Happening) (cursor : List ℕ) (now : ℕ)
-    (device : DeviceId) (machine : M) (w : Happening) → IsIdle w.note.body
+    (device : DeviceId) (machine : M) (w : Happening) → IsIdle w.note.body → time_of w ≡ now → IsBefore (act_place now device) cursor
     → IsHeld stands s hs (front ++ back) cursor now device machine → IsHeld stands s hs (put_list front w back) cursor now device machine
-held_put stands s hs front back cursor now device machine w idle (inl k) = inl (kept_put stands s hs front back cursor now device machine w idle k)
-held_put stands s hs front back cursor now device machine w idle (inr k) =
+held_put stands s hs front back cursor now device machine w idle at past (inl k) =
+    inl (kept_put stands s hs front back cursor now device machine w idle at past k)
+held_put stands s hs front back cursor now device machine w idle at past (inr k) =
     let old = append_assoc hs front back in
     let new = append_assoc hs front (w ∷ map bump back) in
     inr (record {

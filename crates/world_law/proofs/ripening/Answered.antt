@@ -1,8 +1,4 @@
 -- The machine answers, and its device is kept, whatever becomes of the frame.
-use Rattle.world_law.proofs.hearing.Quiet.{frames_placed}
-use Rattle.world_law.proofs.rows.Takings.{IsNoTaking}
-use Rattle.world_law.proofs.ripening.Ripens.{sooner_of}
-use Rattle.world_law.specs.device.Takings.{frames_taken, taken_in}
 use Rattle.std.proofs.Common.{◌≡◌, ◌⊎◌, ℕ, ◌+◌, ◌≤◌, pos, ◌≤ℤ◌, Bool, true, false, if◌then◌else◌, List, [], ◌∷◌, ◌++◌, length, map, Contains, Some, inl, inr, refl, sym, ap, subst, ◌∙◌, append_assoc, arith}
 use Rattle.std.proofs.lemmas.Bool.{both_ways, cases_Bool, eq-eqb, eqb-true}
 use Rattle.compression.specs.Clusters.{Point}
@@ -11,14 +7,14 @@ use Rattle.net_plan.specs.declared.ids.DeviceId.{DeviceId}
 use Rattle.net_plan.specs.declared.network.Network.{Network}
 use Rattle.run_law.proofs.runs.Places.{in_left, in_parts, in_right, parted}
 use Rattle.run_law.specs.control.Permanence.{ripe_as}
-use Rattle.run_law.specs.declared.judgement.Judgement.{Judgement}
 use Rattle.run_law.specs.declared.judgement.Judgement.TheVariants as judgements
+use Rattle.run_law.specs.declared.judgement.Judgement.{Judgement}
 use Rattle.run_law.specs.declared.judgement.Reason.{Reason}
 use Rattle.run_law.specs.declared.judgement.Why.TheVariants as whys
-use Rattle.run_law.specs.declared.note.NoteBody.{NoteBody}
 use Rattle.run_law.specs.declared.note.NoteBody.TheVariants as kinds
-use Rattle.run_law.specs.declared.steps.Ripe.{Ripe}
+use Rattle.run_law.specs.declared.note.NoteBody.{NoteBody}
 use Rattle.run_law.specs.declared.steps.Ripe.TheVariants as ripe
+use Rattle.run_law.specs.declared.steps.Ripe.{Ripe}
 use Rattle.run_law.specs.device.States.{has_joined_at, is_off, state_after, state_before, state_with}
 use Rattle.run_law.specs.machines.Answers.{IsPermanenceOutcomeAt, after_permanence, called}
 use Rattle.run_law.specs.machines.Calls.{IsHearing, IsOfMaster}
@@ -28,10 +24,11 @@ use Rattle.run_law.specs.records.Order.{AllBefore, IsBefore, IsIn, NoneBefore, b
 use Rattle.run_law.specs.records.Ranks.{key, members_in, place_of, rank}
 use Rattle.run_law.specs.scenario.Devices.{IsParentOf, channel_of_link, is_cm}
 use Rattle.run_law.specs.scenario.Scenarios.{Scenario, is_broken}
-use Rattle.sync_state.specs.declared.state.State.{State}
 use Rattle.sync_state.specs.declared.state.State.TheVariants.{Joining}
+use Rattle.sync_state.specs.declared.state.State.{State}
 use Rattle.world_law.proofs.devices.TurnedOn.{all_up_to, next_is_up_to}
 use Rattle.world_law.proofs.giving.Given.{no_later_breaks}
+use Rattle.world_law.proofs.hearing.Quiet.{frames_placed}
 use Rattle.world_law.proofs.putting.Bearing.{turned_aside}
 use Rattle.world_law.proofs.putting.Bumped.{AsState, bump_behind, in_placed, placed, raised, raised_low, raised_rank}
 use Rattle.world_law.proofs.putting.Placing.{before_it, put_at}
@@ -43,13 +40,15 @@ use Rattle.world_law.proofs.ripening.Grown.{IsByRole}
 use Rattle.world_law.proofs.ripening.Joined.{IsJoin, kept_joined, was_looking}
 use Rattle.world_law.proofs.ripening.Judged.{Hears, IsKindOf, hears_before, hears_told, outcome_kind}
 use Rattle.world_law.proofs.ripening.JustTold.{all_high, ends_in}
-use Rattle.world_law.proofs.ripening.Kept.{carried_by_role, carried_called, is_yet, kept_next, next_aside, next_by_role}
+use Rattle.world_law.proofs.ripening.Kept.{IsNoOwnAct, carried_by_role, carried_called, is_yet, kept_next, next_aside, next_by_role}
 use Rattle.world_law.proofs.ripening.Merely.{IsMere}
 use Rattle.world_law.proofs.ripening.Proper.{link_of, received}
-use Rattle.world_law.proofs.ripening.Ripens.{IsRipe, come_of, emitted_no_later, may_ripen, points_no_later, ripe_more, sound_of}
+use Rattle.world_law.proofs.ripening.Ripens.{sooner_of, IsRipe, come_of, emitted_no_later, may_ripen, points_no_later, ripe_more, sound_of}
+use Rattle.world_law.proofs.rows.Takings.{IsNoTaking}
 use Rattle.world_law.proofs.runs.SourcesBack.{no_higher}
 use Rattle.world_law.specs.device.Deeds.{HasSentFrom}
 use Rattle.world_law.specs.device.Left.{IsLeft}
+use Rattle.world_law.specs.device.Takings.{frames_taken, taken_in}
 use Rattle.world_law.specs.world.Calls.{moment_of}
 use Rattle.world_law.specs.world.Ripening.{HasRipened}
 use Rattle.world_law.specs.world.World.{HasTurnedOn, IsKept, Waiting}
@@ -198,11 +197,11 @@ pub dropped_kept : {M : Type 0} (stands : M → Network → DeviceId → Node �
     (machine after : M) (w : Happening) (reason : Reason) (r : IsRipe s hs (front ++ back) mark cursor now e)
     (k : IsKept stands s hs (front ++ back) cursor now e.device machine)
     → IsAnswered stands s hs now e k.node after (ripe.Dropped reason) → Rattle.world_law.specs.device.Own.bears_on e.device w.note.body ≡ false
-    → IsNoTaking e.device w.note.body → time_of w ≡ now
+    → IsNoTaking e.device w.note.body → IsNoOwnAct w.note.body → time_of w ≡ now
     → IsKept stands s hs (put_at hs front w back) (behind (now ∷ 3 ∷ ripe_more e)) now e.device after
-dropped_kept stands s hs front back mark cursor now e machine after w reason r k a misses none at =
+dropped_kept stands s hs front back mark cursor now e machine after w reason r k a misses none other at =
     kept_next stands s hs (front ++ back) (put_at hs front w back) mark cursor now e machine after k.node r k a.is (carried_called s e k.node now)
-    (next_aside s (before_it hs front) hs front back now k.up e.device w (called (moment_of s e.device now) ripening k.node) misses none
+    (next_aside s (before_it hs front) hs front back now k.up e.device w (called (moment_of s e.device now) ripening k.node) misses none other at
     (λ h i. sooner_of s hs (front ++ back) mark cursor now e r w h at i)
     (left_called s (hs ++ (front ++ back)) e.device k.up k.node (moment_of s e.device now) ripening k.left))
 

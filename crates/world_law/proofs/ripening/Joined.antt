@@ -1,5 +1,4 @@
 -- The device that a frame tells the time is kept.
-use Rattle.world_law.specs.device.Takings.{frames_taken}
 use Rattle.std.proofs.Common.{◌≡◌, ◌⊎◌, IfSome, ℕ, ◌+◌, ◌-◌, ◌≤◌, ◌<◌, ℤ, pos, ◌+ℤ◌, ◌-ℤ◌, ◌<ℤ◌, ◌≤ℤ◌, int_lt, int_le, Bool, true, false, not, ◌&&◌, ◌||◌, ◌==◌, nat_lt, if◌then◌else◌, List, [], ◌∷◌, ◌++◌, length, map, filter, filter_map, fold, Contains, Option, Some, None, inl, inr, refl, sym, ap, subst, ◌∙◌, append_assoc, arith}
 use Rattle.std.specs.List.{after_last, last_or}
 use Rattle.std.specs.Option.{option_map_or}
@@ -23,7 +22,7 @@ use Rattle.run_law.specs.declared.steps.Ripe.TheVariants as ripe
 use Rattle.run_law.specs.device.LocalClocks.{changed_at, changes_adjustment}
 use Rattle.run_law.specs.device.States.{adjustment_after, adjustment_with, cycle_in, has_joined_at, is_joined_by, joined_adjustment, state_after, state_before}
 use Rattle.run_law.specs.machines.Answers.{called, with_joined}
-use Rattle.run_law.specs.machines.Nodes.{Node, Phase, ripening}
+use Rattle.run_law.specs.machines.Nodes.{Node, Phase, correcting, ripening}
 use Rattle.run_law.specs.machines.Tasks.{IsPending, Task, doing, emitting, reading_for, value_of}
 use Rattle.run_law.specs.records.Happenings.{Happening, earlier, time_of}
 use Rattle.run_law.specs.records.Order.{IsIn, behind}
@@ -31,8 +30,8 @@ use Rattle.run_law.specs.scenario.Devices.{is_cm, plan_of}
 use Rattle.run_law.specs.scenario.Scenarios.{Scenario, is_broken, is_turned_on_at}
 use Rattle.sync_state.specs.Integration.{joined_by}
 use Rattle.sync_state.specs.declared.plan.SyncPlan.{SyncPlan}
-use Rattle.sync_state.specs.declared.state.State.{State}
 use Rattle.sync_state.specs.declared.state.State.TheVariants.{Integrating, Joining, Off, Synchronised}
+use Rattle.sync_state.specs.declared.state.State.{State}
 use Rattle.tte_units.specs.declared.units.Units.{Units}
 use Rattle.world_law.proofs.devices.Passes.{not_turned_on}
 use Rattle.world_law.proofs.giving.Given.{no_later_breaks}
@@ -43,6 +42,7 @@ use Rattle.world_law.proofs.ripening.Ripens.{IsRipe, ripe_more}
 use Rattle.world_law.proofs.runs.Foremost.{not_on_after}
 use Rattle.world_law.proofs.runs.SourcesBack.{earlier_still}
 use Rattle.world_law.specs.device.Left.{IsLeft}
+use Rattle.world_law.specs.device.Takings.{frames_taken}
 use Rattle.world_law.specs.device.Told.{change_in, cleared_in, local_in, next_in}
 use Rattle.world_law.specs.world.Calls.{moment_of}
 use Rattle.world_law.specs.world.World.{HasTurnedOn, IsKept, Waiting}
@@ -252,6 +252,8 @@ kept_joined stands s hs coming zs mark cursor now e machine after w r k is other
       };
       still = λ same_up. absurd (too_soon now same_up);
       turned = λ on. turns (behind here) (turned_on s hs coming mark cursor now (ripe_more e) device r.moving (k.turned on));
+      cleared = λ cycle there. absurd (none_in (correcting cycle) there);
+      recorded = λ same_up. absurd (too_soon now same_up);
       phase = λ at p b. chain p here (behind here) (before_place p now (ripe_more e) b) (before_behind here);
     }
   where

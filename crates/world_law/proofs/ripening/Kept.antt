@@ -1,8 +1,4 @@
 -- The device of a frame that is permanent, and tells it no time, is kept.
-use Rattle.world_law.proofs.hearing.Quiet.{frames_placed}
-use Rattle.world_law.proofs.rows.Takings.{IsNoTaking}
-use Rattle.world_law.proofs.ripening.Ripens.{sooner_of}
-use Rattle.world_law.specs.device.Takings.{frames_taken, taken_in}
 use Rattle.std.proofs.Common.{◌≡◌, ◌⊎◌, ℕ, ◌+◌, ◌≤◌, ◌<◌, ℤ, pos, ◌+ℤ◌, ◌-ℤ◌, ◌<ℤ◌, ◌≤ℤ◌, Bool, true, false, not, ◌||◌, if◌then◌else◌, List, [], ◌∷◌, ◌++◌, length, map, Contains, inl, inr, refl, sym, ap, subst, ◌∙◌, arith}
 use Rattle.std.specs.List.{AllByRecursion}
 use Rattle.std.proofs.lemmas.Bool.{both_ways}
@@ -16,28 +12,33 @@ use Rattle.run_law.proofs.runs.Places.{before_behind, chain}
 use Rattle.run_law.specs.control.Collections.{master_of, observation_window}
 use Rattle.run_law.specs.control.Corrections.{has_cleared}
 use Rattle.run_law.specs.control.Permanence.{ripe_as}
-use Rattle.run_law.specs.declared.judgement.Judgement.{Judgement}
 use Rattle.run_law.specs.declared.judgement.Judgement.TheVariants as judgements
-use Rattle.run_law.specs.declared.note.NoteBody.{NoteBody}
+use Rattle.run_law.specs.declared.judgement.Judgement.{Judgement}
 use Rattle.run_law.specs.declared.note.NoteBody.TheVariants as kinds
+use Rattle.run_law.specs.declared.note.NoteBody.{NoteBody}
 use Rattle.run_law.specs.device.LocalClocks.{changed_at, changes_adjustment}
 use Rattle.run_law.specs.device.States.{is_joined_by, state_after, state_before}
 use Rattle.run_law.specs.machines.Answers.{after_permanence, called}
-use Rattle.run_law.specs.machines.Nodes.{ClockTask, Node, ripening}
+use Rattle.run_law.specs.machines.Nodes.{ClockTask, Node, correcting, ripening}
 use Rattle.run_law.specs.machines.Tasks.{IsPending, IsWaiting, Task, doing, emitting, reading_for, value_of}
 use Rattle.run_law.specs.records.Happenings.{Happening, earlier, time_of}
 use Rattle.run_law.specs.records.Order.{IsBefore, IsIn, behind}
+use Rattle.run_law.specs.records.Ranks.{rank}
 use Rattle.run_law.specs.scenario.Devices.{channel_of_link, is_cm}
 use Rattle.run_law.specs.scenario.Scenarios.{Scenario, is_turned_on_at}
 use Rattle.sync_state.specs.Standing.{Standing}
 use Rattle.tte_units.specs.Amount.{amount}
 use Rattle.tte_units.specs.declared.units.Units.{Units}
+use Rattle.world_law.proofs.acting.Starts.{none_of_it, plain_compressed, plain_sent}
 use Rattle.world_law.proofs.acts.Acted.{IsAlike, undone_alike, waiting_alike}
 use Rattle.world_law.proofs.acts.Ready.{natural}
+use Rattle.world_law.proofs.acts.Dispatched.{dispatch_told, no_dispatch_told}
+use Rattle.world_law.proofs.acts.Recorded.{first_recorded}
 use Rattle.world_law.proofs.devices.Borne.{tell_owned}
 use Rattle.world_law.proofs.devices.Plains.{changes_at_plain, told_by_others}
-use Rattle.world_law.proofs.putting.Bearing.{before_aside, changed_aside, earlier_aside, left_aside, still_aside, turned_aside}
-use Rattle.world_law.proofs.putting.Bumped.{bump_behind, placed}
+use Rattle.world_law.proofs.hearing.Quiet.{frames_placed}
+use Rattle.world_law.proofs.putting.Bearing.{before_aside, changed_aside, earlier_aside, left_aside, placed_back, still_aside, turned_aside}
+use Rattle.world_law.proofs.putting.Bumped.{bump_behind, placed, raised}
 use Rattle.world_law.proofs.putting.Moving.{IsMoving, stays, worked_or_here}
 use Rattle.world_law.proofs.putting.NearPut.{plains_placed}
 use Rattle.world_law.proofs.ripening.Clustered.{old_or_open, open_later}
@@ -46,10 +47,16 @@ use Rattle.world_law.proofs.ripening.Grown.{IsByRole, IsFirst, IsSame, is_grown,
 use Rattle.world_law.proofs.ripening.Judged.{Hears, cleared_told}
 use Rattle.world_law.proofs.ripening.JustTold.{IsTold}
 use Rattle.world_law.proofs.ripening.Merely.{own_skip}
-use Rattle.world_law.proofs.ripening.Ripens.{IsRipe, in_time, not_beyond, ripe_more}
-use Rattle.world_law.proofs.runs.SourcesBack.{earlier_still}
+use Rattle.world_law.proofs.ripening.Ripens.{sooner_of, IsRipe, in_time, not_beyond, ripe_more}
+use Rattle.world_law.proofs.rows.Dispatching.{whole_founded}
+use Rattle.world_law.proofs.rows.Takings.{IsNoTaking}
+use Rattle.world_law.proofs.runs.SourcesBack.{dispatches_back, earlier_still}
+use Rattle.world_law.specs.device.Deeds.{HasDoneFrom, HasSentFrom}
 use Rattle.world_law.specs.device.Left.{IsLeft, is_timed}
 use Rattle.world_law.specs.device.Own.{moves}
+use Rattle.world_law.specs.device.Plain.{plain_body}
+use Rattle.world_law.specs.device.Recorded.{dispatch_body}
+use Rattle.world_law.specs.device.Takings.{frames_taken, taken_in}
 use Rattle.world_law.specs.source.Sources.{IsSource}
 use Rattle.world_law.specs.world.Calls.{moment_of}
 use Rattle.world_law.specs.world.World.{HasTurnedOn, IsAtRest, IsKept, Waiting, act_place}
@@ -126,6 +133,45 @@ before_place (x ∷ []) now more (inr (e, b)) = inr (e, tt)
 before_place (x ∷ y ∷ ys) now more (inr (e, inl lt)) = inr (e, inl lt)
 before_place (x ∷ y ∷ ys) now more (inr (e, inr b)) = absurd b.1
 
+-- a record of this body tells of no act by which a device sends
+abbrev pub IsNoOwnAct : NoteBody → Type 0
+IsNoOwnAct body = (rank body < 4) ⊎ (10 < rank body)
+
+no_own_sent : (device : DeviceId) (cycle : ℕ) (body : NoteBody) → IsNoOwnAct body → plain_body body ≡ kinds.Sent device cycle → ⊥
+no_own_sent device cycle body other e =
+    let five : rank body ≡ 5 = ap rank (plain_sent device cycle body e) in
+    elim other [ inl low ↦ omega (arith, five, low) | inr high ↦ omega (arith, five, high) ]
+
+no_own_frame : (device : DeviceId) (c : Compressed) (verdict : Judgement) (body : NoteBody) → IsNoOwnAct body
+    → plain_body body ≡ kinds.Compressed device c.opened c.at c.cycle c.members verdict → ⊥
+no_own_frame device c verdict body other e =
+    let four : rank body ≡ 4 = ap rank (plain_compressed device c verdict body e) in
+    elim other [ inl low ↦ omega (arith, four, low) | inr high ↦ omega (arith, four, high) ]
+
+no_own_dispatch : (s : Scenario) (device : DeviceId) (now : ℕ) (link : _) (cause : ℕ) (vl : _) (cycle : ℕ) (body : NoteBody) → IsNoOwnAct body
+    → plain_body body ≡ dispatch_body s device now link cause vl cycle → ⊥
+no_own_dispatch s device now link cause vl cycle body other e = elim (dispatch_told s device now link cause vl cycle body e) [
+  | inl lost ↦
+      let nine : rank body ≡ 9 = ap rank lost in
+      elim other [ inl low ↦ omega (arith, nine, low) | inr high ↦ omega (arith, nine, high) ]
+  | inr sent ↦
+      let ten : rank body ≡ 10 = ap rank sent in
+      elim other [ inl low ↦ omega (arith, ten, low) | inr high ↦ omega (arith, ten, high) ]
+]
+
+-- what is to come then is the record put in, or is as it was
+back_placed : (n now : ℕ) (front back : List Happening) (w z : Happening) → IsNoOwnAct w.note.body → time_of w ≡ now → IsIn z (placed n front w back)
+    → ((y : Happening) × IsIn y (front ++ back) × (plain_body z.note.body ≡ plain_body y.note.body) × (time_of z ≡ time_of y))
+    ⊎ (IsNoOwnAct z.note.body × (time_of z ≡ now))
+back_placed n now front back w z other at i = elim (placed_back n [] front back w z i) [
+  | inl same ↦ inr (subst (λ (h : Happening). IsNoOwnAct h.note.body) (sym same) other, ap time_of same ∙ at)
+  | inr x ↦ inl (x.0, x.1, elim x.2 [ inl e ↦ ap plain_body e | inr e ↦ ap plain_body e ∙ plain_raised n x.0.note.body ], x.3)
+]
+  where
+    plain_raised : (n : ℕ) (body : NoteBody) → plain_body (raised n body) ≡ plain_body body
+    plain_raised n (kinds.State other state cause why) = refl
+    plain_raised n other = refl
+
 -- what is to come once the record is put in, as the device sees it
 pub record IsNext (s : Scenario) (hs coming coming2 : List Happening) (now up : ℕ) (device : DeviceId) (new : Node) : Type 0 where
   pub left : IsLeft s (hs ++ coming2) device up new
@@ -135,6 +181,9 @@ pub record IsNext (s : Scenario) (hs coming coming2 : List Happening) (now up : 
       → (h : Happening) → IsIn h (hs ++ coming2) → time_of h ≡ now → IsAtRest s device now h.note.body
   pub turned : (cursor : List ℕ) → HasTurnedOn s hs coming cursor device now → HasTurnedOn s hs coming2 cursor device now
   pub frames : frames_taken s (hs ++ coming) device ≡ frames_taken s (hs ++ coming2) device
+  pub back : (z : Happening) → IsIn z coming2
+      → ((y : Happening) × IsIn y coming × (plain_body z.note.body ≡ plain_body y.note.body) × (time_of z ≡ time_of y))
+      ⊎ (IsNoOwnAct z.note.body × (time_of z ≡ now))
 
 pub turned_on : (s : Scenario) (hs coming : List Happening) (mark cursor : List ℕ) (now : ℕ) (more : List ℕ) (device : DeviceId)
     → IsMoving s hs coming mark cursor now 3 more → HasTurnedOn s hs coming cursor device now → HasTurnedOn s hs coming (behind (now ∷ 3 ∷ more)) device now
@@ -169,6 +218,34 @@ kept_next stands s hs coming coming2 mark cursor now e machine after base r k is
     let soon = in_time s hs coming mark cursor now e r in
     let adjusted : new.standing.adjustment ≡ k.node.standing.adjustment = ap (λ (x : Standing). x.adjustment) c.same.standing in
     let change = n.change in
+    let not_acted : IsBefore (act_place now e.device) cursor → ⊥ = λ b. m.waits (chain here (act_place now e.device) cursor (under_act now e.device.0 more) b)
+    in
+    let times : (z : Happening) → IsIn z coming2 → time_of z ≡ now = λ z i. elim (n.back z i) [ inl y ↦ y.3 ∙ m.are.of_now y.0 y.1 | inr none ↦ none.1 ] in
+    let not_at : act_place now e.device ≡ cursor → ⊥ = λ at. m.waits (subst (λ (q : List ℕ). IsBefore here q) at (under_act now e.device.0 more)) in
+    let done_so : HasDoneFrom s.network (s.reading e.device) e.device new (changed_at (hs ++ coming2) e.device k.up) k.up k.high = record {
+      undone = λ deed u x from lt.
+          subst (λ (z : Units). pos (s.reading e.device x) <ℤ (value_of s.network deed -ℤ z.0)) (sym adjusted)
+          (k.done.undone deed (undone_alike s.network e.device k.node new deed a u) x (omega (arith, from, change)) lt);
+      done = λ deed there.
+          let x = k.done.done deed (subst (λ (l : List ClockTask). Contains l deed) c.same.done there) in (
+            x.0,
+            omega (arith, x.1, change),
+            x.2,
+            subst (λ (z : Units). (value_of s.network deed -ℤ z.0) ≤ℤ pos (s.reading e.device x.0)) (sym adjusted) x.3,
+          );
+    } in
+    let sent_so : HasSentFrom s e.device new k.up k.high = record {
+      unsent = λ sent w x lt. elim (c.waiting sent w) [
+        | inl old ↦ k.sent.unsent sent old x lt
+        | inr later ↦ elim yet.stands [
+          | inl now_is ↦
+              let under = not_beyond s hs coming mark cursor now e r x (let at = now_is.0 in omega (arith, lt, at)) in
+              omega (arith, ints, under, later)
+          | inr over ↦ absurd (both_ways (is_cm s.network e.device) over.1.just.other w.cm)
+        ]
+      ];
+      sent = λ sent there. k.sent.sent sent (subst (λ (l : List Compressed). Contains l sent) c.same.emitted there);
+    } in
     record {
       node = new;
       is = is;
@@ -196,30 +273,8 @@ kept_next stands s hs coming coming2 mark cursor now e machine after base r k is
       ];
       left = n.left;
       taken = c.same.taken ∙ k.taken ∙ n.frames;
-      done = record {
-        undone = λ deed u x from lt.
-            subst (λ (z : Units). pos (s.reading e.device x) <ℤ (value_of s.network deed -ℤ z.0)) (sym adjusted)
-            (k.done.undone deed (undone_alike s.network e.device k.node new deed a u) x (omega (arith, from, change)) lt);
-        done = λ deed there.
-            let x = k.done.done deed (subst (λ (l : List ClockTask). Contains l deed) c.same.done there) in (
-              x.0,
-              omega (arith, x.1, change),
-              x.2,
-              subst (λ (z : Units). (value_of s.network deed -ℤ z.0) ≤ℤ pos (s.reading e.device x.0)) (sym adjusted) x.3,
-            );
-      };
-      sent = record {
-        unsent = λ sent w x lt. elim (c.waiting sent w) [
-          | inl old ↦ k.sent.unsent sent old x lt
-          | inr later ↦ elim yet.stands [
-            | inl now_is ↦
-                let under = not_beyond s hs coming mark cursor now e r x (let at = now_is.0 in omega (arith, lt, at)) in
-                omega (arith, ints, under, later)
-            | inr over ↦ absurd (both_ways (is_cm s.network e.device) over.1.just.other w.cm)
-          ]
-        ];
-        sent = λ sent there. k.sent.sent sent (subst (λ (l : List Compressed). Contains l sent) c.same.emitted there);
-      };
+      done = done_so;
+      sent = sent_so;
       bare = λ other. (c.bare other ∙ (k.bare other).0, c.same.emitted ∙ (k.bare other).1);
       ready = record {
         time = omega (arith, ints);
@@ -236,22 +291,56 @@ kept_next stands s hs coming coming2 mark cursor now e machine after base r k is
       };
       still = λ same. n.still (k.still same);
       turned = λ on. n.turned (behind here) (turned_on s hs coming mark cursor now more e.device m (k.turned on));
+      cleared = λ cycle there.
+          subst (λ (x : Standing). cycle < x.number) (sym c.same.standing)
+          (k.cleared cycle (subst (λ (l : List ClockTask). Contains l (correcting cycle)) c.same.done there));
+      recorded = λ up.
+          first_recorded s (hs ++ coming2) coming2 now e.device new (subst (λ (n : ℕ). IsLeft s (hs ++ coming2) e.device n new) up n.left)
+          (subst (λ (n : ℕ). HasDoneFrom s.network (s.reading e.device) e.device new (changed_at (hs ++ coming2) e.device n) n now) up
+          (subst (λ (n : ℕ). HasDoneFrom s.network (s.reading e.device) e.device new (changed_at (hs ++ coming2) e.device k.up) k.up n) (yet.rests ∙ up)
+          done_so))
+          (subst (λ (n : ℕ). HasSentFrom s e.device new n now) up (subst (λ (n : ℕ). HasSentFrom s e.device new k.up n) (yet.rests ∙ up) sent_so))
+          (λ z i cycle is_sent. elim (n.back z i) [
+            | inr none ↦ no_own_sent e.device cycle z.note.body none.0 is_sent
+            | inl y ↦
+                none_of_it s hs coming mark cursor now e.device m.are not_acted not_at y.0 y.1 (kinds.Sent e.device cycle)
+                (plain_sent e.device cycle y.0.note.body (sym y.2 ∙ is_sent)) (λ gs t q w own. own)
+          ])
+          (λ z i d verdict is_sent. elim (n.back z i) [
+            | inr none ↦ no_own_frame e.device d verdict z.note.body none.0 is_sent
+            | inl y ↦
+                none_of_it s hs coming mark cursor now e.device m.are not_acted not_at y.0 y.1
+                (kinds.Compressed e.device d.opened d.at d.cycle d.members verdict)
+                (plain_compressed e.device d verdict y.0.note.body (sym y.2 ∙ is_sent)) (λ gs t q w own. own)
+          ])
+          times
+          (λ z i link cause vl cycle d tells. elim (n.back z i) [
+            | inr none ↦ no_own_dispatch s e.device now link cause vl cycle z.note.body none.0 tells
+            | inl y ↦
+                no_dispatch_told s hs coming mark cursor now e.device m.are (whole_founded s hs coming mark cursor now r.run.founded r.run.within m.are)
+                not_acted not_at y.0 y.1 link cause vl cycle
+                (dispatches_back s (hs ++ coming2) (hs ++ coming) now e.device link cause vl cycle
+                (earlier_still now hs coming2 (λ x j. let t = times x j in omega (arith, t))
+                ∙ sym (earlier_still now hs coming (λ x j. let t = m.are.of_now x j in omega (arith, t)))) d)
+                (sym y.2 ∙ tells)
+          ]);
       phase = λ at p b. chain p here (behind here) (before_place p now more b) (before_behind here);
     }
 
 -- ---- the frame is dropped, or tells another device something
 
 pub next_aside : (s : Scenario) (n : ℕ) (hs front back : List Happening) (now up : ℕ) (device : DeviceId) (w : Happening) (new : Node)
-    → Rattle.world_law.specs.device.Own.bears_on device w.note.body ≡ false → IsNoTaking device w.note.body
+    → Rattle.world_law.specs.device.Own.bears_on device w.note.body ≡ false → IsNoTaking device w.note.body → IsNoOwnAct w.note.body → time_of w ≡ now
     → ((h : Happening) → IsIn h (hs ++ (front ++ back)) → time_of h ≤ time_of w) → IsLeft s (hs ++ (front ++ back)) device up new
     → IsNext s hs (front ++ back) (placed n front w back) now up device new
-next_aside s n hs front back now up device w new misses none sooner left = record {
+next_aside s n hs front back now up device w new misses none other at sooner left = record {
   left = left_aside s n hs front back w device up new misses left;
   change = sym (changed_aside s n hs front back w device up misses);
   before = before_aside s n hs front back w device now misses;
   still = still_aside s n hs front back now device w (Rattle.world_law.proofs.devices.Borne.moves_no_other device w.note.body misses);
   turned = λ cursor it. turned_aside s n hs front back cursor now device w it (earlier_aside s n hs front back w device now misses);
   frames = frames_placed s n hs front back w device none sooner;
+  back = λ z i. back_placed n now front back w z other at i;
 }
 
 pub carried_called : (s : Scenario) (e : Waiting) (node : Node) (now : ℕ) → IsCarriedOn s e node (called (moment_of s e.device now) ripening node)
@@ -405,4 +494,5 @@ next_by_role stands s n hs coming mark cursor now e machine w verdict r k hears 
       still = still_aside s n hs [] coming now device w quiet.1;
       turned = λ cursor2 it. turned_aside s n hs [] coming cursor2 now device w it (ap (λ (l : List Happening). state_after s l device) same_earlier);
       frames = frames_placed s n hs [] coming w device (λ z. ap (taken_in device z) body) (λ h i. sooner_of s hs coming mark cursor now e r w h at i);
+      back = λ z i. back_placed n now [] coming w z (inl (subst (λ (b : NoteBody). rank b < 4) (sym body) (omega arith))) at i;
     }

@@ -1,6 +1,4 @@
 -- A frame that waits is permanent.
-use Rattle.world_law.proofs.hearing.Quiet.{frames_placed}
-use Rattle.world_law.proofs.ripening.Ripens.{sooner_of}
 use Rattle.std.proofs.Common.{◌≡◌, ◌⊎◌, ◌↔◌, ℕ, zero, suc, ◌+◌, ◌≤◌, ◌<◌, ℤ, pos, ◌≤ℤ◌, Bool, true, false, List, [], ◌∷◌, ◌++◌, length, map, get_or, All, Option, Some, None, slice_get, inl, inr, refl, sym, ap, subst, ◌∙◌, append_assoc, arith}
 use Rattle.std.proofs.lemmas.Bool.{both_ways, cases_Bool, eq-eqb, eqb-true, ne_eqb}
 use Rattle.std.proofs.lemmas.List.{append-nil, length-append, length-map}
@@ -8,21 +6,21 @@ use Rattle.net_plan.specs.Ranges.{IsLinkInRange}
 use Rattle.net_plan.specs.declared.ids.DeviceId.{DeviceId}
 use Rattle.net_plan.specs.declared.ids.LinkId.{LinkId}
 use Rattle.net_plan.specs.declared.network.Network.{Network}
-use Rattle.net_plan.specs.declared.tables.Way.{Way}
 use Rattle.net_plan.specs.declared.tables.Way.TheVariants.{Up, Down}
+use Rattle.net_plan.specs.declared.tables.Way.{Way}
 use Rattle.pcf_values.specs.declared.pcf.Pcf.{Pcf}
 use Rattle.run_law.proofs.law.FirstPlaces.{numbered_front, numbered_in, numbered_next, numbered_within}
 use Rattle.run_law.proofs.runs.Places.{before_behind, in_left, in_right}
 use Rattle.run_law.specs.control.Permanence.{IsPermanent, ripe_as}
-use Rattle.run_law.specs.declared.judgement.Judgement.{Judgement}
 use Rattle.run_law.specs.declared.judgement.Judgement.TheVariants as judgements
+use Rattle.run_law.specs.declared.judgement.Judgement.{Judgement}
 use Rattle.run_law.specs.declared.judgement.Reason.{Reason}
 use Rattle.run_law.specs.declared.judgement.Why.TheVariants as whys
 use Rattle.run_law.specs.declared.note.Note.{Note}
-use Rattle.run_law.specs.declared.note.NoteBody.{NoteBody}
 use Rattle.run_law.specs.declared.note.NoteBody.TheVariants as kinds
-use Rattle.run_law.specs.declared.steps.Ripe.{Ripe}
+use Rattle.run_law.specs.declared.note.NoteBody.{NoteBody}
 use Rattle.run_law.specs.declared.steps.Ripe.TheVariants as ripe
+use Rattle.run_law.specs.declared.steps.Ripe.{Ripe}
 use Rattle.run_law.specs.device.States.{is_joined_by}
 use Rattle.run_law.specs.machines.Calls.{IsOfMaster}
 use Rattle.run_law.specs.machines.Nodes.{Node}
@@ -37,6 +35,7 @@ use Rattle.tte_units.specs.declared.units.Units.{Units}
 use Rattle.world_law.proofs.devices.Borne.{moves_no_other}
 use Rattle.world_law.proofs.devices.Resting.{are_past}
 use Rattle.world_law.proofs.giving.Given.{some_same}
+use Rattle.world_law.proofs.hearing.Quiet.{frames_placed}
 use Rattle.world_law.proofs.putting.Bearing.{held_aside, known_aside}
 use Rattle.world_law.proofs.putting.Bumped.{bump_behind, placed, placed_length}
 use Rattle.world_law.proofs.putting.Moving.{all_without, held_moves, ports_move, stays, wires_move, worked_or_here}
@@ -51,7 +50,7 @@ use Rattle.world_law.proofs.ripening.Judged.{IsKindOf, becomes_now, outcome_kind
 use Rattle.world_law.proofs.ripening.Masters.{of_master}
 use Rattle.world_law.proofs.ripening.Outcomes.{drop_fresh, dropped_all, permanent_all}
 use Rattle.world_law.proofs.ripening.Proper.{IsReceiver, received}
-use Rattle.world_law.proofs.ripening.Ripens.{IsRipe, come_of, device_is, permanent_at, reach_by, reach_now, ripe_more, ripening_at}
+use Rattle.world_law.proofs.ripening.Ripens.{sooner_of, IsRipe, come_of, device_is, permanent_at, reach_by, reach_now, ripe_more, ripening_at}
 use Rattle.world_law.proofs.runs.Worlds.{length_is}
 use Rattle.world_law.specs.device.Own.{bears_on}
 use Rattle.world_law.specs.source.Sources.{IsRipening, IsSource}
@@ -388,7 +387,7 @@ quiet_step reading stands s world notes e machine after verdict machines waiting
     (subst (λ (l : List Happening). AreOfNetwork s (hs ++ l)) shown.parts old.known))
     (quiet_kept stands s hs front back old.mark old.cursor now e machine after w verdict r k a role refl of_frame refl place shown.before)
     (λ device m ne held. held_aside stands s (before_it hs front) hs front back (behind (now ∷ 3 ∷ ripe_more e)) now device m w
-    (bears_not device e verdict body ne refl)
+    (bears_not device e verdict body ne refl) refl refl
     (frames_placed s (before_it hs front) hs front back w device (λ z. refl)
     (λ h i. sooner_of s hs (front ++ back) old.mark old.cursor now e r w h refl i))
     (subst (λ (l : List Happening). IsHeld stands s hs l (behind (now ∷ 3 ∷ ripe_more e)) now device m) shown.parts held))
@@ -458,8 +457,8 @@ dropped_step reading stands s world notes e machine after reason machines waitin
     (dropped_all s hs (front ++ back) coming2 old.mark old.cursor now e k.node reason r a.hears a.outcome after_all w there refl))
     (known_aside s (before_it hs front) hs front back w (λ device le. refl)
     (subst (λ (l : List Happening). AreOfNetwork s (hs ++ l)) shown.parts old.known))
-    (dropped_kept stands s hs front back old.mark old.cursor now e machine after w reason r k a refl (λ z. refl) refl)
-    (λ device m ne held. held_aside stands s (before_it hs front) hs front back (behind (now ∷ 3 ∷ ripe_more e)) now device m w refl
+    (dropped_kept stands s hs front back old.mark old.cursor now e machine after w reason r k a refl (λ z. refl) (inr (omega arith)) refl)
+    (λ device m ne held. held_aside stands s (before_it hs front) hs front back (behind (now ∷ 3 ∷ ripe_more e)) now device m w refl refl refl
     (frames_placed s (before_it hs front) hs front back w device (λ z. refl)
     (λ h i. sooner_of s hs (front ++ back) old.mark old.cursor now e r w h refl i))
     (subst (λ (l : List Happening). IsHeld stands s hs l (behind (now ∷ 3 ∷ ripe_more e)) now device m) shown.parts held))
@@ -655,7 +654,7 @@ joined_step reading stands s world notes e machine after machines waiting settle
         (subst (λ (l : List Happening). IsKept stands s hs l (behind (now ∷ 3 ∷ ripe_more e)) now e.device after) lists
         (joined_kept stands s hs back f2 back2 old.mark old.cursor now e machine after w v r k a old.precise refl of_frame refl split.2 refl refl none2))
         (λ device m ne held.
-        held_aside stands s n2 hs front2 back2 (behind (now ∷ 3 ∷ ripe_more e)) now device m v (stays_out device ne)
+        held_aside stands s n2 hs front2 back2 (behind (now ∷ 3 ∷ ripe_more e)) now device m v (stays_out device ne) refl refl
         (frames_placed s n2 hs front2 back2 v device (λ z. refl) (λ h i. elim (Rattle.run_law.proofs.runs.Places.in_parts h hs (front2 ++ back2) i) [
           | inl past ↦ r.past h past
           | inr more ↦ elim (high_one h more) [
@@ -664,7 +663,7 @@ joined_step reading stands s world notes e machine after machines waiting settle
           ]
         ]))
         (subst (λ (l : List Happening). IsHeld stands s hs l (behind (now ∷ 3 ∷ ripe_more e)) now device m) parts2
-        (held_aside stands s n hs [] back (behind (now ∷ 3 ∷ ripe_more e)) now device m w (bears_not device e judgements.Integrates body ne refl)
+        (held_aside stands s n hs [] back (behind (now ∷ 3 ∷ ripe_more e)) now device m w (bears_not device e judgements.Integrates body ne refl) refl refl
         (frames_placed s n hs [] back w device (λ z. refl) (λ h i. sooner_of s hs back old.mark old.cursor now e r w h refl i))
         (subst (λ (l : List Happening). IsHeld stands s hs l (behind (now ∷ 3 ∷ ripe_more e)) now device m) parts held))))
 

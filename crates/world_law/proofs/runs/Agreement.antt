@@ -12,14 +12,14 @@ use Rattle.net_plan.specs.declared.event.What.{What}
 use Rattle.net_plan.specs.declared.ids.DeviceId.{DeviceId}
 use Rattle.net_plan.specs.declared.network.Network.{Network}
 use Rattle.run_law.proofs.law.FirstPlaces.{in_filter}
-use Rattle.run_law.specs.device.LocalClocks.{Reaches, changed_at, changes_adjustment, local_at_change}
 use Rattle.run_law.specs.control.Corrections.{ComesToCorrection, correction_value, has_cleared, hearing_by, heard_since, is_integration_cycle, next_cycle, recorded_cycle, standing_before}
-use Rattle.run_law.specs.timed.Dispatching.{Sends}
-use Rattle.run_law.specs.records.Happenings.{Happening, earlier, time_of}
-use Rattle.run_law.specs.scenario.Hypothesis.{breaks_at}
-use Rattle.run_law.specs.records.Order.{IsIn}
-use Rattle.run_law.specs.scenario.Scenarios.{is_broken, is_turned_on_at, last_set, turns_on}
+use Rattle.run_law.specs.device.LocalClocks.{Reaches, changed_at, changes_adjustment, local_at_change}
 use Rattle.run_law.specs.device.States.{adjustment_before, state_after, state_before}
+use Rattle.run_law.specs.records.Happenings.{Happening, earlier, time_of}
+use Rattle.run_law.specs.records.Order.{IsIn}
+use Rattle.run_law.specs.scenario.Hypothesis.{breaks_at}
+use Rattle.run_law.specs.scenario.Scenarios.{is_broken, is_turned_on_at, last_set, turns_on}
+use Rattle.run_law.specs.timed.Dispatching.{Sends}
 use Rattle.sync_state.specs.Standing.{Standing, next_point}
 use Rattle.sync_state.specs.Verdicts.{HasVerdict}
 use Rattle.sync_state.specs.declared.answers.Verdict.{Verdict}
@@ -70,13 +70,13 @@ state_same n f g events more hs t u device a le =
 
 -- ---- the times of changes
 
-last_within : (o : Option Happening) (xs : List Happening) (u : ℕ) → IfSome o (λ h. time_of h ≤ u) → ((h : Happening) → IsIn h xs → time_of h ≤ u)
+pub last_within : (o : Option Happening) (xs : List Happening) (u : ℕ) → IfSome o (λ h. time_of h ≤ u) → ((h : Happening) → IsIn h xs → time_of h ≤ u)
     → option_map_or time_of (last_or o xs) 0 ≤ u
 last_within None [] u first all = omega arith
 last_within (Some h) [] u first all = first
 last_within o (x ∷ xs) u first all = last_within (Some x) xs u (all x (inl refl)) (λ h i. all h (inr i))
 
-in_earlier : (u : ℕ) (hs : List Happening) (h : Happening) → IsIn h (earlier u hs) → time_of h < u
+pub in_earlier : (u : ℕ) (hs : List Happening) (h : Happening) → IsIn h (earlier u hs) → time_of h < u
 in_earlier u [] h i = absurd i
 in_earlier u (x ∷ hs) h i =
     elim (cases_lt (time_of x) u) [

@@ -6,16 +6,9 @@ use Rattle.net_plan.specs.declared.ids.LinkId.{LinkId}
 use Rattle.net_plan.specs.declared.network.Network.{Network}
 use Rattle.pcf_values.specs.declared.pcf.Pcf.{Pcf}
 use Rattle.run_law.specs.control.Corrections.{ComesToCorrection}
-use Rattle.run_law.specs.records.Happenings.{Happening, frame_by, frame_from}
 use Rattle.run_law.specs.control.Leaving.{Departs, Departure}
-use Rattle.run_law.specs.records.Order.{IsBefore}
-use Rattle.run_law.specs.control.Permanence.{BecomesPermanent}
-use Rattle.run_law.specs.records.Ranks.{key, members_in, rank}
-use Rattle.run_law.specs.timed.Receptions.{ArrivesAs}
 use Rattle.run_law.specs.control.Losses.{IsDropped, IsLost}
-use Rattle.run_law.specs.device.StateChanges.{ChangesState}
-use Rattle.run_law.specs.runs.DueRecords.{IsArrivedRecord, IsCaused, IsDue}
-use Rattle.run_law.specs.scenario.Scenarios.{Scenario}
+use Rattle.run_law.specs.control.Permanence.{BecomesPermanent}
 use Rattle.run_law.specs.declared.judgement.Reason.{Reason}
 use Rattle.run_law.specs.declared.judgement.Why.TheVariants as whys
 use Rattle.run_law.specs.declared.judgement.Why.{Why}
@@ -23,6 +16,13 @@ use Rattle.run_law.specs.declared.note.NoteBody.TheVariants as notes
 use Rattle.run_law.specs.declared.note.NoteBody.{NoteBody}
 use Rattle.run_law.specs.declared.steps.Arrival.{Arrival}
 use Rattle.run_law.specs.declared.steps.Ripe.{Ripe}
+use Rattle.run_law.specs.device.StateChanges.{ChangesState}
+use Rattle.run_law.specs.records.Happenings.{Happening, frame_by, frame_from}
+use Rattle.run_law.specs.records.Order.{IsBefore}
+use Rattle.run_law.specs.records.Ranks.{key, members_in, rank}
+use Rattle.run_law.specs.runs.DueRecords.{IsArrivedRecord, IsCaused, IsDue}
+use Rattle.run_law.specs.scenario.Scenarios.{Scenario}
+use Rattle.run_law.specs.timed.Receptions.{ArrivesAs}
 use Rattle.sync_state.specs.declared.answers.Verdict.{Verdict}
 use Rattle.sync_state.specs.declared.state.State.{State}
 use Rattle.tte_units.specs.Amount.{amount}
@@ -81,7 +81,7 @@ by_loss : (s : Scenario) (hs : List Happening) (t : ℕ) (device : DeviceId) (li
 by_loss s hs t device link cause m (inl departs) more =
     (_, inl (refl, departs), IsSource.departing t device link cause (departure_of_it s hs t device link cause _ departs), inr (inr (refl, inl (omega arith))))
 by_loss s hs t device link cause m (inr (inl d)) more =
-    (_, inr (inl (refl, (d.0, d.1, d.2))), IsSource.acting t device (IsActing.dispatching link cause d.0 d.1 d.2), inr (inr (refl, inl (omega arith))))
+    (_, inr (inl (refl, (d.0, d.1, d.2, d.3))), IsSource.acting t device (IsActing.dispatching link cause d.0 d.1 d.2), inr (inr (refl, inl (omega arith))))
 by_loss s hs t device link cause m (inr (inr send)) more =
     (_, inr (inr (refl, send)), IsSource.following t cause send.event send.is, inr (inr (refl, inl (omega arith))))
 

@@ -11,22 +11,22 @@ use Rattle.drift_clock.specs.Reach.{IsReach}
 use Rattle.net_plan.specs.declared.ids.DeviceId.{DeviceId}
 use Rattle.net_plan.specs.declared.ids.LinkId.{LinkId}
 use Rattle.net_plan.specs.declared.network.Network.{Network}
-use Rattle.run_law.specs.device.LocalClocks.{Reaches}
 use Rattle.run_law.specs.control.Collections.{ends_stretch, point_by, points_of, observation_window}
 use Rattle.run_law.specs.control.Corrections.{integration_cycle}
-use Rattle.run_law.specs.scenario.Devices.{plan_of}
-use Rattle.run_law.specs.timed.Dispatching.{Dispatches, IsUp, is_accepted}
 use Rattle.run_law.specs.control.Emissions.{Emits}
-use Rattle.run_law.specs.records.Happenings.{Happening, earlier, numbered, time_of}
 use Rattle.run_law.specs.control.Hearing.{heard_as}
 use Rattle.run_law.specs.control.Leaving.{Gives}
-use Rattle.run_law.specs.records.Order.{IsBefore, IsIn, NoneBefore}
-use Rattle.run_law.specs.records.Ranks.{place_of, rank}
-use Rattle.run_law.specs.scenario.Scenarios.{Scenario, is_turned_on_at}
-use Rattle.run_law.specs.device.States.{adjustment_after, adjustment_at_hearing, state_after, state_at_hearing}
 use Rattle.run_law.specs.control.Wires.{Arrives, Signal}
 use Rattle.run_law.specs.declared.note.NoteBody.TheVariants as notes
 use Rattle.run_law.specs.declared.note.NoteBody.{NoteBody}
+use Rattle.run_law.specs.device.LocalClocks.{Reaches}
+use Rattle.run_law.specs.device.States.{adjustment_after, adjustment_at_hearing, state_after, state_at_hearing}
+use Rattle.run_law.specs.records.Happenings.{Happening, earlier, numbered, time_of}
+use Rattle.run_law.specs.records.Order.{IsBefore, IsIn, NoneBefore}
+use Rattle.run_law.specs.records.Ranks.{place_of, rank}
+use Rattle.run_law.specs.scenario.Devices.{plan_of}
+use Rattle.run_law.specs.scenario.Scenarios.{Scenario, is_turned_on_at}
+use Rattle.run_law.specs.timed.Dispatching.{Dispatches, IsUp, is_accepted}
 use Rattle.sync_state.specs.Standing.{Standing, next_point}
 use Rattle.sync_state.specs.declared.state.State.TheVariants.{Integrating, Synchronised}
 use Rattle.world_law.proofs.acts.Acted.{no_cluster}
@@ -161,6 +161,13 @@ dispatches_back s js hs t device link cause vl cycle same d = record {
         )
   ];
 }
+
+-- it is of the same row
+pub dispatches_same : (s : Scenario) (js hs : List Happening) (t : ℕ) (device : DeviceId) (link : LinkId) (cause : ℕ) (vl : _) (cycle : ℕ)
+    → earlier t js ≡ earlier t hs → (d : Dispatches s js device t link cause vl cycle)
+    → (e : Dispatches s hs device t link cause vl cycle) × (e.place ≡ d.place)
+unfolding dispatches_back
+dispatches_same s js hs t device link cause vl cycle same d = (dispatches_back s js hs t device link cause vl cycle same d, refl)
 
 emits_back : (s : Scenario) (hs zs : List Happening) (t : ℕ) (device : DeviceId) (sent : _) (verdict : _) → ((z : Happening) → IsIn z zs → 4 ≤ rank z.note.body)
     → Emits s (hs ++ zs) device t sent verdict → IsActing s hs t device

@@ -12,23 +12,24 @@ use Rattle.net_plan.specs.declared.event.What.{What}
 use Rattle.net_plan.specs.declared.ids.DeviceId.{DeviceId}
 use Rattle.net_plan.specs.declared.network.Network.{Network}
 use Rattle.run_law.proofs.runs.Places.{in_parts, never_self}
-use Rattle.run_law.specs.device.LocalClocks.{changed_at, changes_adjustment}
-use Rattle.run_law.specs.records.Happenings.{Happening, earlier, numbered, time_of, up_to}
-use Rattle.run_law.specs.scenario.Hypothesis.{breaks_at}
-use Rattle.run_law.specs.machines.Answers.{node_turned_on}
-use Rattle.run_law.specs.machines.Nodes.{ClockTask, Node, sending, correcting, dispatching}
-use Rattle.run_law.specs.records.Order.{IsBefore, IsIn}
-use Rattle.run_law.specs.scenario.Scenarios.{Scenario, is_broken, is_turned_on_at, turns_on}
-use Rattle.run_law.specs.device.States.{adjustment_after, adjustment_with, cycle_in, state_after, state_with}
-use Rattle.run_law.specs.machines.Tasks.{IsDeedOf, IsPending, IsUndone, IsWaiting, Task, doing, emitting, reading_for, value_of}
 use Rattle.run_law.specs.declared.note.NoteBody.TheVariants as notes
 use Rattle.run_law.specs.declared.note.NoteBody.{NoteBody}
+use Rattle.run_law.specs.device.LocalClocks.{changed_at, changes_adjustment}
+use Rattle.run_law.specs.device.States.{adjustment_after, adjustment_with, cycle_in, state_after, state_with}
+use Rattle.run_law.specs.machines.Answers.{node_turned_on}
+use Rattle.run_law.specs.machines.Nodes.{ClockTask, Node, sending, correcting, dispatching}
+use Rattle.run_law.specs.machines.Tasks.{IsDeedOf, IsPending, IsUndone, IsWaiting, Task, doing, emitting, reading_for, value_of}
+use Rattle.run_law.specs.records.Happenings.{Happening, earlier, numbered, time_of, up_to}
+use Rattle.run_law.specs.records.Order.{IsBefore, IsIn}
+use Rattle.run_law.specs.scenario.Hypothesis.{breaks_at}
+use Rattle.run_law.specs.scenario.Scenarios.{Scenario, is_broken, is_turned_on_at, turns_on}
 use Rattle.sync_state.specs.declared.state.State.TheVariants.{Integrating, Off, Synchronised}
 use Rattle.sync_state.specs.declared.state.State.{State}
 use Rattle.tte_units.specs.Amount.{amount}
 use Rattle.tte_units.specs.declared.units.Units.{Units}
 use Rattle.world_law.proofs.acts.Acted.{waiting_alike}
 use Rattle.world_law.proofs.acts.Ready.{natural}
+use Rattle.world_law.proofs.acts.Recorded.{none_recorded}
 use Rattle.world_law.proofs.devices.Befalls.{is_turned_on, stands_still}
 use Rattle.world_law.proofs.devices.Borne.{other_comes}
 use Rattle.world_law.proofs.devices.OwnRecords.{same_before}
@@ -38,6 +39,7 @@ use Rattle.world_law.proofs.rows.Takings.{IsNoTaking, frames_alike, frames_end}
 use Rattle.world_law.proofs.steps.AppliedParts.{broken_more, turned_more}
 use Rattle.world_law.proofs.steps.Passed.{no_task}
 use Rattle.world_law.specs.device.Ready.{IsReadyAt}
+use Rattle.world_law.specs.device.Deeds.{HasDoneFrom, HasSentFrom}
 use Rattle.world_law.specs.device.Left.{IsLeft, is_timed}
 use Rattle.world_law.specs.device.Own.{bears_on, moves}
 use Rattle.world_law.specs.device.Takings.{frames_taken}
@@ -175,6 +177,7 @@ pub record HasNoMore (network : Network) (device : DeviceId) (node new : Node) :
   pub emitted : new.emitted ≡ node.emitted
   pub done : new.done ≡ node.done
   pub taken : new.taken ≡ node.taken
+  pub number : new.standing.number ≡ node.standing.number
   pub deed : (deed : ClockTask) → IsDeedOf network device new deed → IsDeedOf network device node deed
 
 pub itself : (network : Network) (device : DeviceId) (node : Node) → HasNoMore network device node node
@@ -188,6 +191,7 @@ itself network device node = record {
   emitted = refl;
   done = refl;
   taken = refl;
+  number = refl;
   deed = λ deed own. own;
 }
 
@@ -208,6 +212,7 @@ turned_on_less network device node = record {
   emitted = refl;
   done = refl;
   taken = refl;
+  number = refl;
   deed = no_deed network device node;
 }
 
@@ -287,6 +292,30 @@ kept_less stands network f g past event hs cursor now number ev device machine a
     (same_earlier hs now ev m.events ∙ sym (ap (earlier now) (append-nil hs))) ∙ ap (λ (n : ℕ). changed_at (hs ++ []) device n) (sym up) in
     let only = with_event hs now ev m.events in
     let past_all = each_past hs now ev m.events in
+    let left_so : IsLeft r (js ++ []) device now new = other_comes r hs [] device now new ev (event_bears device ev.note.body m.events.is)
+    (subst (λ (l : List Happening). IsLeft r l device now new) (sym (append-nil hs)) (left up)) in
+    let done_so : HasDoneFrom network (r.reading device) device new (changed_at (js ++ []) device now) now now = record {
+      undone = λ deed u x from lt.
+          let before = k.done.undone deed (undone_less network device k.node new deed a u) x (omega (arith, from, change)) (omega (arith, lt, up)) in
+          subst (λ (n : ℕ). pos n <ℤ (value_of network deed -ℤ new.standing.adjustment.0)) (m.reads device x (omega (arith, lt)))
+          (subst (λ (w : Units). pos (f device x) <ℤ (value_of network deed -ℤ w.0)) (sym a.adjustment) before);
+      done = λ deed there.
+          let x = k.done.done deed (subst (λ (l : List ClockTask). Contains l deed) a.done there) in (
+            x.0,
+            omega (arith, x.1, change),
+            omega (arith, x.2, high),
+            subst (λ (n : ℕ). (value_of network deed -ℤ new.standing.adjustment.0) ≤ℤ pos n) (m.reads device x.0 (omega (arith, x.2, high)))
+                (subst (λ (w : Units). (value_of network deed -ℤ w.0) ≤ℤ pos (f device x.0)) (sym a.adjustment) x.3),
+          );
+    } in
+    let sent_so : HasSentFrom r device new now now = record {
+      unsent =
+          λ c w x lt. subst (λ (n : ℕ). pos n <ℤ c.at.0) (m.reads device x (omega (arith, lt)))
+          (k.sent.unsent c (waiting_less network device k.node new c a w) x (omega (arith, lt, up)));
+      sent = λ c there.
+          let x = k.sent.sent c (subst (λ (l : List Compressed). Contains l c) a.emitted there) in
+          (x.0, omega (arith, x.1, high), subst (λ (n : ℕ). c.at.0 ≤ℤ pos n) (m.reads device x.0 (omega (arith, x.1, high))) x.2);
+    } in
     record {
       node = new;
       is = is;
@@ -296,37 +325,15 @@ kept_less stands network f g past event hs cursor now number ev device machine a
       high = now;
       doing = inl refl;
       told = λ over. absurd (let bad : now ≡ now + 1 = over in omega (arith, bad));
-      left =
-          other_comes r hs [] device now new ev (event_bears device ev.note.body m.events.is)
-          (subst (λ (l : List Happening). IsLeft r l device now new) (sym (append-nil hs)) (left up));
+      left = left_so;
       taken =
           a.taken ∙ k.taken ∙ ap (λ (l : List Happening). frames_taken (scenario network f past) l device) (append-nil hs)
           ∙ frames_alike (scenario network f past) r hs device now (λ x. refl) (m.reads device) past_all
           ∙ sym (ap (λ (l : List Happening). frames_taken r l device) (append-nil js)
           ∙ frames_end r hs ev device (event_takes device ev.note.body m.events.is)
           (λ h i. let early = past_all h i in let at = m.events.at in omega (arith, early, at)));
-      done = record {
-        undone = λ deed u x from lt.
-            let before = k.done.undone deed (undone_less network device k.node new deed a u) x (omega (arith, from, change)) (omega (arith, lt, up)) in
-            subst (λ (n : ℕ). pos n <ℤ (value_of network deed -ℤ new.standing.adjustment.0)) (m.reads device x (omega (arith, lt)))
-            (subst (λ (w : Units). pos (f device x) <ℤ (value_of network deed -ℤ w.0)) (sym a.adjustment) before);
-        done = λ deed there.
-            let x = k.done.done deed (subst (λ (l : List ClockTask). Contains l deed) a.done there) in (
-              x.0,
-              omega (arith, x.1, change),
-              omega (arith, x.2, high),
-              subst (λ (n : ℕ). (value_of network deed -ℤ new.standing.adjustment.0) ≤ℤ pos n) (m.reads device x.0 (omega (arith, x.2, high)))
-                  (subst (λ (w : Units). (value_of network deed -ℤ w.0) ≤ℤ pos (f device x.0)) (sym a.adjustment) x.3),
-            );
-      };
-      sent = record {
-        unsent =
-            λ c w x lt. subst (λ (n : ℕ). pos n <ℤ c.at.0) (m.reads device x (omega (arith, lt)))
-            (k.sent.unsent c (waiting_less network device k.node new c a w) x (omega (arith, lt, up)));
-        sent = λ c there.
-            let x = k.sent.sent c (subst (λ (l : List Compressed). Contains l c) a.emitted there) in
-            (x.0, omega (arith, x.1, high), subst (λ (n : ℕ). c.at.0 ≤ℤ pos n) (m.reads device x.0 (omega (arith, x.1, high))) x.2);
-      };
+      done = done_so;
+      sent = sent_so;
       bare = λ other. (a.points ∙ (k.bare other).0, a.emitted ∙ (k.bare other).1);
       ready = ready_less network f g device now k.node new (m.reads device) k.ready a.last (λ task p. pending_less network device k.node new task a p);
       still = λ same h i at. elim (only h i) [ inl lt ↦ absurd (omega (arith, lt, at)) | inr it ↦ inl (event_moves device h.note.body it.1) ];
@@ -337,6 +344,10 @@ kept_less stands network f g past event hs cursor now number ev device machine a
         befell = record { there = m.there; same_time = m.events.at };
         turned = λ b. absurd (never_self (now ∷ 2 ∷ []) b);
       };
+      cleared =
+          λ cycle there. subst (λ (n : ℕ). cycle < n) (sym a.number)
+          (k.cleared cycle (subst (λ (l : List ClockTask). Contains l (correcting cycle)) a.done there));
+      recorded = λ same. none_recorded r js now device new left_so done_so sent_so;
       phase =
           λ at p b. m.early p (k.phase (ap (λ (w : _). w.time.0) (sym a.last) ∙ at) p (subst (λ (c : _). IsBefore p (now ∷ rank_of_call c ∷ [])) a.phase b));
     }

@@ -7,14 +7,14 @@ use Rattle.net_plan.specs.declared.network.Network.{Network}
 use Rattle.run_law.proofs.runs.Grow.{empty_run}
 use Rattle.run_law.proofs.runs.Places.{before_later_time, chain}
 use Rattle.run_law.specs.control.Collections.{observation_window}
-use Rattle.run_law.specs.scenario.Devices.{start_of}
+use Rattle.run_law.specs.machines.Nodes.{Node, begun_node, dispatching, correcting, sending}
+use Rattle.run_law.specs.machines.Tasks.{IsPending, Task, doing, emitting, reading_for, value_of}
 use Rattle.run_law.specs.records.Happenings.{Happening, numbered}
-use Rattle.run_law.specs.machines.Nodes.{Node, begun_node}
 use Rattle.run_law.specs.records.Order.{IsBefore, IsIn}
 use Rattle.run_law.specs.records.Ranks.{place_of}
 use Rattle.run_law.specs.runs.DueRecords.{IsDue}
+use Rattle.run_law.specs.scenario.Devices.{start_of}
 use Rattle.run_law.specs.scenario.Scenarios.{Scenario}
-use Rattle.run_law.specs.machines.Tasks.{IsPending, Task, doing, emitting, reading_for, value_of}
 use Rattle.sync_state.specs.Standing.{adjustment_at_start}
 use Rattle.tte_units.specs.Amount.{amount}
 use Rattle.tte_units.specs.declared.units.Units.{Units}
@@ -106,6 +106,18 @@ kept_fresh stands network f device machine zero_first le is = record {
   };
   still = λ same h i. absurd i;
   turned = λ on. absurd cc;
+  cleared = λ cycle there. absurd (none_in (correcting cycle) there);
+  recorded = λ same. record {
+    sent = λ cycle there d. absurd (none_in (sending cycle) there);
+    emitted = λ c there r. absurd (none_in c there);
+    has_sent = λ z i cycle e. absurd i;
+    has_emitted = λ z i c verdict e. absurd i;
+    frames = λ z i c verdict e. absurd i;
+    of_now = λ z i. absurd i;
+    dispatched = λ link cause vl cycle d there. absurd (none_in (dispatching (record { 0 = d.place }) cycle) there);
+    has_dispatched = λ z i link cause vl cycle d e. absurd i;
+    ordered = λ z i c verdict e d w due. absurd i;
+  };
   phase = λ at p b. b;
 }
 

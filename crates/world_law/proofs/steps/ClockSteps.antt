@@ -5,17 +5,17 @@ use Rattle.std.proofs.lemmas.Int.{ints}
 use Rattle.net_plan.specs.declared.ids.DeviceId.{DeviceId}
 use Rattle.net_plan.specs.declared.network.Network.{Network}
 use Rattle.run_law.proofs.runs.Places.{before_behind, chain, either_way}
-use Rattle.run_law.specs.records.Happenings.{Happening, happening, happenings, time_of, up_to}
-use Rattle.run_law.specs.machines.Nodes.{Node}
-use Rattle.run_law.specs.records.Order.{IsBefore, behind}
-use Rattle.run_law.specs.records.Ranks.{key, members_in, place_of, rank}
-use Rattle.run_law.specs.runs.DueRecords.{IsDue}
-use Rattle.run_law.specs.scenario.Scenarios.{Scenario}
-use Rattle.run_law.specs.device.States.{adjustment_after, state_after}
 use Rattle.run_law.specs.declared.judgement.Why.TheVariants as whys
 use Rattle.run_law.specs.declared.note.Note.{Note}
 use Rattle.run_law.specs.declared.note.NoteBody.TheVariants as kinds
 use Rattle.run_law.specs.declared.note.NoteBody.{NoteBody}
+use Rattle.run_law.specs.device.States.{adjustment_after, state_after}
+use Rattle.run_law.specs.machines.Nodes.{Node}
+use Rattle.run_law.specs.records.Happenings.{Happening, happening, happenings, time_of, up_to}
+use Rattle.run_law.specs.records.Order.{IsBefore, behind}
+use Rattle.run_law.specs.records.Ranks.{key, members_in, place_of, rank}
+use Rattle.run_law.specs.runs.DueRecords.{IsDue}
+use Rattle.run_law.specs.scenario.Scenarios.{Scenario}
 use Rattle.tte_units.specs.Amount.{units_of}
 use Rattle.world_law.proofs.devices.Shown.{all_past, held_shows}
 use Rattle.world_law.proofs.giving.Given.{device_in, some_same}
@@ -26,7 +26,7 @@ use Rattle.world_law.proofs.putting.StandsOn.{comes_first, source_told, stands_o
 use Rattle.world_law.proofs.runs.SourcesBack.{at_least}
 use Rattle.world_law.specs.source.Sources.{IsOwnSource, IsSource}
 use Rattle.world_law.specs.world.Steps.{ArePutIn, ClockStep, settled_as}
-use Rattle.world_law.specs.world.World.{AreOfNetwork, IsHeld, clock_place, hidden, is_at_source, port_place, wire_place}
+use Rattle.world_law.specs.world.World.{AreOfNetwork, IsHeld, act_place, clock_place, hidden, is_at_source, port_place, wire_place}
 
 no_rank : {t now : ℕ} {ws more : List ℕ} (k r : ℕ) → now ∷ r ∷ more ≡ t ∷ k ∷ ws → (k ≡ r → ⊥) → ⊥
 no_rank k r e other = let same : k ≡ r = cc in other same
@@ -177,7 +177,8 @@ clock_step {C} {M} reading stands s world notes device machine state adjustment 
     let k = old.devices d within in (
       k.0,
       k.1,
-      held_put stands s hs [] [] (behind here) now d k.0 w tt
+      held_put stands s hs [] [] (behind here) now d k.0 w tt refl
+          (chain (act_place now d) here (behind here) (inr (refl, inl (omega arith))) (before_behind here))
           (held_moves stands s hs [] old.mark old.cursor now 14 more d k.0 moving (λ same. (let four : ◌≡◌ {A = ℕ} 4 14 = cc in omega (arith, four)))
           (subst (λ (l : List Happening). IsHeld stands s hs l old.cursor now d k.0) empty k.2)),
     ))

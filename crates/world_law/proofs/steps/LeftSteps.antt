@@ -5,16 +5,16 @@ use Rattle.std.proofs.lemmas.Int.{ints}
 use Rattle.std.proofs.lemmas.List.{length-map}
 use Rattle.net_plan.specs.declared.ids.DeviceId.{DeviceId}
 use Rattle.net_plan.specs.declared.network.Network.{Network}
-use Rattle.run_law.proofs.runs.Places.{before_behind, in_left, in_right, parted}
+use Rattle.run_law.proofs.runs.Places.{before_behind, chain, in_left, in_right, parted}
+use Rattle.run_law.specs.declared.note.Note.{Note}
+use Rattle.run_law.specs.declared.note.NoteBody.{NoteBody}
+use Rattle.run_law.specs.machines.Nodes.{Node}
 use Rattle.run_law.specs.records.Causes.{cause_of}
 use Rattle.run_law.specs.records.Happenings.{Happening, happening, happenings, numbered, time_of}
-use Rattle.run_law.specs.machines.Nodes.{Node}
 use Rattle.run_law.specs.records.Order.{AllBefore, IsBefore, IsIn, NoneBefore, behind}
 use Rattle.run_law.specs.records.Ranks.{members_in, place_of, rank}
 use Rattle.run_law.specs.runs.DueRecords.{IsDue}
 use Rattle.run_law.specs.scenario.Scenarios.{Scenario, is_broken}
-use Rattle.run_law.specs.declared.note.Note.{Note}
-use Rattle.run_law.specs.declared.note.NoteBody.{NoteBody}
 use Rattle.tte_units.specs.Amount.{units_of}
 use Rattle.world_law.proofs.giving.GivenParts.{second}
 use Rattle.world_law.proofs.putting.Alike.{happening_alike}
@@ -27,7 +27,7 @@ use Rattle.world_law.proofs.runs.SourcesBack.{at_least}
 use Rattle.world_law.proofs.steps.Outcomes.{body_cause, body_caused, body_idle, body_key, body_own, body_ranks, body_shown, departs_now, few_cause, nothing_of_broken, outcome_at, own_there}
 use Rattle.world_law.specs.source.Sources.{IsSource}
 use Rattle.world_law.specs.world.Steps.{ArePutIn, ComesFirst, IsWithout, LeftStep, StandsBehind, departure_body, departure_now, settled_as}
-use Rattle.world_law.specs.world.World.{AreOfNetwork, AreSettled, AtPort, IsHeld, Stands, World, hidden, is_at_source, none_yet, port_place, wire_place}
+use Rattle.world_law.specs.world.World.{AreOfNetwork, AreSettled, AtPort, IsHeld, Stands, World, act_place, hidden, is_at_source, none_yet, port_place, wire_place}
 
 -- ---- the source is first
 
@@ -200,7 +200,8 @@ gone_out reading stands s world notes e ports settled old i at first without sou
     left_behind reading stands s world notes e ports settled (put_list front w back) old i at first without shown_all (omega (arith, long, same_length, room))
     (settled_put s hs front back old.mark old.cursor now 8 more w p)
     (known_put s hs front back w idle (subst (λ (l : List Happening). AreOfNetwork s (hs ++ l)) parts.2 old.known))
-    (λ device machine k. held_put stands s hs front back (behind here) now device machine w idle
+    (λ device machine k. held_put stands s hs front back (behind here) now device machine w idle refl
+    (chain (act_place now device) here (behind here) (inr (refl, inl (omega arith))) (before_behind here))
     (subst (λ (l : List Happening). IsHeld stands s hs l (behind here) now device machine) parts.2 k))
 
 pub left_step : {C M : Type 0} (reading : C → ℕ → ℕ) (stands : M → Network → DeviceId → Node → Type 0) → LeftStep reading stands

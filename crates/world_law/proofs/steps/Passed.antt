@@ -13,21 +13,22 @@ use Rattle.net_plan.specs.declared.tables.Way.TheVariants.{Up, Down}
 use Rattle.net_plan.specs.declared.tables.Way.{Way}
 use Rattle.run_law.proofs.law.FirstPlaces.{numbered_in}
 use Rattle.run_law.proofs.runs.Places.{before_later_time, before_of_time, earlier_time}
-use Rattle.run_law.specs.device.LocalClocks.{changed_at}
 use Rattle.run_law.specs.control.Corrections.{has_cleared}
-use Rattle.run_law.specs.records.Happenings.{Happening, happenings, time_of, up_to}
+use Rattle.run_law.specs.declared.note.Note.{Note}
+use Rattle.run_law.specs.device.LocalClocks.{changed_at}
+use Rattle.run_law.specs.device.States.{adjustment_after, state_after}
 use Rattle.run_law.specs.machines.Nodes.{Node}
+use Rattle.run_law.specs.machines.Tasks.{IsPending, Task, doing, emitting, reading_for}
+use Rattle.run_law.specs.records.Happenings.{Happening, happenings, time_of, up_to}
 use Rattle.run_law.specs.records.Order.{IsBefore, IsIn}
 use Rattle.run_law.specs.records.Ranks.{members_in}
 use Rattle.run_law.specs.scenario.Scenarios.{Scenario}
-use Rattle.run_law.specs.device.States.{adjustment_after, state_after}
-use Rattle.run_law.specs.machines.Tasks.{IsPending, Task, doing, emitting, reading_for}
 use Rattle.run_law.specs.scenario.Ways.{cut_set, hold_set, wire_of, wire_set}
-use Rattle.run_law.specs.declared.note.Note.{Note}
 use Rattle.tte_units.specs.Amount.{amount}
 use Rattle.world_law.proofs.acts.Acting.{IsUnmoved, cleared_on, had_come_before}
 use Rattle.world_law.proofs.acts.Ready.{natural}
 use Rattle.world_law.proofs.acts.NoActs.{nothing_comes_before}
+use Rattle.world_law.proofs.acts.Recorded.{none_recorded}
 use Rattle.world_law.proofs.devices.OwnRecords.{change_still}
 use Rattle.world_law.proofs.devices.Passes.{passes_if}
 use Rattle.world_law.proofs.devices.Resting.{IsPast, IsWorked, are_past, at_rest}
@@ -274,6 +275,13 @@ device_passes stands s hs mark cursor now t device machine k lt steady precise b
       ready = ready_later s device k.node now t k.ready steady wide lt undone;
       turned = λ on. absurd (let bad : false ≡ true = sym off_later ∙ on in cc);
       still = λ same h i at. let early = past.past h (subst (λ (l : List Happening). IsIn h l) (sym whole) i) in absurd (omega (arith, early, at, lt));
+      cleared = k.cleared;
+      recorded = λ same. none_recorded s hs t device k.node (subst (λ (l : List Happening). IsLeft s l device t k.node) whole left)
+          (subst (λ (l : List Happening). HasDoneFrom s.network (s.reading device) device k.node (changed_at l device t) t t) whole done)
+          (record {
+            unsent = λ c w x before. undone (emitting c) (sound, w) x before;
+            sent = λ c there. let x = rest.sent.sent c there in (x.0, omega (arith, x.1, le), x.2);
+          });
       phase = λ at. let early = k.ready.time in absurd (too_late _ now t at early lt);
     }
   where

@@ -6,10 +6,12 @@ use Rattle.run_law.specs.machines.Nodes.{Node}
 use Rattle.run_law.specs.machines.Tasks.{IsPending, Task, reading_for}
 use Rattle.tte_units.specs.Amount.{amount}
 
--- between two units of time the clock goes on by less than the precision, it never falls, and it is never much ahead
+-- between two units of time the clock goes on by less than the precision, and by less than 2^22 units, which is less
+-- than any frame takes at a port; it never falls, and it is never much ahead
 pub record IsSteady (reading : ℕ → ℕ) (precision : ℕ) : Type 0 where
   pub never_falls : (t u : ℕ) → t ≤ u → reading t ≤ reading u
   pub no_jump : (t : ℕ) → reading (t + 1) < reading t + precision
+  pub no_leap : (t : ℕ) → reading (t + 1) < reading t + 2 ^ 22
   pub low : (t : ℕ) → t ≤ 2 ^ 60 → reading t ≤ 2 ^ 60 + 2 ^ 51
 
 -- at the time nothing has been due before, and what is due has not waited for as long as the precision

@@ -1,5 +1,5 @@
 -- Where a record of a run comes from: each that is due has a source, which stands in the order too, and no later.
-use Rattle.std.specs.Prelude.{◌≡◌, ◌⊎◌, ℕ, ◌+◌, List, [], ◌∷◌, Some, false}
+use Rattle.std.specs.Prelude.{◌≡◌, ◌⊎◌, ℕ, ◌+◌, List, [], ◌∷◌, Some, false, true}
 use Rattle.compression.specs.declared.compressed.Compressed.{Compressed}
 use Rattle.net_plan.specs.Places.{device_at}
 use Rattle.net_plan.specs.declared.event.What.{What}
@@ -23,7 +23,7 @@ use Rattle.run_law.specs.records.Causes.{IsOfThisTime}
 use Rattle.run_law.specs.runs.DueRecords.{EndsAt, IsDue, IsEventRecord}
 use Rattle.run_law.specs.scenario.Scenarios.{Scenario, is_broken}
 use Rattle.run_law.specs.control.Wires.{Arrives, Signal}
-use Rattle.run_law.specs.scenario.Ways.{hold_at, way_from}
+use Rattle.run_law.specs.scenario.Ways.{hold_at, is_cut, way_from}
 use Rattle.run_law.specs.declared.judgement.Judgement.{Judgement}
 use Rattle.run_law.specs.declared.judgement.Why.TheVariants.{SyncClique, AsyncClique}
 use Rattle.run_law.specs.declared.note.NoteBody.TheVariants as notes
@@ -103,7 +103,8 @@ IsOwnSource s hs t members (notes.State device state cause why) w = w ≡ t ∷ 
 IsOwnSource s hs t members (notes.Left device link cause clock) w = w ≡ t ∷ 8 ∷ device.0 ∷ link.0 ∷ cause ∷ []
 IsOwnSource s hs t members (notes.Lost device link cause) w =
     ((w ≡ t ∷ 8 ∷ device.0 ∷ link.0 ∷ cause ∷ []) × Departs s hs device t link cause on_cut_way)
-    ⊎ (((w ≡ t ∷ 4 ∷ device.0 ∷ []) × ((vl : VlId) × (cycle : ℕ) × Dispatches s hs device t link cause vl cycle))
+    ⊎ (((w ≡ t ∷ 4 ∷ device.0 ∷ []) × ((vl : VlId) × (cycle : ℕ) × Dispatches s hs device t link cause vl cycle
+    × (is_cut s link (way_from s.network device link) t ≡ true)))
     ⊎ ((w ≡ t ∷ 2 ∷ []) × IsSendLost s hs device t link cause))
 IsOwnSource s hs t members (notes.TtSent device link cause vl cycle) w = w ≡ t ∷ 4 ∷ device.0 ∷ []
 IsOwnSource s hs t members (notes.Accepted device link cause vl cycle) w = w ≡ t ∷ 2 ∷ device.0 ∷ link.0 ∷ cause ∷ []

@@ -254,8 +254,8 @@ pub record HaveBeen {M : Type 0} (stands : M → Network → DeviceId → Node �
       × ((node : Node) → stands machine s.network device node
       → stands after s.network device (befallen_node (is_turned_on_at s device now) what device node))
 
--- the event fits the world: it turns on a device of the network only where it is off, and has octets sent only by an end
--- system
+-- the event fits the world: it turns on a device of the network only where it is off, and has octets sent only by an
+-- end system
 abbrev pub FitsWorld : {C M : Type 0} → (M → Network → DeviceId → Node → Type 0) → Network → World C M → What → Type 0
 FitsWorld {C} {M} stands network world (events.On device) =
     (device.0 < length network.device)

@@ -38,6 +38,7 @@ use Rattle.world_law.specs.device.Ready.{IsReadyAt, IsSteady}
 use Rattle.world_law.specs.device.Deeds.{HasDoneFrom, HasSentFrom}
 use Rattle.world_law.specs.device.Left.{HasTaskBy, IsLeft}
 use Rattle.world_law.specs.device.Own.{moves}
+use Rattle.world_law.specs.device.Recorded.{AreRecorded, HasCleared}
 use Rattle.world_law.specs.device.Takings.{frames_taken}
 use Rattle.world_law.specs.source.First.{NoSourceBefore}
 use Rattle.world_law.specs.source.Sources.{IsActing, IsArriving, IsDeparting, IsOwnSource, IsRipening, IsSource}
@@ -296,6 +297,8 @@ pub record IsKept {M : Type 0} (stands : M → Network → DeviceId → Node →
   pub ready : IsReadyAt (s.reading device) s.network device node now
   pub still : up ≡ now → (h : Happening) → IsIn h (hs ++ coming) → time_of h ≡ now → IsAtRest s device now h.note.body
   pub turned : is_turned_on_at s device now ≡ true → HasTurnedOn s hs coming cursor device now
+  pub cleared : HasCleared node
+  pub recorded : up ≡ now → AreRecorded s (hs ++ coming) coming now device node
   pub phase : IsCalledBy node cursor now
 
 -- the machine stands for a device that is broken: it keeps the state and the adjustment of the records, and has no

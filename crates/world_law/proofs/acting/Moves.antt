@@ -1,0 +1,448 @@
+-- How a device stands at the next unit of time behind a record of the instant that moves it.
+use Rattle.std.proofs.Common.{◌≡◌, IfSome, ℕ, ◌+◌, ◌-◌, ◌≤◌, ◌<◌, ℤ, pos, ◌+ℤ◌, int_lt, int_le, Bool, true, false, not, ◌&&◌, ◌||◌, ◌==◌, if◌then◌else◌, List, [], ◌∷◌, ◌++◌, Option, Some, None, filter, filter_map, fold, inl, inr, refl, sym, ap, subst, ◌∙◌, arith}
+use Rattle.std.specs.Prelude.{nat_lt}
+use Rattle.std.specs.List.{after_last, last_or}
+use Rattle.std.specs.Option.{option_map_or}
+use Rattle.std.proofs.lemmas.Bool.{and_left, and_right, both_ways, eq-eqb, lt-ltb, ne_eqb}
+use Rattle.std.proofs.lemmas.List.{append-nil}
+use Rattle.std.proofs.lemmas.List.Elements.{filter-append}
+use Rattle.std.proofs.lemmas.List.Sums.{fold-append}
+use Rattle.compression.proofs.Held.{int_lt-false, int_le-false}
+use Rattle.membership.specs.Hearing.{Hearing}
+use Rattle.membership.specs.Summary.{Summary}
+use Rattle.net_plan.specs.declared.ids.DeviceId.{DeviceId}
+use Rattle.pcf_values.specs.declared.members.Members.{Members}
+use Rattle.pcf_values.specs.declared.pcf.Pcf.{Pcf}
+use Rattle.run_law.specs.control.Collections.{ends_stretch, point_by, points_of}
+use Rattle.run_law.specs.control.Corrections.{correction_value, cycle_after, hearing_by, heard_since, integration_cycle, is_integration_cycle, recorded_cycle}
+use Rattle.run_law.specs.declared.judgement.Judgement.TheVariants.{Integrates}
+use Rattle.run_law.specs.declared.judgement.Why.TheVariants as whys
+use Rattle.run_law.specs.declared.judgement.Why.{Why}
+use Rattle.run_law.specs.declared.note.NoteBody.TheVariants as notes
+use Rattle.run_law.specs.declared.note.NoteBody.{NoteBody}
+use Rattle.run_law.specs.declared.steps.Moment.{Moment}
+use Rattle.run_law.specs.device.LocalClocks.{changes_adjustment, local_at_change}
+use Rattle.run_law.specs.device.States.{adjustment_after, adjustment_with, cycle_in, is_joined_by, is_synchronised, joined_adjustment, state_after, state_with}
+use Rattle.run_law.specs.machines.Answers.{with_clique, with_corrected, with_joined}
+use Rattle.run_law.specs.machines.Nodes.{Node}
+use Rattle.run_law.specs.records.Happenings.{Happening, earlier, time_of}
+use Rattle.run_law.specs.scenario.Devices.{is_cm, plan_of}
+use Rattle.run_law.specs.scenario.Scenarios.{Scenario, is_broken, is_turned_on_at}
+use Rattle.sync_state.specs.Calls.{adjustment_by, state_by}
+use Rattle.sync_state.specs.Integration.{joined_by}
+use Rattle.sync_state.specs.declared.answers.Verdict.{Verdict}
+use Rattle.sync_state.specs.declared.plan.SyncPlan.{SyncPlan}
+use Rattle.sync_state.specs.declared.state.State.TheVariants.{Integrating, Joining, Synchronised}
+use Rattle.sync_state.specs.declared.state.State.{State}
+use Rattle.tte_units.specs.declared.units.Units.{Units}
+use Rattle.world_law.proofs.devices.Passes.{not_turned_on}
+use Rattle.world_law.proofs.lists.Lists.{behind_no, behind_yes, filter_no, filter_same, filter_yes, map_none}
+use Rattle.world_law.proofs.lists.Orders.{cases_int}
+use Rattle.world_law.specs.device.Left.{IsCounted, IsLeft, is_timed}
+use Rattle.world_law.specs.device.Told.{change_in, cleared_in, local_in, next_in, since_at}
+
+fold_more : {A B : Type 0} (f : B → A → B) (a : B) (xs : List A) (x : A) → fold f a (xs ++ x ∷ []) ≡ f (fold f a xs) x
+fold_more f a xs x = fold-append f a xs (x ∷ [])
+
+last_more : {X : Type 0} (o : Option X) (xs : List X) (x : X) → last_or o (xs ++ x ∷ []) ≡ Some x
+last_more o [] x = refl
+last_more o (y ∷ xs) x = last_more (Some y) xs x
+
+-- what it heard of these, which stand behind the last change
+abbrev heard_in : Scenario → DeviceId → List Happening → ℕ → List Happening → List Hearing
+heard_in s device w t since =
+    filter_map (λ h. hearing_by s.network device h h.note.body) (filter (λ h. not (cleared_in s device w t) || cleared_in s device w (time_of h)) since)
+
+-- how the device stands by the records before this time, but for what it has heard and cleared
+pub record IsBase (s : Scenario) (js : List Happening) (device : DeviceId) (u : ℕ) (node : Node) : Type 0 where
+  pub plan : node.standing.plan ≡ plan_of s.network device
+  pub state : node.standing.state ≡ state_after s (earlier u js) device
+  pub adjustment : node.standing.adjustment ≡ adjustment_after s (earlier u js) device
+  pub integrated : node.standing.integrated ≡ integration_cycle (earlier u js) device
+  pub least : is_timed node.standing.state ≡ true → recorded_cycle (earlier u js) device ≤ node.standing.number
+  pub changed : node.changed ≡ local_at_change s js device u
+  pub started : IfSome (integration_cycle (earlier u js) device) (λ cycle. cycle ≤ recorded_cycle (earlier u js) device)
+  pub broken : node.broken ≡ is_broken s device u
+  pub points : is_cm s.network device ≡ true → node.points ≡ points_of js device
+
+-- ---- the record is one of those before
+
+pub one_earlier : (u : ℕ) (hs : List Happening) (h : Happening) → time_of h < u → earlier u (hs ++ h ∷ []) ≡ earlier u hs ++ h ∷ []
+one_earlier u hs h lt = filter_yes (λ g. nat_lt (time_of g) u) hs h (lt-ltb (time_of h) u lt)
+
+self : (device : DeviceId) → (device.0 == device.0) ≡ true
+self device = eq-eqb device.0 device.0 refl
+
+-- the adjustment changed last with this record
+pub changed_by : (device : DeviceId) (w : List Happening) (h : Happening) → changes_adjustment device h.note.body ≡ true
+    → change_in device (w ++ h ∷ []) ≡ time_of h
+changed_by device w h it =
+    ap (λ (l : List Happening). option_map_or time_of (last_or None l) 0) (filter_yes (λ g. changes_adjustment device g.note.body) w h it)
+    ∙ ap (λ (o : Option Happening). option_map_or time_of o 0) (last_more None (filter (λ g. changes_adjustment device g.note.body) w) h)
+
+-- and nothing has been heard since
+pub heard_anew : (s : Scenario) (hs : List Happening) (device : DeviceId) (u : ℕ) (h : Happening) → time_of h < u → changes_adjustment device h.note.body ≡ true
+    → heard_since s (hs ++ h ∷ []) device u ≡ []
+heard_anew s hs device u h lt it =
+    let here : (nat_lt (time_of h) u && changes_adjustment device h.note.body) ≡ true =
+    ap (λ (b : Bool). b && changes_adjustment device h.note.body) (lt-ltb (time_of h) u lt) ∙ it in
+    ap (heard_in s device (earlier u (hs ++ h ∷ [])) u) (behind_yes (λ g. nat_lt (time_of g) u && changes_adjustment device g.note.body) hs h here)
+
+-- ---- a correction
+
+beyond : (o : Option ℕ) (least cycle : ℕ) → least ≤ cycle → IfSome o (λ c. c ≤ least) → option_map_or (λ c. (cycle + 1) == c) o false ≡ false
+beyond None least cycle le h = refl
+beyond (Some c) least cycle le h = ne_eqb (cycle + 1) c (λ e. omega (arith, e, h, le))
+
+started_on : (o : Option ℕ) (least cycle : ℕ) → least ≤ cycle → IfSome o (λ c. c ≤ least) → IfSome o (λ c. c ≤ cycle + 1)
+started_on None least cycle le h = h
+started_on (Some c) least cycle le h = omega (arith, h, le)
+
+state_corrected : (s : Scenario) (device : DeviceId) (w : List Happening) (h : Happening) (cycle : ℕ) (by adjustment : Units)
+    → h.note.body ≡ notes.Corrected device cycle by adjustment → state_after s (w ++ h ∷ []) device ≡ state_after s w device
+state_corrected s device w h cycle by adjustment e =
+    fold_more (λ state g. state_with device state g.note.body) _ w h ∙ ap (state_with device (state_after s w device)) e
+
+adjustment_corrected : (s : Scenario) (device : DeviceId) (w : List Happening) (h : Happening) (cycle : ℕ) (by adjustment : Units)
+    → h.note.body ≡ notes.Corrected device cycle by adjustment → adjustment_after s (w ++ h ∷ []) device ≡ adjustment
+adjustment_corrected s device w h cycle by adjustment e =
+    fold_more (λ old g. adjustment_with s device (cycle_in g) old g.note.body) _ w h
+    ∙ ap (adjustment_with s device (cycle_in h) (adjustment_after s w device)) e
+    ∙ ap (λ (b : Bool). if b then adjustment else adjustment_after s w device) (self device)
+
+integration_corrected : (device : DeviceId) (w : List Happening) (h : Happening) (cycle : ℕ) (by adjustment : Units)
+    → h.note.body ≡ notes.Corrected device cycle by adjustment → integration_cycle (w ++ h ∷ []) device ≡ integration_cycle w device
+integration_corrected device w h cycle by adjustment e =
+    fold_more (λ last g. if is_joined_by device g.note.body then Some (cycle_in g) else last) None w h
+    ∙ ap (λ (b : NoteBody). if is_joined_by device b then Some (cycle_in h) else integration_cycle w device) e
+
+cycle_corrected : (device : DeviceId) (w : List Happening) (h : Happening) (cycle : ℕ) (by adjustment : Units)
+    → h.note.body ≡ notes.Corrected device cycle by adjustment → recorded_cycle (w ++ h ∷ []) device ≡ cycle + 1
+cycle_corrected device w h cycle by adjustment e =
+    fold_more (λ next g. cycle_after device next g g.note.body) 1 w h
+    ∙ ap (cycle_after device (recorded_cycle w device) h) e
+    ∙ ap (λ (b : Bool). if b then cycle + 1 else recorded_cycle w device) (self device)
+
+change_corrected : (device : DeviceId) (h : Happening) (cycle : ℕ) (by adjustment : Units) → h.note.body ≡ notes.Corrected device cycle by adjustment
+    → changes_adjustment device h.note.body ≡ true
+change_corrected device h cycle by adjustment e = ap (changes_adjustment device) e ∙ self device
+
+same_units : (a b : Units) → a.0 ≡ b.0 → a ≡ b
+same_units a b same = ap (λ (n : ℤ). let t : Units = record { 0 = n } in t) same
+
+-- the record of a correction of the device, at a moment of a time before u: of the point that was next, and with the sum
+pub record IsCorrectedSo (s : Scenario) (device : DeviceId) (u : ℕ) (node : Node) (h : Happening) (cycle : ℕ) (by adjustment : Units)
+    (moment : Moment) : Type 0 where
+  pub body : h.note.body ≡ notes.Corrected device cycle by adjustment
+  pub before : time_of h < u
+  pub timed : is_timed node.standing.state ≡ true
+  pub number : node.standing.number ≡ cycle
+  pub sum : (node.standing.adjustment.0 +ℤ by.0) ≡ adjustment.0
+  pub reads : moment.reading.0 ≡ pos (s.reading device (time_of h))
+
+pub corrected_counts : (s : Scenario) (hs : List Happening) (device : DeviceId) (u : ℕ) (node : Node) (h : Happening) (cycle : ℕ) (by adjustment : Units)
+    (moment : Moment) (heard : Summary)
+    → IsCorrectedSo s device u node h cycle by adjustment moment → IsBase s hs device u node
+    → IsCounted s (hs ++ h ∷ []) device u (with_corrected node moment heard by)
+corrected_counts s hs device u node h cycle by adjustment moment heard so left =
+    let w = earlier u hs in
+    let more = one_earlier u hs h so.before in
+    let e = so.body in
+    let changes = change_corrected device h cycle by adjustment e in
+    let recorded = cycle_corrected device w h cycle by adjustment e in
+    let integration = integration_corrected device w h cycle by adjustment e in
+    let adjusted = adjustment_corrected s device w h cycle by adjustment e in
+    let least : recorded_cycle w device ≤ cycle = omega (arith, left.least so.timed, so.number) in
+    let other : is_integration_cycle (w ++ h ∷ []) device ≡ false =
+    ap (λ (o : Option ℕ). option_map_or (λ c. recorded_cycle (w ++ h ∷ []) device == c) o false) integration
+    ∙ ap (λ (n : ℕ). option_map_or (λ c. n == c) (integration_cycle w device) false) recorded
+    ∙ beyond (integration_cycle w device) (recorded_cycle w device) cycle least left.started in
+    let none : cleared_in s device (w ++ h ∷ []) u ≡ false =
+    ap (λ (b : Bool). b && (int_lt (local_in s device (w ++ h ∷ [])) (correction_value s.network (recorded_cycle (w ++ h ∷ []) device))
+    && int_le (correction_value s.network (recorded_cycle (w ++ h ∷ []) device))
+    (pos (s.reading device (u - 1)) +ℤ (adjustment_after s (w ++ h ∷ []) device).0))) other in
+    let next : next_in s device (w ++ h ∷ []) u ≡ cycle + 1 =
+    ap (λ (b : Bool). if b then recorded_cycle (w ++ h ∷ []) device + 1 else recorded_cycle (w ++ h ∷ []) device) none ∙ recorded in
+    let local : local_in s device (w ++ h ∷ []) ≡ (pos (s.reading device (time_of h)) +ℤ adjustment.0) =
+    ap (λ (n : ℕ). pos (s.reading device n) +ℤ (adjustment_after s (w ++ h ∷ []) device).0) (changed_by device w h changes)
+    ∙ ap (λ (a : Units). pos (s.reading device (time_of h)) +ℤ a.0) adjusted in
+    record {
+      plan = left.plan;
+      adjustment = same_units _ adjustment so.sum ∙ sym adjusted ∙ ap (λ (l : List Happening). adjustment_after s l device) (sym more);
+      integrated = left.integrated ∙ sym integration ∙ ap (λ (l : List Happening). integration_cycle l device) (sym more);
+      number = λ timed. ap (λ (n : ℕ). n + 1) so.number ∙ sym next ∙ ap (λ (l : List Happening). next_in s device l u) (sym more);
+      changed =
+          ap (λ (z : ℤ). z +ℤ (node.standing.adjustment.0 +ℤ by.0)) so.reads
+          ∙ ap (λ (z : ℤ). pos (s.reading device (time_of h)) +ℤ z) so.sum
+          ∙ sym local ∙ ap (local_in s device) (sym more);
+      heard = λ timed. sym (heard_anew s hs device u h so.before changes);
+      started =
+          subst (λ (l : List Happening). IfSome (integration_cycle l device) (λ c. c ≤ recorded_cycle l device)) (sym more)
+          (subst (λ (n : ℕ). IfSome (integration_cycle (w ++ h ∷ []) device) (λ c. c ≤ n)) (sym recorded)
+          (subst (λ (o : Option ℕ). IfSome o (λ c. c ≤ cycle + 1)) (sym integration)
+          (started_on (integration_cycle w device) (recorded_cycle w device) cycle least left.started)));
+      broken = left.broken;
+    }
+
+-- a synchronised device that has corrected its clock stands as the records leave it
+pub corrects : (s : Scenario) (hs : List Happening) (device : DeviceId) (u : ℕ) (node : Node) (h : Happening) (cycle : ℕ) (by adjustment : Units)
+    (moment : Moment) (heard : Summary)
+    → IsCorrectedSo s device u node h cycle by adjustment moment → node.standing.state ≡ Synchronised → is_turned_on_at s device u ≡ false
+    → IsBase s hs device u node → IsLeft s (hs ++ h ∷ []) device u (with_corrected node moment heard by)
+corrects s hs device u node h cycle by adjustment moment heard so synchronised off left =
+    let e = so.body in
+    record {
+      counted = corrected_counts s hs device u node h cycle by adjustment moment heard so left;
+      state =
+          sym synchronised ∙ left.state
+          ∙ sym (state_corrected s device (earlier u hs) h cycle by adjustment e)
+          ∙ ap (λ (l : List Happening). state_after s l device) (sym (one_earlier u hs h so.before))
+          ∙ sym (not_turned_on s (hs ++ h ∷ []) device u off);
+      points = λ cm.
+          ap (λ (x : State). if is_synchronised x then node.points else []) synchronised
+          ∙ left.points cm
+          ∙ sym (map_none (λ g. point_by device g g.note.body) (after_last (λ g. ends_stretch device g.note.body) hs) h (ap (point_by device h) e))
+          ∙ sym (ap (filter_map (λ g. point_by device g g.note.body)) (behind_no (λ g. ends_stretch device g.note.body) hs h (ap (ends_stretch device) e)));
+    }
+
+-- ---- a change of state
+
+state_changed : (s : Scenario) (device : DeviceId) (w : List Happening) (h : Happening) (state : State) (cause : ℕ) (why : Why)
+    → h.note.body ≡ notes.State device state cause why → state_after s (w ++ h ∷ []) device ≡ state
+state_changed s device w h state cause why e =
+    fold_more (λ old g. state_with device old g.note.body) _ w h
+    ∙ ap (state_with device (state_after s w device)) e
+    ∙ ap (λ (b : Bool). if b then state else state_after s w device) (self device)
+
+-- a record that changes none of what the others tell
+record TellsNoMore (s : Scenario) (device : DeviceId) (w : List Happening) (h : Happening) : Type 0 where
+  pub next : (u : ℕ) → next_in s device (w ++ h ∷ []) u ≡ next_in s device w u
+  pub local : local_in s device (w ++ h ∷ []) ≡ local_in s device w
+  pub heard : (u : ℕ) (since : List Happening) → heard_in s device (w ++ h ∷ []) u since ≡ heard_in s device w u since
+
+-- what a joiner has cleared, by its numbers
+abbrev cleared_as : Scenario → DeviceId → Option ℕ → ℕ → ℕ → Units → ℕ → Bool
+cleared_as s device integration cycle changed adjustment by =
+    option_map_or (λ c. cycle == c) integration false
+    && (int_lt (pos (s.reading device changed) +ℤ adjustment.0) (correction_value s.network cycle)
+    && int_le (correction_value s.network cycle) (pos (s.reading device (by - 1)) +ℤ adjustment.0))
+
+told_by : (s : Scenario) (device : DeviceId) (w : List Happening) (h : Happening) → integration_cycle (w ++ h ∷ []) device ≡ integration_cycle w device
+    → recorded_cycle (w ++ h ∷ []) device ≡ recorded_cycle w device
+    → change_in device (w ++ h ∷ []) ≡ change_in device w → adjustment_after s (w ++ h ∷ []) device ≡ adjustment_after s w device → TellsNoMore s device w h
+told_by s device w h integration recorded changed adjusted =
+    let more = w ++ h ∷ [] in
+    let cleared : (by : ℕ) → cleared_in s device more by ≡ cleared_in s device w by = λ by.
+    ap (λ (o : Option ℕ). cleared_as s device o (recorded_cycle more device) (change_in device more) (adjustment_after s more device) by) integration
+    ∙ ap (λ (n : ℕ). cleared_as s device (integration_cycle w device) n (change_in device more) (adjustment_after s more device) by) recorded
+    ∙ ap (λ (n : ℕ). cleared_as s device (integration_cycle w device) (recorded_cycle w device) n (adjustment_after s more device) by) changed
+    ∙ ap (λ (a : Units). cleared_as s device (integration_cycle w device) (recorded_cycle w device) (change_in device w) a by) adjusted in
+    record {
+      next = λ u.
+          ap (λ (b : Bool). if b then recorded_cycle more device + 1 else recorded_cycle more device) (cleared u)
+          ∙ ap (λ (n : ℕ). if cleared_in s device w u then n + 1 else n) recorded;
+      local =
+          ap (λ (n : ℕ). pos (s.reading device n) +ℤ (adjustment_after s more device).0) changed
+          ∙ ap (λ (a : Units). pos (s.reading device (change_in device w)) +ℤ a.0) adjusted;
+      heard = λ u since.
+          ap (filter_map (λ g. hearing_by s.network device g g.note.body))
+          (filter_same (λ g. not (cleared_in s device more u) || cleared_in s device more (time_of g)) (λ g. not (cleared_in s device w u)
+          || cleared_in s device w (time_of g)) since
+          (λ g i. ap (λ (b : Bool). not b || cleared_in s device more (time_of g)) (cleared u) ∙ ap (λ (b : Bool). not (cleared_in s device w u) || b)
+          (cleared (time_of g))));
+    }
+
+heard_none_by : (s : Scenario) (device : DeviceId) (kept : List Happening) (h : Happening) (b : Bool) → hearing_by s.network device h h.note.body ≡ None
+    → filter_map (λ g. hearing_by s.network device g g.note.body) (kept ++ (if b then h ∷ [] else [])) ≡ filter_map
+    (λ g. hearing_by s.network device g g.note.body) kept
+heard_none_by s device kept h true none = map_none (λ g. hearing_by s.network device g g.note.body) kept h none
+heard_none_by s device kept h false none = ap (filter_map (λ g. hearing_by s.network device g g.note.body)) (append-nil kept)
+
+-- a record by which the device hears nothing
+heard_none : (s : Scenario) (device : DeviceId) (w since : List Happening) (u : ℕ) (h : Happening) → hearing_by s.network device h h.note.body ≡ None
+    → heard_in s device w u (since ++ h ∷ []) ≡ heard_in s device w u since
+heard_none s device w since u h none =
+    ap (filter_map (λ g. hearing_by s.network device g g.note.body)) (filter-append (λ g. not (cleared_in s device w u) || cleared_in s device w (time_of g))
+    since (h ∷ []))
+    ∙ heard_none_by s device (filter (λ g. not (cleared_in s device w u) || cleared_in s device w (time_of g)) since) h
+    (not (cleared_in s device w u) || cleared_in s device w (time_of h)) none
+
+-- all but its state and its points is told by the other records
+pub change_counts : (s : Scenario) (hs : List Happening) (device : DeviceId) (u : ℕ) (node : Node) (h : Happening) (state : State) (cause : ℕ) (why : Why)
+    → h.note.body ≡ notes.State device state cause why → time_of h < u → IsCounted s hs device u node → IsCounted s (hs ++ h ∷ []) device u node
+change_counts s hs device u node h state cause why e lt left =
+    let w = earlier u hs in
+    let more = one_earlier u hs h lt in
+    let adjusted : adjustment_after s (w ++ h ∷ []) device ≡ adjustment_after s w device =
+    fold_more (λ old g. adjustment_with s device (cycle_in g) old g.note.body) _ w h ∙ ap (adjustment_with s device (cycle_in h) (adjustment_after s w device))
+    e in
+    let integration : integration_cycle (w ++ h ∷ []) device ≡ integration_cycle w device =
+    fold_more (λ last g. if is_joined_by device g.note.body then Some (cycle_in g) else last) None w h
+    ∙ ap (λ (b : NoteBody). if is_joined_by device b then Some (cycle_in h) else integration_cycle w device) e in
+    let recorded : recorded_cycle (w ++ h ∷ []) device ≡ recorded_cycle w device =
+    fold_more (λ next g. cycle_after device next g g.note.body) 1 w h ∙ ap (cycle_after device (recorded_cycle w device) h) e in
+    let changed : change_in device (w ++ h ∷ []) ≡ change_in device w =
+    ap (λ (l : List Happening). option_map_or time_of (last_or None l) 0)
+    (filter_no (λ g. changes_adjustment device g.note.body) w h (ap (changes_adjustment device) e)) in
+    let told = told_by s device w h integration recorded changed adjusted in
+    let late : (nat_lt (time_of h) u && changes_adjustment device h.note.body) ≡ false = and_right _ _ (ap (changes_adjustment device) e) in
+    record {
+      plan = left.plan;
+      adjustment = left.adjustment ∙ sym adjusted ∙ ap (λ (l : List Happening). adjustment_after s l device) (sym more);
+      integrated = left.integrated ∙ sym integration ∙ ap (λ (l : List Happening). integration_cycle l device) (sym more);
+      number = λ timed. left.number timed ∙ sym (told.next u) ∙ ap (λ (l : List Happening). next_in s device l u) (sym more);
+      changed = left.changed ∙ sym told.local ∙ ap (local_in s device) (sym more);
+      heard = λ timed.
+          left.heard timed
+          ∙ sym (told.heard u (since_at device u hs))
+          ∙ ap (λ (l : List Happening). heard_in s device l u (since_at device u hs)) (sym more)
+          ∙ sym (heard_none s device (earlier u (hs ++ h ∷ [])) (since_at device u hs) u h (ap (hearing_by s.network device h) e))
+          ∙ sym (ap (heard_in s device (earlier u (hs ++ h ∷ [])) u) (behind_no (λ g. nat_lt (time_of g) u && changes_adjustment device g.note.body) hs h
+          late));
+      started =
+          subst (λ (l : List Happening). IfSome (integration_cycle l device) (λ c. c ≤ recorded_cycle l device)) (sym more)
+          (subst (λ (n : ℕ). IfSome (integration_cycle (w ++ h ∷ []) device) (λ c. c ≤ n)) (sym recorded)
+          (subst (λ (o : Option ℕ). IfSome o (λ c. c ≤ recorded_cycle w device)) (sym integration) left.started));
+      broken = left.broken;
+    }
+
+-- the state and the points are those of the record, which ends the stretch
+pub change_leaves : (s : Scenario) (hs : List Happening) (device : DeviceId) (u : ℕ) (node : Node) (h : Happening) (state : State) (cause : ℕ) (why : Why)
+    → h.note.body ≡ notes.State device state cause why → ends_stretch device (notes.State device state cause why) ≡ true → time_of h < u
+    → is_turned_on_at s device u ≡ false
+    → node.standing.state ≡ state → (is_cm s.network device ≡ true → node.points ≡ []) → IsCounted s (hs ++ h ∷ []) device u node
+    → IsLeft s (hs ++ h ∷ []) device u node
+change_leaves s hs device u node h state cause why e ends lt off is none counted = record {
+  counted = counted;
+  state =
+      is
+      ∙ sym (state_changed s device (earlier u hs) h state cause why e)
+      ∙ ap (λ (l : List Happening). state_after s l device) (sym (one_earlier u hs h lt))
+      ∙ sym (not_turned_on s (hs ++ h ∷ []) device u off);
+  points =
+      λ cm. none cm
+      ∙ sym (ap (filter_map (λ g. point_by device g g.note.body)) (behind_yes (λ g. ends_stretch device g.note.body) hs h (ap (ends_stretch device) e ∙ ends)));
+}
+
+-- a joiner that has its first correction stands as both records leave it
+pub joiner_corrects : (s : Scenario) (hs : List Happening) (device : DeviceId) (u : ℕ) (node : Node) (h g : Happening) (cycle cause : ℕ) (by adjustment : Units)
+    (moment : Moment) (heard : Summary)
+    → IsCorrectedSo s device u node h cycle by adjustment moment → node.standing.state ≡ Joining → is_turned_on_at s device u ≡ false
+    → g.note.body ≡ notes.State device Synchronised cause whys.Correction → time_of g < u
+    → IsBase s hs device u node → IsLeft s ((hs ++ h ∷ []) ++ g ∷ []) device u (with_corrected node moment heard by)
+joiner_corrects s hs device u node h g cycle cause by adjustment moment heard so joining off e lt left =
+    change_leaves s (hs ++ h ∷ []) device u (with_corrected node moment heard by) g Synchronised cause whys.Correction e (self device) lt off refl
+    (λ cm. ap (λ (x : State). if is_synchronised x then node.points else []) joining)
+    (change_counts s (hs ++ h ∷ []) device u (with_corrected node moment heard by) g Synchronised cause whys.Correction e lt
+    (corrected_counts s hs device u node h cycle by adjustment moment heard so left))
+
+-- a clique verdict changes no part that counts in the state that it leads to
+clique_counts : (s : Scenario) (hs : List Happening) (device : DeviceId) (u : ℕ) (node : Node) (heard : Summary) (verdict : Verdict)
+    → state_by node.standing.state verdict ≡ Integrating
+    → adjustment_by node.standing.adjustment verdict ≡ node.standing.adjustment → IsBase s hs device u node
+    → IsCounted s hs device u (with_clique node heard verdict)
+clique_counts s hs device u node heard verdict lost same left =
+    let untimed : is_timed (state_by node.standing.state verdict) ≡ false = ap is_timed lost in
+    record {
+      plan = left.plan;
+      adjustment = same ∙ left.adjustment;
+      integrated = left.integrated;
+      number = λ timed. absurd (both_ways _ untimed timed);
+      changed = left.changed;
+      heard = λ timed. absurd (both_ways _ untimed timed);
+      started = left.started;
+      broken = left.broken;
+    }
+
+-- a device that found itself outside the others stands as the record of its state leaves it
+pub cliques : (s : Scenario) (hs : List Happening) (device : DeviceId) (u : ℕ) (node : Node) (h : Happening) (cause : ℕ) (why : Why) (heard : Summary)
+    (verdict : Verdict)
+    → state_by node.standing.state verdict ≡ Integrating → adjustment_by node.standing.adjustment verdict ≡ node.standing.adjustment
+    → h.note.body ≡ notes.State device Integrating cause why → ends_stretch device (notes.State device Integrating cause why) ≡ true → time_of h < u
+    → is_turned_on_at s device u ≡ false → IsBase s hs device u node → IsLeft s (hs ++ h ∷ []) device u (with_clique node heard verdict)
+cliques s hs device u node h cause why heard verdict lost same e ends lt off left =
+    change_leaves s hs device u (with_clique node heard verdict) h Integrating cause why e ends lt off lost (λ cm. refl)
+    (change_counts s hs device u (with_clique node heard verdict) h Integrating cause why e lt (clique_counts s hs device u node heard verdict lost same left))
+
+-- ---- a frame tells the time
+
+-- right after a change nothing has come to what its clock showed then, or to what lies before
+not_yet : (a v : ℤ) → (int_lt a v && int_le v a) ≡ false
+not_yet a v = elim (cases_int a v) [ inl lt ↦ and_right _ _ (int_le-false v a lt) | inr ge ↦ and_left _ _ (int_lt-false a v ge) ]
+
+-- the record tells the device the time, at the moment before u: no time is between the two
+pub record IsJoinedSo (s : Scenario) (device : DeviceId) (u : ℕ) (h : Happening) (opened : Units) (cycle : ℕ) (members : Members) (point : Units) (frame : Pcf)
+    (moment : Moment) : Type 0 where
+  pub body : h.note.body ≡ notes.Compressed device opened point cycle members Integrates
+  pub same_cycle : frame.cycle ≡ cycle
+  pub of_frame : h.frame ≡ Some frame
+  pub before : u ≡ time_of h + 1
+  pub reads : moment.reading.0 ≡ pos (s.reading device (time_of h))
+
+pub joins : (s : Scenario) (hs : List Happening) (device : DeviceId) (u : ℕ) (node : Node) (h : Happening) (opened : Units) (cycle : ℕ) (members : Members)
+    (point : Units) (frame : Pcf) (moment : Moment)
+    → IsJoinedSo s device u h opened cycle members point frame moment → is_turned_on_at s device u ≡ false
+    → node.standing.plan ≡ plan_of s.network device → node.broken ≡ is_broken s device u
+    → IsLeft s (hs ++ h ∷ []) device u (with_joined node moment frame point)
+joins s hs device u node h opened cycle members point frame moment so off plan sound =
+    let w = earlier u hs in
+    let lt : time_of h < u = omega (arith, so.before) in
+    let more = one_earlier u hs h lt in
+    let e = so.body in
+    let joined : is_joined_by device h.note.body ≡ true = ap (is_joined_by device) e ∙ self device in
+    let changes : changes_adjustment device h.note.body ≡ true = ap (changes_adjustment device) e ∙ self device in
+    let of_cycle : cycle_in h ≡ frame.cycle = ap (λ (o : Option Pcf). option_map_or (λ f. f.cycle) o 0) so.of_frame in
+    let adjusted : adjustment_after s (w ++ h ∷ []) device ≡ joined_adjustment s device cycle point =
+    fold_more (λ old g. adjustment_with s device (cycle_in g) old g.note.body) _ w h
+    ∙ ap (adjustment_with s device (cycle_in h) (adjustment_after s w device)) e
+    ∙ ap (λ (b : Bool). if b then joined_adjustment s device cycle point else adjustment_after s w device) (self device) in
+    let integration : integration_cycle (w ++ h ∷ []) device ≡ Some (cycle_in h) =
+    fold_more (λ last g. if is_joined_by device g.note.body then Some (cycle_in g) else last) None w h
+    ∙ ap (λ (b : Bool). if b then Some (cycle_in h) else integration_cycle w device) joined in
+    let recorded : recorded_cycle (w ++ h ∷ []) device ≡ cycle_in h =
+    fold_more (λ next g. cycle_after device next g g.note.body) 1 w h
+    ∙ ap (cycle_after device (recorded_cycle w device) h) e
+    ∙ ap (λ (b : Bool). if b then cycle_in h else recorded_cycle w device) (self device) in
+    let at : u - 1 ≡ time_of h = omega (arith, so.before) in
+    let local : local_in s device (w ++ h ∷ []) ≡ (pos (s.reading device (time_of h)) +ℤ (adjustment_after s (w ++ h ∷ []) device).0) =
+    ap (λ (n : ℕ). pos (s.reading device n) +ℤ (adjustment_after s (w ++ h ∷ []) device).0) (changed_by device w h changes) in
+    let v = correction_value s.network (recorded_cycle (w ++ h ∷ []) device) in
+    let none : cleared_in s device (w ++ h ∷ []) u ≡ false =
+    and_right (is_integration_cycle (w ++ h ∷ []) device) _
+    (ap (λ (z : ℤ). int_lt z v && int_le v (pos (s.reading device (u - 1)) +ℤ (adjustment_after s (w ++ h ∷ []) device).0)) local
+    ∙ ap (λ (n : ℕ). int_lt (pos (s.reading device (time_of h)) +ℤ (adjustment_after s (w ++ h ∷ []) device).0) v
+    && int_le v (pos (s.reading device n) +ℤ (adjustment_after s (w ++ h ∷ []) device).0)) at
+    ∙ not_yet (pos (s.reading device (time_of h)) +ℤ (adjustment_after s (w ++ h ∷ []) device).0) v) in
+    let own : joined_adjustment s device cycle point ≡ (joined_by node.standing.plan frame point).adjustment =
+    ap (λ (n : ℕ). joined_adjustment s device n point) (sym so.same_cycle)
+    ∙ ap (λ (p : SyncPlan). (joined_by p frame point).adjustment) (sym plan) in
+    record {
+      counted = record {
+        plan = plan;
+        adjustment = sym own ∙ sym adjusted ∙ ap (λ (l : List Happening). adjustment_after s l device) (sym more);
+        integrated = sym (ap (λ (n : ℕ). Some n) of_cycle) ∙ sym integration ∙ ap (λ (l : List Happening). integration_cycle l device) (sym more);
+        number = λ timed.
+            sym of_cycle ∙ sym recorded
+            ∙ sym (ap (λ (b : Bool). if b then recorded_cycle (w ++ h ∷ []) device + 1 else recorded_cycle (w ++ h ∷ []) device) none)
+            ∙ ap (λ (l : List Happening). next_in s device l u) (sym more);
+        changed =
+            ap (λ (z : ℤ). z +ℤ (joined_by node.standing.plan frame point).adjustment.0) so.reads
+            ∙ ap (λ (a : Units). pos (s.reading device (time_of h)) +ℤ a.0) (sym own ∙ sym adjusted)
+            ∙ sym local ∙ ap (local_in s device) (sym more);
+        heard = λ timed. sym (heard_anew s hs device u h lt changes);
+        started =
+            subst (λ (l : List Happening). IfSome (integration_cycle l device) (λ c. c ≤ recorded_cycle l device)) (sym more)
+            (subst (λ (n : ℕ). IfSome (integration_cycle (w ++ h ∷ []) device) (λ c. c ≤ n)) (sym recorded)
+            (subst (λ (o : Option ℕ). IfSome o (λ c. c ≤ cycle_in h)) (sym integration) (omega arith)));
+        broken = sound;
+      };
+      state =
+          sym (fold_more (λ old g. state_with device old g.note.body) _ w h
+          ∙ ap (state_with device (state_after s w device)) e
+          ∙ ap (λ (b : Bool). if b then Joining else state_after s w device) (self device))
+          ∙ ap (λ (l : List Happening). state_after s l device) (sym more)
+          ∙ sym (not_turned_on s (hs ++ h ∷ []) device u off);
+      points =
+          λ cm. sym (ap (filter_map (λ g. point_by device g g.note.body))
+          (behind_yes (λ g. ends_stretch device g.note.body) hs h (ap (ends_stretch device) e ∙ self device)));
+    }

@@ -1,0 +1,119 @@
+-- A dispatch is told apart from other losses by its cause, and where a device has not acted no record to come tells of one.
+use Rattle.std.proofs.Common.{◌≡◌, ◌⊎◌, ℕ, ◌+◌, ◌<◌, Bool, true, false, if◌then◌else◌, List, [], ◌∷◌, ◌++◌, Option, Some, None, filter, inl, inr, refl, sym, ap, subst, ◌∙◌, arith}
+use Rattle.std.proofs.lemmas.Bool.{cases_Bool}
+use Rattle.net_plan.specs.declared.ids.DeviceId.{DeviceId}
+use Rattle.net_plan.specs.declared.ids.LinkId.{LinkId}
+use Rattle.net_plan.specs.declared.ids.VlId.{VlId}
+use Rattle.run_law.proofs.law.FirstPlaces.{by_number, in_filter, numbered_front}
+use Rattle.run_law.proofs.runs.Places.{chain, parted}
+use Rattle.run_law.specs.control.Losses.{IsSendLost}
+use Rattle.run_law.specs.declared.note.NoteBody.TheVariants as kinds
+use Rattle.run_law.specs.declared.note.NoteBody.{NoteBody}
+use Rattle.run_law.specs.records.Happenings.{Happening, earlier, numbered, time_of}
+use Rattle.run_law.specs.records.Order.{IsBefore, IsIn}
+use Rattle.run_law.specs.records.Ranks.{members_in, place_of}
+use Rattle.run_law.specs.runs.DueRecords.{IsDue}
+use Rattle.run_law.specs.runs.Runs.{IsFounded}
+use Rattle.run_law.specs.scenario.Scenarios.{Scenario}
+use Rattle.run_law.specs.scenario.Ways.{is_cut, way_from}
+use Rattle.run_law.specs.timed.Dispatching.{Dispatches, is_accepted}
+use Rattle.world_law.proofs.putting.PutIn.{last_in}
+use Rattle.world_law.proofs.runs.Agreement.{in_earlier}
+use Rattle.world_law.specs.device.Plain.{plain_body}
+use Rattle.world_law.specs.device.Recorded.{dispatch_body}
+use Rattle.world_law.specs.source.Sources.{IsOwnSource}
+use Rattle.world_law.specs.world.World.{AreSettled, act_place}
+
+same_some : (x y : Happening) → Some x ≡ Some y → x ≡ y
+same_some x y e = cc
+
+none_some : (x : Happening) → None ≡ Some x → ⊥
+none_some x e = cc
+
+-- an event of the instant is the cause of no dispatch
+pub send_apart : (s : Scenario) (js hs : List Happening) (device : DeviceId) (now : ℕ) (link other : LinkId) (cause : ℕ) (vl : VlId) (cycle : ℕ)
+    → IsFounded place_of (IsDue s) js → ((h : Happening) → numbered hs cause ≡ Some h → numbered js cause ≡ Some h)
+    → IsSendLost s hs device now link cause → Dispatches s js device now other cause vl cycle → ⊥
+send_apart s js hs device now link other cause vl cycle founded on lost d =
+    let event = on lost.event lost.is.there in
+    elim d.at_hand [
+      | inl sender ↦ none_some lost.event (subst (λ (n : ℕ). numbered js n ≡ Some lost.event) sender.1 event)
+      | inr took ↦ elim (last_in None (filter (λ h. is_accepted device d.entry.row.vl h.note.body) (earlier now js)) took.1.taken took.1.last) [
+        | inl none ↦ none_some took.1.taken none
+        | inr i ↦
+            let inside = in_filter (λ h. is_accepted device d.entry.row.vl h.note.body) (earlier now js) took.1.taken i in
+            let lt : time_of took.1.taken < now = in_earlier now js took.1.taken inside in
+            let there : IsIn took.1.taken js = in_filter (λ h. Rattle.std.specs.Prelude.nat_lt (time_of h) now) js took.1.taken inside in
+            let it = subst (λ (n : ℕ). numbered js n ≡ Some took.1.taken) (sym took.1.number) (by_number s js took.1.taken founded there) in
+            let same : lost.event ≡ took.1.taken = same_some lost.event took.1.taken (sym event ∙ it) in
+            let at = lost.is.same_time in
+            let times : time_of lost.event ≡ time_of took.1.taken = ap time_of same in
+            omega (arith, lt, at, times)
+      ]
+    ]
+
+pub plain_lost : (device : DeviceId) (link : LinkId) (cause : ℕ) (body : NoteBody) → plain_body body ≡ kinds.Lost device link cause
+    → body ≡ kinds.Lost device link cause
+plain_lost device link cause (kinds.State other state from why) e = absurd cc
+plain_lost device link cause body e = e
+
+pub plain_tt : (device : DeviceId) (link : LinkId) (cause : ℕ) (vl : VlId) (cycle : ℕ) (body : NoteBody) → plain_body body ≡ kinds.TtSent device link cause vl
+    cycle
+    → body ≡ kinds.TtSent device link cause vl cycle
+plain_tt device link cause vl cycle (kinds.State other state from why) e = absurd cc
+plain_tt device link cause vl cycle body e = e
+
+-- what a record that tells of a dispatch says
+pub dispatch_told : (s : Scenario) (device : DeviceId) (now : ℕ) (link : LinkId) (cause : ℕ) (vl : VlId) (cycle : ℕ) (body : NoteBody)
+    → plain_body body ≡ dispatch_body s device now link cause vl cycle → (body ≡ kinds.Lost device link cause)
+    ⊎ (body ≡ kinds.TtSent device link cause vl cycle)
+dispatch_told s device now link cause vl cycle body e = elim (cases_Bool (is_cut s link (way_from s.network device link) now)) [
+  | inl cut ↦
+      inl (plain_lost device link cause body (e ∙ ap (λ (b : Bool). if b then kinds.Lost device link cause else kinds.TtSent device link cause vl cycle) cut))
+  | inr whole ↦
+      inr (plain_tt device link cause vl cycle body
+      (e ∙ ap (λ (b : Bool). if b then kinds.Lost device link cause else kinds.TtSent device link cause vl cycle) whole))
+]
+
+-- where the acts of the device are neither worked off nor taken up, no record to come tells of a dispatch of it
+pub no_dispatch_told : (s : Scenario) (hs coming : List Happening) (mark cursor : List ℕ) (now : ℕ) (device : DeviceId) → AreSettled s hs coming mark cursor now
+    → IsFounded place_of (IsDue s) (hs ++ coming) → (IsBefore (act_place now device) cursor → ⊥) → (act_place now device ≡ cursor → ⊥)
+    → (z : Happening) → IsIn z coming → (link : LinkId) (cause : ℕ) (vl : VlId) (cycle : ℕ) → Dispatches s (hs ++ coming) device now link cause vl cycle
+    → plain_body z.note.body ≡ dispatch_body s device now link cause vl cycle → ⊥
+no_dispatch_told s hs coming mark cursor now device are founded waits not_at z i link cause vl cycle d e =
+    let split = parted z coming i in
+    let by = are.by split.0 split.1 z split.2 in
+    let at = are.of_now z i in
+    let none : (w : List ℕ) → w ≡ act_place now device → (IsBefore w cursor ⊎ (w ≡ cursor)) → ⊥ = λ w is came. elim came [
+      | inl before ↦ waits (subst (λ (q : List ℕ). IsBefore q cursor) is before)
+      | inr here ↦ not_at (sym is ∙ here)
+    ] in
+    let came : IsBefore by.0 cursor ⊎ (by.0 ≡ cursor) = elim by.3 [ inl before ↦ inl before | inr up ↦ inr up.0 ] in
+    let whole : hs ++ coming ≡ (hs ++ split.0) ++ z ∷ split.1 =
+    ap (λ (l : List Happening). hs ++ l) split.2 ∙ sym (Rattle.std.proofs.Common.append_assoc hs split.0 (z ∷ split.1)) in
+    elim (dispatch_told s device now link cause vl cycle z.note.body e) [
+      | inr sent ↦
+          let own = subst (λ (b : NoteBody). IsOwnSource s (hs ++ split.0) (time_of z) (members_in z) b by.0) sent by.1 in
+          none by.0 (own ∙ ap (λ (n : ℕ). n ∷ 4 ∷ device.0 ∷ []) at) came
+      | inl lost ↦
+          let own = subst (λ (b : NoteBody). IsOwnSource s (hs ++ split.0) (time_of z) (members_in z) b by.0) lost by.1 in
+          elim own [
+            | inl leaves ↦ elim by.3 [
+              | inl before ↦
+                  let place : by.0 ≡ now ∷ 8 ∷ device.0 ∷ link.0 ∷ cause ∷ [] = leaves.0 ∙ ap (λ (n : ℕ). n ∷ 8 ∷ device.0 ∷ link.0 ∷ cause ∷ []) at in
+                  waits (chain (act_place now device) (now ∷ 8 ∷ device.0 ∷ link.0 ∷ cause ∷ []) cursor (inr (refl, inl (omega arith)))
+                  (subst (λ (q : List ℕ). IsBefore q cursor) place before))
+              | inr up ↦
+                  let place : time_of z ∷ 8 ∷ device.0 ∷ link.0 ∷ cause ∷ [] ≡ act_place (time_of z) up.1.0 = sym leaves.0 ∙ up.1.1 in
+                  (let bad : ◌≡◌ {A = ℕ} 8 4 = cc in omega (arith, bad))
+            ]
+            | inr other ↦ elim other [
+              | inl acts ↦ none by.0 (acts.0 ∙ ap (λ (n : ℕ). n ∷ 4 ∷ device.0 ∷ []) at) came
+              | inr sends ↦
+                  send_apart s (hs ++ coming) (hs ++ split.0) device now link link cause vl cycle founded
+                  (λ h there. subst (λ (l : List Happening). numbered l cause ≡ Some h) (sym whole)
+                  (numbered_front (hs ++ split.0) (z ∷ split.1) cause h there))
+                  (subst (λ (n : ℕ). IsSendLost s (hs ++ split.0) device n link cause) at sends.1) d
+            ]
+          ]
+    ]

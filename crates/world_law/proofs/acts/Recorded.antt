@@ -1,0 +1,280 @@
+-- What the records of an instant tell of the acts of a device, while other records are put in and given.
+use Rattle.std.proofs.Common.{◌≡◌, ◌⊎◌, ℕ, ◌+◌, ◌*◌, ◌≤◌, ℤ, pos, append_assoc, if◌then◌else◌, ◌-ℤ◌, ◌<ℤ◌, ◌≤ℤ◌, Bool, true, false, ◌==◌, List, [], ◌∷◌, ◌++◌, Option, Contains, inl, inr, refl, sym, ap, subst, ◌∙◌, arith}
+use Rattle.std.specs.Option.{option_map_or}
+use Rattle.std.proofs.lemmas.Bool.{both_ways, eq-eqb}
+use Rattle.std.proofs.lemmas.Int.{ints}
+use Rattle.compression.specs.Clusters.{AreClusters, Point}
+use Rattle.compression.specs.declared.compressed.Compressed.{Compressed}
+use Rattle.net_plan.specs.declared.ids.DeviceId.{DeviceId}
+use Rattle.net_plan.specs.declared.ids.LinkId.{LinkId}
+use Rattle.net_plan.specs.declared.ids.RowId.{RowId}
+use Rattle.net_plan.specs.declared.ids.VlId.{VlId}
+use Rattle.net_plan.specs.declared.tables.Row.{Row}
+use Rattle.run_law.proofs.runs.Places.{in_left, in_parts, in_right}
+use Rattle.run_law.specs.control.Collections.{observation_window}
+use Rattle.run_law.specs.declared.judgement.Judgement.{Judgement}
+use Rattle.run_law.specs.declared.note.NoteBody.TheVariants as kinds
+use Rattle.run_law.specs.declared.note.NoteBody.{NoteBody}
+use Rattle.run_law.specs.device.LocalClocks.{changed_at}
+use Rattle.run_law.specs.device.States.{adjustment_before}
+use Rattle.run_law.specs.machines.Nodes.{ClockTask, Node, dispatching, sending}
+use Rattle.run_law.specs.machines.Tasks.{value_of}
+use Rattle.run_law.specs.records.Happenings.{Happening, earlier, time_of}
+use Rattle.run_law.specs.records.Order.{IsIn}
+use Rattle.run_law.specs.records.Ranks.{rank}
+use Rattle.run_law.specs.scenario.Scenarios.{Scenario}
+use Rattle.run_law.specs.scenario.Ways.{is_cut, way_from}
+use Rattle.run_law.specs.timed.Dispatching.{Dispatches}
+use Rattle.tte_units.specs.Amount.{amount}
+use Rattle.tte_units.specs.declared.units.Units.{Units}
+use Rattle.world_law.proofs.acts.Acted.{waiting_alike}
+use Rattle.world_law.proofs.runs.SourcesBack.{dispatches_same, earlier_still, reaches_back, up_back}
+use Rattle.world_law.specs.device.Deeds.{HasDoneFrom, HasSentFrom}
+use Rattle.world_law.specs.device.Left.{IsLeft}
+use Rattle.world_law.specs.device.Own.{bears_on}
+use Rattle.world_law.specs.device.Plain.{plain, plain_body, plains}
+use Rattle.world_law.specs.device.Recorded.{AreRecorded, IsShown, dispatch_body}
+
+never_both : (a b : ℤ) → a <ℤ b → b ≤ℤ a → ⊥
+never_both a b lt le = omega (arith, ints, lt, le)
+
+-- nothing is done at the instant yet
+pub first_recorded : (s : Scenario) (js coming : List Happening) (now : ℕ) (device : DeviceId) (node : Node) → IsLeft s js device now node
+    → HasDoneFrom s.network (s.reading device) device node (changed_at js device now) now now → HasSentFrom s device node now now
+    → ((z : Happening) → IsIn z coming → (cycle : ℕ) → plain_body z.note.body ≡ kinds.Sent device cycle → ⊥)
+    → ((z : Happening) → IsIn z coming → (c : Compressed) (verdict : Judgement)
+    → plain_body z.note.body ≡ kinds.Compressed device c.opened c.at c.cycle c.members verdict → ⊥)
+    → ((z : Happening) → IsIn z coming → time_of z ≡ now)
+    → ((z : Happening) → IsIn z coming → (link : LinkId) (cause : ℕ) (vl : VlId) (cycle : ℕ) → Dispatches s js device now link cause vl cycle
+    → plain_body z.note.body ≡ dispatch_body s device now link cause vl cycle → ⊥)
+    → AreRecorded s js coming now device node
+first_recorded s js coming now device node left done sent none_sent none_emitted of none_dispatched = record {
+  sent = λ cycle there d.
+      let x = done.done (sending cycle) there in
+      let at = subst (λ (a : Units). (value_of s.network (sending cycle) -ℤ a.0) ≤ℤ pos (s.reading device x.0)) left.counted.adjustment x.3 in
+      absurd (never_both _ _ (d.reached.reach.not_before x.0 (omega (arith, ints, x.1)) (omega (arith, ints, x.2))) at);
+  emitted = λ c there r. let x = sent.sent c there in absurd (never_both _ _ (r.not_before x.0 (omega (arith, ints)) (omega (arith, ints, x.1))) x.2);
+  has_sent = λ z i cycle e. absurd (none_sent z i cycle e);
+  has_emitted = λ z i c verdict e. absurd (none_emitted z i c verdict e);
+  frames = λ z i c verdict e. absurd (none_emitted z i c verdict e);
+  of_now = of;
+  dispatched = λ link cause vl cycle d there.
+      let row : RowId = record { 0 = d.place } in
+      let x = done.done (dispatching row cycle) there in
+      let value : value_of s.network (dispatching row cycle) ≡ pos (cycle * amount s.network.cycle + amount d.entry.row.offset) =
+      ap (λ (o : Option Row). pos (cycle * amount s.network.cycle + option_map_or (λ (r : Row). amount r.offset) o 0)) d.row.row in
+      let at = subst (λ (a : Units). (value_of s.network (dispatching row cycle) -ℤ a.0) ≤ℤ pos (s.reading device x.0)) left.counted.adjustment x.3 in
+      let here = subst (λ (v : ℤ). (v -ℤ (adjustment_before s js device now).0) ≤ℤ pos (s.reading device x.0)) value at in
+      absurd (never_both _ _ (d.reached.reach.not_before x.0 (omega (arith, ints, x.1)) (omega (arith, ints, x.2))) here);
+  has_dispatched = λ z i link cause vl cycle d e. absurd (none_dispatched z i link cause vl cycle d e);
+  ordered = λ z i c verdict e d w due. absurd (none_emitted z i c verdict e);
+}
+
+-- ---- another node
+
+-- a node with the same deeds, emissions and points is told of alike
+pub recorded_alike : (s : Scenario) (js coming : List Happening) (now : ℕ) (device : DeviceId) (node new : Node) → new.done ≡ node.done
+    → new.emitted ≡ node.emitted → new.points ≡ node.points → AreRecorded s js coming now device node → AreRecorded s js coming now device new
+recorded_alike s js coming now device node new done emitted points r = record {
+  sent = λ cycle there d. r.sent cycle (subst (λ (l : List ClockTask). Contains l (sending cycle)) done there) d;
+  emitted = λ c there reach. r.emitted c (subst (λ (l : List Compressed). Contains l c) emitted there) reach;
+  has_sent = λ z i cycle e. subst (λ (l : List ClockTask). Contains l (sending cycle)) (sym done) (r.has_sent z i cycle e);
+  has_emitted = λ z i c verdict e. subst (λ (l : List Compressed). Contains l c) (sym emitted) (r.has_emitted z i c verdict e);
+  frames = λ z i c verdict e.
+      let f = r.frames z i c verdict e in
+      record {
+        clusters = f.clusters;
+        are = subst (λ (ps : List Point). AreClusters (observation_window s.network) ps f.clusters) (sym points) f.are;
+        cluster = f.cluster;
+        there = f.there;
+        is = f.is;
+      };
+  of_now = r.of_now;
+  dispatched = λ link cause vl cycle d there.
+      r.dispatched link cause vl cycle d (subst (λ (l : List ClockTask). Contains l (dispatching (record { 0 = d.place }) cycle)) done there);
+  has_dispatched = λ z i link cause vl cycle d e.
+      subst (λ (l : List ClockTask). Contains l (dispatching (record { 0 = d.place }) cycle)) (sym done) (r.has_dispatched z i link cause vl cycle d e);
+  ordered = λ z i c verdict e d waits due.
+      r.ordered z i c verdict e d
+      (waiting_alike s.network device node new d points (λ x there. subst (λ (l : List Compressed). Contains l x) (sym emitted) there) waits) due;
+}
+
+-- ---- other lists of records
+
+-- is it that the device sends the frame of a cycle, or that of a row?
+abbrev pub is_sending : DeviceId → NoteBody → Bool
+is_sending device (kinds.Sent other cycle) = device.0 == other.0
+is_sending device (kinds.Lost other link cause) = device.0 == other.0
+is_sending device (kinds.TtSent other link cause vl cycle) = device.0 == other.0
+is_sending device other = false
+
+-- the device dispatches no row at the instant
+abbrev pub DispatchesNone : Scenario → List Happening → ℕ → DeviceId → Type 0
+DispatchesNone s js now device =
+    (link : LinkId) (cause : ℕ) (vl : VlId) (cycle : ℕ) → Dispatches s js device now link cause vl cycle → ⊥
+
+-- a record that is none of the device's acts
+abbrev pub IsNoAct : Scenario → List Happening → ℕ → DeviceId → NoteBody → Type 0
+IsNoAct s js now device body =
+    (bears_on device body ≡ false) × ((is_sending device body ≡ false) ⊎ ((8 ≤ rank body) × DispatchesNone s js now device))
+
+pub rank_plain : (body : NoteBody) → rank (plain_body body) ≡ rank body
+rank_plain (kinds.State other state cause why) = refl
+rank_plain other = refl
+
+plain_sending : (device : DeviceId) (body : NoteBody) → is_sending device (plain_body body) ≡ is_sending device body
+plain_sending device (kinds.State other state cause why) = refl
+plain_sending device other = refl
+
+plain_bears : (device : DeviceId) (body : NoteBody) → bears_on device (plain_body body) ≡ bears_on device body
+plain_bears device (kinds.State other state cause why) = refl
+plain_bears device other = refl
+
+self : (device : DeviceId) → (device.0 == device.0) ≡ true
+self device = eq-eqb device.0 device.0 refl
+
+-- a dispatch is shown as one of the device
+pub dispatch_sends : (s : Scenario) (device : DeviceId) (now : ℕ) (link : LinkId) (cause : ℕ) (vl : VlId) (cycle : ℕ)
+    → is_sending device (dispatch_body s device now link cause vl cycle) ≡ true
+dispatch_sends s device now link cause vl cycle =
+    elim (is_cut s link (way_from s.network device link) now) as (λ (b : Bool). is_sending device (if b then kinds.Lost device link cause
+    else kinds.TtSent device link cause vl cycle) ≡ true) [ true ↦ self device | false ↦ self device ]
+
+-- by a record behind all others of the acts
+pub dispatch_late : (s : Scenario) (device : DeviceId) (now : ℕ) (link : LinkId) (cause : ℕ) (vl : VlId) (cycle : ℕ)
+    → 9 ≤ rank (dispatch_body s device now link cause vl cycle)
+dispatch_late s device now link cause vl cycle =
+    elim (is_cut s link (way_from s.network device link) now) as (λ (b : Bool). 9 ≤ rank (if b then kinds.Lost device link cause
+    else kinds.TtSent device link cause vl cycle)) [ true ↦ omega arith | false ↦ omega arith ]
+
+-- what was shown is so still, and what is to come was so, or is no act of the device
+pub recorded_on : (s : Scenario) (js gs coming new : List Happening) (now : ℕ) (device : DeviceId) (node : Node) → earlier now gs ≡ earlier now js
+    → ((h : Happening) → IsIn h js → (g : Happening) × IsIn g gs × (plain_body g.note.body ≡ plain_body h.note.body) × (time_of g ≡ time_of h))
+    → ((z : Happening) → IsIn z new → (((y : Happening) × IsIn y coming × (plain_body z.note.body ≡ plain_body y.note.body))
+    ⊎ IsNoAct s js now device z.note.body) × (time_of z ≡ now))
+    → AreRecorded s js coming now device node → AreRecorded s gs new now device node
+recorded_on s js gs coming new now device node same on back r =
+    let still : (body : NoteBody) → IsShown js now body → IsShown gs now body = λ body x.
+    let g = on x.by x.there in
+    (let it : IsShown gs now body = record { by = g.0; there = g.1; at = g.3 ∙ x.at; is = g.2 ∙ x.is } in it) in
+    record {
+      sent = λ cycle there d.
+          still _
+          (r.sent cycle there
+          (record {
+            master = d.master;
+            up = up_back s gs js now device same d.up;
+            begun = d.begun;
+            reached = reaches_back s gs js now device _ same d.reached;
+          }));
+      emitted = λ c there reach. let x = r.emitted c there reach in (x.0, still _ x.1);
+      has_sent = λ z i cycle e. elim (back z i).0 [
+        | inl y ↦ r.has_sent y.0 y.1 cycle (sym y.2 ∙ e)
+        | inr none ↦ elim none.1 [
+          | inl no_act ↦ absurd (both_ways _ (plain_sending device z.note.body ∙ no_act) (ap (is_sending device) e ∙ self device))
+          | inr late ↦
+              let high = late.0 in
+              let five : rank z.note.body ≡ 5 = sym (rank_plain z.note.body) ∙ ap rank e in
+              absurd (omega (arith, high, five))
+        ]
+      ];
+      has_emitted = λ z i c verdict e. elim (back z i).0 [
+        | inl y ↦ r.has_emitted y.0 y.1 c verdict (sym y.2 ∙ e)
+        | inr none ↦ absurd (both_ways _ (plain_bears device z.note.body ∙ none.0) (ap (bears_on device) e ∙ self device))
+      ];
+      frames = λ z i c verdict e. elim (back z i).0 [
+        | inl y ↦ r.frames y.0 y.1 c verdict (sym y.2 ∙ e)
+        | inr none ↦ absurd (both_ways _ (plain_bears device z.note.body ∙ none.0) (ap (bears_on device) e ∙ self device))
+      ];
+      of_now = λ z i. (back z i).1;
+      dispatched = λ link cause vl cycle d there.
+          let x = dispatches_same s gs js now device link cause vl cycle same d in
+          still _ (r.dispatched link cause vl cycle x.0
+          (subst (λ (n : ℕ). Contains node.done (dispatching (let row : RowId = record { 0 = n } in row) cycle)) (sym x.1) there));
+      has_dispatched = λ z i link cause vl cycle d e.
+          let x = dispatches_same s gs js now device link cause vl cycle same d in
+          elim (back z i).0 [
+            | inl y ↦
+                subst (λ (n : ℕ). Contains node.done (dispatching (let row : RowId = record { 0 = n } in row) cycle)) x.1
+                (r.has_dispatched y.0 y.1 link cause vl cycle x.0 (sym y.2 ∙ e))
+            | inr none ↦ elim none.1 [
+              | inl no_act ↦
+                  absurd (both_ways _ (plain_sending device z.note.body ∙ no_act) (ap (is_sending device) e ∙ dispatch_sends s device now link cause vl cycle))
+              | inr late ↦ absurd (late.1 link cause vl cycle x.0)
+            ]
+          ];
+      ordered = λ z i c verdict e d waits due. elim (back z i).0 [
+        | inl y ↦ r.ordered y.0 y.1 c verdict (sym y.2 ∙ e) d waits due
+        | inr none ↦ absurd (both_ways _ (plain_bears device z.note.body ∙ none.0) (ap (bears_on device) e ∙ self device))
+      ];
+    }
+
+-- ---- lists that differ in a record
+
+-- what the records tell of its acts stays so while a record of the instant that is none of them is put in
+pub recorded_put : (s : Scenario) (hs front back new : List Happening) (now : ℕ) (device : DeviceId) (node : Node) (w : Happening)
+    → plains (front ++ w ∷ back) ≡ plains new → time_of w ≡ now → IsNoAct s (hs ++ (front ++ back)) now device w.note.body
+    → AreRecorded s (hs ++ (front ++ back)) (front ++ back) now device node → AreRecorded s (hs ++ new) new now device node
+recorded_put s hs front back new now device node w alike at none r =
+    let js = hs ++ (front ++ back) in
+    let each : (z : Happening) → IsIn z new → (((y : Happening) × IsIn y (front ++ back) × (plain_body z.note.body ≡ plain_body y.note.body))
+    ⊎ IsNoAct s js now device z.note.body) × (time_of z ≡ now) = λ z i.
+    let x = in_plains_of new (front ++ w ∷ back) z (sym alike) i in
+    let times : time_of z ≡ time_of x.0 = ap (λ (h : Happening). time_of h) x.2 in
+    elim (in_parts x.0 front (w ∷ back) x.1) [
+      | inl f ↦ (inl (x.0, in_left x.0 front back f, ap (λ (g : Happening). g.note.body) x.2), times ∙ r.of_now x.0 (in_left x.0 front back f))
+      | inr (inl e) ↦
+          let tells : plain_body z.note.body ≡ plain_body w.note.body = ap (λ (g : Happening). g.note.body) (x.2 ∙ ap plain e) in (
+            inr (
+              sym (plain_bears device z.note.body) ∙ ap (bears_on device) tells ∙ plain_bears device w.note.body ∙ none.0,
+              elim none.1 [
+                | inl no_act ↦ inl (sym (plain_sending device z.note.body) ∙ ap (is_sending device) tells ∙ plain_sending device w.note.body ∙ no_act)
+                | inr late ↦
+                    inr (subst (λ (n : ℕ). 8 ≤ n) (sym (rank_plain w.note.body) ∙ ap rank (sym tells) ∙ rank_plain z.note.body) late.0, late.1)
+              ],
+            ),
+            times ∙ ap time_of e ∙ at,
+          )
+      | inr (inr b) ↦ (inl (x.0, in_right x.0 front back b, ap (λ (g : Happening). g.note.body) x.2), times ∙ r.of_now x.0 (in_right x.0 front back b))
+    ] in
+    let same : earlier now (hs ++ new) ≡ earlier now js =
+    earlier_still now hs new (λ z i. let t = (each z i).1 in omega (arith, t))
+    ∙ sym (earlier_still now hs (front ++ back) (λ z i. let t = r.of_now z i in omega (arith, t))) in
+    recorded_on s js (hs ++ new) (front ++ back) new now device node same
+    (λ h i. elim (in_parts h hs (front ++ back) i) [
+      | inl old ↦ (h, in_left h hs new old, refl, refl)
+      | inr more ↦
+          let x = in_plains_of (front ++ w ∷ back) new h alike
+          (elim (in_parts h front back more) [ inl f ↦ in_left h front (w ∷ back) f | inr b ↦ in_right h front (w ∷ back) (inr b) ]) in
+          (x.0, in_right x.0 hs new x.1, sym (ap (λ (g : Happening). g.note.body) x.2), sym (ap (λ (g : Happening). time_of g) x.2))
+    ]) each r
+  where
+    out_of : (hs : List Happening) (h : Happening) → IsIn h (plains hs) → (g : Happening) × IsIn g hs × (h ≡ plain g)
+    out_of [] h i = absurd i
+    out_of (g ∷ hs) h (inl e) = (g, inl refl, e)
+    out_of (g ∷ hs) h (inr i) = let x = out_of hs h i in (x.0, inr x.1, x.2)
+
+    into : (hs : List Happening) (h : Happening) → IsIn h hs → IsIn (plain h) (plains hs)
+    into [] h i = absurd i
+    into (g ∷ hs) h (inl e) = inl (ap plain e)
+    into (g ∷ hs) h (inr i) = inr (into hs h i)
+
+    in_plains_of : (xs ys : List Happening) (x : Happening) → plains xs ≡ plains ys → IsIn x xs → (y : Happening) × IsIn y ys × (plain x ≡ plain y)
+    in_plains_of xs ys x same i = out_of ys (plain x) (subst (λ (l : List Happening). IsIn (plain x) l) same (into xs x i))
+
+-- and while the first of what is to come is given
+pub recorded_given : (s : Scenario) (hs rest : List Happening) (z : Happening) (now : ℕ) (device : DeviceId) (node : Node)
+    → AreRecorded s (hs ++ z ∷ rest) (z ∷ rest) now device node → AreRecorded s ((hs ++ z ∷ []) ++ rest) rest now device node
+recorded_given s hs rest z now device node r =
+    let parts = append_assoc hs (z ∷ []) rest in
+    recorded_on s (hs ++ z ∷ rest) ((hs ++ z ∷ []) ++ rest) (z ∷ rest) rest now device node (ap (earlier now) parts)
+    (λ h i. (h, subst (λ (l : List Happening). IsIn h l) (sym parts) i, refl, refl))
+    (λ y i. (inl (y, inr i, refl), r.of_now y (inr i))) r
+
+-- where nothing is to come, and nothing is done at the time yet
+pub none_recorded : (s : Scenario) (hs : List Happening) (now : ℕ) (device : DeviceId) (node : Node) → IsLeft s (hs ++ []) device now node
+    → HasDoneFrom s.network (s.reading device) device node (changed_at (hs ++ []) device now) now now → HasSentFrom s device node now now
+    → AreRecorded s (hs ++ []) [] now device node
+none_recorded s hs now device node left done sent =
+    first_recorded s (hs ++ []) [] now device node left done sent (λ z i cycle e. absurd i) (λ z i c verdict e. absurd i) (λ z i. absurd i)
+    (λ z i link cause vl cycle d e. absurd i)

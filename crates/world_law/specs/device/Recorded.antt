@@ -1,0 +1,78 @@
+-- What the records of an instant tell of the acts of a device.
+use Rattle.std.specs.Prelude.{◌≡◌, ℕ, ◌<◌, ◌≤◌, pos, ◌≤ℤ◌, List, if◌then◌else◌}
+use Rattle.std.specs.List.{Contains}
+use Rattle.compression.specs.Clusters.{AreClusters, Cluster}
+use Rattle.compression.specs.Emission.{compressed}
+use Rattle.compression.specs.declared.compressed.Compressed.{Compressed}
+use Rattle.drift_clock.specs.Reach.{IsReach}
+use Rattle.net_plan.specs.declared.ids.DeviceId.{DeviceId}
+use Rattle.net_plan.specs.declared.ids.LinkId.{LinkId}
+use Rattle.net_plan.specs.declared.ids.VlId.{VlId}
+use Rattle.net_plan.specs.declared.network.Network.{Network}
+use Rattle.run_law.specs.control.Collections.{observation_window}
+use Rattle.run_law.specs.declared.judgement.Judgement.{Judgement}
+use Rattle.run_law.specs.declared.note.NoteBody.TheVariants as notes
+use Rattle.run_law.specs.declared.note.NoteBody.{NoteBody}
+use Rattle.run_law.specs.machines.Nodes.{Node, correcting, dispatching, sending}
+use Rattle.run_law.specs.machines.Tasks.{IsWaiting}
+use Rattle.run_law.specs.records.Happenings.{Happening, time_of}
+use Rattle.run_law.specs.records.Order.{IsIn}
+use Rattle.run_law.specs.scenario.Scenarios.{Scenario}
+use Rattle.run_law.specs.scenario.Ways.{is_cut, way_from}
+use Rattle.run_law.specs.timed.Dispatching.{Dispatches, Sends}
+use Rattle.tte_units.specs.Amount.{amount}
+use Rattle.world_law.specs.device.Plain.{plain_body}
+
+-- a record of this body at the time, but for the cause of a change of state
+pub record IsShown (js : List Happening) (now : ℕ) (body : NoteBody) : Type 0 where
+  pub by : Happening
+  pub there : IsIn by js
+  pub at : time_of by ≡ now
+  pub is : plain_body by.note.body ≡ body
+
+-- the frame is that of a collection of the device
+pub record IsFrameOf (network : Network) (node : Node) (c : Compressed) : Type 0 where
+  pub clusters : List Cluster
+  pub are : AreClusters (observation_window network) node.points clusters
+  pub cluster : Cluster
+  pub there : Contains clusters cluster
+  pub is : c ≡ compressed (observation_window network) (pos (amount network.calc)) cluster
+
+-- what the records show of a dispatch: that its frame met a cut way, or that it was sent
+abbrev pub dispatch_body : Scenario → DeviceId → ℕ → LinkId → ℕ → VlId → ℕ → NoteBody
+dispatch_body s device now link cause vl cycle =
+    if is_cut s link (way_from s.network device link) now then notes.Lost device link cause
+    else notes.TtSent device link cause vl cycle
+
+-- what the device has done at the present instant is in the records, and what is to come of it, of the instant, it has
+-- done; of its frames those to come are of its collections, and none that is due opens before one of them
+pub record AreRecorded (s : Scenario) (js coming : List Happening) (now : ℕ) (device : DeviceId)
+    (node : Node) : Type 0 where
+  pub sent : (cycle : ℕ) → Contains node.done (sending cycle) → Sends s js device now cycle
+      → IsShown js now (notes.Sent device cycle)
+  pub emitted : (c : Compressed) → Contains node.emitted c → IsReach (s.reading device) (pos 0) c.at.0 (pos now)
+      → (verdict : Judgement) × IsShown js now (notes.Compressed device c.opened c.at c.cycle c.members verdict)
+  pub has_sent : (z : Happening) → IsIn z coming → (cycle : ℕ) → plain_body z.note.body ≡ notes.Sent device cycle
+      → Contains node.done (sending cycle)
+  pub has_emitted : (z : Happening) → IsIn z coming → (c : Compressed) (verdict : Judgement)
+      → plain_body z.note.body ≡ notes.Compressed device c.opened c.at c.cycle c.members verdict
+      → Contains node.emitted c
+  pub frames : (z : Happening) → IsIn z coming → (c : Compressed) (verdict : Judgement)
+      → plain_body z.note.body ≡ notes.Compressed device c.opened c.at c.cycle c.members verdict
+      → IsFrameOf s.network node c
+  pub of_now : (z : Happening) → IsIn z coming → time_of z ≡ now
+  pub dispatched : (link : LinkId) (cause : ℕ) (vl : VlId) (cycle : ℕ)
+      → (d : Dispatches s js device now link cause vl cycle)
+      → Contains node.done (dispatching (record { 0 = d.place }) cycle)
+      → IsShown js now (dispatch_body s device now link cause vl cycle)
+  pub has_dispatched : (z : Happening) → IsIn z coming → (link : LinkId) (cause : ℕ) (vl : VlId) (cycle : ℕ)
+      → (d : Dispatches s js device now link cause vl cycle) → plain_body z.note.body ≡ dispatch_body s device now link
+      cause vl cycle
+      → Contains node.done (dispatching (record { 0 = d.place }) cycle)
+  pub ordered : (z : Happening) → IsIn z coming → (c : Compressed) (verdict : Judgement)
+      → plain_body z.note.body ≡ notes.Compressed device c.opened c.at c.cycle c.members verdict → (d : Compressed)
+      → IsWaiting s.network device node d → d.at.0 ≤ℤ pos (s.reading device now) → amount c.opened ≤ amount d.opened
+
+-- of its correction points it has cleared only earlier ones than its next
+abbrev pub HasCleared : Node → Type 0
+HasCleared node = (cycle : ℕ) → Contains node.done (correcting cycle) → cycle < node.standing.number
