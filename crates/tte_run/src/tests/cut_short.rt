@@ -74,21 +74,18 @@ fn try_failing_reads(
     )
 }
 
-// Lets each call to pass on fail in turn. There is one before each read, at which the records of the
-// lines that had come whole were put, and one at the end.
+// Lets each call to pass on fail in turn. There is one before the reads of each line that is not whole
+// ahead, at which the records of so many lines were put, and one at the end.
 fn try_failing_passes(
     rt: &impl Abort,
     alloc: Global,
     run: &Run<'_>,
-    reads: u32,
+    put: &[usize],
 ) -> Result<(), Fail> {
-    for pass in 1..=reads {
-        let came = run.trace.bytes().take(17 * (pass as usize - 1));
-        let text = first_lines(
-            alloc,
-            run.text,
-            came.filter(|octet| *octet == b'\n').count(),
-        )?;
+    let mut pass = 0u32;
+    for lines in put {
+        pass = pass.saturating_add(1);
+        let text = first_lines(alloc, run.text, *lines)?;
         let failing = [pass];
         let cut = Run {
             failing_passes: &failing,
@@ -98,14 +95,14 @@ fn try_failing_passes(
         };
         try_runs(rt, alloc, UNCHANGED, &[cut])?;
     }
-    let last = [reads.saturating_add(1)];
+    let last = [pass.saturating_add(1)];
     let unpassed = Run {
         failing_passes: &last,
         status: Status::WriteFault,
         ..*run
     };
     try_runs(rt, alloc, UNCHANGED, &[unpassed])?;
-    let behind = [reads.saturating_add(2)];
+    let behind = [pass.saturating_add(2)];
     let passed = Run {
         failing_passes: &behind,
         ..*run
@@ -113,12 +110,15 @@ fn try_failing_passes(
     try_runs(rt, alloc, UNCHANGED, &[passed])
 }
 
+// Each read of the rates ends behind the next line of theirs, and the fifth gives nothing. The second
+// line of the cuts takes two reads, with one call before them, and the third is refused.
 #[test]
 fn a_run_stops_where_passing_on_fails(rt: HostRuntime) -> Result<(), Fail> {
     let alloc = rt.alloc();
-    try_failing_passes(&rt, alloc, &whole(RATES, RATES_REPORT, Status::Done), 5)?;
+    let rates = whole(RATES, RATES_REPORT, Status::Done);
+    try_failing_passes(&rt, alloc, &rates, &[0, 1, 2, 3, 4])?;
     let outside = whole(CUTS, CUTS_REPORT, Status::OutsideHypothesis);
-    try_failing_passes(&rt, alloc, &outside, 4)
+    try_failing_passes(&rt, alloc, &outside, &[0, 1, 2])
 }
 
 #[test]
