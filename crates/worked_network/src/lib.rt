@@ -1,4 +1,4 @@
-//! A network that is accepted, under events within the fault hypothesis: so the laws on runs speak of something.
+//! A network that is accepted, under events within the fault hypothesis: what the laws on runs ask of both can be met.
 #![tactic(auto)]
 
 ghost use Rattle.net_plan.specs.Ranges.{IsInRange};
@@ -12,7 +12,8 @@ pub fn worked_is_accepted()
     ensures rules { KeepsRules worked }
 {}
 
-/// A day on which a master breaks and a channel is cut meets all that the laws on runs ask for.
+/// A day on which a master breaks and a link of a channel is cut meets what the laws on runs ask of a network, its
+/// events and its clocks.
 pub fn rough_day_is_lawful()
     ensures { IsLawful rough_day }
 {}
