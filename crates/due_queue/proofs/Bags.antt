@@ -1,0 +1,115 @@
+-- What is in a list, and in another with the same elements.
+use Rattle.std.proofs.Common.{◌≡◌, ◌≢◌, ◌⊎◌, ℕ, zero, suc, ◌<◌, true, false, List, [], ◌∷◌, length, map, get_or, Option, Some, None, is_some, inl, inr, refl, sym, ap, subst, ◌∙◌, ◌==◌, arith}
+use Rattle.std.specs.List.{AllByRecursion, Contains, cons_option, filter_map}
+use Rattle.std.specs.List.Sorted.{IsPermutation}
+use Rattle.std.specs.Option.{unwrap_or}
+use Rattle.std.proofs.lemmas.Bool.{both_ways, cases_eq, eq-eqb, eqb-false, ne_eqb}
+use Rattle.std.proofs.lemmas.List.Sorted.{Contains-permutation, IsPermutation-map, IsPermutation-refl, IsPermutation-sym, length_permutation}
+use Rattle.run_law.specs.records.Order.{IsIn}
+
+pub in_contained : {X : Type 0} (xs : List X) (k : ℕ) (x : X) → k < length xs → get_or xs k x ≡ x → IsIn x xs
+in_contained [] k x lt e = absurd (omega (arith, lt))
+in_contained (y ∷ xs) zero x lt e = inl (sym e)
+in_contained (y ∷ xs) (suc k) x lt e = inr (in_contained xs k x (omega (arith, lt)) e)
+
+contained : {X : Type 0} (xs : List X) (x : X) → IsIn x xs → Contains xs x
+contained [] x there = absurd there
+contained (y ∷ xs) x (inl e) = (0, omega arith, sym e)
+contained (y ∷ xs) x (inr rest) = let c = contained xs x rest in let lt = c.1 in (suc c.0, omega (arith, lt), c.2)
+
+-- what is in a list is in one with the same elements
+pub in_permuted : {X : Type 0} (xs ys : List X) (x : X) → IsPermutation xs ys → IsIn x xs → IsIn x ys
+in_permuted xs ys x same there = let c = Contains-permutation xs ys x same (contained xs x there) in in_contained ys c.0 x c.1 c.2
+
+pub all_in : {X : Type 0} (P : X → Type 0) (xs : List X) → AllByRecursion P xs → (x : X) → IsIn x xs → P x
+all_in P [] all x there = absurd there
+all_in P (y ∷ xs) all x (inl e) = subst P (sym e) all.0
+all_in P (y ∷ xs) all x (inr rest) = all_in P xs all.1 x rest
+
+-- ---- what a function gives of each
+
+some_is : {Y : Type 0} (o : Option Y) (d : Y) → is_some o ≡ true → o ≡ Some (unwrap_or o d)
+some_is None d some = absurd (both_ways false refl some)
+some_is (Some y) d some = refl
+
+as_map : {X Y : Type 0} (h : X → Option Y) (d : Y) (xs : List X) → ((x : X) → IsIn x xs → is_some (h x) ≡ true)
+    → filter_map h xs ≡ map (λ x. unwrap_or (h x) d) xs
+as_map h d [] some = refl
+as_map h d (x ∷ xs) some =
+    ap (λ o. cons_option o (filter_map h xs)) (some_is (h x) d (some x (inl refl)))
+    ∙ ap (λ ys. unwrap_or (h x) d ∷ ys) (as_map h d xs (λ y there. some y (inr there)))
+
+by_default : {X Y : Type 0} (h : X → Option Y) (xs ys : List X) → IsPermutation xs ys → ((x : X) → IsIn x xs → is_some (h x) ≡ true) → Y
+    → IsPermutation (filter_map h xs) (filter_map h ys)
+by_default h xs ys same some d =
+    let here = as_map h d xs some in
+    let there = as_map h d ys (λ y inside. some y (in_permuted ys xs y (IsPermutation-sym xs ys same) inside)) in
+    subst (λ l. IsPermutation l (filter_map h ys)) (sym here)
+    (subst (λ l. IsPermutation (map (λ x. unwrap_or (h x) d) xs) l) (sym there) (IsPermutation-map (λ x. unwrap_or (h x) d) xs ys same))
+
+from_first : {X Y : Type 0} (h : X → Option Y) (xs ys : List X) (o : Option Y) → is_some o ≡ true → (Y → IsPermutation (filter_map h xs) (filter_map h ys))
+    → IsPermutation (filter_map h xs) (filter_map h ys)
+from_first h xs ys None some by = absurd (both_ways false refl some)
+from_first h xs ys (Some y) some by = by y
+
+-- of the same elements it gives the same
+pub permuted_map : {X Y : Type 0} (h : X → Option Y) (xs ys : List X) → IsPermutation xs ys → ((x : X) → IsIn x xs → is_some (h x) ≡ true)
+    → IsPermutation (filter_map h xs) (filter_map h ys)
+permuted_map h [] [] same some = IsPermutation-refl []
+permuted_map h [] (y ∷ ys) same some = absurd (omega (arith, length_permutation [] (y ∷ ys) same))
+permuted_map h (x ∷ xs) ys same some = from_first h (x ∷ xs) ys (h x) (some x (inl refl)) (by_default h (x ∷ xs) ys same some)
+
+pub length_map : {X Y : Type 0} (h : X → Option Y) (xs : List X) → ((x : X) → IsIn x xs → is_some (h x) ≡ true) → length (filter_map h xs) ≡ length xs
+length_map h [] some = refl
+length_map h (x ∷ xs) some = cons_length (h x) (filter_map h xs) (some x (inl refl)) ∙ ap (λ (n : ℕ). suc n) (length_map h xs (λ y there. some y (inr there)))
+  where
+    cons_length : {Y : Type 0} (o : Option Y) (ys : List Y) → is_some o ≡ true → length (cons_option o ys) ≡ suc (length ys)
+    cons_length None ys some = absurd (both_ways false refl some)
+    cons_length (Some y) ys some = refl
+
+pub same_map : {X Y : Type 0} (g h : X → Option Y) (xs : List X) → ((x : X) → IsIn x xs → g x ≡ h x) → filter_map g xs ≡ filter_map h xs
+same_map g h [] same = refl
+same_map g h (x ∷ xs) same = ap (λ o. cons_option o (filter_map g xs)) (same x (inl refl))
+    ∙ ap (cons_option (h x)) (same_map g h xs (λ y there. same y (inr there)))
+
+of_option : {Y : Type 0} (o : Option Y) (ys : List Y) (y : Y) → IsIn y (cons_option o ys) → (o ≡ Some y) ⊎ IsIn y ys
+of_option None ys y there = inr there
+of_option (Some z) ys y (inl same) = inl (ap Some (sym same))
+of_option (Some z) ys y (inr rest) = inr rest
+
+-- what is there was given of one
+pub given_of : {X Y : Type 0} (h : X → Option Y) (xs : List X) (y : Y) → IsIn y (filter_map h xs) → (x : X) × IsIn x xs × (h x ≡ Some y)
+given_of h [] y there = absurd there
+given_of h (x ∷ xs) y there =
+    elim (of_option (h x) (filter_map h xs) y there) [
+      | inl e ↦ (x, inl refl, e)
+      | inr rest ↦ let g = given_of h xs y rest in (g.0, inr g.1, g.2)
+    ]
+
+behind_option : {Y : Type 0} (o : Option Y) (ys : List Y) (y : Y) → IsIn y ys → IsIn y (cons_option o ys)
+behind_option None ys y there = there
+behind_option (Some z) ys y there = inr there
+
+-- and what is given of one is there
+pub is_given : {X Y : Type 0} (h : X → Option Y) (xs : List X) (x : X) (y : Y) → IsIn x xs → h x ≡ Some y → IsIn y (filter_map h xs)
+is_given h [] x y there e = absurd there
+is_given h (z ∷ xs) x y (inl same) e = subst (λ o. IsIn y (cons_option o (filter_map h xs))) (sym (ap h (sym same) ∙ e)) (inl refl)
+is_given h (z ∷ xs) x y (inr rest) e = behind_option (h z) (filter_map h xs) y (is_given h xs x y rest e)
+
+-- ---- numbers that differ
+
+pub flips : (x y : ℕ) → (x == y) ≡ (y == x)
+flips x y =
+    elim (cases_eq x y) [
+      | inl e ↦ eq-eqb x y e ∙ sym (eq-eqb y x (sym e))
+      | inr apart ↦ ne_eqb x y apart ∙ sym (ne_eqb y x (λ e. apart (sym e)))
+    ]
+
+pub all_apart : {X : Type 0} (f : X → ℕ) (k : ℕ) (xs : List X) → ((x : X) → IsIn x xs → f x ≢ k) → AllByRecursion (λ y. (k == y) ≡ false) (map f xs)
+all_apart f k [] apart = tt
+all_apart f k (x ∷ xs) apart = (ne_eqb k (f x) (λ e. apart x (inl refl) (sym e)), all_apart f k xs (λ y there. apart y (inr there)))
+
+pub each_apart : {X : Type 0} (f : X → ℕ) (k : ℕ) (xs : List X) → AllByRecursion (λ y. (k == y) ≡ false) (map f xs) → (x : X) → IsIn x xs → f x ≢ k
+each_apart f k [] all x there = absurd there
+each_apart f k (y ∷ xs) all x (inl e) = λ same. eqb-false k (f y) all.0 (sym same ∙ ap f e)
+each_apart f k (y ∷ xs) all x (inr rest) = each_apart f k xs all.1 x rest

@@ -1,0 +1,57 @@
+-- A world stands also where its lists have what they had in another order.
+use Rattle.std.proofs.Common.{ℕ, List}
+use Rattle.std.specs.Prelude.{◌↔◌}
+use Rattle.net_plan.specs.declared.ids.DeviceId.{DeviceId}
+use Rattle.net_plan.specs.declared.network.Network.{Network}
+use Rattle.run_law.specs.machines.Nodes.{Node}
+use Rattle.run_law.specs.records.Order.{IsIn}
+use Rattle.run_law.specs.scenario.Scenarios.{Scenario}
+use Rattle.run_law.specs.declared.note.Note.{Note}
+use Rattle.world_law.specs.world.Steps.{StandsBehind}
+use Rattle.world_law.specs.world.World.{OnWire, World}
+
+-- other wires with the same on them
+pub with_wires : {C M : Type 0} (reading : C → ℕ → ℕ) (stands : M → Network → DeviceId → Node
+    → Type 0) (s : Scenario) (world : World C M) (notes : List Note) (wires : List OnWire) (p : List ℕ) → ((e : OnWire) → IsIn e wires ↔ IsIn e world.wires)
+    → StandsBehind reading stands s world notes p → StandsBehind reading stands s (record world { wires = wires }) notes p
+with_wires reading stands s world notes wires p same behind =
+    let it = behind.0 in (
+      record {
+        same = it.same;
+        range = it.range;
+        rules = it.rules;
+        forward = it.forward;
+        steady = it.steady;
+        precise = it.precise;
+        mark = it.mark;
+        cursor = it.cursor;
+        run = it.run;
+        ahead = it.ahead;
+        of_now = it.of_now;
+        not_later = it.not_later;
+        limit = it.limit;
+        lines = it.lines;
+        given = it.given;
+        ended = it.ended;
+        befallen = it.befallen;
+        clocks = it.clocks;
+        broken = it.broken;
+        ways = it.ways;
+        coming = it.coming;
+        room = it.room;
+        settled = it.settled;
+        known = it.known;
+        devices = it.devices;
+        early = it.early;
+        untold = it.untold;
+        wires = record {
+          real = λ e there. it.wires.real e ((same e).0 there);
+          all = λ t device link cause a late waits. let found = it.wires.all t device link cause a late waits in (found.0, (same found.0).1 found.1, found.2);
+        };
+        ports = it.ports;
+        waiting = it.waiting;
+        are = it.are;
+        shown = it.shown;
+      },
+      behind.1,
+    )

@@ -1,0 +1,34 @@
+-- What an event makes of the parts of a state.
+use Rattle.std.specs.Prelude.{ℕ, ℤ, ◌<◌, unwrap_or}
+use Rattle.std.specs.Option.{option_map_or}
+use Rattle.net_plan.specs.declared.event.What.TheVariants as events
+use Rattle.net_plan.specs.declared.event.What.{What}
+use Rattle.net_plan.specs.declared.ids.DeviceId.{DeviceId}
+use Rattle.net_plan.specs.declared.ids.LinkId.{LinkId}
+use Rattle.net_plan.specs.declared.tables.Way.{Way}
+use Rattle.run_law.specs.scenario.Rates.{step_by}
+use Rattle.run_law.specs.scenario.Ways.{cut_set, hold_set, wire_set}
+use Rattle.tte_units.specs.Amount.{amount}
+use Rattle.tte_units.specs.declared.units.Units.{Units}
+use Rattle.whole_world.specs.declared.contents.WayState.{WayState}
+
+-- a device's clock after what befalls the network at a time
+abbrev pub clock_after : {C : Type 0} → (C → ℕ → ℤ → C) → DeviceId → Units → What → C → C
+clock_after after_step device time what clock =
+    option_map_or (λ step. after_step clock step.at step.rate) (step_by device (amount time) what) clock
+
+-- a way of a link after it
+abbrev pub way_after : LinkId → Way → What → WayState → WayState
+way_after link way what was = record {
+  delay = unwrap_or (wire_set link way what) was.delay;
+  hold = unwrap_or (hold_set link way what) was.hold;
+  cut = unwrap_or (cut_set link way what) was.cut;
+}
+
+-- there are so many links that the event's is one
+abbrev pub HasItsLink : ℕ → What → Type 0
+HasItsLink n (events.Wire link way delay) = link.0 < n
+HasItsLink n (events.Hold link way hold) = link.0 < n
+HasItsLink n (events.Cut link way) = link.0 < n
+HasItsLink n (events.Heal link way) = link.0 < n
+HasItsLink n other = Unit {0}

@@ -1,0 +1,11 @@
+pub mod Applying
+pub mod Beginning
+pub mod Following
+pub mod Giving
+pub mod Keeping
+pub mod Leaving
+pub mod Naming
+pub mod Places
+pub mod Showing
+pub mod Sound
+pub mod Views

@@ -1,0 +1,77 @@
+ghost use Rattle.std.specs.Prelude.{◌≡◌, Bool, map, IfOk};
+ghost use Rattle.net_plan.specs.declared.ids.DeviceId.{DeviceId};
+ghost use Rattle.net_plan.specs.declared.network.Network.{Network};
+ghost use Rattle.net_plan.specs.declared.event.What.TheVariants.{On, Break};
+ghost use Rattle.run_law.specs.machines.Nodes.{Node};
+ghost use Rattle.sync_state.specs.declared.state.State.TheVariants.{Off};
+ghost use Rattle.whole_world.specs.Keeping.{keeps, sound_one};
+ghost use Rattle.world_law.specs.world.Steps.{befallen_node};
+
+use crate::OutOfMemory;
+use run_law::Machine;
+use std::alloc::Global;
+use sync_state::State;
+use tte_units::Units;
+
+/// The machine of a device, or what a broken device still shows.
+#[derive(Drop)]
+pub enum Kept<M: Machine + Drop> {
+    Sound(M),
+    Out(State, Units),
+}
+
+impl<M: Machine + Drop> Kept<M> {
+    /// The device's state.
+    pub fn state(&self) -> State
+        ensures { (network : Network) (device : DeviceId) (node : Node) → keeps M.stands self.now network device node
+            → result ≡ node.standing.state }
+    {
+        match self {
+            Kept::Sound(machine) => machine.state(),
+            Kept::Out(state, _) => *state,
+        }
+    }
+
+    /// Its adjustment.
+    pub fn adjustment(&self) -> Units
+        ensures { (network : Network) (device : DeviceId) (node : Node) → keeps M.stands self.now network device node
+            → result ≡ node.standing.adjustment }
+    {
+        match self {
+            Kept::Sound(machine) => machine.adjustment(),
+            Kept::Out(_, adjustment) => *adjustment,
+        }
+    }
+
+    /// An event turns the device on, which is off, unless it is broken.
+    pub fn turn_on(&mut self)
+        ensures { (network : Network) (device : DeviceId) (node : Node) (on : Bool) → keeps M.stands self.old network device node
+            → node.standing.state ≡ Off → keeps M.stands self.new network device (befallen_node on (On device) device node) }
+    {
+        if let Kept::Sound(machine) = self {
+            machine.turn_on();
+        }
+    }
+
+    /// The device breaks. Where it was turned on at this very instant it is off, as it was before.
+    pub fn break_down(&mut self, on: bool)
+        ensures { (network : Network) (device : DeviceId) (node : Node) → keeps M.stands self.old network device node
+            → keeps M.stands self.new network device (befallen_node on (Break device) device node) }
+    {
+        if let Kept::Sound(machine) = self {
+            let state = if on { State::Off } else { machine.state() };
+            let adjustment = machine.adjustment();
+            *self = Kept::Out(state, adjustment);
+        }
+    }
+}
+
+/// Machines of sound devices.
+pub fn all_kept<M: Machine + Drop>(
+    alloc: Global,
+    machines: Vec<M>,
+) -> Result<Vec<Kept<M>>, OutOfMemory>
+    ensures { IfOk result (λ kept. kept.items ≡ map sound_one machines.items) }
+{
+    Ok(machines.into_iter().map(Kept::Sound).collect(alloc)?)
+}

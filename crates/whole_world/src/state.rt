@@ -1,0 +1,372 @@
+ghost use Rattle.std.specs.Prelude.{◌≡◌, ◌^◌, ◌≤◌, ◌<◌, [], ◌∷◌, List, ℕ, true, false, length, Some, slice_get, if◌then◌else◌, pos, unsigned_abs, ◌++◌, ◌+◌, IfOk, OnErr, IfSome, IfNone, None, All, Option, vec_len, vec_capacity};
+ghost use Rattle.std.specs.VecDeque.{deque_capacity, deque_len};
+ghost use Rattle.due_queue.specs.Places.{IsFirst, numbers_of};
+ghost use Rattle.net_plan.specs.Ranges.{IsInRange};
+ghost use Rattle.run_law.specs.records.Order.{behind};
+ghost use Rattle.net_plan.specs.declared.network.Network.{Network};
+ghost use Rattle.run_law.specs.declared.note.Note.{Note};
+ghost use Rattle.run_law.specs.scenario.Scenarios.{Scenario};
+
+use crate::OutOfMemory;
+use crate::applying::{
+    befall_machines, breaks_on, copy_of, drop_waiting, ends, keep_befallen, set_broken, set_rate,
+    set_way,
+};
+use crate::contents::{Befallen, Content, Settled, Timed, Waits, WayState};
+use crate::giving::{Giving, give_frame};
+use crate::kept::Kept;
+use crate::leaving::{departed, is_parent, take_port};
+use crate::naming::name_followers;
+use crate::sending::{put_on, sent_by};
+use crate::settled::{put_in, put_some};
+use crate::waiting::giver;
+use drift_clock::Clock;
+use due_queue::{Place, UnderWay};
+use net_plan::{DeviceId, Event, LinkId, Network, Way, What};
+use pcf_values::Pcf;
+use run_law::{Machine, Note, NoteBody};
+use std::collections::VecDeque;
+use tte_units::Units;
+
+/// The parts of a world that change.
+#[derive(Drop)]
+pub struct State<C: Clock, M: Machine + Drop> {
+    /// The devices' clocks and what is kept of them, in the network's order, and whether they are broken.
+    pub clocks: Vec<C>,
+    pub machines: Vec<Kept<M>>,
+    pub broken: Vec<bool>,
+    /// The ways of the links, in the network's order.
+    pub ups: Vec<WayState>,
+    pub downs: Vec<WayState>,
+    /// What is on the wires and at the ports.
+    pub under_way: UnderWay<Content>,
+    /// The frames that wait for their permanence.
+    pub waiting: Vec<Waits>,
+    /// Is nothing of the present instant but events worked off?
+    pub early: bool,
+    /// Did events befall whose outcomes are not settled?
+    pub pending: bool,
+    pub befell: Vec<Befallen>,
+    /// The records of the present instant that are still to be given, in their order.
+    pub settled: VecDeque<Settled>,
+    /// The present time.
+    pub time: u64,
+    /// How many events were applied.
+    pub lines: u64,
+    /// How many records were given.
+    pub given: u64,
+    /// Has the end come?
+    pub ended: bool,
+    /// How many clocks have a record, since the end has come.
+    pub shown: u32,
+}
+
+impl<C: Clock, M: Machine + Drop> State<C, M> {
+    ghost use Rattle.whole_world.specs.Views.{settled_at, with_first, world_of};
+    ghost use Rattle.run_law.specs.records.Happenings.{happenings};
+    ghost use Rattle.run_law.specs.records.Ranks.{place_of};
+    ghost use Rattle.world_law.specs.source.First.{NoSourceBefore};
+    ghost use Rattle.whole_world.specs.Sound.{AreBelow, AreUnderWay, IsSized, IsSound};
+    ghost use Rattle.whole_world.specs.Leaving.{departure_in, port_entry};
+    ghost use Rattle.whole_world.specs.Keeping.{keeps};
+    ghost use Rattle.whole_world.specs.Showing.{IsOf};
+    ghost use Rattle.whole_world.specs.Giving.{CameBy, IsGiver, IsGivenOut, IsPutOn, IsYoung, MayBeGiven, giver_of, wire_entry};
+    ghost use Rattle.whole_world.specs.declared.giving.Giving.{Giving as GivingValue};
+    ghost use Rattle.tte_units.specs.Amount.{amount, units_of};
+    ghost use Rattle.run_law.specs.scenario.Devices.{is_parent_of};
+    ghost use Rattle.world_law.specs.world.Steps.{ComesFirst, FitsWorld, NothingBefore, StandsBehind};
+    ghost use Rattle.world_law.specs.source.Agreeing.{scenario};
+    ghost use Rattle.world_law.specs.source.Applying.{note_of_event};
+    ghost use Rattle.whole_world.specs.Following.{Follows};
+    ghost use Rattle.net_plan.specs.Belonging.{IsOfNetwork};
+    ghost use Rattle.net_plan.specs.declared.event.Event.{Event as EventValue};
+    ghost use Rattle.net_plan.specs.declared.ids.DeviceId.{DeviceId as DeviceOf};
+    ghost use Rattle.tte_units.specs.declared.rates.Ppb.{Ppb};
+    ghost use Rattle.world_law.specs.world.World.{Stands, clock_place, note_of};
+
+    /// Time passes, where nothing is under way before.
+    pub fn pass_to(&mut self, time: u64)
+        requires later { self.old.time < time }
+        requires limit { time ≤ 2 ^ 60 }
+        requires none { self.old.settled.items ≡ [] }
+        requires open { self.old.ended ≡ false }
+        ensures sound { (network : Network) → IsSound C.last_step network self.old → IsSound C.last_step network self.new }
+        ensures stands { (network : Network) (s : Scenario) (notes : List Note)
+            → Stands C.reading (keeps M.stands) s (world_of network self.old) notes
+            → NothingBefore (keeps M.stands) s (world_of network self.old) (time ∷ [])
+            → StandsBehind C.reading (keeps M.stands) s (world_of network self.new) notes (time ∷ []) }
+    {
+        self.time = time;
+        self.early = true;
+    }
+
+    /// The clock of the next device is shown, at the end.
+    pub fn show_clock(&mut self, network: &Network)
+        requires sound { IsSound C.last_step network.now self.old }
+        requires range { IsInRange network.now }
+        requires more { self.old.shown < length network.now.device }
+        requires room { deque_len self.old.settled < deque_capacity self.old.settled }
+        ensures sound { IsSound C.last_step network.now self.new }
+        ensures stands { (s : Scenario) (notes : List Note)
+            → (old : Stands C.reading (keeps M.stands) s (world_of network.now self.old) notes) → self.old.ended ≡ true
+            → ComesFirst C.reading (keeps M.stands) s (world_of network.now self.old) notes old (clock_place self.old.time (record { 0 = self.old.shown }))
+            → StandsBehind C.reading (keeps M.stands) s (world_of network.now self.new) notes
+            (behind (clock_place self.old.time (record { 0 = self.old.shown }))) }
+    {
+        let index = self.shown as usize;
+        let reading = self.clocks[index].read(Units::from_amount(self.time));
+        let machine = &self.machines[index];
+        let body = NoteBody::Clock {
+            device: DeviceId(self.shown),
+            reading,
+            adjustment: machine.adjustment(),
+            state: machine.state(),
+        };
+        put_in(
+            &mut self.settled,
+            Settled {
+                body,
+                frame: None,
+                octets: None,
+            },
+        );
+        self.early = false;
+        self.shown += 1;
+    }
+
+    /// What the clock of a device reads at present.
+    fn reading_of(&self, network: &Network, device: u32) -> u64
+        requires sized { IsSized C.last_step network.now self.now }
+        requires there { device < length network.now.device }
+        ensures { (clock : C) × (slice_get self.now.clocks.items device ≡ Some clock) × (result ≡ C.reading clock self.now.time) }
+    {
+        self.clocks[device as usize]
+            .read(Units::from_amount(self.time))
+            .amount()
+    }
+
+    /// How the way is on which a device sends on a link.
+    fn way_from(&self, network: &Network, device: DeviceId, link: LinkId) -> WayState
+        requires sized { IsSized C.last_step network.now self.now }
+        requires there { link.0 < length network.now.link }
+        ensures { slice_get (if is_parent_of network.now device link then self.now.downs.items else self.now.ups.items) link.0 ≡ Some result }
+    {
+        if is_parent(network, device, link) {
+            self.downs[link.0 as usize]
+        } else {
+            self.ups[link.0 as usize]
+        }
+    }
+
+    /// The frame of a record that its device gives to links, or waits for.
+    fn giving_by(
+        &self,
+        network: &Network,
+        body: &NoteBody,
+        frame: Option<Pcf>,
+        number: u64,
+    ) -> Option<Giving>
+        requires sized { IsSized C.last_step network.now self.now }
+        ensures some { IfSome result (λ g. IsGiver C.reading network.now self.now body.now frame number g) }
+        ensures none { IfNone result ((device : DeviceOf) → giver_of body.now ≡ Some device → device.0 < length network.now.device
+            → frame ≡ None) }
+    {
+        let device = giver(body)?;
+        if device.0 as usize >= self.broken.len() {
+            return None;
+        }
+        let frame = frame?;
+        let reading = self.reading_of(network, device.0);
+        Some(Giving {
+            device,
+            time: self.time,
+            number,
+            frame,
+            reading,
+            broken: self.broken[device.0 as usize],
+        })
+    }
+
+    /// Puts on a wire what a record puts there.
+    fn launch_wire(
+        &mut self,
+        network: &Network,
+        body: &NoteBody,
+        frame: Option<Pcf>,
+        octets: Option<Timed>,
+        number: u64,
+    )
+        requires sized { IsSized C.last_step network.now self.old }
+        requires range { IsInRange network.now }
+        requires room { 0 < self.old.under_way.room }
+        requires up_delays { All (λ w. w.delay < 2 ^ 62) self.old.ups.items }
+        requires down_delays { All (λ w. w.delay < 2 ^ 62) self.old.downs.items }
+        ensures same { self.new ≡ record self.old { under_way = self.new.under_way } }
+        ensures sent { IsPutOn (wire_entry network.now self.old.ups.items self.old.downs.items body.now frame octets self.old.time number)
+            self.old.under_way.entries self.new.under_way.entries }
+    {
+        let entry = sent_by(
+            network,
+            self.ups.as_slice(),
+            self.downs.as_slice(),
+            body,
+            frame,
+            octets,
+            self.time,
+            number,
+        );
+        put_on(&mut self.under_way, entry);
+    }
+
+    /// Gives the frame of a record to ports and has it wait, as its device does.
+    fn launch_frame(&mut self, network: &Network, body: &NoteBody, frame: Option<Pcf>, number: u64)
+        requires sized { IsSized C.last_step network.now self.old }
+        requires range { IsInRange network.now }
+        requires by { CameBy (length network.now.link) body.now }
+        requires young { IsYoung (amount network.now.dmax) body.now }
+        requires room { length network.now.link ≤ self.old.under_way.room }
+        requires capacity { vec_len self.old.waiting < vec_capacity self.old.waiting }
+        requires up_holds { All (λ w. w.hold < 2 ^ 62) self.old.ups.items }
+        requires down_holds { All (λ w. w.hold < 2 ^ 62) self.old.downs.items }
+        requires low { (k : ℕ) (clock : C) → slice_get self.old.clocks.items k ≡ Some clock → C.reading clock self.old.time ≤ 2 ^ 60 + 2 ^ 51 }
+        ensures same { self.new ≡ record self.old { under_way = self.new.under_way; waiting = self.new.waiting } }
+        ensures room { self.old.under_way.room ≤ self.new.under_way.room + length network.now.link }
+        ensures sound { AreBelow number self.old.under_way.entries → AreUnderWay network.now self.old.under_way.entries
+            → AreUnderWay network.now self.new.under_way.entries }
+        ensures given { (giving : Option GivingValue) × IsGivenOut C.reading network.now self.old self.new body.now frame number giving }
+    {
+        let giving = self.giving_by(network, body, frame, number);
+        give_frame(
+            &mut self.under_way,
+            &mut self.waiting,
+            network,
+            self.ups.as_slice(),
+            self.downs.as_slice(),
+            body,
+            giving,
+        );
+    }
+
+    /// Gives what is settled its number, the first that is settled, and launches what it does.
+    fn give_first(&mut self, network: &Network, first: Settled) -> Note
+        requires sized { IsSized C.last_step network.now self.old }
+        requires range { IsInRange network.now }
+        requires may { MayBeGiven network.now first.body first.frame first.octets }
+        requires number { self.old.given + 1 < 2 ^ 64 }
+        requires room { length network.now.link < self.old.under_way.room }
+        requires capacity { vec_len self.old.waiting < vec_capacity self.old.waiting }
+        requires up_holds { All (λ w. w.hold < 2 ^ 62) self.old.ups.items }
+        requires down_holds { All (λ w. w.hold < 2 ^ 62) self.old.downs.items }
+        requires up_delays { All (λ w. w.delay < 2 ^ 62) self.old.ups.items }
+        requires down_delays { All (λ w. w.delay < 2 ^ 62) self.old.downs.items }
+        requires low { (k : ℕ) (clock : C) → slice_get self.old.clocks.items k ≡ Some clock → C.reading clock self.old.time ≤ 2 ^ 60 + 2 ^ 51 }
+        ensures note { result ≡ record { number = self.old.given + 1; time = units_of self.old.time; body = first.body } }
+        ensures given { self.new.given ≡ self.old.given + 1 }
+        ensures stands { (f : DeviceOf → ℕ → ℕ) (past : List EventValue) (notes : List Note)
+            → (old : Stands C.reading (keeps M.stands) (scenario network.now f past) (with_first network.now self.old first self.old.settled.items) notes)
+            → NoSourceBefore (scenario network.now f past) (happenings network.now notes) old.cursor (place_of (settled_at network.now self.old.time first))
+            → StandsBehind C.reading (keeps M.stands) (scenario network.now f past) (world_of network.now self.new)
+            (notes ++ note_of notes (settled_at network.now self.old.time first) ∷ []) (behind (place_of (settled_at network.now self.old.time first))) }
+    {
+        let number = self.given + 1;
+        name_followers(&mut self.settled, number, &first.body);
+        self.launch_frame(network, &first.body, first.frame, number);
+        let Settled {
+            body,
+            frame,
+            octets,
+        } = first;
+        self.launch_wire(network, &body, frame, octets, number);
+        self.given = number;
+        Note {
+            number,
+            time: Units::from_amount(self.time),
+            body,
+        }
+    }
+
+    /// The record of a frame at a port that leaves; of a broken device there is none.
+    fn departure(&self, network: &Network, place: Place, frame: Pcf, given: u64) -> Option<Settled>
+        requires sized { IsSized C.last_step network.now self.now }
+        requires range { IsInRange network.now }
+        requires device { place.device < length network.now.device }
+        requires link { place.link < length network.now.link }
+        ensures { (s : Scenario) → IsOf C.reading s network.now self.now
+            → result ≡ departure_in s self.now.time (port_entry place frame given) }
+    {
+        if self.broken[place.device as usize] {
+            return None;
+        }
+        let reading = self.reading_of(network, place.device);
+        let way = self.way_from(network, DeviceId(place.device), LinkId(place.link));
+        Some(departed(network, reading, way.cut, place, frame, given))
+    }
+
+    /// The frame at a port that is the first of all leaves.
+    pub fn leave_first(&mut self, network: &Network, place: Place)
+        requires sound { IsSound C.last_step network.now self.old }
+        requires range { IsInRange network.now }
+        requires first { IsFirst self.old.under_way.entries place }
+        requires port { place.rank ≡ 8 }
+        requires device { place.device < length network.now.device }
+        requires link { place.link < length network.now.link }
+        requires room { deque_len self.old.settled < deque_capacity self.old.settled }
+        ensures sound { IsSound C.last_step network.now self.new }
+        ensures stands { (s : Scenario) (notes : List Note)
+            → (old : Stands C.reading (keeps M.stands) s (world_of network.now self.old) notes) → place.at ≡ self.old.time
+            → ComesFirst C.reading (keeps M.stands) s (world_of network.now self.old) notes old (numbers_of place)
+            → StandsBehind C.reading (keeps M.stands) s (world_of network.now self.new) notes (behind (numbers_of place)) }
+    {
+        let (frame, given) = take_port(&mut self.under_way, place);
+        self.early = false;
+        let record = self.departure(network, place, frame, given);
+        put_some(&mut self.settled, record);
+    }
+
+    /// An event befalls, before all else of the present instant. Its record is given.
+    ///
+    /// On an error nothing has changed.
+    pub fn apply(&mut self, network: &Network, event: &Event) -> Result<Note, OutOfMemory>
+        requires sound { IsSound C.last_step network.now self.old }
+        requires time { event.now.time.0 ≡ pos self.old.time }
+        requires early { self.old.early ≡ true }
+        requires open { self.old.ended ≡ false }
+        requires of_network { IsOfNetwork network.now event.now.what }
+        requires slow { (device : DeviceOf) (rate : Ppb) → event.now.what ≡ What.Rate device rate → unsigned_abs rate.0 ≤ 1000000 }
+        ensures sound { IsSound C.last_step network.now self.new }
+        ensures stands { (f g : DeviceOf → ℕ → ℕ) (past : List EventValue) (notes : List Note)
+            → (old : Stands C.reading (keeps M.stands) (scenario network.now f past) (world_of network.now self.old) notes)
+            → Follows C.after_step C.reading network.now f g past event.now self.old
+            → FitsWorld (keeps M.stands) network.now (world_of network.now self.old) event.now.what
+            → IfOk result (λ note. (note ≡ note_of_event notes past event.now)
+            × Stands C.reading (keeps M.stands) (scenario network.now g (past ++ event.now ∷ [])) (world_of network.now self.new)
+            (notes ++ note ∷ [])) }
+        ensures err { OnErr result (world_of network.now self.new ≡ world_of network.now self.old) }
+    {
+        if self.given >= u64::MAX - 1 || self.lines == u64::MAX {
+            return Err(OutOfMemory);
+        }
+        let what = copy_of(&event.what)?;
+        let on = breaks_on(self.befell.as_slice(), &event.what);
+        keep_befallen(&mut self.befell, self.given + 1, &event.what)?;
+        befall_machines(&mut self.machines, &event.what, on);
+        set_broken(&mut self.broken, &event.what);
+        set_way(&mut self.ups, Way::Up, &event.what);
+        set_way(&mut self.downs, Way::Down, &event.what);
+        drop_waiting(&mut self.waiting, &event.what);
+        set_rate(&mut self.clocks, event.time, &event.what);
+        self.pending = true;
+        self.lines += 1;
+        self.given += 1;
+        self.ended = ends(&event.what);
+        self.shown = 0;
+        Ok(Note {
+            number: self.given,
+            time: event.time,
+            body: NoteBody::Event {
+                line: self.lines,
+                what,
+            },
+        })
+    }
+}
