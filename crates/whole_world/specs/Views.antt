@@ -10,6 +10,7 @@ use Rattle.due_queue.specs.declared.Place.{Place}
 use Rattle.whole_world.specs.declared.contents.Befallen.{Befallen}
 use Rattle.whole_world.specs.declared.contents.Content.TheVariants.{Wire, Port}
 use Rattle.whole_world.specs.declared.contents.Content.{Content}
+use Rattle.whole_world.specs.declared.contents.Holding.{Holding}
 use Rattle.whole_world.specs.declared.contents.Settled.{Settled}
 use Rattle.whole_world.specs.declared.contents.Signal.TheVariants as signals
 use Rattle.whole_world.specs.declared.contents.Signal.{Signal as Sent}
@@ -19,7 +20,7 @@ use Rattle.whole_world.specs.declared.contents.Waits.{Waits}
 use Rattle.whole_world.specs.declared.contents.WayState.{WayState}
 use Rattle.whole_world.specs.declared.kept.Kept.{Kept}
 use Rattle.whole_world.specs.declared.state.State.{State}
-use Rattle.world_law.specs.world.World.{AtPort, Befell, OnWire, Waiting, WayNow, World}
+use Rattle.world_law.specs.world.World.{AtPort, Befell, OnWire, Stored, Waiting, WayNow, World}
 
 -- the octets of a frame of the schedule
 abbrev pub octets_of : Network → Timed → List ℕ
@@ -63,6 +64,9 @@ at_port e = port_at e.place e.content
 abbrev pub waiting_as : Waits → Waiting
 waiting_as w = record { device = w.device; link = w.link; cause = w.cause; frame = w.frame; point = w.point }
 
+abbrev pub stored_as : Network → Holding → Stored
+stored_as network h = record { device = h.device; vl = h.vl; number = h.number; octets = octets_of network h.octets }
+
 abbrev pub befell_as : Befallen → Befell
 befell_as b = record { number = b.number; what = b.what }
 
@@ -93,6 +97,7 @@ world_of network s = record {
   wires = filter_map (on_wire network) s.under_way.entries;
   ports = filter_map at_port s.under_way.entries;
   waiting = map waiting_as s.waiting.items;
+  stored = map (stored_as network) s.stored.items;
   early = s.early;
   pending = s.pending;
   befell = map befell_as s.befell.items;

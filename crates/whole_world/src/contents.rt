@@ -47,6 +47,15 @@ pub struct Waits {
     pub point: Units,
 }
 
+/// The frame of a virtual link that a switch holds: the last that it took, by the record of this number.
+#[derive(Debug, Drop)]
+pub struct Holding {
+    pub device: DeviceId,
+    pub vl: VlId,
+    pub number: u64,
+    pub octets: Timed,
+}
+
 /// An event of the present instant, by the number of its record, whose outcome is not settled.
 #[derive(Debug, Drop)]
 pub struct Befallen {

@@ -12,7 +12,7 @@ use crate::applying::{
     befall_machines, breaks_on, copy_of, drop_waiting, ends, keep_befallen, set_broken, set_rate,
     set_way,
 };
-use crate::contents::{Befallen, Content, Settled, Timed, Waits, WayState};
+use crate::contents::{Befallen, Content, Holding, Settled, Timed, Waits, WayState};
 use crate::giving::{Giving, give_frame};
 use crate::kept::Kept;
 use crate::leaving::{departed, is_parent, take_port};
@@ -42,6 +42,8 @@ pub struct State<C: Clock, M: Machine + Drop> {
     pub under_way: UnderWay<Content>,
     /// The frames that wait for their permanence.
     pub waiting: Vec<Waits>,
+    /// The frames that switches hold.
+    pub stored: Vec<Holding>,
     /// Is nothing of the present instant but events worked off?
     pub early: bool,
     /// Did events befall whose outcomes are not settled?

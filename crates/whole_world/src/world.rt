@@ -72,6 +72,7 @@ impl<'a, C: Clock, M: Machine + Drop> World<'a, C, M> {
                 downs,
                 under_way: UnderWay::new(alloc),
                 waiting: Vec::new(alloc),
+                stored: Vec::new(alloc),
                 early: true,
                 pending: false,
                 befell: Vec::new(alloc),

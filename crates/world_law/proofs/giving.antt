@@ -2,3 +2,4 @@
 pub mod GivenParts
 pub mod Naming
 pub mod Given
+pub mod Storing

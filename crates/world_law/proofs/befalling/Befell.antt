@@ -145,6 +145,7 @@ befell_step {C} {M} reading stands s world notes wires settled old open_ room pu
             (subst (λ (b : Bool). AreOnWires s hs old.cursor now b world.wires) open_ old.wires) put_by;
         ports = ports_told s hs old.cursor now world.befell world.ports m old.ports;
         waiting = waiting_told s hs old.cursor now world.befell world.waiting m old.waiting;
+        stored = old.stored;
         are = are;
         shown = λ device lt ended. (λ b. absurd (no_clock now device b), λ less. on (clock_place now device) ((old.shown device lt ended).1 less));
       },

@@ -35,6 +35,7 @@ use Rattle.tte_units.specs.declared.units.Units.{Units}
 use Rattle.world_law.proofs.acts.Recorded.{recorded_given}
 use Rattle.world_law.proofs.giving.GivenParts.{IsGiving, settled_then, up_to_place, worked_by_then}
 use Rattle.world_law.proofs.giving.Naming.{IsFollowing, named_right, shown_as}
+use Rattle.world_law.proofs.giving.Storing.{stored_then}
 use Rattle.world_law.proofs.lists.Lists.{filter_same}
 use Rattle.world_law.proofs.runs.Firsts.{arriving_more, departing_more, numbered_more, numbered_still}
 use Rattle.world_law.proofs.runs.SourcesBack.{acting_back, arrives_later, gives_rank, no_higher}
@@ -44,8 +45,8 @@ use Rattle.world_law.specs.device.Left.{IsLeft}
 use Rattle.world_law.specs.device.Takings.{frames_taken}
 use Rattle.world_law.specs.source.First.{NoSourceBefore}
 use Rattle.world_law.specs.source.Sources.{IsSource}
-use Rattle.world_law.specs.world.Steps.{AreAwaited, AreGiven, ArePut, GivenStep, named}
-use Rattle.world_law.specs.world.World.{AreAtPorts, AreOfNetwork, AreOnWires, AreSettled, AreUntold, AreWaiting, AtPort, Befell, IsTurnedOnBy, HaveBefallen, IsActedUpTo, IsAwaitedFor, IsHeld, IsJustTold, IsKept, OnWire, Waiting, act_place, clock_place, hidden, hidden_body, none_yet, note_of, port_place, ripe_place, wire_place}
+use Rattle.world_law.specs.world.Steps.{AreAwaited, AreGiven, ArePut, AreTaken, GivenStep, named}
+use Rattle.world_law.specs.world.World.{AreAtPorts, AreOfNetwork, AreOnWires, AreSettled, AreStored, AreUntold, AreWaiting, AtPort, Befell, IsTurnedOnBy, HaveBefallen, IsActedUpTo, IsAwaitedFor, IsHeld, IsJustTold, IsKept, OnWire, Waiting, act_place, clock_place, hidden, hidden_body, none_yet, note_of, port_place, ripe_place, wire_place}
 
 -- ---- events so far
 
@@ -368,7 +369,7 @@ coming_is given (f ∷ others) z rest e =
     let a : z ≡ hidden given f = cc in let b : rest ≡ map (hidden given) others = cc in record { first = f; others = others; whole = refl; shows = a; show = b }
 
 pub given_step : {C M : Type 0} (reading : C → ℕ → ℕ) (stands : M → Network → DeviceId → Node → Type 0) → GivenStep reading stands
-given_step {C} {M} reading stands s world notes z rest wires ports waiting old settled none put given awaited =
+given_step {C} {M} reading stands s world notes z rest wires ports waiting stored old settled none put given awaited taken =
     let hs = happenings s.network notes in
     let g = length notes in
     let long : length notes ≡ length hs = length_is s notes in
@@ -463,6 +464,9 @@ given_step {C} {M} reading stands s world notes z rest wires ports waiting old s
         waiting = subst (λ (l : List Happening). AreWaiting s l then_ world.now waiting) back
             (waiting_then s hs f others old.mark old.cursor world.now (g + 1) world.waiting waiting giving number old.befallen old.waiting
             (subst (λ (h : Happening). AreAwaited s h (g + 1) world.waiting waiting) x awaited));
+        stored = subst (λ (l : List Happening). AreStored l stored) back
+            (stored_then hs f (g + 1) world.stored stored (number ∙ sym due.number) old.stored
+            (subst (λ (h : Happening). AreTaken h (g + 1) world.stored stored) x taken));
         are =
             subst (λ (l : List Happening). AreSettled s l others then_ then_ world.now) back (settled_then s hs f others old.mark old.cursor world.now giving);
         shown = λ device lt ended. (

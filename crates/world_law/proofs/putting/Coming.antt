@@ -188,6 +188,7 @@ stands_at reading stands s world notes old device machines settled coming m show
             (subst (λ (b : Bool). AreOnWires s hs old.cursor now b world.wires) told old.wires));
         ports = ports_come s hs old.coming old.mark old.cursor now 4 more world.ports m old.ports;
         waiting = waiting_come s hs old.coming old.mark old.cursor now 4 more world.waiting m old.waiting;
+        stored = old.stored;
         are = are;
         shown = λ other lt ended. (
           λ b. absurd (elim (no_higher now 14 now 4 (other.0 ∷ []) more (inr b)) [ inl less ↦ omega (arith, less) | inr same ↦ omega (arith, same.1) ]),

@@ -162,6 +162,7 @@ stands_on reading stands s world notes old r more place machines wires ports wai
         wires = subst (λ (b : Bool). AreOnWires s (happenings s.network notes) (behind (world.now ∷ r ∷ more)) world.now b wires) (sym told) on_wires;
         ports = at_ports;
         waiting = awaited;
+        stored = old.stored;
         are = are;
         shown = shown_so;
       },

@@ -30,11 +30,12 @@ use Rattle.world_law.proofs.giving.GivenParts.{up_to_place}
 use Rattle.world_law.proofs.runs.Applies.{line_before, run_goes_on_by_event, same_length}
 use Rattle.world_law.proofs.runs.Firsts.{get_more, numbered_more, numbered_still}
 use Rattle.world_law.proofs.steps.AppliedDevices.{IsApplying, event_moves, held_apply, off_before}
+use Rattle.world_law.proofs.giving.Storing.{stored_still}
 use Rattle.world_law.proofs.steps.AppliedParts.{IsBefalling, agree_before, before_others, nothing_due, ports_apply, turned_more, waiting_apply, wires_apply}
 use Rattle.world_law.specs.source.Agreeing.{scenario}
 use Rattle.world_law.specs.source.Applying.{IsEventBody, MayBefall, note_of_event, place_of_event}
 use Rattle.world_law.specs.world.Steps.{AppliedStep, FitsWorld, also_befell, ends_world}
-use Rattle.world_law.specs.world.World.{AreAtPorts, AreInOrder, AreOfNetwork, AreOnWires, AreSettled, AreUntold, AreWaiting, Befell, IsFromEnd, IsHeld, IsOnWire, OnWire, World, clock_place, has_outcome, hidden}
+use Rattle.world_law.specs.world.World.{AreAtPorts, AreInOrder, AreOfNetwork, AreOnWires, AreSettled, AreStored, AreUntold, AreWaiting, Befell, IsFromEnd, IsHeld, IsOnWire, OnWire, World, clock_place, has_outcome, hidden}
 
 -- ---- the end
 
@@ -321,6 +322,7 @@ applied_step {C} {M} reading stands network f g past event world notes clocks ma
       waiting =
           subst (λ (l : List Happening). AreWaiting r l (now ∷ 2 ∷ []) now waiting) back
           (waiting_apply network f g past event hs old.mark old.cursor now ev world.waiting waiting m old.waiting waits);
+      stored = subst (λ (l : List Happening). AreStored l world.stored) back (stored_still hs ev world.stored (λ device vl. refl) old.stored);
       are = subst (λ (l : List Happening). AreSettled r l [] (behind here) (now ∷ 2 ∷ []) now) back (nothing_due network g past event js now at);
       shown = λ device lt ended. (λ b. absurd (no_clock now device b), λ less. absurd (omega (arith, less)));
     }

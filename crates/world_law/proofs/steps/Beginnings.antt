@@ -181,6 +181,9 @@ begun {C} {M} reading stands network f world fresh forward steady zero_first le 
             sound = λ e i. absurd i;
             all = λ e it sound not. absurd (none_there e.cause it.arrival it.there);
           });
+      stored =
+          subst (λ (l : List _). Rattle.world_law.specs.world.World.AreStored [] l) (sym fresh.stored)
+          (record { real = λ e i. absurd i; all = λ device vl taking last. absurd cc });
       are = record {
         of_now = λ z i. absurd i;
         behind_mark = λ z i. absurd i;

@@ -169,6 +169,7 @@ passed_but_devices reading stands s world notes t old settled lt few running non
               λ e it sound not. old.waiting.all e it (sym (no_later_breaks s old.mark now t e.device old.befallen le) ∙ sound)
               (λ u r b. not u r (over (ripe_place u e) b));
         };
+        stored = old.stored;
         are = nothing_full s hs t;
         shown = λ device in_it ended. absurd (let bad : false ≡ true = sym running ∙ ended in cc);
       },

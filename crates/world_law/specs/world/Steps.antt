@@ -5,6 +5,7 @@ use Rattle.net_plan.specs.declared.event.What.TheVariants as events
 use Rattle.net_plan.specs.declared.event.What.{What}
 use Rattle.net_plan.specs.declared.ids.DeviceId.{DeviceId}
 use Rattle.net_plan.specs.declared.ids.LinkId.{LinkId}
+use Rattle.net_plan.specs.declared.ids.VlId.{VlId}
 use Rattle.net_plan.specs.Ranges.{IsInRange}
 use Rattle.net_plan.specs.declared.network.Network.{Network}
 use Rattle.schedule_tables.specs.Rules.{KeepsRules}
@@ -25,6 +26,7 @@ use Rattle.run_law.specs.declared.judgement.Why.{Why}
 use Rattle.run_law.specs.declared.note.Note.{Note}
 use Rattle.run_law.specs.declared.note.NoteBody.TheVariants as kinds
 use Rattle.run_law.specs.declared.note.NoteBody.{NoteBody}
+use Rattle.run_law.specs.timed.Dispatching.{is_accepted}
 use Rattle.sync_state.specs.declared.state.State.TheVariants.{Off}
 use Rattle.sync_state.specs.declared.state.State.{State}
 use Rattle.tte_units.specs.Amount.{amount, units_of}
@@ -33,7 +35,7 @@ use Rattle.world_law.specs.device.Ready.{IsSteady}
 use Rattle.world_law.specs.source.Agreeing.{scenario}
 use Rattle.world_law.specs.source.Applying.{note_of_event}
 use Rattle.world_law.specs.source.First.{NoSourceBefore}
-use Rattle.world_law.specs.world.World.{AtPort, AreWays, Befell, IsFromEnd, has_outcome, IsAwaitedFor, IsClockOf, IsForward, IsGivenBy, OnWire, Stands, Waiting, WayNow, World, act_place, clock_place, none_yet, note_of, port_place, ripe_place, wire_place}
+use Rattle.world_law.specs.world.World.{AtPort, AreWays, Befell, IsFromEnd, has_outcome, IsAwaitedFor, IsClockOf, IsForward, IsGivenBy, OnWire, Stands, Stored, Waiting, WayNow, World, act_place, clock_place, none_yet, note_of, port_place, ripe_place, wire_place}
 
 -- ---- what a record launches
 
@@ -60,6 +62,14 @@ pub record AreAwaited (s : Scenario) (x : Happening) (number : ℕ) (old new : L
   pub kept : (e : Waiting) → IsIn e old → IsIn e new
   pub all : (e : Waiting) → e.cause ≡ number → IsAwaitedFor s x e → is_broken s e.device (time_of x) ≡ false
       → IsIn e new
+
+-- what the switches hold with the frame of the record of this number, where one took it
+pub record AreTaken (x : Happening) (number : ℕ) (old new : List Stored) : Type 0 where
+  pub real : (e : Stored) → IsIn e new → (IsIn e old × (is_accepted e.device e.vl x.note.body ≡ false))
+      ⊎ ((is_accepted e.device e.vl x.note.body ≡ true) × (e.number ≡ number) × (e.octets ≡ x.octets))
+  pub kept : (e : Stored) → IsIn e old → is_accepted e.device e.vl x.note.body ≡ false → IsIn e new
+  pub all : (device : DeviceId) (vl : VlId) → is_accepted device vl x.note.body ≡ true
+      → (e : Stored) × IsIn e new × (e.device ≡ device) × (e.vl ≡ vl)
 
 -- does the record correct the device's clock?
 abbrev pub is_corrected : DeviceId → NoteBody → Bool
@@ -123,11 +133,12 @@ StandsBehind reading stands s world notes p = (new : Stands reading stands s wor
 
 -- ---- a record is given
 
--- the first of what is settled is given: with the next number, and what it puts on wires, gives to ports and waits for
+-- the first of what is settled is given: with the next number, and what it puts on wires, gives to ports, waits for
+-- and takes
 abbrev pub GivenStep : {C M : Type 0} → (C → ℕ → ℕ) → (M → Network → DeviceId → Node → Type 0) → Type 0
 GivenStep {C} {M} reading stands =
     (s : Scenario) (world : World C M) (notes : List Note) (z : Happening) (rest : List Happening) (wires : List OnWire)
-    (ports : List AtPort) (waiting : List Waiting)
+    (ports : List AtPort) (waiting : List Waiting) (stored : List Stored)
     → (old : Stands reading stands s world notes) → world.settled ≡ z ∷ rest
     → NoSourceBefore s (happenings s.network notes) old.cursor (place_of z)
     → ArePut s (happening s.network (happenings s.network notes) (note_of notes z)) (length notes + 1) world.wires wires
@@ -135,11 +146,14 @@ GivenStep {C} {M} reading stands =
     ports
     → AreAwaited s (happening s.network (happenings s.network notes) (note_of notes z)) (length notes + 1) world.waiting
     waiting
+    → AreTaken (happening s.network (happenings s.network notes) (note_of notes z)) (length notes + 1) world.stored
+    stored
     → StandsBehind reading stands s
     (record world {
       wires = wires;
       ports = ports;
       waiting = waiting;
+      stored = stored;
       settled = map (named (length notes + 1) z)
           rest;
       given = world.given + 1;
@@ -327,6 +341,7 @@ pub record IsFresh {C M : Type 0} (reading : C → ℕ → ℕ) (stands : M → 
   pub wires : world.wires ≡ []
   pub ports : world.ports ≡ []
   pub waiting : world.waiting ≡ []
+  pub stored : world.stored ≡ []
   pub settled : world.settled ≡ []
   pub early : world.early ≡ true
   pub pending : world.pending ≡ false

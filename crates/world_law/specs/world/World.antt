@@ -1,10 +1,12 @@
 -- What a world keeps, and where the events applied to it and the records that it gave leave it.
-use Rattle.std.specs.Prelude.{◌≡◌, ◌⊎◌, ◌↔◌, ℕ, ◌+◌, ◌-◌, ◌^◌, ◌≤◌, ◌<◌, pos, ◌≤ℤ◌, List, [], ◌∷◌, ◌++◌, ◌==◌, length, map, slice_get, Some, IsSomeAnd, Bool, true, false, nat_lt, if◌then◌else◌}
+use Rattle.std.specs.Prelude.{◌≡◌, ◌⊎◌, ◌↔◌, ℕ, ◌+◌, ◌-◌, ◌^◌, ◌≤◌, ◌<◌, pos, ◌≤ℤ◌, List, [], ◌∷◌, ◌++◌, ◌==◌, length, map, slice_get, Some, IsSomeAnd, Bool, true, false, nat_lt, if◌then◌else◌, filter, Option, None}
+use Rattle.std.specs.List.{last_or}
 use Rattle.net_plan.specs.declared.event.Event.{Event}
 use Rattle.net_plan.specs.declared.event.What.TheVariants as events
 use Rattle.net_plan.specs.declared.event.What.{What}
 use Rattle.net_plan.specs.declared.ids.DeviceId.{DeviceId}
 use Rattle.net_plan.specs.declared.ids.LinkId.{LinkId}
+use Rattle.net_plan.specs.declared.ids.VlId.{VlId}
 use Rattle.net_plan.specs.Places.{link_at}
 use Rattle.net_plan.specs.Ranges.{IsInRange}
 use Rattle.net_plan.specs.declared.network.Network.{Network}
@@ -30,6 +32,7 @@ use Rattle.run_law.specs.declared.judgement.Why.TheVariants.{On}
 use Rattle.run_law.specs.declared.note.Note.{Note}
 use Rattle.run_law.specs.declared.note.NoteBody.TheVariants as notes
 use Rattle.run_law.specs.declared.note.NoteBody.{NoteBody}
+use Rattle.run_law.specs.timed.Dispatching.{is_accepted}
 use Rattle.sync_state.specs.declared.state.State.TheVariants.{Integrating, Off}
 use Rattle.transparent_clock.specs.Points.{point_of}
 use Rattle.tte_units.specs.Amount.{amount}
@@ -69,6 +72,13 @@ pub record Waiting : Type 0 where
   pub frame : Pcf
   pub point : Units
 
+-- the frame of a virtual link that a switch holds: the number of the record by which it took it, and the octets
+pub record Stored : Type 0 where
+  pub device : DeviceId
+  pub vl : VlId
+  pub number : ℕ
+  pub octets : List ℕ
+
 -- an event of the present instant, by the number of its record, whose outcome is not settled yet
 pub record Befell : Type 0 where
   pub number : ℕ
@@ -99,6 +109,7 @@ pub record World (C M : Type 0) : Type 0 where
   pub wires : List OnWire
   pub ports : List AtPort
   pub waiting : List Waiting
+  pub stored : List Stored
   pub early : Bool
   pub pending : Bool
   pub befell : List Befell
@@ -217,6 +228,25 @@ pub record AreWaiting (s : Scenario) (hs : List Happening) (cursor : List ℕ) (
   pub all : (e : Waiting) → IsWaitingFor s hs e → is_broken s e.device now ≡ false
       → ((t : ℕ) → IsRipening s hs t e.device e.link e.cause e.point → IsBefore (ripe_place t e) cursor → ⊥)
       → IsIn e waiting
+
+-- ---- what switches hold
+
+-- the last record by which the switch took a frame of the virtual link
+abbrev pub last_taking : List Happening → DeviceId → VlId → Option Happening
+last_taking hs device vl = last_or None (filter (λ h. is_accepted device vl h.note.body) hs)
+
+-- it is the frame of that record
+pub record IsStored (hs : List Happening) (e : Stored) : Type 0 where
+  pub taking : Happening
+  pub last : last_taking hs e.device e.vl ≡ Some taking
+  pub number : e.number ≡ taking.note.number
+  pub octets : e.octets ≡ taking.octets
+
+-- the switches hold, of each virtual link of which they took a frame, the last
+pub record AreStored (hs : List Happening) (stored : List Stored) : Type 0 where
+  pub real : (e : Stored) → IsIn e stored → IsStored hs e
+  pub all : (device : DeviceId) (vl : VlId) (taking : Happening) → last_taking hs device vl ≡ Some taking
+      → (e : Stored) × IsIn e stored × (e.device ≡ device) × (e.vl ≡ vl)
 
 -- ---- a device
 
@@ -458,6 +488,7 @@ pub record Stands {C M : Type 0} (reading : C → ℕ → ℕ) (stands : M → N
   pub wires : AreOnWires s (happenings s.network notes) cursor world.now world.pending world.wires
   pub ports : AreAtPorts s (happenings s.network notes) cursor world.ports
   pub waiting : AreWaiting s (happenings s.network notes) cursor world.now world.waiting
+  pub stored : AreStored (happenings s.network notes) world.stored
   pub are : AreSettled s (happenings s.network notes) coming mark cursor world.now
   pub shown : (device : DeviceId) → device.0 < length s.network.device → world.ended ≡ true
       → IsBefore (clock_place world.now device) cursor ↔ (device.0 < world.shown)

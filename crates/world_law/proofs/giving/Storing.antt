@@ -1,0 +1,65 @@
+-- What switches hold, once one more record is given.
+use Rattle.std.proofs.Common.{◌≡◌, ◌⊎◌, ℕ, ◌+◌, Bool, true, false, if◌then◌else◌, List, [], ◌∷◌, ◌++◌, filter, Option, Some, None, inl, inr, refl, sym, ap, subst, ◌∙◌, arith}
+use Rattle.std.specs.List.{last_or}
+use Rattle.std.proofs.lemmas.Bool.{cases_Bool}
+use Rattle.std.proofs.lemmas.List.Elements.{filter-append}
+use Rattle.net_plan.specs.declared.ids.DeviceId.{DeviceId}
+use Rattle.net_plan.specs.declared.ids.VlId.{VlId}
+use Rattle.run_law.specs.declared.note.NoteBody.{NoteBody}
+use Rattle.run_law.specs.records.Happenings.{Happening}
+use Rattle.run_law.specs.records.Order.{IsIn}
+use Rattle.run_law.specs.timed.Dispatching.{is_accepted}
+use Rattle.world_law.specs.world.Steps.{AreTaken}
+use Rattle.world_law.specs.world.World.{AreStored, IsStored, Stored, last_taking}
+
+last_more : {X : Type 0} (o : Option X) (xs ys : List X) → last_or o (xs ++ ys) ≡ last_or (last_or o xs) ys
+last_more o [] ys = refl
+last_more o (x ∷ xs) ys = last_more (Some x) xs ys
+
+last_one : {X : Type 0} (b : Bool) (o : Option X) (x : X) → last_or o (if b then x ∷ [] else []) ≡ (if b then Some x else o)
+last_one true o x = refl
+last_one false o x = refl
+
+-- one more record is the last taking, where it is one
+pub last_then : (hs : List Happening) (h : Happening) (device : DeviceId) (vl : VlId) (b : Bool) → is_accepted device vl h.note.body ≡ b
+    → last_taking (hs ++ h ∷ []) device vl ≡ (if b then Some h else last_taking hs device vl)
+last_then hs h device vl b is =
+    let q = λ (g : Happening). is_accepted device vl g.note.body in
+    ap (last_or None) (filter-append q hs (h ∷ [])) ∙ last_more None (filter q hs) (filter q (h ∷ []))
+    ∙ ap (λ (c : Bool). last_or (last_taking hs device vl) (if c then h ∷ [] else [])) is ∙ last_one b (last_taking hs device vl) h
+
+one_of : (x y : Happening) → Some x ≡ Some y → x ≡ y
+one_of x y e = cc
+
+-- a record by which no frame is taken
+pub stored_still : (hs : List Happening) (h : Happening) (stored : List Stored)
+    → ((device : DeviceId) (vl : VlId) → is_accepted device vl h.note.body ≡ false) → AreStored hs stored → AreStored (hs ++ h ∷ []) stored
+stored_still hs h stored none m = record {
+  real = λ e i.
+      let o = m.real e i in
+      record { taking = o.taking; last = last_then hs h e.device e.vl false (none e.device e.vl) ∙ o.last; number = o.number; octets = o.octets };
+  all = λ device vl taking last. m.all device vl taking (sym (last_then hs h device vl false (none device vl)) ∙ last);
+}
+
+-- a record that is given
+pub stored_then : (hs : List Happening) (h : Happening) (number : ℕ) (stored new : List Stored) → number ≡ h.note.number → AreStored hs stored
+    → AreTaken h number stored new → AreStored (hs ++ h ∷ []) new
+stored_then hs h number stored new is m t = record { real = real; all = all }
+  where
+    real : (e : Stored) → IsIn e new → IsStored (hs ++ h ∷ []) e
+    real e i = elim (t.real e i) [
+      | inl o ↦
+          let it = m.real e o.0 in
+          record { taking = it.taking; last = last_then hs h e.device e.vl false o.1 ∙ it.last; number = it.number; octets = it.octets }
+      | inr n ↦ record { taking = h; last = last_then hs h e.device e.vl true n.0; number = n.1 ∙ is; octets = n.2 }
+    ]
+    all : (device : DeviceId) (vl : VlId) (taking : Happening) → last_taking (hs ++ h ∷ []) device vl ≡ Some taking
+        → (e : Stored) × IsIn e new × (e.device ≡ device) × (e.vl ≡ vl)
+    all device vl taking last = elim (cases_Bool (is_accepted device vl h.note.body)) [
+      | inl taken ↦ t.all device vl taken
+      | inr not ↦
+          let it = m.all device vl taking (sym (last_then hs h device vl false not) ∙ last) in
+          let kept : is_accepted it.0.device it.0.vl h.note.body ≡ false =
+          ap (λ (d : DeviceId). is_accepted d it.0.vl h.note.body) it.2 ∙ ap (λ (v : VlId). is_accepted device v h.note.body) it.3 ∙ not in
+          (it.0, t.kept it.0 it.1 kept, it.2, it.3)
+    ]
