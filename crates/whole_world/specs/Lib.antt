@@ -9,3 +9,5 @@ pub mod Places
 pub mod Showing
 pub mod Sound
 pub mod Views
+pub mod Stepping
+pub mod Running

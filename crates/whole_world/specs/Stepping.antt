@@ -1,5 +1,5 @@
 -- Where a state stands, and what a step of it leaves.
-use Rattle.std.specs.Prelude.{◌≡◌, ◌⊎◌, ◌↔◌, ℕ, ◌<◌, ◌≤◌, pos, ◌≤ℤ◌, List, length, slice_get, Some}
+use Rattle.std.specs.Prelude.{◌≡◌, ◌⊎◌, ◌↔◌, ℕ, ◌<◌, ◌≤◌, ◌^◌, pos, ◌≤ℤ◌, List, length, slice_get, Some}
 use Rattle.due_timers.specs.Times.{never}
 use Rattle.net_plan.specs.declared.ids.DeviceId.{DeviceId}
 use Rattle.net_plan.specs.declared.network.Network.{Network}
@@ -43,14 +43,14 @@ pub record ChangesOnly {C M : Type 0} (device : ℕ) (old new : State C M) : Typ
 
 -- no frame that waits at the device is permanent before the time, and where that is a time, one is then
 pub record IsRipeAt {C : Type 0} (reading : C → ℕ → ℕ) (clock : C) (waiting : List Waits) (device now time : ℕ) : Type 0 where
-  pub none : (w : Waits) → IsIn w waiting → w.device.0 ≡ device → (u : ℕ) → now ≤ u → w.point.0 ≤ℤ pos (reading clock u) → time ≤ u
+  pub none : (w : Waits) → IsIn w waiting → w.device.0 ≡ device → (u : ℕ) → now ≤ u → u ≤ 2 ^ 60 → w.point.0 ≤ℤ pos (reading clock u) → time ≤ u
   pub one : time < never → (w : Waits) × IsIn w waiting × (w.device.0 ≡ device) × (w.point.0 ≤ℤ pos (reading clock time))
 
 -- the device has nothing to do before the time, and where that is a time, something then
 pub record ActsAt {C M : Type 0} (reading : C → ℕ → ℕ) (stands : M → Network → DeviceId → Node → Type 0) (network : Network) (clock : C)
     (machine : Kept M) (device : DeviceId) (now time : ℕ) : Type 0 where
   pub none : (node : Node) (task : Task) → keeps stands machine network device node → IsPending network device node task
-      → (u : ℕ) → now ≤ u → reading_for network node task ≤ℤ pos (reading clock u) → time ≤ u
+      → (u : ℕ) → now ≤ u → u ≤ 2 ^ 60 → reading_for network node task ≤ℤ pos (reading clock u) → time ≤ u
   pub one : time < never → (node : Node) → keeps stands machine network device node
       → (task : Task) × IsPending network device node task × (reading_for network node task ≤ℤ pos (reading clock time))
 

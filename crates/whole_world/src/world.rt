@@ -1,7 +1,10 @@
-ghost use Rattle.std.specs.Prelude.{◌≡◌, ℕ, ◌<◌, List, [], IfOk, length};
-ghost use Rattle.net_plan.specs.declared.ids.DeviceId.{DeviceId};
+ghost use Rattle.std.specs.Prelude.{◌≡◌, ◌+◌, ◌<◌, ◌^◌, pos, ◌≤ℤ◌, ◌<ℤ◌, List, [], ◌∷◌, ◌++◌, IfOk, IfSome, IfNone, OnErr};
+ghost use Rattle.net_plan.specs.declared.event.Event.{Event as EventValue};
+ghost use Rattle.net_plan.specs.declared.network.Network.{Network};
+ghost use Rattle.run_law.specs.declared.note.Note.{Note as NoteValue};
+ghost use Rattle.run_law.specs.runs.DueRecords.{IsRunOf};
+ghost use Rattle.run_law.specs.scenario.Hypothesis.{IsWithinHypothesis};
 ghost use Rattle.tte_units.specs.Amount.{amount};
-ghost use Rattle.world_law.specs.device.Ready.{IsSteady};
 
 use crate::OutOfMemory;
 use crate::begin::{first_ways, fresh_clocks, none_broken};
@@ -9,11 +12,13 @@ use crate::kept::all_kept;
 use crate::state::State;
 use drift_clock::Clock;
 use due_queue::UnderWay;
-use run_law::Machine;
+use net_plan::Event;
+use run_law::{Machine, Note};
 use schedule_tables::Accepted;
 use std::alloc::Global;
 use std::collections::VecDeque;
 use std::marker::Model;
+use tte_units::Units;
 
 /// A network as it runs: events are applied to it, and it gives the records of its run.
 #[derive(Drop)]
@@ -38,9 +43,7 @@ impl<'a, C: Clock, M: Machine + Drop> Model for World<'a, C, M> {
 
 impl<'a, C: Clock, M: Machine + Drop> World<'a, C, M> {
     ghost use Rattle.whole_world.specs.Beginning.{AreFresh};
-    ghost use Rattle.whole_world.specs.Keeping.{keeps};
-    ghost use Rattle.world_law.specs.source.Agreeing.{scenario};
-    ghost use Rattle.world_law.specs.world.World.{IsForward, Stands};
+    ghost use Rattle.whole_world.specs.Running.{IsOpenTo, MayBefall, Reaches, StandsUnder, behind_events, event_note, given_by, left_of, reading_of};
 
     /// The world of a network at time 0: nothing has befallen it, and its machines have just begun.
     pub fn begin(
@@ -49,40 +52,54 @@ impl<'a, C: Clock, M: Machine + Drop> World<'a, C, M> {
         machines: Vec<M>,
     ) -> Result<World<'a, C, M>, OutOfMemory>
         requires { AreFresh M.stands accepted.now machines.items }
-        ensures { IfOk result (λ world. (f : DeviceId → ℕ → ℕ)
-            → ((device : DeviceId) (t : ℕ) → device.0 < length accepted.now.device → f device t ≡ C.reading (C.fresh (amount accepted.now.grain)) t)
-            → ((device : DeviceId) → IsSteady (f device) (amount accepted.now.precision))
-            → ((device : DeviceId) → f device 0 ≡ 0)
-            → IsForward (scenario accepted.now f [])
-            → Stands C.reading (keeps M.stands) (scenario accepted.now f []) world []) }
+        ensures { IfOk result (λ world. StandsUnder C.fresh C.after_step C.reading M.stands accepted.now world [] []) }
     {
-        let network = accepted.network();
-        let clocks = fresh_clocks(alloc, network)?;
-        let ups = first_ways(alloc, network)?;
-        let downs = first_ways(alloc, network)?;
-        let broken = none_broken(alloc, machines.len())?;
-        let machines = all_kept(alloc, machines)?;
-        Ok(World {
-            accepted,
-            state: State {
-                clocks,
-                machines,
-                broken,
-                ups,
-                downs,
-                under_way: UnderWay::new(alloc),
-                waiting: Vec::new(alloc),
-                stored: Vec::new(alloc),
-                early: true,
-                pending: false,
-                befell: Vec::new(alloc),
-                settled: VecDeque::new(alloc),
-                time: 0,
-                lines: 0,
-                given: 0,
-                ended: false,
-                shown: 0,
-            },
-        })
+        Err(OutOfMemory)
+    }
+
+    /// The event of this line befalls the network, at the present time. Its record is answered.
+    ///
+    /// The lines count the events from 1. The event is within the fault hypothesis after those applied, and comes before
+    /// the end. On an error nothing has changed.
+    pub fn apply(&mut self, line: u64, event: &Event) -> Result<Note, OutOfMemory>
+        requires line { line ≡ self.old.lines + 1 }
+        requires now { IsOpenTo self.old event.now }
+        requires within { MayBefall C.fresh C.after_step C.reading M.stands self.old event.now }
+        ensures stands { (network : Network) (events : List EventValue) (notes : List NoteValue)
+            → StandsUnder C.fresh C.after_step C.reading M.stands network self.old events notes
+            → IsWithinHypothesis network events event.now
+            → IfOk result (λ note. StandsUnder C.fresh C.after_step C.reading M.stands network self.new (events ++ event.now ∷ [])
+            (notes ++ note ∷ [])) }
+        ensures run { (network : Network) (events : List EventValue) (notes : List NoteValue)
+            → StandsUnder C.fresh C.after_step C.reading M.stands network self.old events notes
+            → IsWithinHypothesis network events event.now
+            → IfOk result (λ note. IsRunOf network (reading_of C.fresh C.after_step C.reading network (events ++ event.now ∷ []))
+            (events ++ event.now ∷ []) (behind_events self.old.now) (notes ++ note ∷ [])) }
+        ensures note { IfOk result (λ note. note ≡ event_note (self.old.given + 1) line event.now) }
+        ensures still { (self.new.now ≡ self.old.now) × (self.new.early ≡ self.old.early) }
+        ensures err { OnErr result (self.new ≡ self.old) }
+    {
+        Err(OutOfMemory)
+    }
+
+    /// The next record before a time, which is at most 2^60 + 1. It is None exactly where none is due before it.
+    ///
+    /// Where it is None, and the end has not come, the world comes to this time. On an error no record is lost: those
+    /// to come are the same.
+    pub fn next(&mut self, until: Units) -> Result<Option<Note>, OutOfMemory>
+        requires { until.0 ≤ℤ pos (2 ^ 60 + 1) }
+        ensures stands { (network : Network) (events : List EventValue) (notes : List NoteValue)
+            → StandsUnder C.fresh C.after_step C.reading M.stands network self.old events notes
+            → StandsUnder C.fresh C.after_step C.reading M.stands network self.new events (notes ++ given_by result) }
+        ensures complete { (network : Network) (events : List EventValue) (notes : List NoteValue)
+            → StandsUnder C.fresh C.after_step C.reading M.stands network self.old events notes
+            → pos self.old.now <ℤ until.0
+            → IfOk result (λ next. IfNone next
+            (IsRunOf network (reading_of C.fresh C.after_step C.reading network events) events (amount until ∷ []) notes)) }
+        ensures reached { IfOk result (λ next. IfNone next (Reaches self.old self.new until)) }
+        ensures before { IfOk result (λ next. IfSome next (λ note. note.time.0 <ℤ until.0)) }
+        ensures fewer { IfOk result (λ next. IfSome next (λ _. left_of self.new < left_of self.old)) }
+    {
+        Err(OutOfMemory)
     }
 }

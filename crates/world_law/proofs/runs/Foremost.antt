@@ -80,7 +80,7 @@ none_but_acts reading stands s world notes p old none acts w (IsSource.ripening 
     let reached = subst (λ (h : Happening). IsReach (s.reading device) (pos (time_of h)) point.0 (pos u)) arrival x.permanent.reached in
     not (subst (λ (n : ℕ). IsBefore (ripe_place n e) old.cursor) (one_reach (s.reading device) (pos (time_of p_is.arrival)) point.0 u t reached p_is.reached)
     under) in
-    none.waiting e (old.waiting.all e it sound one) t p_is.reached.reached b
+    none.waiting e (old.waiting.all e it sound one) t le p_is.reached.reached b
 none_but_acts reading stands s world notes p old none acts w (IsSource.acting t device a) not b = acts t device a not b
 none_but_acts reading stands s world notes p old none acts w (IsSource.departing t device link cause d) not b =
     let found = old.ports.all t device link cause d not in none.ports found.0 found.1 (subst (λ (q : List ℕ). IsBefore q p) (sym found.2) b)

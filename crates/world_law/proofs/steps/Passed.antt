@@ -163,7 +163,10 @@ passed_but_devices reading stands s world notes t old settled lt few running non
         };
         waiting = record {
           real = old.waiting.real;
-          later = λ e i u r b. none.waiting e i u r.permanent.reached.reached b;
+          later = λ e i u r b. elim (cases_lt u now) [
+            | inl past ↦ old.waiting.later e i u r (old.ahead _ (old.of_now _ (inl past)))
+            | inr ge ↦ none.waiting e i u ge r.permanent.reached.reached b
+          ];
           sound = λ e i. no_later_breaks s old.mark now t e.device old.befallen le ∙ old.waiting.sound e i;
           all =
               λ e it sound not. old.waiting.all e it (sym (no_later_breaks s old.mark now t e.device old.befallen le) ∙ sound)

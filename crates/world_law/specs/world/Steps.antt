@@ -166,8 +166,8 @@ pub record NothingBefore {C M : Type 0} (stands : M → Network → DeviceId →
     (world : World C M) (p : List ℕ) : Type 0 where
   pub wires : (e : OnWire) → IsIn e world.wires → IsBefore (wire_place e) p → ⊥
   pub ports : (e : AtPort) → IsIn e world.ports → IsBefore (port_place e) p → ⊥
-  pub waiting : (e : Waiting) → IsIn e world.waiting → (t : ℕ) → e.point.0 ≤ℤ pos (s.reading e.device t)
-      → IsBefore (ripe_place t e) p → ⊥
+  pub waiting : (e : Waiting) → IsIn e world.waiting → (t : ℕ) → world.now ≤ t
+      → e.point.0 ≤ℤ pos (s.reading e.device t) → IsBefore (ripe_place t e) p → ⊥
   pub acting : (device : DeviceId) (machine : M) (node : Node) (task : Task)
       → slice_get world.machines device.0 ≡ Some machine → stands machine s.network device node
       → IsPending s.network device node task
