@@ -50,6 +50,7 @@ with_wires reading stands s world notes wires p same behind =
         };
         ports = it.ports;
         waiting = it.waiting;
+        stored = it.stored;
         are = it.are;
         shown = it.shown;
       },

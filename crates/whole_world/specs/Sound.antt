@@ -1,5 +1,5 @@
 -- What a state keeps.
-use Rattle.std.specs.Prelude.{◌≡◌, ℕ, ◌≤◌, ◌<◌, ◌^◌, List, length, map, All}
+use Rattle.std.specs.Prelude.{◌≡◌, ℕ, ◌+◌, ◌≤◌, ◌<◌, ◌^◌, List, length, map, All, slice_get, Some}
 use Rattle.std.specs.List.{IsDistinct}
 use Rattle.std.specs.Str.{bytes_eq}
 use Rattle.due_queue.specs.declared.Entry.{Entry}
@@ -8,6 +8,9 @@ use Rattle.net_plan.specs.declared.network.Network.{Network}
 use Rattle.run_law.specs.records.Order.{IsIn}
 use Rattle.whole_world.specs.declared.contents.Content.TheVariants.{Wire, Port}
 use Rattle.whole_world.specs.declared.contents.Content.{Content}
+use Rattle.whole_world.specs.Giving.{HasItsOctets}
+use Rattle.whole_world.specs.declared.contents.Waits.{Waits}
+use Rattle.whole_world.specs.declared.contents.WayState.{WayState}
 use Rattle.whole_world.specs.declared.state.State.{State}
 
 -- the rank of what is under way
@@ -38,7 +41,23 @@ pub record IsSized {C M : Type 0} (last_step : C → ℕ) (network : Network) (s
   pub limit : s.time ≤ 2 ^ 60
   pub shown : s.shown ≤ length network.device
 
+-- a way takes so little time that the sums of times fit their type
+abbrev pub IsShort : WayState → Type 0
+IsShort way = (way.delay < 2 ^ 62) × (way.hold < 2 ^ 62)
+
+-- the records that are settled may be given: the ways are short, a frame of the schedule that is dispatched has its
+-- octets, and what is under way or waits has been put there by records given, of which each has one frame wait at most
+pub record IsFit {C M : Type 0} (s : State C M) : Type 0 where
+  pub ups : All IsShort s.ups.items
+  pub downs : All IsShort s.downs.items
+  pub octets : All (λ z. HasItsOctets z.body z.octets) s.settled.items
+  pub below : AreBelow (s.given + 1) s.under_way.entries
+  pub waits_below : All (λ w. w.cause < s.given + 1) s.waiting.items
+  pub apart : (i j : ℕ) (v w : Waits) → slice_get s.waiting.items i ≡ Some v → slice_get s.waiting.items j ≡ Some w
+      → v.cause ≡ w.cause → i ≡ j
+
 -- so it is, with what is under way
 pub record IsSound {C M : Type 0} (last_step : C → ℕ) (network : Network) (s : State C M) : Type 0 where
   pub sized : IsSized last_step network s
   pub under_way : AreUnderWay network s.under_way.entries
+  pub fit : IsFit s
