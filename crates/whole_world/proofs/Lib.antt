@@ -9,6 +9,7 @@ pub mod Firsts
 pub mod Givings
 pub mod HiddenCauses
 pub mod Launches
+pub mod LeastPoints
 pub mod Mapped
 pub mod PutTo
 pub mod Puts
