@@ -15,5 +15,6 @@ pub mod PutTo
 pub mod Puts
 pub mod Sendings
 pub mod Showings
+pub mod Timings
 pub mod TurnedOn
 pub mod UnderWays
