@@ -15,6 +15,7 @@ pub mod PutTo
 pub mod Puts
 pub mod Sendings
 pub mod Showings
+pub mod Sources
 pub mod Timings
 pub mod TurnedOn
 pub mod UnderWays
