@@ -3,29 +3,46 @@ use Rattle.std.proofs.Common.{◌≡◌, ◌⊎◌, ℕ, ◌+◌, ◌-◌, ◌*�
 use Rattle.std.specs.Prelude.{IfSome, IfNone, nat_lt, if◌then◌else◌}
 use Rattle.std.proofs.lemmas.Bool.{cases_lt, cases_eq, le-ltb, lt-ltb}
 use Rattle.std.proofs.lemmas.Option.{get_or_from_slice_get, slice_get_within}
+use Rattle.due_queue.proofs.Bags.{given_of}
 use Rattle.due_queue.specs.declared.Entry.{Entry}
 use Rattle.due_queue.specs.declared.Place.{Place}
 use Rattle.due_queue.specs.Places.{IsFirst, numbers_of}
 use Rattle.due_timers.specs.declared.Due.{Due}
 use Rattle.due_timers.specs.Times.{IsFirst as IsFirstDue, never}
+use Rattle.net_plan.specs.Ranges.{IsInRange, IsLinkInRange}
 use Rattle.net_plan.specs.declared.ids.DeviceId.{DeviceId}
+use Rattle.net_plan.specs.declared.tables.Way.TheVariants.{Up, Down}
+use Rattle.net_plan.specs.declared.tables.Way.{Way}
 use Rattle.net_plan.specs.declared.network.Network.{Network}
 use Rattle.run_law.proofs.runs.Places.{before_later, chain}
 use Rattle.run_law.specs.machines.Nodes.{Node}
 use Rattle.run_law.specs.machines.Tasks.{IsPending, Task, reading_for}
+use Rattle.run_law.specs.declared.note.Note.{Note}
+use Rattle.run_law.specs.records.Happenings.{Happening, happenings}
 use Rattle.run_law.specs.records.Order.{IsBefore, IsIn}
+use Rattle.run_law.specs.records.Ranks.{place_of}
+use Rattle.run_law.specs.runs.DueRecords.{IsDue}
+use Rattle.run_law.specs.runs.Runs.{IsFounded}
+use Rattle.run_law.specs.scenario.Scenarios.{Scenario}
 use Rattle.schedule_tables.proofs.EntryLemmas.{all_at}
 use Rattle.tte_units.specs.Amount.{amount}
 use Rattle.whole_world.specs.Keeping.{keeps}
-use Rattle.whole_world.specs.Sound.{IsSized}
+use Rattle.whole_world.proofs.UnderWays.{port_numbers, some_is}
+use Rattle.whole_world.specs.Sound.{AreUnderWay, IsSized, rank_of}
 use Rattle.whole_world.specs.Sourcing.{AreFirsts, AreNotBefore, AreTimed, HasNothingBefore, IsRipePlace, due_place}
 use Rattle.whole_world.specs.Stepping.{IsTimed}
-use Rattle.whole_world.specs.Views.{waiting_as}
+use Rattle.whole_world.specs.Views.{at_port, on_wire, waiting_as, wire_at, world_of}
+use Rattle.whole_world.specs.declared.contents.Content.TheVariants.{Wire, Port}
 use Rattle.whole_world.specs.declared.contents.Content.{Content}
 use Rattle.whole_world.specs.declared.contents.Waits.{Waits}
 use Rattle.whole_world.specs.declared.kept.Kept.{Kept}
 use Rattle.whole_world.specs.declared.state.State.{State}
-use Rattle.world_law.specs.world.World.{act_place, ripe_place}
+use Rattle.world_law.proofs.ripening.Proper.{IsReceiver, received}
+use Rattle.world_law.proofs.ripening.Ripens.{come_of}
+use Rattle.world_law.specs.world.Acting.{IsDueNow}
+use Rattle.world_law.specs.world.Calls.{moment_of}
+use Rattle.world_law.specs.world.Steps.{NothingBefore}
+use Rattle.world_law.specs.world.World.{IsWaitingFor, OnWire, Stands, Waiting, act_place, ripe_place, wire_place}
 
 -- what is not before the first is not before a place that the first is not before
 pub not_sooner : (q first p : List ℕ) → (IsBefore q first → ⊥) → (IsBefore first p → ⊥) → IsBefore q p → ⊥
@@ -296,4 +313,106 @@ module _ {C M : Type 0} (reading : C → ℕ → ℕ) (stands : M → Network �
               let task = timed.acts.one (omega (arith, is, soon)) node kept in
               (task.0, task.1, subst (λ (t : ℕ). reading_for network node task.0 ≤ℤ pos (reading timed.clock t)) is task.2),
         ),
+      )
+
+-- ---- of the world of a state
+
+-- the device at which a frame waits is one of the network
+waits_there : (s : Scenario) (hs : List Happening) (e : Waiting) → IsInRange s.network → IsFounded place_of (IsDue s) hs → IsWaitingFor s hs e
+    → e.device.0 < length s.network.device
+waits_there s hs e range founded it =
+    let c = come_of s hs e it founded in
+    by_way c.so.arrives.way (received s.network e.device e.link c.so.arrives.way c.so.arrives.receiver)
+  where
+    by_way : (way : Way) → IsReceiver s.network e.device e.link way → e.device.0 < length s.network.device
+    by_way Up v =
+        subst (λ (d : DeviceId). d.0 < length s.network.device) v.is
+        (all_at (IsLinkInRange s.network) s.network.link e.link.0 v.joint range.links v.there).parent
+    by_way Down v =
+        subst (λ (d : DeviceId). d.0 < length s.network.device) v.is
+        (all_at (IsLinkInRange s.network) s.network.link e.link.0 v.joint range.links v.there).child
+
+-- what is in a list of what a function makes of others is made of one
+made_of : {X Y : Type 0} (f : X → Y) (xs : List X) (y : Y) → IsIn y (map f xs) → (x : X) × IsIn x xs × (f x ≡ y)
+made_of f [] y i = absurd i
+made_of f (x ∷ xs) y (inl e) = (x, inl refl, sym e)
+made_of f (x ∷ xs) y (inr i) = let more = made_of f xs y i in (more.0, inr more.1, more.2)
+
+-- the place of what is on a wire
+wire_numbers : (network : Network) (place : Place) (content : Content) (x : OnWire) → wire_at network place content ≡ Some x → place.rank ≡ rank_of content
+    → wire_place x ≡ numbers_of place
+wire_numbers network place (Wire signal) x is kind =
+    ap wire_place (sym (some_is _ _ is)) ∙ ap (λ (r : ℕ). place.at ∷ r ∷ place.device ∷ place.link ∷ place.cause ∷ []) (sym kind)
+wire_numbers network place (Port frame given) x is kind = absurd cc
+
+shown_earlier : (now shown device : ℕ) (p : List ℕ) → shown ≤ device → IsBefore (now ∷ 14 ∷ device ∷ []) p → IsBefore (now ∷ 14 ∷ shown ∷ []) p
+shown_earlier now shown device p le b =
+    elim (cases_eq shown device) [
+      | inl e ↦ subst (λ (n : ℕ). IsBefore (now ∷ 14 ∷ n ∷ []) p) (sym e) b
+      | inr ne ↦ chain (now ∷ 14 ∷ shown ∷ []) (now ∷ 14 ∷ device ∷ []) p (inr (refl, inr (refl, inl (omega (arith, le, ne))))) b
+    ]
+
+module _ {C M : Type 0} (last_step : C → ℕ) (reading : C → ℕ → ℕ) (stands : M → Network → DeviceId → Node → Type 0) (s : Scenario) (network : Network)
+    (state : State C M) (notes : List Note) (old : Stands reading (keeps stands) s (world_of network state) notes)
+    (sized : IsSized last_step network state) where
+  few : (n : ℕ) → n < length network.device → n < length s.network.device
+  few n lt = subst (λ (k : Network). n < length k.device) old.same lt
+
+  -- then nothing of the world is before the place
+  pub of_world : (p : List ℕ) → AreUnderWay network state.under_way.entries → HasNothingBefore reading stands network state p
+      → NothingBefore (keeps stands) s (world_of network state) p
+  of_world p under_way has = record {
+    wires = λ e i b.
+        let g = given_of (on_wire network) state.under_way.entries e i in
+        has.under_way g.0 g.1
+        (subst (λ (q : List ℕ). IsBefore q p) (wire_numbers network g.0.place g.0.content e g.2 (under_way.kinds g.0 g.1)) b);
+    ports = λ e i b.
+        let g = given_of at_port state.under_way.entries e i in
+        has.under_way g.0 g.1 (subst (λ (q : List ℕ). IsBefore q p) (port_numbers g.0.place g.0.content e g.2 (under_way.kinds g.0 g.1)) b);
+    waiting = λ e i t from reached b.
+        let w = made_of waiting_as state.waiting.items e i in
+        let of_it = waits_there s (happenings s.network notes) e old.range old.run.founded (old.waiting.real e i) in
+        let own = old.clocks e.device of_it in
+        has.waiting w.0 own.0 w.1 (ap (λ (x : Waiting). slice_get state.clocks.items x.device.0) w.2 ∙ own.1) t from
+        (subst (λ (x : Waiting). x.point.0 ≤ℤ pos (reading own.0 t)) (sym w.2) (subst (λ (n : ℕ). e.point.0 ≤ℤ pos n) (own.2 t from) reached))
+        (subst (λ (x : Waiting). IsBefore (ripe_place t x) p) (sym w.2) b);
+    acting = λ device machine node task held kept pending t from reached b.
+        let within = slice_get_within state.machines.items device.0 machine held in
+        let sizes = sized.machines in
+        let own = old.clocks device (few device.0 (omega (arith, within, sizes))) in
+        has.acting device machine own.0 node task held own.1
+        (subst (λ (k : Network). keeps stands machine k device node) (sym old.same) kept)
+        (subst (λ (k : Network). IsPending k device node task) (sym old.same) pending) t from
+        (subst (λ (k : Network). reading_for k node task ≤ℤ pos (reading own.0 t)) (sym old.same)
+        (subst (λ (n : ℕ). reading_for s.network node task ≤ℤ pos n) (own.2 t from) reached)) b;
+    befell = has.befell;
+    clocks = λ device of_it ended shown b.
+        has.clocks ended
+        (subst (λ (k : Network). state.shown < length k.device) (sym old.same) (omega (arith, of_it, shown)))
+        (shown_earlier state.time state.shown device.0 p shown b);
+  }
+
+  -- a device whose timer is the first has something to do now
+  pub due_now : (due : Due) (device : DeviceId) (machine : Kept M) → AreTimed reading stands network state → IsFirstDue state.timers due
+      → due.slot ≡ length network.device + device.0 → device.0 < length network.device → due.time ≡ state.time
+      → slice_get state.machines.items device.0 ≡ Some machine
+      → IsDueNow (keeps stands) s.network device (moment_of s device state.time) machine
+  due_now due device machine are first slot of_it now held = λ node kept.
+      let timed = are.each device of_it in
+      let is = is_time reading stands network state due are first timed.act (ap (λ (n : ℕ). slice_get state.timers n) slot ∙ timed.of_act) in
+      let limit = sized.limit in
+      let own = old.clocks device (few device.0 of_it) in
+      let machine_is = some_same _ _ _ held timed.of_machine in
+      let clock_is = some_same _ _ _ own.1 timed.of_clock in
+      let task = timed.acts.one (omega (arith, is, now, limit)) node
+          (subst (λ (k : Kept M). keeps stands k network device node) machine_is
+          (subst (λ (k : Network). keeps stands machine k device node) (sym old.same) kept)) in
+      let reads : reading timed.clock timed.act ≡ s.reading device state.time =
+          ap (λ (n : ℕ). reading timed.clock n) (omega (arith, is, now)) ∙ ap (λ (k : C). reading k state.time) (sym clock_is)
+          ∙ sym (own.2 state.time (omega arith)) in
+      (
+        task.0,
+        subst (λ (k : Network). IsPending k device node task.0) old.same task.1,
+        subst (λ (k : Network). reading_for k node task.0 ≤ℤ pos (s.reading device state.time)) old.same
+            (subst (λ (n : ℕ). reading_for network node task.0 ≤ℤ pos n) reads task.2),
       )

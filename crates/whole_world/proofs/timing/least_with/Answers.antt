@@ -1,4 +1,3 @@
-use Rattle.whole_world.proofs.Sources.{nothing_before}
 use Rattle.std.proofs.Common.{◌≡◌, ◌≤ℤ◌, List, None, Some, arith, subst, Option, ◌++◌, ◌∷◌, []}
 use Rattle.std.proofs.lemmas.Int.{ints}
 use Rattle.tte_units.specs.declared.units.Units.{Units}
