@@ -6,6 +6,7 @@ pub mod Befalls
 pub mod Beginnings
 pub mod FirstSettled
 pub mod Firsts
+pub mod Foremost
 pub mod Givings
 pub mod HiddenCauses
 pub mod Launches

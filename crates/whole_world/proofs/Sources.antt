@@ -62,11 +62,11 @@ in_run t rank rest p in_time b =
 
 -- ---- slots in the order of their places
 
-slot_low : (devices : ℕ) (due : Due) → due.slot < devices → due_place devices due ≡ due.time ∷ 3 ∷ due.slot ∷ []
+pub slot_low : (devices : ℕ) (due : Due) → due.slot < devices → due_place devices due ≡ due.time ∷ 3 ∷ due.slot ∷ []
 slot_low devices due lt =
     ap (λ (b : Bool). if b then due.time ∷ 3 ∷ due.slot ∷ [] else due.time ∷ 4 ∷ (due.slot - devices) ∷ []) (lt-ltb due.slot devices lt)
 
-slot_high : (devices : ℕ) (due : Due) → devices ≤ due.slot → due_place devices due ≡ due.time ∷ 4 ∷ (due.slot - devices) ∷ []
+pub slot_high : (devices : ℕ) (due : Due) → devices ≤ due.slot → due_place devices due ≡ due.time ∷ 4 ∷ (due.slot - devices) ∷ []
 slot_high devices due le =
     ap (λ (b : Bool). if b then due.time ∷ 3 ∷ due.slot ∷ [] else due.time ∷ 4 ∷ (due.slot - devices) ∷ []) (le-ltb due.slot devices le)
 
