@@ -11,3 +11,7 @@ pub mod Sound
 pub mod Views
 pub mod Stepping
 pub mod Running
+pub mod Sourcing
+pub mod Timing
+pub mod Wells
+pub mod Turns

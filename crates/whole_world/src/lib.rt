@@ -9,9 +9,14 @@ mod kept;
 mod leaving;
 mod memory;
 mod naming;
+mod next;
 mod sending;
 mod settled;
+mod source;
 mod state;
+mod stepping;
+mod stubs;
+mod timing;
 mod waiting;
 mod world;
 

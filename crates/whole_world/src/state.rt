@@ -96,6 +96,7 @@ impl<C: Clock, M: Machine + Drop> State<C, M> {
         requires limit { time ≤ 2 ^ 60 }
         requires none { self.old.settled.items ≡ [] }
         requires open { self.old.ended ≡ false }
+        ensures same { self.new ≡ record self.old { time = time; early = true } }
         ensures sound { (network : Network) → IsSound C.last_step network self.old → IsSound C.last_step network self.new }
         ensures stands { (network : Network) (s : Scenario) (notes : List Note)
             → Stands C.reading (keeps M.stands) s (world_of network self.old) notes

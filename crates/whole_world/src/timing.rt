@@ -1,4 +1,5 @@
-ghost use Rattle.std.specs.Prelude.{◌≡◌, ℕ, ◌+◌, ◌*◌, ◌≤◌, ◌<◌, ◌^◌, All, length, slice_get};
+ghost use Rattle.std.specs.Prelude.{◌≡◌, ℕ, List, [], ◌∷◌, ◌++◌, ◌+◌, ◌*◌, ◌≤◌, ◌<◌, ◌^◌, All, length, slice_get, Option};
+ghost use Rattle.whole_world.specs.declared.contents.Waits.{Waits};
 ghost use Rattle.whole_world.specs.Timing.{IsLeastPoint, IsTimeFor};
 
 use crate::contents::Waits;
@@ -19,9 +20,13 @@ fn least_with(least: Option<Units>, one: &Waits, device: u32) -> Option<Units>
     if one.device.0 != device {
         return least;
     }
-    match least {
-        Some(point) if point.0 <= one.point.0 => Some(point),
-        Some(_) | None => Some(one.point),
+    let Some(point) = least else {
+        return Some(one.point);
+    };
+    if point.0 <= one.point.0 {
+        Some(point)
+    } else {
+        Some(one.point)
     }
 }
 

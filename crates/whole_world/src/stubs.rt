@@ -1,0 +1,143 @@
+ghost use Rattle.std.specs.Prelude.{◌≡◌, ℕ, ◌+◌, ◌≤◌, ◌<◌, ◌^◌, ◌∷◌, ◌++◌, [], List, true, false, pos, ◌≤ℤ◌, length, Some, None, IfOk, OnErr, OnOk, IfSome, IfNone, slice_get, All, slice_index_or};
+ghost use Rattle.std.specs.VecDeque.{deque_capacity, deque_len};
+ghost use Rattle.due_queue.specs.Places.{IsFirst, numbers_of};
+ghost use Rattle.net_plan.specs.Ranges.{IsInRange};
+ghost use Rattle.net_plan.specs.declared.network.Network.{Network as NetworkOf};
+ghost use Rattle.run_law.specs.declared.note.Note.{Note as NoteOf};
+ghost use Rattle.run_law.specs.records.Happenings.{happenings};
+ghost use Rattle.run_law.specs.records.Order.{IsBefore, IsIn, behind};
+ghost use Rattle.run_law.specs.records.Ranks.{place_of};
+ghost use Rattle.run_law.specs.scenario.Scenarios.{Scenario};
+
+use crate::OutOfMemory;
+use crate::contents::Waits;
+use crate::state::State;
+use drift_clock::Clock;
+use due_queue::Place;
+use net_plan::{DeviceId, Network};
+use run_law::{Machine, Note};
+
+impl<C: Clock, M: Machine + Drop> State<C, M> {
+    ghost use Rattle.whole_world.specs.Sound.{IsSized, IsSound};
+    ghost use Rattle.whole_world.specs.Keeping.{keeps};
+    ghost use Rattle.whole_world.specs.Views.{settled_at, waiting_as, world_of};
+    ghost use Rattle.whole_world.specs.Stepping.{ChangesOnly, IsAt, IsRunning};
+    ghost use Rattle.whole_world.specs.Turns.{IsFirstRipe, changed_device};
+    ghost use Rattle.world_law.specs.source.First.{NoSourceBefore};
+    ghost use Rattle.world_law.specs.world.Steps.{ComesFirst, StandsBehind};
+    ghost use Rattle.world_law.specs.world.World.{Stands, act_place, note_of, ripe_place};
+    ghost use Rattle.whole_world.specs.declared.contents.Settled.{Settled as SettledOf};
+    ghost use Rattle.whole_world.specs.declared.kept.Kept.{Kept as KeptOf};
+    ghost use Rattle.world_law.specs.world.Acting.{IsDueNow};
+    ghost use Rattle.world_law.specs.world.Calls.{moment_of};
+
+    #[tactic(none)]
+    pub fn ripe_index(&self, network: &Network, device: DeviceId) -> Option<usize>
+        requires sized { IsSized C.last_step network.now self.now }
+        requires there { device.0 < length network.now.device }
+        ensures some { IfSome result (λ i. IsFirstRipe C.reading self.now device i) }
+        ensures none { IfNone result ((w : Waits) (clock : C) → IsIn w self.now.waiting.items → w.device.0 ≡ device.0
+            → slice_get self.now.clocks.items device.0 ≡ Some clock → w.point.0 ≤ℤ pos (C.reading clock self.now.time) → ⊥) }
+    {
+        None
+    }
+
+    #[tactic(none)]
+    pub fn give(&mut self, network: &Network) -> Result<Note, OutOfMemory>
+        requires sound { IsSound C.last_step network.now self.old }
+        requires range { IsInRange network.now }
+        requires some { 0 < length self.old.settled.items }
+        requires running { IsRunning C.reading M.stands network.now self.old }
+        ensures sound { IsSound C.last_step network.now self.new }
+        ensures same { self.new ≡ record self.old { under_way = self.new.under_way; waiting = self.new.waiting; stored = self.new.stored; settled = self.new.settled; given = self.new.given } }
+        ensures stands { (first : SettledOf) (rest : List SettledOf) → self.old.settled.items ≡ first ∷ rest → (s : Scenario) (notes : List NoteOf)
+            → (old : Stands C.reading (keeps M.stands) s (world_of network.now self.old) notes)
+            → NoSourceBefore s (happenings s.network notes) old.cursor (place_of (settled_at network.now self.old.time first))
+            → IfOk result (λ note. (note ≡ note_of notes (settled_at network.now self.old.time first))
+            × StandsBehind C.reading (keeps M.stands) s (world_of network.now self.new) (notes ++ note ∷ [])
+            (behind (place_of (settled_at network.now self.old.time first)))) }
+        ensures err { OnErr result (world_of network.now self.new ≡ world_of network.now self.old) }
+        ensures given { OnOk result (self.new.given ≡ self.old.given + 1) }
+        ensures others { IfOk result (λ note. ChangesOnly (changed_device note.body) self.old self.new) }
+    {
+        Err(OutOfMemory)
+    }
+
+    #[tactic(none)]
+    pub fn settle_befallen(&mut self, network: &Network) -> Result<(), OutOfMemory>
+        requires sound { IsSound C.last_step network.now self.old }
+        requires range { IsInRange network.now }
+        requires pending { self.old.pending ≡ true }
+        requires running { IsRunning C.reading M.stands network.now self.old }
+        ensures sound { IsSound C.last_step network.now self.new }
+        ensures stands { (s : Scenario) (notes : List NoteOf) → Stands C.reading (keeps M.stands) s (world_of network.now self.old) notes
+            → OnOk result (StandsBehind C.reading (keeps M.stands) s (world_of network.now self.new) notes (behind (self.old.time ∷ 2 ∷ []))) }
+        ensures err { OnErr result (world_of network.now self.new ≡ world_of network.now self.old) }
+        ensures others { (n : ℕ) → ChangesOnly n self.old self.new }
+        ensures given { self.new.given ≡ self.old.given }
+        ensures pending { OnOk result (self.new.pending ≡ false) }
+    {
+        Err(OutOfMemory)
+    }
+
+    #[tactic(none)]
+    pub fn hear_first(&mut self, network: &Network, place: Place)
+        requires sound { IsSound C.last_step network.now self.old }
+        requires range { IsInRange network.now }
+        requires first { IsFirst self.old.under_way.entries place }
+        requires wire { place.rank ≡ 2 }
+        requires device { place.device < length network.now.device }
+        requires link { place.link < length network.now.link }
+        requires at { place.at ≡ self.old.time }
+        requires room { deque_len self.old.settled + 2 ≤ deque_capacity self.old.settled }
+        requires comes { IsAt C.reading M.stands network.now self.old (numbers_of place) }
+        ensures sound { IsSound C.last_step network.now self.new }
+        ensures stands { (s : Scenario) (notes : List NoteOf)
+            → (old : Stands C.reading (keeps M.stands) s (world_of network.now self.old) notes)
+            → ComesFirst C.reading (keeps M.stands) s (world_of network.now self.old) notes old (numbers_of place)
+            → StandsBehind C.reading (keeps M.stands) s (world_of network.now self.new) notes (behind (numbers_of place)) }
+        ensures others { ChangesOnly place.device self.old self.new }
+        ensures shorter { length self.old.under_way.entries ≡ length self.new.under_way.entries + 1 }
+        ensures given { self.new.given ≡ self.old.given }
+    {
+    }
+
+    #[tactic(none)]
+    pub fn ripen_first(&mut self, network: &Network, index: usize)
+        requires sound { IsSound C.last_step network.now self.old }
+        requires range { IsInRange network.now }
+        requires ripe { (one : Waits) × (slice_get self.old.waiting.items index ≡ Some one)
+            × ((clock : C) → slice_get self.old.clocks.items one.device.0 ≡ Some clock → one.point.0 ≤ℤ pos (C.reading clock self.old.time))
+            × IsAt C.reading M.stands network.now self.old (ripe_place self.old.time (waiting_as one)) }
+        requires room { deque_len self.old.settled + 2 ≤ deque_capacity self.old.settled }
+        ensures sound { IsSound C.last_step network.now self.new }
+        ensures stands { (one : Waits) → slice_get self.old.waiting.items index ≡ Some one → (s : Scenario) (notes : List NoteOf)
+            → (old : Stands C.reading (keeps M.stands) s (world_of network.now self.old) notes)
+            → ComesFirst C.reading (keeps M.stands) s (world_of network.now self.old) notes old (ripe_place self.old.time (waiting_as one))
+            → StandsBehind C.reading (keeps M.stands) s (world_of network.now self.new) notes (behind (ripe_place self.old.time (waiting_as one))) }
+        ensures others { (one : Waits) → slice_get self.old.waiting.items index ≡ Some one → ChangesOnly one.device.0 self.old self.new }
+        ensures shorter { length self.old.waiting.items ≡ length self.new.waiting.items + 1 }
+        ensures given { self.new.given ≡ self.old.given }
+    {
+    }
+
+    #[tactic(none)]
+    pub fn act_first(&mut self, network: &Network, device: DeviceId) -> Result<(), OutOfMemory>
+        requires sound { IsSound C.last_step network.now self.old }
+        requires range { IsInRange network.now }
+        requires device { device.0 < length network.now.device }
+        requires due { (machine : KeptOf M) → slice_get self.old.machines.items device.0 ≡ Some machine → (s : Scenario) (notes : List NoteOf)
+            → Stands C.reading (keeps M.stands) s (world_of network.now self.old) notes
+            → IsDueNow (keeps M.stands) s.network device (moment_of s device self.old.time) machine }
+        requires comes { IsAt C.reading M.stands network.now self.old (act_place self.old.time device) }
+        ensures sound { IsSound C.last_step network.now self.new }
+        ensures stands { (s : Scenario) (notes : List NoteOf)
+            → (old : Stands C.reading (keeps M.stands) s (world_of network.now self.old) notes)
+            → ComesFirst C.reading (keeps M.stands) s (world_of network.now self.old) notes old (act_place self.old.time device)
+            → Stands C.reading (keeps M.stands) s (world_of network.now self.new) notes }
+        ensures others { ChangesOnly device.0 self.old self.new }
+        ensures given { self.new.given ≡ self.old.given }
+    {
+        Err(OutOfMemory)
+    }
+}
