@@ -98,6 +98,7 @@ impl<C: Clock, M: Machine + Drop> State<C, M> {
             → Stands C.reading (keeps M.stands) s (world_of network self.old) notes
             → NothingBefore (keeps M.stands) s (world_of network self.old) (time ∷ [])
             → StandsBehind C.reading (keeps M.stands) s (world_of network self.new) notes (time ∷ []) }
+        ensures same { self.new ≡ record self.old { time = time; early = true } }
     {
         self.time = time;
         self.early = true;
@@ -116,6 +117,7 @@ impl<C: Clock, M: Machine + Drop> State<C, M> {
             → StandsBehind C.reading (keeps M.stands) s (world_of network.now self.new) notes
             (behind (clock_place self.old.time (record { 0 = self.old.shown }))) }
         ensures others { (n : ℕ) → ChangesOnly n self.old self.new }
+        ensures same { self.new ≡ record self.old { early = false; settled = self.new.settled; shown = self.old.shown + 1 } }
     {
         let index = self.shown as usize;
         let reading = self.clocks[index].read(Units::from_amount(self.time));
@@ -322,6 +324,8 @@ impl<C: Clock, M: Machine + Drop> State<C, M> {
             → ComesFirst C.reading (keeps M.stands) s (world_of network.now self.old) notes old (numbers_of place)
             → StandsBehind C.reading (keeps M.stands) s (world_of network.now self.new) notes (behind (numbers_of place)) }
         ensures others { (n : ℕ) → ChangesOnly n self.old self.new }
+        ensures same { self.new ≡ record self.old { early = false; under_way = self.new.under_way; settled = self.new.settled } }
+        ensures shorter { length self.old.under_way.entries ≡ length self.new.under_way.entries + 1 }
     {
         let (frame, given) = take_port(&mut self.under_way, place);
         self.early = false;
