@@ -193,16 +193,7 @@ pub record IsRekeyed {C M : Type 0} (reading : C → ℕ → ℕ) (stands : M �
       → slice_get new.timers slot ≡ slice_get old.timers slot
   pub later : All (λ (time : ℕ). old.time ≤ time) old.timers → All (λ (time : ℕ). new.time ≤ time) new.timers
 
--- ---- stubs' words (A's and C's take their place)
-
-pub record IsFirstRipe {C M : Type 0} (reading : C → ℕ → ℕ) (state : State C M) (device : DeviceId) (index : ℕ) : Type 0 where
-  pub one : Waits
-  pub there : slice_get state.waiting.items index ≡ Some one
-  pub of : one.device.0 ≡ device.0
-  pub reached : (clock : C) → slice_get state.clocks.items device.0 ≡ Some clock → one.point.0 ≤ℤ pos (reading clock state.time)
-  pub none : (w : Waits) (clock : C) → IsIn w state.waiting.items → w.device.0 ≡ device.0
-      → slice_get state.clocks.items device.0 ≡ Some clock → w.point.0 ≤ℤ pos (reading clock state.time)
-      → IsBefore (ripe_place state.time (waiting_as w)) (ripe_place state.time (waiting_as one)) → ⊥
+-- ---- stubs' words (A's take their place)
 
 abbrev pub changed_device : NoteBody → ℕ
 changed_device (kinds.Arrived device link cause clock) = device.0

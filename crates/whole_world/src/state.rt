@@ -96,12 +96,12 @@ impl<C: Clock, M: Machine + Drop> State<C, M> {
         requires limit { time ≤ 2 ^ 60 }
         requires none { self.old.settled.items ≡ [] }
         requires open { self.old.ended ≡ false }
-        ensures same { self.new ≡ record self.old { time = time; early = true } }
         ensures sound { (network : Network) → IsSound C.last_step network self.old → IsSound C.last_step network self.new }
         ensures stands { (network : Network) (s : Scenario) (notes : List Note)
             → Stands C.reading (keeps M.stands) s (world_of network self.old) notes
             → NothingBefore (keeps M.stands) s (world_of network self.old) (time ∷ [])
             → StandsBehind C.reading (keeps M.stands) s (world_of network self.new) notes (time ∷ []) }
+        ensures same { self.new ≡ record self.old { time = time; early = true } }
     {
         self.time = time;
         self.early = true;
@@ -120,6 +120,7 @@ impl<C: Clock, M: Machine + Drop> State<C, M> {
             → StandsBehind C.reading (keeps M.stands) s (world_of network.now self.new) notes
             (behind (clock_place self.old.time (record { 0 = self.old.shown }))) }
         ensures others { (n : ℕ) → ChangesOnly n self.old self.new }
+        ensures same { self.new ≡ record self.old { early = false; settled = self.new.settled; shown = self.old.shown + 1 } }
     {
         let index = self.shown as usize;
         let reading = self.clocks[index].read(Units::from_amount(self.time));
@@ -143,7 +144,7 @@ impl<C: Clock, M: Machine + Drop> State<C, M> {
     }
 
     /// What the clock of a device reads at present.
-    fn reading_of(&self, network: &Network, device: u32) -> u64
+    pub fn reading_of(&self, network: &Network, device: u32) -> u64
         requires sized { IsSized C.last_step network.now self.now }
         requires there { device < length network.now.device }
         ensures { (clock : C) × (slice_get self.now.clocks.items device ≡ Some clock) × (result ≡ C.reading clock self.now.time) }
@@ -326,6 +327,8 @@ impl<C: Clock, M: Machine + Drop> State<C, M> {
             → ComesFirst C.reading (keeps M.stands) s (world_of network.now self.old) notes old (numbers_of place)
             → StandsBehind C.reading (keeps M.stands) s (world_of network.now self.new) notes (behind (numbers_of place)) }
         ensures others { (n : ℕ) → ChangesOnly n self.old self.new }
+        ensures same { self.new ≡ record self.old { early = false; under_way = self.new.under_way; settled = self.new.settled } }
+        ensures shorter { length self.old.under_way.entries ≡ length self.new.under_way.entries + 1 }
     {
         let (frame, given) = take_port(&mut self.under_way, place);
         self.early = false;

@@ -22,7 +22,9 @@ impl<C: Clock, M: Machine + Drop> State<C, M> {
     ghost use Rattle.whole_world.specs.Keeping.{keeps};
     ghost use Rattle.whole_world.specs.Views.{settled_at, waiting_as, world_of};
     ghost use Rattle.whole_world.specs.Stepping.{ChangesOnly, IsAt, IsRunning};
-    ghost use Rattle.whole_world.specs.Turns.{IsFirstRipe, changed_device};
+    ghost use Rattle.whole_world.specs.Ripening.{IsFirstRipe};
+    ghost use Rattle.whole_world.specs.Turns.{changed_device};
+    ghost use Rattle.whole_world.specs.Giving.{ArrivedAt};
     ghost use Rattle.world_law.specs.source.First.{NoSourceBefore};
     ghost use Rattle.world_law.specs.world.Steps.{ComesFirst, StandsBehind};
     ghost use Rattle.world_law.specs.world.World.{Stands, act_place, note_of, ripe_place};
@@ -36,7 +38,7 @@ impl<C: Clock, M: Machine + Drop> State<C, M> {
         requires sized { IsSized C.last_step network.now self.now }
         requires there { device.0 < length network.now.device }
         ensures some { IfSome result (λ i. IsFirstRipe C.reading self.now device i) }
-        ensures none { IfNone result ((w : Waits) (clock : C) → IsIn w self.now.waiting.items → w.device.0 ≡ device.0
+        ensures none { IfNone result ((w : Waits) (clock : C) → IsIn w self.now.waiting.items → w.device ≡ device
             → slice_get self.now.clocks.items device.0 ≡ Some clock → w.point.0 ≤ℤ pos (C.reading clock self.now.time) → ⊥) }
     {
         None
@@ -50,7 +52,7 @@ impl<C: Clock, M: Machine + Drop> State<C, M> {
         requires running { IsRunning C.reading M.stands network.now self.old }
         ensures sound { IsSound C.last_step network.now self.new }
         ensures same { self.new ≡ record self.old { under_way = self.new.under_way; waiting = self.new.waiting; stored = self.new.stored; settled = self.new.settled; given = self.new.given } }
-        ensures stands { (first : SettledOf) (rest : List SettledOf) → self.old.settled.items ≡ first ∷ rest → (s : Scenario) (notes : List NoteOf)
+        ensures stands { (s : Scenario) (notes : List NoteOf) (first : SettledOf) (rest : List SettledOf) → self.old.settled.items ≡ first ∷ rest
             → (old : Stands C.reading (keeps M.stands) s (world_of network.now self.old) notes)
             → NoSourceBefore s (happenings s.network notes) old.cursor (place_of (settled_at network.now self.old.time first))
             → IfOk result (λ note. (note ≡ note_of notes (settled_at network.now self.old.time first))
@@ -58,6 +60,8 @@ impl<C: Clock, M: Machine + Drop> State<C, M> {
             (behind (place_of (settled_at network.now self.old.time first)))) }
         ensures err { OnErr result (world_of network.now self.new ≡ world_of network.now self.old) }
         ensures given { OnOk result (self.new.given ≡ self.old.given + 1) }
+        ensures arrived { IfOk result (λ note. ArrivedAt (length network.now.device) note.body) }
+        ensures unmoved { OnErr result ((n : ℕ) → ChangesOnly n self.old self.new) }
         ensures others { IfOk result (λ note. ChangesOnly (changed_device note.body) self.old self.new) }
     {
         Err(OutOfMemory)
@@ -75,6 +79,7 @@ impl<C: Clock, M: Machine + Drop> State<C, M> {
         ensures err { OnErr result (world_of network.now self.new ≡ world_of network.now self.old) }
         ensures others { (n : ℕ) → ChangesOnly n self.old self.new }
         ensures given { self.new.given ≡ self.old.given }
+        ensures timers { self.new.timers ≡ self.old.timers }
         ensures pending { OnOk result (self.new.pending ≡ false) }
     {
         Err(OutOfMemory)
@@ -99,25 +104,7 @@ impl<C: Clock, M: Machine + Drop> State<C, M> {
         ensures others { ChangesOnly place.device self.old self.new }
         ensures shorter { length self.old.under_way.entries ≡ length self.new.under_way.entries + 1 }
         ensures given { self.new.given ≡ self.old.given }
-    {
-    }
-
-    #[tactic(none)]
-    pub fn ripen_first(&mut self, network: &Network, index: usize)
-        requires sound { IsSound C.last_step network.now self.old }
-        requires range { IsInRange network.now }
-        requires ripe { (one : Waits) × (slice_get self.old.waiting.items index ≡ Some one)
-            × ((clock : C) → slice_get self.old.clocks.items one.device.0 ≡ Some clock → one.point.0 ≤ℤ pos (C.reading clock self.old.time))
-            × IsAt C.reading M.stands network.now self.old (ripe_place self.old.time (waiting_as one)) }
-        requires room { deque_len self.old.settled + 2 ≤ deque_capacity self.old.settled }
-        ensures sound { IsSound C.last_step network.now self.new }
-        ensures stands { (one : Waits) → slice_get self.old.waiting.items index ≡ Some one → (s : Scenario) (notes : List NoteOf)
-            → (old : Stands C.reading (keeps M.stands) s (world_of network.now self.old) notes)
-            → ComesFirst C.reading (keeps M.stands) s (world_of network.now self.old) notes old (ripe_place self.old.time (waiting_as one))
-            → StandsBehind C.reading (keeps M.stands) s (world_of network.now self.new) notes (behind (ripe_place self.old.time (waiting_as one))) }
-        ensures others { (one : Waits) → slice_get self.old.waiting.items index ≡ Some one → ChangesOnly one.device.0 self.old self.new }
-        ensures shorter { length self.old.waiting.items ≡ length self.new.waiting.items + 1 }
-        ensures given { self.new.given ≡ self.old.given }
+        ensures timers { self.new.timers ≡ self.old.timers }
     {
     }
 
@@ -137,6 +124,7 @@ impl<C: Clock, M: Machine + Drop> State<C, M> {
             → Stands C.reading (keeps M.stands) s (world_of network.now self.new) notes }
         ensures others { ChangesOnly device.0 self.old self.new }
         ensures given { self.new.given ≡ self.old.given }
+        ensures timers { self.new.timers ≡ self.old.timers }
     {
         Err(OutOfMemory)
     }

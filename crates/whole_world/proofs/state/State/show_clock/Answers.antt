@@ -22,7 +22,7 @@ returns-clause-sound g c =
     let z = c.requires.sound.sized in
     let fit = c.requires.sound.fit in
     let more = c.requires.more in
-    let put = c.put_in.ensures in
+    let put = c.put_in.ensures.is in
     record {
       sized = record {
         clocks = z.clocks;
@@ -66,7 +66,7 @@ returns-clause-stands g c = λ s notes old ended first.
     same_units _ _
     (c.read-reading.ensures ∙ ap (λ (t : Units). pos (K.reading c.index.result.now (amount t))) c.from_amount.ensures.value
     ∙ ap (λ k. pos (K.reading k w.time)) (sym same) ∙ ap pos (sym (own.2 w.time (omega arith)))) in
-    let put = c.put_in.ensures in
+    let put = c.put_in.ensures.is in
     let shows : NoteBody → Settled = λ body. record { body = body; frame = None; octets = None } in
     clock_step K.reading (keeps g.M.Machine.stands) s world notes device c.index-machine.result.now c.state.result c.adjustment.result _ old there ended refl
     first
