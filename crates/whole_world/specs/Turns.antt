@@ -7,7 +7,7 @@ use Rattle.whole_world.specs.Stepping.{IsTimed}
 use Rattle.whole_world.specs.Wells.{IsWell}
 use Rattle.whole_world.specs.Places.{own_place}
 use Rattle.whole_world.specs.declared.contents.Settled.{Settled}
-use Rattle.tte_units.specs.Amount.{amount}
+use Rattle.tte_units.specs.Amount.{amount, units_of}
 use Rattle.std.specs.VecDeque.{deque_capacity, deque_len}
 use Rattle.due_queue.specs.Places.{IsFirst, numbers_of}
 use Rattle.net_plan.specs.declared.ids.DeviceId.{DeviceId}
@@ -110,21 +110,22 @@ own_numbers (Departure place) = Some (place.rank ∷ place.device ∷ place.link
 own_numbers (Clock device) = Some (14 ∷ device.0 ∷ [])
 own_numbers (Later time) = None
 
--- the record is behind these numbers, if there are such
-abbrev pub IsBehind : Option (List ℕ) → Settled → Type 0
-IsBehind None z = ⊥
-IsBehind (Some numbers) z = IsBefore numbers (own_place z)
+-- the record is before these numbers, if there are such
+abbrev pub IsAhead : Option (List ℕ) → Settled → Type 0
+IsAhead None z = Unit {0}
+IsAhead (Some numbers) z = IsBefore (own_place z) numbers
 
--- something is settled, of which the first is not behind the source
+-- something is settled, of which the first is ahead of the source
 pub record SettledFirst (settled : List Settled) (source : Source) : Type 0 where
   pub first : Settled
   pub others : List Settled
   pub whole : settled ≡ first ∷ others
-  pub ahead : IsBehind (own_numbers source) first → ⊥
+  pub ahead : IsAhead (own_numbers source) first
 
--- or all that is settled is behind it
+-- or nothing that is settled is
 abbrev pub SourceFirst : List Settled → Source → Type 0
-SourceFirst settled source = (first : Settled) (others : List Settled) → settled ≡ first ∷ others → IsBehind (own_numbers source) first
+SourceFirst settled source = (first : Settled) (others : List Settled) → settled ≡ first ∷ others
+    → IsAhead (own_numbers source) first → ⊥
 
 -- there is room for two more records that are settled, and there are numbers for them
 pub record HasRoom {C M : Type 0} (state : State C M) : Type 0 where
@@ -159,7 +160,7 @@ pub record HasCome {C M : Type 0} (new : State C M) (until : ℕ) : Type 0 where
 -- what the answer of a turn says, besides where it stands: the record given is before the time; where it goes on, the
 -- present is; and where it ends, and the end has not come, the world has come to the time
 abbrev pub TurnSays : {C M : Type 0} → State C M → State C M → ℕ → Turn → Type 0
-TurnSays old new until (Gives note) = (note.time.0 <ℤ pos until) × (new.given ≡ old.given + 1)
+TurnSays old new until (Gives note) = (note.time ≡ units_of new.time) × (new.time < until) × (new.given ≡ old.given + 1)
 TurnSays old new until GoesOn = (new.time < until) × (new.given ≡ old.given)
 TurnSays old new until Ends = old.ended ≡ false → until ≤ 2 ^ 60 → HasCome new until
 
@@ -180,7 +181,7 @@ pub record IsStep {C M : Type 0} (last_step : C → ℕ) (reading : C → ℕ �
 
 -- a record of the present instant is given
 abbrev pub GivesAt : {C M : Type 0} → State C M → State C M → Turn → Type 0
-GivesAt old new (Gives note) = (note.time.0 ≡ pos old.time) × (new.given ≡ old.given + 1)
+GivesAt old new (Gives note) = (note.time ≡ units_of new.time) × (new.time ≡ old.time) × (new.given ≡ old.given + 1)
 GivesAt old new other = ⊥
 
 -- the timers of the device are set anew, if it is one of the network, and nothing else has changed

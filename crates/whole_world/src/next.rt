@@ -6,7 +6,7 @@ ghost use Rattle.run_law.specs.runs.DueRecords.{IsScenarioRun};
 ghost use Rattle.run_law.specs.scenario.Scenarios.{Scenario};
 
 use crate::OutOfMemory;
-use crate::settled::is_behind;
+use crate::settled::is_before;
 use crate::source::{Source, own_numbers};
 use crate::state::State;
 use drift_clock::Clock;
@@ -40,6 +40,7 @@ impl<C: Clock, M: Machine + Drop> State<C, M> {
     ghost use Rattle.run_law.specs.records.Order.{IsBefore};
     ghost use Rattle.run_law.specs.records.Ranks.{place_of};
     ghost use Rattle.world_law.specs.world.World.{Stands};
+    ghost use Rattle.tte_units.specs.Amount.{units_of};
 
     /// The next record before a time, if one is due before it.
     pub fn next(&mut self, network: &Network, until: u64) -> Result<Option<Note>, OutOfMemory>
@@ -54,7 +55,7 @@ impl<C: Clock, M: Machine + Drop> State<C, M> {
         ensures complete { (s : Scenario) (notes : List NoteOf) → Stands C.reading (keeps M.stands) s (world_of network.now self.old) notes
             → IfOk result (λ next. IfNone next (IsScenarioRun s (until ∷ []) notes)) }
         ensures reached { IfOk result (λ next. IfNone next (self.old.ended ≡ false → until ≤ 2 ^ 60 → HasCome self.new until)) }
-        ensures before { IfOk result (λ next. IfSome next (λ note. note.time.0 <ℤ pos until)) }
+        ensures before { IfOk result (λ next. IfSome next (λ note. (note.time ≡ units_of self.new.time) × (note.time.0 <ℤ pos until))) }
         ensures given { IfOk result (λ next. IfSome next (λ _. self.new.given ≡ self.old.given + 1)) }
     {
         for _ in 0..u64::MAX {
@@ -112,7 +113,7 @@ impl<C: Clock, M: Machine + Drop> State<C, M> {
         Ok(())
     }
 
-    /// Is something settled, of which the first is not behind the source?
+    /// Is something settled, of which the first is ahead of the source?
     fn has_first(&self, source: &Source) -> bool
         ensures yes { IsTrue result → SettledFirst self.now.settled.items source.now }
         ensures no { result ≡ false → SourceFirst self.now.settled.items source.now }
@@ -121,7 +122,7 @@ impl<C: Clock, M: Machine + Drop> State<C, M> {
             return false;
         };
         match own_numbers(source) {
-            Some(place) => !is_behind(first, place.as_slice()),
+            Some(place) => is_before(first, place.as_slice()),
             None => true,
         }
     }
