@@ -10,10 +10,12 @@ pub mod Firsts
 pub mod Givings
 pub mod HiddenCauses
 pub mod Launches
+pub mod LeastPoints
 pub mod Mapped
 pub mod PutTo
 pub mod Puts
 pub mod Sendings
 pub mod Showings
+pub mod Timings
 pub mod TurnedOn
 pub mod UnderWays
