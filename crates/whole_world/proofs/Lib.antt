@@ -19,3 +19,5 @@ pub mod Showings
 pub mod Timings
 pub mod TurnedOn
 pub mod UnderWays
+pub mod Sources
+pub mod Turning
