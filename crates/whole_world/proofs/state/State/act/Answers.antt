@@ -1,7 +1,7 @@
 use Rattle.std.proofs.Common.{ap, subst, sym, ◌≡◌, ◌∙◌, pos, ℕ, slice_get, Some, refl, arith, length, ◌<◌}
 use Rattle.whole_world.specs.declared.source.Source.TheVariants.{Act}
 use Rattle.whole_world.specs.declared.state.State.{State}
-use Rattle.whole_world.proofs.Turning.{comes_first, is_at, rekeyed_step}
+use Rattle.whole_world.proofs.Turning.{comes_first, is_at, rekeyed_step, runs_on}
 use Rattle.whole_world.proofs.state.State.act.Goals as goal
 
 use Rattle.net_plan.specs.declared.network.Network.{Network}
@@ -12,8 +12,8 @@ use Rattle.world_law.proofs.giving.Given.{some_same}
 use Rattle.world_law.specs.world.Acting.{IsDueNow}
 use Rattle.world_law.specs.world.Calls.{moment_of}
 
-pub act_first-requires-clause-due : goal.act_first-requires-clause-due
-act_first-requires-clause-due g c = λ machine at s notes old.
+pub act_first-done-requires-clause-due : goal.act_first-done-requires-clause-due
+act_first-done-requires-clause-due g c = λ machine at s notes old.
     let there = c.requires.foremost.there in
     let w = c.args.self.now in
     let d = c.args.device in
@@ -30,10 +30,19 @@ act_first-requires-clause-due g c = λ machine at s notes old.
     (subst (λ (k : Kept _). keeps g.M.Machine.stands k c.args.network.now d node) (sym same)
     (subst (λ (n : Network). keeps g.M.Machine.stands machine n d node) (sym of_network) is))))
 
-pub act_first-requires-clause-comes : goal.act_first-requires-clause-comes
-act_first-requires-clause-comes g c =
+pub act_first-done-requires-clause-comes : goal.act_first-done-requires-clause-comes
+act_first-done-requires-clause-comes g c =
     let r = c.requires in
     is_at g.C.Clock.last_step g.C.Clock.reading g.M.Machine.stands c.args.network.now c.args.self.now (Act c.args.device) r.well r.room r.foremost r.first tt
+
+pub rekey-requires-clause-running : goal.rekey-requires-clause-running
+rekey-requires-clause-running g c =
+    let w = c.args.self.now in
+    let r = c.requires in
+    let step = c.act_first-done.ensures in
+    runs_on g.C.Clock.last_step g.C.Clock.reading g.M.Machine.stands c.args.network.now w c.act_first-done.new.self r.well.running
+    (λ s notes old. step.stands s notes old
+    (comes_first g.C.Clock.last_step g.C.Clock.reading g.M.Machine.stands c.args.network.now w (Act c.args.device) s notes r.well.sound r.room r.foremost r.first tt old))
 
 pub returns : goal.returns
 returns g c =

@@ -1,7 +1,7 @@
 use Rattle.std.proofs.Common.{ap, subst, sym, ◌≡◌, ◌∙◌, pos, ℕ, slice_get, Some}
 use Rattle.whole_world.specs.declared.source.Source.TheVariants.{Ripening}
 use Rattle.whole_world.specs.declared.state.State.{State}
-use Rattle.whole_world.proofs.Turning.{comes_first, is_at, rekeyed_step}
+use Rattle.whole_world.proofs.Turning.{comes_first, is_at, rekeyed_step, runs_on}
 use Rattle.whole_world.proofs.state.State.ripen.Goals as goal
 
 use Rattle.std.specs.Prelude.{◌≤ℤ◌}
@@ -29,6 +29,16 @@ ripen_first-requires-clause-comes g c = λ w at.
     subst (λ (v : Waits). IsAt g.C.Clock.reading g.M.Machine.stands c.args.network.now c.args.self.now (ripe_place c.args.self.now.time (waiting_as v)))
     (some_same _ _ _ r.foremost.there.there at)
     (is_at g.C.Clock.last_step g.C.Clock.reading g.M.Machine.stands c.args.network.now c.args.self.now (Ripening c.args.index c.args.one) r.well r.room r.foremost r.first tt)
+
+pub rekey-requires-clause-running : goal.rekey-requires-clause-running
+rekey-requires-clause-running g c =
+    let w = c.args.self.now in
+    let r = c.requires in
+    let there = r.foremost.there in
+    let step = c.ripen_first.ensures in
+    runs_on g.C.Clock.last_step g.C.Clock.reading g.M.Machine.stands c.args.network.now w c.ripen_first.new.self r.well.running
+    (λ s notes old. (step.stands c.args.one there.there s notes old
+    (comes_first g.C.Clock.last_step g.C.Clock.reading g.M.Machine.stands c.args.network.now w (Ripening c.args.index c.args.one) s notes r.well.sound r.room r.foremost r.first tt old)).0)
 
 pub returns : goal.returns
 returns g c =
