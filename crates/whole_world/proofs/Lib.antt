@@ -13,6 +13,8 @@ pub mod Launches
 pub mod Mapped
 pub mod PutTo
 pub mod Puts
+pub mod Ripenings
+pub mod Swaps
 pub mod Sendings
 pub mod Showings
 pub mod TurnedOn
