@@ -9,6 +9,7 @@ mod kept;
 mod leaving;
 mod memory;
 mod naming;
+mod ripe;
 mod ripen;
 mod sending;
 mod settled;
