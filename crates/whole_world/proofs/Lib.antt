@@ -14,6 +14,9 @@ pub mod LeastPoints
 pub mod Mapped
 pub mod PutTo
 pub mod Puts
+pub mod Ripenings
+pub mod Ripes
+pub mod Swaps
 pub mod Sendings
 pub mod Showings
 pub mod Timings

@@ -1,5 +1,5 @@
 -- A frame that waits is permanent.
-use Rattle.std.specs.Prelude.{◌≡◌, ℕ, pos, ◌≤ℤ◌, List, Option, Some, None, slice_get}
+use Rattle.std.specs.Prelude.{◌≡◌, ℕ, ◌<◌, pos, ◌≤ℤ◌, List, [], ◌∷◌, Option, Some, None, slice_get}
 use Rattle.net_plan.specs.declared.ids.DeviceId.{DeviceId}
 use Rattle.run_law.specs.declared.judgement.Judgement.TheVariants as judgements
 use Rattle.run_law.specs.declared.judgement.Judgement.{Judgement}
@@ -9,6 +9,7 @@ use Rattle.run_law.specs.declared.steps.Ripe.TheVariants as ripe
 use Rattle.run_law.specs.declared.steps.Ripe.{Ripe}
 use Rattle.run_law.specs.records.Order.{IsBefore, IsIn}
 use Rattle.sync_state.specs.declared.state.State.TheVariants.{Joining}
+use Rattle.tte_units.specs.Amount.{amount}
 use Rattle.whole_world.specs.Places.{IsPutAt, IsSomePut}
 use Rattle.whole_world.specs.Views.{waiting_as}
 use Rattle.whole_world.specs.declared.contents.Settled.{Settled}
@@ -54,6 +55,24 @@ pub record AreSettledSo (w : Waits) (result : Ripe) (old new : List Settled) : T
   pub at : ℕ
   pub first : IsPutAt (ripe_record w result) old mid at
   pub more : IsSomePut (joined_record w.device result) mid new
+
+-- where it stands among the frames that are permanent at one instant
+abbrev pub ripe_numbers : Waits → List ℕ
+ripe_numbers w = w.device.0 ∷ amount w.point ∷ w.frame.members.0 ∷ w.link.0 ∷ w.cause ∷ []
+
+-- it waits at the device, and the reading has come to its point
+pub record IsReached (device : DeviceId) (reading : ℕ) (w : Waits) : Type 0 where
+  pub at : w.device.0 ≡ device.0
+  pub reached : w.point.0 ≤ℤ pos reading
+
+-- of the first frames, so many, it is the first that is reached; or none is
+abbrev pub IsFirstReached : List Waits → DeviceId → ℕ → ℕ → Option ℕ → Type 0
+IsFirstReached waiting device reading n None =
+    (k : ℕ) (v : Waits) → k < n → slice_get waiting k ≡ Some v → IsReached device reading v → ⊥
+IsFirstReached waiting device reading n (Some i) =
+    (i < n) × ((w : Waits) × (slice_get waiting i ≡ Some w) × IsReached device reading w
+    × ((k : ℕ) (v : Waits) → k < n → slice_get waiting k ≡ Some v → IsReached device reading v
+    → IsBefore (ripe_numbers v) (ripe_numbers w) → ⊥))
 
 -- the frame waits at the device, its clock reads its point or more, and none such is before it
 pub record IsFirstRipe {C M : Type 0} (reading : C → ℕ → ℕ) (state : State C M) (device : DeviceId) (index : ℕ) : Type 0 where

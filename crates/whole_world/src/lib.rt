@@ -10,6 +10,7 @@ mod leaving;
 mod memory;
 mod naming;
 mod next;
+mod ripe;
 mod ripen;
 mod sending;
 mod settled;
