@@ -7,8 +7,10 @@ pub mod Beginnings
 pub mod FirstSettled
 pub mod Firsts
 pub mod Givings
+pub mod Hearings
 pub mod HiddenCauses
 pub mod Launches
+pub mod Made
 pub mod Mapped
 pub mod PutTo
 pub mod Puts
