@@ -5,6 +5,7 @@ pub mod Awaits
 pub mod Befalls
 pub mod Beginnings
 pub mod FirstSettled
+pub mod Fits
 pub mod Firsts
 pub mod Givings
 pub mod Hearings
