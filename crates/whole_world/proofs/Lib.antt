@@ -1,6 +1,7 @@
 pub mod Alike
 pub mod Apart
 pub mod Applies
+pub mod Arrivals
 pub mod Awaits
 pub mod Befalls
 pub mod Beginnings
@@ -9,6 +10,7 @@ pub mod Fits
 pub mod Firsts
 pub mod Givings
 pub mod Hearings
+pub mod Hears
 pub mod HiddenCauses
 pub mod Launches
 pub mod Made
@@ -17,5 +19,6 @@ pub mod PutTo
 pub mod Puts
 pub mod Sendings
 pub mod Showings
+pub mod Signals
 pub mod TurnedOn
 pub mod UnderWays

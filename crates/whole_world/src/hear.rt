@@ -1,4 +1,4 @@
-ghost use Rattle.std.specs.Prelude.{◌≡◌, ◌∷◌, ◌+◌, ◌<◌, List, ℕ, length, IsPermutation};
+ghost use Rattle.std.specs.Prelude.{◌≡◌, ◌∷◌, ◌+◌, ◌<◌, List, ℕ, false, length, IsPermutation};
 ghost use Rattle.std.specs.VecDeque.{deque_capacity, deque_len};
 ghost use Rattle.due_queue.specs.Places.{IsFirst, numbers_of};
 ghost use Rattle.net_plan.specs.Ranges.{IsInRange};
@@ -12,7 +12,8 @@ ghost use Rattle.whole_world.specs.Hearing.{AreOctetsOf, IsAsSent, MayCome, arri
 ghost use Rattle.whole_world.specs.Keeping.{keeps};
 ghost use Rattle.whole_world.specs.Sound.{AreUnderWay, IsSound, rank_of};
 ghost use Rattle.whole_world.specs.Stepping.{ChangesOnly, IsAt};
-ghost use Rattle.whole_world.specs.Views.{signal_as, world_of};
+ghost use Rattle.run_law.specs.control.Wires.{signal_of, timed};
+ghost use Rattle.whole_world.specs.Views.{octets_of, signal_as, world_of};
 ghost use Rattle.world_law.specs.world.Arriving.{HasHeard, arrival_body};
 ghost use Rattle.world_law.specs.world.Steps.{ComesFirst, StandsBehind};
 ghost use Rattle.world_law.specs.world.World.{Stands};
@@ -40,17 +41,41 @@ fn take_wire(under_way: &mut UnderWay<Content>, place: Place) -> Signal
     let Some(first) = under_way.take_first() else {
         unreachable!()
     };
-    signal_of(first.content)
+    signal_in(first.content)
 }
 
 /// What is on a wire.
-fn signal_of(content: Content) -> Signal
+fn signal_in(content: Content) -> Signal
     requires { rank_of content ≡ 2 }
     ensures { content ≡ Content.Wire result }
 {
     match content {
         Content::Wire(signal) => signal,
         Content::Port(_, _) => unreachable!(),
+    }
+}
+
+/// What becomes of a frame of the schedule, at the device that it comes to.
+fn hear_timed<M: Machine + Drop>(
+    kept: &mut Kept<M>,
+    network: &Network,
+    moment: Moment,
+    link: LinkId,
+    frame: &Timed,
+) -> Arrival
+    requires range { IsInRange network.now }
+    requires may { StandsFor (keeps M.stands) kept.old (MayCome (timed (octets_of network.now frame.now)) moment link) }
+    requires as_sent { signal_of (octets_of network.now frame.now) ≡ timed (octets_of network.now frame.now) }
+    ensures { (octets : List ℕ) × AreOctetsOf (timed (octets_of network.now frame.now)) octets
+        × ((other : NetworkValue) (device : DeviceOf) → HasHeard (keeps M.stands) other device moment link octets result kept.old kept.new) }
+{
+    match frame {
+        Timed::Made(vl, cycle) => {
+            let mut octets = [0; MOST_OCTETS];
+            let count = write_made(network, *vl, *cycle, &mut octets);
+            kept.hear(moment, link, &octets[..count])
+        }
+        Timed::Sent(octets) => kept.hear(moment, link, octets.as_slice()),
     }
 }
 
@@ -74,12 +99,7 @@ fn hear_signal<M: Machine + Drop>(
             encode(frame, &mut octets);
             kept.hear(moment, link, &octets)
         }
-        Signal::Timed(Timed::Made(vl, cycle)) => {
-            let mut octets = [0; MOST_OCTETS];
-            let count = write_made(network, *vl, *cycle, &mut octets);
-            kept.hear(moment, link, &octets[..count])
-        }
-        Signal::Timed(Timed::Sent(octets)) => kept.hear(moment, link, octets.as_slice()),
+        Signal::Timed(frame) => hear_timed(kept, network, moment, link, frame),
         Signal::Octets(octets) => kept.hear(moment, link, octets.as_slice()),
     }
 }
@@ -147,7 +167,7 @@ fn timed_of(signal: Signal) -> Option<Timed>
 }
 
 /// The octets of the record.
-fn octets_of(arrival: &Arrival, signal: Signal) -> Option<Timed>
+fn octets_for(arrival: &Arrival, signal: Signal) -> Option<Timed>
     ensures { result ≡ octets_kept arrival.now signal }
 {
     match arrival {
@@ -163,7 +183,7 @@ fn octets_of(arrival: &Arrival, signal: Signal) -> Option<Timed>
 fn arrived(place: Place, arrival: &Arrival, signal: Signal) -> Settled
     ensures { result ≡ arrived place arrival.now signal }
 {
-    let octets = octets_of(arrival, signal);
+    let octets = octets_for(arrival, signal);
     let frame = frame_of(arrival);
     let body = body_of(place, arrival);
     Settled {
@@ -191,6 +211,7 @@ impl<C: Clock, M: Machine + Drop> State<C, M> {
             → ComesFirst C.reading (keeps M.stands) s (world_of network.now self.old) notes old (numbers_of place)
             → StandsBehind C.reading (keeps M.stands) s (world_of network.now self.new) notes (behind (numbers_of place)) }
         ensures others { ChangesOnly place.device self.old self.new }
+        ensures same { self.new ≡ record self.old { machines = self.new.machines; under_way = self.new.under_way; settled = self.new.settled; early = false } }
         ensures given { self.new.given ≡ self.old.given }
         ensures shorter { length self.old.under_way.entries ≡ length self.new.under_way.entries + 1 }
     {

@@ -5,8 +5,8 @@ use Rattle.due_queue.specs.declared.Place.{Place}
 use Rattle.whole_world.proofs.Firsts.{in_words, one_first}
 use Rattle.whole_world.proofs.hear.take_wire.Goals as goal
 
-pub signal_of-requires : goal.signal_of-requires
-signal_of-requires c =
+pub signal_in-requires : goal.signal_in-requires
+signal_in-requires c =
     let first = c.in-Some.first in
     let there = in_permuted _ _ first (IsPermutation-sym _ _ c.in-Some.ensures.entries) (inl refl) in
     let same = one_first _ _ _ c.in-Some.ensures.first c.requires.first in
@@ -14,4 +14,4 @@ signal_of-requires c =
 
 pub returns : goal.returns
 returns c =
-    in_words _ _ c.in-Some.first c.args.place _ (one_first _ _ _ c.in-Some.ensures.first c.requires.first) c.signal_of.ensures c.in-Some.ensures.entries
+    in_words _ _ c.in-Some.first c.args.place _ (one_first _ _ _ c.in-Some.ensures.first c.requires.first) c.signal_in.ensures c.in-Some.ensures.entries
