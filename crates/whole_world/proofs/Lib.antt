@@ -1,6 +1,7 @@
 pub mod Alike
 pub mod Apart
 pub mod Applies
+pub mod Arrivals
 pub mod Awaits
 pub mod Befalls
 pub mod Beginnings
@@ -8,9 +9,12 @@ pub mod FirstSettled
 pub mod Fits
 pub mod Firsts
 pub mod Givings
+pub mod Hearings
+pub mod Hears
 pub mod HiddenCauses
 pub mod Launches
 pub mod LeastPoints
+pub mod Made
 pub mod Mapped
 pub mod PutTo
 pub mod Puts
@@ -20,6 +24,7 @@ pub mod Swaps
 pub mod Sendings
 pub mod Showings
 pub mod Timings
+pub mod Signals
 pub mod TurnedOn
 pub mod UnderWays
 pub mod Sources

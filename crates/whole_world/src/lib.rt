@@ -4,7 +4,9 @@
 mod applying;
 mod begin;
 mod contents;
+mod frames;
 mod giving;
+mod hear;
 mod kept;
 mod leaving;
 mod memory;
