@@ -8,6 +8,7 @@ pub mod Beginnings
 pub mod FirstSettled
 pub mod Fits
 pub mod Firsts
+pub mod Foremost
 pub mod Givings
 pub mod Hearings
 pub mod Hears
@@ -23,6 +24,7 @@ pub mod Ripes
 pub mod Swaps
 pub mod Sendings
 pub mod Showings
+pub mod Sources
 pub mod Timings
 pub mod Signals
 pub mod TurnedOn
