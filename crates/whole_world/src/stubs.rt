@@ -34,17 +34,6 @@ impl<C: Clock, M: Machine + Drop> State<C, M> {
     ghost use Rattle.world_law.specs.world.Calls.{moment_of};
 
     #[tactic(none)]
-    pub fn ripe_index(&self, network: &Network, device: DeviceId) -> Option<usize>
-        requires sized { IsSized C.last_step network.now self.now }
-        requires there { device.0 < length network.now.device }
-        ensures some { IfSome result (λ i. IsFirstRipe C.reading self.now device i) }
-        ensures none { IfNone result ((w : Waits) (clock : C) → IsIn w self.now.waiting.items → w.device ≡ device
-            → slice_get self.now.clocks.items device.0 ≡ Some clock → w.point.0 ≤ℤ pos (C.reading clock self.now.time) → ⊥) }
-    {
-        None
-    }
-
-    #[tactic(none)]
     pub fn give(&mut self, network: &Network) -> Result<Note, OutOfMemory>
         requires sound { IsSound C.last_step network.now self.old }
         requires range { IsInRange network.now }
@@ -83,29 +72,6 @@ impl<C: Clock, M: Machine + Drop> State<C, M> {
         ensures pending { OnOk result (self.new.pending ≡ false) }
     {
         Err(OutOfMemory)
-    }
-
-    #[tactic(none)]
-    pub fn hear_first(&mut self, network: &Network, place: Place)
-        requires sound { IsSound C.last_step network.now self.old }
-        requires range { IsInRange network.now }
-        requires first { IsFirst self.old.under_way.entries place }
-        requires wire { place.rank ≡ 2 }
-        requires device { place.device < length network.now.device }
-        requires link { place.link < length network.now.link }
-        requires at { place.at ≡ self.old.time }
-        requires room { deque_len self.old.settled + 2 ≤ deque_capacity self.old.settled }
-        requires comes { IsAt C.reading M.stands network.now self.old (numbers_of place) }
-        ensures sound { IsSound C.last_step network.now self.new }
-        ensures stands { (s : Scenario) (notes : List NoteOf)
-            → (old : Stands C.reading (keeps M.stands) s (world_of network.now self.old) notes)
-            → ComesFirst C.reading (keeps M.stands) s (world_of network.now self.old) notes old (numbers_of place)
-            → StandsBehind C.reading (keeps M.stands) s (world_of network.now self.new) notes (behind (numbers_of place)) }
-        ensures others { ChangesOnly place.device self.old self.new }
-        ensures shorter { length self.old.under_way.entries ≡ length self.new.under_way.entries + 1 }
-        ensures given { self.new.given ≡ self.old.given }
-        ensures timers { self.new.timers ≡ self.old.timers }
-    {
     }
 
     #[tactic(none)]
