@@ -160,3 +160,225 @@ module _ {C M : Type 0} (reading : C → ℕ → ℕ) (stands : M → Network �
                   (omega (arith, is, now)) task.2 (inl (omega (arith, is, sooner))))
             ]
       ]
+
+-- ---- the source that comes first
+
+if_some : {X : Type 0} (P : X → Type 0) (o : Option X) → ((x : X) → o ≡ Some x → P x) → IfSome o P
+if_some P None each = tt
+if_some P (Some x) each = each x refl
+
+from_some : {X : Type 0} (P : X → Type 0) (o : Option X) (x : X) → IfSome o P → o ≡ Some x → P x
+from_some P None x is e = absurd cc
+from_some {X} P (Some y) x is e = let same : y ≡ x = cc in subst P same is
+
+rank_is : (content : Content) → (rank_of content ≡ 2) ⊎ (rank_of content ≡ 8)
+rank_is (Wire signal) = inl refl
+rank_is (Port frame reading) = inr refl
+
+-- the place is of this time and rank
+pub record HasShape (devices : ℕ) (due : Due) (p : List ℕ) : Type 0 where
+  pub rank : ℕ
+  pub rest : List ℕ
+  pub is : p ≡ due.time ∷ rank ∷ rest
+  pub least : 3 ≤ rank
+  pub most : rank ≤ 4
+
+shape_of : {C M : Type 0} (reading : C → ℕ → ℕ) (network : Network) (state : State C M) (due : Due) (p : List ℕ)
+    → (p ≡ due_place (length network.device) due) ⊎ IsRipePlace reading network state due p → HasShape (length network.device) due p
+shape_of reading network state due p (inl e) =
+    elim (cases_lt due.slot (length network.device)) [
+      | inl lt ↦ record { rank = 3; rest = due.slot ∷ []; is = e ∙ slot_low (length network.device) due lt; least = omega arith; most = omega arith }
+      | inr le ↦
+          record { rank = 4; rest = (due.slot - length network.device) ∷ []; is = e ∙ slot_high (length network.device) due le; least = omega arith; most = omega arith }
+    ]
+shape_of reading network state due p (inr r) = record {
+  rank = 3;
+  rest = _;
+  is = r.place;
+  least = omega arith;
+  most = omega arith;
+}
+
+module _ {C M : Type 0} (last_step : C → ℕ) (reading : C → ℕ → ℕ) (stands : M → Network → DeviceId → Node → Type 0) (network : Network)
+    (state : State C M) (place : Option Place) (due : Option Due) (running : IsRunning reading stands network state)
+    (sized : IsSized last_step network state) (are : AreTimed reading stands network state) (under : AreUnderWay network state.under_way.entries)
+    (firsts : AreFirsts state place due) where
+  abbrev now : ℕ
+  now = state.time
+
+  first_is : (q : Place) → place ≡ Some q → IsFirst state.under_way.entries q
+  first_is q e = from_some (λ p. IsFirst state.under_way.entries p) place q firsts.some_place e
+
+  first_rank : (q : Place) → place ≡ Some q → (q.rank ≡ 2) ⊎ (q.rank ≡ 8)
+  first_rank q e =
+      let first = first_is q e in
+      let kind = under.kinds first.entry first.there in
+      let rank : q.rank ≡ rank_of first.entry.content = sym (ap (λ (p : Place). p.rank) first.at) ∙ kind in
+      elim (rank_is first.entry.content) [ inl two ↦ inl (rank ∙ two) | inr eight ↦ inr (rank ∙ eight) ]
+
+  place_later : (q : Place) → place ≡ Some q → now ≤ q.at
+  place_later q e = first_later reading stands network state running under q (first_is q e)
+
+  due_later : (d : Due) → due ≡ Some d → now ≤ d.time
+  due_later d e = due_time reading stands network state d are (from_some (λ x. IsFirstDue state.timers x) due d firsts.some_due e)
+
+  -- none is before the place, where each is so
+  are_not : (p : List ℕ) → (IsBefore ((2 ^ 60 + 1) ∷ []) p → ⊥)
+      → ((q : Place) → place ≡ Some q → now ≤ q.at → (q.rank ≡ 2) ⊎ (q.rank ≡ 8) → IsBefore (numbers_of q) p → ⊥)
+      → ((d : Due) → due ≡ Some d → now ≤ d.time
+      → (IsBefore (due_place (length network.device) d) p → ⊥) ⊎ IsRipePlace reading network state d p)
+      → (state.pending ≡ true → IsBefore (now ∷ 2 ∷ []) p → ⊥)
+      → (state.ended ≡ true → state.shown < length network.device → IsBefore (now ∷ 14 ∷ state.shown ∷ []) p → ⊥)
+      → AreNotBefore reading network state place due p
+  are_not p in_time places dues befell clocks = record {
+    in_time = in_time;
+    under_way = if_some (λ (q : Place). IsBefore (numbers_of q) p → ⊥) place (λ q e. places q e (place_later q e) (first_rank q e));
+    timers = if_some (λ (d : Due). (IsBefore (due_place (length network.device) d) p → ⊥) ⊎ IsRipePlace reading network state d p) due
+        (λ d e. dues d e (due_later d e));
+    befell = befell;
+    clocks = clocks;
+  }
+
+  -- a timer is not before what is of the present time and a lower rank
+  after_lower : (rank : ℕ) (rest : List ℕ) (d : Due) → rank < 3 → now ≤ d.time → IsBefore (due_place (length network.device) d) (now ∷ rank ∷ rest) → ⊥
+  after_lower rank rest d lt le =
+      slot_time (length network.device) d (now ∷ rank ∷ rest)
+      (not_earlier d.time now (3 ∷ d.slot ∷ []) (rank ∷ rest) le (λ e. higher 3 rank (d.slot ∷ []) rest lt))
+      (not_earlier d.time now (4 ∷ (d.slot - length network.device) ∷ []) (rank ∷ rest) le
+      (λ e. higher 4 rank ((d.slot - length network.device) ∷ []) rest (omega (arith, lt))))
+
+  -- a timer of a later time is not before a place of the present time
+  after_now : (more : List ℕ) (d : Due) → (d.time ≡ now → ⊥) → now ≤ d.time → IsBefore (due_place (length network.device) d) (now ∷ more) → ⊥
+  after_now more d not le =
+      slot_time (length network.device) d (now ∷ more) (not_earlier d.time now (3 ∷ d.slot ∷ []) more le (λ e. absurd (not e)))
+      (not_earlier d.time now (4 ∷ (d.slot - length network.device) ∷ []) more le (λ e. absurd (not e)))
+
+  clocks_after : (rank : ℕ) (rest : List ℕ) → rank < 14 → IsBefore (now ∷ 14 ∷ state.shown ∷ []) (now ∷ rank ∷ rest) → ⊥
+  clocks_after rank rest lt =
+      not_earlier now now (14 ∷ state.shown ∷ []) (rank ∷ rest) (omega arith) (λ e. higher 14 rank (state.shown ∷ []) rest lt)
+
+  none_befell : (p : List ℕ) → state.pending ≡ false → state.pending ≡ true → IsBefore (now ∷ 2 ∷ []) p → ⊥
+  none_befell p calm told = absurd (both_ways state.pending calm told)
+
+  -- the outcomes of the events of the instant
+  pub events_first : AreNotBefore reading network state place due (state.time ∷ 2 ∷ [])
+  events_first =
+      are_not (now ∷ 2 ∷ []) (of_run now (2 ∷ []) sized.limit)
+      (λ q e le rank. not_earlier q.at now (q.rank ∷ q.device ∷ q.link ∷ q.cause ∷ []) (2 ∷ []) le
+      (λ same. not_first q.rank 2 (q.device ∷ q.link ∷ q.cause ∷ []) (elim rank [ inl two ↦ omega (arith, two) | inr eight ↦ omega (arith, eight) ])))
+      (λ d e le. inl (after_lower 2 [] d (omega arith) le))
+      (λ yes. never_self (now ∷ 2 ∷ []))
+      (λ ended more. clocks_after 2 [] (omega arith))
+
+  -- what arrives now
+  pub arrival_first : (q : Place) → state.pending ≡ false → place ≡ Some q → q.at ≡ state.time → q.rank ≡ 2
+      → AreNotBefore reading network state place due (numbers_of q)
+  arrival_first q calm is at rank =
+      subst (λ (p : List ℕ). AreNotBefore reading network state place due p)
+      (let same : now ∷ 2 ∷ q.device ∷ q.link ∷ q.cause ∷ [] ≡ numbers_of q =
+      ap (λ (n : ℕ). n ∷ 2 ∷ q.device ∷ q.link ∷ q.cause ∷ []) (sym at) ∙ ap (λ (n : ℕ). q.at ∷ n ∷ q.device ∷ q.link ∷ q.cause ∷ []) (sym rank) in same)
+      (are_not (now ∷ 2 ∷ q.device ∷ q.link ∷ q.cause ∷ []) (of_run now (2 ∷ q.device ∷ q.link ∷ q.cause ∷ []) sized.limit)
+      (λ r e le either.
+      let same : q ≡ r = let both : Some q ≡ Some r = sym is ∙ e in cc in
+      subst (λ (x : Place). IsBefore (numbers_of x) (now ∷ 2 ∷ q.device ∷ q.link ∷ q.cause ∷ []) → ⊥) same
+      (subst (λ (n : ℕ). IsBefore (q.at ∷ n ∷ q.device ∷ q.link ∷ q.cause ∷ []) (now ∷ 2 ∷ q.device ∷ q.link ∷ q.cause ∷ []) → ⊥) (sym rank)
+      (subst (λ (n : ℕ). IsBefore (n ∷ 2 ∷ q.device ∷ q.link ∷ q.cause ∷ []) (now ∷ 2 ∷ q.device ∷ q.link ∷ q.cause ∷ []) → ⊥) (sym at)
+      (never_self (now ∷ 2 ∷ q.device ∷ q.link ∷ q.cause ∷ [])))))
+      (λ d e le. inl (after_lower 2 (q.device ∷ q.link ∷ q.cause ∷ []) d (omega arith) le))
+      (none_befell (now ∷ 2 ∷ q.device ∷ q.link ∷ q.cause ∷ []) calm)
+      (λ ended more. clocks_after 2 (q.device ∷ q.link ∷ q.cause ∷ []) (omega arith)))
+
+  -- what is due by a timer now
+  pub slot_first : (d : Due) (p : List ℕ) → state.pending ≡ false → IfSome place (λ q. q.at ≡ state.time → q.rank ≡ 2 → ⊥) → due ≡ Some d
+      → d.time ≡ state.time → (p ≡ due_place (length network.device) d) ⊎ IsRipePlace reading network state d p
+      → AreNotBefore reading network state place due p
+  slot_first d p calm no_arrival is at of_slot =
+      let shape = shape_of reading network state d p of_slot in
+      let rank = shape.rank in
+      let least = shape.least in
+      let most = shape.most in
+      let of_now : p ≡ now ∷ rank ∷ shape.rest = shape.is ∙ ap (λ (n : ℕ). n ∷ rank ∷ shape.rest) at in
+      are_not p (subst (λ (l : List ℕ). IsBefore ((2 ^ 60 + 1) ∷ []) l → ⊥) (sym of_now) (of_run now (rank ∷ shape.rest) sized.limit))
+      (λ q e le either.
+      subst (λ (l : List ℕ). IsBefore (numbers_of q) l → ⊥) (sym of_now)
+      (not_earlier q.at now (q.rank ∷ q.device ∷ q.link ∷ q.cause ∷ []) (rank ∷ shape.rest) le
+      (λ same. higher q.rank rank (q.device ∷ q.link ∷ q.cause ∷ []) shape.rest
+      (elim either [
+        | inl two ↦ absurd (from_some (λ (x : Place). x.at ≡ state.time → x.rank ≡ 2 → ⊥) place q no_arrival e same two)
+        | inr eight ↦ omega (arith, eight, most)
+      ]))))
+      (λ x e le.
+      let same : d ≡ x = let both : Some d ≡ Some x = sym is ∙ e in cc in
+      subst (λ (y : Due). (IsBefore (due_place (length network.device) y) p → ⊥) ⊎ IsRipePlace reading network state y p) same
+      (elim of_slot [
+        | inl own ↦ inl (subst (λ (l : List ℕ). IsBefore l p → ⊥) own (never_self p))
+        | inr ripe ↦ inr ripe
+      ]))
+      (none_befell p calm)
+      (λ ended more. subst (λ (l : List ℕ). IsBefore (now ∷ 14 ∷ state.shown ∷ []) l → ⊥) (sym of_now)
+      (clocks_after rank shape.rest (omega (arith, most))))
+
+  -- what leaves now
+  pub departure_first : (q : Place) → state.pending ≡ false → IfSome due (λ d. d.time ≡ state.time → ⊥) → place ≡ Some q → q.at ≡ state.time → q.rank ≡ 8
+      → AreNotBefore reading network state place due (numbers_of q)
+  departure_first q calm no_due is at rank =
+      subst (λ (p : List ℕ). AreNotBefore reading network state place due p)
+      (let same : now ∷ 8 ∷ q.device ∷ q.link ∷ q.cause ∷ [] ≡ numbers_of q =
+      ap (λ (n : ℕ). n ∷ 8 ∷ q.device ∷ q.link ∷ q.cause ∷ []) (sym at) ∙ ap (λ (n : ℕ). q.at ∷ n ∷ q.device ∷ q.link ∷ q.cause ∷ []) (sym rank) in same)
+      (are_not (now ∷ 8 ∷ q.device ∷ q.link ∷ q.cause ∷ []) (of_run now (8 ∷ q.device ∷ q.link ∷ q.cause ∷ []) sized.limit)
+      (λ r e le either.
+      let same : q ≡ r = let both : Some q ≡ Some r = sym is ∙ e in cc in
+      subst (λ (x : Place). IsBefore (numbers_of x) (now ∷ 8 ∷ q.device ∷ q.link ∷ q.cause ∷ []) → ⊥) same
+      (subst (λ (n : ℕ). IsBefore (q.at ∷ n ∷ q.device ∷ q.link ∷ q.cause ∷ []) (now ∷ 8 ∷ q.device ∷ q.link ∷ q.cause ∷ []) → ⊥) (sym rank)
+      (subst (λ (n : ℕ). IsBefore (n ∷ 8 ∷ q.device ∷ q.link ∷ q.cause ∷ []) (now ∷ 8 ∷ q.device ∷ q.link ∷ q.cause ∷ []) → ⊥) (sym at)
+      (never_self (now ∷ 8 ∷ q.device ∷ q.link ∷ q.cause ∷ [])))))
+      (λ d e le. inl (after_now (8 ∷ q.device ∷ q.link ∷ q.cause ∷ []) d (from_some (λ (x : Due). x.time ≡ state.time → ⊥) due d no_due e) le))
+      (none_befell (now ∷ 8 ∷ q.device ∷ q.link ∷ q.cause ∷ []) calm)
+      (λ ended more. clocks_after 8 (q.device ∷ q.link ∷ q.cause ∷ []) (omega arith)))
+
+  -- the clock that is to be shown
+  pub clock_first : state.pending ≡ false → IfSome place (λ q. q.at ≡ state.time → q.rank ≡ 2 → ⊥) → IfSome due (λ d. d.time ≡ state.time → ⊥)
+      → IfSome place (λ q. q.at ≡ state.time → q.rank ≡ 8 → ⊥)
+      → AreNotBefore reading network state place due (state.time ∷ 14 ∷ state.shown ∷ [])
+  clock_first calm no_arrival no_due no_departure =
+      are_not (now ∷ 14 ∷ state.shown ∷ []) (of_run now (14 ∷ state.shown ∷ []) sized.limit)
+      (λ q e le either. not_earlier q.at now (q.rank ∷ q.device ∷ q.link ∷ q.cause ∷ []) (14 ∷ state.shown ∷ []) le
+      (λ same. elim either [
+        | inl two ↦ absurd (from_some (λ (x : Place). x.at ≡ state.time → x.rank ≡ 2 → ⊥) place q no_arrival e same two)
+        | inr eight ↦ absurd (from_some (λ (x : Place). x.at ≡ state.time → x.rank ≡ 8 → ⊥) place q no_departure e same eight)
+      ]))
+      (λ d e le. inl (after_now (14 ∷ state.shown ∷ []) d (from_some (λ (x : Due). x.time ≡ state.time → ⊥) due d no_due e) le))
+      (none_befell (now ∷ 14 ∷ state.shown ∷ []) calm)
+      (λ ended more. never_self (now ∷ 14 ∷ state.shown ∷ []))
+
+  -- nothing before a time
+  pub none_before : (t : ℕ) → t ≤ 2 ^ 60 + 1 → state.pending ≡ false → (state.ended ≡ true → state.shown < length network.device → ⊥)
+      → IfSome place (λ q. t ≤ q.at) → IfSome due (λ d. t ≤ d.time) → AreNotBefore reading network state place due (t ∷ [])
+  none_before t most calm no_clock places dues =
+      are_not (t ∷ []) (of_end t most)
+      (λ q e le either. not_before_time q.at t (q.rank ∷ q.device ∷ q.link ∷ q.cause ∷ []) (from_some (λ (x : Place). t ≤ x.at) place q places e))
+      (λ d e le. inl (slot_time (length network.device) d (t ∷ [])
+      (not_before_time d.time t (3 ∷ d.slot ∷ []) (from_some (λ (x : Due). t ≤ x.time) due d dues e))
+      (not_before_time d.time t (4 ∷ (d.slot - length network.device) ∷ []) (from_some (λ (x : Due). t ≤ x.time) due d dues e))))
+      (none_befell (t ∷ []) calm)
+      (λ ended more. absurd (no_clock ended more))
+
+-- the place of the first frame that is permanent at a device now
+pub ripe_place_is : {C M : Type 0} (reading : C → ℕ → ℕ) (network : Network) (state : State C M) (due : Due) (device : DeviceId) (one : Waits) (clock : C)
+    → device.0 < length network.device → due.slot ≡ device.0 → due.time ≡ state.time → one.device ≡ device
+    → slice_get state.clocks.items device.0 ≡ Some clock
+    → ((w : Waits) → IsIn w state.waiting.items → w.device ≡ device → w.point.0 ≤ℤ pos (reading clock state.time)
+    → IsBefore (ripe_place state.time (waiting_as w)) (ripe_place state.time (waiting_as one)) → ⊥)
+    → IsRipePlace reading network state due (ripe_place state.time (waiting_as one))
+ripe_place_is reading network state due device one clock of_it slot at own held none = record {
+  there = omega (arith, of_it, slot);
+  one = one;
+  at = ap (λ (d : DeviceId). d.0) own ∙ sym slot;
+  place = ap (λ (t : ℕ). ripe_place t (waiting_as one)) (sym at);
+  none = λ w k there same has reached.
+      let clocks : clock ≡ k = let e : Some clock ≡ Some k = sym held ∙ ap (λ (n : ℕ). slice_get state.clocks.items n) (sym slot) ∙ has in cc in
+      subst (λ (t : ℕ). IsBefore (ripe_place t (waiting_as w)) (ripe_place state.time (waiting_as one)) → ⊥) (sym at)
+      (none w there (ap (λ (n : ℕ). let d : DeviceId = record { 0 = n } in d) (same ∙ slot))
+      (subst (λ (t : ℕ). w.point.0 ≤ℤ pos (reading clock t)) at
+      (subst (λ (c : _). w.point.0 ≤ℤ pos (reading c due.time)) (sym clocks) reached)));
+}
