@@ -6,6 +6,7 @@ pub mod Befalls
 pub mod Beginnings
 pub mod FirstSettled
 pub mod Firsts
+pub mod Gave
 pub mod Givings
 pub mod HiddenCauses
 pub mod Launches
@@ -14,5 +15,6 @@ pub mod PutTo
 pub mod Puts
 pub mod Sendings
 pub mod Showings
+pub mod Storings
 pub mod TurnedOn
 pub mod UnderWays

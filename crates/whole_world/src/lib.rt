@@ -4,6 +4,7 @@
 mod applying;
 mod begin;
 mod contents;
+mod give;
 mod giving;
 mod kept;
 mod leaving;
@@ -12,6 +13,7 @@ mod naming;
 mod sending;
 mod settled;
 mod state;
+mod storing;
 mod waiting;
 mod world;
 
