@@ -1,6 +1,6 @@
 -- Once a record is given the state is sound again.
 use Rattle.std.proofs.Common.{◌≡◌, ◌⊎◌, ℕ, zero, suc, ◌+◌, ◌<◌, Bool, true, false, not, ◌&&◌, if◌then◌else◌, List, [], ◌∷◌, ◌++◌, map, length, slice_get, Option, Some, None, inl, inr, refl, sym, ap, subst, ◌∙◌, arith}
-use Rattle.std.specs.Prelude.{All, IfSome, IfNone, ◌^◌, ◌↔◌}
+use Rattle.std.specs.Prelude.{All, IfSome, filter_map, ◌^◌, ◌≤◌, ◌↔◌}
 use Rattle.std.specs.Option.{option_map}
 use Rattle.std.proofs.lemmas.List.Elements.{All-map, All-push, All-weaker}
 use Rattle.std.proofs.lemmas.List.Sorted.{IsPermutation-sym}
@@ -26,16 +26,21 @@ use Rattle.whole_world.proofs.Storings.{in_pushed}
 use Rattle.whole_world.proofs.UnderWays.{some_is, sound_with}
 use Rattle.whole_world.specs.Giving.{HasItsOctets, IsGivenOut, IsPutOn, awaited_by, changed_device, control_on_wire, delay_by, place_on_wire, timed_on_wire, waits_from, wire_entry, with_one}
 use Rattle.whole_world.specs.Naming.{named_settled}
-use Rattle.whole_world.specs.Sound.{AreBelow, AreUnderWay, IsFit, rank_of}
+use Rattle.whole_world.specs.Sound.{AreBelow, AreUnderWay, IsShort, IsSound, rank_of}
+use Rattle.whole_world.specs.Stepping.{ChangesOnly}
+use Rattle.whole_world.specs.Views.{at_port, on_wire, settled_at, stored_as, waiting_as, with_first, world_of}
 use Rattle.whole_world.specs.declared.contents.Content.{Content}
+use Rattle.whole_world.specs.declared.contents.Holding.{Holding}
 use Rattle.whole_world.specs.declared.contents.Settled.{Settled}
 use Rattle.whole_world.specs.declared.contents.Timed.{Timed}
 use Rattle.whole_world.specs.declared.contents.Waits.{Waits}
 use Rattle.whole_world.specs.declared.contents.WayState.{WayState}
 use Rattle.whole_world.specs.declared.giving.Giving.{Giving}
+use Rattle.whole_world.specs.declared.kept.Kept.{Kept}
 use Rattle.whole_world.specs.declared.state.State.{State}
 use Rattle.world_law.proofs.hearing.Receptions.{receiver_in}
 use Rattle.world_law.specs.world.Steps.{named_body}
+use Rattle.world_law.specs.world.World.{World}
 
 -- ---- what is put to ports
 
@@ -293,3 +298,73 @@ pub settled_has : (number : ℕ) (first : NoteBody) (zs : List Settled) → All 
 settled_has number first zs all = All-map (λ (z : Settled). HasItsOctets z.body z.octets) (named_settled number first) zs
     (All-weaker (λ (z : Settled). HasItsOctets z.body z.octets) (λ (z : Settled). HasItsOctets (named_body number first z.body) z.octets)
     (λ z has. named_has number first z.body z.octets has) zs all)
+
+-- ---- another state with the same
+
+-- what a state keeps it keeps with less that is settled, and elsewhere in memory
+pub sound_same : {C M : Type 0} (last_step : C → ℕ) (network : Network) (old new : State C M) → IsSound last_step network old
+    → new.clocks ≡ old.clocks → new.machines ≡ old.machines → new.broken ≡ old.broken → new.ups ≡ old.ups → new.downs ≡ old.downs → new.time ≡ old.time
+    → new.shown ≡ old.shown → new.given ≡ old.given → new.under_way.entries ≡ old.under_way.entries → new.waiting.items ≡ old.waiting.items
+    → All (λ z. HasItsOctets z.body z.octets) new.settled.items → IsSound last_step network new
+sound_same {C} last_step network old new sound clocks machines broken ups downs time shown given entries waiting octets =
+    let z = sound.sized in
+    let fit = sound.fit in
+    let number = ap (λ (k : ℕ). k + 1) (sym given) in
+    record {
+      sized = record {
+        clocks = ap (λ v. length v.items) clocks ∙ z.clocks;
+        machines = ap (λ v. length v.items) machines ∙ z.machines;
+        broken = ap (λ v. length v.items) broken ∙ z.broken;
+        ups = ap (λ v. length v.items) ups ∙ z.ups;
+        downs = ap (λ v. length v.items) downs ∙ z.downs;
+        stepped = subst (λ (t : ℕ). All (λ (c : C). last_step c ≤ t) new.clocks.items) (sym time)
+            (subst (λ v. All (λ (c : C). last_step c ≤ old.time) v.items) (sym clocks) z.stepped);
+        limit = subst (λ (t : ℕ). t ≤ 2 ^ 60) (sym time) z.limit;
+        shown = subst (λ (k : ℕ). k ≤ length network.device) (sym shown) z.shown;
+      };
+      under_way = subst (AreUnderWay network) (sym entries) sound.under_way;
+      fit = record {
+        ups = subst (λ v. All IsShort v.items) (sym ups) fit.ups;
+        downs = subst (λ v. All IsShort v.items) (sym downs) fit.downs;
+        octets = octets;
+        below = subst (λ (k : ℕ). AreBelow k new.under_way.entries) number (subst (AreBelow (old.given + 1)) (sym entries) fit.below);
+        waits_below = subst (λ (k : ℕ). All (λ (w : Waits). w.cause < k) new.waiting.items) number
+            (subst (All (λ (w : Waits). w.cause < old.given + 1)) (sym waiting) fit.waits_below);
+        apart = subst AreApart (sym waiting) fit.apart;
+      };
+    }
+
+-- the world of a state whose first settled record is taken out
+pub popped_world : {C M : Type 0} (network : Network) (old new : State C M) (first : Settled)
+    → new.under_way.entries ≡ old.under_way.entries → new.waiting.items ≡ old.waiting.items → new.stored.items ≡ old.stored.items
+    → old.settled.items ≡ first ∷ new.settled.items
+    → new ≡ record old { under_way = new.under_way; waiting = new.waiting; stored = new.stored; settled = new.settled }
+    → with_first network new first new.settled.items ≡ world_of network old
+popped_world {C} {M} network old new first entries waiting stored settled same =
+    let make = λ (es : List (Entry Content)) (ws : List Waits) (hs : List Holding) (zs : List Settled).
+    let w : World C (Kept M) = record (world_of network old) {
+      wires = filter_map (on_wire network) es;
+      ports = filter_map at_port es;
+      waiting = map waiting_as ws;
+      stored = map (stored_as network) hs;
+      settled = map (settled_at network old.time) zs;
+    } in w in
+    ap (λ (q : State C M). with_first network q first new.settled.items) same
+    ∙ ap (λ (es : List (Entry Content)). make es new.waiting.items new.stored.items (first ∷ new.settled.items)) entries
+    ∙ ap (λ (ws : List Waits). make old.under_way.entries ws new.stored.items (first ∷ new.settled.items)) waiting
+    ∙ ap (λ (hs : List Holding). make old.under_way.entries old.waiting.items hs (first ∷ new.settled.items)) stored
+    ∙ ap (λ (zs : List Settled). make old.under_way.entries old.waiting.items old.stored.items zs) (sym settled)
+
+-- what the timers are for changes as it did since then
+pub changes_since : {C M : Type 0} (device : ℕ) (old mid new : State C M) → mid.clocks ≡ old.clocks → mid.time ≡ old.time → mid.ended ≡ old.ended
+    → mid.machines ≡ old.machines → mid.waiting.items ≡ old.waiting.items → ChangesOnly device mid new → ChangesOnly device old new
+changes_since device old mid new clocks time ended machines waiting c = record {
+  clocks = c.clocks ∙ clocks;
+  time = c.time ∙ time;
+  ended = c.ended ∙ ended;
+  machines = λ i apart. c.machines i apart ∙ ap (λ v. slice_get v.items i) machines;
+  waiting = λ w apart. (
+    λ i. subst (λ (l : List Waits). IsIn w l) waiting ((c.waiting w apart).0 i),
+    λ i. (c.waiting w apart).1 (subst (λ (l : List Waits). IsIn w l) (sym waiting) i),
+  );
+}

@@ -11,6 +11,7 @@ pub mod Givings
 pub mod HiddenCauses
 pub mod Launches
 pub mod Mapped
+pub mod MayGive
 pub mod PutTo
 pub mod Puts
 pub mod Sendings
