@@ -368,3 +368,14 @@ changes_since device old mid new clocks time ended machines waiting c = record {
     λ i. (c.waiting w apart).1 (subst (λ (l : List Waits). IsIn w l) (sym waiting) i),
   );
 }
+
+-- it is as it was, elsewhere in memory
+pub unchanged : {C M : Type 0} (device : ℕ) (old new : State C M) → new.clocks ≡ old.clocks → new.time ≡ old.time → new.ended ≡ old.ended
+    → new.machines ≡ old.machines → new.waiting.items ≡ old.waiting.items → ChangesOnly device old new
+unchanged device old new clocks time ended machines waiting = record {
+  clocks = clocks;
+  time = time;
+  ended = ended;
+  machines = λ i apart. ap (λ v. slice_get v.items i) machines;
+  waiting = λ w apart. (λ i. subst (λ (l : List Waits). IsIn w l) waiting i, λ i. subst (λ (l : List Waits). IsIn w l) (sym waiting) i);
+}

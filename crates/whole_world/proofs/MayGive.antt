@@ -32,7 +32,7 @@ use Rattle.whole_world.specs.declared.contents.Settled.{Settled}
 use Rattle.world_law.proofs.growing.FromZero.{arrived_clock}
 use Rattle.world_law.proofs.hearing.Receptions.{receiver_in}
 use Rattle.world_law.proofs.ripening.Proper.{arrived_so, launched_frame}
-use Rattle.world_law.specs.world.World.{Stands, World, hidden, hidden_body, note_of, none_yet}
+use Rattle.world_law.specs.world.World.{Stands, World, hidden, hidden_body}
 
 -- it may be given but for its octets
 record MayBut (network : Network) (body : NoteBody) (frame : Option Pcf) : Type 0 where
@@ -121,15 +121,6 @@ may_be_given reading stands s world notes network now first rest old same is has
     let may = subst (λ (n : Network). MayBut n first.body first.frame) (sym same)
     (first_may reading stands s world notes (settled_at network now first) rest old is) in
     record { by = may.by; young = may.young; arrived = may.arrived; with_octets = has; framed = may.framed }
-
--- and a number is left for it
-pub number_left : {C M : Type 0} (reading : C → ℕ → ℕ) (stands : M → Network → DeviceId → Node → Type 0) (s : Scenario) (world : World C M)
-    (notes : List Note) (z : Happening) (rest : List Happening) → Stands reading stands s world notes → world.settled ≡ z ∷ rest → world.given + 1 < none_yet
-number_left reading stands s world notes z rest old is =
-    let of = first_of (length notes) old.coming z rest (sym is ∙ old.settled) in
-    let room = subst (λ (l : List Happening). length notes + length l < none_yet) of.whole old.room in
-    let given = old.given in
-    omega (arith, room, given)
 
 -- ---- what the clocks read
 

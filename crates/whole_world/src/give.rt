@@ -25,7 +25,7 @@ impl<C: Clock, M: Machine + Drop> State<C, M> {
     ghost use Rattle.world_law.specs.source.First.{NoSourceBefore};
     ghost use Rattle.whole_world.specs.Sound.{AreBelow, AreUnderWay, IsShort, IsSized, IsSound};
     ghost use Rattle.whole_world.specs.Keeping.{keeps};
-    ghost use Rattle.whole_world.specs.Giving.{CameBy, IsGiver, IsGivenOut, IsPutOn, IsYoung, MayBeGiven, changed_device, giver_of, wire_entry};
+    ghost use Rattle.whole_world.specs.Giving.{ArrivedAt, CameBy, IsGiver, IsGivenOut, IsPutOn, IsYoung, MayBeGiven, changed_device, giver_of, wire_entry};
     ghost use Rattle.whole_world.specs.Stepping.{ChangesOnly, IsRunning};
     ghost use Rattle.whole_world.specs.Storing.{stored_by};
     ghost use Rattle.whole_world.specs.declared.contents.Settled.{Settled as SettledValue};
@@ -163,11 +163,11 @@ impl<C: Clock, M: Machine + Drop> State<C, M> {
         requires low { (k : ℕ) (clock : C) → slice_get self.old.clocks.items k ≡ Some clock → C.reading clock self.old.time ≤ 2 ^ 60 + 2 ^ 51 }
         ensures note { result ≡ record { number = self.old.given + 1; time = units_of self.old.time; body = first.body } }
         ensures same { self.new ≡ record self.old {
-            under_way = self.new.under_way;
-            waiting = self.new.waiting;
-            stored = self.new.stored;
-            settled = self.new.settled;
-            given = self.old.given + 1;
+          under_way = self.new.under_way;
+          waiting = self.new.waiting;
+          stored = self.new.stored;
+          settled = self.new.settled;
+          given = self.old.given + 1;
         } }
         ensures sound { IsSound C.last_step network.now self.new }
         ensures stands { (s : Scenario) (notes : List Note)
@@ -175,6 +175,7 @@ impl<C: Clock, M: Machine + Drop> State<C, M> {
             → NoSourceBefore s (happenings s.network notes) old.cursor (place_of (settled_at network.now self.old.time first))
             → StandsBehind C.reading (keeps M.stands) s (world_of network.now self.new)
             (notes ++ note_of notes (settled_at network.now self.old.time first) ∷ []) (behind (place_of (settled_at network.now self.old.time first))) }
+        ensures arrived { ArrivedAt (length network.now.device) result.body }
         ensures others { ChangesOnly (changed_device first.body) self.old self.new }
     {
         let number = self.given + 1;
@@ -204,11 +205,11 @@ impl<C: Clock, M: Machine + Drop> State<C, M> {
         requires running { IsRunning C.reading M.stands network.now self.old }
         ensures sound { IsSound C.last_step network.now self.new }
         ensures same { self.new ≡ record self.old {
-            under_way = self.new.under_way;
-            waiting = self.new.waiting;
-            stored = self.new.stored;
-            settled = self.new.settled;
-            given = self.new.given;
+          under_way = self.new.under_way;
+          waiting = self.new.waiting;
+          stored = self.new.stored;
+          settled = self.new.settled;
+          given = self.new.given;
         } }
         ensures stands { (s : Scenario) (notes : List Note) (first : SettledValue) (rest : List SettledValue)
             → self.old.settled.items ≡ first ∷ rest
@@ -219,7 +220,9 @@ impl<C: Clock, M: Machine + Drop> State<C, M> {
             (behind (place_of (settled_at network.now self.old.time first)))) }
         ensures err { OnErr result (world_of network.now self.new ≡ world_of network.now self.old) }
         ensures given { OnOk result (self.new.given ≡ self.old.given + 1) }
+        ensures arrived { IfOk result (λ note. ArrivedAt (length network.now.device) note.body) }
         ensures others { IfOk result (λ note. ChangesOnly (changed_device note.body) self.old self.new) }
+        ensures unmoved { OnErr result ((n : ℕ) → ChangesOnly n self.old self.new) }
     {
         if let Err(error) = make_room(
             &mut self.under_way,

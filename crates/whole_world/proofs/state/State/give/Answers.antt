@@ -6,8 +6,8 @@ use Rattle.run_law.specs.records.Happenings.{happenings}
 use Rattle.run_law.specs.records.Order.{behind}
 use Rattle.run_law.specs.records.Ranks.{place_of}
 use Rattle.tte_units.specs.Amount.{units_of}
-use Rattle.whole_world.proofs.Gave.{changes_since, popped_world, sound_same}
-use Rattle.whole_world.proofs.MayGive.{low_now, may_be_given, number_left}
+use Rattle.whole_world.proofs.Gave.{changes_since, popped_world, sound_same, unchanged}
+use Rattle.whole_world.proofs.MayGive.{low_now, may_be_given}
 use Rattle.whole_world.specs.Giving.{HasItsOctets, changed_device}
 use Rattle.whole_world.specs.Keeping.{keeps}
 use Rattle.whole_world.specs.Stepping.{ChangesOnly}
@@ -27,6 +27,9 @@ returns-in-Err-clause-sound g c =
     let room = c.in-Err.ensures in
     sound_same g.C.Clock.last_step c.args.network.now c.args.self.now _ c.requires.sound refl refl refl refl refl refl refl refl room.entries room.waiting
     c.requires.sound.fit.octets
+
+pub returns-in-Err-clause-unmoved : goal.returns-in-Err-clause-unmoved
+returns-in-Err-clause-unmoved g c = λ n. unchanged n c.args.self.now _ refl refl refl refl c.in-Err.ensures.waiting
 
 pub give_first-requires-clause-sound : goal.give_first-requires-clause-sound
 give_first-requires-clause-sound g c =
