@@ -1,5 +1,5 @@
 -- The first of what is settled may be given, where the state stands.
-use Rattle.std.proofs.Common.{◌≡◌, ℕ, ◌+◌, ◌<◌, ◌≤◌, List, [], ◌∷◌, map, length, slice_get, Option, Some, None, inl, inr, refl, sym, ap, subst, ◌∙◌, append-nil, arith}
+use Rattle.std.proofs.Common.{◌≡◌, ℕ, ◌+◌, ◌<◌, ◌≤◌, List, [], ◌∷◌, length, slice_get, Option, Some, None, inl, inr, refl, sym, ap, subst, ◌∙◌, append-nil, arith}
 use Rattle.std.specs.Prelude.{◌^◌, option_map, option_and_then}
 use Rattle.std.proofs.lemmas.Option.{slice_get_within}
 use Rattle.net_plan.specs.Places.{link_at}
@@ -14,15 +14,14 @@ use Rattle.run_law.specs.declared.note.Note.{Note}
 use Rattle.run_law.specs.declared.note.NoteBody.TheVariants.{Event, Arrived, Permanent, Compressed, Sent, Corrected, State as Changed, Left, Lost, TtSent, Accepted, Delivered, Dropped, Clock}
 use Rattle.run_law.specs.declared.note.NoteBody.{NoteBody}
 use Rattle.run_law.specs.machines.Nodes.{Node}
-use Rattle.run_law.specs.records.Happenings.{Happening, frame_by, happening, happenings, time_of, with_clock}
+use Rattle.run_law.specs.records.Happenings.{Happening, frame_by, happenings, time_of, with_clock}
 use Rattle.run_law.specs.records.Ranks.{place_of}
 use Rattle.run_law.specs.runs.DueRecords.{IsArrivedRecord, IsCaused, IsDue}
 use Rattle.run_law.specs.runs.Runs.{IsFounded}
 use Rattle.run_law.specs.scenario.Scenarios.{Scenario}
-use Rattle.run_law.specs.timed.Receptions.{ArrivesAs}
 use Rattle.tte_units.specs.Amount.{amount}
 use Rattle.tte_units.specs.declared.units.Units.{Units}
-use Rattle.whole_world.proofs.FirstSettled.{IsFirstOf, first_is, first_of}
+use Rattle.whole_world.proofs.FirstSettled.{first_of}
 use Rattle.whole_world.proofs.HiddenCauses.{change_or_other}
 use Rattle.whole_world.proofs.Sendings.{link_within}
 use Rattle.whole_world.proofs.UnderWays.{some_is}
@@ -32,7 +31,7 @@ use Rattle.whole_world.specs.declared.contents.Settled.{Settled}
 use Rattle.world_law.proofs.growing.FromZero.{arrived_clock}
 use Rattle.world_law.proofs.hearing.Receptions.{receiver_in}
 use Rattle.world_law.proofs.ripening.Proper.{arrived_so, launched_frame}
-use Rattle.world_law.specs.world.World.{Stands, World, hidden, hidden_body}
+use Rattle.world_law.specs.world.World.{Stands, World, hidden_body}
 
 -- it may be given but for its octets
 record MayBut (network : Network) (body : NoteBody) (frame : Option Pcf) : Type 0 where

@@ -194,3 +194,8 @@ pub record IsGivenOut {C M : Type 0} (reading : C → ℕ → ℕ) (network : Ne
 abbrev pub changed_device : NoteBody → ℕ
 changed_device (kinds.Arrived device link cause clock) = device.0
 changed_device other = 2 ^ 32
+
+-- no clock is far ahead of the present time
+abbrev pub AreLow : {C M : Type 0} → (C → ℕ → ℕ) → State C M → Type 0
+AreLow {C} reading state =
+    (k : ℕ) (clock : C) → slice_get state.clocks.items k ≡ Some clock → reading clock state.time ≤ 2 ^ 60 + 2 ^ 51

@@ -1,4 +1,4 @@
-ghost use Rattle.std.specs.Prelude.{◌≡◌, ◌^◌, ◌≤◌, ◌<◌, [], ◌∷◌, List, ℕ, length, Some, slice_get, if◌then◌else◌, ◌++◌, ◌+◌, IfOk, OnOk, OnErr, IfSome, IfNone, None, All, Option, vec_len, vec_capacity};
+ghost use Rattle.std.specs.Prelude.{◌≡◌, ◌^◌, ◌≤◌, ◌<◌, [], ◌∷◌, List, ℕ, length, Some, ◌++◌, ◌+◌, IfOk, OnOk, OnErr, IfSome, IfNone, None, All, Option, vec_len, vec_capacity};
 ghost use Rattle.net_plan.specs.Ranges.{IsInRange};
 ghost use Rattle.run_law.specs.records.Order.{behind};
 ghost use Rattle.run_law.specs.declared.note.Note.{Note};
@@ -25,7 +25,7 @@ impl<C: Clock, M: Machine + Drop> State<C, M> {
     ghost use Rattle.world_law.specs.source.First.{NoSourceBefore};
     ghost use Rattle.whole_world.specs.Sound.{AreBelow, AreUnderWay, IsShort, IsSized, IsSound};
     ghost use Rattle.whole_world.specs.Keeping.{keeps};
-    ghost use Rattle.whole_world.specs.Giving.{ArrivedAt, CameBy, IsGiver, IsGivenOut, IsPutOn, IsYoung, MayBeGiven, changed_device, giver_of, wire_entry};
+    ghost use Rattle.whole_world.specs.Giving.{AreLow, ArrivedAt, CameBy, IsGiver, IsGivenOut, IsPutOn, IsYoung, MayBeGiven, changed_device, giver_of, wire_entry};
     ghost use Rattle.whole_world.specs.Stepping.{ChangesOnly, IsRunning};
     ghost use Rattle.whole_world.specs.Storing.{stored_by};
     ghost use Rattle.whole_world.specs.declared.contents.Settled.{Settled as SettledValue};
@@ -45,8 +45,8 @@ impl<C: Clock, M: Machine + Drop> State<C, M> {
     ) -> Option<Giving>
         requires sized { IsSized C.last_step network.now self.now }
         ensures some { IfSome result (λ g. IsGiver C.reading network.now self.now body.now frame number g) }
-        ensures none { IfNone result ((device : DeviceOf) → giver_of body.now ≡ Some device → device.0 < length network.now.device
-            → frame ≡ None) }
+        ensures none { IfNone result ((device : DeviceOf) → giver_of body.now ≡ Some device
+            → device.0 < length network.now.device → frame ≡ None) }
     {
         let device = giver(body)?;
         if device.0 as usize >= self.broken.len() {
@@ -79,7 +79,8 @@ impl<C: Clock, M: Machine + Drop> State<C, M> {
         requires ups { All IsShort self.old.ups.items }
         requires downs { All IsShort self.old.downs.items }
         ensures same { self.new ≡ record self.old { under_way = self.new.under_way } }
-        ensures sent { IsPutOn (wire_entry network.now self.old.ups.items self.old.downs.items body.now frame octets self.old.time number)
+        ensures sent { IsPutOn
+            (wire_entry network.now self.old.ups.items self.old.downs.items body.now frame octets self.old.time number)
             self.old.under_way.entries self.new.under_way.entries }
     {
         let entry = sent_by(
@@ -105,12 +106,13 @@ impl<C: Clock, M: Machine + Drop> State<C, M> {
         requires capacity { vec_len self.old.waiting < vec_capacity self.old.waiting }
         requires ups { All IsShort self.old.ups.items }
         requires downs { All IsShort self.old.downs.items }
-        requires low { (k : ℕ) (clock : C) → slice_get self.old.clocks.items k ≡ Some clock → C.reading clock self.old.time ≤ 2 ^ 60 + 2 ^ 51 }
+        requires low { AreLow C.reading self.old }
         ensures same { self.new ≡ record self.old { under_way = self.new.under_way; waiting = self.new.waiting } }
         ensures room { self.old.under_way.room ≤ self.new.under_way.room + length network.now.link }
         ensures sound { AreBelow number self.old.under_way.entries → AreUnderWay network.now self.old.under_way.entries
             → AreUnderWay network.now self.new.under_way.entries }
-        ensures given { (giving : Option GivingValue) × IsGivenOut C.reading network.now self.old self.new body.now frame number giving }
+        ensures given { (giving : Option GivingValue)
+            × IsGivenOut C.reading network.now self.old self.new body.now frame number giving }
     {
         let giving = self.giving_by(network, body, frame, number);
         give_frame(
@@ -140,7 +142,8 @@ impl<C: Clock, M: Machine + Drop> State<C, M> {
         requires ups { All IsShort self.old.ups.items }
         requires downs { All IsShort self.old.downs.items }
         ensures same { self.new ≡ record self.old { under_way = self.new.under_way; stored = self.new.stored } }
-        ensures sent { IsPutOn (wire_entry network.now self.old.ups.items self.old.downs.items body.now frame octets self.old.time number)
+        ensures sent { IsPutOn
+            (wire_entry network.now self.old.ups.items self.old.downs.items body.now frame octets self.old.time number)
             self.old.under_way.entries self.new.under_way.entries }
         ensures stored { self.new.stored.items ≡ stored_by body.now octets number self.old.stored.items }
     {
@@ -151,7 +154,7 @@ impl<C: Clock, M: Machine + Drop> State<C, M> {
         }
     }
 
-    /// Gives what is settled its number, the first that is settled, and launches what it does.
+    /// Gives the first settled record, which was taken out, its number, and launches what it does.
     fn give_first(&mut self, network: &Network, first: Settled) -> Note
         requires sound { IsSound C.last_step network.now self.old }
         requires range { IsInRange network.now }
@@ -160,8 +163,12 @@ impl<C: Clock, M: Machine + Drop> State<C, M> {
         requires room { length network.now.link < self.old.under_way.room }
         requires capacity { vec_len self.old.waiting < vec_capacity self.old.waiting }
         requires free { vec_len self.old.stored < vec_capacity self.old.stored }
-        requires low { (k : ℕ) (clock : C) → slice_get self.old.clocks.items k ≡ Some clock → C.reading clock self.old.time ≤ 2 ^ 60 + 2 ^ 51 }
-        ensures note { result ≡ record { number = self.old.given + 1; time = units_of self.old.time; body = first.body } }
+        requires low { AreLow C.reading self.old }
+        ensures note { result ≡ record {
+          number = self.old.given + 1;
+          time = units_of self.old.time;
+          body = first.body;
+        } }
         ensures same { self.new ≡ record self.old {
           under_way = self.new.under_way;
           waiting = self.new.waiting;
@@ -170,11 +177,12 @@ impl<C: Clock, M: Machine + Drop> State<C, M> {
           given = self.old.given + 1;
         } }
         ensures sound { IsSound C.last_step network.now self.new }
-        ensures stands { (s : Scenario) (notes : List Note)
-            → (old : Stands C.reading (keeps M.stands) s (with_first network.now self.old first self.old.settled.items) notes)
-            → NoSourceBefore s (happenings s.network notes) old.cursor (place_of (settled_at network.now self.old.time first))
-            → StandsBehind C.reading (keeps M.stands) s (world_of network.now self.new)
-            (notes ++ note_of notes (settled_at network.now self.old.time first) ∷ []) (behind (place_of (settled_at network.now self.old.time first))) }
+        ensures stands { let z = settled_at network.now self.old.time first in (s : Scenario) (notes : List Note)
+            → (old : Stands C.reading (keeps M.stands) s
+            (with_first network.now self.old first self.old.settled.items) notes)
+            → NoSourceBefore s (happenings s.network notes) old.cursor (place_of z)
+            → StandsBehind C.reading (keeps M.stands) s (world_of network.now self.new) (notes ++ note_of notes z ∷ [])
+            (behind (place_of z)) }
         ensures arrived { ArrivedAt (length network.now.device) result.body }
         ensures others { ChangesOnly (changed_device first.body) self.old self.new }
     {
@@ -214,7 +222,8 @@ impl<C: Clock, M: Machine + Drop> State<C, M> {
         ensures stands { (s : Scenario) (notes : List Note) (first : SettledValue) (rest : List SettledValue)
             → self.old.settled.items ≡ first ∷ rest
             → (old : Stands C.reading (keeps M.stands) s (world_of network.now self.old) notes)
-            → NoSourceBefore s (happenings s.network notes) old.cursor (place_of (settled_at network.now self.old.time first))
+            → NoSourceBefore s (happenings s.network notes) old.cursor
+            (place_of (settled_at network.now self.old.time first))
             → IfOk result (λ note. (note ≡ note_of notes (settled_at network.now self.old.time first))
             × StandsBehind C.reading (keeps M.stands) s (world_of network.now self.new) (notes ++ note ∷ [])
             (behind (place_of (settled_at network.now self.old.time first)))) }
