@@ -1,15 +1,20 @@
 pub mod Alike
 pub mod Apart
 pub mod Applies
+pub mod Arrivals
 pub mod Awaits
 pub mod Befalls
 pub mod Beginnings
 pub mod FirstSettled
+pub mod Fits
 pub mod Firsts
 pub mod Gave
 pub mod Givings
+pub mod Hearings
+pub mod Hears
 pub mod HiddenCauses
 pub mod Launches
+pub mod Made
 pub mod Mapped
 pub mod MayGive
 pub mod PutTo
@@ -17,5 +22,6 @@ pub mod Puts
 pub mod Sendings
 pub mod Showings
 pub mod Storings
+pub mod Signals
 pub mod TurnedOn
 pub mod UnderWays
