@@ -9,6 +9,7 @@ pub mod FirstSettled
 pub mod Fits
 pub mod Firsts
 pub mod Foremost
+pub mod Gave
 pub mod Givings
 pub mod Hearings
 pub mod Hears
@@ -17,6 +18,7 @@ pub mod Launches
 pub mod LeastPoints
 pub mod Made
 pub mod Mapped
+pub mod MayGive
 pub mod PutTo
 pub mod Puts
 pub mod Ripenings
@@ -26,6 +28,7 @@ pub mod Sendings
 pub mod Showings
 pub mod Sources
 pub mod Timings
+pub mod Storings
 pub mod Signals
 pub mod TurnedOn
 pub mod UnderWays

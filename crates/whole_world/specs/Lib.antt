@@ -18,3 +18,4 @@ pub mod Sourcing
 pub mod Timing
 pub mod Wells
 pub mod Turns
+pub mod Storing

@@ -4,6 +4,7 @@
 mod applying;
 mod begin;
 mod contents;
+mod give;
 mod frames;
 mod giving;
 mod hear;
@@ -21,6 +22,7 @@ mod state;
 mod stepping;
 mod stubs;
 mod timing;
+mod storing;
 mod waiting;
 mod world;
 
