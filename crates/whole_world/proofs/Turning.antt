@@ -4,7 +4,7 @@ use Rattle.std.proofs.lemmas.List.{length-map}
 use Rattle.std.specs.Prelude.{OnErr, OnOk}
 use Rattle.net_plan.specs.declared.ids.DeviceId.{DeviceId}
 use Rattle.net_plan.specs.declared.network.Network.{Network}
-use Rattle.run_law.proofs.runs.Places.{before_later, chain, never_self}
+use Rattle.run_law.proofs.runs.Places.{before_later, before_later_time, chain, never_self}
 use Rattle.run_law.specs.declared.note.Note.{Note}
 use Rattle.run_law.specs.machines.Nodes.{Node}
 use Rattle.run_law.specs.records.Happenings.{Happening, happenings}
@@ -29,7 +29,9 @@ use Rattle.whole_world.specs.declared.state.State.{State}
 use Rattle.world_law.proofs.acts.NoActs.{nothing_comes_before}
 use Rattle.world_law.specs.source.First.{NoSourceBefore}
 use Rattle.world_law.specs.world.Steps.{ComesFirst}
-use Rattle.world_law.specs.world.World.{Stands}
+use Rattle.world_law.proofs.runs.Worlds.{nothing_settled_is_all}
+use Rattle.world_law.specs.world.World.{AreSettled, Stands, hidden}
+use Rattle.run_law.specs.runs.DueRecords.{IsScenarioRun}
 
 -- ---- a source and what is settled
 
@@ -95,6 +97,11 @@ none_sooner network now (x ∷ xs) w order not z (inr rest) before =
     let first = place_of (settled_at network now x) in
     order.0 z rest (before_later (place_of z) first w before (not x xs refl))
 
+-- nothing is to come, where nothing is settled
+none_coming : (given : ℕ) (coming : List Happening) → [] ≡ map (hidden given) coming → coming ≡ []
+none_coming given [] e = refl
+none_coming given (c ∷ cs) e = absurd cc
+
 module _ {C M : Type 0} (last_step : C → ℕ) (reading : C → ℕ → ℕ) (stands : M → Network → DeviceId → Node → Type 0) (network : Network) where
   -- the source that comes first of what is under way comes first of all
   pub comes_first : (state : State C M) (source : Source) (s : Scenario) (notes : List Note) → IsSound last_step network state → HasRoom state
@@ -111,7 +118,7 @@ module _ {C M : Type 0} (last_step : C → ℕ) (reading : C → ℕ → ℕ) (s
       let many = length-map state.settled.items (settled_at network state.time) in
       record {
         none = nothing_comes_before reading (keeps stands) s (world_of network state) notes w old after
-            (of_world last_step reading stands network s state notes w old sound.sized sound.under_way foremost.nothing);
+            (of_world last_step reading stands s network state notes old sound.sized w sound.under_way foremost.nothing);
         after = after;
         room = omega (arith, given, numbers, many);
       }
@@ -139,11 +146,25 @@ module _ {C M : Type 0} (last_step : C → ℕ) (reading : C → ℕ → ℕ) (s
       let after = none_sooner network state.time state.settled.items p (settled_in_order reading (keeps stands) s (world_of network state) notes old)
       (λ x rest is. λ b. never_self p (subst (λ (y : Settled). IsBefore (place_of (settled_at network state.time y)) p) (first_is x rest is) b)) in
       nothing_comes_before reading (keeps stands) s (world_of network state) notes p old after
-      (of_world last_step reading stands network s state notes p old sound.sized sound.under_way
-      (sooner_too last_step reading stands network state w p foremost.nothing (λ b. never_self p (chain p w p before b))))
+      (of_world last_step reading stands s network state notes old sound.sized p sound.under_way
+      (sooner_too reading stands network state w p foremost.nothing (λ b. never_self p (chain p w p before b))))
     where
       first_is : (x : Settled) (rest : List Settled) → state.settled.items ≡ x ∷ rest → x ≡ z
       first_is x rest is = let e : x ∷ rest ≡ z ∷ others = sym is ∙ whole in cc
+
+  -- where nothing is settled, and nothing under way before a later time, the records are the run up to it
+  pub whole_run : (state : State C M) (s : Scenario) (notes : List Note) (until : ℕ) → IsSound last_step network state
+      → HasNothingBefore reading stands network state (until ∷ []) → state.settled.items ≡ [] → state.time < until
+      → (old : Stands reading (keeps stands) s (world_of network state) notes) → IsScenarioRun s (until ∷ []) notes
+  whole_run state s notes until sound none empty later old =
+      let settled : (world_of network state).settled ≡ [] = ap (map (settled_at network state.time)) empty in
+      let coming : old.coming ≡ [] = none_coming (length notes) old.coming (sym settled ∙ old.settled) in
+      nothing_settled_is_all s notes old.mark old.cursor state.time until old.run
+      (subst (λ (l : List Happening). AreSettled s (happenings s.network notes) l old.mark old.cursor state.time) coming old.are)
+      (λ p before. before_later_time p (state.time + 1) until (omega (arith, later)) (old.not_later p (old.ahead p before)))
+      (nothing_comes_before reading (keeps stands) s (world_of network state) notes (until ∷ []) old
+      (λ z there. absurd (subst (λ (l : List Happening). IsIn z l) settled there))
+      (of_world last_step reading stands s network state notes old sound.sized (until ∷ []) sound.under_way none))
 
   -- ---- what steps keep
 
@@ -188,7 +209,7 @@ module _ {C M : Type 0} (last_step : C → ℕ) (reading : C → ℕ → ℕ) (s
       running = runs_on old new well.running still;
       timed = unchanged reading stands network old new well.timed changes timers;
     };
-    after = record { clocks = (changes 0).clocks; ended = (changes 0).ended };
+    after = record { clocks = (changes 0).clocks; ended = (changes 0).ended; later = let same = (changes 0).time in omega (arith, same) };
     still = still;
     time = (changes 0).time;
     given = given;
@@ -207,15 +228,16 @@ module _ {C M : Type 0} (last_step : C → ℕ) (reading : C → ℕ → ℕ) (s
   rekeyed_step device old mid new well sound there changes timers given still same timed sized others later =
       let on = λ (s : Scenario) (notes : List Note) (is : Stands reading (keeps stands) s (world_of network old) notes).
       subst (λ (t : State C M). Stands reading (keeps stands) s (world_of network t) notes) (sym same) (still s notes is) in
+      let at : new.time ≡ old.time = ap (λ (t : State C M). t.time) same ∙ changes.time in
       record {
         well = record {
           sound = subst (IsSound last_step network) (sym same) (sound_so mid new.timers sound);
           running = runs_on old new well.running on;
           timed = rekeyed reading stands network (record { 0 = device }) old mid new well.timed there changes timers same timed sized others later;
         };
-        after = record { clocks = ap (λ (t : State C M). t.clocks) same ∙ changes.clocks; ended = ap (λ (t : State C M). t.ended) same ∙ changes.ended };
+        after = record { clocks = ap (λ (t : State C M). t.clocks) same ∙ changes.clocks; ended = ap (λ (t : State C M). t.ended) same ∙ changes.ended; later = omega (arith, at) };
         still = on;
-        time = ap (λ (t : State C M). t.time) same ∙ changes.time;
+        time = at;
         given = ap (λ (t : State C M). t.given) same ∙ given;
       }
 

@@ -1,9 +1,8 @@
 -- How a world goes on, one source after the other.
-use Rattle.std.specs.Prelude.{All, ◌≡◌, ◌⊎◌, ℕ, ◌+◌, ◌<◌, ◌≤◌, ◌^◌, ◌-◌, pos, ◌≤ℤ◌, ◌<ℤ◌, true, false, List, [], ◌∷◌, ◌++◌, length, slice_get, Some, None, Option, Result, Ok, Err}
+use Rattle.std.specs.Prelude.{◌≡◌, ◌⊎◌, ℕ, ◌+◌, ◌<◌, ◌≤◌, ◌^◌, ◌-◌, pos, ◌≤ℤ◌, ◌<ℤ◌, true, false, List, [], ◌∷◌, ◌++◌, length, slice_get, Some, None, Option, Result, Ok, Err}
 use Rattle.due_queue.specs.declared.Place.{Place}
 use Rattle.due_timers.specs.declared.Due.{Due}
 use Rattle.whole_world.specs.Sourcing.{HasNothingBefore, IsRipePlace, due_place}
-use Rattle.whole_world.specs.Stepping.{IsTimed}
 use Rattle.whole_world.specs.Wells.{IsWell}
 use Rattle.whole_world.specs.Places.{own_place}
 use Rattle.whole_world.specs.declared.contents.Settled.{Settled}
@@ -13,9 +12,7 @@ use Rattle.due_queue.specs.Places.{IsFirst, numbers_of}
 use Rattle.net_plan.specs.declared.ids.DeviceId.{DeviceId}
 use Rattle.net_plan.specs.declared.network.Network.{Network}
 use Rattle.run_law.specs.declared.note.Note.{Note}
-use Rattle.run_law.specs.declared.note.NoteBody.TheVariants as kinds
-use Rattle.run_law.specs.declared.note.NoteBody.{NoteBody}
-use Rattle.run_law.specs.records.Order.{IsBefore, IsIn}
+use Rattle.run_law.specs.records.Order.{IsBefore}
 use Rattle.run_law.specs.machines.Calls.{HasDue}
 use Rattle.run_law.specs.machines.Nodes.{Node}
 use Rattle.run_law.specs.runs.DueRecords.{IsScenarioRun}
@@ -147,10 +144,11 @@ given_in (Ok Ends) = []
 given_in (Ok GoesOn) = []
 given_in (Err e) = []
 
--- what a turn leaves as it was: the clocks, and whether the end has come
+-- the clocks are as they were, no time is taken back, and the end has come only if it had
 pub record IsAfter {C M : Type 0} (old new : State C M) : Type 0 where
   pub clocks : new.clocks ≡ old.clocks
   pub ended : new.ended ≡ old.ended
+  pub later : old.time ≤ new.time
 
 -- the state has come to the time, and nothing of it but events is worked off
 pub record HasCome {C M : Type 0} (new : State C M) (until : ℕ) : Type 0 where
@@ -163,6 +161,12 @@ abbrev pub TurnSays : {C M : Type 0} → State C M → State C M → ℕ → Tur
 TurnSays old new until (Gives note) = (note.time ≡ units_of new.time) × (new.time < until) × (new.given ≡ old.given + 1)
 TurnSays old new until GoesOn = (new.time < until) × (new.given ≡ old.given)
 TurnSays old new until Ends = old.ended ≡ false → until ≤ 2 ^ 60 → HasCome new until
+
+-- what it says, where time passes
+abbrev pub PassSays : {C M : Type 0} → State C M → State C M → ℕ → Turn → Type 0
+PassSays old new until (Gives note) = ⊥
+PassSays old new until GoesOn = (new.time < until) × (new.given ≡ old.given)
+PassSays old new until Ends = old.ended ≡ false → until ≤ 2 ^ 60 → HasCome new until
 
 -- where it ends, the records are the run up to the time
 abbrev pub IsWhole : Scenario → List Note → ℕ → Turn → Type 0
@@ -183,19 +187,3 @@ pub record IsStep {C M : Type 0} (last_step : C → ℕ) (reading : C → ℕ �
 abbrev pub GivesAt : {C M : Type 0} → State C M → State C M → Turn → Type 0
 GivesAt old new (Gives note) = (note.time ≡ units_of new.time) × (new.time ≡ old.time) × (new.given ≡ old.given + 1)
 GivesAt old new other = ⊥
-
--- the timers of the device are set anew, if it is one of the network, and nothing else has changed
-pub record IsRekeyed {C M : Type 0} (reading : C → ℕ → ℕ) (stands : M → Network → DeviceId → Node → Type 0) (network : Network) (device : ℕ)
-    (old new : State C M) : Type 0 where
-  pub same : new ≡ record old { timers = new.timers }
-  pub timed : device < length network.device → IsTimed reading stands network new.timers new (record { 0 = device })
-  pub sized : length new.timers ≡ length old.timers
-  pub others : (slot : ℕ) → (slot ≡ device → ⊥) → (slot ≡ length network.device + device → ⊥)
-      → slice_get new.timers slot ≡ slice_get old.timers slot
-  pub later : All (λ (time : ℕ). old.time ≤ time) old.timers → All (λ (time : ℕ). new.time ≤ time) new.timers
-
--- ---- stubs' words (A's take their place)
-
-abbrev pub changed_device : NoteBody → ℕ
-changed_device (kinds.Arrived device link cause clock) = device.0
-changed_device other = 2 ^ 32

@@ -29,11 +29,12 @@ pub enum Turn {
 
 impl<C: Clock, M: Machine + Drop> State<C, M> {
     ghost use Rattle.whole_world.specs.Keeping.{keeps};
-    ghost use Rattle.whole_world.specs.Giving.{ArrivedAt};
+    ghost use Rattle.whole_world.specs.Giving.{ArrivedAt, changed_device};
+    ghost use Rattle.whole_world.specs.declared.state.State.{State as StateOf};
     ghost use Rattle.whole_world.specs.Sound.{IsSized};
     ghost use Rattle.whole_world.specs.Sourcing.{AreTimed, HasNothingBefore};
     ghost use Rattle.whole_world.specs.Stepping.{ChangesOnly, IsRunning};
-    ghost use Rattle.whole_world.specs.Turns.{GivesAt, HasCome, HasRoom, IsForemost, IsRekeyed, IsStep, changed_device, IsAfter, IsNow, IsThere, IsWhole, IsWithin, SettledFirst, SourceFirst, TurnSays, given_in, source_place};
+    ghost use Rattle.whole_world.specs.Turns.{GivesAt, HasCome, HasRoom, IsForemost, IsStep, PassSays, IsAfter, IsNow, IsThere, IsWhole, IsWithin, SettledFirst, SourceFirst, TurnSays, given_in, source_place};
     ghost use Rattle.whole_world.specs.Running.{given_by};
     ghost use Rattle.whole_world.specs.Views.{settled_at, world_of};
     ghost use Rattle.whole_world.specs.Wells.{IsWell};
@@ -48,6 +49,7 @@ impl<C: Clock, M: Machine + Drop> State<C, M> {
         requires well { IsWell C.last_step C.reading M.stands network.now self.old }
         requires limit { until ≤ 2 ^ 60 + 1 }
         requires open { self.old.time < until }
+        requires ended { self.old.ended ≡ true → until ≤ self.old.time + 1 }
         ensures well { IsWell C.last_step C.reading M.stands network.now self.new }
         ensures after { IsAfter self.old self.new }
         ensures stands { (s : Scenario) (notes : List NoteOf) → Stands C.reading (keeps M.stands) s (world_of network.now self.old) notes
@@ -75,6 +77,7 @@ impl<C: Clock, M: Machine + Drop> State<C, M> {
         requires well { IsWell C.last_step C.reading M.stands network.now self.old }
         requires limit { until ≤ 2 ^ 60 + 1 }
         requires open { self.old.time < until }
+        requires ended { self.old.ended ≡ true → until ≤ self.old.time + 1 }
         ensures well { IsWell C.last_step C.reading M.stands network.now self.new }
         ensures after { IsAfter self.old self.new }
         ensures stands { (s : Scenario) (notes : List NoteOf) → Stands C.reading (keeps M.stands) s (world_of network.now self.old) notes
@@ -91,7 +94,7 @@ impl<C: Clock, M: Machine + Drop> State<C, M> {
             return self.give_next(network, source);
         }
         if let Source::Later(time) = source {
-            return self.pass_on(network, time, until);
+            return Ok(self.pass_on(network, time, until));
         }
         match self.work_off(network, source) {
             Ok(()) => Ok(Turn::GoesOn),
@@ -148,14 +151,17 @@ impl<C: Clock, M: Machine + Drop> State<C, M> {
         }
     }
 
-    /// A frame that arrived may wait at its device: its timer is set.
+    /// A frame that arrived may wait at its device: the timers of the device are set.
     fn rekey_by(&mut self, network: &Network, body: &NoteBody)
         requires range { IsInRange network.now }
         requires sized { IsSized C.last_step network.now self.old }
         requires slots { length self.old.timers ≡ 2 * length network.now.device }
         requires running { IsRunning C.reading M.stands network.now self.old }
         requires arrived { ArrivedAt (length network.now.device) body.now }
-        ensures { IsRekeyed C.reading M.stands network.now (changed_device body.now) self.old self.new }
+        ensures same { self.new ≡ record self.old { timers = self.new.timers } }
+        ensures timed { (before : StateOf C M) → AreTimed C.reading M.stands network.now before
+            → ChangesOnly (changed_device body.now) before self.old → self.old.timers ≡ before.timers
+            → AreTimed C.reading M.stands network.now self.new }
     {
         if let NoteBody::Arrived { device, .. } = body {
             self.rekey(network, device.0);
@@ -163,40 +169,31 @@ impl<C: Clock, M: Machine + Drop> State<C, M> {
     }
 
     /// Time passes, as nothing is under way before this time.
-    fn pass_on(
-        &mut self,
-        network: &Network,
-        time: u64,
-        until: u64,
-    ) -> Result<Turn, OutOfMemory>
+    fn pass_on(&mut self, network: &Network, time: u64, until: u64) -> Turn
         requires range { IsInRange network.now }
         requires well { IsWell C.last_step C.reading M.stands network.now self.old }
         requires limit { until ≤ 2 ^ 60 + 1 }
         requires later { self.old.time < time }
         requires within { time ≤ until }
+        requires ended { self.old.ended ≡ true → until ≤ self.old.time + 1 }
         requires nothing { HasNothingBefore C.reading M.stands network.now self.old (time ∷ []) }
         requires empty { self.old.settled.items ≡ [] }
         ensures well { IsWell C.last_step C.reading M.stands network.now self.new }
         ensures after { IsAfter self.old self.new }
         ensures stands { (s : Scenario) (notes : List NoteOf) → Stands C.reading (keeps M.stands) s (world_of network.now self.old) notes
             → Stands C.reading (keeps M.stands) s (world_of network.now self.new) notes }
-        ensures none { given_in result ≡ [] }
         ensures whole { (s : Scenario) (notes : List NoteOf) → Stands C.reading (keeps M.stands) s (world_of network.now self.old) notes
-            → IfOk result (λ turn. IsWhole s notes until turn) }
-        ensures says { IfOk result (λ turn. TurnSays self.old self.new until turn) }
+            → IsWhole s notes until result }
+        ensures says { PassSays self.old self.new until result }
     {
         if self.ended || time > LAST {
-            return if time == until {
-                Ok(Turn::Ends)
-            } else {
-                Err(OutOfMemory)
-            };
+            return Turn::Ends;
         }
         self.pass_to(time);
         if time < until {
-            Ok(Turn::GoesOn)
+            Turn::GoesOn
         } else {
-            Ok(Turn::Ends)
+            Turn::Ends
         }
     }
 

@@ -22,9 +22,6 @@ impl<C: Clock, M: Machine + Drop> State<C, M> {
     ghost use Rattle.whole_world.specs.Keeping.{keeps};
     ghost use Rattle.whole_world.specs.Views.{settled_at, waiting_as, world_of};
     ghost use Rattle.whole_world.specs.Stepping.{ChangesOnly, IsAt, IsRunning};
-    ghost use Rattle.whole_world.specs.Ripening.{IsFirstRipe};
-    ghost use Rattle.whole_world.specs.Turns.{changed_device};
-    ghost use Rattle.whole_world.specs.Giving.{ArrivedAt};
     ghost use Rattle.world_law.specs.source.First.{NoSourceBefore};
     ghost use Rattle.world_law.specs.world.Steps.{ComesFirst, StandsBehind};
     ghost use Rattle.world_law.specs.world.World.{Stands, act_place, note_of, ripe_place};
@@ -32,29 +29,6 @@ impl<C: Clock, M: Machine + Drop> State<C, M> {
     ghost use Rattle.whole_world.specs.declared.kept.Kept.{Kept as KeptOf};
     ghost use Rattle.world_law.specs.world.Acting.{IsDueNow};
     ghost use Rattle.world_law.specs.world.Calls.{moment_of};
-
-    #[tactic(none)]
-    pub fn give(&mut self, network: &Network) -> Result<Note, OutOfMemory>
-        requires sound { IsSound C.last_step network.now self.old }
-        requires range { IsInRange network.now }
-        requires some { 0 < length self.old.settled.items }
-        requires running { IsRunning C.reading M.stands network.now self.old }
-        ensures sound { IsSound C.last_step network.now self.new }
-        ensures same { self.new ≡ record self.old { under_way = self.new.under_way; waiting = self.new.waiting; stored = self.new.stored; settled = self.new.settled; given = self.new.given } }
-        ensures stands { (s : Scenario) (notes : List NoteOf) (first : SettledOf) (rest : List SettledOf) → self.old.settled.items ≡ first ∷ rest
-            → (old : Stands C.reading (keeps M.stands) s (world_of network.now self.old) notes)
-            → NoSourceBefore s (happenings s.network notes) old.cursor (place_of (settled_at network.now self.old.time first))
-            → IfOk result (λ note. (note ≡ note_of notes (settled_at network.now self.old.time first))
-            × StandsBehind C.reading (keeps M.stands) s (world_of network.now self.new) (notes ++ note ∷ [])
-            (behind (place_of (settled_at network.now self.old.time first)))) }
-        ensures err { OnErr result (world_of network.now self.new ≡ world_of network.now self.old) }
-        ensures given { OnOk result (self.new.given ≡ self.old.given + 1) }
-        ensures arrived { IfOk result (λ note. ArrivedAt (length network.now.device) note.body) }
-        ensures unmoved { OnErr result ((n : ℕ) → ChangesOnly n self.old self.new) }
-        ensures others { IfOk result (λ note. ChangesOnly (changed_device note.body) self.old self.new) }
-    {
-        Err(OutOfMemory)
-    }
 
     #[tactic(none)]
     pub fn settle_befallen(&mut self, network: &Network) -> Result<(), OutOfMemory>

@@ -25,7 +25,7 @@ returns g c =
     let step = c.hear_first.ensures in
     let keyed = c.rekey.ensures in
     rekeyed_step g.C.Clock.last_step g.C.Clock.reading g.M.Machine.stands c.args.network.now c.args.place.device w c.hear_first.new.self c.rekey.new.self r.well step.sound r.foremost.there.device
-    step.others step.timers step.given
+    step.others (ap (λ (t : State _ _). t.timers) step.same) step.given
     (λ s notes old. (step.stands s notes old
     (comes_first g.C.Clock.last_step g.C.Clock.reading g.M.Machine.stands c.args.network.now w (Arrival c.args.place) s notes r.well.sound r.room r.foremost r.first tt old)).0)
     keyed.same keyed.timed keyed.sized keyed.others keyed.later
