@@ -1,11 +1,14 @@
 pub mod Applying
 pub mod Beginning
 pub mod Following
+pub mod Frames
 pub mod Giving
+pub mod Hearing
 pub mod Keeping
 pub mod Leaving
 pub mod Naming
 pub mod Places
+pub mod Ripening
 pub mod Showing
 pub mod Sound
 pub mod Views
@@ -13,3 +16,6 @@ pub mod Stepping
 pub mod Running
 pub mod Sourcing
 pub mod Timing
+pub mod Wells
+pub mod Turns
+pub mod Storing

@@ -4,15 +4,25 @@
 mod applying;
 mod begin;
 mod contents;
+mod give;
+mod frames;
 mod giving;
+mod hear;
 mod kept;
 mod leaving;
 mod memory;
 mod naming;
+mod next;
+mod ripe;
+mod ripen;
 mod sending;
 mod settled;
+mod source;
 mod state;
+mod stepping;
+mod stubs;
 mod timing;
+mod storing;
 mod waiting;
 mod world;
 

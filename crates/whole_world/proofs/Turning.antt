@@ -1,0 +1,249 @@
+-- A turn of a world: what comes first, and what the steps keep.
+use Rattle.std.proofs.Common.{◌≡◌, ◌⊎◌, ℕ, ◌+◌, ◌-◌, ◌*◌, ◌<◌, ◌≤◌, ◌^◌, pos, List, [], ◌∷◌, ◌++◌, All, length, map, Option, Some, None, Bool, Result, Ok, Err, slice_get, inl, inr, refl, sym, ap, subst, ◌∙◌, arith}
+use Rattle.std.proofs.lemmas.List.{length-map}
+use Rattle.std.specs.Prelude.{OnErr, OnOk}
+use Rattle.net_plan.specs.declared.ids.DeviceId.{DeviceId}
+use Rattle.net_plan.specs.declared.network.Network.{Network}
+use Rattle.run_law.proofs.runs.Places.{before_later, before_later_time, chain, never_self}
+use Rattle.run_law.specs.declared.note.Note.{Note}
+use Rattle.run_law.specs.machines.Nodes.{Node}
+use Rattle.run_law.specs.records.Happenings.{Happening, happenings}
+use Rattle.run_law.specs.records.Order.{IsBefore, IsIn}
+use Rattle.run_law.specs.records.Ranks.{place_of}
+use Rattle.run_law.specs.scenario.Scenarios.{Scenario}
+use Rattle.whole_world.proofs.HiddenCauses.{InOrder, settled_in_order}
+use Rattle.whole_world.proofs.Sources.{of_world, sooner_too}
+use Rattle.whole_world.proofs.Timings.{rekeyed, unchanged}
+use Rattle.whole_world.specs.Keeping.{keeps}
+use Rattle.whole_world.specs.Places.{own_place}
+use Rattle.whole_world.specs.Sound.{IsSound}
+use Rattle.whole_world.specs.Sourcing.{AreTimed, HasNothingBefore}
+use Rattle.whole_world.specs.Stepping.{ChangesOnly, IsAt, IsRunning, IsTimed}
+use Rattle.whole_world.specs.Turns.{HasRoom, IsAhead, IsForemost, IsNow, IsStep, IsThere, SettledFirst, SourceFirst, own_numbers, source_place}
+use Rattle.whole_world.specs.Views.{settled_at, world_of}
+use Rattle.whole_world.specs.Wells.{IsWell}
+use Rattle.whole_world.specs.declared.contents.Settled.{Settled}
+use Rattle.whole_world.specs.declared.source.Source.TheVariants.{Events, Arrival, Ripening, Act, Departure, Clock, Later}
+use Rattle.whole_world.specs.declared.source.Source.{Source}
+use Rattle.whole_world.specs.declared.state.State.{State}
+use Rattle.world_law.proofs.acts.NoActs.{nothing_comes_before}
+use Rattle.world_law.specs.source.First.{NoSourceBefore}
+use Rattle.world_law.specs.world.Steps.{ComesFirst}
+use Rattle.world_law.proofs.runs.Worlds.{nothing_settled_is_all}
+use Rattle.world_law.specs.world.World.{AreSettled, Stands, hidden}
+use Rattle.run_law.specs.runs.DueRecords.{IsScenarioRun}
+
+-- ---- a source and what is settled
+
+-- the place of a source of the present instant
+pub record IsShaped (now : ℕ) (source : Source) : Type 0 where
+  pub numbers : List ℕ
+  pub own : own_numbers source ≡ Some numbers
+  pub place : source_place now source ≡ now ∷ numbers
+
+pub shaped : {C M : Type 0} (reading : C → ℕ → ℕ) (stands : M → Network → DeviceId → Node → Type 0) (network : Network) (state : State C M)
+    (source : Source) → IsThere reading stands network state source → IsNow source → IsShaped state.time source
+shaped reading stands network state Events there now = record { numbers = _; own = refl; place = refl }
+shaped reading stands network state (Arrival place) there now = record {
+  numbers = _;
+  own = refl;
+  place = ap (λ (n : ℕ). n ∷ place.rank ∷ place.device ∷ place.link ∷ place.cause ∷ []) there.now;
+}
+shaped reading stands network state (Ripening index w) there now = record { numbers = _; own = refl; place = refl }
+shaped reading stands network state (Act device) there now = record { numbers = _; own = refl; place = refl }
+shaped reading stands network state (Departure place) there now = record {
+  numbers = _;
+  own = refl;
+  place = ap (λ (n : ℕ). n ∷ place.rank ∷ place.device ∷ place.link ∷ place.cause ∷ []) there.now;
+}
+shaped reading stands network state (Clock device) there now = record { numbers = _; own = refl; place = refl }
+shaped reading stands network state (Later time) there now = absurd now
+
+untimed : (now : ℕ) (p q : List ℕ) → IsBefore (now ∷ p) (now ∷ q) → IsBefore p q
+untimed now p q (inl lt) = absurd (omega (arith, lt))
+untimed now p q (inr h) = h.1
+
+-- what is not ahead of a source of the present instant is not before it
+not_ahead : (network : Network) (now : ℕ) (source : Source) (first : Settled) → IsShaped now source → (IsAhead (own_numbers source) first → ⊥)
+    → IsBefore (place_of (settled_at network now first)) (source_place now source) → ⊥
+not_ahead network now source first shape not before =
+    not (subst (λ (o : Option (List ℕ)). IsAhead o first) (sym shape.own)
+    (untimed now (own_place first) shape.numbers (subst (λ (p : List ℕ). IsBefore (now ∷ own_place first) p) shape.place before)))
+
+-- what is ahead of a source is before it
+pub ahead_before : {C M : Type 0} (reading : C → ℕ → ℕ) (stands : M → Network → DeviceId → Node → Type 0) (network : Network) (state : State C M)
+    (source : Source) (first : Settled) → IsThere reading stands network state source → IsAhead (own_numbers source) first
+    → IsBefore (place_of (settled_at network state.time first)) (source_place state.time source)
+ahead_before reading stands network state Events first there ahead = inr (refl, ahead)
+ahead_before reading stands network state (Arrival place) first there ahead = inr (sym there.now, ahead)
+ahead_before reading stands network state (Ripening index w) first there ahead = inr (refl, ahead)
+ahead_before reading stands network state (Act device) first there ahead = inr (refl, ahead)
+ahead_before reading stands network state (Departure place) first there ahead = inr (sym there.now, ahead)
+ahead_before reading stands network state (Clock device) first there ahead = inr (refl, ahead)
+ahead_before reading stands network state (Later time) first there ahead = inl there
+
+-- where something is settled, a source that comes first of it is not later
+pub none_settled : (settled : List Settled) (time : ℕ) → SourceFirst settled (Later time) → settled ≡ []
+none_settled [] time first = refl
+none_settled (z ∷ zs) time first = absurd (first z zs refl tt)
+
+-- nothing that is settled is before what the first of it is not before
+none_sooner : (network : Network) (now : ℕ) (settled : List Settled) (w : List ℕ) → InOrder (map (settled_at network now) settled)
+    → ((first : Settled) (others : List Settled) → settled ≡ first ∷ others → IsBefore (place_of (settled_at network now first)) w → ⊥)
+    → (z : Happening) → IsIn z (map (settled_at network now) settled) → IsBefore (place_of z) w → ⊥
+none_sooner network now [] w order not z there before = absurd there
+none_sooner network now (x ∷ xs) w order not z (inl e) before = not x xs refl (subst (λ (h : Happening). IsBefore (place_of h) w) e before)
+none_sooner network now (x ∷ xs) w order not z (inr rest) before =
+    let first = place_of (settled_at network now x) in
+    order.0 z rest (before_later (place_of z) first w before (not x xs refl))
+
+-- nothing is to come, where nothing is settled
+none_coming : (given : ℕ) (coming : List Happening) → [] ≡ map (hidden given) coming → coming ≡ []
+none_coming given [] e = refl
+none_coming given (c ∷ cs) e = absurd cc
+
+module _ {C M : Type 0} (last_step : C → ℕ) (reading : C → ℕ → ℕ) (stands : M → Network → DeviceId → Node → Type 0) (network : Network) where
+  -- the source that comes first of what is under way comes first of all
+  pub comes_first : (state : State C M) (source : Source) (s : Scenario) (notes : List Note) → IsSound last_step network state → HasRoom state
+      → IsForemost reading stands network state source → SourceFirst state.settled.items source → IsNow source
+      → (old : Stands reading (keeps stands) s (world_of network state) notes)
+      → ComesFirst reading (keeps stands) s (world_of network state) notes old (source_place state.time source)
+  comes_first state source s notes sound room foremost first now old =
+      let w = source_place state.time source in
+      let shape = shaped reading stands network state source foremost.there now in
+      let after = none_sooner network state.time state.settled.items w (settled_in_order reading (keeps stands) s (world_of network state) notes old)
+      (λ z others whole. not_ahead network state.time source z shape (first z others whole)) in
+      let given = old.given in
+      let numbers = room.numbers in
+      let many = length-map state.settled.items (settled_at network state.time) in
+      record {
+        none = nothing_comes_before reading (keeps stands) s (world_of network state) notes w old after
+            (of_world last_step reading stands s network state notes old sound.sized w sound.under_way foremost.nothing);
+        after = after;
+        room = omega (arith, given, numbers, many);
+      }
+
+  pub is_at : (state : State C M) (source : Source) → IsWell last_step reading stands network state → HasRoom state
+      → IsForemost reading stands network state source → SourceFirst state.settled.items source → IsNow source
+      → IsAt reading stands network state (source_place state.time source)
+  is_at state source well room foremost first now = record {
+    s = well.running.s;
+    notes = well.running.notes;
+    is = well.running.is;
+    first = comes_first state source well.running.s well.running.notes well.sound room foremost first now well.running.is;
+  }
+
+  -- nothing comes before the first that is settled, where it is ahead of all that is under way
+  pub gives_first : (state : State C M) (source : Source) (z : Settled) (others : List Settled) (s : Scenario) (notes : List Note)
+      → IsSound last_step network state → IsForemost reading stands network state source
+      → state.settled.items ≡ z ∷ others → IsAhead (own_numbers source) z
+      → (old : Stands reading (keeps stands) s (world_of network state) notes)
+      → NoSourceBefore s (happenings s.network notes) old.cursor (place_of (settled_at network state.time z))
+  gives_first state source z others s notes sound foremost whole ahead old =
+      let w = source_place state.time source in
+      let p = place_of (settled_at network state.time z) in
+      let before = ahead_before reading stands network state source z foremost.there ahead in
+      let after = none_sooner network state.time state.settled.items p (settled_in_order reading (keeps stands) s (world_of network state) notes old)
+      (λ x rest is. λ b. never_self p (subst (λ (y : Settled). IsBefore (place_of (settled_at network state.time y)) p) (first_is x rest is) b)) in
+      nothing_comes_before reading (keeps stands) s (world_of network state) notes p old after
+      (of_world last_step reading stands s network state notes old sound.sized p sound.under_way
+      (sooner_too reading stands network state w p foremost.nothing (λ b. never_self p (chain p w p before b))))
+    where
+      first_is : (x : Settled) (rest : List Settled) → state.settled.items ≡ x ∷ rest → x ≡ z
+      first_is x rest is = let e : x ∷ rest ≡ z ∷ others = sym is ∙ whole in cc
+
+  -- where nothing is settled, and nothing under way before a later time, the records are the run up to it
+  pub whole_run : (state : State C M) (s : Scenario) (notes : List Note) (until : ℕ) → IsSound last_step network state
+      → HasNothingBefore reading stands network state (until ∷ []) → state.settled.items ≡ [] → state.time < until
+      → (old : Stands reading (keeps stands) s (world_of network state) notes) → IsScenarioRun s (until ∷ []) notes
+  whole_run state s notes until sound none empty later old =
+      let settled : (world_of network state).settled ≡ [] = ap (map (settled_at network state.time)) empty in
+      let coming : old.coming ≡ [] = none_coming (length notes) old.coming (sym settled ∙ old.settled) in
+      nothing_settled_is_all s notes old.mark old.cursor state.time until old.run
+      (subst (λ (l : List Happening). AreSettled s (happenings s.network notes) l old.mark old.cursor state.time) coming old.are)
+      (λ p before. before_later_time p (state.time + 1) until (omega (arith, later)) (old.not_later p (old.ahead p before)))
+      (nothing_comes_before reading (keeps stands) s (world_of network state) notes (until ∷ []) old
+      (λ z there. absurd (subst (λ (l : List Happening). IsIn z l) settled there))
+      (of_world last_step reading stands s network state notes old sound.sized (until ∷ []) sound.under_way none))
+
+  -- ---- what steps keep
+
+  pub runs_on : (old new : State C M) → IsRunning reading stands network old
+      → ((s : Scenario) (notes : List Note) → Stands reading (keeps stands) s (world_of network old) notes
+      → Stands reading (keeps stands) s (world_of network new) notes)
+      → IsRunning reading stands network new
+  runs_on old new is still = record { s = is.s; notes = is.notes; is = still is.s is.notes is.is }
+
+  pub sound_so : (mid : State C M) (timers : List ℕ) → IsSound last_step network mid → IsSound last_step network (record mid { timers = timers })
+  sound_so mid timers is = record {
+    sized = record {
+      clocks = is.sized.clocks;
+      machines = is.sized.machines;
+      broken = is.sized.broken;
+      ups = is.sized.ups;
+      downs = is.sized.downs;
+      stepped = is.sized.stepped;
+      limit = is.sized.limit;
+      shown = is.sized.shown;
+    };
+    under_way = is.under_way;
+    fit = record {
+      ups = is.fit.ups;
+      downs = is.fit.downs;
+      octets = is.fit.octets;
+      below = is.fit.below;
+      waits_below = is.fit.waits_below;
+      apart = is.fit.apart;
+    };
+  }
+
+  -- a step that changes no device
+  pub plain_step : (old new : State C M) → IsWell last_step reading stands network old → IsSound last_step network new
+      → ((n : ℕ) → ChangesOnly n old new) → new.timers ≡ old.timers → new.given ≡ old.given
+      → ((s : Scenario) (notes : List Note) → Stands reading (keeps stands) s (world_of network old) notes
+      → Stands reading (keeps stands) s (world_of network new) notes)
+      → IsStep last_step reading stands network old new
+  plain_step old new well sound changes timers given still = record {
+    well = record {
+      sound = sound;
+      running = runs_on old new well.running still;
+      timed = unchanged reading stands network old new well.timed changes timers;
+    };
+    after = record { clocks = (changes 0).clocks; ended = (changes 0).ended; later = let same = (changes 0).time in omega (arith, same) };
+    still = still;
+    time = (changes 0).time;
+    given = given;
+  }
+
+  -- a step that changes one device, whose timers are set anew
+  pub rekeyed_step : (device : ℕ) (old mid new : State C M) → IsWell last_step reading stands network old → IsSound last_step network mid
+      → device < length network.device → ChangesOnly device old mid → mid.timers ≡ old.timers → mid.given ≡ old.given
+      → ((s : Scenario) (notes : List Note) → Stands reading (keeps stands) s (world_of network old) notes
+      → Stands reading (keeps stands) s (world_of network mid) notes)
+      → new ≡ record mid { timers = new.timers } → IsTimed reading stands network new.timers new (record { 0 = device })
+      → length new.timers ≡ length mid.timers
+      → ((slot : ℕ) → (slot ≡ device → ⊥) → (slot ≡ length network.device + device → ⊥) → slice_get new.timers slot ≡ slice_get mid.timers slot)
+      → (All (λ (time : ℕ). mid.time ≤ time) mid.timers → All (λ (time : ℕ). new.time ≤ time) new.timers)
+      → IsStep last_step reading stands network old new
+  rekeyed_step device old mid new well sound there changes timers given still same timed sized others later =
+      let on = λ (s : Scenario) (notes : List Note) (is : Stands reading (keeps stands) s (world_of network old) notes).
+      subst (λ (t : State C M). Stands reading (keeps stands) s (world_of network t) notes) (sym same) (still s notes is) in
+      let at : new.time ≡ old.time = ap (λ (t : State C M). t.time) same ∙ changes.time in
+      record {
+        well = record {
+          sound = subst (IsSound last_step network) (sym same) (sound_so mid new.timers sound);
+          running = runs_on old new well.running on;
+          timed = rekeyed reading stands network (record { 0 = device }) old mid new well.timed there changes timers same timed sized others later;
+        };
+        after = record { clocks = ap (λ (t : State C M). t.clocks) same ∙ changes.clocks; ended = ap (λ (t : State C M). t.ended) same ∙ changes.ended; later = omega (arith, at) };
+        still = on;
+        time = at;
+        given = ap (λ (t : State C M). t.given) same ∙ given;
+      }
+
+-- ---- results
+
+-- one of two clauses of a result serves
+pub either_end : {A E : Type 0} (result : Result A E) (P Q R : Type 0) → OnOk result P → OnErr result Q → (P → R) → (Q → R) → R
+either_end (Ok a) P Q R ok err f g = f ok
+either_end (Err e) P Q R ok err f g = g err
