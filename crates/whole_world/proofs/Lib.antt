@@ -8,11 +8,13 @@ pub mod FirstSettled
 pub mod Firsts
 pub mod Givings
 pub mod HiddenCauses
+pub mod Histories
 pub mod Launches
 pub mod Mapped
 pub mod PutTo
 pub mod Puts
 pub mod Sendings
 pub mod Showings
+pub mod Steadiness
 pub mod TurnedOn
 pub mod UnderWays
