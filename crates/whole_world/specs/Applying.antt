@@ -1,5 +1,5 @@
 -- What an event makes of the parts of a state.
-use Rattle.std.specs.Prelude.{ℕ, ℤ, ◌<◌, unwrap_or}
+use Rattle.std.specs.Prelude.{ℕ, ℤ, ◌<◌, ◌^◌, unwrap_or}
 use Rattle.std.specs.Option.{option_map_or}
 use Rattle.net_plan.specs.declared.event.What.TheVariants as events
 use Rattle.net_plan.specs.declared.event.What.{What}
@@ -24,6 +24,12 @@ way_after link way what was = record {
   hold = unwrap_or (hold_set link way what) was.hold;
   cut = unwrap_or (cut_set link way what) was.cut;
 }
+
+-- a delay or a hold that it sets is short
+abbrev pub SetsShort : What → Type 0
+SetsShort (events.Wire link way delay) = amount delay < 2 ^ 62
+SetsShort (events.Hold link way hold) = amount hold < 2 ^ 62
+SetsShort other = Unit {0}
 
 -- there are so many links that the event's is one
 abbrev pub HasItsLink : ℕ → What → Type 0

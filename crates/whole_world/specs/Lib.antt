@@ -11,3 +11,4 @@ pub mod Sound
 pub mod Views
 pub mod Stepping
 pub mod Running
+pub mod Wells

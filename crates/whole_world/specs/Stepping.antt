@@ -9,7 +9,6 @@ use Rattle.run_law.specs.machines.Tasks.{IsPending, Task, reading_for}
 use Rattle.run_law.specs.records.Order.{IsIn}
 use Rattle.run_law.specs.scenario.Scenarios.{Scenario}
 use Rattle.whole_world.specs.Keeping.{keeps}
-use Rattle.whole_world.specs.Sound.{IsSound}
 use Rattle.whole_world.specs.Views.{world_of}
 use Rattle.whole_world.specs.declared.contents.Waits.{Waits}
 use Rattle.whole_world.specs.declared.kept.Kept.{Kept}
@@ -23,12 +22,6 @@ pub record IsRunning {C M : Type 0} (reading : C → ℕ → ℕ) (stands : M �
   pub s : Scenario
   pub notes : List Note
   pub is : Stands reading (keeps stands) s (world_of network state) notes
-
--- the state is sound, and it stands: a world keeps both
-pub record IsWell {C M : Type 0} (last_step : C → ℕ) (reading : C → ℕ → ℕ) (stands : M → Network → DeviceId → Node → Type 0)
-    (network : Network) (state : State C M) : Type 0 where
-  pub sound : IsSound last_step network state
-  pub running : IsRunning reading stands network state
 
 -- and the source at this place comes first
 pub record IsAt {C M : Type 0} (reading : C → ℕ → ℕ) (stands : M → Network → DeviceId → Node → Type 0) (network : Network) (state : State C M)
