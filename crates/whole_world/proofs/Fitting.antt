@@ -35,7 +35,7 @@ way_short link way (events.Break device) was short old = old
 way_short link way (events.Send other octets) was short old = old
 way_short link way events.End was short old = old
 
-some_is : {X : Type 0} (o : Option X) (x y : X) → o ≡ Some x → o ≡ Some y → x ≡ y
+pub some_is : {X : Type 0} (o : Option X) (x y : X) → o ≡ Some x → o ≡ Some y → x ≡ y
 some_is o x y e f = let same : Some x ≡ Some y = sym e ∙ f in cc
 
 pub ways_short : (old new : List WayState) (way : Way) (what : What) → SetsShort what → length new ≡ length old

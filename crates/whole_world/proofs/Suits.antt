@@ -36,6 +36,7 @@ use Rattle.sync_state.specs.declared.state.State.TheVariants.{Off}
 use Rattle.tte_units.specs.Amount.{amount}
 use Rattle.whole_world.proofs.EventRuns.{none_coming}
 use Rattle.whole_world.proofs.Offs.{begins_off, stays_off}
+use Rattle.whole_world.specs.Applying.{IsShown}
 use Rattle.world_law.proofs.ripening.Awake.{any_in}
 use Rattle.world_law.specs.source.Agreeing.{scenario}
 use Rattle.world_law.specs.world.Steps.{FitsWorld}
@@ -101,11 +102,6 @@ sends_end network past event link octets within here what there = from (link_at 
 
 -- ---- a device that is turned on is off
 
--- the device shows this state, by whatever its machine stands for
-abbrev pub Shows : {C M : Type 0} → (M → Network → DeviceId → Node → Type 0) → Network → World C M → DeviceId → State → Type 0
-Shows {C} {M} stands network world device state =
-    (machine : M) (node : Node) → slice_get world.machines device.0 ≡ Some machine → stands machine network device node → state ≡ node.standing.state
-
 module _ {C M : Type 0} (reading : C → ℕ → ℕ) (stands : M → Network → DeviceId → Node → Type 0) (network : Network) (f : DeviceId → ℕ → ℕ)
     (past : List Event) (world : World C M) (notes : List Note) (old : Stands reading stands (scenario network f past) world notes)
     (early : world.early ≡ true) (event : Event) (within : IsWithinHypothesis network past event) where
@@ -140,7 +136,7 @@ module _ {C M : Type 0} (reading : C → ℕ → ℕ) (stands : M → Network �
       )
 
   pub suits : (what : What) → event.what ≡ what → AreWithinHypothesis network past → IsOfNetwork network what
-      → ((device : DeviceId) → what ≡ events.On device → (state : State) × Shows stands network world device state) → FitsWorld stands network world what
+      → ((device : DeviceId) → what ≡ events.On device → (state : State) × IsShown stands network world.machines device state) → FitsWorld stands network world what
   suits (events.On device) what all of_network shows =
       let state = shows device refl in
       let it = old.devices device of_network in

@@ -26,6 +26,7 @@ use net_plan::{DeviceId, Event, LinkId, Network, Way, What};
 use pcf_values::Pcf;
 use run_law::{Machine, Note, NoteBody};
 use std::collections::VecDeque;
+use sync_state::State as DeviceState;
 use tte_units::Units;
 
 /// The parts of a world that change.
@@ -79,11 +80,12 @@ impl<C: Clock, M: Machine + Drop> State<C, M> {
     ghost use Rattle.world_law.specs.world.Steps.{ComesFirst, FitsWorld, NothingBefore, StandsBehind};
     ghost use Rattle.world_law.specs.source.Agreeing.{scenario};
     ghost use Rattle.world_law.specs.source.Applying.{note_of_event};
-    ghost use Rattle.whole_world.specs.Applying.{SetsShort, clock_after};
+    ghost use Rattle.whole_world.specs.Applying.{IsShown, SetsShort, clock_after};
     ghost use Rattle.whole_world.specs.Following.{Follows};
     ghost use Rattle.net_plan.specs.Belonging.{IsOfNetwork};
     ghost use Rattle.net_plan.specs.declared.event.Event.{Event as EventValue};
     ghost use Rattle.net_plan.specs.declared.ids.DeviceId.{DeviceId as DeviceOf};
+    ghost use Rattle.sync_state.specs.declared.state.State.{State as DeviceState};
     ghost use Rattle.tte_units.specs.declared.rates.Ppb.{Ppb};
     ghost use Rattle.world_law.specs.world.World.{Stands, clock_place, note_of};
 
@@ -324,6 +326,18 @@ impl<C: Clock, M: Machine + Drop> State<C, M> {
         self.early = false;
         let record = self.departure(network, place, frame, given);
         put_some(&mut self.settled, record);
+    }
+
+    /// The state of the device that is turned on, as its machine shows it, where that is what befalls the network.
+    pub fn turned_on(&self, what: &What) -> Option<DeviceState>
+        requires { (device : DeviceOf) → what.now ≡ What.On device → device.0 < length self.now.machines.items }
+        ensures { (network : Network) (device : DeviceOf) → what.now ≡ What.On device → (state : DeviceState)
+            × (result ≡ Some state) × IsShown (keeps M.stands) network self.now.machines.items device state }
+    {
+        match what {
+            What::On(device) => Some(self.machines[device.0 as usize].state()),
+            _ => None,
+        }
     }
 
     /// An event befalls, before all else of the present instant. Its record is given.
