@@ -11,10 +11,12 @@ pub mod Fitting
 pub mod Firsts
 pub mod Forwards
 pub mod Freshness
+pub mod Foremost
 pub mod Givings
 pub mod HiddenCauses
 pub mod Histories
 pub mod Launches
+pub mod LeastPoints
 pub mod Mapped
 pub mod Offs
 pub mod Onwards
@@ -25,5 +27,7 @@ pub mod Shortness
 pub mod Showings
 pub mod Steadiness
 pub mod Suits
+pub mod Sources
+pub mod Timings
 pub mod TurnedOn
 pub mod UnderWays

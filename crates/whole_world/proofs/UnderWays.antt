@@ -29,7 +29,7 @@ pub some_is : {X : Type 0} (x y : X) → Some x ≡ Some y → x ≡ y
 some_is x y e = cc
 
 -- the place of what is at a port
-port_numbers : (place : Place) (content : Content) (x : AtPort) → port_at place content ≡ Some x → place.rank ≡ rank_of content
+pub port_numbers : (place : Place) (content : Content) (x : AtPort) → port_at place content ≡ Some x → place.rank ≡ rank_of content
     → port_place x ≡ numbers_of place
 port_numbers place (Wire signal) x is kind = absurd cc
 port_numbers place (Port frame given) x is kind =

@@ -12,3 +12,5 @@ pub mod Views
 pub mod Stepping
 pub mod Running
 pub mod Wells
+pub mod Sourcing
+pub mod Timing

@@ -3,6 +3,7 @@ ghost use Rattle.net_plan.specs.declared.ids.DeviceId.{DeviceId};
 ghost use Rattle.net_plan.specs.declared.network.Network.{Network};
 ghost use Rattle.net_plan.specs.declared.event.What.TheVariants.{On, Break};
 ghost use Rattle.run_law.specs.machines.Nodes.{Node};
+ghost use Rattle.run_law.specs.machines.Tasks.{IsDueReading};
 ghost use Rattle.sync_state.specs.declared.state.State.TheVariants.{Off};
 ghost use Rattle.whole_world.specs.Keeping.{keeps, sound_one};
 ghost use Rattle.world_law.specs.world.Steps.{befallen_node};
@@ -40,6 +41,17 @@ impl<M: Machine + Drop> Kept<M> {
         match self {
             Kept::Sound(machine) => machine.adjustment(),
             Kept::Out(_, adjustment) => *adjustment,
+        }
+    }
+
+    /// The least reading at which it acts by itself. A broken device never does.
+    pub fn due(&self) -> Option<Units>
+        ensures { (network : Network) (device : DeviceId) (node : Node) → keeps M.stands self.now network device node
+            → IsDueReading network device node result }
+    {
+        match self {
+            Kept::Sound(machine) => machine.due(),
+            Kept::Out(_, _) => None,
         }
     }
 

@@ -12,6 +12,7 @@ mod naming;
 mod sending;
 mod settled;
 mod state;
+mod timing;
 mod waiting;
 mod world;
 

@@ -22,6 +22,7 @@ use crate::settled::{put_in, put_some};
 use crate::waiting::giver;
 use drift_clock::Clock;
 use due_queue::{Place, UnderWay};
+use due_timers::Timers;
 use net_plan::{DeviceId, Event, LinkId, Network, Way, What};
 use pcf_values::Pcf;
 use run_law::{Machine, Note, NoteBody};
@@ -45,6 +46,8 @@ pub struct State<C: Clock, M: Machine + Drop> {
     pub waiting: Vec<Waits>,
     /// The frames that switches hold.
     pub stored: Vec<Holding>,
+    /// When the frames that wait at each device are permanent, and then when each device acts by itself.
+    pub timers: Timers,
     /// Is nothing of the present instant but events worked off?
     pub early: bool,
     /// Did events befall whose outcomes are not settled?
