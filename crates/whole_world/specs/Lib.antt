@@ -14,6 +14,7 @@ pub mod Sound
 pub mod Views
 pub mod Stepping
 pub mod Running
+pub mod Wells
 pub mod Sourcing
 pub mod Timing
 pub mod Wells
