@@ -17,6 +17,5 @@ pub mod Running
 pub mod Wells
 pub mod Sourcing
 pub mod Timing
-pub mod Wells
 pub mod Turns
 pub mod Storing

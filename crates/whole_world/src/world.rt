@@ -1,10 +1,10 @@
-ghost use Rattle.std.specs.Prelude.{◌≡◌, ◌+◌, ◌<◌, ◌^◌, pos, ◌≤ℤ◌, ◌<ℤ◌, List, [], ◌∷◌, ◌++◌, IfOk, IfSome, IfNone, OnErr};
+ghost use Rattle.std.specs.Prelude.{◌≡◌, ◌+◌, ◌<◌, ◌^◌, pos, ◌≤ℤ◌, ◌<ℤ◌, List, [], ◌∷◌, ◌++◌, IfOk, IfSome, IfNone, OnErr, true};
 ghost use Rattle.net_plan.specs.declared.event.Event.{Event as EventValue};
 ghost use Rattle.net_plan.specs.declared.network.Network.{Network};
 ghost use Rattle.run_law.specs.declared.note.Note.{Note as NoteValue};
 ghost use Rattle.run_law.specs.runs.DueRecords.{IsRunOf};
 ghost use Rattle.run_law.specs.scenario.Hypothesis.{IsWithinHypothesis};
-ghost use Rattle.tte_units.specs.Amount.{amount};
+ghost use Rattle.tte_units.specs.Amount.{amount, units_of};
 
 use crate::OutOfMemory;
 use crate::begin::fresh_state;
@@ -87,10 +87,11 @@ impl<'a, C: Clock, M: Machine + Drop> World<'a, C, M> {
 
     /// The next record before a time, which is at most 2^60 + 1. It is None exactly where none is due before it.
     ///
-    /// Where it is None, and the end has not come, the world comes to this time. On an error no record is lost: those
-    /// to come are the same.
+    /// Where it is None, and the end has not come, the world comes to this time. After the end the time is at most the
+    /// one behind it. On an error no record is lost: those to come are the same.
     pub fn next(&mut self, until: Units) -> Result<Option<Note>, OutOfMemory>
-        requires { until.0 ≤ℤ pos (2 ^ 60 + 1) }
+        requires limit { until.0 ≤ℤ pos (2 ^ 60 + 1) }
+        requires ended { self.old.ended ≡ true → until.0 ≤ℤ pos (self.old.now + 1) }
         ensures stands { (network : Network) (events : List EventValue) (notes : List NoteValue)
             → StandsUnder C.fresh C.after_step C.reading M.stands network self.old events notes
             → StandsUnder C.fresh C.after_step C.reading M.stands network self.new events (notes ++ given_by result) }
@@ -100,9 +101,12 @@ impl<'a, C: Clock, M: Machine + Drop> World<'a, C, M> {
             → IfOk result (λ next. IfNone next
             (IsRunOf network (reading_of C.fresh C.after_step C.reading network events) events (amount until ∷ []) notes)) }
         ensures reached { IfOk result (λ next. IfNone next (Reaches self.old self.new until)) }
-        ensures before { IfOk result (λ next. IfSome next (λ note. note.time.0 <ℤ until.0)) }
+        ensures before { IfOk result (λ next. IfSome next (λ note. (note.time ≡ units_of self.new.now) × (note.time.0 <ℤ until.0))) }
         ensures fewer { IfOk result (λ next. IfSome next (λ _. left_of self.new < left_of self.old)) }
     {
-        Err(OutOfMemory)
+        if until.0 <= Units::from_amount(self.state.time).0 {
+            return Ok(None);
+        }
+        self.state.next(self.accepted.network(), until.amount())
     }
 }
