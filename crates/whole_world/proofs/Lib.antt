@@ -5,6 +5,7 @@ pub mod Applies
 pub mod Awaits
 pub mod Befalls
 pub mod Beginnings
+pub mod Elsewhere
 pub mod EventRuns
 pub mod FirstSettled
 pub mod Fitting
