@@ -124,8 +124,7 @@ module _ {C M : Type 0} (reading : C → ℕ → ℕ) (stands : M → Network �
       let s = running.s in
       let own = running.is.devices device (subst (λ (k : Network). device.0 < length k.device) running.is.same of_it) in
       let same : own.0 ≡ machine = let e : Some own.0 ≡ Some machine = sym own.1 ∙ held in cc in
-      let is : (node : Node) × keeps stands own.0 s.network device node = elim own.2 [ inl k ↦ (k.node, k.is) | inr o ↦ (o.node, o.is) ] in
-      (
+      let is : (node : Node) × keeps stands own.0 s.network device node = elim own.2 [ inl k ↦ (k.node, k.is) | inr o ↦ (o.node, o.is) ] in (
         is.0,
         subst (λ (k : Kept M). keeps stands k network device is.0) same
             (subst (λ (k : Network). keeps stands own.0 k device is.0) (sym running.is.same) is.1),
