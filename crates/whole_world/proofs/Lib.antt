@@ -32,3 +32,4 @@ pub mod Sources
 pub mod Timings
 pub mod TurnedOn
 pub mod UnderWays
+pub mod Wells
