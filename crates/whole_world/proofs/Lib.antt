@@ -6,6 +6,7 @@ pub mod Arrivals
 pub mod Awaits
 pub mod Befalls
 pub mod Beginnings
+pub mod Elsewhere
 pub mod EventRuns
 pub mod FirstSettled
 pub mod Firsts
@@ -44,3 +45,4 @@ pub mod Timings
 pub mod TurnedOn
 pub mod Turning
 pub mod UnderWays
+pub mod Wells

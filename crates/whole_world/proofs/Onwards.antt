@@ -30,14 +30,16 @@ use Rattle.whole_world.proofs.Suits.{suits}
 use Rattle.whole_world.specs.Applying.{IsShown, clock_after}
 use Rattle.whole_world.specs.Following.{Follows}
 use Rattle.whole_world.specs.Keeping.{keeps}
-use Rattle.whole_world.specs.Running.{StandsUnder, behind_events, clock_of, reading_of}
+use Rattle.whole_world.specs.Running.{IsOpenTo, StandsUnder, behind_events, clock_of, reading_of}
 use Rattle.whole_world.specs.Views.{world_of}
+use Rattle.whole_world.specs.declared.kept.Kept.{Kept}
+use Rattle.whole_world.specs.declared.memory.OutOfMemory.{OutOfMemory}
 use Rattle.whole_world.specs.declared.state.State.{State}
 use Rattle.world_law.proofs.giving.Given.{in_get}
 use Rattle.world_law.specs.source.Agreeing.{scenario}
 use Rattle.world_law.specs.source.Applying.{note_of_event}
 use Rattle.world_law.specs.world.Steps.{FitsWorld}
-use Rattle.world_law.specs.world.World.{Stands}
+use Rattle.world_law.specs.world.World.{Stands, World}
 
 module _ {C M : Type 0} (fresh : ℕ → C) (after_step : C → ℕ → ℤ → C) (reading : C → ℕ → ℕ) (grain : C → ℕ) (count : C → ℕ → ℕ)
     (law : IsLawful fresh after_step reading grain count) (stands : M → Network → DeviceId → Node → Type 0) (network : Network) (state : State C M)
@@ -107,11 +109,6 @@ pub more_ok : {T E : Type 0} (P Q : T → Type 0) (K : Type 0) (r : Result T E) 
 more_ok P Q K (Ok x) step known it = step known x it
 more_ok P Q K (Err e) step known it = it
 
--- it goes on, or is as it was
-pub some_way : {T E : Type 0} (P : T → Type 0) (Q R : Type 0) (r : Result T E) → ((x : T) → P x → R) → (Q → R) → IfOk r P → OnErr r Q → R
-some_way P Q R (Ok x) by_ok by_err it un = by_ok x it
-some_way P Q R (Err e) by_ok by_err it un = by_err un
-
 module _ {C M E : Type 0} (fresh : ℕ → C) (after_step : C → ℕ → ℤ → C) (reading : C → ℕ → ℕ) (grain : C → ℕ) (count : C → ℕ → ℕ)
     (law : IsLawful fresh after_step reading grain count) (stands : M → Network → DeviceId → Node → Type 0) (network : Network) (state new : State C M)
     (event : Event) (result : Result Note E) (many : length state.clocks.items ≡ length network.device) (early : state.early ≡ true)
@@ -176,3 +173,41 @@ module _ {C M E : Type 0} (fresh : ℕ → C) (after_step : C → ℕ → ℤ �
       → IfOk result (λ note. IsRunOf m (reading_of fresh after_step reading m (events ++ event ∷ [])) (events ++ event ∷ [])
       (behind_events state.time) (notes ++ note ∷ [])))
       under.is.same (runs_on events notes) under within
+
+-- ---- by the view of the state
+
+module _ {C M : Type 0} (fresh : ℕ → C) (after_step : C → ℕ → ℤ → C) (reading : C → ℕ → ℕ) (grain : C → ℕ) (count : C → ℕ → ℕ)
+    (law : IsLawful fresh after_step reading grain count) (stands : M → Network → DeviceId → Node → Type 0) (network : Network) (state new : State C M)
+    (world : World C (Kept M)) (view : world_of network state ≡ world) (event : Event) (note : Note)
+    (many : length state.clocks.items ≡ length network.device) (open_to : IsOpenTo world event) (of_network : IsOfNetwork world.network event.what)
+    (shown : (n : Network) (device : DeviceId) → event.what ≡ On device → (is : DeviceState) × IsShown (keeps stands) n
+    state.machines.items device is)
+    (still : (new.time ≡ state.time) × (new.early ≡ state.early))
+    (clocks : (device : DeviceId) (clock : C) → slice_get state.clocks.items device.0 ≡ Some clock
+    → slice_get new.clocks.items device.0 ≡ Some (clock_after after_step device event.time event.what clock))
+    (step : (f h : DeviceId → ℕ → ℕ) (past : List Event) (notes : List Note)
+    → (old : Stands reading (keeps stands) (scenario network f past) (world_of network state) notes)
+    → Follows after_step reading network f h past event state
+    → FitsWorld (keeps stands) network (world_of network state) event.what
+    → (note ≡ note_of_event notes past event)
+    × Stands reading (keeps stands) (scenario network h (past ++ event ∷ [])) (world_of network new) (notes ++ note ∷ [])) where
+  -- it stands again, and the records are the run behind the events of the instant
+  pub befalls : (n : Network) (events : List Event) (notes : List Note) → StandsUnder fresh after_step reading stands n world events notes
+      → IsWithinHypothesis n events event
+      → StandsUnder fresh after_step reading stands n (world_of network new) (events ++ event ∷ []) (notes ++ note ∷ [])
+      × IsRunOf n (reading_of fresh after_step reading n (events ++ event ∷ [])) (events ++ event ∷ []) (behind_events world.now) (notes ++ note ∷ [])
+  befalls n events notes under within =
+      let here = subst (λ (w : World C (Kept M)). StandsUnder fresh after_step reading stands n w events notes) (sym view) under in
+      let early : state.early ≡ true = ap (λ (w : World C (Kept M)). w.early) view ∙ open_to.early in
+      let time : event.time.0 ≡ pos state.time = open_to.time ∙ ap (λ (w : World C (Kept M)). pos w.now) (sym view) in
+      let own = subst (λ (w : World C (Kept M)). IsOfNetwork w.network event.what) (sym view) of_network in
+      let answer : Result Note OutOfMemory = Ok note in
+      let shows : (device : DeviceId) → event.what ≡ On device → (is : DeviceState) × IsShown (keeps stands) network state.machines.items device is =
+      λ device on. shown network device on in (
+        goes_on_there fresh after_step reading grain count law stands network state new event answer many early time own shows still clocks step n events notes
+            here within,
+        subst (λ (w : World C (Kept M)). IsRunOf n (reading_of fresh after_step reading n (events ++ event ∷ [])) (events ++ event ∷ [])
+            (behind_events w.now) (notes ++ note ∷ [])) view
+            (runs_on_there fresh after_step reading grain count law stands network state new event answer many early time own shows still clocks step n events
+            notes here within),
+      )

@@ -1,5 +1,5 @@
 -- What an event makes of the parts of a state.
-use Rattle.std.specs.Prelude.{◌≡◌, ℕ, ℤ, ◌<◌, ◌^◌, List, slice_get, Some, unwrap_or}
+use Rattle.std.specs.Prelude.{◌≡◌, ◌≢◌, ℕ, ℤ, ◌<◌, ◌^◌, List, slice_get, IfSome, None, Option, Some, unwrap_or}
 use Rattle.std.specs.Option.{option_map_or}
 use Rattle.net_plan.specs.declared.event.What.TheVariants as events
 use Rattle.net_plan.specs.declared.event.What.{What}
@@ -27,6 +27,17 @@ way_after link way what was = record {
   hold = unwrap_or (hold_set link way what) was.hold;
   cut = unwrap_or (cut_set link way what) was.cut;
 }
+
+-- the device whose clock or machine it changes, if it changes one
+abbrev pub device_in : What → Option DeviceId
+device_in (events.Rate device rate) = Some device
+device_in (events.On device) = Some device
+device_in (events.Break device) = Some device
+device_in other = None
+
+-- it does not change this device
+abbrev pub IsElsewhere : What → DeviceId → Type 0
+IsElsewhere what device = IfSome (device_in what) (λ d. d.0 ≢ device.0)
 
 -- a delay or a hold that it sets is short
 abbrev pub SetsShort : What → Type 0

@@ -1,5 +1,6 @@
 -- How a world begins.
-use Rattle.std.specs.Prelude.{◌≡◌, ℕ, ◌≤◌, List, [], length, map, replicate, slice_get, Some, true, false, All}
+use Rattle.std.specs.Prelude.{◌≡◌, ℕ, ◌*◌, ◌≤◌, List, [], length, map, replicate, slice_get, Some, true, false, All}
+use Rattle.due_timers.specs.Times.{never}
 use Rattle.net_plan.specs.declared.ids.DeviceId.{DeviceId}
 use Rattle.net_plan.specs.declared.network.Network.{Network}
 use Rattle.net_plan.specs.declared.tables.Link.{Link}
@@ -32,6 +33,7 @@ pub record IsFirstState {C M : Type 0} (fresh : ℕ → C) (last_step : C → �
   pub stored : state.stored.items ≡ []
   pub befell : state.befell.items ≡ []
   pub settled : state.settled.items ≡ []
+  pub timers : state.timers ≡ replicate (2 * length network.device) never
   pub early : state.early ≡ true
   pub pending : state.pending ≡ false
   pub time : state.time ≡ 0

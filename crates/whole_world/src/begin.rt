@@ -9,6 +9,7 @@ use crate::kept::all_kept;
 use crate::state::State;
 use drift_clock::Clock;
 use due_queue::UnderWay;
+use due_timers::Timers;
 use net_plan::Network;
 use run_law::Machine;
 use std::alloc::Global;
@@ -70,6 +71,7 @@ pub fn fresh_state<C: Clock, M: Machine + Drop>(
     let ups = first_ways(alloc, network)?;
     let downs = first_ways(alloc, network)?;
     let broken = none_broken(alloc, machines.len())?;
+    let timers = Timers::new(alloc, 2 * machines.len())?;
     let machines = all_kept(alloc, machines)?;
     Ok(State {
         clocks,
@@ -80,6 +82,7 @@ pub fn fresh_state<C: Clock, M: Machine + Drop>(
         under_way: UnderWay::new(alloc),
         waiting: Vec::new(alloc),
         stored: Vec::new(alloc),
+        timers,
         early: true,
         pending: false,
         befell: Vec::new(alloc),

@@ -1,4 +1,4 @@
-ghost use Rattle.std.specs.Prelude.{◌≡◌, ◌^◌, ◌≤◌, ◌<◌, [], ◌∷◌, List, ℕ, true, false, length, Some, slice_get, if◌then◌else◌, pos, unsigned_abs, ◌++◌, ◌+◌, IfOk, OnOk, OnErr, IfSome, IfNone, None, All, Option, vec_len, vec_capacity};
+ghost use Rattle.std.specs.Prelude.{◌≡◌, ◌↔◌, ◌^◌, ◌≤◌, ◌<◌, [], ◌∷◌, List, ℕ, true, false, length, Some, slice_get, if◌then◌else◌, pos, unsigned_abs, ◌++◌, ◌+◌, IfOk, OnOk, OnErr, IfSome, IfNone, None, All, Option, vec_len, vec_capacity};
 ghost use Rattle.std.specs.VecDeque.{deque_capacity, deque_len};
 ghost use Rattle.due_queue.specs.Places.{IsFirst, numbers_of};
 ghost use Rattle.net_plan.specs.Ranges.{IsInRange};
@@ -80,8 +80,10 @@ impl<C: Clock, M: Machine + Drop> State<C, M> {
     ghost use Rattle.world_law.specs.world.Steps.{ComesFirst, FitsWorld, NothingBefore, StandsBehind};
     ghost use Rattle.world_law.specs.source.Agreeing.{scenario};
     ghost use Rattle.world_law.specs.source.Applying.{note_of_event};
-    ghost use Rattle.whole_world.specs.Applying.{IsShown, SetsShort, clock_after};
+    ghost use Rattle.whole_world.specs.Applying.{IsElsewhere, IsShown, SetsShort, clock_after};
     ghost use Rattle.whole_world.specs.Following.{Follows};
+    ghost use Rattle.run_law.specs.records.Order.{IsIn};
+    ghost use Rattle.whole_world.specs.declared.contents.Waits.{Waits as WaitsValue};
     ghost use Rattle.net_plan.specs.Belonging.{IsOfNetwork};
     ghost use Rattle.net_plan.specs.declared.event.Event.{Event as EventValue};
     ghost use Rattle.net_plan.specs.declared.ids.DeviceId.{DeviceId as DeviceOf};
@@ -240,6 +242,11 @@ impl<C: Clock, M: Machine + Drop> State<C, M> {
         ensures still { (self.new.time ≡ self.old.time) × (self.new.early ≡ self.old.early) }
         ensures clocks { OnOk result ((device : DeviceOf) (clock : C) → slice_get self.old.clocks.items device.0 ≡ Some clock
             → slice_get self.new.clocks.items device.0 ≡ Some (clock_after C.after_step device event.now.time event.now.what clock)) }
+        ensures timers { self.new.timers ≡ self.old.timers }
+        ensures others { OnOk result ((device : DeviceOf) → device.0 < length network.now.device → IsElsewhere event.now.what device
+            → (slice_get self.new.clocks.items device.0 ≡ slice_get self.old.clocks.items device.0)
+            × (slice_get self.new.machines.items device.0 ≡ slice_get self.old.machines.items device.0)
+            × ((w : WaitsValue) → w.device.0 ≡ device.0 → IsIn w self.new.waiting.items ↔ IsIn w self.old.waiting.items)) }
         ensures stands { (f g : DeviceOf → ℕ → ℕ) (past : List EventValue) (notes : List Note)
             → (old : Stands C.reading (keeps M.stands) (scenario network.now f past) (world_of network.now self.old) notes)
             → Follows C.after_step C.reading network.now f g past event.now self.old
@@ -248,6 +255,7 @@ impl<C: Clock, M: Machine + Drop> State<C, M> {
             × Stands C.reading (keeps M.stands) (scenario network.now g (past ++ event.now ∷ [])) (world_of network.now self.new)
             (notes ++ note ∷ [])) }
         ensures err { OnErr result (world_of network.now self.new ≡ world_of network.now self.old) }
+        ensures kept { OnErr result (self.new ≡ record self.old { befell = self.new.befell }) }
     {
         if self.given >= u64::MAX - 1 || self.lines == u64::MAX {
             return Err(OutOfMemory);

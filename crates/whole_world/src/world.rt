@@ -1,4 +1,4 @@
-ghost use Rattle.std.specs.Prelude.{◌≡◌, ◌+◌, ◌<◌, ◌^◌, pos, ◌≤ℤ◌, ◌<ℤ◌, List, [], ◌∷◌, ◌++◌, IfOk, IfSome, IfNone, OnErr, true};
+ghost use Rattle.std.specs.Prelude.{true, ◌≡◌, ◌+◌, ◌<◌, ◌^◌, pos, ◌≤ℤ◌, ◌<ℤ◌, List, [], ◌∷◌, ◌++◌, IfOk, IfSome, IfNone, OnErr};
 ghost use Rattle.net_plan.specs.declared.event.Event.{Event as EventValue};
 ghost use Rattle.net_plan.specs.declared.network.Network.{Network};
 ghost use Rattle.run_law.specs.declared.note.Note.{Note as NoteValue};
@@ -49,10 +49,12 @@ impl<'a, C: Clock, M: Machine + Drop> World<'a, C, M> {
         machines: Vec<M>,
     ) -> Result<World<'a, C, M>, OutOfMemory>
         requires { AreFresh M.stands accepted.now machines.items }
-        ensures { IfOk result (λ world. StandsUnder C.fresh C.after_step C.reading M.stands accepted.now world [] []) }
+        ensures stands { IfOk result (λ world. StandsUnder C.fresh C.after_step C.reading M.stands accepted.now world [] []) }
+        ensures fresh { IfOk result (λ world. (world.now ≡ 0) × (world.early ≡ true)) }
     {
         let network = accepted.network();
-        let state = fresh_state(alloc, network, machines)?;
+        let mut state = fresh_state(alloc, network, machines)?;
+        state.rekey_all(network);
         Ok(World { accepted, state })
     }
 
@@ -82,7 +84,12 @@ impl<'a, C: Clock, M: Machine + Drop> World<'a, C, M> {
         let network = self.accepted.network();
         // A device that is turned on is off: its machine shows it.
         let _shown = self.state.turned_on(&event.what);
-        self.state.apply(network, event)
+        let note = match self.state.apply(network, event) {
+            Ok(note) => note,
+            Err(error) => return Err(error),
+        };
+        self.state.rekey_by(network, &event.what);
+        Ok(note)
     }
 
     /// The next record before a time, which is at most 2^60 + 1. It is None exactly where none is due before it.

@@ -11,6 +11,7 @@ use Rattle.run_law.specs.scenario.Scenarios.{is_broken, is_turned_on_at, turns_o
 use Rattle.tte_units.specs.Amount.{amount}
 use Rattle.whole_world.proofs.Applies.{any_mapped, waits_more, ways_more}
 use Rattle.whole_world.proofs.Beginnings.{found}
+use Rattle.whole_world.proofs.Elsewhere.{clock_elsewhere, waits_elsewhere}
 use Rattle.whole_world.proofs.Fitting.{AreApart, apart_kept, below_more, ways_short}
 use Rattle.whole_world.proofs.TurnedOn.{turned_on_is}
 use Rattle.whole_world.specs.Keeping.{keeps}
@@ -117,4 +118,13 @@ returns-clause-stands g c = λ f h past notes old follows may.
           (notes ++ note_of_event notes past event ∷ [])) (sym c.ends-self.ensures)
           (subst (λ (l : List Befell). Stands K.reading stands then_ (after l (ends_world event.what)) (notes ++ note_of_event notes past event ∷ []))
           (sym befell_is) step)),
+    )
+
+pub returns-clause-others : goal.returns-clause-others
+returns-clause-others g c = λ device there away.
+    let many = c.requires.sound.sized.clocks in (
+      clock_elsewhere g.C.Clock.after_step c.args.self.now.clocks.items c.set_rate.new.clocks.items device c.args.event.now.time c.args.event.now.what
+          (omega (arith, there, many)) away c.set_rate.ensures.each,
+      c.befall_machines.ensures.others device away,
+      waits_elsewhere c.args.self.now.waiting.items c.drop_waiting.new.waiting.items device c.args.event.now.what c.drop_waiting.ensures away,
     )
