@@ -1,11 +1,14 @@
 -- A turn of a world: what comes first, and what the steps keep.
-use Rattle.std.proofs.Common.{◌≡◌, ◌⊎◌, ℕ, ◌+◌, ◌-◌, ◌*◌, ◌<◌, ◌≤◌, ◌^◌, pos, List, [], ◌∷◌, ◌++◌, All, length, map, Option, Some, None, Bool, Result, Ok, Err, slice_get, inl, inr, refl, sym, ap, subst, ◌∙◌, arith}
+use Rattle.std.proofs.Common.{◌≡◌, ◌⊎◌, ℕ, ◌+◌, ◌-◌, ◌*◌, ◌<◌, ◌≤◌, ◌^◌, pos, List, [], ◌∷◌, ◌++◌, All, length, map, Option, Some, None, Bool, true, Result, Ok, Err, slice_get, inl, inr, refl, sym, ap, subst, ◌∙◌, arith}
 use Rattle.std.proofs.lemmas.List.{length-map}
 use Rattle.std.specs.Prelude.{OnErr, OnOk}
 use Rattle.net_plan.specs.declared.ids.DeviceId.{DeviceId}
 use Rattle.net_plan.specs.declared.network.Network.{Network}
 use Rattle.run_law.proofs.runs.Places.{before_later, before_later_time, chain, never_self}
+use Rattle.net_plan.specs.declared.ids.LinkId.{LinkId}
 use Rattle.run_law.specs.declared.note.Note.{Note}
+use Rattle.run_law.specs.declared.note.NoteBody.TheVariants.{Event, Arrived, Permanent, Compressed, Sent, Corrected, State as Changed, Left, Lost, TtSent, Accepted, Delivered, Dropped, Clock as Shown}
+use Rattle.run_law.specs.declared.note.NoteBody.{NoteBody}
 use Rattle.run_law.specs.machines.Nodes.{Node}
 use Rattle.run_law.specs.records.Happenings.{Happening, happenings}
 use Rattle.run_law.specs.records.Order.{IsBefore, IsIn}
@@ -13,7 +16,9 @@ use Rattle.run_law.specs.records.Ranks.{place_of}
 use Rattle.run_law.specs.scenario.Scenarios.{Scenario}
 use Rattle.whole_world.proofs.HiddenCauses.{InOrder, settled_in_order}
 use Rattle.whole_world.proofs.Sources.{of_world, sooner_too}
-use Rattle.whole_world.proofs.Timings.{rekeyed, unchanged}
+use Rattle.whole_world.proofs.Foremost.{timers_later}
+use Rattle.whole_world.proofs.Timings.{passed, rekeyed, unchanged}
+use Rattle.whole_world.specs.Giving.{changed_device}
 use Rattle.whole_world.specs.Keeping.{keeps}
 use Rattle.whole_world.specs.Places.{own_place}
 use Rattle.whole_world.specs.Sound.{IsSound}
@@ -241,7 +246,40 @@ module _ {C M : Type 0} (last_step : C → ℕ) (reading : C → ℕ → ℕ) (s
         given = ap (λ (t : State C M). t.given) same ∙ given;
       }
 
+  -- time passes
+  pub passes : (old new : State C M) (time : ℕ) → IsWell last_step reading stands network old
+      → HasNothingBefore reading stands network old (time ∷ []) → old.time < time → time ≤ 2 ^ 60
+      → new ≡ record old { time = time; early = true } → IsSound last_step network new
+      → ((s : Scenario) (notes : List Note) → Stands reading (keeps stands) s (world_of network old) notes
+      → Stands reading (keeps stands) s (world_of network new) notes)
+      → IsWell last_step reading stands network new
+  passes old new time well none later limit same sound still = record {
+    sound = sound;
+    running = runs_on old new well.running still;
+    timed = subst (AreTimed reading stands network) (sym same)
+    (passed reading stands network old time true well.timed (omega (arith, later))
+    (timers_later reading stands network old well.running time (omega (arith, limit)) well.timed none));
+  }
+
 -- ---- results
+
+-- no device of a network is the one that a record of no arrival changes
+pub far_device : (body : NoteBody)
+    → ((device : DeviceId) (link : LinkId) (cause clock : ℕ) → body ≡ Arrived device link cause clock → ⊥) → changed_device body ≡ 2 ^ 32
+far_device (Event line what) none = refl
+far_device (Arrived device link cause clock) none = absurd (none device link cause clock refl)
+far_device (Permanent device link cause point verdict) none = refl
+far_device (Compressed device opened at cycle members verdict) none = refl
+far_device (Sent device cycle) none = refl
+far_device (Corrected device cycle by adjustment) none = refl
+far_device (Changed device state cause why) none = refl
+far_device (Left device link cause clock) none = refl
+far_device (Lost device link cause) none = refl
+far_device (TtSent device link cause vl cycle) none = refl
+far_device (Accepted device link cause vl cycle) none = refl
+far_device (Delivered device link cause vl cycle) none = refl
+far_device (Dropped device link cause reason) none = refl
+far_device (Shown device reading adjustment state) none = refl
 
 -- one of two clauses of a result serves
 pub either_end : {A E : Type 0} (result : Result A E) (P Q R : Type 0) → OnOk result P → OnErr result Q → (P → R) → (Q → R) → R

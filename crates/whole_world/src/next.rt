@@ -144,7 +144,7 @@ impl<C: Clock, M: Machine + Drop> State<C, M> {
     {
         match self.give(network) {
             Ok(note) => {
-                self.rekey_by(network, &note.body);
+                self.rekey_after(network, &note.body);
                 Ok(Turn::Gives(note))
             }
             Err(error) => Err(error),
@@ -152,7 +152,7 @@ impl<C: Clock, M: Machine + Drop> State<C, M> {
     }
 
     /// A frame that arrived may wait at its device: the timers of the device are set.
-    fn rekey_by(&mut self, network: &Network, body: &NoteBody)
+    fn rekey_after(&mut self, network: &Network, body: &NoteBody)
         requires range { IsInRange network.now }
         requires sized { IsSized C.last_step network.now self.old }
         requires slots { length self.old.timers ≡ 2 * length network.now.device }
