@@ -27,7 +27,10 @@ returns-then-self-clause-nothing g c =
     let S = g.M.Machine.stands in
     let w = c.requires.well in
     let firsts : AreFirsts c.args.self.now c.first-place.result c.first-due.result = record {
-      some_place = c.first-place.ensures.first; no_place = c.first-place.ensures.none; some_due = c.first-due.ensures.first; no_due = c.first-due.ensures.none;
+      some_place = c.first-place.ensures.first;
+      no_place = c.first-place.ensures.none;
+      some_due = c.first-due.ensures.first;
+      no_due = c.first-due.ensures.none;
     } in
     by K.last_step K.reading S c.args.network.now c.args.self.now c.first-place.result c.first-due.result _ w firsts
     (events_first K.last_step K.reading S c.args.network.now c.args.self.now c.first-place.result c.first-due.result w.running w.sound.sized w.timed
@@ -39,13 +42,19 @@ returns-in-Some-clause-there g c =
     let w = c.requires.well in
     let is = c.in-Some.ensures.some in
     let firsts : AreFirsts c.args.self.now c.first-place.result c.first-due.result = record {
-      some_place = c.first-place.ensures.first; no_place = c.first-place.ensures.none; some_due = c.first-due.ensures.first; no_due = c.first-due.ensures.none;
+      some_place = c.first-place.ensures.first;
+      no_place = c.first-place.ensures.none;
+      some_due = c.first-due.ensures.first;
+      no_due = c.first-due.ensures.none;
     } in
     let at = placed K.last_step K.reading g.M.Machine.stands c.args.network.now c.args.self.now c.first-place.result c.first-due.result w.running w.sound.sized
     w.timed w.sound.under_way firsts c.in-Some.arrival is.0 in
     record {
       first = from_some (λ (q : Place). IsFirst c.args.self.now.under_way.entries q) c.first-place.result c.in-Some.arrival c.first-place.ensures.first is.0;
-      now = is.1; rank_is = is.2; device = at.0; link = at.1;
+      now = is.1;
+      rank_is = is.2;
+      device = at.0;
+      link = at.1;
     }
 
 pub returns-in-Some-slot_at-clause-nothing : goal.returns-in-Some-slot_at-clause-nothing
@@ -55,7 +64,10 @@ returns-in-Some-slot_at-clause-nothing g c =
     let w = c.requires.well in
     let d : Due = record { time = c.args.self.now.time; slot = c.in-Some-slot_at.slot } in
     let firsts : AreFirsts c.args.self.now c.first-place.result c.first-due.result = record {
-      some_place = c.first-place.ensures.first; no_place = c.first-place.ensures.none; some_due = c.first-due.ensures.first; no_due = c.first-due.ensures.none;
+      some_place = c.first-place.ensures.first;
+      no_place = c.first-place.ensures.none;
+      some_due = c.first-due.ensures.first;
+      no_due = c.first-due.ensures.none;
     } in
     by K.last_step K.reading S c.args.network.now c.args.self.now c.first-place.result c.first-due.result _ w firsts
     (slot_first K.last_step K.reading S c.args.network.now c.args.self.now c.first-place.result c.first-due.result w.running w.sound.sized w.timed
@@ -68,13 +80,19 @@ returns-in-Some-placed_at-clause-there g c =
     let is = c.in-Some-placed_at.ensures.some in
     let q = c.in-Some-placed_at.departure in
     let firsts : AreFirsts c.args.self.now c.first-place.result c.first-due.result = record {
-      some_place = c.first-place.ensures.first; no_place = c.first-place.ensures.none; some_due = c.first-due.ensures.first; no_due = c.first-due.ensures.none;
+      some_place = c.first-place.ensures.first;
+      no_place = c.first-place.ensures.none;
+      some_due = c.first-due.ensures.first;
+      no_due = c.first-due.ensures.none;
     } in
     let at = placed K.last_step K.reading g.M.Machine.stands c.args.network.now c.args.self.now c.first-place.result c.first-due.result w.running w.sound.sized
     w.timed w.sound.under_way firsts q is.0 in
     record {
       first = from_some (λ (p : Place). IsFirst c.args.self.now.under_way.entries p) c.first-place.result q c.first-place.ensures.first is.0;
-      now = is.1; rank_is = is.2; device = at.0; link = at.1;
+      now = is.1;
+      rank_is = is.2;
+      device = at.0;
+      link = at.1;
     }
 
 pub returns-in-Some-placed_at-clause-nothing : goal.returns-in-Some-placed_at-clause-nothing
@@ -84,7 +102,10 @@ returns-in-Some-placed_at-clause-nothing g c =
     let w = c.requires.well in
     let is = c.in-Some-placed_at.ensures.some in
     let firsts : AreFirsts c.args.self.now c.first-place.result c.first-due.result = record {
-      some_place = c.first-place.ensures.first; no_place = c.first-place.ensures.none; some_due = c.first-due.ensures.first; no_due = c.first-due.ensures.none;
+      some_place = c.first-place.ensures.first;
+      no_place = c.first-place.ensures.none;
+      some_due = c.first-due.ensures.first;
+      no_due = c.first-due.ensures.none;
     } in
     by K.last_step K.reading S c.args.network.now c.args.self.now c.first-place.result c.first-due.result _ w firsts
     (departure_first K.last_step K.reading S c.args.network.now c.args.self.now c.first-place.result c.first-due.result w.running w.sound.sized w.timed
@@ -96,7 +117,10 @@ returns-then-self-as_slice-clause-nothing g c =
     let S = g.M.Machine.stands in
     let w = c.requires.well in
     let firsts : AreFirsts c.args.self.now c.first-place.result c.first-due.result = record {
-      some_place = c.first-place.ensures.first; no_place = c.first-place.ensures.none; some_due = c.first-due.ensures.first; no_due = c.first-due.ensures.none;
+      some_place = c.first-place.ensures.first;
+      no_place = c.first-place.ensures.none;
+      some_due = c.first-due.ensures.first;
+      no_due = c.first-due.ensures.none;
     } in
     by K.last_step K.reading S c.args.network.now c.args.self.now c.first-place.result c.first-due.result _ w firsts
     (clock_first K.last_step K.reading S c.args.network.now c.args.self.now c.first-place.result c.first-due.result w.running w.sound.sized w.timed
@@ -108,7 +132,10 @@ returns-clause-there g c =
     let S = g.M.Machine.stands in
     let w = c.requires.well in
     let firsts : AreFirsts c.args.self.now c.first-place.result c.first-due.result = record {
-      some_place = c.first-place.ensures.first; no_place = c.first-place.ensures.none; some_due = c.first-due.ensures.first; no_due = c.first-due.ensures.none;
+      some_place = c.first-place.ensures.first;
+      no_place = c.first-place.ensures.none;
+      some_due = c.first-due.ensures.first;
+      no_due = c.first-due.ensures.none;
     } in
     c.least_of.ensures.later c.args.self.now.time c.requires.open
     (place_after K.last_step K.reading S c.args.network.now c.args.self.now c.first-place.result c.first-due.result w.running w.sound.sized w.timed
@@ -124,7 +151,10 @@ returns-clause-nothing g c =
     let within = c.least_of.ensures.within in
     let limit = c.requires.limit in
     let firsts : AreFirsts c.args.self.now c.first-place.result c.first-due.result = record {
-      some_place = c.first-place.ensures.first; no_place = c.first-place.ensures.none; some_due = c.first-due.ensures.first; no_due = c.first-due.ensures.none;
+      some_place = c.first-place.ensures.first;
+      no_place = c.first-place.ensures.none;
+      some_due = c.first-due.ensures.first;
+      no_due = c.first-due.ensures.none;
     } in
     by K.last_step K.reading S c.args.network.now c.args.self.now c.first-place.result c.first-due.result _ w firsts
     (none_before K.last_step K.reading S c.args.network.now c.args.self.now c.first-place.result c.first-due.result w.running w.sound.sized w.timed

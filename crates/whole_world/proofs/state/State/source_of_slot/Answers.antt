@@ -18,7 +18,7 @@ high g c =
       | then-slot-devices+in_default w ↦
           let low = w.if-slot-devices.true in
           let ripe = due_ripe g.C.Clock.reading g.M.Machine.stands c.args.network.now c.args.self.now due c.requires.well.timed c.requires.due
-              (omega (arith, low, len)) (omega (arith, limit)) in
+          (omega (arith, low, len)) (omega (arith, limit)) in
           let none = subst (λ (o : Option ℕ). IfNone o _) w.in_default.is w.ripe_index.ensures.none in
           absurd (none ripe.2.0 ripe.0 ripe.2.1 (ap (λ (n : ℕ). let d : DeviceId = record { 0 = n } in d) ripe.2.2) ripe.1 ripe.2.3)
       | else-slot-devices w ↦ let test = w.if-slot-devices.false in omega (arith, test, len)
@@ -36,7 +36,7 @@ returns-clause-there g c =
     let len : length c.as_slice-devices.result.now ≡ length c.args.network.now.device = ap length c.as_slice-devices.ensures in
     let limit = c.requires.well.sound.sized.limit in
     let acts = due_acts g.C.Clock.reading g.M.Machine.stands c.args.network.now c.args.self.now due c.requires.well.timed c.requires.due
-        (high g c) (omega (arith, limit)) in
+    (high g c) (omega (arith, limit)) in
     let slot = acts.1 in
     let same : acts.0.0 ≡ c.args.slot - length c.as_slice-devices.result.now = omega (arith, slot, len) in
     let one : acts.0 ≡ record { 0 = c.args.slot - length c.as_slice-devices.result.now } = ap (λ (n : ℕ). let d : DeviceId = record { 0 = n } in d) same in
