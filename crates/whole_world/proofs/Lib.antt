@@ -2,6 +2,7 @@ pub mod Agreements
 pub mod Alike
 pub mod Apart
 pub mod Applies
+pub mod Arrivals
 pub mod Awaits
 pub mod Befalls
 pub mod Beginnings
@@ -13,7 +14,11 @@ pub mod Firsts
 pub mod Forwards
 pub mod Freshness
 pub mod Foremost
+pub mod Fits
+pub mod Gave
 pub mod Givings
+pub mod Hearings
+pub mod Hears
 pub mod HiddenCauses
 pub mod Histories
 pub mod Launches
@@ -21,6 +26,8 @@ pub mod LeastPoints
 pub mod Mapped
 pub mod Offs
 pub mod Onwards
+pub mod Made
+pub mod MayGive
 pub mod PutTo
 pub mod Puts
 pub mod Sendings
@@ -30,6 +37,8 @@ pub mod Steadiness
 pub mod Suits
 pub mod Sources
 pub mod Timings
+pub mod Storings
+pub mod Signals
 pub mod TurnedOn
 pub mod UnderWays
 pub mod Wells

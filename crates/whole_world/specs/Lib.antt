@@ -1,7 +1,9 @@
 pub mod Applying
 pub mod Beginning
 pub mod Following
+pub mod Frames
 pub mod Giving
+pub mod Hearing
 pub mod Keeping
 pub mod Leaving
 pub mod Naming
@@ -14,3 +16,4 @@ pub mod Running
 pub mod Wells
 pub mod Sourcing
 pub mod Timing
+pub mod Storing

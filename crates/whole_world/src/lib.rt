@@ -4,7 +4,10 @@
 mod applying;
 mod begin;
 mod contents;
+mod frames;
+mod give;
 mod giving;
+mod hear;
 mod kept;
 mod leaving;
 mod memory;
@@ -12,6 +15,7 @@ mod naming;
 mod sending;
 mod settled;
 mod state;
+mod storing;
 mod timing;
 mod waiting;
 mod world;

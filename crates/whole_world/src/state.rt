@@ -12,14 +12,10 @@ use crate::applying::{
     befall_machines, breaks_on, copy_of, drop_waiting, ends, keep_befallen, set_broken, set_rate,
     set_way,
 };
-use crate::contents::{Befallen, Content, Holding, Settled, Timed, Waits, WayState};
-use crate::giving::{Giving, give_frame};
+use crate::contents::{Befallen, Content, Holding, Settled, Waits, WayState};
 use crate::kept::Kept;
 use crate::leaving::{departed, is_parent, take_port};
-use crate::naming::name_followers;
-use crate::sending::{put_on, sent_by};
 use crate::settled::{put_in, put_some};
-use crate::waiting::giver;
 use drift_clock::Clock;
 use due_queue::{Place, UnderWay};
 use due_timers::Timers;
@@ -73,10 +69,11 @@ impl<C: Clock, M: Machine + Drop> State<C, M> {
     ghost use Rattle.run_law.specs.records.Ranks.{place_of};
     ghost use Rattle.world_law.specs.source.First.{NoSourceBefore};
     ghost use Rattle.whole_world.specs.Sound.{AreBelow, AreUnderWay, IsSized, IsSound};
+    ghost use Rattle.whole_world.specs.Stepping.{ChangesOnly};
     ghost use Rattle.whole_world.specs.Leaving.{departure_in, port_entry};
     ghost use Rattle.whole_world.specs.Keeping.{keeps};
     ghost use Rattle.whole_world.specs.Showing.{IsOf};
-    ghost use Rattle.whole_world.specs.Giving.{CameBy, IsGiver, IsGivenOut, IsPutOn, IsYoung, MayBeGiven, giver_of, wire_entry};
+    ghost use Rattle.whole_world.specs.Giving.{CameBy, HasItsOctets, IsGiver, IsGivenOut, IsPutOn, IsYoung, MayBeGiven, giver_of, wire_entry};
     ghost use Rattle.whole_world.specs.declared.giving.Giving.{Giving as GivingValue};
     ghost use Rattle.tte_units.specs.Amount.{amount, units_of};
     ghost use Rattle.run_law.specs.scenario.Devices.{is_parent_of};
@@ -105,6 +102,7 @@ impl<C: Clock, M: Machine + Drop> State<C, M> {
             → Stands C.reading (keeps M.stands) s (world_of network self.old) notes
             → NothingBefore (keeps M.stands) s (world_of network self.old) (time ∷ [])
             → StandsBehind C.reading (keeps M.stands) s (world_of network self.new) notes (time ∷ []) }
+        ensures same { self.new ≡ record self.old { time = time; early = true } }
     {
         self.time = time;
         self.early = true;
@@ -122,6 +120,8 @@ impl<C: Clock, M: Machine + Drop> State<C, M> {
             → ComesFirst C.reading (keeps M.stands) s (world_of network.now self.old) notes old (clock_place self.old.time (record { 0 = self.old.shown }))
             → StandsBehind C.reading (keeps M.stands) s (world_of network.now self.new) notes
             (behind (clock_place self.old.time (record { 0 = self.old.shown }))) }
+        ensures others { (n : ℕ) → ChangesOnly n self.old self.new }
+        ensures same { self.new ≡ record self.old { early = false; settled = self.new.settled; shown = self.old.shown + 1 } }
     {
         let index = self.shown as usize;
         let reading = self.clocks[index].read(Units::from_amount(self.time));
@@ -145,7 +145,7 @@ impl<C: Clock, M: Machine + Drop> State<C, M> {
     }
 
     /// What the clock of a device reads at present.
-    fn reading_of(&self, network: &Network, device: u32) -> u64
+    pub fn reading_of(&self, network: &Network, device: u32) -> u64
         requires sized { IsSized C.last_step network.now self.now }
         requires there { device < length network.now.device }
         ensures { (clock : C) × (slice_get self.now.clocks.items device ≡ Some clock) × (result ≡ C.reading clock self.now.time) }
@@ -168,140 +168,14 @@ impl<C: Clock, M: Machine + Drop> State<C, M> {
         }
     }
 
-    /// The frame of a record that its device gives to links, or waits for.
-    fn giving_by(
-        &self,
-        network: &Network,
-        body: &NoteBody,
-        frame: Option<Pcf>,
-        number: u64,
-    ) -> Option<Giving>
-        requires sized { IsSized C.last_step network.now self.now }
-        ensures some { IfSome result (λ g. IsGiver C.reading network.now self.now body.now frame number g) }
-        ensures none { IfNone result ((device : DeviceOf) → giver_of body.now ≡ Some device → device.0 < length network.now.device
-            → frame ≡ None) }
-    {
-        let device = giver(body)?;
-        if device.0 as usize >= self.broken.len() {
-            return None;
-        }
-        let frame = frame?;
-        let reading = self.reading_of(network, device.0);
-        Some(Giving {
-            device,
-            time: self.time,
-            number,
-            frame,
-            reading,
-            broken: self.broken[device.0 as usize],
-        })
-    }
-
-    /// Puts on a wire what a record puts there.
-    fn launch_wire(
-        &mut self,
-        network: &Network,
-        body: &NoteBody,
-        frame: Option<Pcf>,
-        octets: Option<Timed>,
-        number: u64,
-    )
-        requires sized { IsSized C.last_step network.now self.old }
-        requires range { IsInRange network.now }
-        requires room { 0 < self.old.under_way.room }
-        requires up_delays { All (λ w. w.delay < 2 ^ 62) self.old.ups.items }
-        requires down_delays { All (λ w. w.delay < 2 ^ 62) self.old.downs.items }
-        ensures same { self.new ≡ record self.old { under_way = self.new.under_way } }
-        ensures sent { IsPutOn (wire_entry network.now self.old.ups.items self.old.downs.items body.now frame octets self.old.time number)
-            self.old.under_way.entries self.new.under_way.entries }
-    {
-        let entry = sent_by(
-            network,
-            self.ups.as_slice(),
-            self.downs.as_slice(),
-            body,
-            frame,
-            octets,
-            self.time,
-            number,
-        );
-        put_on(&mut self.under_way, entry);
-    }
-
-    /// Gives the frame of a record to ports and has it wait, as its device does.
-    fn launch_frame(&mut self, network: &Network, body: &NoteBody, frame: Option<Pcf>, number: u64)
-        requires sized { IsSized C.last_step network.now self.old }
-        requires range { IsInRange network.now }
-        requires by { CameBy (length network.now.link) body.now }
-        requires young { IsYoung (amount network.now.dmax) body.now }
-        requires room { length network.now.link ≤ self.old.under_way.room }
-        requires capacity { vec_len self.old.waiting < vec_capacity self.old.waiting }
-        requires up_holds { All (λ w. w.hold < 2 ^ 62) self.old.ups.items }
-        requires down_holds { All (λ w. w.hold < 2 ^ 62) self.old.downs.items }
-        requires low { (k : ℕ) (clock : C) → slice_get self.old.clocks.items k ≡ Some clock → C.reading clock self.old.time ≤ 2 ^ 60 + 2 ^ 51 }
-        ensures same { self.new ≡ record self.old { under_way = self.new.under_way; waiting = self.new.waiting } }
-        ensures room { self.old.under_way.room ≤ self.new.under_way.room + length network.now.link }
-        ensures sound { AreBelow number self.old.under_way.entries → AreUnderWay network.now self.old.under_way.entries
-            → AreUnderWay network.now self.new.under_way.entries }
-        ensures given { (giving : Option GivingValue) × IsGivenOut C.reading network.now self.old self.new body.now frame number giving }
-    {
-        let giving = self.giving_by(network, body, frame, number);
-        give_frame(
-            &mut self.under_way,
-            &mut self.waiting,
-            network,
-            self.ups.as_slice(),
-            self.downs.as_slice(),
-            body,
-            giving,
-        );
-    }
-
-    /// Gives what is settled its number, the first that is settled, and launches what it does.
-    fn give_first(&mut self, network: &Network, first: Settled) -> Note
-        requires sized { IsSized C.last_step network.now self.old }
-        requires range { IsInRange network.now }
-        requires may { MayBeGiven network.now first.body first.frame first.octets }
-        requires number { self.old.given + 1 < 2 ^ 64 }
-        requires room { length network.now.link < self.old.under_way.room }
-        requires capacity { vec_len self.old.waiting < vec_capacity self.old.waiting }
-        requires up_holds { All (λ w. w.hold < 2 ^ 62) self.old.ups.items }
-        requires down_holds { All (λ w. w.hold < 2 ^ 62) self.old.downs.items }
-        requires up_delays { All (λ w. w.delay < 2 ^ 62) self.old.ups.items }
-        requires down_delays { All (λ w. w.delay < 2 ^ 62) self.old.downs.items }
-        requires low { (k : ℕ) (clock : C) → slice_get self.old.clocks.items k ≡ Some clock → C.reading clock self.old.time ≤ 2 ^ 60 + 2 ^ 51 }
-        ensures note { result ≡ record { number = self.old.given + 1; time = units_of self.old.time; body = first.body } }
-        ensures given { self.new.given ≡ self.old.given + 1 }
-        ensures stands { (f : DeviceOf → ℕ → ℕ) (past : List EventValue) (notes : List Note)
-            → (old : Stands C.reading (keeps M.stands) (scenario network.now f past) (with_first network.now self.old first self.old.settled.items) notes)
-            → NoSourceBefore (scenario network.now f past) (happenings network.now notes) old.cursor (place_of (settled_at network.now self.old.time first))
-            → StandsBehind C.reading (keeps M.stands) (scenario network.now f past) (world_of network.now self.new)
-            (notes ++ note_of notes (settled_at network.now self.old.time first) ∷ []) (behind (place_of (settled_at network.now self.old.time first))) }
-    {
-        let number = self.given + 1;
-        name_followers(&mut self.settled, number, &first.body);
-        self.launch_frame(network, &first.body, first.frame, number);
-        let Settled {
-            body,
-            frame,
-            octets,
-        } = first;
-        self.launch_wire(network, &body, frame, octets, number);
-        self.given = number;
-        Note {
-            number,
-            time: Units::from_amount(self.time),
-            body,
-        }
-    }
-
     /// The record of a frame at a port that leaves; of a broken device there is none.
     fn departure(&self, network: &Network, place: Place, frame: Pcf, given: u64) -> Option<Settled>
         requires sized { IsSized C.last_step network.now self.now }
         requires range { IsInRange network.now }
         requires device { place.device < length network.now.device }
         requires link { place.link < length network.now.link }
-        ensures { (s : Scenario) → IsOf C.reading s network.now self.now
+        ensures octets { IfSome result (λ z. HasItsOctets z.body z.octets) }
+        ensures is { (s : Scenario) → IsOf C.reading s network.now self.now
             → result ≡ departure_in s self.now.time (port_entry place frame given) }
     {
         if self.broken[place.device as usize] {
@@ -326,6 +200,9 @@ impl<C: Clock, M: Machine + Drop> State<C, M> {
             → (old : Stands C.reading (keeps M.stands) s (world_of network.now self.old) notes) → place.at ≡ self.old.time
             → ComesFirst C.reading (keeps M.stands) s (world_of network.now self.old) notes old (numbers_of place)
             → StandsBehind C.reading (keeps M.stands) s (world_of network.now self.new) notes (behind (numbers_of place)) }
+        ensures others { (n : ℕ) → ChangesOnly n self.old self.new }
+        ensures same { self.new ≡ record self.old { early = false; under_way = self.new.under_way; settled = self.new.settled } }
+        ensures shorter { length self.old.under_way.entries ≡ length self.new.under_way.entries + 1 }
     {
         let (frame, given) = take_port(&mut self.under_way, place);
         self.early = false;
