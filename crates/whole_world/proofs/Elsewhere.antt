@@ -1,5 +1,5 @@
 -- An event leaves all devices as they were but one.
-use Rattle.std.proofs.Common.{◌≡◌, ◌≢◌, ◌⊎◌, ◌↔◌, ℕ, ℤ, ◌*◌, ◌+◌, ◌<◌, ◌≤◌, Bool, true, false, ◌==◌, if◌then◌else◌, List, [], ◌∷◌, All, filter, length, map, Option, Some, None, slice_get, inl, inr, refl, sym, ap, subst, ◌∙◌, arith}
+use Rattle.std.proofs.Common.{◌≡◌, ◌≢◌, ◌↔◌, ℕ, ℤ, ◌+◌, ◌<◌, ◌≤◌, Bool, true, false, ◌==◌, if◌then◌else◌, List, [], ◌∷◌, All, filter, length, Option, Some, None, slice_get, inl, inr, refl, sym, ap, subst, ◌∙◌, arith}
 use Rattle.std.specs.Prelude.{IfSome, not}
 use Rattle.std.specs.Option.{option_map_or}
 use Rattle.std.proofs.lemmas.Bool.{cases_eq, eqb-true, false_from_ne_true}
@@ -12,7 +12,6 @@ use Rattle.run_law.proofs.law.FirstPlaces.{in_filter}
 use Rattle.run_law.specs.machines.Nodes.{Node}
 use Rattle.run_law.specs.records.Order.{IsIn}
 use Rattle.run_law.specs.scenario.Hypothesis.{breaks_at}
-use Rattle.run_law.specs.scenario.Rates.{step_by}
 use Rattle.tte_units.specs.Amount.{amount}
 use Rattle.tte_units.specs.declared.units.Units.{Units}
 use Rattle.whole_world.proofs.Timings.{still_timed}

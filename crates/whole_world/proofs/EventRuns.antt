@@ -1,17 +1,15 @@
 -- Where only events of the present instant are worked off, the records given are the run behind them.
 use Rattle.std.proofs.Common.{◌≡◌, ◌⊎◌, ℕ, ◌+◌, ◌≤◌, ◌<◌, List, [], ◌∷◌, ◌++◌, true, inl, inr, refl, sym, ap, subst, ◌∙◌, arith}
-use Rattle.std.proofs.lemmas.Bool.{cases_lt}
 use Rattle.std.proofs.lemmas.List.{append-nil}
 use Rattle.net_plan.specs.declared.event.Event.{Event}
-use Rattle.net_plan.specs.declared.event.What.TheVariants.{End}
 use Rattle.net_plan.specs.declared.ids.DeviceId.{DeviceId}
 use Rattle.net_plan.specs.declared.network.Network.{Network}
 use Rattle.run_law.proofs.runs.Grow.{move_mark}
-use Rattle.run_law.proofs.runs.Places.{before_or_not, chain, never_self}
+use Rattle.run_law.proofs.runs.Places.{chain, never_self}
 use Rattle.run_law.specs.declared.note.Note.{Note}
 use Rattle.run_law.specs.machines.Nodes.{Node}
-use Rattle.run_law.specs.records.Happenings.{Happening, happenings, time_of}
-use Rattle.run_law.specs.records.Order.{AllBefore, IsBefore, IsIn}
+use Rattle.run_law.specs.records.Happenings.{Happening, happenings}
+use Rattle.run_law.specs.records.Order.{IsBefore, IsIn}
 use Rattle.run_law.specs.records.Ranks.{place_of}
 use Rattle.run_law.specs.runs.DueRecords.{IsDue, IsScenarioRun}
 use Rattle.run_law.specs.scenario.Scenarios.{Scenario}
@@ -19,7 +17,6 @@ use Rattle.tte_units.specs.Amount.{amount}
 use Rattle.world_law.proofs.runs.Firsts.{source_before}
 use Rattle.world_law.proofs.runs.Next.{none_due}
 use Rattle.world_law.proofs.runs.Sourced.{sourced}
-use Rattle.world_law.specs.source.First.{NoSourceBefore}
 use Rattle.world_law.specs.source.Next.{NoneDueBefore}
 use Rattle.world_law.specs.source.Sources.{IsSource}
 use Rattle.world_law.specs.world.World.{AreSettled, IsWorkedOff, Stands, World}

@@ -1,5 +1,5 @@
 -- What is fit stays so where an event befalls.
-use Rattle.std.proofs.Common.{◌≡◌, ℕ, zero, suc, ◌+◌, ◌≤◌, ◌<◌, ◌^◌, Bool, true, false, if◌then◌else◌, List, [], ◌∷◌, filter, length, Option, Some, None, inl, inr, refl, sym, ap, subst, ◌∙◌, arith}
+use Rattle.std.proofs.Common.{◌≡◌, ℕ, zero, suc, ◌+◌, ◌<◌, ◌^◌, Bool, true, false, if◌then◌else◌, List, [], ◌∷◌, filter, length, Option, Some, None, refl, sym, subst, ◌∙◌, arith}
 use Rattle.std.specs.Prelude.{slice_get, unwrap_or, All}
 use Rattle.std.proofs.lemmas.List.Elements.{All-filter}
 use Rattle.std.proofs.lemmas.Option.{slice_get-get_or}
@@ -8,7 +8,7 @@ use Rattle.net_plan.specs.declared.event.What.TheVariants as events
 use Rattle.net_plan.specs.declared.ids.LinkId.{LinkId}
 use Rattle.net_plan.specs.declared.tables.Way.{Way}
 use Rattle.run_law.proofs.law.FirstPlaces.{in_at, in_filter}
-use Rattle.run_law.specs.scenario.Ways.{hold_set, is_way_of, wire_set}
+use Rattle.run_law.specs.scenario.Ways.{is_way_of}
 use Rattle.schedule_tables.proofs.EntryLemmas.{all_at}
 use Rattle.tte_units.specs.Amount.{amount}
 use Rattle.whole_world.proofs.Beginnings.{found}

@@ -1,20 +1,17 @@
 -- A world as it is at first is sound, and it stands.
-use Rattle.std.proofs.Common.{◌≡◌, ℕ, ◌+◌, ◌≤◌, ◌<◌, ◌^◌, ℤ, pos, ◌≤ℤ◌, List, [], ◌∷◌, ◌++◌, filter_map, length, map, replicate, slice_get, Some, All, refl, sym, ap, subst, ◌∙◌, arith}
+use Rattle.std.proofs.Common.{◌≡◌, ℕ, ◌+◌, ◌<◌, ℤ, List, [], ◌∷◌, ◌++◌, filter_map, length, map, slice_get, All, refl, sym, ap, subst, ◌∙◌, arith}
 use Rattle.std.specs.Option.{option_map}
 use Rattle.std.proofs.lemmas.Int.{ints}
 use Rattle.std.proofs.lemmas.List.{length-map, length-replicate}
 use Rattle.std.proofs.lemmas.List.Elements.{All-nil}
 use Rattle.std.proofs.lemmas.Option.{slice_get-get_or, slice_get-map}
 use Rattle.drift_clock.proofs.Readings.{IsLawful, begins_at_zero, keeps_clock_laws}
-use Rattle.due_queue.specs.declared.Entry.{Entry}
 use Rattle.net_plan.specs.Belonging.{IsOfNetwork}
 use Rattle.net_plan.specs.Ranges.{IsInRange, IsLinkInRange}
 use Rattle.net_plan.specs.declared.event.Event.{Event}
 use Rattle.net_plan.specs.declared.ids.DeviceId.{DeviceId}
 use Rattle.net_plan.specs.declared.network.Network.{Network}
-use Rattle.net_plan.specs.declared.tables.Link.{Link}
 use Rattle.run_law.specs.machines.Nodes.{Node}
-use Rattle.run_law.specs.records.Order.{IsIn}
 use Rattle.run_law.specs.scenario.Hypothesis.{AreWithinHypothesis}
 use Rattle.schedule_tables.proofs.EntryLemmas.{all_at}
 use Rattle.schedule_tables.specs.Rules.{KeepsRules}
@@ -29,14 +26,12 @@ use Rattle.whole_world.specs.Keeping.{keeps, sound_one}
 use Rattle.whole_world.specs.Running.{StandsUnder, reading_of}
 use Rattle.whole_world.specs.Sound.{AreBelow, AreUnderWay, IsShort, IsSound}
 use Rattle.whole_world.specs.Views.{at_port, on_wire, way_as, world_of}
-use Rattle.whole_world.specs.declared.contents.Content.{Content}
 use Rattle.whole_world.specs.declared.contents.Settled.{Settled}
 use Rattle.whole_world.specs.declared.contents.Waits.{Waits}
-use Rattle.whole_world.specs.declared.contents.WayState.{WayState}
 use Rattle.whole_world.specs.declared.state.State.{State}
 use Rattle.world_law.proofs.steps.Beginnings.{begun}
 use Rattle.world_law.specs.source.Agreeing.{scenario}
-use Rattle.world_law.specs.world.World.{AreWays, Stands}
+use Rattle.world_law.specs.world.World.{AreWays}
 
 none_within : (network : Network) → AreWithinHypothesis network []
 none_within network before behind e order = absurd (from before order)

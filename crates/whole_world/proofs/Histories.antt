@@ -1,5 +1,5 @@
 -- The rates that events within the hypothesis set are a history of a clock.
-use Rattle.std.proofs.Common.{◌≡◌, ℕ, zero, suc, ◌≤◌, ◌<◌, ◌==◌, List, [], ◌∷◌, ◌++◌, append_assoc, Option, Some, None, true, false, if◌then◌else◌, unsigned_abs, pos, ◌≤ℤ◌, inl, inr, refl, sym, ap, subst, ◌∙◌, arith}
+use Rattle.std.proofs.Common.{◌≡◌, ℕ, zero, suc, ◌≤◌, ◌==◌, List, [], ◌∷◌, ◌++◌, append_assoc, Option, Some, None, true, false, if◌then◌else◌, unsigned_abs, pos, ◌≤ℤ◌, inl, inr, refl, sym, ap, subst, ◌∙◌, arith}
 use Rattle.std.specs.List.{All, cons_option}
 use Rattle.std.specs.List.Sorted.{IsNonDecreasingBy}
 use Rattle.std.proofs.lemmas.Bool.{cases_lt}
@@ -15,7 +15,7 @@ use Rattle.run_law.proofs.runs.Grow.{in_two}
 use Rattle.run_law.proofs.runs.Places.{in_right}
 use Rattle.run_law.specs.declared.outside.Outside.TheVariants as outside
 use Rattle.run_law.specs.records.Order.{IsIn}
-use Rattle.run_law.specs.scenario.Hypothesis.{AreWithinHypothesis, ComesTooEarly, IsWithinHypothesis}
+use Rattle.run_law.specs.scenario.Hypothesis.{AreWithinHypothesis, IsWithinHypothesis}
 use Rattle.run_law.specs.scenario.Rates.{rate_steps, step_by}
 use Rattle.tte_units.specs.Amount.{amount}
 use Rattle.tte_units.specs.declared.rates.Ppb.{Ppb}

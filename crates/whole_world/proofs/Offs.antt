@@ -1,9 +1,7 @@
 -- A device that began off, and that no event turned on, is off.
-use Rattle.std.proofs.Common.{◌≡◌, ◌⊎◌, ℕ, ◌+◌, ◌≤◌, ◌<◌, ℤ, Bool, true, false, ◌&&◌, ◌||◌, ◌==◌, if◌then◌else◌, List, [], ◌∷◌, ◌++◌, append_assoc, fold, Option, Some, None, inl, inr, refl, sym, ap, subst, ◌∙◌, arith}
-use Rattle.std.specs.Prelude.{nat_lt, IsSomeAnd, IsNone, MatchBool, option_and_then, slice_get}
-use Rattle.std.specs.List.{Any, filter, list_any}
-use Rattle.std.proofs.lemmas.Bool.{cases_Bool, eqb-true, false_from_ne_true}
-use Rattle.std.proofs.lemmas.List.{append-nil}
+use Rattle.std.proofs.Common.{◌≡◌, ℕ, ℤ, Bool, true, false, ◌&&◌, ◌||◌, ◌==◌, if◌then◌else◌, List, [], ◌∷◌, ◌++◌, append_assoc, fold, Option, Some, None, inl, inr, refl, sym, ap, subst, ◌∙◌}
+use Rattle.std.specs.Prelude.{nat_lt, IsSomeAnd, IsNone, MatchBool, option_and_then}
+use Rattle.std.proofs.lemmas.Bool.{eqb-true, false_from_ne_true}
 use Rattle.compression.specs.Clusters.{point_at}
 use Rattle.compression.specs.declared.taken.Taken.TheVariants as taken
 use Rattle.compression.specs.declared.taken.Taken.{Taken}
@@ -16,7 +14,7 @@ use Rattle.net_plan.specs.declared.ids.LinkId.{LinkId}
 use Rattle.net_plan.specs.declared.tables.Device.{Device}
 use Rattle.pcf_values.specs.declared.members.Members.{Members}
 use Rattle.run_law.proofs.law.FirstPlaces.{in_at, in_filter, numbered_in}
-use Rattle.run_law.proofs.runs.Places.{in_left, in_parts, in_right, parted}
+use Rattle.run_law.proofs.runs.Places.{in_parts}
 use Rattle.run_law.specs.control.Collections.{master_of, observation_window, point_fault, points_of, ripe_by_role}
 use Rattle.run_law.specs.control.Corrections.{ComesToCorrection, next_cycle}
 use Rattle.run_law.specs.control.Emissions.{Emits}
@@ -30,9 +28,8 @@ use Rattle.run_law.specs.declared.judgement.Why.{Why}
 use Rattle.run_law.specs.declared.note.NoteBody.TheVariants as notes
 use Rattle.run_law.specs.declared.note.NoteBody.{NoteBody}
 use Rattle.run_law.specs.declared.steps.Ripe.TheVariants as ripe
-use Rattle.run_law.specs.declared.steps.Ripe.{Ripe}
 use Rattle.run_law.specs.device.StateChanges.{ChangesState}
-use Rattle.run_law.specs.device.States.{adjustment_at_hearing, has_joined_at, is_joined_by, state_after, state_at_hearing, state_before, state_with}
+use Rattle.run_law.specs.device.States.{adjustment_at_hearing, has_joined_at, state_after, state_at_hearing, state_before, state_with}
 use Rattle.run_law.specs.records.Happenings.{Happening, earlier, time_of}
 use Rattle.run_law.specs.records.Order.{IsIn}
 use Rattle.run_law.specs.runs.DueRecords.{IsCaused, IsDue, IsEventRecord}

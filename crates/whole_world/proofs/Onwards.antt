@@ -1,7 +1,6 @@
 -- A world goes on by an event.
 use Rattle.std.proofs.Common.{◌≡◌, ℕ, ◌≤◌, ◌<◌, ℤ, pos, ◌≤ℤ◌, List, [], ◌∷◌, ◌++◌, length, slice_get, Some, true, unsigned_abs, inl, inr, refl, sym, ap, subst, ◌∙◌, arith}
-use Rattle.std.specs.Prelude.{IfOk, OnErr, OnOk, Result, Ok, Err}
-use Rattle.std.specs.List.{All}
+use Rattle.std.specs.Prelude.{IfOk, OnOk, Result, Ok, Err}
 use Rattle.std.proofs.lemmas.Int.{ints}
 use Rattle.std.proofs.lemmas.List.Elements.{All-push}
 use Rattle.std.proofs.lemmas.Option.{slice_get_within}
@@ -20,7 +19,6 @@ use Rattle.run_law.specs.scenario.Hypothesis.{IsWithinHypothesis}
 use Rattle.sync_state.specs.declared.state.State.{State as DeviceState}
 use Rattle.tte_units.specs.Amount.{amount}
 use Rattle.whole_world.proofs.Agreements.{clock_more, reads_same, reads_value}
-use Rattle.whole_world.proofs.Beginnings.{found}
 use Rattle.whole_world.proofs.EventRuns.{run_behind_events}
 use Rattle.whole_world.proofs.Fitting.{some_is}
 use Rattle.whole_world.proofs.Forwards.{forward}

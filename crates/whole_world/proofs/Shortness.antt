@@ -1,10 +1,9 @@
 -- A delay or a hold that an event within the hypothesis sets is short.
-use Rattle.std.proofs.Common.{◌≡◌, ◌⊎◌, ℕ, ℤ, negsuc, unsigned_abs, List, ◌+◌, ◌<◌, ◌≤◌, ◌^◌, pos, ◌≤ℤ◌, ◌<ℤ◌, ◌+ℤ◌, length, Option, Some, inl, inr, refl, sym, subst, arith}
+use Rattle.std.proofs.Common.{◌≡◌, ◌⊎◌, ℤ, negsuc, unsigned_abs, List, ◌≤◌, ◌^◌, pos, ◌≤ℤ◌, ◌<ℤ◌, ◌+ℤ◌, Option, inl, inr, sym, subst, arith}
 use Rattle.std.specs.Prelude.{IsSomeAnd}
 use Rattle.std.proofs.lemmas.Bool.{cases_lt}
 use Rattle.std.proofs.lemmas.Int.{ints}
 use Rattle.net_plan.specs.Belonging.{IsOfNetwork}
-use Rattle.net_plan.specs.Places.{link_at}
 use Rattle.net_plan.specs.Ranges.{IsInRange, IsLinkInRange}
 use Rattle.net_plan.specs.declared.event.Event.{Event}
 use Rattle.net_plan.specs.declared.event.What.{What}
@@ -18,7 +17,6 @@ use Rattle.tte_units.specs.Amount.{amount}
 use Rattle.whole_world.proofs.Beginnings.{found}
 use Rattle.whole_world.specs.Applying.{SetsShort}
 use Rattle.whole_world.specs.Running.{HoldsATime}
-use Rattle.whole_world.specs.declared.contents.WayState.{WayState}
 
 pub sets_short : (network : Network) (past : List Event) (event : Event) → IsInRange network → IsWithinHypothesis network past event → (what : What)
     → event.what ≡ what → IsOfNetwork network what → HoldsATime what → SetsShort what

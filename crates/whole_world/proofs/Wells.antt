@@ -1,5 +1,5 @@
 -- A state is well, where only its timers are set anew.
-use Rattle.std.proofs.Common.{◌≡◌, ℕ, ◌≤◌, List, All, refl, sym, ap, subst, arith}
+use Rattle.std.proofs.Common.{◌≡◌, ℕ, sym, subst}
 use Rattle.net_plan.specs.declared.network.Network.{Network}
 use Rattle.whole_world.specs.Sound.{IsSound}
 use Rattle.whole_world.specs.declared.state.State.{State}

@@ -4,8 +4,8 @@
 mod applying;
 mod begin;
 mod contents;
-mod give;
 mod frames;
+mod give;
 mod giving;
 mod hear;
 mod kept;

@@ -1,7 +1,5 @@
-use Rattle.std.proofs.Common.{◌≡◌, ◌≤◌, ◌++◌, ◌∷◌, [], List, refl, sym, ap, subst, ◌∙◌, arith, length, pos}
-use Rattle.std.specs.Prelude.{IfOk, OnErr}
+use Rattle.std.proofs.Common.{◌≡◌, ◌++◌, ◌∷◌, [], List, refl, sym, ap, subst, ◌∙◌, arith, length}
 use Rattle.drift_clock.proofs.Readings.{IsLawful}
-use Rattle.net_plan.specs.Belonging.{IsOfNetwork}
 use Rattle.net_plan.specs.declared.event.Event.{Event}
 use Rattle.net_plan.specs.declared.network.Network.{Network}
 use Rattle.run_law.specs.declared.note.Note.{Note}
@@ -17,7 +15,6 @@ use Rattle.whole_world.specs.Keeping.{keeps}
 use Rattle.whole_world.specs.Running.{StandsUnder, behind_events, reading_of}
 use Rattle.whole_world.specs.Sound.{IsSound}
 use Rattle.whole_world.specs.Sourcing.{AreTimed}
-use Rattle.whole_world.specs.Stepping.{IsRunning}
 use Rattle.whole_world.specs.Views.{world_of}
 use Rattle.whole_world.specs.declared.kept.Kept.{Kept}
 use Rattle.whole_world.specs.declared.state.State.{State}
