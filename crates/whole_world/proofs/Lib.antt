@@ -1,3 +1,4 @@
+pub mod Acts
 pub mod Alike
 pub mod Apart
 pub mod Applies

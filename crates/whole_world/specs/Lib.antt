@@ -1,3 +1,4 @@
+pub mod Acting
 pub mod Applying
 pub mod Beginning
 pub mod Following

@@ -1,15 +1,17 @@
-ghost use Rattle.std.specs.Prelude.{◌≡◌, Bool, map, IfOk};
+ghost use Rattle.std.specs.Prelude.{◌≡◌, Bool, true, map, IfOk, IfSome, IfNone};
 ghost use Rattle.net_plan.specs.declared.ids.DeviceId.{DeviceId};
 ghost use Rattle.net_plan.specs.declared.network.Network.{Network};
 ghost use Rattle.net_plan.specs.declared.event.What.TheVariants.{On, Break};
+ghost use Rattle.run_law.specs.machines.Calls.{MayAct, StandsFor};
 ghost use Rattle.run_law.specs.machines.Nodes.{Node};
 ghost use Rattle.run_law.specs.machines.Tasks.{IsDueReading};
 ghost use Rattle.sync_state.specs.declared.state.State.TheVariants.{Off};
 ghost use Rattle.whole_world.specs.Keeping.{keeps, sound_one};
+ghost use Rattle.world_law.specs.world.Acting.{HasActed};
 ghost use Rattle.world_law.specs.world.Steps.{befallen_node};
 
 use crate::OutOfMemory;
-use run_law::Machine;
+use run_law::{Act, Machine, Moment};
 use std::alloc::Global;
 use sync_state::State;
 use tte_units::Units;
@@ -51,6 +53,20 @@ impl<M: Machine + Drop> Kept<M> {
     {
         match self {
             Kept::Sound(machine) => machine.due(),
+            Kept::Out(_, _) => None,
+        }
+    }
+
+    /// Does the first of all that is due at the moment. Where it is None, the device is broken.
+    pub fn act(&mut self, moment: Moment) -> Option<Act>
+        requires { StandsFor (keeps M.stands) self.old (λ network device node. MayAct network device node moment) }
+        ensures acted { IfSome result (λ act. (network : Network) (device : DeviceId)
+            → HasActed (keeps M.stands) network device moment act self.old self.new) }
+        ensures none { IfNone result ((network : Network) (device : DeviceId) (node : Node)
+            → keeps M.stands self.old network device node → node.broken ≡ true) }
+    {
+        match self {
+            Kept::Sound(machine) => Some(machine.act(moment)),
             Kept::Out(_, _) => None,
         }
     }

@@ -1,6 +1,7 @@
 //! A whole world: a network as it runs, with all its frames.
 #![tactic(auto)]
 
+mod act;
 mod applying;
 mod begin;
 mod contents;
@@ -9,6 +10,7 @@ mod kept;
 mod leaving;
 mod memory;
 mod naming;
+mod outcomes;
 mod sending;
 mod settled;
 mod state;
