@@ -9,6 +9,7 @@ pub mod FirstSettled
 pub mod Firsts
 pub mod Givings
 pub mod HiddenCauses
+pub mod Holdings
 pub mod Launches
 pub mod Mapped
 pub mod PutTo

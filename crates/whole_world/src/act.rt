@@ -1,4 +1,4 @@
-ghost use Rattle.std.specs.Prelude.{◌≡◌, ◌≤◌, ◌<◌, ◌+◌, ◌^◌, ◌↔◌, ℕ, List, Option, Some, None, Bool, true, false, length, slice_get, IfSome, IfNone, IsTrue};
+ghost use Rattle.std.specs.Prelude.{◌≡◌, ◌≤◌, ◌<◌, ◌+◌, ◌^◌, ◌↔◌, ℕ, List, Option, Some, None, Bool, true, false, length, slice_get, IfSome, IfNone, IsSomeAnd, IsTrue, IsFalse, ◌≤ℤ◌, ◌<ℤ◌};
 ghost use Rattle.std.specs.VecDeque.{deque_capacity, deque_len};
 ghost use Rattle.net_plan.specs.Ranges.{IsInRange};
 ghost use Rattle.net_plan.specs.declared.ids.DeviceId.{DeviceId as DeviceOf};
@@ -104,6 +104,17 @@ fn dispatched(cut: bool, device: DeviceId, entry: &Entry, cycle: u32, hand: AtHa
     }
 }
 
+/// Is the reading that is due, if there is one, reached?
+fn is_reached(due: Option<Units>, reading: Units) -> bool
+    ensures reached { IsTrue result → IsSomeAnd due (λ at. at.0 ≤ℤ reading.0) }
+    ensures later { IsFalse result → IfSome due (λ at. reading.0 <ℤ at.0) }
+{
+    match due {
+        Some(at) => at.0 <= reading.0,
+        None => false,
+    }
+}
+
 impl<C: Clock, M: Machine + Drop> State<C, M> {
     /// The present instant, as the device meets it.
     fn moment_at(&self, network: &Network, device: DeviceId) -> Moment
@@ -175,10 +186,7 @@ impl<C: Clock, M: Machine + Drop> State<C, M> {
             → slice_get self.now.machines.items device.0 ≡ Some machine → IsIdle M.stands s self.now.time device machine }
     {
         let moment = self.moment_at(network, device);
-        match self.machines[device.0 as usize].due() {
-            Some(due) => due.0 <= moment.reading.0,
-            None => false,
-        }
+        is_reached(self.machines[device.0 as usize].due(), moment.reading)
     }
 
     /// The device does the first of all that is due. Is more due at the instant?
