@@ -1,3 +1,4 @@
+pub mod ActRecords
 pub mod Acts
 pub mod Alike
 pub mod Apart

@@ -24,7 +24,7 @@ returns c =
     let there = subst (IsSearched c.args.device c.args.vl xs) c.in_ok-index.was found in
     let it = found_holding c.args.device c.args.vl xs c.in_ok-index.index c.index-stored-index.result there in
     let here = subst (λ (h : Holding). IsIn h xs × Is c.args.device c.args.vl h) (sym c.index-stored-index.is) it in
-    (c.index-stored-index.result, here.0, here.1.0, (here.1.1, of_octets c.index-stored-index.result c.copied.result c.copied.ensures))
+    (c.index-stored-index.result, here.0, here.1.0, here.1.1, of_octets c.index-stored-index.result c.copied.result c.copied.ensures)
   where
     of_octets : (h : Holding) (o : Timed) → o ≡ h.octets
         → ◌≡◌ {A = AtHand} (record { cause = h.number; octets = o }) (record { cause = h.number; octets = h.octets })
