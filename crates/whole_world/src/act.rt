@@ -14,10 +14,12 @@ ghost use Rattle.schedule_tables.specs.declared.entry.Entry.{Entry as EntryValue
 ghost use Rattle.whole_world.specs.Acting.{AreOutcomes, HasItsRow, IsDispatched, IsDueAt, IsHand, IsHeldIn, IsIdle, SettlesFrom, act_cursor, dispatched_by};
 ghost use Rattle.whole_world.specs.Giving.{HasItsOctets};
 ghost use Rattle.whole_world.specs.Keeping.{keeps};
+ghost use Rattle.whole_world.specs.Places.{IsSomePut};
 ghost use Rattle.whole_world.specs.Showing.{IsOf};
 ghost use Rattle.whole_world.specs.Sound.{IsSized, IsSound};
 ghost use Rattle.whole_world.specs.Stepping.{ChangesOnly, IsAt};
 ghost use Rattle.whole_world.specs.Views.{world_of};
+ghost use Rattle.whole_world.specs.declared.contents.Settled.{Settled as SettledValue};
 ghost use Rattle.whole_world.specs.declared.kept.Kept.{Kept as KeptValue};
 ghost use Rattle.world_law.specs.world.Acting.{HasActed, IsDueNow};
 ghost use Rattle.world_law.specs.world.Calls.{moment_of};
@@ -27,12 +29,13 @@ ghost use Rattle.world_law.specs.world.World.{Stands, act_place};
 use crate::OutOfMemory;
 use crate::contents::{Holding, Settled, Timed};
 use crate::outcomes::{Outcomes, bare, corrected, emitted, sent};
-use crate::settled::put_some;
+use crate::settled::put_in;
 use crate::state::State;
 use drift_clock::Clock;
 use net_plan::{DeviceId, Network, Octets, RowId, VlId};
 use run_law::{Act, Machine, Moment, NoteBody};
 use schedule_tables::{Entry, entry_of};
+use std::collections::VecDeque;
 use sync_state::State as Standing;
 use tte_units::Units;
 
@@ -101,6 +104,20 @@ fn dispatched(cut: bool, device: DeviceId, entry: &Entry, cycle: u32, hand: AtHa
         },
         frame: None,
         octets: Some(hand.octets),
+    }
+}
+
+/// Puts the records of an act in at their places.
+fn put_both(settled: &mut VecDeque<Settled>, outcomes: Outcomes)
+    requires { deque_len settled.old + 2 ≤ deque_capacity settled.old }
+    ensures { (mid : List SettledValue) × IsSomePut outcomes.first settled.old.items mid
+        × IsSomePut outcomes.second mid settled.new.items }
+{
+    if let Some(first) = outcomes.first {
+        put_in(settled, first);
+    }
+    if let Some(second) = outcomes.second {
+        put_in(settled, second);
     }
 }
 
@@ -220,8 +237,7 @@ impl<C: Clock, M: Machine + Drop> State<C, M> {
         };
         let adjustment = self.machines[index].adjustment();
         let outcomes = self.outcomes_of(network, device, was, adjustment, act);
-        put_some(&mut self.settled, outcomes.first);
-        put_some(&mut self.settled, outcomes.second);
+        put_both(&mut self.settled, outcomes);
         self.early = false;
         self.is_due(network, device)
     }

@@ -17,7 +17,7 @@ returns-in_err-hand g c = λ s entry of is.
     let w = c.args.self.now in
     subst (λ (e : Entry). IsDispatched s w.stored.items w.time c.args.device e c.args.cycle c.from_residual.result)
     (one_entry c.args.network.now c.args.row.0 c.entry_of-entry.result entry c.entry_of-entry.ensures.is is)
-    (record { hand = None; of_hand = subst (λ (l : List Holding). IsHand l c.args.device c.entry_of-entry.result c.args.cycle None) c.as_slice.ensures c.in_err-hand.ensures; is = c.from_residual.ensures })
+    (record { hand = None; of_hand = subst (λ (l : List Holding). IsHand l c.args.device c.entry_of-entry.result c.args.cycle None) c.as_slice.ensures.value c.in_err-hand.ensures; is = c.from_residual.ensures })
 
 pub returns : goal.returns
 returns g c = λ s entry of is.
@@ -36,6 +36,6 @@ returns g c = λ s entry of is.
     (one_entry network c.args.row.0 found entry c.entry_of-entry.ensures.is is)
     (record {
       hand = Some c.in_ok-hand.hand;
-      of_hand = subst (λ (l : List Holding). IsHand l device found c.args.cycle (Some c.in_ok-hand.hand)) c.as_slice.ensures c.in_ok-hand.ensures;
+      of_hand = subst (λ (l : List Holding). IsHand l device found c.args.cycle (Some c.in_ok-hand.hand)) c.as_slice.ensures.value c.in_ok-hand.ensures;
       is = ap Some (c.dispatched.ensures ∙ ap (λ (b : Bool). dispatched_by b device found c.args.cycle c.in_ok-hand.hand) cut);
     })
