@@ -35,7 +35,7 @@ use Rattle.sync_state.specs.declared.state.State.{State as Standing}
 use Rattle.tte_units.specs.Amount.{amount}
 use Rattle.tte_units.specs.declared.units.Units.{Units}
 use Rattle.whole_world.proofs.HiddenCauses.{InOrder}
-use Rattle.whole_world.proofs.Puts.{is_put_in}
+use Rattle.whole_world.proofs.Puts.{is_put_in, order_put}
 use Rattle.whole_world.specs.Acting.{AreOutcomes, IsDispatched, IsHeldIn, bare, bodies_of, body_of, corrected_by, dispatched_by, emitted_by, first_by, framed, joined_by, sent_by}
 use Rattle.whole_world.specs.Giving.{HasItsOctets}
 use Rattle.whole_world.specs.Places.{IsPutAt, IsSomePut, own_place}
@@ -55,20 +55,6 @@ use Rattle.world_law.specs.world.World.{AreStored, Stored, act_place, none_yet}
 
 -- ---- two records are put in, one after the other
 
-order_with : (front back : List Happening) (w : Happening) → InOrder (front ++ back) → AllBefore place_of front (place_of w)
-    → NoneBefore place_of back (place_of w) → InOrder (front ++ w ∷ back)
-order_with [] back w order before none = (none, order)
-order_with (x ∷ front) back w order before none = (
-  λ h there sooner. elim (in_parts h front (w ∷ back) there) [
-    | inl a ↦ order.0 h (in_left h front back a) sooner
-    | inr (inl e) ↦
-        never_self (place_of x)
-        (chain (place_of x) (place_of w) (place_of x) (before x (inl refl)) (subst (λ (k : Happening). IsBefore (place_of k) (place_of x)) e sooner))
-    | inr (inr b) ↦ order.0 h (in_right h front back b) sooner
-  ],
-  order_with front back w order.1 (λ y i. before y (inr i)) none,
-)
-
 -- it is the record of its body
 abbrev pub IsOwn : Network → Network → ℕ → List Happening → Option Settled → Type 0
 IsOwn other network now hs None = Unit {0}
@@ -78,11 +64,10 @@ module _ (other network : Network) (now : ℕ) (hs : List Happening) where
   abbrev all_at : List Settled → List Happening
   all_at zs = map (settled_at network now) zs
 
-  order_then : (o : Option Settled) (old new : List Settled) → IsSomePut o old new → InOrder (all_at old) → InOrder (all_at new)
+  pub order_then : (o : Option Settled) (old new : List Settled) → IsSomePut o old new → InOrder (all_at old) → InOrder (all_at new)
   order_then None old new put order = subst (λ (l : List Settled). InOrder (all_at l)) (sym put) order
   order_then (Some z) old new put order =
-      let p = is_put_in network now z old new put.0 put.1 order in
-      subst InOrder (sym p.is) (order_with p.front p.back (settled_at network now z) (subst InOrder p.was order) p.before p.none)
+      order_put (settled_at network now z) (all_at old) (all_at new) order (is_put_in network now z old new put.0 put.1 order)
 
   one_by : (o : Option Settled) (old new : List Settled) → IsSomePut o old new → InOrder (all_at old) → IsOwn other network now hs o
       → ArePutIn other hs now (body_of o) (all_at old) (all_at new)
@@ -116,9 +101,6 @@ module _ (other network : Network) (now : ℕ) (hs : List Happening) where
         | inr (inl e) ↦ inr (z, refl, e)
         | inr (inr b) ↦ inl (subst (λ (l : List Happening). IsIn h l) (sym p.was) (in_right h p.front p.back b))
       ]
-
-  pub order_after : (o : Option Settled) (old new : List Settled) → IsSomePut o old new → InOrder (all_at old) → InOrder (all_at new)
-  order_after o old new put order = order_then o old new put order
 
 -- ---- they have their octets, and are not before the place of the act
 

@@ -7,6 +7,7 @@ pub mod Awaits
 pub mod Befalls
 pub mod Beginnings
 pub mod FirstSettled
+pub mod Fits
 pub mod Firsts
 pub mod Givings
 pub mod HiddenCauses
@@ -15,6 +16,9 @@ pub mod Launches
 pub mod Mapped
 pub mod PutTo
 pub mod Puts
+pub mod Ripenings
+pub mod Ripes
+pub mod Swaps
 pub mod Sendings
 pub mod Showings
 pub mod TurnedOn

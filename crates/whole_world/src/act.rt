@@ -29,7 +29,7 @@ ghost use Rattle.world_law.specs.world.World.{Stands, act_place};
 use crate::OutOfMemory;
 use crate::contents::{Holding, Settled, Timed};
 use crate::outcomes::{Outcomes, bare, corrected, emitted, sent};
-use crate::settled::put_in;
+use crate::settled::put_some;
 use crate::state::State;
 use drift_clock::Clock;
 use net_plan::{DeviceId, Network, Octets, RowId, VlId};
@@ -113,12 +113,9 @@ fn put_both(settled: &mut VecDeque<Settled>, outcomes: Outcomes)
     ensures { (mid : List SettledValue) × IsSomePut outcomes.first settled.old.items mid
         × IsSomePut outcomes.second mid settled.new.items }
 {
-    if let Some(first) = outcomes.first {
-        put_in(settled, first);
-    }
-    if let Some(second) = outcomes.second {
-        put_in(settled, second);
-    }
+    let Outcomes { first, second } = outcomes;
+    put_some(settled, first);
+    put_some(settled, second);
 }
 
 /// Is the reading that is due, if there is one, reached?

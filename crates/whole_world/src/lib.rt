@@ -11,6 +11,8 @@ mod leaving;
 mod memory;
 mod naming;
 mod outcomes;
+mod ripe;
+mod ripen;
 mod sending;
 mod settled;
 mod state;

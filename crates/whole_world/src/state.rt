@@ -69,10 +69,11 @@ impl<C: Clock, M: Machine + Drop> State<C, M> {
     ghost use Rattle.run_law.specs.records.Ranks.{place_of};
     ghost use Rattle.world_law.specs.source.First.{NoSourceBefore};
     ghost use Rattle.whole_world.specs.Sound.{AreBelow, AreUnderWay, IsSized, IsSound};
+    ghost use Rattle.whole_world.specs.Stepping.{ChangesOnly};
     ghost use Rattle.whole_world.specs.Leaving.{departure_in, port_entry};
     ghost use Rattle.whole_world.specs.Keeping.{keeps};
     ghost use Rattle.whole_world.specs.Showing.{IsOf};
-    ghost use Rattle.whole_world.specs.Giving.{CameBy, IsGiver, IsGivenOut, IsPutOn, IsYoung, MayBeGiven, giver_of, wire_entry};
+    ghost use Rattle.whole_world.specs.Giving.{CameBy, HasItsOctets, IsGiver, IsGivenOut, IsPutOn, IsYoung, MayBeGiven, giver_of, wire_entry};
     ghost use Rattle.whole_world.specs.declared.giving.Giving.{Giving as GivingValue};
     ghost use Rattle.tte_units.specs.Amount.{amount, units_of};
     ghost use Rattle.run_law.specs.scenario.Devices.{is_parent_of};
@@ -97,6 +98,7 @@ impl<C: Clock, M: Machine + Drop> State<C, M> {
             → Stands C.reading (keeps M.stands) s (world_of network self.old) notes
             → NothingBefore (keeps M.stands) s (world_of network self.old) (time ∷ [])
             → StandsBehind C.reading (keeps M.stands) s (world_of network self.new) notes (time ∷ []) }
+        ensures same { self.new ≡ record self.old { time = time; early = true } }
     {
         self.time = time;
         self.early = true;
@@ -114,6 +116,8 @@ impl<C: Clock, M: Machine + Drop> State<C, M> {
             → ComesFirst C.reading (keeps M.stands) s (world_of network.now self.old) notes old (clock_place self.old.time (record { 0 = self.old.shown }))
             → StandsBehind C.reading (keeps M.stands) s (world_of network.now self.new) notes
             (behind (clock_place self.old.time (record { 0 = self.old.shown }))) }
+        ensures others { (n : ℕ) → ChangesOnly n self.old self.new }
+        ensures same { self.new ≡ record self.old { early = false; settled = self.new.settled; shown = self.old.shown + 1 } }
     {
         let index = self.shown as usize;
         let reading = self.clocks[index].read(Units::from_amount(self.time));
@@ -137,7 +141,7 @@ impl<C: Clock, M: Machine + Drop> State<C, M> {
     }
 
     /// What the clock of a device reads at present.
-    fn reading_of(&self, network: &Network, device: u32) -> u64
+    pub fn reading_of(&self, network: &Network, device: u32) -> u64
         requires sized { IsSized C.last_step network.now self.now }
         requires there { device < length network.now.device }
         ensures { (clock : C) × (slice_get self.now.clocks.items device ≡ Some clock) × (result ≡ C.reading clock self.now.time) }
@@ -293,7 +297,8 @@ impl<C: Clock, M: Machine + Drop> State<C, M> {
         requires range { IsInRange network.now }
         requires device { place.device < length network.now.device }
         requires link { place.link < length network.now.link }
-        ensures { (s : Scenario) → IsOf C.reading s network.now self.now
+        ensures octets { IfSome result (λ z. HasItsOctets z.body z.octets) }
+        ensures is { (s : Scenario) → IsOf C.reading s network.now self.now
             → result ≡ departure_in s self.now.time (port_entry place frame given) }
     {
         if self.broken[place.device as usize] {
@@ -318,6 +323,9 @@ impl<C: Clock, M: Machine + Drop> State<C, M> {
             → (old : Stands C.reading (keeps M.stands) s (world_of network.now self.old) notes) → place.at ≡ self.old.time
             → ComesFirst C.reading (keeps M.stands) s (world_of network.now self.old) notes old (numbers_of place)
             → StandsBehind C.reading (keeps M.stands) s (world_of network.now self.new) notes (behind (numbers_of place)) }
+        ensures others { (n : ℕ) → ChangesOnly n self.old self.new }
+        ensures same { self.new ≡ record self.old { early = false; under_way = self.new.under_way; settled = self.new.settled } }
+        ensures shorter { length self.old.under_way.entries ≡ length self.new.under_way.entries + 1 }
     {
         let (frame, given) = take_port(&mut self.under_way, place);
         self.early = false;

@@ -6,14 +6,21 @@ use Rattle.net_plan.specs.declared.ids.DeviceId.{DeviceId}
 use Rattle.net_plan.specs.declared.ids.LinkId.{LinkId}
 use Rattle.net_plan.specs.declared.network.Network.{Network}
 use Rattle.run_law.specs.scenario.Devices.{is_parent_of}
+use Rattle.whole_world.proofs.Fits.{have_octets, left_octets}
 use Rattle.whole_world.proofs.Showings.{departure_is, way_by}
 use Rattle.whole_world.specs.Leaving.{port_entry}
 use Rattle.world_law.proofs.giving.Given.{some_same}
 use Rattle.world_law.specs.world.World.{WayNow}
 use Rattle.whole_world.proofs.state.State.departure.Goals as goal
 
-pub returns : goal.returns
-returns g c = λ s of.
+pub returns-clause-octets : goal.returns-clause-octets
+returns-clause-octets g c =
+    let network = c.args.network.now in
+    subst have_octets (sym c.departed.ensures)
+    (left_octets network c.reading_of-reading.result c.way_from-way.result.cut (port_entry c.args.place c.args.frame c.args.given))
+
+pub returns-clause-is : goal.returns-clause-is
+returns-clause-is g c = λ s of.
     let w = c.args.self.now in
     let network = c.args.network.now in
     let device : DeviceId = record { 0 = c.args.place.device } in

@@ -1,6 +1,6 @@
-use Rattle.std.proofs.Common.{◌≡◌, ◌∷◌, [], ℕ, List, Option, false, ap, inl, map, refl, subst, sym}
+use Rattle.std.proofs.Common.{◌≡◌, ◌+◌, ◌∷◌, [], ℕ, List, Option, false, ap, arith, inl, map, refl, subst, sym}
 use Rattle.std.specs.List.{filter_map}
-use Rattle.std.proofs.lemmas.List.Sorted.{IsPermutation-sym}
+use Rattle.std.proofs.lemmas.List.Sorted.{IsPermutation-sym, length_permutation}
 use Rattle.due_queue.proofs.Bags.{in_permuted, is_given}
 use Rattle.due_queue.specs.declared.Entry.{Entry}
 use Rattle.due_queue.specs.Places.{numbers_of}
@@ -9,6 +9,7 @@ use Rattle.run_law.specs.records.Order.{behind}
 use Rattle.run_law.specs.scenario.Scenarios.{is_broken}
 use Rattle.whole_world.specs.Keeping.{keeps}
 use Rattle.whole_world.proofs.Alike.{with_wires}
+use Rattle.whole_world.proofs.Fits.{all_put_some, below_without, have_octets, if_some}
 use Rattle.whole_world.proofs.HiddenCauses.{settled_in_order}
 use Rattle.whole_world.proofs.Puts.{departed_is, frame_of_port, some_put_in}
 use Rattle.whole_world.proofs.Showings.{shows_of}
@@ -28,6 +29,7 @@ pub returns-clause-sound : goal.returns-clause-sound
 returns-clause-sound g c =
     let w = c.args.self.now in
     let z = c.requires.sound.sized in
+    let fit = c.requires.sound.fit in
     record {
       sized = record {
         clocks = z.clocks;
@@ -41,6 +43,15 @@ returns-clause-sound g c =
       };
       under_way = sound_without c.args.network.now w.under_way.entries c.take_port-frame.new.under_way.entries _ c.requires.sound.under_way
           c.take_port-frame.ensures;
+      fit = record {
+        ups = fit.ups;
+        downs = fit.downs;
+        octets = all_put_some have_octets c.departure-record.result w.settled.items c.put_some.new.settled.items c.put_some.ensures.is
+            (if_some have_octets c.departure-record.result c.departure-record.ensures.octets) fit.octets;
+        below = below_without (w.given + 1) w.under_way.entries c.take_port-frame.new.under_way.entries _ c.take_port-frame.ensures fit.below;
+        waits_below = fit.waits_below;
+        apart = fit.apart;
+      };
     }
 
 pub returns-clause-stands : goal.returns-clause-stands
@@ -61,7 +72,7 @@ returns-clause-stands g c = λ s notes old now_is first.
     let given = frame_of_port s hs e (old.ports.real e there).0 in
     let of = shows_of K.reading stands s network w notes old in
     let put = subst (λ (o : Option Settled). IsSomePut o w.settled.items c.put_some.new.settled.items)
-    (c.departure-record.ensures s (record { same = of.same; clocks = of.clocks; broken = of.broken; ways = of.ways })) c.put_some.ensures in
+    (c.departure-record.ensures.is s (record { same = of.same; clocks = of.clocks; broken = of.broken; ways = of.ways })) c.put_some.ensures.is in
     let step = left_step K.reading stands s world notes e (filter_map at_port took.new.under_way.entries)
     (map (settled_at network w.time) c.put_some.new.settled.items) old there now_is
     (subst (ComesFirst K.reading stands s world notes old) numbers first)
@@ -77,3 +88,6 @@ returns-clause-stands g c = λ s notes old now_is first.
     with_wires K.reading stands s after notes (filter_map (on_wire network) took.new.under_way.entries) (behind (numbers_of place))
     (wires_stay network w.under_way.entries took.new.under_way.entries taken c.requires.sound.under_way took.ensures refl)
     (subst (λ (p : List ℕ). StandsBehind K.reading stands s after notes (behind p)) (sym numbers) step)
+
+pub returns-clause-shorter : goal.returns-clause-shorter
+returns-clause-shorter g c = let same = length_permutation _ _ c.take_port-frame.ensures in omega (arith, same)

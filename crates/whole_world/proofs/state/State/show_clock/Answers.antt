@@ -12,9 +12,38 @@ use Rattle.whole_world.specs.Views.{settled_at, world_of}
 use Rattle.whole_world.specs.declared.contents.Settled.{Settled}
 use Rattle.world_law.proofs.giving.Given.{some_same}
 use Rattle.world_law.proofs.steps.ClockSteps.{clock_step}
+use Rattle.whole_world.proofs.Fits.{all_put, have_octets}
 use Rattle.whole_world.proofs.HiddenCauses.{settled_in_order}
 use Rattle.whole_world.proofs.Puts.{one_put_in, same_units}
 use Rattle.whole_world.proofs.state.State.show_clock.Goals as goal
+
+pub returns-clause-sound : goal.returns-clause-sound
+returns-clause-sound g c =
+    let z = c.requires.sound.sized in
+    let fit = c.requires.sound.fit in
+    let more = c.requires.more in
+    let put = c.put_in.ensures.is in
+    record {
+      sized = record {
+        clocks = z.clocks;
+        machines = z.machines;
+        broken = z.broken;
+        ups = z.ups;
+        downs = z.downs;
+        stepped = z.stepped;
+        limit = z.limit;
+        shown = omega (arith, more);
+      };
+      under_way = c.requires.sound.under_way;
+      fit = record {
+        ups = fit.ups;
+        downs = fit.downs;
+        octets = all_put have_octets _ c.args.self.now.settled.items c.put_in.new.settled.items put.0 put.1 tt fit.octets;
+        below = fit.below;
+        waits_below = fit.waits_below;
+        apart = fit.apart;
+      };
+    }
 
 pub returns-clause-stands : goal.returns-clause-stands
 returns-clause-stands g c = λ s notes old ended first.
@@ -37,7 +66,7 @@ returns-clause-stands g c = λ s notes old ended first.
     same_units _ _
     (c.read-reading.ensures ∙ ap (λ (t : Units). pos (K.reading c.index.result.now (amount t))) c.from_amount.ensures.value
     ∙ ap (λ k. pos (K.reading k w.time)) (sym same) ∙ ap pos (sym (own.2 w.time (omega arith)))) in
-    let put = c.put_in.ensures in
+    let put = c.put_in.ensures.is in
     let shows : NoteBody → Settled = λ body. record { body = body; frame = None; octets = None } in
     clock_step K.reading (keeps g.M.Machine.stands) s world notes device c.index-machine.result.now c.state.result c.adjustment.result _ old there ended refl
     first
