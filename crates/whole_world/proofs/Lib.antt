@@ -1,4 +1,5 @@
 pub mod ActRecords
+pub mod ActSteps
 pub mod Acts
 pub mod Alike
 pub mod Apart

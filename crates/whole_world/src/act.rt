@@ -228,12 +228,12 @@ impl<C: Clock, M: Machine + Drop> State<C, M> {
     {
         let index = device.0 as usize;
         let moment = self.moment_at(network, device);
-        let was = self.machines[index].state();
+        let was = self.machines[index].shown();
         let Some(act) = self.machines[index].act(moment) else {
             return false;
         };
-        let adjustment = self.machines[index].adjustment();
-        let outcomes = self.outcomes_of(network, device, was, adjustment, act);
+        let is = self.machines[index].shown();
+        let outcomes = self.outcomes_of(network, device, was.state, is.adjustment, act);
         put_both(&mut self.settled, outcomes);
         self.early = false;
         self.is_due(network, device)

@@ -8,7 +8,7 @@ ghost use Rattle.run_law.specs.machines.Tasks.{IsDueReading};
 ghost use Rattle.sync_state.specs.declared.state.State.TheVariants.{Off};
 ghost use Rattle.whole_world.specs.Keeping.{keeps, sound_one};
 ghost use Rattle.world_law.specs.world.Acting.{HasActed};
-ghost use Rattle.world_law.specs.world.Steps.{befallen_node};
+ghost use Rattle.world_law.specs.world.Steps.{IsStateOf, befallen_node};
 
 use crate::OutOfMemory;
 use run_law::{Act, Machine, Moment};
@@ -21,6 +21,13 @@ use tte_units::Units;
 pub enum Kept<M: Machine + Drop> {
     Sound(M),
     Out(State, Units),
+}
+
+/// What a device shows of itself.
+#[derive(Clone, Copy, Debug, PartialEq, Eq)]
+pub struct Shown {
+    pub state: State,
+    pub adjustment: Units,
 }
 
 impl<M: Machine + Drop> Kept<M> {
@@ -43,6 +50,17 @@ impl<M: Machine + Drop> Kept<M> {
         match self {
             Kept::Sound(machine) => machine.adjustment(),
             Kept::Out(_, adjustment) => *adjustment,
+        }
+    }
+
+    /// Both.
+    pub fn shown(&self) -> Shown
+        ensures { (network : Network) (device : DeviceId)
+            → IsStateOf (keeps M.stands) network device self.now result.state result.adjustment }
+    {
+        Shown {
+            state: self.state(),
+            adjustment: self.adjustment(),
         }
     }
 
