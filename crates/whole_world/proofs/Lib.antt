@@ -1,5 +1,6 @@
 pub mod ActRecords
 pub mod ActSteps
+pub mod ActTurns
 pub mod Acts
 pub mod Alike
 pub mod Apart

@@ -1,4 +1,4 @@
-ghost use Rattle.std.specs.Prelude.{◌≡◌, ◌≤◌, ◌<◌, ◌+◌, ◌^◌, ◌↔◌, ℕ, List, Option, Some, None, Bool, true, false, length, slice_get, IfSome, IfNone, IsSomeAnd, IsTrue, IsFalse, ◌≤ℤ◌, ◌<ℤ◌};
+ghost use Rattle.std.specs.Prelude.{◌≡◌, ◌≤◌, ◌<◌, ◌+◌, ◌^◌, ◌↔◌, ℕ, List, Option, Some, None, Bool, true, false, length, slice_get, ◌-◌, IfOk, OnOk, OnErr, IfSome, IfNone, IsSomeAnd, IsTrue, IsFalse, ◌≤ℤ◌, ◌<ℤ◌};
 ghost use Rattle.std.specs.VecDeque.{deque_capacity, deque_len};
 ghost use Rattle.net_plan.specs.Ranges.{IsInRange};
 ghost use Rattle.net_plan.specs.declared.ids.DeviceId.{DeviceId as DeviceOf};
@@ -237,5 +237,62 @@ impl<C: Clock, M: Machine + Drop> State<C, M> {
         put_both(&mut self.settled, outcomes);
         self.early = false;
         self.is_due(network, device)
+    }
+
+    /// Makes place for two more records, for which there are numbers.
+    ///
+    /// On an error nothing is done.
+    fn reserve_two(&mut self) -> Result<(), OutOfMemory>
+        ensures same { self.new ≡ record self.old { settled = self.new.settled } }
+        ensures items { self.new.settled.items ≡ self.old.settled.items }
+        ensures room { OnOk result (deque_len self.new.settled + 2 ≤ deque_capacity self.new.settled) }
+        ensures numbers { OnOk result (self.old.given + length self.old.settled.items + 2 < 2 ^ 64 - 1) }
+    {
+        let most = u64::MAX - 2;
+        if self.given >= most {
+            return Err(OutOfMemory);
+        }
+        if self.settled.len() as u64 >= most - self.given {
+            return Err(OutOfMemory);
+        }
+        if self.settled.reserve(2).is_err() {
+            return Err(OutOfMemory);
+        }
+        Ok(())
+    }
+
+    /// The device does all that is due at the present instant.
+    ///
+    /// On an error it may have done some of it, and more is due.
+    pub fn act_first(&mut self, network: &Network, device: DeviceId) -> Result<(), OutOfMemory>
+        requires sound { IsSound C.last_step network.now self.old }
+        requires range { IsInRange network.now }
+        requires there { device.0 < length network.now.device }
+        requires due { IsDueAt C.reading M.stands network.now self.old device }
+        requires comes { IsAt C.reading M.stands network.now self.old (act_place self.old.time device) }
+        ensures sound { IsSound C.last_step network.now self.new }
+        ensures same { self.new ≡ record self.old { machines = self.new.machines; early = self.new.early; settled = self.new.settled } }
+        ensures others { ChangesOnly device.0 self.old self.new }
+        ensures stands { (s : Scenario) (notes : List Note)
+            → (old : Stands C.reading (keeps M.stands) s (world_of network.now self.old) notes)
+            → ComesFirst C.reading (keeps M.stands) s (world_of network.now self.old) notes old (act_place self.old.time device)
+            → IfOk result (λ done. StandsBehind C.reading (keeps M.stands) s (world_of network.now self.new) notes
+            (behind (act_place self.old.time device))) }
+        ensures err { (s : Scenario) (notes : List Note)
+            → (old : Stands C.reading (keeps M.stands) s (world_of network.now self.old) notes)
+            → ComesFirst C.reading (keeps M.stands) s (world_of network.now self.old) notes old (act_place self.old.time device)
+            → OnErr result (Stands C.reading (keeps M.stands) s (world_of network.now self.new) notes) }
+    {
+        let mut acts: u32 = 0;
+        'acts: loop {
+            match self.reserve_two() {
+                Ok(()) => (),
+                Err(_) => return Err(OutOfMemory),
+            }
+            if !self.act_once(network, device) {
+                return Ok(());
+            }
+            acts += 1;
+        }
     }
 }
