@@ -2,7 +2,7 @@
 use Rattle.std.proofs.Common.{◌≡◌, ℕ, ℤ, zero, suc, ◌<◌, Bool, true, false, Option, Some, None, List, [], ◌∷◌, ◌++◌, map, length, take, drop, get_or, inl, inr, refl, sym, ap, subst, ◌∙◌, arith}
 use Rattle.std.proofs.lemmas.List.{take-append-drop}
 use Rattle.net_plan.specs.declared.network.Network.{Network}
-use Rattle.run_law.proofs.runs.Places.{chain, either_way}
+use Rattle.run_law.proofs.runs.Places.{chain, either_way, in_left, in_parts, in_right, never_self}
 use Rattle.std.specs.Prelude.{if◌then◌else◌}
 use Rattle.std.specs.Option.{option_and_then, option_map}
 use Rattle.pcf_values.specs.declared.pcf.Pcf.{Pcf}
@@ -106,3 +106,35 @@ departed_is other network now hs e on_cut_way of = refl
 -- the frame of what is at a port is that of the record that gave it
 pub frame_of_port : (s : Scenario) (hs : List Happening) (e : AtPort) → IsAtPort s hs e → frame_from hs e.cause ≡ Some e.frame
 frame_of_port s hs e it = ap (option_and_then (λ h. h.frame)) it.there ∙ it.gave.of_frame
+
+-- ---- with it what is settled is in order
+
+order_with : (w : Happening) (front back : List Happening) → InOrder (front ++ back) → AllBefore place_of front (place_of w)
+    → NoneBefore place_of back (place_of w) → InOrder (front ++ w ∷ back)
+order_with w [] back order before none = (none, order)
+order_with w (x ∷ front) back order before none = (
+  λ h there b. elim (in_parts h front (w ∷ back) there) [
+    | inl f ↦ order.0 h (in_left h front back f) b
+    | inr (inl same) ↦
+        never_self (place_of x) (chain (place_of x) (place_of w) (place_of x) (before x (inl refl))
+        (subst (λ (y : Happening). IsBefore (place_of y) (place_of x)) same b))
+    | inr (inr r) ↦ order.0 h (in_right h front back r) b
+  ],
+  order_with w front back order.1 (λ h i. before h (inr i)) none,
+)
+
+pub order_put : (w : Happening) (old new : List Happening) → InOrder old → IsPutIn w old new → InOrder new
+order_put w old new order put = subst InOrder (sym put.is) (order_with w put.front put.back (subst InOrder put.was order) put.before put.none)
+
+-- two records are put in, one after the other
+pub two_put_in : (other network : Network) (now : ℕ) (hs : List Happening) (first second : NoteBody) (y z : Settled) (old mid new : List Settled) (at then_at : ℕ)
+    → IsPutAt y old mid at → IsPutAt z mid new then_at → InOrder (map (settled_at network now) old)
+    → settled_at network now y ≡ settled_as other hs now first → settled_at network now z ≡ settled_as other hs now second
+    → ArePutIn other hs now (first ∷ second ∷ []) (map (settled_at network now) old) (map (settled_at network now) new)
+two_put_in other network now hs first second y z old mid new at then_at put put_then order is is_then =
+    let one = subst (λ (h : Happening). IsPutIn h (map (settled_at network now) old) (map (settled_at network now) mid)) is
+    (is_put_in network now y old mid at put order) in (
+      map (settled_at network now) mid,
+      one,
+      one_put_in other network now hs second z mid new then_at put_then (order_put _ _ _ order one) is_then,
+    )

@@ -1,4 +1,5 @@
 pub mod Applying
+pub mod Befalling
 pub mod Beginning
 pub mod Following
 pub mod Frames

@@ -2,6 +2,7 @@
 #![tactic(auto)]
 
 mod applying;
+mod befalling;
 mod begin;
 mod contents;
 mod frames;
