@@ -3,6 +3,7 @@ pub mod Apart
 pub mod Applies
 pub mod Arrivals
 pub mod Awaits
+pub mod BefallenLaws
 pub mod Befallings
 pub mod Befalls
 pub mod Beginnings
