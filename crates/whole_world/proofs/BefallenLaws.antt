@@ -1,5 +1,5 @@
 -- What comes of the events of an instant is settled, as its law asks for it.
-use Rattle.std.proofs.Common.{◌≡◌, ◌⊎◌, ◌↔◌, ℕ, ◌+◌, ◌<◌, Bool, true, false, if◌then◌else◌, List, [], ◌∷◌, ◌++◌, length, map, Option, Some, None, slice_get, option_map, option_and_then, inl, inr, refl, sym, ap, subst, ◌∙◌, arith}
+use Rattle.std.proofs.Common.{◌≡◌, ◌⊎◌, ◌↔◌, ℕ, ◌+◌, ◌<◌, Bool, true, false, if◌then◌else◌, List, [], ◌∷◌, ◌++◌, length, map, Option, Some, None, slice_get, option_map, option_and_then, inl, inr, refl, sym, ap, subst, ◌∙◌, All, arith}
 use Rattle.std.specs.List.{filter_map}
 use Rattle.std.specs.List.Sorted.{IsPermutation}
 use Rattle.std.specs.Option.{option_map_or}
@@ -30,6 +30,7 @@ use Rattle.run_law.specs.scenario.Ways.{delay_at, is_cut}
 use Rattle.sync_state.specs.declared.state.State.TheVariants.{Integrating}
 use Rattle.whole_world.proofs.Alike.{with_ports}
 use Rattle.whole_world.proofs.Befallings.{IsFreshOf, ports_settled}
+use Rattle.whole_world.proofs.Fits.{all_put_some, have_octets}
 use Rattle.whole_world.proofs.HiddenCauses.{InOrder}
 use Rattle.whole_world.proofs.Puts.{is_put_in, one_put_in, order_put, some_put_in}
 use Rattle.whole_world.proofs.UnderWays.{some_is}
@@ -335,3 +336,87 @@ module _ {C M : Type 0} (reading : C → ℕ → ℕ) (stands : Kept M → Netwo
       with_ports reading stands s after notes (filter_map at_port entries) (behind (state.time ∷ 2 ∷ []))
       (ports_settled s.network old.range state.broken.items state.ups.items state.time 0 state.befell.items state.settled.items settled
       state.under_way.entries entries so) step
+
+-- ---- the same where the network is that of the scenario
+
+module _ {C M : Type 0} (reading : C → ℕ → ℕ) (stands : Kept M → Network → DeviceId → Node → Type 0) (s : Scenario) (network : Network) (state : State C M)
+    (notes : List Note) (old : Stands reading stands s (world_of network state) notes) (pending : state.pending ≡ true) where
+  abbrev Standing : Network → Type 0
+  Standing n = Stands reading stands s (world_of n state) notes
+
+  -- it is settled in order, and what befell is forgotten
+  pub befallen_behind : (befell : List Befallen) (settled : List Settled) (entries : List (Entry Content)) → befell ≡ []
+      → length notes + length state.befell.items < none_yet
+      → AreSettledBy network state.broken.items state.ups.items state.time state.befell.items state.settled.items settled state.under_way.entries entries
+      → StandsBehind reading stands s
+      (record (world_of network state) {
+        wires = filter_map (on_wire network) entries;
+        ports = filter_map at_port entries;
+        early = false;
+        pending = false;
+        befell = map befell_as befell;
+        settled = map (settled_at network state.time) settled;
+      }) notes (behind (state.time ∷ 2 ∷ []))
+  befallen_behind befell settled entries none few so =
+      subst (λ (l : List Befallen). StandsBehind reading stands s
+      (record (world_of network state) {
+        wires = filter_map (on_wire network) entries;
+        ports = filter_map at_port entries;
+        early = false;
+        pending = false;
+        befell = map befell_as l;
+        settled = map (settled_at network state.time) settled;
+      }) notes (behind (state.time ∷ 2 ∷ []))) (sym none)
+      (subst (λ (n : Network). Standing n
+      → AreSettledBy n state.broken.items state.ups.items state.time state.befell.items state.settled.items settled state.under_way.entries entries
+      → StandsBehind reading stands s
+      (record (world_of n state) {
+        wires = filter_map (on_wire n) entries;
+        ports = filter_map at_port entries;
+        early = false;
+        pending = false;
+        befell = [];
+        settled = map (settled_at n state.time) settled;
+      }) notes (behind (state.time ∷ 2 ∷ []))) (sym old.same)
+      (λ was by. befallen_stands reading stands s state notes was pending settled entries few by) old so)
+
+  pub numbers_given : (b : Befallen) → IsIn b state.befell.items → b.number < state.given + 1
+  numbers_given = number_given reading stands s state notes (subst Standing old.same old) pending
+
+  pub all_fresh : AreUnderWay network state.under_way.entries → (b : Befallen) → IsIn b state.befell.items → IsFreshOf state.under_way.entries b.number
+  all_fresh are = fresh_of reading stands s state notes (subst Standing old.same old) pending
+      (subst (λ (n : Network). AreUnderWay n state.under_way.entries) old.same are)
+
+-- ---- the records need no octets
+
+turned_octets : (number : ℕ) (device : DeviceId) (o : Option Bool) (z : Settled) → option_and_then (turned_on number device) o ≡ Some z → have_octets z
+turned_octets number device None z e = absurd cc
+turned_octets number device (Some true) z e = absurd cc
+turned_octets number device (Some false) z e = subst have_octets (some_is _ _ e) tt
+
+cut_octets : (number : ℕ) (link : LinkId) (l : Link) (cut : Bool) (z : Settled) → (if cut then Some (bare (kinds.Lost l.child link number)) else None) ≡ Some z
+    → have_octets z
+cut_octets number link l true z e = subst have_octets (some_is _ _ e) tt
+cut_octets number link l false z e = absurd cc
+
+way_octets : (number : ℕ) (link : LinkId) (l : Link) (o : Option WayState) (z : Settled) → option_and_then (lost_on number link l) o ≡ Some z → have_octets z
+way_octets number link l None z e = absurd cc
+way_octets number link l (Some w) z e = cut_octets number link l w.cut z e
+
+link_octets : (number : ℕ) (link : LinkId) (ups : List WayState) (o : Option Link) (z : Settled)
+    → option_and_then (λ l. option_and_then (lost_on number link l) (slice_get ups link.0)) o ≡ Some z → have_octets z
+link_octets number link ups None z e = absurd cc
+link_octets number link ups (Some l) z e = way_octets number link l (slice_get ups link.0) z e
+
+record_octets : (network : Network) (broken : List Bool) (ups : List WayState) (number : ℕ) (what : What) (z : Settled)
+    → record_of network broken ups number what ≡ Some z → have_octets z
+record_octets network broken ups number (events.On device) z e = turned_octets number device (slice_get broken device.0) z e
+record_octets network broken ups number (events.Send link octets) z e = link_octets number link ups (link_at network link) z e
+record_octets network broken ups number other z e = absurd cc
+
+pub octets_settled : (network : Network) (broken : List Bool) (ups : List WayState) (time : ℕ) (befell : List Befallen) (old new : List Settled)
+    (before after : List (Entry Content)) → AreSettledBy network broken ups time befell old new before after → All have_octets old → All have_octets new
+octets_settled network broken ups time [] old new before after so all = subst (All have_octets) (sym so.0) all
+octets_settled network broken ups time (b ∷ befell) old new before after (mid, between, one, put, rest) all =
+    octets_settled network broken ups time befell mid new between after rest
+    (all_put_some have_octets _ old mid one (record_octets network broken ups b.number b.what) all)

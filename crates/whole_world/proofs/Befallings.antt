@@ -201,3 +201,13 @@ module _ (network : Network) (range : IsInRange network) (broken : List Bool) (u
       let here = ports_kept (entry_of network ups time b.number b.what) before between
       (if_send network range ups time b.number _ (send_of network range ups time b.number b.what)) put y in
       (λ there. here.0 (more.0 there), λ there. more.1 (here.1 there))
+
+-- the same of lists that are the same
+pub settled_with : (network : Network) (broken own : List Bool) (ups ways : List WayState) (time : ℕ) (befell : List Befallen) (old was new : List Settled)
+    (before first after : List (Entry Content)) → broken ≡ own → ups ≡ ways → old ≡ was → before ≡ first
+    → AreSettledBy network broken ups time befell old new before after → AreSettledBy network own ways time befell was new first after
+settled_with network broken own ups ways time befell old was new before first after a b c d so =
+    subst (λ (l : List Bool). AreSettledBy network l ways time befell was new first after) a
+    (subst (λ (l : List WayState). AreSettledBy network broken l time befell was new first after) b
+    (subst (λ (l : List Settled). AreSettledBy network broken ups time befell l new first after) c
+    (subst (λ (l : List (Entry Content)). AreSettledBy network broken ups time befell old new l after) d so)))
