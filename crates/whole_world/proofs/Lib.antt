@@ -19,6 +19,9 @@ pub mod Made
 pub mod Mapped
 pub mod PutTo
 pub mod Puts
+pub mod Ripenings
+pub mod Ripes
+pub mod Swaps
 pub mod Sendings
 pub mod Showings
 pub mod Signals

@@ -9,6 +9,7 @@ pub mod Keeping
 pub mod Leaving
 pub mod Naming
 pub mod Places
+pub mod Ripening
 pub mod Showing
 pub mod Sound
 pub mod Views

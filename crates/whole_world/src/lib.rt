@@ -12,6 +12,8 @@ mod kept;
 mod leaving;
 mod memory;
 mod naming;
+mod ripe;
+mod ripen;
 mod sending;
 mod settled;
 mod state;

@@ -141,7 +141,7 @@ impl<C: Clock, M: Machine + Drop> State<C, M> {
     }
 
     /// What the clock of a device reads at present.
-    fn reading_of(&self, network: &Network, device: u32) -> u64
+    pub fn reading_of(&self, network: &Network, device: u32) -> u64
         requires sized { IsSized C.last_step network.now self.now }
         requires there { device < length network.now.device }
         ensures { (clock : C) × (slice_get self.now.clocks.items device ≡ Some clock) × (result ≡ C.reading clock self.now.time) }

@@ -15,5 +15,6 @@ pub mod Kept
 pub mod Joined
 pub mod Outcomes
 pub mod Answered
+pub mod Asking
 pub mod RipenedSteps
 pub mod Masters

@@ -1,11 +1,10 @@
 -- What switches hold, once one more record is given.
-use Rattle.std.proofs.Common.{◌≡◌, ◌⊎◌, ℕ, ◌+◌, Bool, true, false, if◌then◌else◌, List, [], ◌∷◌, ◌++◌, filter, Option, Some, None, inl, inr, refl, sym, ap, subst, ◌∙◌, arith}
+use Rattle.std.proofs.Common.{◌≡◌, ℕ, Bool, true, false, if◌then◌else◌, List, [], ◌∷◌, ◌++◌, filter, Option, Some, None, inl, inr, refl, sym, ap, ◌∙◌}
 use Rattle.std.specs.List.{last_or}
 use Rattle.std.proofs.lemmas.Bool.{cases_Bool}
 use Rattle.std.proofs.lemmas.List.Elements.{filter-append}
 use Rattle.net_plan.specs.declared.ids.DeviceId.{DeviceId}
 use Rattle.net_plan.specs.declared.ids.VlId.{VlId}
-use Rattle.run_law.specs.declared.note.NoteBody.{NoteBody}
 use Rattle.run_law.specs.records.Happenings.{Happening}
 use Rattle.run_law.specs.records.Order.{IsIn}
 use Rattle.run_law.specs.timed.Dispatching.{is_accepted}
@@ -53,6 +52,7 @@ stored_then hs h number stored new is m t = record { real = real; all = all }
           record { taking = it.taking; last = last_then hs h e.device e.vl false o.1 ∙ it.last; number = it.number; octets = it.octets }
       | inr n ↦ record { taking = h; last = last_then hs h e.device e.vl true n.0; number = n.1 ∙ is; octets = n.2 }
     ]
+
     all : (device : DeviceId) (vl : VlId) (taking : Happening) → last_taking (hs ++ h ∷ []) device vl ≡ Some taking
         → (e : Stored) × IsIn e new × (e.device ≡ device) × (e.vl ≡ vl)
     all device vl taking last = elim (cases_Bool (is_accepted device vl h.note.body)) [

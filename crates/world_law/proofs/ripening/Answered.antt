@@ -17,7 +17,7 @@ use Rattle.run_law.specs.declared.steps.Ripe.TheVariants as ripe
 use Rattle.run_law.specs.declared.steps.Ripe.{Ripe}
 use Rattle.run_law.specs.device.States.{has_joined_at, is_off, state_after, state_before, state_with}
 use Rattle.run_law.specs.machines.Answers.{IsPermanenceOutcomeAt, after_permanence, called}
-use Rattle.run_law.specs.machines.Calls.{IsHearing, IsOfMaster}
+use Rattle.run_law.specs.machines.Calls.{IsHearing, IsOfMaster, MayCall, MayRipen}
 use Rattle.run_law.specs.machines.Nodes.{Node, ripening}
 use Rattle.run_law.specs.records.Happenings.{Happening, earlier, time_of}
 use Rattle.run_law.specs.records.Order.{AllBefore, IsBefore, IsIn, NoneBefore, behind}
@@ -83,13 +83,18 @@ hears_now stands s hs coming mark cursor now e machine r k =
       | inr over ↦ hears_told s hs coming mark cursor now e k.node over.1 (subst (λ (t : ℕ). IsLeft s (hs ++ coming) e.device t k.node) over.0 k.left)
     ]
 
-pub answered : {M : Type 0} (stands : M → Network → DeviceId → Node → Type 0) (s : Scenario) (hs coming : List Happening) (mark cursor : List ℕ) (now : ℕ)
+-- what the machine is asked may be asked
+pub record IsAsked (s : Scenario) (hs : List Happening) (now : ℕ) (e : Waiting) (node : Node) : Type 0 where
+  pub hears : Hears s hs e.device now node
+  pub call : MayCall s.network e.device node (moment_of s e.device now) ripening
+  pub hearing : IsHearing s.network e.device node
+  pub ripens : MayRipen s.network e.device node (moment_of s e.device now) e.link e.frame e.point
+
+pub may_be_asked : {M : Type 0} (stands : M → Network → DeviceId → Node → Type 0) (s : Scenario) (hs coming : List Happening) (mark cursor : List ℕ) (now : ℕ)
     (e : Waiting)
-    (machine after : M) (result : Ripe) (r : IsRipe s hs coming mark cursor now e) (k : IsKept stands s hs coming cursor now e.device machine)
-    → (IsParentOf s.network e.device e.link → IsOfMaster s.network e.device e.link e.frame.members)
-    → HasRipened stands s.network e.device (moment_of s e.device now) e.link e.frame e.point result machine after
-    → IsAnswered stands s hs now e k.node after result
-answered stands s hs coming mark cursor now e machine after result r k master has =
+    (machine : M) (r : IsRipe s hs coming mark cursor now e) (k : IsKept stands s hs coming cursor now e.device machine)
+    → (IsParentOf s.network e.device e.link → IsOfMaster s.network e.device e.link e.frame.members) → IsAsked s hs now e k.node
+may_be_asked stands s hs coming mark cursor now e machine r k master =
     let device = e.device in
     let yet = is_yet stands s hs coming mark cursor now e machine r k in
     let hears = hears_now stands s hs coming mark cursor now e machine r k in
@@ -126,8 +131,18 @@ answered stands s hs coming mark cursor now e machine after result r k master ha
       ]
       | inr other ↦ absurd (Rattle.compression.proofs.Elements.in_none x (subst (λ (l : List Compressed). Contains l x) (k.bare other).1 there))
     ] in
-    let it = has k.node k.is call hearing (may_ripen s hs coming mark cursor now e k.node r k.ready master points emitted) in
-    record { hears = hears; outcome = it.0; is = it.1 }
+    record { hears = hears; call = call; hearing = hearing; ripens = may_ripen s hs coming mark cursor now e k.node r k.ready master points emitted }
+
+pub answered : {M : Type 0} (stands : M → Network → DeviceId → Node → Type 0) (s : Scenario) (hs coming : List Happening) (mark cursor : List ℕ) (now : ℕ)
+    (e : Waiting)
+    (machine after : M) (result : Ripe) (r : IsRipe s hs coming mark cursor now e) (k : IsKept stands s hs coming cursor now e.device machine)
+    → (IsParentOf s.network e.device e.link → IsOfMaster s.network e.device e.link e.frame.members)
+    → HasRipened stands s.network e.device (moment_of s e.device now) e.link e.frame e.point result machine after
+    → IsAnswered stands s hs now e k.node after result
+answered stands s hs coming mark cursor now e machine after result r k master has =
+    let asked = may_be_asked stands s hs coming mark cursor now e machine r k master in
+    let it = has k.node k.is asked.call asked.hearing asked.ripens in
+    record { hears = asked.hears; outcome = it.0; is = it.1 }
 
 -- ---- places of what is to come
 

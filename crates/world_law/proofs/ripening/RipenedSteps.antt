@@ -2,7 +2,7 @@
 use Rattle.std.proofs.Common.{◌≡◌, ◌⊎◌, ◌↔◌, ℕ, zero, suc, ◌+◌, ◌≤◌, ◌<◌, ℤ, pos, ◌≤ℤ◌, Bool, true, false, List, [], ◌∷◌, ◌++◌, length, map, get_or, All, Option, Some, None, slice_get, inl, inr, refl, sym, ap, subst, ◌∙◌, append_assoc, arith}
 use Rattle.std.proofs.lemmas.Bool.{both_ways, cases_Bool, eq-eqb, eqb-true, ne_eqb}
 use Rattle.std.proofs.lemmas.List.{append-nil, length-append, length-map}
-use Rattle.net_plan.specs.Ranges.{IsLinkInRange}
+use Rattle.net_plan.specs.Ranges.{IsInRange, IsLinkInRange}
 use Rattle.net_plan.specs.declared.ids.DeviceId.{DeviceId}
 use Rattle.net_plan.specs.declared.ids.LinkId.{LinkId}
 use Rattle.net_plan.specs.declared.network.Network.{Network}
@@ -27,6 +27,8 @@ use Rattle.run_law.specs.machines.Nodes.{Node}
 use Rattle.run_law.specs.records.Happenings.{Happening, frame_from, happenings, numbered, time_of}
 use Rattle.run_law.specs.records.Order.{AllBefore, IsBefore, IsIn, NoneBefore, behind}
 use Rattle.run_law.specs.records.Ranks.{key, members_in, place_of, rank}
+use Rattle.run_law.specs.runs.DueRecords.{IsDue}
+use Rattle.run_law.specs.runs.Runs.{IsFounded}
 use Rattle.run_law.specs.scenario.Devices.{IsParentOf, is_cm}
 use Rattle.run_law.specs.scenario.Scenarios.{Scenario, is_broken}
 use Rattle.sync_state.specs.declared.state.State.TheVariants.{Joining}
@@ -210,19 +212,24 @@ link_all P [] i x all e = absurd cc
 link_all {X} P (y ∷ xs) zero x all e = let same : y ≡ x = cc in subst P same (all 0 y (omega arith))
 link_all P (y ∷ xs) (suc i) x all e = link_all P xs i x (λ k d lt. all (suc k) d (omega (arith, lt))) e
 
-pub in_network : (s : Scenario) (hs coming : List Happening) (mark cursor : List ℕ) (now : ℕ) (e : Waiting) → IsRipe s hs coming mark cursor now e
+-- a frame waits at a device of the network
+pub waits_within : (s : Scenario) (hs : List Happening) (e : Waiting) → IsWaitingFor s hs e → IsFounded place_of (IsDue s) hs → IsInRange s.network
     → e.device.0 < length s.network.device
-in_network s hs coming mark cursor now e r =
-    let c = come_of s hs e r.it r.run.founded in
+waits_within s hs e it founded range =
+    let c = come_of s hs e it founded in
     by_way c.so.arrives.way (received s.network e.device e.link c.so.arrives.way c.so.arrives.receiver)
   where
     by_way : (way : Way) → IsReceiver s.network e.device e.link way → e.device.0 < length s.network.device
     by_way Up v =
         subst (λ (d : DeviceId). d.0 < length s.network.device) v.is
-        (link_all (IsLinkInRange s.network) s.network.link e.link.0 v.joint r.range.links v.there).parent
+        (link_all (IsLinkInRange s.network) s.network.link e.link.0 v.joint range.links v.there).parent
     by_way Down v =
         subst (λ (d : DeviceId). d.0 < length s.network.device) v.is
-        (link_all (IsLinkInRange s.network) s.network.link e.link.0 v.joint r.range.links v.there).child
+        (link_all (IsLinkInRange s.network) s.network.link e.link.0 v.joint range.links v.there).child
+
+pub in_network : (s : Scenario) (hs coming : List Happening) (mark cursor : List ℕ) (now : ℕ) (e : Waiting) → IsRipe s hs coming mark cursor now e
+    → e.device.0 < length s.network.device
+in_network s hs coming mark cursor now e r = waits_within s hs e r.it r.run.founded r.range
 
 -- ---- the record
 
