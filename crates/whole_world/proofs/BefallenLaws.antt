@@ -29,7 +29,7 @@ use Rattle.run_law.specs.scenario.Scenarios.{Scenario, is_broken}
 use Rattle.run_law.specs.scenario.Ways.{delay_at, is_cut}
 use Rattle.sync_state.specs.declared.state.State.TheVariants.{Integrating}
 use Rattle.whole_world.proofs.Alike.{with_ports}
-use Rattle.whole_world.proofs.Befallings.{IsFreshOf, ports_settled}
+use Rattle.whole_world.proofs.Befallings.{IsFreshOf, is_mapped, ports_settled}
 use Rattle.whole_world.proofs.Fits.{all_put_some, have_octets}
 use Rattle.whole_world.proofs.HiddenCauses.{InOrder}
 use Rattle.whole_world.proofs.Puts.{is_put_in, one_put_in, order_put, some_put_in}
@@ -54,11 +54,6 @@ use Rattle.world_law.proofs.steps.Applied.{no_coming}
 use Rattle.world_law.specs.world.Befalling.{ArePutBy, befell_bodies, bodies_of}
 use Rattle.world_law.specs.world.Steps.{ArePutIn, StandsBehind}
 use Rattle.world_law.specs.world.World.{AreWays, Befell, OnWire, Stands, WayNow, World, hidden, none_yet, way_now}
-
-is_mapped : {X Y : Type 0} (f : X → Y) (xs : List X) (x : X) → IsIn x xs → IsIn (f x) (map f xs)
-is_mapped f [] x i = absurd i
-is_mapped f (y ∷ xs) x (inl e) = inl (ap f e)
-is_mapped f (y ∷ xs) x (inr i) = inr (is_mapped f xs x i)
 
 none_mapped : {X Y : Type 0} (f : X → Y) (xs : List X) → map f xs ≡ [] → xs ≡ []
 none_mapped f [] e = refl
@@ -139,8 +134,7 @@ module _ (s : Scenario) where
         subst (λ (o : Option (Entry Content)). IsOn o []) (sym (ap (λ (b : Bool). if b then None else Some (entry_up link octets l w)) is)) refl
     sent_as link octets l w false is delay =
         subst (λ (o : Option (Entry Content)). IsOn o (sent_on s now number link octets l ∷ []))
-        (sym (ap (λ (b : Bool). if b then None else Some (entry_up link octets l w)) is))
-        (
+        (sym (ap (λ (b : Bool). if b then None else Some (entry_up link octets l w)) is)) (
           sent_on s now number link octets l,
           ap (λ (d : ℕ). let y : OnWire = record {
             at = now + time_on_port s.network link (signal_of octets) + d;

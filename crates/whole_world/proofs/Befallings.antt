@@ -22,6 +22,7 @@ use Rattle.net_plan.specs.Ranges.{IsInRange, IsLinkInRange}
 use Rattle.run_law.specs.control.Wires.{signal_of, time_on_port}
 use Rattle.std.specs.Prelude.{IfSome}
 use Rattle.whole_world.proofs.Apart.{ports_kept}
+use Rattle.whole_world.proofs.Made.{in_all}
 use Rattle.whole_world.proofs.UnderWays.{some_is, sound_with}
 use Rattle.whole_world.specs.Sound.{AreBelow, AreUnderWay, rank_of}
 use Rattle.whole_world.specs.Views.{at_port, befell_as, on_wire, settled_at}
@@ -94,7 +95,7 @@ up_entry network time number link octets l w = record {
   content = Wire (signals.Octets octets);
 }
 
-is_mapped : {X Y : Type 0} (f : X → Y) (xs : List X) (x : X) → IsIn x xs → IsIn (f x) (map f xs)
+pub is_mapped : {X Y : Type 0} (f : X → Y) (xs : List X) (x : X) → IsIn x xs → IsIn (f x) (map f xs)
 is_mapped f [] x i = absurd i
 is_mapped f (y ∷ xs) x (inl e) = inl (ap f e)
 is_mapped f (y ∷ xs) x (inr i) = inr (is_mapped f xs x i)
@@ -107,9 +108,6 @@ record IsSendOf (network : Network) (number : ℕ) (e : Entry Content) : Type 0 
   link : e.place.link < length network.link
   cause : e.place.cause ≡ number
   none : at_port e ≡ None
-
-in_all : {X : Type 0} (P : X → Type 0) (xs : List X) (i : ℕ) (x : X) → All P xs → slice_get xs i ≡ Some x → P x
-in_all P xs i x all e = subst P (get_or_from_slice_get xs i x x e) (all i x (slice_get_within xs i x e))
 
 module _ (network : Network) (range : IsInRange network) (ups : List WayState) (time number : ℕ) where
   sent_is : (link : LinkId) (octets : List ℕ) (l : Link) (w : WayState) (cut : Bool) (e : Entry Content) → slice_get network.link link.0 ≡ Some l → w.cut ≡ cut

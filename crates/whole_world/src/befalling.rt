@@ -6,9 +6,7 @@ ghost use Rattle.run_law.specs.declared.note.Note.{Note};
 ghost use Rattle.run_law.specs.records.Order.{behind};
 ghost use Rattle.run_law.specs.scenario.Scenarios.{Scenario};
 ghost use Rattle.whole_world.specs.Befalling.{AreSettledBy, bare, entry_of, lost_on, record_of, sent_up, turned_on};
-ghost use Rattle.whole_world.specs.Giving.{IsPutOn};
 ghost use Rattle.whole_world.specs.Keeping.{keeps};
-ghost use Rattle.whole_world.specs.Places.{IsSomePut};
 ghost use Rattle.whole_world.specs.Sound.{IsSound};
 ghost use Rattle.whole_world.specs.Stepping.{ChangesOnly, IsRunning};
 ghost use Rattle.whole_world.specs.Views.{world_of};
@@ -18,7 +16,7 @@ ghost use Rattle.world_law.specs.world.World.{Stands};
 use crate::OutOfMemory;
 use crate::contents::{Befallen, Content, Settled, Signal, WayState};
 use crate::sending::put_on;
-use crate::settled::put_in;
+use crate::settled::put_some;
 use crate::state::State;
 use drift_clock::Clock;
 use due_queue::{Entry, Place, UnderWay};
@@ -157,18 +155,6 @@ fn entry_of(
     }
 }
 
-/// Settles the record, if there is one.
-fn settle(settled: &mut VecDeque<Settled>, one: Option<Settled>)
-    requires room { deque_len settled.old < deque_capacity settled.old }
-    ensures is { IsSomePut one settled.old.items settled.new.items }
-    ensures len { deque_len settled.new ≤ deque_len settled.old + 1 }
-    ensures capacity { deque_capacity settled.old ≤ deque_capacity settled.new }
-{
-    if let Some(one) = one {
-        put_in(settled, one);
-    }
-}
-
 /// Settles what comes of each that befell, and forgets them.
 fn settle_all(
     befell: &mut Vec<Befallen>,
@@ -190,7 +176,7 @@ fn settle_all(
     for index in 0..befell.len() {
         let number = befell[index].number;
         let what = replace(&mut befell[index].what, What::End);
-        settle(settled, record_of(network, broken, ups, number, &what));
+        put_some(settled, record_of(network, broken, ups, number, &what));
         put_on(under_way, entry_of(network, ups, time, number, what));
     }
     befell.clear();
@@ -228,8 +214,13 @@ impl<C: Clock, M: Machine + Drop> State<C, M> {
         ensures err { OnErr result (world_of network.now self.new ≡ world_of network.now self.old) }
         ensures done { OnOk result (self.new.pending ≡ false) }
         ensures others { (device : ℕ) → ChangesOnly device self.old self.new }
-        ensures same { self.new ≡ record self.old { under_way = self.new.under_way; befell = self.new.befell; settled = self.new.settled;
-            early = self.new.early; pending = self.new.pending } }
+        ensures same { self.new ≡ record self.old {
+          under_way = self.new.under_way;
+          befell = self.new.befell;
+          settled = self.new.settled;
+          early = self.new.early;
+          pending = self.new.pending;
+        } }
         ensures given { self.new.given ≡ self.old.given }
     {
         let more = self.befell.len();

@@ -1,11 +1,6 @@
-use Rattle.std.proofs.Common.{◌≡◌, ◌+◌, Bool, List, All, arith, subst, sym}
-use Rattle.due_queue.specs.declared.Entry.{Entry}
-use Rattle.whole_world.specs.Befalling.{AreSettledBy}
+use Rattle.std.proofs.Common.{◌+◌, All, arith, subst, sym}
 use Rattle.whole_world.specs.Keeping.{keeps}
 use Rattle.whole_world.specs.Sound.{AreBelow, AreUnderWay}
-use Rattle.whole_world.specs.declared.contents.Content.{Content}
-use Rattle.whole_world.specs.declared.contents.Settled.{Settled}
-use Rattle.whole_world.specs.declared.contents.WayState.{WayState}
 use Rattle.whole_world.proofs.BefallenLaws.{all_fresh, befallen_behind, numbers_given, octets_settled}
 use Rattle.whole_world.proofs.Befallings.{settled_with, sound_settled}
 use Rattle.whole_world.proofs.Fits.{have_octets}
