@@ -10,6 +10,7 @@ pub mod Beginnings
 pub mod FirstSettled
 pub mod Fits
 pub mod Firsts
+pub mod Gave
 pub mod Givings
 pub mod Hearings
 pub mod Hears
@@ -17,6 +18,7 @@ pub mod HiddenCauses
 pub mod Launches
 pub mod Made
 pub mod Mapped
+pub mod MayGive
 pub mod PutTo
 pub mod Puts
 pub mod Ripenings
@@ -24,6 +26,7 @@ pub mod Ripes
 pub mod Swaps
 pub mod Sendings
 pub mod Showings
+pub mod Storings
 pub mod Signals
 pub mod TurnedOn
 pub mod UnderWays

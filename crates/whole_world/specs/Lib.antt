@@ -15,3 +15,4 @@ pub mod Sound
 pub mod Views
 pub mod Stepping
 pub mod Running
+pub mod Storing

@@ -6,6 +6,7 @@ mod befalling;
 mod begin;
 mod contents;
 mod frames;
+mod give;
 mod giving;
 mod hear;
 mod kept;
@@ -17,6 +18,7 @@ mod ripen;
 mod sending;
 mod settled;
 mod state;
+mod storing;
 mod waiting;
 mod world;
 
