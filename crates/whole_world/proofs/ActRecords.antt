@@ -3,9 +3,9 @@ use Rattle.std.proofs.Common.{◌≡◌, ℕ, ◌+◌, ◌≤◌, ◌<◌, ◌==
 use Rattle.std.specs.Prelude.{if◌then◌else◌, ◌⊎◌}
 use Rattle.std.specs.Option.{option_map, option_map_or}
 use Rattle.std.proofs.lemmas.Bool.{ne_eqb}
+use Rattle.std.proofs.lemmas.Option.{slice_get_within}
 use Rattle.net_plan.specs.declared.ids.DeviceId.{DeviceId}
 use Rattle.net_plan.specs.declared.ids.RowId.{RowId}
-use Rattle.net_plan.specs.declared.ids.VlId.{VlId}
 use Rattle.net_plan.specs.declared.network.Network.{Network}
 use Rattle.pcf_values.specs.declared.pcf.Pcf.{Pcf}
 use Rattle.run_law.proofs.runs.Places.{chain, in_left, in_parts, in_right, never_self}
@@ -35,6 +35,7 @@ use Rattle.sync_state.specs.declared.state.State.{State as Standing}
 use Rattle.tte_units.specs.Amount.{amount}
 use Rattle.tte_units.specs.declared.units.Units.{Units}
 use Rattle.whole_world.proofs.HiddenCauses.{InOrder}
+use Rattle.whole_world.proofs.Made.{made_octets}
 use Rattle.whole_world.proofs.Puts.{is_put_in, order_put}
 use Rattle.whole_world.specs.Acting.{AreOutcomes, IsDispatched, IsHeldIn, bare, bodies_of, body_of, corrected_by, dispatched_by, emitted_by, first_by, framed, joined_by, sent_by}
 use Rattle.whole_world.specs.Giving.{HasItsOctets}
@@ -211,9 +212,9 @@ of_correction s hs now device was adjustment cycle Cleared = record { bodies = r
 -- ---- a dispatch
 
 -- the sender's octets are the frame of the law
-made_is : (network : Network) (vl : VlId) (cycle : ℕ) (entry : Entry) (place : ℕ) → IsEntry network place entry
+made_is : (network : Network) (cycle : ℕ) (entry : Entry) (place : ℕ) → IsEntry network place entry
     → octets_of network (Made entry.row.vl cycle) ≡ tt_frame network entry.row.vl cycle
-made_is network vl cycle entry place is = refl
+made_is network cycle entry place is = made_octets network entry.row.vl cycle (slice_get_within network.vl entry.row.vl.0 entry.vl is.vl)
 
 module _ (s : Scenario) (hs : List Happening) (now : ℕ) (device : DeviceId) (was : Standing) (adjustment : Units) (row : RowId) (cycle : ℕ) (entry : Entry)
     (hand : AtHand) where
@@ -309,7 +310,7 @@ of_row stands s hs coming mark cursor stored now device machine node was adjustm
           let hand : AtHand = record { cause = 0; octets = Made entry.row.vl cycle } in
           let cut = is_cut s entry.row.link (way_from s.network device entry.row.link) now in
           of_dispatch s hs now device was adjustment row cycle entry hand outcomes p.1.own.1.is (inl (sender, refl))
-          (made_is s.network entry.row.vl cycle entry row.0 p.1.own.1.is)
+          (made_is s.network cycle entry row.0 p.1.own.1.is)
           (d.0.is ∙ ap (λ (o : Option AtHand). option_map (dispatched_by cut device entry cycle) o) (d.0.of_hand.sender sender)) d.1
       | inr other ↦
           of_held s hs stored now device was adjustment row cycle entry outcomes d.0.hand p.1.own.1.is

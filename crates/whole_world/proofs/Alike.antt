@@ -8,7 +8,7 @@ use Rattle.run_law.specs.records.Order.{IsIn}
 use Rattle.run_law.specs.scenario.Scenarios.{Scenario}
 use Rattle.run_law.specs.declared.note.Note.{Note}
 use Rattle.world_law.specs.world.Steps.{StandsBehind}
-use Rattle.world_law.specs.world.World.{OnWire, World}
+use Rattle.world_law.specs.world.World.{AtPort, OnWire, World}
 
 -- other wires with the same on them
 pub with_wires : {C M : Type 0} (reading : C → ℕ → ℕ) (stands : M → Network → DeviceId → Node
@@ -49,6 +49,53 @@ with_wires reading stands s world notes wires p same behind =
           all = λ t device link cause a late waits. let found = it.wires.all t device link cause a late waits in (found.0, (same found.0).1 found.1, found.2);
         };
         ports = it.ports;
+        waiting = it.waiting;
+        stored = it.stored;
+        are = it.are;
+        shown = it.shown;
+      },
+      behind.1,
+    )
+
+-- other ports with the same at them
+pub with_ports : {C M : Type 0} (reading : C → ℕ → ℕ) (stands : M → Network → DeviceId → Node
+    → Type 0) (s : Scenario) (world : World C M) (notes : List Note) (ports : List AtPort) (p : List ℕ) → ((e : AtPort) → IsIn e ports ↔ IsIn e world.ports)
+    → StandsBehind reading stands s world notes p → StandsBehind reading stands s (record world { ports = ports }) notes p
+with_ports reading stands s world notes ports p same behind =
+    let it = behind.0 in (
+      record {
+        same = it.same;
+        range = it.range;
+        rules = it.rules;
+        forward = it.forward;
+        steady = it.steady;
+        precise = it.precise;
+        mark = it.mark;
+        cursor = it.cursor;
+        run = it.run;
+        ahead = it.ahead;
+        of_now = it.of_now;
+        not_later = it.not_later;
+        limit = it.limit;
+        lines = it.lines;
+        given = it.given;
+        ended = it.ended;
+        befallen = it.befallen;
+        clocks = it.clocks;
+        broken = it.broken;
+        ways = it.ways;
+        coming = it.coming;
+        room = it.room;
+        settled = it.settled;
+        known = it.known;
+        devices = it.devices;
+        early = it.early;
+        untold = it.untold;
+        wires = it.wires;
+        ports = record {
+          real = λ e there. it.ports.real e ((same e).0 there);
+          all = λ t device link cause d waits. let found = it.ports.all t device link cause d waits in (found.0, (same found.0).1 found.1, found.2);
+        };
         waiting = it.waiting;
         stored = it.stored;
         are = it.are;

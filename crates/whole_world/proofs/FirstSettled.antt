@@ -26,13 +26,13 @@ same_octets network hs given body =
       | inr a ↦ ap (octets_by network hs) a.same
     ]
 
-record IsFirstOf (given : ℕ) (coming : List Happening) (z : Happening) : Type 0 where
+pub record IsFirstOf (given : ℕ) (coming : List Happening) (z : Happening) : Type 0 where
   pub first : Happening
   pub others : List Happening
   pub whole : coming ≡ first ∷ others
   pub shows : z ≡ hidden given first
 
-first_of : (given : ℕ) (coming : List Happening) (z : Happening) (rest : List Happening) → z ∷ rest ≡ map (hidden given) coming → IsFirstOf given coming z
+pub first_of : (given : ℕ) (coming : List Happening) (z : Happening) (rest : List Happening) → z ∷ rest ≡ map (hidden given) coming → IsFirstOf given coming z
 first_of given [] z rest e = absurd cc
 first_of given (c ∷ cs) z rest e = record { first = c; others = cs; whole = refl; shows = cc }
 

@@ -22,9 +22,12 @@ use Rattle.whole_world.proofs.Launches.{given_out}
 use Rattle.whole_world.proofs.Sendings.{puts}
 use Rattle.whole_world.specs.Giving.{IsGivenOut, IsPutOn, MayBeGiven, control_on_wire, timed_on_wire, wire_entry}
 use Rattle.whole_world.specs.Showing.{IsOf}
-use Rattle.whole_world.specs.Views.{at_port, on_wire, settled_at, waiting_as, with_first}
+use Rattle.whole_world.proofs.Storings.{taken_by}
+use Rattle.whole_world.specs.Storing.{stored_by}
+use Rattle.whole_world.specs.Views.{at_port, octets_in, on_wire, settled_at, stored_as, waiting_as, with_first}
 use Rattle.whole_world.specs.Naming.{named_settled}
 use Rattle.whole_world.specs.declared.contents.Content.{Content}
+use Rattle.whole_world.specs.declared.contents.Holding.{Holding}
 use Rattle.whole_world.specs.declared.contents.Settled.{Settled}
 use Rattle.whole_world.specs.declared.contents.Timed.{Timed}
 use Rattle.whole_world.specs.declared.contents.WayState.{WayState}
@@ -33,7 +36,7 @@ use Rattle.whole_world.specs.declared.kept.Kept.{Kept}
 use Rattle.whole_world.specs.declared.state.State.{State}
 use Rattle.world_law.proofs.giving.Given.{given_step}
 use Rattle.world_law.specs.source.First.{NoSourceBefore}
-use Rattle.world_law.specs.world.Steps.{StandsBehind, named}
+use Rattle.world_law.specs.world.Steps.{AreTaken, StandsBehind, named}
 use Rattle.world_law.specs.world.World.{Stands, note_of}
 
 no_port_at : (f : Place → Entry Content) → ((p : Place) → at_port (f p) ≡ None) → (o : Option Place) → IfSome (option_map f o) (λ one. at_port one ≡ None)
@@ -65,24 +68,31 @@ pub named_all : (network : Network) (now number : ℕ) (first : Settled) (xs : L
 named_all network now number first [] = refl
 named_all network now number first (z ∷ xs) = ap (λ l. settled_at network now (named_settled number first.body z) ∷ l) (named_all network now number first xs)
 
--- it is given: what it launches is under way, or waits
-pub given_stands : {C M : Type 0} (reading : C → ℕ → ℕ) (stands : Kept M → Network → DeviceId → Node → Type 0) (s : Scenario) (state after : State C M)
-    (notes : List Note) (first : Settled) (rest : List Settled) (giving : Option Giving) (entries : List (Entry Content))
-    → (old : Stands reading stands s (with_first s.network state first rest) notes)
-    → NoSourceBefore s (happenings s.network notes) old.cursor (place_of (settled_at s.network state.time first))
-    → MayBeGiven s.network first.body first.frame first.octets
-    → IsGivenOut reading s.network state after first.body first.frame (length notes + 1) giving
-    → IsPutOn (wire_entry s.network state.ups.items state.downs.items first.body first.frame first.octets state.time (length notes + 1))
+-- it is given: what it launches is under way, or waits, and what a switch took by it is held
+abbrev pub GivesOn : {C M : Type 0} → (C → ℕ → ℕ) → (Kept M → Network → DeviceId → Node → Type 0) → Scenario → Network → Type 0
+GivesOn {C} {M} reading stands s network =
+    (state after : State C M) (notes : List Note) (first : Settled) (rest : List Settled) (giving : Option Giving) (entries : List (Entry Content))
+    (held : List Holding)
+    → (old : Stands reading stands s (with_first network state first rest) notes)
+    → NoSourceBefore s (happenings s.network notes) old.cursor (place_of (settled_at network state.time first))
+    → MayBeGiven network first.body first.frame first.octets
+    → IsGivenOut reading network state after first.body first.frame (length notes + 1) giving
+    → IsPutOn (wire_entry network state.ups.items state.downs.items first.body first.frame first.octets state.time (length notes + 1))
     after.under_way.entries entries
+    → held ≡ stored_by first.body first.octets (length notes + 1) state.stored.items
     → StandsBehind reading stands s
-    (record (with_first s.network state first rest) {
-      wires = filter_map (on_wire s.network) entries;
+    (record (with_first network state first rest) {
+      wires = filter_map (on_wire network) entries;
       ports = filter_map at_port entries;
       waiting = map waiting_as after.waiting.items;
-      settled = map (named (length notes + 1) (settled_at s.network state.time first)) (map (settled_at s.network state.time) rest);
+      stored = map (stored_as network) held;
+      settled = map (named (length notes + 1) (settled_at network state.time first)) (map (settled_at network state.time) rest);
       given = state.given + 1;
-    }) (notes ++ note_of notes (settled_at s.network state.time first) ∷ []) (behind (place_of (settled_at s.network state.time first)))
-given_stands reading stands s state after notes first rest giving entries old none may out sent =
+    }) (notes ++ note_of notes (settled_at network state.time first) ∷ []) (behind (place_of (settled_at network state.time first)))
+
+given_stands : {C M : Type 0} (reading : C → ℕ → ℕ) (stands : Kept M → Network → DeviceId → Node → Type 0) (s : Scenario)
+    → GivesOn {C = C} {M = M} reading stands s s.network
+given_stands {C} {M} reading stands s state after notes first rest giving entries held old none may out sent held_is =
     let number = length notes + 1 in
     let z = settled_at s.network state.time first in
     let others = map (settled_at s.network state.time) rest in
@@ -90,16 +100,25 @@ given_stands reading stands s state after notes first rest giving entries old no
     let x : Happening = happening s.network (happenings s.network notes) (note_of notes z) in
     let is = first_is reading stands s world notes z others old refl in
     let frame : x.frame ≡ first.frame = ap (λ (h : Happening). h.frame) is in
+    let octets : x.octets ≡ octets_in s.network first.octets = ap (λ (h : Happening). h.octets) is in
     let of : IsOf reading s s.network state = record { same = refl; clocks = old.clocks; broken = old.broken; ways = old.ways } in
     let own = subst (λ (f : Option Pcf). IsGivenOut reading s.network state after first.body f number giving) (sym frame) out in
     let both = given_out reading s state after x number giving of old.range refl (λ d by no. may.framed d by (sym frame ∙ no)) may.arrived own in
     let put = puts s state.time state.ups.items state.downs.items old.ways x number refl after.under_way.entries entries first.body first.frame first.octets refl
-    may.with_octets frame (ap (λ (h : Happening). h.octets) is) sent in
+    may.with_octets frame octets sent in
+    let taken = subst (λ (l : List Holding). AreTaken x number (map (stored_as s.network) state.stored.items) (map (stored_as s.network) l)) (sym held_is)
+    (taken_by s.network x number state.stored.items first.body first.octets refl may.with_octets octets) in
     given_step reading stands s world notes z others (filter_map (on_wire s.network) entries) (filter_map at_port entries) (map waiting_as after.waiting.items)
-    old refl none
+    (map (stored_as s.network) held) old refl none
     (put_from s x number _ _ _ (wires_kept (length s.network.link) s.network s.network state.ups.items state.downs.items first.body giving
     state.under_way.entries after.under_way.entries out.put out.none) put)
     (given_then s x number _ _ _ (ports_kept (wire_entry s.network state.ups.items state.downs.items first.body first.frame first.octets state.time number)
     after.under_way.entries entries
     (no_port s.network state.ups.items state.downs.items first.body first.frame first.octets state.time number) sent) both.0)
     both.1
+    taken
+
+-- and so it is on the scenario's network, by whatever name
+pub given_on : {C M : Type 0} (reading : C → ℕ → ℕ) (stands : Kept M → Network → DeviceId → Node → Type 0) (s : Scenario) (network : Network)
+    → s.network ≡ network → GivesOn {C = C} {M = M} reading stands s network
+given_on {C} {M} reading stands s network same = subst (GivesOn {C = C} {M = M} reading stands s) same (given_stands {C = C} {M = M} reading stands s)

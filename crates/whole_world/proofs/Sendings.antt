@@ -33,7 +33,7 @@ use Rattle.whole_world.specs.declared.contents.WayState.{WayState}
 use Rattle.world_law.specs.world.Steps.{ArePut}
 use Rattle.world_law.specs.world.World.{AreWays, OnWire}
 
-link_within : (xs : List Link) (i : ℕ) (way : Way) (o : Option Link) (device : DeviceId) → slice_get xs i ≡ o → option_map (target_by way) o ≡ Some device
+pub link_within : (xs : List Link) (i : ℕ) (way : Way) (o : Option Link) (device : DeviceId) → slice_get xs i ≡ o → option_map (target_by way) o ≡ Some device
     → i < length xs
 link_within xs i way None device e is = absurd cc
 link_within xs i way (Some l) device e is = slice_get_within xs i l e

@@ -16,11 +16,11 @@ use Rattle.due_queue.specs.Places.{numbers_of}
 use Rattle.net_plan.specs.declared.network.Network.{Network}
 use Rattle.run_law.specs.records.Order.{IsIn}
 use Rattle.whole_world.specs.Sound.{AreUnderWay, rank_of}
-use Rattle.whole_world.specs.Views.{at_port, on_wire, port_at}
+use Rattle.whole_world.specs.Views.{at_port, on_wire, port_at, wire_at}
 use Rattle.whole_world.specs.declared.contents.Content.TheVariants.{Wire, Port}
 use Rattle.whole_world.specs.declared.contents.Content.{Content}
 use Rattle.world_law.specs.world.Steps.{IsWithout}
-use Rattle.world_law.specs.world.World.{AtPort, OnWire, port_place}
+use Rattle.world_law.specs.world.World.{AtPort, OnWire, port_place, wire_place}
 
 abbrev pub place_numbers : Entry Content → List ℕ
 place_numbers e = numbers_of e.place
@@ -34,6 +34,13 @@ port_numbers : (place : Place) (content : Content) (x : AtPort) → port_at plac
 port_numbers place (Wire signal) x is kind = absurd cc
 port_numbers place (Port frame given) x is kind =
     ap port_place (sym (some_is _ _ is)) ∙ ap (λ (r : ℕ). place.at ∷ r ∷ place.device ∷ place.link ∷ place.cause ∷ []) (sym kind)
+
+-- and of what is on a wire
+wire_numbers : (network : Network) (place : Place) (content : Content) (x : OnWire) → wire_at network place content ≡ Some x
+    → place.rank ≡ rank_of content → wire_place x ≡ numbers_of place
+wire_numbers network place (Port frame given) x is kind = absurd cc
+wire_numbers network place (Wire signal) x is kind =
+    ap wire_place (sym (some_is _ _ is)) ∙ ap (λ (r : ℕ). place.at ∷ r ∷ place.device ∷ place.link ∷ place.cause ∷ []) (sym kind)
 
 never_equal : (xs ys : List ℕ) → bytes_eq xs ys ≡ false → xs ≡ ys → ⊥
 never_equal xs ys apart same = both_ways (bytes_eq xs ys) apart (ap (bytes_eq xs) (sym same) ∙ nat_list_eq_equiv.refl xs)
@@ -90,6 +97,37 @@ module _ (network : Network) (old new : List (Entry Content)) (taken : Entry Con
           elim (in_permuted _ _ of.0 same of.1) [
             | inl e ↦ let no_wire : Some y ≡ None = sym of.2 ∙ ap (on_wire network) e ∙ none in absurd cc
             | inr rest ↦ is_given (on_wire network) new of.0 y rest of.2
+          ],
+    )
+
+    -- what was on a wire is taken
+    pub wires_without : (x : OnWire) → on_wire network taken ≡ Some x
+        → IsWithout wire_place (wire_place x) (filter_map (on_wire network) old) (filter_map (on_wire network) new)
+    wires_without x is y = (
+      λ there.
+          let of = given_of (on_wire network) new y there in
+          let e = of.0 in (
+            is_given (on_wire network) old e y (back e (inr of.1)) of.2,
+            λ place. others e of.1 (sym (wire_numbers network e.place e.content y of.2 (are.kinds e (back e (inr of.1)))) ∙ place
+                ∙ wire_numbers network taken.place taken.content x is (are.kinds taken (back taken (inl refl)))),
+          ),
+      λ h.
+          let of = given_of (on_wire network) old y h.0 in
+          elim (in_permuted _ _ of.0 same of.1) [
+            | inl e ↦ absurd (h.1 (ap wire_place (some_is _ _ (sym of.2 ∙ ap (on_wire network) e ∙ is))))
+            | inr rest ↦ is_given (on_wire network) new of.0 y rest of.2
+          ],
+    )
+
+    -- and nothing at the ports changes
+    pub ports_stay : at_port taken ≡ None → (y : AtPort) → IsIn y (filter_map at_port new) ↔ IsIn y (filter_map at_port old)
+    ports_stay none y = (
+      λ there. let of = given_of at_port new y there in is_given at_port old of.0 y (back of.0 (inr of.1)) of.2,
+      λ there.
+          let of = given_of at_port old y there in
+          elim (in_permuted _ _ of.0 same of.1) [
+            | inl e ↦ let no_port : Some y ≡ None = sym of.2 ∙ ap at_port e ∙ none in absurd cc
+            | inr rest ↦ is_given at_port new of.0 y rest of.2
           ],
     )
 

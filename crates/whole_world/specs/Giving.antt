@@ -1,5 +1,5 @@
 -- Frames that are given to links.
-use Rattle.std.specs.Prelude.{◌≡◌, ◌⊎◌, ℕ, ◌+◌, ◌<◌, ◌≤◌, pos, Bool, not, ◌&&◌, List, [], ◌∷◌, ◌++◌, Option, Some, None, option_map, option_and_then, length, slice_get, if◌then◌else◌, IfSome, IfNone}
+use Rattle.std.specs.Prelude.{◌≡◌, ◌⊎◌, ℕ, ◌+◌, ◌^◌, ◌<◌, ◌≤◌, pos, Bool, not, ◌&&◌, List, [], ◌∷◌, ◌++◌, Option, Some, None, option_map, option_and_then, length, slice_get, if◌then◌else◌, IfSome, IfNone}
 use Rattle.std.specs.List.Sorted.{IsPermutation}
 use Rattle.std.specs.Option.{option_map_or}
 use Rattle.due_queue.specs.declared.Entry.{Entry}
@@ -153,11 +153,13 @@ pub record IsGiver {C M : Type 0} (reading : C → ℕ → ℕ) (network : Netwo
   pub reads : giving.reading ≡ reading clock state.time
   pub broken : slice_get state.broken.items giving.device.0 ≡ Some giving.broken
 
--- what is settled is no event, and a frame of the schedule that is dispatched has its octets
+-- what is settled is no event, and a frame of the schedule that is dispatched, or that a switch took, has its octets
 abbrev pub HasItsOctets : NoteBody → Option Timed → Type 0
 HasItsOctets (kinds.Event line what) octets = ⊥
 HasItsOctets (kinds.TtSent device link cause vl cycle) (Some octets) = Unit {0}
 HasItsOctets (kinds.TtSent device link cause vl cycle) None = ⊥
+HasItsOctets (kinds.Accepted device link cause vl cycle) (Some octets) = Unit {0}
+HasItsOctets (kinds.Accepted device link cause vl cycle) None = ⊥
 HasItsOctets other octets = Unit {0}
 
 -- what arrived has arrived at one of so many devices
@@ -187,3 +189,13 @@ pub record IsGivenOut {C M : Type 0} (reading : C → ℕ → ℕ) (network : Ne
   pub waits : IfSome giving (λ g. new.waiting.items ≡ with_one (awaited_by network g.broken body (Some g.frame) g.reading g.number) old.waiting.items)
   pub none : IfNone giving (new.under_way.entries ≡ old.under_way.entries)
   pub no_wait : IfNone giving (new.waiting.items ≡ old.waiting.items)
+
+-- the device whose waiting frames may change by the record: 2^32, which is none, where it is not an arrival
+abbrev pub changed_device : NoteBody → ℕ
+changed_device (kinds.Arrived device link cause clock) = device.0
+changed_device other = 2 ^ 32
+
+-- no clock is far ahead of the present time
+abbrev pub AreLow : {C M : Type 0} → (C → ℕ → ℕ) → State C M → Type 0
+AreLow {C} reading state =
+    (k : ℕ) (clock : C) → slice_get state.clocks.items k ≡ Some clock → reading clock state.time ≤ 2 ^ 60 + 2 ^ 51

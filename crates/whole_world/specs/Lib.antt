@@ -1,8 +1,11 @@
 pub mod Acting
 pub mod Applying
+pub mod Befalling
 pub mod Beginning
 pub mod Following
+pub mod Frames
 pub mod Giving
+pub mod Hearing
 pub mod Keeping
 pub mod Leaving
 pub mod Naming
@@ -13,3 +16,4 @@ pub mod Sound
 pub mod Views
 pub mod Stepping
 pub mod Running
+pub mod Storing

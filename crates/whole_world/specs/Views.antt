@@ -1,9 +1,10 @@
 -- A world as its law sees it, from the parts of its state.
-use Rattle.std.specs.Prelude.{ℕ, List, [], ◌∷◌, map, Option, Some, None, Ok, filter_map}
+use Rattle.std.specs.Prelude.{ℕ, List, [], ◌∷◌, map, Option, Some, None, Ok, filter_map, replicate, slice_get}
+use Rattle.std.specs.Option.{option_map_or}
 use Rattle.net_plan.specs.declared.network.Network.{Network}
 use Rattle.run_law.specs.control.Wires.{Signal, control, signal_of, timed}
 use Rattle.run_law.specs.records.Happenings.{Happening}
-use Rattle.run_law.specs.records.Frames.{tt_frame}
+use Rattle.run_law.specs.records.Frames.{tt_frame_by}
 use Rattle.tte_units.specs.Amount.{units_of}
 use Rattle.due_queue.specs.declared.Entry.{Entry}
 use Rattle.due_queue.specs.declared.Place.{Place}
@@ -22,9 +23,10 @@ use Rattle.whole_world.specs.declared.kept.Kept.{Kept}
 use Rattle.whole_world.specs.declared.state.State.{State}
 use Rattle.world_law.specs.world.World.{AtPort, Befell, OnWire, Stored, Waiting, WayNow, World}
 
--- the octets of a frame of the schedule
+-- the octets of a frame of the schedule; zeros stand for a virtual link that the network does not have
 abbrev pub octets_of : Network → Timed → List ℕ
-octets_of network (octets.Made vl cycle) = tt_frame network vl cycle
+octets_of network (octets.Made vl cycle) =
+    option_map_or (λ v. tt_frame_by network v cycle) (slice_get network.vl vl.0) (replicate 60 0)
 octets_of network (octets.Sent given) = given
 
 abbrev pub signal_as : Network → Sent → Signal

@@ -8,7 +8,7 @@ ghost use Rattle.run_law.specs.control.Leaving.{Gives, Passes};
 ghost use Rattle.run_law.specs.scenario.Devices.{IsParentOf, is_relay};
 
 use crate::OutOfMemory;
-use crate::contents::{Content, Waits, WayState};
+use crate::contents::{Content, Holding, Waits, WayState};
 use crate::waiting::{awaited, wait_for};
 use due_queue::{Place, UnderWay};
 use net_plan::{DeviceId, LinkId, Network, Role};
@@ -199,19 +199,23 @@ pub fn give_frame(
     }
 }
 
-/// Takes room for what a record may launch.
+/// Takes room for what a record may launch, and a switch take by it.
 pub fn make_room(
     under_way: &mut UnderWay<Content>,
     waiting: &mut Vec<Waits>,
+    stored: &mut Vec<Holding>,
     network: &Network,
 ) -> Result<(), OutOfMemory>
     requires few { length network.now.link < 2 ^ 32 }
     ensures entries { under_way.new.entries ≡ under_way.old.entries }
     ensures waiting { waiting.new.items ≡ waiting.old.items }
+    ensures stored { stored.new.items ≡ stored.old.items }
     ensures room { OnOk result (length network.now.link < under_way.new.room) }
     ensures capacity { OnOk result (vec_len waiting.new < vec_capacity waiting.new) }
+    ensures free { OnOk result (vec_len stored.new < vec_capacity stored.new) }
 {
     under_way.reserve(network.link.as_slice().len() + 1)?;
     waiting.reserve(1)?;
+    stored.reserve(1)?;
     Ok(())
 }

@@ -2,16 +2,18 @@ ghost use Rattle.std.specs.Prelude.{◌≡◌, Bool, true, map, IfOk, IfSome, If
 ghost use Rattle.net_plan.specs.declared.ids.DeviceId.{DeviceId};
 ghost use Rattle.net_plan.specs.declared.network.Network.{Network};
 ghost use Rattle.net_plan.specs.declared.event.What.TheVariants.{On, Break};
-ghost use Rattle.run_law.specs.machines.Calls.{MayAct, StandsFor};
+ghost use Rattle.run_law.specs.machines.Calls.{MayAct, MayHear, StandsFor};
 ghost use Rattle.run_law.specs.machines.Nodes.{Node};
 ghost use Rattle.run_law.specs.machines.Tasks.{IsDueReading};
 ghost use Rattle.sync_state.specs.declared.state.State.TheVariants.{Off};
 ghost use Rattle.whole_world.specs.Keeping.{keeps, sound_one};
 ghost use Rattle.world_law.specs.world.Acting.{HasActed};
+ghost use Rattle.world_law.specs.world.Arriving.{HasHeard};
 ghost use Rattle.world_law.specs.world.Steps.{IsStateOf, befallen_node};
 
 use crate::OutOfMemory;
-use run_law::{Act, Machine, Moment};
+use net_plan::LinkId;
+use run_law::{Act, Arrival, Machine, Moment, Reason};
 use std::alloc::Global;
 use sync_state::State;
 use tte_units::Units;
@@ -96,6 +98,17 @@ impl<M: Machine + Drop> Kept<M> {
     {
         if let Kept::Sound(machine) = self {
             machine.turn_on();
+        }
+    }
+
+    /// A frame of these octets, 60 to 1,514, comes to the device by a link. One that is broken drops it.
+    pub fn hear(&mut self, moment: Moment, link: LinkId, octets: &[u8]) -> Arrival
+        requires { StandsFor (keeps M.stands) self.old (λ network device node. MayHear network device node moment link octets.now) }
+        ensures { (network : Network) (device : DeviceId) → HasHeard (keeps M.stands) network device moment link octets.now result self.old self.new }
+    {
+        match self {
+            Kept::Sound(machine) => machine.hear(moment, link, octets),
+            Kept::Out(_, _) => Arrival::Dropped(Reason::Off),
         }
     }
 

@@ -3,9 +3,13 @@
 
 mod act;
 mod applying;
+mod befalling;
 mod begin;
 mod contents;
+mod frames;
+mod give;
 mod giving;
+mod hear;
 mod kept;
 mod leaving;
 mod memory;
@@ -16,6 +20,7 @@ mod ripen;
 mod sending;
 mod settled;
 mod state;
+mod storing;
 mod waiting;
 mod world;
 

@@ -21,7 +21,7 @@ fn octet_count(network: &Network, timed: &Timed) -> u32
     match timed {
         Timed::Made(vl, _) => match network.vl.as_slice().get(vl.0 as usize) {
             Some(found) => u32::from(found.length),
-            None => 0,
+            None => 60,
         },
         Timed::Sent(octets) => octets.as_slice().len() as u32,
     }

@@ -12,14 +12,10 @@ use crate::applying::{
     befall_machines, breaks_on, copy_of, drop_waiting, ends, keep_befallen, set_broken, set_rate,
     set_way,
 };
-use crate::contents::{Befallen, Content, Holding, Settled, Timed, Waits, WayState};
-use crate::giving::{Giving, give_frame};
+use crate::contents::{Befallen, Content, Holding, Settled, Waits, WayState};
 use crate::kept::Kept;
 use crate::leaving::{departed, is_parent, take_port};
-use crate::naming::name_followers;
-use crate::sending::{put_on, sent_by};
 use crate::settled::{put_in, put_some};
-use crate::waiting::giver;
 use drift_clock::Clock;
 use due_queue::{Place, UnderWay};
 use net_plan::{DeviceId, Event, LinkId, Network, Way, What};
@@ -161,133 +157,6 @@ impl<C: Clock, M: Machine + Drop> State<C, M> {
             self.downs[link.0 as usize]
         } else {
             self.ups[link.0 as usize]
-        }
-    }
-
-    /// The frame of a record that its device gives to links, or waits for.
-    fn giving_by(
-        &self,
-        network: &Network,
-        body: &NoteBody,
-        frame: Option<Pcf>,
-        number: u64,
-    ) -> Option<Giving>
-        requires sized { IsSized C.last_step network.now self.now }
-        ensures some { IfSome result (λ g. IsGiver C.reading network.now self.now body.now frame number g) }
-        ensures none { IfNone result ((device : DeviceOf) → giver_of body.now ≡ Some device → device.0 < length network.now.device
-            → frame ≡ None) }
-    {
-        let device = giver(body)?;
-        if device.0 as usize >= self.broken.len() {
-            return None;
-        }
-        let frame = frame?;
-        let reading = self.reading_of(network, device.0);
-        Some(Giving {
-            device,
-            time: self.time,
-            number,
-            frame,
-            reading,
-            broken: self.broken[device.0 as usize],
-        })
-    }
-
-    /// Puts on a wire what a record puts there.
-    fn launch_wire(
-        &mut self,
-        network: &Network,
-        body: &NoteBody,
-        frame: Option<Pcf>,
-        octets: Option<Timed>,
-        number: u64,
-    )
-        requires sized { IsSized C.last_step network.now self.old }
-        requires range { IsInRange network.now }
-        requires room { 0 < self.old.under_way.room }
-        requires up_delays { All (λ w. w.delay < 2 ^ 62) self.old.ups.items }
-        requires down_delays { All (λ w. w.delay < 2 ^ 62) self.old.downs.items }
-        ensures same { self.new ≡ record self.old { under_way = self.new.under_way } }
-        ensures sent { IsPutOn (wire_entry network.now self.old.ups.items self.old.downs.items body.now frame octets self.old.time number)
-            self.old.under_way.entries self.new.under_way.entries }
-    {
-        let entry = sent_by(
-            network,
-            self.ups.as_slice(),
-            self.downs.as_slice(),
-            body,
-            frame,
-            octets,
-            self.time,
-            number,
-        );
-        put_on(&mut self.under_way, entry);
-    }
-
-    /// Gives the frame of a record to ports and has it wait, as its device does.
-    fn launch_frame(&mut self, network: &Network, body: &NoteBody, frame: Option<Pcf>, number: u64)
-        requires sized { IsSized C.last_step network.now self.old }
-        requires range { IsInRange network.now }
-        requires by { CameBy (length network.now.link) body.now }
-        requires young { IsYoung (amount network.now.dmax) body.now }
-        requires room { length network.now.link ≤ self.old.under_way.room }
-        requires capacity { vec_len self.old.waiting < vec_capacity self.old.waiting }
-        requires up_holds { All (λ w. w.hold < 2 ^ 62) self.old.ups.items }
-        requires down_holds { All (λ w. w.hold < 2 ^ 62) self.old.downs.items }
-        requires low { (k : ℕ) (clock : C) → slice_get self.old.clocks.items k ≡ Some clock → C.reading clock self.old.time ≤ 2 ^ 60 + 2 ^ 51 }
-        ensures same { self.new ≡ record self.old { under_way = self.new.under_way; waiting = self.new.waiting } }
-        ensures room { self.old.under_way.room ≤ self.new.under_way.room + length network.now.link }
-        ensures sound { AreBelow number self.old.under_way.entries → AreUnderWay network.now self.old.under_way.entries
-            → AreUnderWay network.now self.new.under_way.entries }
-        ensures given { (giving : Option GivingValue) × IsGivenOut C.reading network.now self.old self.new body.now frame number giving }
-    {
-        let giving = self.giving_by(network, body, frame, number);
-        give_frame(
-            &mut self.under_way,
-            &mut self.waiting,
-            network,
-            self.ups.as_slice(),
-            self.downs.as_slice(),
-            body,
-            giving,
-        );
-    }
-
-    /// Gives what is settled its number, the first that is settled, and launches what it does.
-    fn give_first(&mut self, network: &Network, first: Settled) -> Note
-        requires sized { IsSized C.last_step network.now self.old }
-        requires range { IsInRange network.now }
-        requires may { MayBeGiven network.now first.body first.frame first.octets }
-        requires number { self.old.given + 1 < 2 ^ 64 }
-        requires room { length network.now.link < self.old.under_way.room }
-        requires capacity { vec_len self.old.waiting < vec_capacity self.old.waiting }
-        requires up_holds { All (λ w. w.hold < 2 ^ 62) self.old.ups.items }
-        requires down_holds { All (λ w. w.hold < 2 ^ 62) self.old.downs.items }
-        requires up_delays { All (λ w. w.delay < 2 ^ 62) self.old.ups.items }
-        requires down_delays { All (λ w. w.delay < 2 ^ 62) self.old.downs.items }
-        requires low { (k : ℕ) (clock : C) → slice_get self.old.clocks.items k ≡ Some clock → C.reading clock self.old.time ≤ 2 ^ 60 + 2 ^ 51 }
-        ensures note { result ≡ record { number = self.old.given + 1; time = units_of self.old.time; body = first.body } }
-        ensures given { self.new.given ≡ self.old.given + 1 }
-        ensures stands { (f : DeviceOf → ℕ → ℕ) (past : List EventValue) (notes : List Note)
-            → (old : Stands C.reading (keeps M.stands) (scenario network.now f past) (with_first network.now self.old first self.old.settled.items) notes)
-            → NoSourceBefore (scenario network.now f past) (happenings network.now notes) old.cursor (place_of (settled_at network.now self.old.time first))
-            → StandsBehind C.reading (keeps M.stands) (scenario network.now f past) (world_of network.now self.new)
-            (notes ++ note_of notes (settled_at network.now self.old.time first) ∷ []) (behind (place_of (settled_at network.now self.old.time first))) }
-    {
-        let number = self.given + 1;
-        name_followers(&mut self.settled, number, &first.body);
-        self.launch_frame(network, &first.body, first.frame, number);
-        let Settled {
-            body,
-            frame,
-            octets,
-        } = first;
-        self.launch_wire(network, &body, frame, octets, number);
-        self.given = number;
-        Note {
-            number,
-            time: Units::from_amount(self.time),
-            body,
         }
     }
 

@@ -118,7 +118,7 @@ arrival_within s hs device t link cause (timed octets) =
     octets_within (amount s.network.dmax) s.network device link (standpoint s hs device t) octets (last_taken hs device t link cause)
     (octets_fault s.network (standpoint s hs device t) octets)
 
-arrived_clock : (s : Scenario) (hs : List Happening) (device : DeviceId) (t : ℕ) (link : LinkId) (cause clock : ℕ)
+pub arrived_clock : (s : Scenario) (hs : List Happening) (device : DeviceId) (t : ℕ) (link : LinkId) (cause clock : ℕ)
     → IsArrivedRecord s hs device t link cause clock → clock ≤ amount s.network.dmax
 arrived_clock s hs device t link cause clock a =
     let within : (signal : Signal) (is : Arrival) → is ≡ arrival_of s hs device t link cause signal → ClockWithin (amount s.network.dmax) is =

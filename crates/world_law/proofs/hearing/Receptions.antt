@@ -127,7 +127,7 @@ target_in : (network : Network) (way : Way) (l : Link) (device : DeviceId) → I
 target_in network Up l device range e = subst (λ (d : DeviceId). d.0 < length network.device) e range.parent
 target_in network Down l device range e = subst (λ (d : DeviceId). d.0 < length network.device) e range.child
 
-receiver_in : (network : Network) (way : Way) (link : LinkId) (o : Option Link) (device : DeviceId) → link_at network link ≡ o → IsInRange network
+pub receiver_in : (network : Network) (way : Way) (link : LinkId) (o : Option Link) (device : DeviceId) → link_at network link ≡ o → IsInRange network
     → Rattle.std.specs.Prelude.option_map (target_by way) o ≡ Some device → device.0 < length network.device
 receiver_in network way link None device is range e = absurd cc
 receiver_in network way link (Some l) device is range e =

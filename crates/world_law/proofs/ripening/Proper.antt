@@ -117,7 +117,7 @@ came_so s hs device t link cause is frame of a = by_signal a.signal a.arrives a.
         let it = taken_by_fault s.network device link (standpoint s hs device t) came frame _ is of e in
         record { putting = a.putting; there = a.there; came = came; arrives = arrives; taken = record { none = it.0; is = it.1 } }
 
-arrived_so : (s : Scenario) (hs : List Happening) (device : DeviceId) (t : ℕ) (link : LinkId) (cause clock : ℕ)
+pub arrived_so : (s : Scenario) (hs : List Happening) (device : DeviceId) (t : ℕ) (link : LinkId) (cause clock : ℕ)
     (a : IsArrivedRecord s hs device t link cause clock)
     → CameSo s hs device t link cause a.frame
 arrived_so s hs device t link cause clock a =
