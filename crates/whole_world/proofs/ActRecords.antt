@@ -1,5 +1,5 @@
 -- The records of an act are those of the law, and are put in.
-use Rattle.std.proofs.Common.{◌≡◌, ℕ, ◌+◌, ◌≤◌, ◌<◌, ◌==◌, Bool, true, false, Option, Some, None, List, [], ◌∷◌, ◌++◌, map, inl, inr, refl, sym, ap, subst, ◌∙◌, arith}
+use Rattle.std.proofs.Common.{◌≡◌, ℕ, ◌≤◌, ◌==◌, Bool, true, false, Option, Some, None, List, [], ◌∷◌, ◌++◌, map, inl, inr, refl, sym, ap, subst, ◌∙◌, arith}
 use Rattle.std.specs.Prelude.{if◌then◌else◌, ◌⊎◌}
 use Rattle.std.specs.Option.{option_map, option_map_or}
 use Rattle.std.proofs.lemmas.Bool.{ne_eqb}
@@ -8,7 +8,7 @@ use Rattle.net_plan.specs.declared.ids.DeviceId.{DeviceId}
 use Rattle.net_plan.specs.declared.ids.RowId.{RowId}
 use Rattle.net_plan.specs.declared.network.Network.{Network}
 use Rattle.pcf_values.specs.declared.pcf.Pcf.{Pcf}
-use Rattle.run_law.proofs.runs.Places.{chain, in_left, in_parts, in_right, never_self}
+use Rattle.run_law.proofs.runs.Places.{in_left, in_parts, in_right}
 use Rattle.run_law.specs.declared.judgement.Why.TheVariants as whys
 use Rattle.run_law.specs.declared.note.NoteBody.TheVariants as kinds
 use Rattle.run_law.specs.declared.note.NoteBody.{NoteBody}
@@ -21,8 +21,8 @@ use Rattle.run_law.specs.machines.Nodes.{Node, dispatching}
 use Rattle.run_law.specs.machines.Tasks.{IsFirstTask, doing}
 use Rattle.run_law.specs.records.Frames.{dispatched_frame, tt_frame}
 use Rattle.run_law.specs.records.Happenings.{Happening, octets_from}
-use Rattle.run_law.specs.records.Order.{AllBefore, IsBefore, IsIn, NoneBefore}
-use Rattle.run_law.specs.records.Ranks.{key, place_of, rank, sign}
+use Rattle.run_law.specs.records.Order.{IsBefore, IsIn}
+use Rattle.run_law.specs.records.Ranks.{key, rank, sign}
 use Rattle.run_law.specs.scenario.Scenarios.{Scenario}
 use Rattle.run_law.specs.scenario.Ways.{is_cut, way_from}
 use Rattle.run_law.specs.timed.Dispatching.{HasAtHand}
@@ -37,9 +37,9 @@ use Rattle.tte_units.specs.declared.units.Units.{Units}
 use Rattle.whole_world.proofs.HiddenCauses.{InOrder}
 use Rattle.whole_world.proofs.Made.{made_octets}
 use Rattle.whole_world.proofs.Puts.{is_put_in, order_put}
-use Rattle.whole_world.specs.Acting.{AreOutcomes, IsDispatched, IsHeldIn, bare, bodies_of, body_of, corrected_by, dispatched_by, emitted_by, first_by, framed, joined_by, sent_by}
+use Rattle.whole_world.specs.Acting.{AreOutcomes, IsHeldIn, bare, bodies_of, body_of, corrected_by, dispatched_by, emitted_by, first_by, framed, joined_by, sent_by}
 use Rattle.whole_world.specs.Giving.{HasItsOctets}
-use Rattle.whole_world.specs.Places.{IsPutAt, IsSomePut, own_place}
+use Rattle.whole_world.specs.Places.{IsSomePut, own_place}
 use Rattle.whole_world.specs.Views.{octets_of, settled_at, stored_as}
 use Rattle.whole_world.specs.declared.act.AtHand.{AtHand}
 use Rattle.whole_world.specs.declared.contents.Holding.{Holding}

@@ -1,5 +1,5 @@
 -- A device acts once.
-use Rattle.std.proofs.Common.{◌≡◌, ℕ, ◌<◌, pos, ◌<ℤ◌, Bool, true, false, Option, Some, None, List, map, length, inl, inr, refl, sym, ap, subst, ◌∙◌}
+use Rattle.std.proofs.Common.{◌≡◌, ℕ, ◌<◌, Bool, true, false, Some, List, map, length, inl, inr, refl, sym, subst}
 use Rattle.std.specs.List.{slice_get}
 use Rattle.std.specs.Prelude.{All, ◌⊎◌}
 use Rattle.std.proofs.lemmas.Option.{slice_get_within}
@@ -129,7 +129,8 @@ module _ {C M : Type 0} (reading : C → ℕ → ℕ) (stands : M → Network �
   -- and what comes to it is not before the place of the act
   pub settles_from : (s : Scenario) (notes : List Note) (old : Old s notes) (was : Standing) (adjustment : Units) (act : Act) (outcomes : Outcomes)
       (mid new : List Settled) → AreProper s (happenings s.network notes) state.time device was adjustment act outcomes
-      → IsSomePut outcomes.first state.settled.items mid → IsSomePut outcomes.second mid new → (h : Happening) → IsIn h (map (settled_at network state.time) new)
+      → IsSomePut outcomes.first state.settled.items mid → IsSomePut outcomes.second mid new → (h : Happening)
+      → IsIn h (map (settled_at network state.time) new)
       → IsIn h (map (settled_at network state.time) state.settled.items) ⊎ (IsBefore (place_of h) (act_place state.time device) → ⊥)
   settles_from s notes old was adjustment act outcomes mid new own one two h there =
       let hs = happenings s.network notes in
@@ -198,8 +199,10 @@ module _ {C M : Type 0} (reading : C → ℕ → ℕ) (stands : M → Network �
           (record (world_of network state) { early = false; machines = machines; settled = map (settled_at network state.time) new }) notes
           (act_cursor b state.time device)
       by true yes_it no_it =
-          acted_step reading (keeps stands) s (world_of network state) notes device after (bodies_of outcomes) machines (map (settled_at network state.time) new) old acts_are
+          acted_step reading (keeps stands) s (world_of network state) notes device after (bodies_of outcomes) machines
+          (map (settled_at network state.time) new) old acts_are
           (yes_it refl) set puts
       by false yes_it no_it =
-          last_acted_step reading (keeps stands) s (world_of network state) notes device after (bodies_of outcomes) machines (map (settled_at network state.time) new) old acts_are
+          last_acted_step reading (keeps stands) s (world_of network state) notes device after (bodies_of outcomes) machines
+          (map (settled_at network state.time) new) old acts_are
           (no_it refl) set puts

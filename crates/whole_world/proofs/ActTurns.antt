@@ -1,8 +1,8 @@
 -- A device acts again and again at one instant.
-use Rattle.std.proofs.Common.{◌≡◌, ℕ, ◌+◌, ◌-◌, ◌^◌, ◌≤◌, ◌<◌, Bool, true, false, Some, List, map, length, inl, inr, refl, sym, ap, subst, ◌∙◌, arith}
+use Rattle.std.proofs.Common.{◌≡◌, ℕ, ◌+◌, ◌≤◌, ◌<◌, Bool, true, false, Some, List, map, length, inl, inr, refl, sym, ap, subst, ◌∙◌, arith}
 use Rattle.std.specs.List.{slice_get}
 use Rattle.std.proofs.lemmas.List.{length-map}
-use Rattle.std.specs.Prelude.{◌↔◌, All}
+use Rattle.std.specs.Prelude.{All}
 use Rattle.net_plan.specs.declared.ids.DeviceId.{DeviceId}
 use Rattle.net_plan.specs.declared.network.Network.{Network}
 use Rattle.run_law.specs.declared.note.Note.{Note}
@@ -16,7 +16,7 @@ use Rattle.whole_world.proofs.Fits.{have_octets}
 use Rattle.whole_world.specs.Acting.{IsDueAt, SettlesFrom, act_cursor}
 use Rattle.whole_world.specs.Keeping.{keeps}
 use Rattle.whole_world.specs.Sound.{IsSound}
-use Rattle.whole_world.specs.Stepping.{ChangesOnly, IsAt}
+use Rattle.whole_world.specs.Stepping.{IsAt}
 use Rattle.whole_world.specs.Views.{settled_at, world_of}
 use Rattle.whole_world.specs.declared.contents.Settled.{Settled}
 use Rattle.whole_world.specs.declared.kept.Kept.{Kept}
@@ -164,8 +164,8 @@ module _ {C M : Type 0} (last_step : C → ℕ) (reading : C → ℕ → ℕ) (s
   now_given now acts turn = ap (λ (x : State C M). x.given) turn.same
 
   -- where there are numbers, the device's acts come first
-  pub comes_first : (now : State C M) (acts : ℕ) (turn : Turn now acts) → now.given + length now.settled.items + 2 < none_yet → (s : Scenario) (notes : List Note)
-      (old : Old s notes) (f : First s notes old)
+  pub comes_first : (now : State C M) (acts : ℕ) (turn : Turn now acts) → now.given + length now.settled.items + 2 < none_yet
+      → (s : Scenario) (notes : List Note) (old : Old s notes) (f : First s notes old)
       → ComesFirst reading (keeps stands) s (world_of network now) notes (turn.still s notes old f).new (act_place now.time device)
   comes_first now acts turn numbers s notes old f =
       let still = turn.still s notes old f in

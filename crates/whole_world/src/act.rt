@@ -1,18 +1,15 @@
-ghost use Rattle.std.specs.Prelude.{◌≡◌, ◌≤◌, ◌<◌, ◌+◌, ◌^◌, ◌↔◌, ℕ, List, Option, Some, None, Bool, true, false, length, slice_get, ◌-◌, IfOk, OnOk, OnErr, IfSome, IfNone, IsSomeAnd, IsTrue, IsFalse, ◌≤ℤ◌, ◌<ℤ◌};
+ghost use Rattle.std.specs.Prelude.{◌≡◌, ◌≤◌, ◌<◌, ◌+◌, ◌-◌, ◌^◌, ◌≤ℤ◌, ◌<ℤ◌, ℕ, List, Some, true, false, length, slice_get, IfOk, IfSome, IsSomeAnd, IsTrue, IsFalse, OnErr, OnOk};
 ghost use Rattle.std.specs.VecDeque.{deque_capacity, deque_len};
 ghost use Rattle.net_plan.specs.Ranges.{IsInRange};
-ghost use Rattle.net_plan.specs.declared.ids.DeviceId.{DeviceId as DeviceOf};
 ghost use Rattle.net_plan.specs.declared.network.Network.{Network};
 ghost use Rattle.run_law.specs.declared.note.Note.{Note};
 ghost use Rattle.run_law.specs.declared.steps.Act.{Act as ActValue};
-ghost use Rattle.run_law.specs.machines.Nodes.{Node};
-ghost use Rattle.run_law.specs.records.Order.{IsIn, behind};
+ghost use Rattle.run_law.specs.records.Order.{behind};
 ghost use Rattle.run_law.specs.scenario.Scenarios.{Scenario};
-ghost use Rattle.run_law.specs.scenario.Ways.{is_cut, way_from};
+ghost use Rattle.run_law.specs.scenario.Ways.{way_from};
 ghost use Rattle.schedule_tables.specs.Entries.{IsEntry};
 ghost use Rattle.schedule_tables.specs.declared.entry.Entry.{Entry as EntryValue};
 ghost use Rattle.whole_world.specs.Acting.{AreOutcomes, HasItsRow, IsDispatched, IsDueAt, IsHand, IsHeldIn, IsIdle, SettlesFrom, act_cursor, dispatched_by};
-ghost use Rattle.whole_world.specs.Giving.{HasItsOctets};
 ghost use Rattle.whole_world.specs.Keeping.{keeps};
 ghost use Rattle.whole_world.specs.Places.{IsSomePut};
 ghost use Rattle.whole_world.specs.Showing.{IsOf};
@@ -39,7 +36,8 @@ use std::collections::VecDeque;
 use sync_state::State as Standing;
 use tte_units::Units;
 
-/// The frame of a row that a device has at hand: the number of the record by which a switch took it, or 0 at its sender.
+/// The frame of a row that a device has at hand, and the number of the record by which a switch took it, or 0 at its
+/// sender.
 #[derive(Debug, Drop)]
 pub struct AtHand {
     pub cause: u64,
@@ -154,8 +152,8 @@ impl<C: Clock, M: Machine + Drop> State<C, M> {
         requires sized { IsSized C.last_step network.now self.now }
         requires range { IsInRange network.now }
         requires row { row.0 < length network.now.row }
-        ensures { (s : Scenario) (entry : EntryValue) → IsOf C.reading s network.now self.now → IsEntry network.now row.0 entry
-            → IsDispatched s self.now.stored.items self.now.time device entry cycle result }
+        ensures { (s : Scenario) (entry : EntryValue) → IsOf C.reading s network.now self.now
+            → IsEntry network.now row.0 entry → IsDispatched s self.now.stored.items self.now.time device entry cycle result }
     {
         let entry = entry_of(network, row);
         let way = self.way_from(network, device, entry.row.link);
@@ -197,7 +195,8 @@ impl<C: Clock, M: Machine + Drop> State<C, M> {
             → slice_get self.now.machines.items device.0 ≡ Some machine
             → IsDueNow (keeps M.stands) s.network device (moment_of s device self.now.time) machine }
         ensures no { result ≡ false → (s : Scenario) (machine : KeptValue M) → IsOf C.reading s network.now self.now
-            → slice_get self.now.machines.items device.0 ≡ Some machine → IsIdle M.stands s self.now.time device machine }
+            → slice_get self.now.machines.items device.0 ≡ Some machine
+            → IsIdle M.stands s self.now.time device machine }
     {
         let moment = self.moment_at(network, device);
         is_reached(self.machines[device.0 as usize].due(), moment.reading)
@@ -212,13 +211,20 @@ impl<C: Clock, M: Machine + Drop> State<C, M> {
         requires due { IsDueAt C.reading M.stands network.now self.old device }
         requires comes { IsAt C.reading M.stands network.now self.old (act_place self.old.time device) }
         ensures sound { IsSound C.last_step network.now self.new }
-        ensures same { self.new ≡ record self.old { machines = self.new.machines; early = false; settled = self.new.settled } }
-        ensures machines { (i : ℕ) → (i ≡ device.0 → ⊥) → slice_get self.new.machines.items i ≡ slice_get self.old.machines.items i }
+        ensures same { self.new ≡ record self.old {
+          machines = self.new.machines;
+          early = false;
+          settled = self.new.settled;
+        } }
+        ensures machines { (i : ℕ) → (i ≡ device.0 → ⊥)
+            → slice_get self.new.machines.items i ≡ slice_get self.old.machines.items i }
         ensures settled { SettlesFrom network.now device self.old self.new }
         ensures stands { (s : Scenario) (notes : List Note)
             → (old : Stands C.reading (keeps M.stands) s (world_of network.now self.old) notes)
-            → ComesFirst C.reading (keeps M.stands) s (world_of network.now self.old) notes old (act_place self.old.time device)
-            → StandsBehind C.reading (keeps M.stands) s (world_of network.now self.new) notes (act_cursor result self.old.time device) }
+            → ComesFirst C.reading (keeps M.stands) s (world_of network.now self.old) notes old
+            (act_place self.old.time device)
+            → StandsBehind C.reading (keeps M.stands) s (world_of network.now self.new) notes
+            (act_cursor result self.old.time device) }
         ensures due { result ≡ true → IsDueAt C.reading M.stands network.now self.new device }
         ensures acted { (s : Scenario) (notes : List Note) (machine : KeptValue M)
             → Stands C.reading (keeps M.stands) s (world_of network.now self.old) notes
@@ -271,16 +277,22 @@ impl<C: Clock, M: Machine + Drop> State<C, M> {
         requires due { IsDueAt C.reading M.stands network.now self.old device }
         requires comes { IsAt C.reading M.stands network.now self.old (act_place self.old.time device) }
         ensures sound { IsSound C.last_step network.now self.new }
-        ensures same { self.new ≡ record self.old { machines = self.new.machines; early = self.new.early; settled = self.new.settled } }
+        ensures same { self.new ≡ record self.old {
+          machines = self.new.machines;
+          early = self.new.early;
+          settled = self.new.settled;
+        } }
         ensures others { ChangesOnly device.0 self.old self.new }
         ensures stands { (s : Scenario) (notes : List Note)
             → (old : Stands C.reading (keeps M.stands) s (world_of network.now self.old) notes)
-            → ComesFirst C.reading (keeps M.stands) s (world_of network.now self.old) notes old (act_place self.old.time device)
+            → ComesFirst C.reading (keeps M.stands) s (world_of network.now self.old) notes old
+            (act_place self.old.time device)
             → IfOk result (λ done. StandsBehind C.reading (keeps M.stands) s (world_of network.now self.new) notes
             (behind (act_place self.old.time device))) }
         ensures err { (s : Scenario) (notes : List Note)
             → (old : Stands C.reading (keeps M.stands) s (world_of network.now self.old) notes)
-            → ComesFirst C.reading (keeps M.stands) s (world_of network.now self.old) notes old (act_place self.old.time device)
+            → ComesFirst C.reading (keeps M.stands) s (world_of network.now self.old) notes old
+            (act_place self.old.time device)
             → OnErr result (Stands C.reading (keeps M.stands) s (world_of network.now self.new) notes) }
     {
         let mut acts: u32 = 0;

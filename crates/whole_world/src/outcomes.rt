@@ -4,15 +4,13 @@ ghost use Rattle.whole_world.specs.Acting.{bare, clique_by, corrected_by, emitte
 ghost use Rattle.world_law.specs.world.Acting.{judged_as};
 
 use crate::contents::Settled;
+use crate::naming::NONE_YET;
 use compression::Compressed;
 use net_plan::{DeviceId, Network};
 use pcf_values::{Mac, Members, Pcf, PcfKind};
 use run_law::{Judgement, NoteBody, Ripe, Why};
 use sync_state::{State, Verdict};
 use tte_units::Units;
-
-/// The cause of a record that follows one that is to come.
-const NONE_YET: u64 = u64::MAX;
 
 /// The records of an act, in their order: at most two.
 #[derive(Debug, Drop)]

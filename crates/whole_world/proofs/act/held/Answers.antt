@@ -1,6 +1,5 @@
-use Rattle.std.proofs.Common.{rules, tests, ◌≡◌, ◌<◌, List, length, refl, subst, sym, ap, ◌∙◌, Some}
+use Rattle.std.proofs.Common.{rules, tests, ◌≡◌, subst, sym, ap}
 use Rattle.std.proofs.lemmas.Iterator.{IsFirst-from_position, YieldsList-from_slice}
-use Rattle.whole_world.specs.Acting.{IsHeldIn}
 use Rattle.run_law.specs.records.Order.{IsIn}
 use Rattle.whole_world.specs.declared.act.AtHand.{AtHand}
 use Rattle.whole_world.specs.declared.contents.Holding.{Holding}

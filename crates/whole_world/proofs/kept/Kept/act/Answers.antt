@@ -1,4 +1,4 @@
-use Rattle.std.proofs.Common.{◌≡◌, subst, ◌∙◌}
+use Rattle.std.proofs.Common.{subst, ◌∙◌}
 use Rattle.whole_world.specs.Keeping.{keeps}
 use Rattle.whole_world.specs.declared.kept.Kept.{Kept}
 use Rattle.whole_world.proofs.Acts.{still_sound}

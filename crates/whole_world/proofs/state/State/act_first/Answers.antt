@@ -1,8 +1,6 @@
-use Rattle.std.proofs.Common.{◌≡◌, ◌+◌, ◌^◌, ◌<◌, ◌-◌, Bool, true, false, List, ℕ, length, arith, ap, refl, subst, sym, ◌∙◌}
+use Rattle.std.proofs.Common.{◌≡◌, length, arith, ap, subst}
 use Rattle.whole_world.proofs.ActTurns.{IsActed, all_acted, comes_at, turn_begun, turn_on, turn_with}
-use Rattle.whole_world.specs.declared.contents.Settled.{Settled}
 use Rattle.whole_world.specs.declared.state.State.{State}
-use Rattle.world_law.specs.world.World.{none_yet}
 use Rattle.whole_world.proofs.state.State.act_first.Goals as goal
 
 pub acts-init : goal.acts-init
@@ -90,5 +88,6 @@ acts-preserved g c =
     } in
     turn_on last_step reading stands network c.args.device c.args.self.now c.reserve_two.new.self c.act_once.new.self c.acts.acts turn
     (omega (arith, given, long, numbers))
-    (subst (IsActed last_step reading stands network c.args.device c.reserve_two.new.self c.act_once.new.self) c.if-not-act_once.false acted) c.requires.there c.requires.due
+    (subst (IsActed last_step reading stands network c.args.device c.reserve_two.new.self c.act_once.new.self) c.if-not-act_once.false acted) c.requires.there
+    c.requires.due
     c.requires.comes

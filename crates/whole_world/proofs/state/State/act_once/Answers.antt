@@ -1,11 +1,10 @@
-use Rattle.std.proofs.Common.{◌≡◌, ◌<◌, Bool, List, Option, length, length-set, slice_set, arith, ap, refl, subst, sym, ◌∙◌}
+use Rattle.std.proofs.Common.{◌≡◌, length, length-set, slice_set, arith, refl, subst, ◌∙◌}
 use Rattle.std.proofs.lemmas.Option.{slice_get_read}
 use Rattle.run_law.specs.declared.steps.Moment.{Moment}
 use Rattle.whole_world.proofs.ActSteps.{acted_once, asked_to_act, never_broken, octets_then, proper_at, row_within, settles_from}
 use Rattle.whole_world.proofs.Showings.{shows_of}
 use Rattle.whole_world.proofs.Swaps.{is_set}
 use Rattle.whole_world.specs.Keeping.{keeps}
-use Rattle.whole_world.specs.Showing.{IsOf}
 use Rattle.whole_world.specs.declared.kept.Kept.{Kept}
 use Rattle.world_law.proofs.giving.Given.{some_same}
 use Rattle.world_law.specs.world.Acting.{HasActed}
@@ -83,10 +82,11 @@ returns-clause-sound g c =
     let at = c.requires.comes in
     let z = c.requires.sound.sized in
     let fit = c.requires.sound.fit in
-    let read = slice_get_read w.machines.items (length w.machines.items) device.0 c.index_mut.result.now refl (omega (arith, lt, many)) c.index_mut.ensures.value in
+    let read = slice_get_read w.machines.items (length w.machines.items) device.0 c.index_mut.result.now refl (omega (arith, lt, many))
+    c.index_mut.ensures.value in
     let of = shows_of K.reading (keeps stands) at.s network w at.notes at.is in
-    let own = proper_at K.reading stands network w device c.index_mut.result.now lt read c.requires.due at.s at.notes at.is at.first c.in-Some.act c.act.new.self
-    c.shown-was.result.state c.shown-is.result.adjustment c.outcomes_of-outcomes.result
+    let own = proper_at K.reading stands network w device c.index_mut.result.now lt read c.requires.due at.s at.notes at.is at.first c.in-Some.act
+    c.act.new.self c.shown-was.result.state c.shown-is.result.adjustment c.outcomes_of-outcomes.result
     (subst (λ (m : Moment). HasActed (keeps stands) at.s.network device m c.in-Some.act c.index_mut.result.now c.act.new.self)
     (c.moment_at-moment.ensures at.s of) (c.in-Some.ensures.acted at.s.network device))
     (c.outcomes_of-outcomes.ensures at.s (record { same = of.same; clocks = of.clocks; broken = of.broken; ways = of.ways })) in
@@ -131,10 +131,11 @@ returns-clause-settled g c =
     let K = g.C.Clock in
     let stands = g.M.Machine.stands in
     let at = c.requires.comes in
-    let read = slice_get_read w.machines.items (length w.machines.items) device.0 c.index_mut.result.now refl (omega (arith, lt, many)) c.index_mut.ensures.value in
+    let read = slice_get_read w.machines.items (length w.machines.items) device.0 c.index_mut.result.now refl (omega (arith, lt, many))
+    c.index_mut.ensures.value in
     let of = shows_of K.reading (keeps stands) at.s network w at.notes at.is in
-    let own = proper_at K.reading stands network w device c.index_mut.result.now lt read c.requires.due at.s at.notes at.is at.first c.in-Some.act c.act.new.self
-    c.shown-was.result.state c.shown-is.result.adjustment c.outcomes_of-outcomes.result
+    let own = proper_at K.reading stands network w device c.index_mut.result.now lt read c.requires.due at.s at.notes at.is at.first c.in-Some.act
+    c.act.new.self c.shown-was.result.state c.shown-is.result.adjustment c.outcomes_of-outcomes.result
     (subst (λ (m : Moment). HasActed (keeps stands) at.s.network device m c.in-Some.act c.index_mut.result.now c.act.new.self)
     (c.moment_at-moment.ensures at.s of) (c.in-Some.ensures.acted at.s.network device))
     (c.outcomes_of-outcomes.ensures at.s (record { same = of.same; clocks = of.clocks; broken = of.broken; ways = of.ways })) in
@@ -161,9 +162,10 @@ returns-clause-stands g c = λ s notes old first.
     let same : c.index.result.now ≡ machine = some_same _ _ _ was read in
     let longer = length-set w.machines.items device.0 after in
     let now_is : c.index-2.result.now ≡ after = some_same _ _ _
-    (slice_get_read (slice_set w.machines.items device.0 after) (length (slice_set w.machines.items device.0 after)) device.0 c.index-2.result.now refl (omega (arith, lt, many, longer)) c.index-2.ensures) set.there in
-    acted_once K.reading stands network w device machine lt read c.requires.due after c.shown-was.result.state c.shown-is.result.state c.shown-was.result.adjustment
-    c.shown-is.result.adjustment c.in-Some.act
+    (slice_get_read (slice_set w.machines.items device.0 after) (length (slice_set w.machines.items device.0 after)) device.0
+    c.index-2.result.now refl (omega (arith, lt, many, longer)) c.index-2.ensures) set.there in
+    acted_once K.reading stands network w device machine lt read c.requires.due after c.shown-was.result.state c.shown-is.result.state
+    c.shown-was.result.adjustment c.shown-is.result.adjustment c.in-Some.act
     c.outcomes_of-outcomes.result put.0 c.put_both.new.settled.items _ c.is_due.result set put.1 put.2 s notes old first
     (subst (λ (m : Moment). HasActed (keeps stands) s.network device m c.in-Some.act machine after) (c.moment_at-moment.ensures s of)
     (c.in-Some.ensures.acted s.network device))
@@ -185,7 +187,8 @@ returns-clause-acted g c = λ s notes machine old there.
     let K = g.C.Clock in
     let stands = g.M.Machine.stands in
     let after = c.act.new.self in
-    let read = slice_get_read w.machines.items (length w.machines.items) device.0 c.index_mut.result.now refl (omega (arith, lt, many)) c.index_mut.ensures.value in
+    let read = slice_get_read w.machines.items (length w.machines.items) device.0 c.index_mut.result.now refl (omega (arith, lt, many))
+    c.index_mut.ensures.value in
     let same = some_same _ _ _ read there in
     let of = shows_of K.reading (keeps stands) s network w notes old in (
       c.in-Some.act,

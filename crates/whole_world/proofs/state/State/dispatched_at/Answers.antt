@@ -1,4 +1,4 @@
-use Rattle.std.proofs.Common.{◌≡◌, ◌<◌, List, Some, None, Bool, length, subst, sym, ap, ◌∙◌}
+use Rattle.std.proofs.Common.{◌≡◌, ◌<◌, List, Some, None, Bool, length, subst, ap, ◌∙◌}
 use Rattle.std.specs.Prelude.{if◌then◌else◌}
 use Rattle.std.specs.List.{slice_get}
 use Rattle.std.proofs.lemmas.Option.{slice_get_within}
@@ -17,7 +17,12 @@ returns-in_err-hand g c = λ s entry of is.
     let w = c.args.self.now in
     subst (λ (e : Entry). IsDispatched s w.stored.items w.time c.args.device e c.args.cycle c.from_residual.result)
     (one_entry c.args.network.now c.args.row.0 c.entry_of-entry.result entry c.entry_of-entry.ensures.is is)
-    (record { hand = None; of_hand = subst (λ (l : List Holding). IsHand l c.args.device c.entry_of-entry.result c.args.cycle None) c.as_slice.ensures.value c.in_err-hand.ensures; is = c.from_residual.ensures })
+    (record {
+      hand = None;
+      of_hand = subst (λ (l : List Holding). IsHand l c.args.device c.entry_of-entry.result c.args.cycle None) c.as_slice.ensures.value
+          c.in_err-hand.ensures;
+      is = c.from_residual.ensures;
+    })
 
 pub returns : goal.returns
 returns g c = λ s entry of is.
