@@ -1,5 +1,5 @@
 -- A frame that a switch dispatches is stored: it is that of the last record by which the switch took one.
-use Rattle.std.proofs.Common.{◌≡◌, ℕ, zero, suc, ◌+◌, ◌*◌, ◌≤◌, ◌<◌, ℤ, pos, ◌≤ℤ◌, Bool, true, false, List, [], ◌∷◌, ◌++◌, filter, Option, Some, None, inl, inr, refl, sym, ap, subst, ◌∙◌, arith}
+use Rattle.std.proofs.Common.{◌≡◌, ℕ, zero, suc, ◌+◌, ◌*◌, ◌≤◌, ℤ, pos, ◌≤ℤ◌, Bool, List, [], ◌++◌, filter, Option, Some, None, inl, inr, sym, ap, subst, ◌∙◌, arith}
 use Rattle.std.specs.List.{last_or}
 use Rattle.std.specs.Option.{option_map_or}
 use Rattle.net_plan.specs.declared.ids.DeviceId.{DeviceId}
@@ -10,10 +10,9 @@ use Rattle.run_law.proofs.law.FirstPlaces.{by_number, in_filter}
 use Rattle.run_law.proofs.runs.Places.{in_left}
 use Rattle.run_law.specs.device.LocalClocks.{Reaches}
 use Rattle.run_law.specs.machines.Nodes.{Node, dispatching}
-use Rattle.run_law.specs.machines.Tasks.{HasFrame, IsPending, doing, reading_for, value_of}
+use Rattle.run_law.specs.machines.Tasks.{HasFrame, IsPending, doing, reading_for}
 use Rattle.run_law.specs.records.Happenings.{Happening, earlier, numbered, octets_from}
 use Rattle.run_law.specs.records.Order.{IsIn}
-use Rattle.run_law.specs.scenario.Devices.{is_end}
 use Rattle.run_law.specs.scenario.Scenarios.{Scenario}
 use Rattle.run_law.specs.timed.Dispatching.{HasAccepted, HasAtHand, is_accepted, last_accepted}
 use Rattle.schedule_tables.specs.declared.entry.Entry.{Entry}
@@ -24,7 +23,7 @@ use Rattle.world_law.proofs.putting.PutIn.{last_in}
 use Rattle.world_law.proofs.rows.AtHand.{IsReaching, at_hand, filter_earlier, taken_sooner, value_is}
 use Rattle.world_law.proofs.rows.Reached.{IsForwarded}
 use Rattle.world_law.proofs.runs.SourcesBack.{earlier_still}
-use Rattle.world_law.specs.world.World.{AreStored, IsStored, Stored, last_taking}
+use Rattle.world_law.specs.world.World.{AreStored, Stored, last_taking}
 
 -- the switch holds the frame of the entry's virtual link, and it is at hand by the record of its number
 pub record IsHeldFrame (s : Scenario) (hs : List Happening) (stored : List Stored) (now : ℕ) (device : DeviceId) (entry : Entry) (cycle : ℕ) : Type 0 where
