@@ -1,9 +1,15 @@
+pub mod ActRecords
+pub mod ActSteps
+pub mod ActTurns
+pub mod Acts
 pub mod Agreements
 pub mod Alike
 pub mod Apart
 pub mod Applies
 pub mod Arrivals
 pub mod Awaits
+pub mod BefallenLaws
+pub mod Befallings
 pub mod Befalls
 pub mod Beginnings
 pub mod Elsewhere
@@ -21,6 +27,7 @@ pub mod Hearings
 pub mod Hears
 pub mod HiddenCauses
 pub mod Histories
+pub mod Holdings
 pub mod Launches
 pub mod LeastPoints
 pub mod Made

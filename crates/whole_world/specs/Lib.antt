@@ -1,4 +1,6 @@
+pub mod Acting
 pub mod Applying
+pub mod Befalling
 pub mod Beginning
 pub mod Following
 pub mod Frames

@@ -1,7 +1,9 @@
 //! A whole world: a network as it runs, with all its frames.
 #![tactic(auto)]
 
+mod act;
 mod applying;
+mod befalling;
 mod begin;
 mod contents;
 mod frames;
@@ -13,6 +15,7 @@ mod leaving;
 mod memory;
 mod naming;
 mod next;
+mod outcomes;
 mod ripe;
 mod ripen;
 mod sending;

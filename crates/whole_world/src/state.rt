@@ -156,7 +156,7 @@ impl<C: Clock, M: Machine + Drop> State<C, M> {
     }
 
     /// How the way is on which a device sends on a link.
-    fn way_from(&self, network: &Network, device: DeviceId, link: LinkId) -> WayState
+    pub fn way_from(&self, network: &Network, device: DeviceId, link: LinkId) -> WayState
         requires sized { IsSized C.last_step network.now self.now }
         requires there { link.0 < length network.now.link }
         ensures { slice_get (if is_parent_of network.now device link then self.now.downs.items else self.now.ups.items) link.0 ≡ Some result }
