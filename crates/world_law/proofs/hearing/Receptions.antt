@@ -119,7 +119,7 @@ arrives_now s hs zs now e is it at so = record {
 }
 
 -- its device is one of the network
-in_all : {X : Type 0} (P : X → Type 0) (xs : List X) (i : ℕ) (x : X) → All P xs → slice_get xs i ≡ Some x → P x
+pub in_all : {X : Type 0} (P : X → Type 0) (xs : List X) (i : ℕ) (x : X) → All P xs → slice_get xs i ≡ Some x → P x
 in_all P xs i x all e = subst P (get_or_from_slice_get xs i x x e) (all i x (slice_get_within xs i x e))
 
 target_in : (network : Network) (way : Way) (l : Link) (device : DeviceId) → IsLinkInRange network l → target_by way l ≡ device
@@ -127,7 +127,7 @@ target_in : (network : Network) (way : Way) (l : Link) (device : DeviceId) → I
 target_in network Up l device range e = subst (λ (d : DeviceId). d.0 < length network.device) e range.parent
 target_in network Down l device range e = subst (λ (d : DeviceId). d.0 < length network.device) e range.child
 
-receiver_in : (network : Network) (way : Way) (link : LinkId) (o : Option Link) (device : DeviceId) → link_at network link ≡ o → IsInRange network
+pub receiver_in : (network : Network) (way : Way) (link : LinkId) (o : Option Link) (device : DeviceId) → link_at network link ≡ o → IsInRange network
     → Rattle.std.specs.Prelude.option_map (target_by way) o ≡ Some device → device.0 < length network.device
 receiver_in network way link None device is range e = absurd cc
 receiver_in network way link (Some l) device is range e =
