@@ -23,7 +23,6 @@ mod settled;
 mod source;
 mod state;
 mod stepping;
-mod stubs;
 mod timing;
 mod storing;
 mod waiting;
