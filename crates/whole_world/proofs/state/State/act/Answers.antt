@@ -1,4 +1,4 @@
-use Rattle.std.proofs.Common.{ap, subst, sym, ◌≡◌, ◌∙◌, pos, ℕ, List, Result, Ok, Err, arith, length, ◌<◌}
+use Rattle.std.proofs.Common.{ap, subst, sym, ◌≡◌, ◌∙◌, pos, ℕ, List, Result, Ok, Err, arith}
 use Rattle.std.specs.Prelude.{IfOk, OnErr}
 use Rattle.net_plan.specs.declared.ids.DeviceId.{DeviceId}
 use Rattle.net_plan.specs.declared.network.Network.{Network}
@@ -71,8 +71,8 @@ rekey-requires-clause-running g c =
     let r = c.requires in
     let step = c.act_first-done.ensures in
     runs_on g.C.Clock.last_step g.C.Clock.reading g.M.Machine.stands c.args.network.now w c.act_first-done.new.self r.well.running
-    (still g.C.Clock.last_step g.C.Clock.reading g.M.Machine.stands c.args.network.now w c.act_first-done.new.self c.args.device c.act_first-done.result
-    r.well r.room r.foremost r.first step.stands step.err)
+    (still g.C.Clock.last_step g.C.Clock.reading g.M.Machine.stands c.args.network.now w c.act_first-done.new.self c.args.device
+    c.act_first-done.result r.well r.room r.foremost r.first step.stands step.err)
 
 pub returns : goal.returns
 returns g c =
@@ -81,8 +81,8 @@ returns g c =
     let there = r.foremost.there in
     let step = c.act_first-done.ensures in
     let keyed = c.rekey.ensures in
-    rekeyed_step g.C.Clock.last_step g.C.Clock.reading g.M.Machine.stands c.args.network.now c.args.device.0 w c.act_first-done.new.self c.rekey.new.self r.well step.sound there.of
-    step.others (ap (λ (t : State _ _). t.timers) step.same) (ap (λ (t : State _ _). t.given) step.same)
-    (still g.C.Clock.last_step g.C.Clock.reading g.M.Machine.stands c.args.network.now w c.act_first-done.new.self c.args.device c.act_first-done.result
-    r.well r.room r.foremost r.first step.stands step.err)
+    rekeyed_step g.C.Clock.last_step g.C.Clock.reading g.M.Machine.stands c.args.network.now c.args.device.0 w c.act_first-done.new.self
+    c.rekey.new.self r.well step.sound there.of step.others (ap (λ (t : State _ _). t.timers) step.same) (ap (λ (t : State _ _). t.given) step.same)
+    (still g.C.Clock.last_step g.C.Clock.reading g.M.Machine.stands c.args.network.now w c.act_first-done.new.self c.args.device
+    c.act_first-done.result r.well r.room r.foremost r.first step.stands step.err)
     keyed.same keyed.timed keyed.sized keyed.others keyed.later
