@@ -65,7 +65,7 @@ pub completes-run : (first second : Option (List ℕ)) (status : Status) (old ne
 completes-run None second status old new SourceRose SinkRose a read write = tt
 completes-run (Some octets) None status old new SourceRose SinkRose a read write = tt
 completes-run (Some octets) (Some trace) status old new SourceRose SinkRose a read write =
-    λ quiet calm n events m built admitted ended left. run_whole octets trace n events status old new SourceRose SinkRose m built
+    λ quiet calm n events m admitted ended left. run_whole octets trace n events status old new SourceRose SinkRose m
     (record { admitted = admitted; ended = ended; none_left = left }) a read write quiet calm
 
 form_one : BetaIsUnique → RefusalIsOne → (form : Option Form) (octets trace : List ℕ) (a b : Answer) → IsFormAnswer form octets trace a

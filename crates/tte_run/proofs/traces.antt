@@ -1,18 +1,17 @@
--- A run under a trace: what is admitted, the records of the silent cycle, the one answer, and each step.
+-- A run under a trace: what is admitted, what lasts of its records under more events, the one answer, and each step.
 pub mod TakenLines
 pub mod EventTimes
 pub mod Faults
+pub mod EventOrder
 pub mod Admitted
 pub mod Following
-pub mod ClockHistories
-pub mod BuiltNetworks
-pub mod EventRecords
-pub mod SilentRuns
+pub mod Lasting
 pub mod Answers
 pub mod Given
 pub mod Completes
 pub mod Sources
-pub mod WorldMarks
+pub mod OwnNotes
+pub mod Worlds
 pub mod PuttingRecords
 pub mod PuttingEvents
 pub mod Steps

@@ -8,7 +8,7 @@ use Rattle.net_plan.specs.declared.network.Network.{Network}
 use Rattle.tte_run.specs.networks.Accepting.{IsNetworkAnswer, MeansAccepted}
 use Rattle.tte_run.specs.Answering.{Answer, ForOctets, Gives, GivesOne, IsDone, line_answer}
 use Rattle.tte_run.specs.networks.Checking.{IsCheckAnswer}
-use Rattle.tte_run.specs.traces.Answer.{IsRunAnswer, IsUnbuilt}
+use Rattle.tte_run.specs.traces.Answer.{IsRunAnswer}
 use Rattle.tte_run.specs.frames.Answer.{show_answer, file_limit}
 use Rattle.tte_run.specs.Forms.{form_of}
 use Rattle.tte_run.specs.traces.Lines.{AreAdmitted, HaveEnded, behind_lines}
@@ -69,11 +69,10 @@ ShowsWhole octets status = (ps : List Pcf) → length octets ≤ file_limit → 
 abbrev pub ChecksWhole : List ℕ → Status → Type 0
 ChecksWhole octets status = (network : Network) → MeansAccepted octets network → IsDone status
 
--- a built network whose whole trace is admitted, up to its end, is run
+-- an accepted network whose whole trace is admitted, up to its end, is run
 abbrev pub RunsWhole : List ℕ → List ℕ → Status → Type 0
 RunsWhole octets trace status =
-    (network : Network) (events : List Event) → MeansAccepted octets network → (IsUnbuilt network → ⊥)
-    → AreAdmitted network trace events → HaveEnded events → behind_lines (length events) trace ≡ [] → IsDone status
+    (network : Network) (events : List Event) → MeansAccepted octets network → AreAdmitted network trace events → HaveEnded events → behind_lines (length events) trace ≡ [] → IsDone status
 
 -- valid input is answered to its end, where no count of faults rose
 abbrev pub Completes : Option Form → Option (List ℕ) → Option (List ℕ) → Type 0 → Type 0 → Status → Type 0

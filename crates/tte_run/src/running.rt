@@ -1,23 +1,19 @@
-ghost use Rattle.std.specs.Prelude.{◌≡◌, ◌⊎◌, ◌↔◌, IfSome, IsTrue};
+ghost use Rattle.std.specs.Prelude.{◌≡◌, ◌⊎◌, IfSome};
 ghost use Rattle.tte_run.specs.networks.Accepting.{IsNetworkAnswer};
-ghost use Rattle.tte_run.specs.Answering.{ForOctets, Gives, GivesOne};
-ghost use Rattle.tte_run.specs.Faults.{HasCause, IsWanted, PutFailed, ReadFailed};
+ghost use Rattle.tte_run.specs.Answering.{ForOctets, GivesOne};
+ghost use Rattle.tte_run.specs.Faults.{HasCause, PutFailed, ReadFailed};
 ghost use Rattle.tte_run.specs.Putting.{Over};
-ghost use Rattle.tte_run.specs.traces.Refusing.{early_answer};
-ghost use Rattle.tte_run.specs.traces.Answer.{IsRunAnswer, IsRunStatus, IsUnbuilt};
+ghost use Rattle.tte_run.specs.traces.Answer.{IsRunAnswer, IsRunStatus};
 ghost use Rattle.tte_run.specs.traces.Steps.{RunEnds};
 ghost use Rattle.tte_run.specs.traces.Streaming.{RunStops, RunTakesLittle};
 
 use crate::Status;
-use crate::accepting::network_line::make_early_line;
 use crate::accepting::{accept, put_no_network};
-use crate::put_line::put_last;
 use crate::trace::steps::Running;
-use net_plan::Network;
 use schedule_checker::refusal_is_one;
 use schedule_tables::Accepted;
 use std::alloc::Global;
-use tte_io::{LineText, Sink, Source};
+use tte_io::{Sink, Source};
 
 /// Runs the network of the first file under the trace of the second. It takes the trace line by
 /// line, and writes each record as soon as it is known.
@@ -58,33 +54,8 @@ fn run_network<B: Source, K: Sink>(
     ensures statuses { IsRunStatus result }
     ensures cause { HasCause result (ReadFailed B.Source second.old second.new) (PutFailed K.Sink out.old out.new) }
 {
-    if is_unbuilt(accepted.network()) {
-        return put_early(out);
-    }
     match Running::begin(alloc, accepted) {
         Ok(mut running) => running.finish(second, out),
         Err(_) => Status::OutOfMemory,
     }
-}
-
-/// Is the run of the network not built yet?
-fn is_unbuilt(network: &Network) -> bool
-    ensures { IsTrue result ↔ IsUnbuilt network.now }
-{
-    !network.vl.as_slice().is_empty()
-        || network
-            .device
-            .as_slice()
-            .iter()
-            .any(|device| device.start.is_none())
-}
-
-/// Answers that the run of the network is not built yet.
-fn put_early<K: Sink>(out: &mut K) -> Status
-    ensures gives { Over K.Sink out.old out.new (Gives early_answer result) }
-    ensures status { IsWanted Status.NetworkRefused result (PutFailed K.Sink out.old out.new) }
-{
-    let mut line = LineText::new();
-    make_early_line(&mut line);
-    put_last(line.as_slice(), Status::NetworkRefused, out)
 }

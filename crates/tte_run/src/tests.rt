@@ -1,3 +1,4 @@
+mod calm;
 mod cases;
 mod checking;
 mod cut_short;

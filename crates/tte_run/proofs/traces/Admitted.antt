@@ -1,11 +1,11 @@
 -- The events admitted from the octets of a trace.
-use Rattle.std.proofs.Common.{◌≡◌, ℕ, zero, suc, ◌≤◌, List, [], ◌∷◌, ◌++◌, length, ℤ, pos, negsuc, ◌≤ℤ◌, ◌<ℤ◌, unsigned_abs, refl, sym, ap, subst, ◌∙◌, arith, append_assoc, length-append}
+use Rattle.std.proofs.Common.{◌≡◌, ◌⊎◌, inl, inr, ℕ, zero, suc, ◌≤◌, List, [], ◌∷◌, ◌++◌, length, ℤ, pos, negsuc, ◌≤ℤ◌, ◌<ℤ◌, unsigned_abs, refl, sym, ap, subst, ◌∙◌, arith, append_assoc, length-append}
 use Rattle.std.specs.List.{Contains}
 use Rattle.std.proofs.lemmas.Int.{ints}
 use Rattle.std.proofs.lemmas.List.{append-nil}
 use Rattle.std.proofs.lemmas.List.Quantifiers.{Any-push}
 use Rattle.std.proofs.lemmas.List.Sums.{fold_push}
-use Rattle.drift_world.specs.Standing.{last_time}
+use Rattle.whole_world.specs.Running.{last_time}
 use Rattle.net_plan.specs.declared.event.Event.{Event}
 use Rattle.net_plan.specs.declared.event.What.TheVariants.{End}
 use Rattle.net_plan.specs.declared.network.Network.{Network}
@@ -18,8 +18,17 @@ use Rattle.tte_run.specs.traces.Lines.{AreAdmitted, HaveEnded, IsAdmitted, behin
 use Rattle.tte_units.specs.Amount.{amount, units_of}
 use Rattle.tte_units.specs.declared.units.Units.{Units}
 use Rattle.tte_run.proofs.traces.EventTimes.{event_time}
-use Rattle.tte_run.proofs.traces.EventRecords.{AreInOrder, IsInOrder}
+use Rattle.tte_run.proofs.traces.EventOrder.{AreInOrder, IsInOrder}
 use Rattle.tte_run.proofs.traces.Faults.{one_event}
+
+-- ---- the last of events
+
+pub last_or_none : (events : List Event) → (events ≡ []) ⊎ ((front : List Event) × (last : Event) × (events ≡ front ++ last ∷ []))
+last_or_none [] = inl refl
+last_or_none (e ∷ events) = elim (last_or_none events) [
+  | inl none ↦ inr ([], e, ap (λ (l : List Event). e ∷ l) none)
+  | inr some ↦ inr (e ∷ some.0, some.1, ap (λ (l : List Event). e ∷ l) some.2)
+]
 
 -- ---- no events
 
@@ -30,12 +39,19 @@ no_part (p ∷ ps) qs x e = cc
 pub admitted_none : (network : Network) (octets : List ℕ) → AreAdmitted network octets []
 admitted_none network octets before behind event e = absurd (no_part before behind event e)
 
+-- the first of them are admitted
+pub front_admitted : (network : Network) (octets : List ℕ) (events : List Event) (event : Event) (others : List Event)
+    → AreAdmitted network octets (events ++ event ∷ others) → AreAdmitted network octets (events ++ event ∷ [])
+front_admitted network octets events event others all before behind e is =
+    all before (behind ++ others) e
+    (sym (append_assoc events (event ∷ []) others) ∙ ap (λ (l : List Event). l ++ others) is ∙ append_assoc before (e ∷ behind) others)
+
 -- ---- their order
 
-not_less : (a b : ℤ) → (b <ℤ a → ⊥) → a ≤ℤ b
+pub not_less : (a b : ℤ) → (b <ℤ a → ⊥) → a ≤ℤ b
 not_less a b not = grind (arith, ints)
 
-sizes : (a b : ℤ) → pos 0 ≤ℤ a → a ≤ℤ b → unsigned_abs a ≤ unsigned_abs b
+pub sizes : (a b : ℤ) → pos 0 ≤ℤ a → a ≤ℤ b → unsigned_abs a ≤ unsigned_abs b
 sizes (pos m) (pos n) begun le = omega (arith, ints)
 sizes (negsuc m) b begun le = absurd (omega (arith, ints))
 sizes (pos m) (negsuc n) begun le = absurd (omega (arith, ints))

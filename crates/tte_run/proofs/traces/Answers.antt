@@ -1,7 +1,6 @@
 -- The answer for a network under the octets of a trace: what it begins with, and that it is one.
 use Rattle.std.proofs.Common.{◌≡◌, ◌⊎◌, ℕ, ◌+◌, ◌<◌, List, [], ◌∷◌, ◌++◌, length, Some, slice_get, arith, refl, sym, ap, subst, ◌∙◌, inl, inr, append_assoc}
-use Rattle.std.proofs.lemmas.List.{map-append}
-use Rattle.drift_world.specs.Standing.{behind_events, last_time}
+use Rattle.std.proofs.lemmas.List.{append-nil, map-append}
 use Rattle.net_plan.specs.declared.event.Event.{Event}
 use Rattle.net_plan.specs.declared.network.Network.{Network}
 use Rattle.report_text.specs.NoteLine.{note_line, report_of}
@@ -16,17 +15,19 @@ use Rattle.run_law.proofs.runs.Grow.{empty_run}
 use Rattle.run_law.proofs.runs.NetworkRuns.{run_is_one, earlier_run_is_front}
 use Rattle.run_law.proofs.runs.Places.{before_next_time}
 use Rattle.tte_run.specs.Answering.{Answer}
-use Rattle.tte_run.specs.traces.Answer.{AreAllRecords, AreRecordsBefore, AreRecordsSoFar, IsBuilt, IsFaultyAnswer, IsRunAnswer, IsTraceAnswer, IsWholeAnswer, clock_reading}
+use Rattle.tte_run.specs.traces.Answer.{AreAllRecords, AreRecordsBefore, AreRecordsSoFar, IsFaultyAnswer, IsRunAnswer, IsWholeAnswer, clock_reading}
 use Rattle.tte_run.specs.traces.FaultLine.{fault_lines, fault_status}
 use Rattle.tte_run.specs.traces.Lines.{AreAdmitted, HaveEnded, IsFault, behind_lines}
 use Rattle.tte_run.specs.declared.trace.fault.TraceFault.{TraceFault}
 use Rattle.tte_run.specs.declared.status.Status.TheVariants.{Done}
 use Rattle.tte_units.specs.Amount.{amount, units_of}
 use Rattle.tte_units.specs.declared.units.Units.{Units}
-use Rattle.tte_run.proofs.traces.Admitted.{IsStopped, admitted_in_order, admitted_one, ended_at, stopped_one}
-use Rattle.tte_run.proofs.traces.EventRecords.{event_notes, event_notes-append, events_run, notes_from}
-use Rattle.tte_run.proofs.traces.SilentRuns.{so_far_of_silent}
+use Rattle.tte_run.proofs.traces.Admitted.{IsStopped, admitted_in_order, admitted_one, ended_at, front_admitted, stopped_one}
+use Rattle.tte_run.proofs.traces.EventOrder.{last_before, last_of}
+use Rattle.tte_run.proofs.traces.Lasting.{lasts, no_further, so_far_at}
 use Rattle.tte_run.proofs.traces.Faults.{end_has_no_fault, fault_one, fault_stops}
+use Rattle.whole_world.specs.Running.{behind_events, last_time}
+use Rattle.world_law.specs.source.Applying.{place_of_event}
 
 -- ---- reports
 
@@ -42,19 +43,6 @@ report_begins network notes front rest order = (report_of network rest, ap (repo
 
 -- ---- the records so far
 
--- of admitted events these are the events' records
-event_notes_so_far : (network : Network) (octets : List ℕ) (events : List Event) → IsBuilt network → AreAdmitted network octets events
-    → AreRecordsSoFar network events (event_notes events)
-event_notes_so_far network octets events built all =
-    so_far_of_silent network octets events (event_notes events) built all
-    (events_run network (clock_reading network events) events (admitted_in_order network octets events all))
-
-so_far_of : (network : Network) (octets : List ℕ) (events : List Event) (notes : List Note) → IsBuilt network → AreAdmitted network octets events
-    → AreRecordsSoFar network events notes → notes ≡ event_notes events
-so_far_of network octets events notes built all run =
-    run_is_one network (clock_reading network events) events (behind_events (last_time events)) notes (event_notes events) run
-    (event_notes_so_far network octets events built all)
-
 under_two : (t r : ℕ) (rest : List ℕ) → IsBefore (t ∷ r ∷ rest) (0 ∷ 2 ∷ []) → r < 2
 under_two t r rest (inl less) = absurd (omega arith)
 under_two t r rest (inr (same, inl less)) = less
@@ -62,7 +50,7 @@ under_two t r rest (inr (same, inr (two, none))) = absurd none
 
 -- at first nothing is due
 none_at_first : (s : Scenario) (time : Units) (members : ℕ) (body : NoteBody) → s.events ≡ [] → IsCaused s [] time body
-    → IsBefore (amount time ∷ rank body ∷ key members body) (behind_events (units_of 0)) → ⊥
+    → IsBefore (amount time ∷ rank body ∷ key members body) (behind_events 0) → ⊥
 none_at_first s time members (Befalls line what) none cause before =
     let there = subst (λ (es : List Event). slice_get es cause.before ≡ Some cause.event) none cause.is in absurd cc
 none_at_first s time members other none cause before = let low = under_two (amount time) (rank other) (key members other) before in absurd (omega (arith, low))
@@ -71,17 +59,11 @@ none_at_first s time members other none cause before = let low = under_two (amou
 pub records_none : (network : Network) → AreRecordsSoFar network [] []
 records_none network =
     let s : Scenario = record { network = network; reading = clock_reading network []; events = [] } in
-    empty_run place_of (IsDue s) (behind_events (units_of 0)) (λ h due before. none_at_first s h.note.time (members_in h) h.note.body refl due.cause before)
-
--- the records of more admitted events begin with them
-more_begins : (network : Network) (events all more : List Event) → all ≡ events ++ more
-    → BeginWith (report_of network (event_notes all)) (report_of network (event_notes events))
-more_begins network events all more order =
-    report_begins network (event_notes all) (event_notes events) (notes_from (1 + length events) more) (ap event_notes order ∙ event_notes-append events more)
+    empty_run place_of (IsDue s) (behind_events 0) (λ h due before. none_at_first s h.note.time (members_in h) h.note.body refl due.cause before)
 
 -- what is before a place of the last event's time is up to the end
 up_to_end : (octets : List ℕ) (network : Network) (events : List Event) (time : Units) → AreAdmitted network octets events → EndsAt events time → (p : List ℕ)
-    → IsBefore p (behind_events (last_time events)) → IsBefore p ((amount time + 1) ∷ [])
+    → IsBefore p (behind_events (amount (last_time events))) → IsBefore p ((amount time + 1) ∷ [])
 up_to_end octets network events time all ends p before =
     let last = (admitted_in_order network octets events all).last time ends in
     subst (λ (t : Units). IsBefore p ((amount t + 1) ∷ [])) (sym last) (before_next_time p (amount (last_time events)) (2 ∷ []) before)
@@ -102,35 +84,72 @@ answer_stops network octets events a (inr f) = faulty_stops network octets event
 
 -- ---- what an answer begins with
 
--- an answer of all admitted events begins with their records
-stopped_begins : (network : Network) (octets : List ℕ) (events : List Event) (a : Answer) → IsBuilt network → AreAdmitted network octets events
-    → IsWholeAnswer network octets events a ⊎ IsFaultyAnswer network octets events a
-    → BeginWith a.lines (report_of network (event_notes events))
-stopped_begins network octets events a built all (inl w) =
-    let r =
-    earlier_run_is_front network (clock_reading network events) events (behind_events (last_time events)) ((amount w.records.0 + 1) ∷ [])
-    (event_notes events) w.notes (up_to_end octets network events w.records.0 all w.records.1)
-    (event_notes_so_far network octets events built all) w.records.2 in
-    let report = report_begins network w.notes (event_notes events) r.0 r.1 in
-    (report.0, ap (λ (b : Answer). b.lines) w.answer ∙ report.1)
-stopped_begins network octets events a built all (inr f) =
-    let same = so_far_of network octets events f.notes built all f.records in (
-      fault_lines (length events + 1) f.fault,
-      ap (λ (b : Answer). b.lines) f.answer ∙ ap
-          (λ (ns : List Note). report_of network ns ++ fault_lines (length events + 1) f.fault) same,
-    )
-
--- the answer begins with the records so far, of whichever first events
-pub answer_begins : (network : Network) (octets : List ℕ) (events : List Event) (notes : List Note) (a : Answer) → IsBuilt network
-    → AreAdmitted network octets events → AreRecordsSoFar network events notes → IsTraceAnswer network octets a
+-- an answer of all admitted events begins with the records of their run up to a place of the last event's time
+stopped_begins : (network : Network) (octets : List ℕ) (events : List Event) (mark : List ℕ) (notes : List Note) (a : Answer)
+    → AreAdmitted network octets events → ((p : List ℕ) → IsBefore p mark → IsBefore p (behind_events (amount (last_time events))))
+    → AreRecordsBefore network events mark notes → IsWholeAnswer network octets events a ⊎ IsFaultyAnswer network octets events a
     → BeginWith a.lines (report_of network notes)
-answer_begins network octets events notes a built all run i =
+stopped_begins network octets events mark notes a all low run (inl w) =
+    let r =
+    earlier_run_is_front network (clock_reading network events) events mark ((amount w.records.0 + 1) ∷ []) notes w.notes
+    (λ p b. up_to_end octets network events w.records.0 all w.records.1 p (low p b)) run w.records.2 in
+    let report = report_begins network w.notes notes r.0 r.1 in
+    (report.0, ap (λ (b : Answer). b.lines) w.answer ∙ report.1)
+stopped_begins network octets events mark notes a all low run (inr f) =
+    let r =
+    earlier_run_is_front network (clock_reading network events) events mark (behind_events (amount (last_time events))) notes f.notes low run f.records in
+    let report = report_begins network f.notes notes r.0 r.1 in
+    begin_further a.lines (report_of network f.notes) (report_of network notes) report
+    (fault_lines (length events + 1) f.fault, ap (λ (b : Answer). b.lines) f.answer)
+
+-- the place of an event's record is one of the last event's time at most
+place_low : (network : Network) (octets : List ℕ) (events others : List Event) (event : Event) → AreAdmitted network octets (events ++ event ∷ others)
+    → (p : List ℕ) → IsBefore p (place_of_event events event) → IsBefore p (behind_events (amount (last_time (events ++ event ∷ others))))
+place_low network octets events others event all p b =
+    low _ _ p (no_further (amount event.time) _ (length events + 1) (last_of events others event (admitted_in_order network octets _ all).order) p b)
+  where
+    low : (t line : ℕ) (p : List ℕ) → IsBefore p (t ∷ 1 ∷ line ∷ []) → IsBefore p (behind_events t)
+    low t line [] b = tt
+    low t line (x ∷ []) (inl lt) = inl lt
+    low t line (x ∷ []) (inr b) = inr (b.0, tt)
+    low t line (x ∷ r ∷ more) (inl lt) = inl lt
+    low t line (x ∷ r ∷ more) (inr (e, inl lt)) = inr (e, inl (omega (arith, lt)))
+    low t line (x ∷ r ∷ more) (inr (e, inr (f, b))) = inr (e, inl (omega (arith, f)))
+
+-- the answer begins with the records up to the place of a next event that is admitted
+pub next_begins : (network : Network) (octets : List ℕ) (events : List Event) (event : Event) (mark : List ℕ) (notes : List Note) (a : Answer)
+    → AreAdmitted network octets (events ++ event ∷ []) → ((p : List ℕ) → IsBefore p mark → IsBefore p (place_of_event events event))
+    → AreRecordsBefore network events mark notes → IsRunAnswer octets network a → BeginWith a.lines (report_of network notes)
+next_begins network octets events event mark notes a all sooner run i =
+    let stop = answer_stops network octets i.events a i.is in
+    let more = admitted_one network octets (events ++ event ∷ []) i.events all i.admitted stop in
+    let whole : i.events ≡ events ++ event ∷ more.0 = more.1 ∙ append_assoc events (event ∷ []) more.0 in
+    let admitted = subst (AreAdmitted network octets) whole i.admitted in
+    stopped_begins network octets (events ++ event ∷ more.0) mark notes a admitted
+    (λ p b. place_low network octets events more.0 event admitted p (sooner p b)) (lasts network octets events event more.0 mark notes admitted sooner run)
+    (subst (λ (es : List Event). IsWholeAnswer network octets es a ⊎ IsFaultyAnswer network octets es a) whole i.is)
+
+-- it begins with the records so far, of whichever first events
+pub answer_begins : (network : Network) (octets : List ℕ) (events : List Event) (notes : List Note) (a : Answer)
+    → AreAdmitted network octets events → AreRecordsSoFar network events notes → IsRunAnswer octets network a
+    → BeginWith a.lines (report_of network notes)
+answer_begins network octets events notes a all run i =
     let stop = answer_stops network octets i.events a i.is in
     let more = admitted_one network octets events i.events all i.admitted stop in
-    let whole = stopped_begins network octets i.events a built i.admitted i.is in
-    let front = more_begins network events i.events more.0 more.1 in
-    subst (λ (ns : List Note). BeginWith a.lines (report_of network ns)) (sym (so_far_of network octets events notes built all run))
-    (begin_further a.lines (report_of network (event_notes i.events)) (report_of network (event_notes events)) front whole)
+    by more.0 more.1
+  where
+    by : (more : List Event) → i.events ≡ events ++ more → BeginWith a.lines (report_of network notes)
+    by [] whole =
+        let same : i.events ≡ events = whole ∙ append-nil events in
+        stopped_begins network octets events (behind_events (amount (last_time events))) notes a all (λ p b. b) run
+        (subst (λ (es : List Event). IsWholeAnswer network octets es a ⊎ IsFaultyAnswer network octets es a) same i.is)
+    by (event ∷ others) whole =
+        let admitted = subst (AreAdmitted network octets) whole i.admitted in
+        let order = admitted_in_order network octets (events ++ event ∷ others) admitted in
+        let le = last_before events others event order.order in
+        let one = front_admitted network octets events event others admitted in
+        next_begins network octets events event (amount (last_time events) ∷ 1 ∷ (length events + 1) ∷ []) notes a one
+        (no_further (amount (last_time events)) (amount event.time) (length events + 1) le) (so_far_at network events notes run) i
 
 -- ---- the answer where a trace ends with its end
 
@@ -142,7 +161,7 @@ pub record IsAllAdmitted (network : Network) (octets : List ℕ) (events : List 
 
 -- then its answer is a whole one of these events
 pub all_is_whole : (network : Network) (octets : List ℕ) (events : List Event) (a : Answer) → IsAllAdmitted network octets events
-    → IsTraceAnswer network octets a → IsWholeAnswer network octets events a
+    → IsRunAnswer octets network a → IsWholeAnswer network octets events a
 all_is_whole network octets events a all i =
     let same =
     stopped_one network octets i.events events i.admitted (answer_stops network octets i.events a i.is) all.admitted
@@ -161,7 +180,7 @@ same_end network octets events time other all a b =
 pub ended_begins : (network : Network) (octets : List ℕ) (events : List Event) (mark : List ℕ) (notes : List Note) (a : Answer)
     → IsAllAdmitted network octets events
     → ((p : List ℕ) → IsBefore p mark → IsBefore p ((amount (last_time events) + 1) ∷ [])) → AreRecordsBefore network events mark notes
-    → IsTraceAnswer network octets a
+    → IsRunAnswer octets network a
     → BeginWith a.lines (report_of network notes)
 ended_begins network octets events mark notes a all up run i =
     let w = all_is_whole network octets events a all i in
@@ -173,7 +192,7 @@ ended_begins network octets events mark notes a all up run i =
 
 -- it is the report of all records
 pub whole_is : (network : Network) (octets : List ℕ) (events : List Event) (notes : List Note) (a : Answer) → IsAllAdmitted network octets events
-    → AreAllRecords network events notes → IsTraceAnswer network octets a
+    → AreAllRecords network events notes → IsRunAnswer octets network a
     → a ≡ record { status = Done; lines = report_of network notes }
 whole_is network octets events notes a all records i =
     let w = all_is_whole network octets events a all i in
@@ -208,12 +227,12 @@ faulty_alone network octets events notes fault a b run (inl w) =
     absurd (end_has_no_fault network events (behind_lines (length events) octets) fault w.none_left w.ended b.is)
 faulty_alone network octets events notes fault a b run (inr f) =
     let faults = fault_one network events (behind_lines (length events) octets) f.fault fault f.is b.is in
-    let same = run_is_one network (clock_reading network events) events (behind_events (last_time events)) f.notes notes f.records run in
+    let same = run_is_one network (clock_reading network events) events (behind_events (amount (last_time events))) f.notes notes f.records run in
     f.answer ∙ ap (λ (t : TraceFault). faulty_answer network events f.notes t) faults ∙ ap (λ (ns : List Note). faulty_answer network events ns fault) same
 
 -- then the answer is the report so far and the line of the fault
 pub faulty_is : (network : Network) (octets : List ℕ) (events : List Event) (notes : List Note) (fault : TraceFault) (a : Answer)
-    → IsFaultBehind network octets events fault → AreRecordsSoFar network events notes → IsTraceAnswer network octets a
+    → IsFaultBehind network octets events fault → AreRecordsSoFar network events notes → IsRunAnswer octets network a
     → a ≡ faulty_answer network events notes fault
 faulty_is network octets events notes fault a b run i =
     let same =
@@ -225,23 +244,17 @@ faulty_is network octets events notes fault a b run i =
 -- ---- there is one answer
 
 one_of_whole : (network : Network) (octets : List ℕ) (events : List Event) (a b : Answer) → AreAdmitted network octets events
-    → IsWholeAnswer network octets events a → IsTraceAnswer network octets b → a ≡ b
+    → IsWholeAnswer network octets events a → IsRunAnswer octets network b → a ≡ b
 one_of_whole network octets events a b all w j =
     let admitted : IsAllAdmitted network octets events = record { admitted = all; ended = w.ended; none_left = w.none_left } in
     w.answer ∙ sym (whole_is network octets events w.notes b admitted w.records j)
 
 one_of_faulty : (network : Network) (octets : List ℕ) (events : List Event) (a b : Answer) → AreAdmitted network octets events
-    → IsFaultyAnswer network octets events a → IsTraceAnswer network octets b → a ≡ b
+    → IsFaultyAnswer network octets events a → IsRunAnswer octets network b → a ≡ b
 one_of_faulty network octets events a b all f j =
     let behind : IsFaultBehind network octets events f.fault = record { admitted = all; is = f.is } in
     f.answer ∙ sym (faulty_is network octets events f.notes f.fault b behind f.records j)
 
-pub trace_answer_one : (network : Network) (octets : List ℕ) (a b : Answer) → IsTraceAnswer network octets a → IsTraceAnswer network octets b → a ≡ b
-trace_answer_one network octets a b i j =
+pub run_answer_one : (network : Network) (octets : List ℕ) (a b : Answer) → IsRunAnswer octets network a → IsRunAnswer octets network b → a ≡ b
+run_answer_one network octets a b i j =
     elim i.is [ inl w ↦ one_of_whole network octets i.events a b i.admitted w j | inr f ↦ one_of_faulty network octets i.events a b i.admitted f j ]
-
-pub run_answer_one : (octets : List ℕ) (network : Network) (a b : Answer) → IsRunAnswer octets network a → IsRunAnswer octets network b → a ≡ b
-run_answer_one octets network a b (inl p) (inl q) = p.1 ∙ sym q.1
-run_answer_one octets network a b (inl p) (inr q) = absurd (q.0 p.0)
-run_answer_one octets network a b (inr p) (inl q) = absurd (p.0 q.0)
-run_answer_one octets network a b (inr p) (inr q) = trace_answer_one network octets a b p.1 q.1

@@ -6,7 +6,7 @@ use Rattle.schedule_checker.specs.Refusals.{RefusalIsOne}
 use Rattle.tte_run.specs.networks.Accepting.{MeansAccepted, IsNetworkAnswer}
 use Rattle.tte_run.specs.Answering.{Answer, GivesOne, IsDone}
 use Rattle.tte_run.specs.Putting.{Shown}
-use Rattle.tte_run.specs.traces.Answer.{IsRunAnswer, IsUnbuilt}
+use Rattle.tte_run.specs.traces.Answer.{IsRunAnswer}
 use Rattle.tte_run.specs.declared.status.Status.{Status}
 use Rattle.tte_run.specs.declared.status.Status.TheVariants.{ReadFault, WriteFault}
 use Rattle.tte_run.proofs.networks.Answers.{accepted_alone, network_answer_one}
@@ -16,15 +16,15 @@ use Rattle.tte_run.proofs.traces.Given.{all_done}
 -- the octets of a network file and of a trace have one answer
 pub run_one : RefusalIsOne → (octets trace : List ℕ) (a b : Answer) → IsNetworkAnswer (IsRunAnswer trace) octets a
     → IsNetworkAnswer (IsRunAnswer trace) octets b → a ≡ b
-run_one one octets trace a b p q = network_answer_one one (IsRunAnswer trace) (run_answer_one trace) octets a b p q
+run_one one octets trace a b p q = network_answer_one one (IsRunAnswer trace) (λ network. run_answer_one network trace) octets a b p q
 
--- an accepted network whose run is built, under a trace that is admitted to its end, is run to its end
+-- an accepted network under a trace that is admitted to its end is run to its end
 pub run_whole : (octets trace : List ℕ) (network : Network) (events : List Event) (status : Status) (old new : Shown) (SourceRose SinkRose : Type 0)
-    → MeansAccepted octets network → (IsUnbuilt network → ⊥) → IsAllAdmitted network trace events
+    → MeansAccepted octets network → IsAllAdmitted network trace events
     → GivesOne (IsNetworkAnswer (IsRunAnswer trace) octets) status old new → (status ≡ ReadFault → SourceRose) → (status ≡ WriteFault → SinkRose)
     → (SourceRose → ⊥) → (SinkRose → ⊥) → IsDone status
-run_whole octets trace network events status old new SourceRose SinkRose m built all (inl g) read write quiet calm =
-    inl (g.2 ∙ all_done trace network events g.0 built all (accepted_alone (IsRunAnswer trace) octets network m g.0 g.1))
-run_whole octets trace network events status old new SourceRose SinkRose m built all (inr (inl g)) read write quiet calm = absurd (calm (write g.0))
-run_whole octets trace network events status old new SourceRose SinkRose m built all (inr (inr (inl r, p))) read write quiet calm = absurd (quiet (read r))
-run_whole octets trace network events status old new SourceRose SinkRose m built all (inr (inr (inr o, p))) read write quiet calm = inr o
+run_whole octets trace network events status old new SourceRose SinkRose m all (inl g) read write quiet calm =
+    inl (g.2 ∙ all_done trace network events g.0 all (accepted_alone (IsRunAnswer trace) octets network m g.0 g.1))
+run_whole octets trace network events status old new SourceRose SinkRose m all (inr (inl g)) read write quiet calm = absurd (calm (write g.0))
+run_whole octets trace network events status old new SourceRose SinkRose m all (inr (inr (inl r, p))) read write quiet calm = absurd (quiet (read r))
+run_whole octets trace network events status old new SourceRose SinkRose m all (inr (inr (inr o, p))) read write quiet calm = inr o

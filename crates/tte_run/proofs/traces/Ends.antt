@@ -1,33 +1,33 @@
 -- How a run under a trace ends.
-use Rattle.std.proofs.Common.{◌≡◌, ◌⊎◌, ◌+◌, ℕ, List, [], ◌∷◌, ◌++◌, length, Option, Some, None, Err, inl, inr, refl, sym, subst}
+use Rattle.std.proofs.Common.{◌≡◌, ◌⊎◌, ◌+◌, pos, ◌+ℤ◌, ◌≤ℤ◌, ℕ, List, [], ◌∷◌, ◌++◌, length, Option, Some, None, Err, inl, inr, refl, sym, ap, ◌∙◌, subst}
 use Rattle.std.specs.Prelude.{IfSome}
-use Rattle.drift_clock.specs.Segment.{Segment}
-use Rattle.drift_world.specs.Progress.{Progress}
-use Rattle.drift_world.specs.Standing.{last_time, mark_of}
 use Rattle.net_plan.specs.declared.event.Event.{Event}
 use Rattle.net_plan.specs.declared.network.Network.{Network}
 use Rattle.report_text.specs.NoteLine.{report_of}
 use Rattle.run_law.specs.declared.note.Note.{Note}
 use Rattle.tte_run.specs.Answering.{Gives, GivesOne}
 use Rattle.tte_run.specs.Faults.{HasCause}
-use Rattle.tte_run.specs.traces.Records.{AreSilentBefore, AreSilentSoFar, PutsEvent, PutsOr, PutsOrRest, PutsRest}
+use Rattle.tte_run.specs.traces.Records.{AreEarlier, ExactWorld, HasBefallen, PutsEvent, PutsOr, PutsOrRest, PutsRest}
 use Rattle.tte_run.specs.Putting.{Shown, IsPassedOn, PutsLines}
 use Rattle.tte_run.specs.traces.Refusing.{fault_answer}
-use Rattle.tte_run.specs.traces.Answer.{IsBuilt, IsTraceAnswer}
+use Rattle.tte_run.specs.traces.Answer.{AreRecordsBefore, AreRecordsSoFar, IsRunAnswer}
 use Rattle.tte_run.specs.traces.Steps.{IsRunning, ReadsFrom, RunEnds}
 use Rattle.tte_run.specs.traces.Streaming.{ForTrace, StopsBehindLines, TakesLittle}
 use Rattle.tte_run.specs.traces.FaultLine.{fault_status}
 use Rattle.tte_run.specs.traces.Lines.{AreAdmitted, HaveEnded, IsFault, behind_lines}
 use Rattle.tte_run.specs.declared.trace.fault.TraceFault.{TraceFault}
-use Rattle.tte_run.specs.declared.trace.fault.TraceFault.TheVariants.{Missing, TooMany, After, Long, Line, Early, Event as Outlaw}
+use Rattle.tte_run.specs.declared.trace.fault.TraceFault.TheVariants.{Missing, TooMany, After, Long, Line, Event as Outlaw}
 use Rattle.tte_run.specs.declared.trace.lines.Trace.{Trace}
 use Rattle.tte_run.specs.declared.trace.steps.Running.{Running}
 use Rattle.tte_run.specs.declared.status.Status.{Status}
 use Rattle.tte_run.specs.declared.status.Status.TheVariants.{ReadFault, WriteFault, OutOfMemory}
 use Rattle.tte_run.proofs.traces.Answers.{IsAllAdmitted, all_records}
-use Rattle.tte_run.proofs.traces.Given.{cut_ended, cut_so_far, failed_ended, failed_so_far, faulty_given, puts_report, stops_report, whole_given}
-use Rattle.tte_run.proofs.traces.SilentRuns.{records_of_silent, so_far_of_silent}
-use Rattle.tte_run.proofs.traces.WorldMarks.{mark_within}
+use Rattle.tte_run.proofs.traces.Given.{IsUpToEnd, cut_ended, cut_on_way, cut_so_far, failed_ended, failed_on_way, failed_so_far, faulty_given, puts_report, stops_report, whole_given}
+use Rattle.std.proofs.lemmas.List.{append-nil}
+use Rattle.run_law.proofs.runs.Places.{before_next_time}
+use Rattle.run_law.specs.records.Order.{IsBefore}
+use Rattle.tte_run.proofs.traces.PuttingRecords.{next_amount}
+use Rattle.whole_world.specs.Running.{behind_events, last_time}
 use Rattle.tte_units.specs.Amount.{amount}
 use Rattle.tte_units.specs.declared.units.Units.{Units}
 
@@ -40,16 +40,20 @@ pub for_told : (left : Option (List ℕ)) (P : List ℕ → Type 0) → ((octets
 for_told None P h = tt {0}
 for_told (Some octets) P h = h octets refl
 
--- that was cut short at an event
-cut_given : (network : Network) (octets : List ℕ) (events : List Event) (notes more : List Note) (status : Status) (old now new : Shown) → IsBuilt network
-    → AreAdmitted network octets events → AreSilentSoFar network events (notes ++ more)
+-- that was cut short at an event: before its record or behind it
+cut_given : (network : Network) (octets : List ℕ) (events befallen : List Event) (event : Event) (notes more : List Note) (status : Status) (old now new : Shown)
+    → AreAdmitted network octets (events ++ event ∷ []) → HasBefallen network events event befallen (notes ++ more)
     → PutsLines (report_of network notes) old now → PutsOr {T = Unit {0}} (Err status) (report_of network more) now new
-    → GivesOne (IsTraceAnswer network octets) status old new
-cut_given network octets events notes more status old now new built all run puts (inl f) =
-    failed_so_far network octets events (notes ++ more) status old new built all (so_far_of_silent network octets events (notes ++ more) built all run) f.0
+    → GivesOne (IsRunAnswer octets network) status old new
+cut_given network octets events befallen event notes more status old now new all (inl way) puts (inl f) =
+    failed_on_way network octets events event (notes ++ more) status old new all way.1 f.0 (stops_report network notes more old now new puts f.1)
+cut_given network octets events befallen event notes more status old now new all (inl way) puts (inr m) =
+    cut_on_way network octets events event (notes ++ more) status old new all way.1 (inr m.0) (puts_report network notes more old now new puts m.1)
+cut_given network octets events befallen event notes more status old now new all (inr own) puts (inl f) =
+    failed_so_far network octets befallen (notes ++ more) status old new (subst (AreAdmitted network octets) (sym own.0) all) own.1 f.0
     (stops_report network notes more old now new puts f.1)
-cut_given network octets events notes more status old now new built all run puts (inr m) =
-    cut_so_far network octets events (notes ++ more) status old new built all (so_far_of_silent network octets events (notes ++ more) built all run) (inr m.0)
+cut_given network octets events befallen event notes more status old now new all (inr own) puts (inr m) =
+    cut_so_far network octets befallen (notes ++ more) status old new (subst (AreAdmitted network octets) (sym own.0) all) own.1 (inr m.0)
     (puts_report network notes more old now new puts m.1)
 
 -- no read failed where a put failed, memory ran out, or the trace was refused
@@ -68,7 +72,6 @@ fault_no_read TooMany status (inl e) is = cc
 fault_no_read After status (inl e) is = cc
 fault_no_read Long status (inl e) is = cc
 fault_no_read (Line refusal) status (inl e) is = cc
-fault_no_read Early status (inl e) is = cc
 fault_no_read (Outlaw outside) status (inl e) is = cc
 
 fault_write : {X : Type 0} (fault : TraceFault) (status : Status) → IsStatusOf fault status X → status ≡ WriteFault → X
@@ -78,7 +81,6 @@ fault_write TooMany status (inl e) is = absurd cc
 fault_write After status (inl e) is = absurd cc
 fault_write Long status (inl e) is = absurd cc
 fault_write (Line refusal) status (inl e) is = absurd cc
-fault_write Early status (inl e) is = absurd cc
 fault_write (Outlaw outside) status (inl e) is = absurd cc
 
 -- what is answered about a fault has a cause where writing failed
@@ -96,34 +98,26 @@ rest_no_read network events notes more end status old new (inr c) is = no_read s
 -- ---- at an event
 
 pub ends_at_event : {network : Network} {first left after : Option (List ℕ)} {old now new : Shown} {run : Running} {event : Event} (trace : Trace)
-    {world : Progress Segment} {status : Status}
+    {world : ExactWorld} {status : Status}
     → (r : IsRunning network first left old now run) → ReadsFrom first after network (r.events ++ event ∷ []) trace
     → PutsEvent {T = Unit {0}} network r.events r.notes event world (Err status) now new → Little network first after old new
-    → RunEnds (IsTraceAnswer network) network first after status old new
-ends_at_event {network} {first} {old} {now} {new} trace {status} r reads p little = record {
-  general = for_told first (λ octets. GivesOne (IsTraceAnswer network octets) status old new)
-      (λ octets told. cut_given network octets p.befallen r.notes p.more status old now new r.stands.built (admitted octets told) p.so_far r.puts p.puts);
+    → RunEnds (λ trace. IsRunAnswer trace network) network first after status old new
+ends_at_event {network} {first} {old} {now} {new} {event} trace {status} r reads p little = record {
+  general = for_told first (λ octets. GivesOne (IsRunAnswer octets network) status old new)
+      (λ octets told. cut_given network octets r.events p.befallen event r.notes p.more status old now new (reads octets told).2.admitted p.whether r.puts p.puts);
   cut = λ is. absurd (no_read status p.puts is);
   little = little;
 }
-  where
-    admitted : (octets : List ℕ) → first ≡ Some octets → AreAdmitted network octets p.befallen
-    admitted octets told =
-        elim p.whether [
-          | inl same ↦ subst (λ (es : List Event). AreAdmitted network octets es) (sym same) (r.reads octets told).2.admitted
-          | inr more ↦ subst (λ (es : List Event). AreAdmitted network octets es) (sym more) (reads octets told).2.admitted
-        ]
 
 -- ---- where a read fails
 
 pub ends_at_read : {network : Network} {first left after : Option (List ℕ)} {old now : Shown} {run : Running} → IsRunning network first left old now run
     → IsPassedOn now → ForTrace first after (λ octets rest. StopsBehindLines network octets rest old now) → Little network first after old now
-    → RunEnds (IsTraceAnswer network) network first after ReadFault old now
+    → RunEnds (λ trace. IsRunAnswer trace network) network first after ReadFault old now
 ends_at_read {network} {first} {old} {now} r passed behind little = record {
-  general = for_told first (λ octets. GivesOne (IsTraceAnswer network octets) ReadFault old now) (λ octets told.
+  general = for_told first (λ octets. GivesOne (IsRunAnswer octets network) ReadFault old now) (λ octets told.
       let all = (r.reads octets told).2.admitted in
-      cut_so_far network octets r.events r.notes ReadFault old now r.stands.built all
-      (so_far_of_silent network octets r.events r.notes r.stands.built all r.stands.so_far) (inl refl) r.puts);
+      cut_so_far network octets r.events r.notes ReadFault old now all r.stands.so_far (inl refl) r.puts);
   cut = λ is. (passed, behind);
   little = little;
 }
@@ -131,12 +125,11 @@ ends_at_read {network} {first} {old} {now} r passed behind little = record {
 -- ---- where passing on fails before a read
 
 pub ends_unpassed : {network : Network} {first left after : Option (List ℕ)} {old now : Shown} {run : Running} → IsRunning network first left old now run
-    → Little network first after old now → RunEnds (IsTraceAnswer network) network first after WriteFault old now
+    → Little network first after old now → RunEnds (λ trace. IsRunAnswer trace network) network first after WriteFault old now
 ends_unpassed {network} {first} {old} {now} r little = record {
-  general = for_told first (λ octets. GivesOne (IsTraceAnswer network octets) WriteFault old now) (λ octets told.
+  general = for_told first (λ octets. GivesOne (IsRunAnswer octets network) WriteFault old now) (λ octets told.
       let all = (r.reads octets told).2.admitted in
-      failed_so_far network octets r.events r.notes WriteFault old now r.stands.built all
-      (so_far_of_silent network octets r.events r.notes r.stands.built all r.stands.so_far) refl (inr r.puts));
+      failed_so_far network octets r.events r.notes WriteFault old now all r.stands.so_far refl (inr r.puts));
   cut = λ is. absurd (no_read {X = Unit {0}} {Y = Unit {0}} WriteFault (inl (refl, tt)) is);
   little = little;
 }
@@ -148,12 +141,12 @@ pub ends_at_fault : {network : Network} {first left after : Option (List ℕ)} {
     → (r : IsRunning network first left old now run) → ((octets : List ℕ) → first ≡ Some octets
     → IsFault network r.events (behind_lines (length r.events) octets) fault) → line ≡ length r.events + 1
     → Gives (fault_answer line fault) status now new → (status ≡ fault_status fault) ⊎ ((status ≡ WriteFault) × PutFailed) → Little network first after old new
-    → RunEnds (IsTraceAnswer network) network first after status old new
+    → RunEnds (λ trace. IsRunAnswer trace network) network first after status old new
 ends_at_fault {network} {first} {old} {now} {new} {status} fault line r is count g which little = record {
-  general = for_told first (λ octets. GivesOne (IsTraceAnswer network octets) status old new) (λ octets told.
+  general = for_told first (λ octets. GivesOne (IsRunAnswer octets network) status old new) (λ octets told.
       let all = (r.reads octets told).2.admitted in
       faulty_given network octets r.events r.notes fault status old now new (record { admitted = all; is = is octets told })
-      (so_far_of_silent network octets r.events r.notes r.stands.built all r.stands.so_far) r.puts
+      r.stands.so_far r.puts
       (subst (λ (n : ℕ). Gives (fault_answer n fault) status now new) count g));
   cut = λ read. absurd (fault_no_read fault status which read);
   little = little;
@@ -161,35 +154,47 @@ ends_at_fault {network} {first} {old} {now} {new} {status} fault line r is count
 
 -- ---- at the end
 
+-- records that are earlier than the time behind the end are those up to a mark that is not behind it
+earlier_run : (network : Network) (events : List Event) (notes more : List Note) (end : Units) → end ≡ last_time events → pos 0 ≤ℤ end.0
+    → AreRecordsSoFar network events notes → AreEarlier network events notes more (record { 0 = end.0 +ℤ pos 1 })
+    → (mark : List ℕ) × IsUpToEnd events mark × AreRecordsBefore network events mark (notes ++ more)
+earlier_run network events notes more end last begun so_far (inl none) = (
+  behind_events (amount (last_time events)),
+  λ p b. before_next_time p (amount (last_time events)) (2 ∷ []) b,
+  subst (AreRecordsSoFar network events) (sym (append-nil notes) ∙ ap (λ (l : List Note). notes ++ l) (sym none)) so_far,
+)
+earlier_run network events notes more end last begun so_far (inr run) = (
+  run.0,
+  λ p b. subst (λ (n : ℕ). IsBefore p (n ∷ [])) (next_amount end.0 begun ∙ ap (λ (t : Units). amount t + 1) last) (run.1 p b),
+  run.2,
+)
+
 -- the records up to the end were put, or some of them
-rest_given : (network : Network) (octets : List ℕ) (events : List Event) (notes : List Note) (time : Units) (world : Progress Segment) (status : Status)
-    (old now new : Shown) → IsBuilt network → IsAllAdmitted network octets events → time ≡ last_time events
+rest_given : (network : Network) (octets : List ℕ) (events : List Event) (notes : List Note) (time : Units) (world : ExactWorld) (status : Status)
+    (old now new : Shown) → IsAllAdmitted network octets events → time ≡ last_time events → pos 0 ≤ℤ time.0 → AreRecordsSoFar network events notes
     → PutsLines (report_of network notes) old now → (p : PutsRest network events notes time world status now new)
-    → PutsOrRest network events notes p.more time status now new → GivesOne (IsTraceAnswer network octets) status old new
-rest_given network octets events notes time world status old now new built all last puts p (inl d) =
-    let silent = subst (λ (t : Units). AreSilentBefore network events ((amount t + 1) ∷ []) (notes ++ p.more)) last d.3 in
-    let run = records_of_silent network octets events ((amount (last_time events) + 1) ∷ []) (notes ++ p.more) built all.admitted (λ q before. before) silent in
+    → PutsOrRest network events notes p.more time status now new → GivesOne (IsRunAnswer octets network) status old new
+rest_given network octets events notes time world status old now new all last begun so_far puts p (inl d) =
+    let run = subst (λ (t : Units). AreRecordsBefore network events ((amount t + 1) ∷ []) (notes ++ p.more)) last d.3 in
     whole_given network octets events (notes ++ p.more) status old new all (all_records events network octets (notes ++ p.more) all run) d.0
     (puts_report network notes p.more old now new puts d.1) d.2
-rest_given network octets events notes time world status old now new built all last puts p (inr (inl f)) =
-    let up = mark_within network world events (notes ++ p.more) p.stands in
-    let run = records_of_silent network octets events (mark_of world) (notes ++ p.more) built all.admitted up p.stands.run in
-    failed_ended network octets events (mark_of world) (notes ++ p.more) status old new all up run f.0 (stops_report network notes p.more old now new puts f.1)
-rest_given network octets events notes time world status old now new built all last puts p (inr (inr m)) =
-    let up = mark_within network world events (notes ++ p.more) p.stands in
-    let run = records_of_silent network octets events (mark_of world) (notes ++ p.more) built all.admitted up p.stands.run in
-    cut_ended network octets events (mark_of world) (notes ++ p.more) status old new all up run (inr m.0)
-    (puts_report network notes p.more old now new puts m.1)
+rest_given network octets events notes time world status old now new all last begun so_far puts p (inr (inl f)) =
+    let r = earlier_run network events notes p.more time last begun so_far p.earlier in
+    failed_ended network octets events r.0 (notes ++ p.more) status old new all r.1 r.2 f.0 (stops_report network notes p.more old now new puts f.1)
+rest_given network octets events notes time world status old now new all last begun so_far puts p (inr (inr m)) =
+    let r = earlier_run network events notes p.more time last begun so_far p.earlier in
+    cut_ended network octets events r.0 (notes ++ p.more) status old new all r.1 r.2 (inr m.0) (puts_report network notes p.more old now new puts m.1)
 
-pub ends_at_end : {network : Network} {first left after : Option (List ℕ)} {old now new : Shown} {run : Running} {world : Progress Segment} {status : Status}
+pub ends_at_end : {network : Network} {first left after : Option (List ℕ)} {old now new : Shown} {run : Running} {world : ExactWorld} {status : Status}
     → (r : IsRunning network first left old now run) → ((octets : List ℕ) → first ≡ Some octets
     → (behind_lines (length r.events) octets ≡ []) × HaveEnded r.events)
     → PutsRest network r.events r.notes run.time world status now new → Little network first after old new
-    → RunEnds (IsTraceAnswer network) network first after status old new
+    → RunEnds (λ trace. IsRunAnswer trace network) network first after status old new
 ends_at_end {network} {first} {old} {now} {new} {run} {world} {status} r ended p little = record {
-  general = for_told first (λ octets. GivesOne (IsTraceAnswer network octets) status old new) (λ octets told.
-      rest_given network octets r.events r.notes run.time world status old now new r.stands.built
-      (record { admitted = (r.reads octets told).2.admitted; ended = (ended octets told).1; none_left = (ended octets told).0 }) r.stands.last r.puts p p.puts);
+  general = for_told first (λ octets. GivesOne (IsRunAnswer octets network) status old new) (λ octets told.
+      rest_given network octets r.events r.notes run.time world status old now new
+      (record { admitted = (r.reads octets told).2.admitted; ended = (ended octets told).1; none_left = (ended octets told).0 }) r.stands.last
+      r.stands.range.least r.stands.so_far r.puts p p.puts);
   cut = λ is. absurd (rest_no_read network r.events r.notes p.more run.time status now new p.puts is);
   little = little;
 }

@@ -9,9 +9,9 @@ use Rattle.trace_text.specs.EventReading.{event_read}
 use Rattle.trace_text.specs.Steps.{Read}
 use Rattle.trace_text.specs.declared.refusal.LineRefusal.{LineRefusal}
 use Rattle.tte_io.specs.Line.{first_line}
-use Rattle.tte_run.specs.traces.Lines.{HaveEnded, IsAdmitted, IsEarly, IsFault}
+use Rattle.tte_run.specs.traces.Lines.{HaveEnded, IsAdmitted, IsFault}
 use Rattle.tte_run.specs.declared.trace.fault.TraceFault.{TraceFault}
-use Rattle.tte_run.specs.declared.trace.fault.TraceFault.TheVariants.{Missing, TooMany, After, Long, Line, Early, Event as Outlaw}
+use Rattle.tte_run.specs.declared.trace.fault.TraceFault.TheVariants.{Missing, TooMany, After, Long, Line, Event as Outlaw}
 
 -- one reading
 pub one_event : (r : Read Event) (d e : Event) → r ≡ Ok d → r ≡ Ok e → d ≡ e
@@ -30,16 +30,14 @@ question TooMany = 1
 question After = 2
 question Long = 3
 question (Line refusal) = 4
-question Early = 5
-question (Outlaw outside) = 6
+question (Outlaw outside) = 5
 
-last_question : (f : TraceFault) → question f ≤ 6
+last_question : (f : TraceFault) → question f ≤ 5
 last_question Missing = omega arith
 last_question TooMany = omega arith
 last_question After = omega arith
 last_question Long = omega arith
 last_question (Line refusal) = omega arith
-last_question Early = omega arith
 last_question (Outlaw outside) = omega arith
 
 -- no later question is asked where a fault stands
@@ -49,25 +47,17 @@ no_later network before rest Missing TooMany lt p q = q.0 p.0
 no_later network before rest Missing After lt p q = q.0 p.0
 no_later network before rest Missing Long lt p q = q.0.some p.0
 no_later network before rest Missing (Line s) lt p q = q.0.some p.0
-no_later network before rest Missing Early lt p q = q.0.some p.0
 no_later network before rest Missing (Outlaw o) lt p q = q.1.is_open.some p.0
 no_later network before rest TooMany After lt p q = omega (arith, p.1, q.1)
 no_later network before rest TooMany Long lt p q = omega (arith, p.1, q.0.number)
 no_later network before rest TooMany (Line s) lt p q = omega (arith, p.1, q.0.number)
-no_later network before rest TooMany Early lt p q = omega (arith, p.1, q.0.number)
 no_later network before rest TooMany (Outlaw o) lt p q = omega (arith, p.1, q.1.is_open.number)
 no_later network before rest After Long lt p q = q.0.unended p.2
 no_later network before rest After (Line s) lt p q = q.0.unended p.2
-no_later network before rest After Early lt p q = q.0.unended p.2
 no_later network before rest After (Outlaw o) lt p q = q.1.is_open.unended p.2
 no_later network before rest Long (Line s) lt p q = omega (arith, p.1, q.1)
-no_later network before rest Long Early lt p q = omega (arith, p.1, q.1)
 no_later network before rest Long (Outlaw o) lt p q = omega (arith, p.1, q.1.short)
-no_later network before rest (Line r) Early lt p q = no_both (event_read network (first_line rest)) r q.2.0 p.2 q.2.1
 no_later network before rest (Line r) (Outlaw o) lt p q = no_both (event_read network (first_line rest)) r q.0 p.2 q.1.read
-no_later network before rest Early (Outlaw o) lt p q =
-    let same = one_event (event_read network (first_line rest)) p.2.0 q.0 p.2.1 q.1.read in
-    q.1.timely (subst (IsEarly network) same p.2.2)
 no_later network before rest f g lt p q = absurd (omega (arith, lt, last_question g))
 
 -- faults that answer one question are one
@@ -78,7 +68,6 @@ one_answer network before rest TooMany TooMany same p q = refl
 one_answer network before rest After After same p q = refl
 one_answer network before rest Long Long same p q = refl
 one_answer network before rest (Line r) (Line s) same p q = ap Line (one_refusal (event_read network (first_line rest)) r s p.2 q.2)
-one_answer network before rest Early Early same p q = refl
 one_answer network before rest (Outlaw o) (Outlaw u) same p q =
     let event = one_event (event_read network (first_line rest)) q.0 p.0 q.1.read p.1.read in
     ap Outlaw ((hypothesis_is_decided network before p.0).one o u p.2 (subst (λ (e : Event). IsOutsideBy network before e u) event q.2))
@@ -101,9 +90,6 @@ fault_stops network before rest TooMany event p a = omega (arith, p.1, a.has.is_
 fault_stops network before rest After event p a = a.has.is_open.unended p.2
 fault_stops network before rest Long event p a = omega (arith, p.1, a.has.short)
 fault_stops network before rest (Line refusal) event p a = no_both (event_read network (first_line rest)) refusal event p.2 a.has.read
-fault_stops network before rest Early event p a =
-    let same = one_event (event_read network (first_line rest)) p.2.0 event p.2.1 a.has.read in
-    a.has.timely (subst (IsEarly network) same p.2.2)
 fault_stops network before rest (Outlaw outside) event p a =
     let same = one_event (event_read network (first_line rest)) event p.0 a.has.read p.1.read in
     (hypothesis_is_decided network before p.0).not_both outside (subst (λ (e : Event). IsWithinHypothesis network before e) same a.within) p.2
@@ -116,5 +102,4 @@ end_has_no_fault network before rest TooMany none ended p = p.0 none
 end_has_no_fault network before rest After none ended p = p.0 none
 end_has_no_fault network before rest Long none ended p = p.0.some none
 end_has_no_fault network before rest (Line refusal) none ended p = p.0.some none
-end_has_no_fault network before rest Early none ended p = p.0.some none
 end_has_no_fault network before rest (Outlaw outside) none ended p = p.1.is_open.some none

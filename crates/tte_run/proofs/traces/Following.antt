@@ -136,7 +136,6 @@ goes_on network events rest (Some event) trace j of_network range = record {
   unended = j.0.has.is_open.unended;
   of_network = of_network;
   range = range;
-  timely = j.0.has.timely;
   within = j.0.within;
   follows = j.1;
 }

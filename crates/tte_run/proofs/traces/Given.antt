@@ -2,33 +2,33 @@
 --
 --     a read fails, or memory runs out before the end       cut_so_far
 --     writing up to an event's record fails                  failed_so_far
+--     either, on the way to the next event                   cut_on_way, failed_on_way
 --     the trace has a fault                                  faulty_given
 --     memory runs out behind the end                         cut_ended
 --     writing behind the end fails                           failed_ended
 --     all records were put                                   whole_given
---
--- Then built_given makes it the answer of `run`, and early_given where the run is not built yet.
-use Rattle.std.proofs.Common.{◌≡◌, ◌⊎◌, ℕ, ◌+◌, List, ◌∷◌, ◌++◌, length, refl, sym, ap, subst, ◌∙◌, inl, inr, append_assoc}
-use Rattle.std.specs.Prelude.{codes}
+use Rattle.std.proofs.Common.{◌≡◌, ◌⊎◌, ℕ, ◌+◌, List, [], ◌∷◌, ◌++◌, length, refl, sym, ap, subst, ◌∙◌, inl, inr, append_assoc}
 use Rattle.std.proofs.lemmas.List.{map-append}
 use Rattle.net_plan.specs.declared.event.Event.{Event}
 use Rattle.net_plan.specs.declared.network.Network.{Network}
 use Rattle.report_text.specs.NoteLine.{note_line, report_of}
 use Rattle.run_law.specs.declared.note.Note.{Note}
-use Rattle.tte_run.specs.networks.Accepting.{refused_answer}
+use Rattle.run_law.specs.records.Order.{IsBefore}
 use Rattle.tte_run.specs.Answering.{Answer, Gives, GivesOne}
 use Rattle.tte_run.specs.Putting.{Shown, IsPassedOn, PutsLines, PutFails, StopsWriting}
-use Rattle.tte_run.specs.traces.Answer.{AreAllRecords, AreRecordsBefore, AreRecordsSoFar, IsBuilt, IsRunAnswer, IsTraceAnswer, IsUnbuilt}
+use Rattle.tte_run.specs.traces.Answer.{AreAllRecords, AreRecordsBefore, AreRecordsSoFar, IsRunAnswer}
 use Rattle.tte_run.specs.traces.FaultLine.{fault_lines, fault_status}
 use Rattle.tte_run.specs.traces.Lines.{AreAdmitted}
+use Rattle.tte_run.specs.traces.Records.{IsOnTheWay}
 use Rattle.tte_run.specs.declared.trace.fault.TraceFault.{TraceFault}
 use Rattle.tte_run.specs.declared.status.Status.{Status}
 use Rattle.tte_run.specs.declared.status.Status.TheVariants.{Done, ReadFault, WriteFault, OutOfMemory}
 use Rattle.tte_run.proofs.frames.Frames.{Gives-behind}
-use Rattle.tte_run.proofs.OneAnswers.{one_given, widened}
+use Rattle.tte_run.proofs.OneAnswers.{one_given}
 use Rattle.tte_run.proofs.Puts.{PutsLines-append, PutFails-behind}
-use Rattle.tte_run.proofs.traces.SilentRuns.{IsUpToEnd}
-use Rattle.tte_run.proofs.traces.Answers.{BeginWith, IsAllAdmitted, IsFaultBehind, all_is_whole, answer_begins, ended_begins, faulty_answer, faulty_is}
+use Rattle.tte_units.specs.Amount.{amount}
+use Rattle.whole_world.specs.Running.{last_time}
+use Rattle.tte_run.proofs.traces.Answers.{BeginWith, IsAllAdmitted, IsFaultBehind, all_is_whole, answer_begins, ended_begins, faulty_answer, faulty_is, next_begins}
 
 -- ---- records put one after another
 
@@ -87,43 +87,65 @@ front_failed Is lines status old new begins cause (inr puts) =
 -- ---- while events are admitted
 
 -- the records so far were put, and then a read failed or memory ran out
-pub cut_so_far : (network : Network) (octets : List ℕ) (events : List Event) (notes : List Note) (status : Status) (old new : Shown) → IsBuilt network
+pub cut_so_far : (network : Network) (octets : List ℕ) (events : List Event) (notes : List Note) (status : Status) (old new : Shown)
     → AreAdmitted network octets events → AreRecordsSoFar network events notes
-    → (status ≡ ReadFault) ⊎ (status ≡ OutOfMemory) → PutsLines (report_of network notes) old new → GivesOne (IsTraceAnswer network octets) status old new
-cut_so_far network octets events notes status old new built all run cause puts =
-    front_given (IsTraceAnswer network octets) (report_of network notes) status old new
-    (λ a is. answer_begins network octets events notes a built all run is) cause puts
+    → (status ≡ ReadFault) ⊎ (status ≡ OutOfMemory) → PutsLines (report_of network notes) old new → GivesOne (IsRunAnswer octets network) status old new
+cut_so_far network octets events notes status old new all run cause puts =
+    front_given (IsRunAnswer octets network) (report_of network notes) status old new
+    (λ a is. answer_begins network octets events notes a all run is) cause puts
 
 -- writing the records so far failed
-pub failed_so_far : (network : Network) (octets : List ℕ) (events : List Event) (notes : List Note) (status : Status) (old new : Shown) → IsBuilt network
+pub failed_so_far : (network : Network) (octets : List ℕ) (events : List Event) (notes : List Note) (status : Status) (old new : Shown)
     → AreAdmitted network octets events → AreRecordsSoFar network events notes
-    → status ≡ WriteFault → StopsWriting (report_of network notes) old new → GivesOne (IsTraceAnswer network octets) status old new
-failed_so_far network octets events notes status old new built all run cause fails =
-    front_failed (IsTraceAnswer network octets) (report_of network notes) status old new
-    (λ a is. answer_begins network octets events notes a built all run is) cause fails
+    → status ≡ WriteFault → StopsWriting (report_of network notes) old new → GivesOne (IsRunAnswer octets network) status old new
+failed_so_far network octets events notes status old new all run cause fails =
+    front_failed (IsRunAnswer octets network) (report_of network notes) status old new
+    (λ a is. answer_begins network octets events notes a all run is) cause fails
+
+-- ---- on the way to the next event, which is admitted
+
+-- records up to its place were put, and then a read failed or memory ran out
+pub cut_on_way : (network : Network) (octets : List ℕ) (events : List Event) (event : Event) (notes : List Note) (status : Status) (old new : Shown)
+    → AreAdmitted network octets (events ++ event ∷ []) → IsOnTheWay network events event notes
+    → (status ≡ ReadFault) ⊎ (status ≡ OutOfMemory) → PutsLines (report_of network notes) old new → GivesOne (IsRunAnswer octets network) status old new
+cut_on_way network octets events event notes status old new all way cause puts =
+    front_given (IsRunAnswer octets network) (report_of network notes) status old new
+    (λ a is. next_begins network octets events event way.mark notes a all way.sooner way.run is) cause puts
+
+-- writing them failed
+pub failed_on_way : (network : Network) (octets : List ℕ) (events : List Event) (event : Event) (notes : List Note) (status : Status) (old new : Shown)
+    → AreAdmitted network octets (events ++ event ∷ []) → IsOnTheWay network events event notes
+    → status ≡ WriteFault → StopsWriting (report_of network notes) old new → GivesOne (IsRunAnswer octets network) status old new
+failed_on_way network octets events event notes status old new all way cause fails =
+    front_failed (IsRunAnswer octets network) (report_of network notes) status old new
+    (λ a is. next_begins network octets events event way.mark notes a all way.sooner way.run is) cause fails
 
 -- ---- behind the end
+
+-- what is before the mark is up to the time of the last event
+abbrev pub IsUpToEnd : List Event → List ℕ → Type 0
+IsUpToEnd events mark = (p : List ℕ) → IsBefore p mark → IsBefore p ((amount (last_time events) + 1) ∷ [])
 
 -- records up to the end were put, and then memory ran out
 pub cut_ended : (network : Network) (octets : List ℕ) (events : List Event) (mark : List ℕ) (notes : List Note) (status : Status) (old new : Shown)
     → IsAllAdmitted network octets events → IsUpToEnd events mark → AreRecordsBefore network events mark notes
-    → (status ≡ ReadFault) ⊎ (status ≡ OutOfMemory) → PutsLines (report_of network notes) old new → GivesOne (IsTraceAnswer network octets) status old new
+    → (status ≡ ReadFault) ⊎ (status ≡ OutOfMemory) → PutsLines (report_of network notes) old new → GivesOne (IsRunAnswer octets network) status old new
 cut_ended network octets events mark notes status old new all up run cause puts =
-    front_given (IsTraceAnswer network octets) (report_of network notes) status old new
+    front_given (IsRunAnswer octets network) (report_of network notes) status old new
     (λ a is. ended_begins network octets events mark notes a all up run is) cause puts
 
 -- writing them failed
 pub failed_ended : (network : Network) (octets : List ℕ) (events : List Event) (mark : List ℕ) (notes : List Note) (status : Status) (old new : Shown)
     → IsAllAdmitted network octets events → IsUpToEnd events mark → AreRecordsBefore network events mark notes
-    → status ≡ WriteFault → StopsWriting (report_of network notes) old new → GivesOne (IsTraceAnswer network octets) status old new
+    → status ≡ WriteFault → StopsWriting (report_of network notes) old new → GivesOne (IsRunAnswer octets network) status old new
 failed_ended network octets events mark notes status old new all up run cause fails =
-    front_failed (IsTraceAnswer network octets) (report_of network notes) status old new
+    front_failed (IsRunAnswer octets network) (report_of network notes) status old new
     (λ a is. ended_begins network octets events mark notes a all up run is) cause fails
 
 -- all records were put and passed on
 pub whole_given : (network : Network) (octets : List ℕ) (events : List Event) (notes : List Note) (status : Status) (old new : Shown)
     → IsAllAdmitted network octets events → AreAllRecords network events notes
-    → status ≡ Done → PutsLines (report_of network notes) old new → IsPassedOn new → GivesOne (IsTraceAnswer network octets) status old new
+    → status ≡ Done → PutsLines (report_of network notes) old new → IsPassedOn new → GivesOne (IsRunAnswer octets network) status old new
 whole_given network octets events notes status old new all records done puts passed =
     let a : Answer = record { status = Done; lines = report_of network notes } in
     inl (
@@ -145,39 +167,16 @@ whole_given network octets events notes status old new all records done puts pas
 pub faulty_given : (network : Network) (octets : List ℕ) (events : List Event) (notes : List Note) (fault : TraceFault) (status : Status) (old now new : Shown)
     → IsFaultBehind network octets events fault → AreRecordsSoFar network events notes
     → PutsLines (report_of network notes) old now → Gives (record { status = fault_status fault; lines = fault_lines (length events + 1) fault }) status now new
-    → GivesOne (IsTraceAnswer network octets) status old new
+    → GivesOne (IsRunAnswer octets network) status old new
 faulty_given network octets events notes fault status old now new b run puts g =
-    let is : IsTraceAnswer network octets (faulty_answer network events notes fault) =
+    let is : IsRunAnswer octets network (faulty_answer network events notes fault) =
     record { events = events; admitted = b.admitted; is = inr (record { fault = fault; is = b.is; notes = notes; records = run; answer = refl }) } in
-    one_given (IsTraceAnswer network octets) (faulty_answer network events notes fault) status old new is
+    one_given (IsRunAnswer octets network) (faulty_answer network events notes fault) status old new is
     (λ a i. faulty_is network octets events notes fault a b run i)
     (Gives-behind (report_of network notes) (record { status = fault_status fault; lines = fault_lines (length events + 1) fault }) status old now new puts g)
 
--- ---- for an accepted network
-
-early_alone : (octets : List ℕ) (network : Network) → IsUnbuilt network → (a : Answer) → IsRunAnswer octets network a → a ≡ refused_answer (codes "early")
-early_alone octets network unbuilt a (inl h) = h.1
-early_alone octets network unbuilt a (inr h) = absurd (h.0 unbuilt)
-
-built_alone : (octets : List ℕ) (network : Network) → (IsUnbuilt network → ⊥) → (a : Answer) → IsRunAnswer octets network a → IsTraceAnswer network octets a
-built_alone octets network built a (inl h) = absurd (built h.0)
-built_alone octets network built a (inr h) = h.1
-
--- its run is not built yet
-pub early_given : (octets : List ℕ) (network : Network) (status : Status) (old new : Shown) → IsUnbuilt network
-    → Gives (refused_answer (codes "early")) status old new → GivesOne (IsRunAnswer octets network) status old new
-early_given octets network status old new unbuilt g =
-    one_given (IsRunAnswer octets network) (refused_answer (codes "early")) status old new (inl (unbuilt, refl)) (early_alone octets network unbuilt) g
-
--- it is
-pub built_given : (octets : List ℕ) (network : Network) (status : Status) (old new : Shown) → (IsUnbuilt network → ⊥)
-    → GivesOne (IsTraceAnswer network octets) status old new → GivesOne (IsRunAnswer octets network) status old new
-built_given octets network status old new built g =
-    widened (IsTraceAnswer network octets) (IsRunAnswer octets network) status old new (λ a is. inr (built, is)) (built_alone octets network built) g
-
 -- ---- a trace that is admitted to its end is answered to its end
 
-pub all_done : (octets : List ℕ) (network : Network) (events : List Event) (a : Answer) → (IsUnbuilt network → ⊥) → IsAllAdmitted network octets events
+pub all_done : (octets : List ℕ) (network : Network) (events : List Event) (a : Answer) → IsAllAdmitted network octets events
     → IsRunAnswer octets network a → a.status ≡ Done
-all_done octets network events a built all is =
-    let w = all_is_whole network octets events a all (built_alone octets network built a is) in ap (λ (b : Answer). b.status) w.answer
+all_done octets network events a all is = let w = all_is_whole network octets events a all is in ap (λ (b : Answer). b.status) w.answer

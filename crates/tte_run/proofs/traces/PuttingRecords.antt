@@ -1,70 +1,50 @@
 -- Records put one after another.
-use Rattle.std.proofs.Common.{◌≡◌, ◌+◌, ◌<ℤ◌, ◌≤ℤ◌, ◌+ℤ◌, ℤ, pos, negsuc, unsigned_abs, arith, ℕ, List, [], ◌∷◌, ◌++◌, Option, Some, None, Ok, Err, inl, inr, refl, sym, ap, ◌∙◌, subst, append_assoc}
-use Rattle.std.specs.Prelude.{IfSome, IfNone}
+use Rattle.std.proofs.Common.{◌≡◌, ◌⊎◌, true, ◌+◌, ◌<ℤ◌, ◌≤ℤ◌, ◌+ℤ◌, ℤ, pos, negsuc, unsigned_abs, arith, ℕ, List, [], ◌∷◌, ◌++◌, Option, Some, None, Ok, Err, inl, inr, refl, sym, ap, ◌∙◌, subst, append_assoc}
+use Rattle.std.specs.Prelude.{IfSome, IfNone, option_to_list}
 use Rattle.std.specs.Io.KnownBytes.{Appends}
 use Rattle.std.proofs.lemmas.Int.{ints}
 use Rattle.std.proofs.lemmas.List.{append-nil, map-append}
-use Rattle.std.proofs.lemmas.Option.{slice_get_within}
-use Rattle.drift_clock.specs.Segment.{Segment}
-use Rattle.drift_world.specs.Progress.{Progress}
 use Rattle.net_plan.specs.declared.event.Event.{Event}
-use Rattle.net_plan.specs.declared.event.What.{What}
-use Rattle.net_plan.specs.declared.ids.DeviceId.{DeviceId}
 use Rattle.net_plan.specs.declared.network.Network.{Network}
 use Rattle.report_text.specs.NoteLine.{note_line, report_of}
-use Rattle.report_text.specs.Ranges.{IsBodyOf, IsNoteOf}
-use Rattle.run_law.specs.law.Silent.{IsSilentlyCaused, IsSilentRunOf}
 use Rattle.run_law.specs.declared.note.Note.{Note}
-use Rattle.run_law.specs.declared.note.NoteBody.{NoteBody}
-use Rattle.run_law.specs.declared.note.NoteBody.TheVariants.{Event as Befalls, Clock}
-use Rattle.schedule_tables.proofs.EntryLemmas.{all_at}
-use Rattle.net_plan.specs.Belonging.{IsOfNetwork}
 use Rattle.tte_io.specs.Faults.{next_count}
 use Rattle.tte_io.specs.Told.{AppendsFront}
-use Rattle.tte_run.specs.traces.Records.{AreSilentBefore, IsUnderway, PutsOr, PutsRest, PutsUntil, StandsExact}
+use Rattle.tte_run.specs.traces.Records.{AreEarlier, ExactWorld, IsUnderway, PutsOr, PutsRest, PutsUntil, StandsExact}
+use Rattle.tte_run.specs.traces.Answer.{AreRecordsBefore}
+use Rattle.tte_run.proofs.traces.Worlds.{below_amount, go_on}
+use Rattle.whole_world.specs.Running.{Reaches}
+use Rattle.run_law.proofs.runs.Places.{before_later_time}
+use Rattle.run_law.specs.records.Order.{IsBefore}
 use Rattle.tte_run.specs.Putting.{Shown, PutsLines, PutFails}
-use Rattle.fault_hypothesis.specs.Watching.{AreOfNetwork}
 use Rattle.tte_run.specs.declared.status.Status.{Status}
 use Rattle.tte_run.specs.declared.status.Status.TheVariants.{Done, WriteFault, OutOfMemory}
 use Rattle.tte_run.proofs.Puts.{PutsLines-none, PutsLines-more, PutsLines-fails, PutsLines-still}
 use Rattle.tte_run.specs.Answering.{Ends}
-use Rattle.tte_units.specs.Amount.{amount}
+use Rattle.tte_units.specs.Amount.{amount, units_of}
 use Rattle.tte_units.specs.declared.units.Units.{Units}
-
--- ---- a record is of the network whose run it is in
-
-body_of : (network : Network) (reading : DeviceId → ℕ → ℕ) (events : List Event) (time : Units) (body : NoteBody) → AreOfNetwork network events
-    → IsSilentlyCaused network reading events time body → IsBodyOf network body
-body_of network reading events time (Befalls line what) all cause =
-    let own : IsOfNetwork network cause.event.what = all_at (λ e. IsOfNetwork network e.what) events cause.before cause.event all cause.is in
-    subst (λ (w : What). IsOfNetwork network w) (sym cause.same) own
-body_of network reading events time (Clock device shown adjustment state) all cause = slice_get_within network.device device.0 cause.is cause.there
-body_of network reading events time other all cause = absurd cause
-
-pub note_of : (network : Network) (reading : DeviceId → ℕ → ℕ) (events : List Event) (mark : List ℕ) (notes : List Note) (note : Note)
-    → AreOfNetwork network events → IsSilentRunOf network reading events mark (notes ++ note ∷ []) → IsNoteOf network note
-note_of network reading events mark notes note all run =
-    let due = run.founded notes [] note refl in
-    body_of network reading events note.time note.body all due.1.cause
 
 -- ---- more records
 
 -- the records behind those of the world were put
-pub record HasPut (network : Network) (events : List Event) (notes : List Note) (world : Progress Segment) (old new : Shown) : Type 0 where
+pub record HasPut (network : Network) (events : List Event) (notes : List Note) (until : Units) (world : ExactWorld)
+    (old new : Shown) : Type 0 where
   pub more : List Note
   pub stands : StandsExact network world events (notes ++ more)
+  pub earlier : AreEarlier network events notes more until
   pub puts : PutsLines (report_of network more) old new
 
-pub HasPut-none : (network : Network) (events : List Event) (notes : List Note) (world : Progress Segment) (s : Shown) → StandsExact network world events notes
-    → HasPut network events notes world s s
-HasPut-none network events notes world s stands = record {
+pub HasPut-none : (network : Network) (events : List Event) (notes : List Note) (until : Units) (world : ExactWorld) (s : Shown)
+    → StandsExact network world events notes → HasPut network events notes until world s s
+HasPut-none network events notes until world s stands = record {
   more = [];
   stands = subst (λ (ns : List Note). StandsExact network world events ns) (sym (append-nil notes)) stands;
+  earlier = inl refl;
   puts = PutsLines-none s;
 }
 
 -- the world that gave one more record
-pub stands_more : (network : Network) (events : List Event) (notes more : List Note) (note : Note) (next : Progress Segment)
+pub stands_more : (network : Network) (events : List Event) (notes more : List Note) (note : Note) (next : ExactWorld)
     → StandsExact network next events ((notes ++ more) ++ note ∷ []) → StandsExact network next events (notes ++ (more ++ note ∷ []))
 stands_more network events notes more note next stands =
     subst (λ (ns : List Note). StandsExact network next events ns) (append_assoc notes more (note ∷ [])) stands
@@ -73,42 +53,56 @@ pub report_more : (network : Network) (more : List Note) (note : Note)
     → report_of network more ++ note_line network note ∷ [] ≡ report_of network (more ++ note ∷ [])
 report_more network more note = sym (map-append (note_line network) more (note ∷ []))
 
-pub HasPut-more : (network : Network) (events : List Event) (notes : List Note) (world next : Progress Segment) (note : Note) (old now new : Shown)
-    → (h : HasPut network events notes world old now)
+-- with it, the records are earlier than a time that the world has not reached
+earlier_more : (network : Network) (events : List Event) (notes more : List Note) (until : Units) (world : ExactWorld) → pos world.now <ℤ until.0
+    → StandsExact network world events (notes ++ more) → AreEarlier network events notes more until
+earlier_more network events notes more until world before stands =
+    let lt = below_amount world.now until.0 before in
+    inr (stands.is.mark, λ p b. before_later_time p (world.now + 1) (amount until) (omega (arith, lt)) (stands.is.not_later p (stands.is.ahead p b)), stands.is.run)
+
+pub HasPut-more : (network : Network) (events : List Event) (notes : List Note) (until : Units) (world next : ExactWorld) (note : Note) (old now new : Shown)
+    → (h : HasPut network events notes until world old now) → pos next.now <ℤ until.0
     → StandsExact network next events ((notes ++ h.more) ++ note ∷ []) → Appends now.written new.written (note_line network note)
-    → new.puts ≡ next_count now.puts → HasPut network events notes next old new
-HasPut-more network events notes world next note old now new h stands written counted = record {
-  more = h.more ++ note ∷ [];
-  stands = stands_more network events notes h.more note next stands;
-  puts =
-      subst (λ (ls : List (List ℕ)). PutsLines ls old new) (report_more network h.more note)
-      (PutsLines-more (report_of network h.more) (note_line network note) old now new h.puts written counted);
-}
+    → new.puts ≡ next_count now.puts → HasPut network events notes until next old new
+HasPut-more network events notes until world next note old now new h before stands written counted =
+    let one = stands_more network events notes h.more note next stands in
+    record {
+      more = h.more ++ note ∷ [];
+      stands = one;
+      earlier = earlier_more network events notes (h.more ++ note ∷ []) until next before one;
+      puts =
+          subst (λ (ls : List (List ℕ)). PutsLines ls old new) (report_more network h.more note)
+          (PutsLines-more (report_of network h.more) (note_line network note) old now new h.puts written counted);
+    }
 
 -- the put of one more record failed
-pub record HasFailed (network : Network) (events : List Event) (notes : List Note) (world : Progress Segment) (old new : Shown) : Type 0 where
+pub record HasFailed (network : Network) (events : List Event) (notes : List Note) (until : Units) (world : ExactWorld) (old new : Shown) : Type 0 where
   pub more : List Note
   pub stands : StandsExact network world events (notes ++ more)
+  pub earlier : AreEarlier network events notes more until
   pub fails : PutFails (report_of network more) old new
 
-pub HasPut-fails : (network : Network) (events : List Event) (notes : List Note) (world next : Progress Segment) (note : Note) (old now new : Shown)
-    → (h : HasPut network events notes world old now)
+pub HasPut-fails : (network : Network) (events : List Event) (notes : List Note) (until : Units) (world next : ExactWorld) (note : Note) (old now new : Shown)
+    → (h : HasPut network events notes until world old now) → pos next.now <ℤ until.0
     → StandsExact network next events ((notes ++ h.more) ++ note ∷ []) → AppendsFront now.written new.written (note_line network note)
-    → new.puts ≡ next_count now.puts → HasFailed network events notes next old new
-HasPut-fails network events notes world next note old now new h stands front counted = record {
-  more = h.more ++ note ∷ [];
-  stands = stands_more network events notes h.more note next stands;
-  fails =
-      subst (λ (ls : List (List ℕ)). PutFails ls old new) (report_more network h.more note)
-      (PutsLines-fails (report_of network h.more) (note_line network note) [] old now new h.puts front counted);
-}
+    → new.puts ≡ next_count now.puts → HasFailed network events notes until next old new
+HasPut-fails network events notes until world next note old now new h before stands front counted =
+    let one = stands_more network events notes h.more note next stands in
+    record {
+      more = h.more ++ note ∷ [];
+      stands = one;
+      earlier = earlier_more network events notes (h.more ++ note ∷ []) until next before one;
+      fails =
+          subst (λ (ls : List (List ℕ)). PutFails ls old new) (report_more network h.more note)
+          (PutsLines-fails (report_of network h.more) (note_line network note) [] old now new h.puts front counted);
+    }
 
 -- the world of which records were put is underway
-pub underway_still : (network : Network) (world next : Progress Segment) (old now : Shown) → (u : IsUnderway network world)
-    → ((events : List Event) (notes : List Note) → StandsExact network world events notes → HasPut network events notes next old now) → IsUnderway network next
-underway_still network world next old now u put =
-    let h = put u.events u.notes u.stands in
-    record { events = u.events; notes = u.notes ++ h.more; of_network = u.of_network; stands = h.stands }
+pub underway_still : (network : Network) (until : Units) (world next : ExactWorld) (old now : Shown) → (u : IsUnderway network world)
+    → ((events : List Event) (notes : List Note) → StandsExact network world events notes → HasPut network events notes until next old now)
+    → IsUnderway network next
+underway_still network until world next old now u put =
+    let h = put u.events u.notes u.stands in record { events = u.events; notes = u.notes ++ h.more; stands = h.stands }
 
 -- what holds of the value of an option, or of none
 pub if_some : {X : Type 0} (o : Option X) (x : X) (P : X → Type 0) → o ≡ Some x → IfSome o P → P x
@@ -117,24 +111,70 @@ if_some {X} o x P e m = let R : Option X → Type 0 = λ p. IfSome p P in subst 
 pub if_none : {X : Type 0} (o : Option X) (P : Type 0) → o ≡ None → IfNone o P → P
 if_none {X} o P e m = let R : Option X → Type 0 = λ p. IfNone p P in subst R e m
 
+-- a record was given
+pub given_some : (network : Network) (events : List Event) (notes : List Note) (world : ExactWorld) (o : Option Note) (note : Note) → o ≡ Some note
+    → StandsExact network world events (notes ++ option_to_list o) → StandsExact network world events (notes ++ note ∷ [])
+given_some network events notes world o note is stands = subst (λ (p : Option Note). StandsExact network world events (notes ++ option_to_list p)) is stands
+
+-- or none was
+pub given_none : (network : Network) (events : List Event) (notes : List Note) (world : ExactWorld) (o : Option Note) → o ≡ None
+    → StandsExact network world events (notes ++ option_to_list o) → StandsExact network world events (notes ++ [])
+given_none network events notes world o is stands = subst (λ (p : Option Note). StandsExact network world events (notes ++ option_to_list p)) is stands
+
+-- it is of a time that is not reached
+pub is_before : (o : Option Note) (note : Note) (now : ℕ) (until : ℤ) → o ≡ Some note
+    → IfSome o (λ n. (n.time ≡ units_of now) × (n.time.0 <ℤ until)) → pos now <ℤ until
+is_before o note now until is before =
+    let at = if_some o note (λ (n : Note). (n.time ≡ units_of now) × (n.time.0 <ℤ until)) is before in
+    subst (λ (t : Units). t.0 <ℤ until) at.0 at.1
+
+-- after the end the time stays
+pub still_ended : (network : Network) (until : Units) (world next : ExactWorld) (events : List Event) (notes others : List Note)
+    → StandsExact network world events notes → StandsExact network next events others → (world.ended ≡ true → until.0 ≤ℤ pos (world.now + 1))
+    → next.ended ≡ true → until.0 ≤ℤ pos (next.now + 1)
+still_ended network until world next events notes others a b was ended =
+    let back = (go_on network world next events notes others a b).ended ended in
+    let le = was back.0 in
+    omega (arith, ints, le, back.1)
+
+-- a time that one of two worlds reached behind the other
+pub reached_by : (network : Network) (until : Units) (from world next : ExactWorld) (events : List Event) (notes others : List Note)
+    → StandsExact network from events notes → StandsExact network world events others → (world ≡ from) ⊎ (pos world.now <ℤ until.0)
+    → Reaches world next until → Reaches from next until
+reached_by network until from world next events notes others a b (inl same) = λ reached. subst (λ (w : ExactWorld). Reaches w next until) same reached
+reached_by network until from world next events notes others a b (inr lt) = λ reached open_ order limit.
+    let r = reached ((go_on network from world events notes others a b).unended open_) (omega (arith, ints, lt)) limit in
+    record { time = r.time; early = λ either. r.early (inl lt) }
+
 -- ---- how it ends
 
-pub HasPut-same : (network : Network) (events : List Event) (notes : List Note) (world next : Progress Segment) (old new : Shown) → next ≡ world
-    → HasPut network events notes world old new → HasPut network events notes next old new
-HasPut-same network events notes world next old new same h = subst (λ (w : Progress Segment). HasPut network events notes w old new) (sym same) h
+-- no more were given
+pub HasPut-still : (network : Network) (events : List Event) (notes : List Note) (until : Units) (world next : ExactWorld) (old new : Shown)
+    → (h : HasPut network events notes until world old new) → StandsExact network next events ((notes ++ h.more) ++ [])
+    → HasPut network events notes until next old new
+HasPut-still network events notes until world next old new h stands = record {
+  more = h.more;
+  stands = subst (λ (ns : List Note). StandsExact network next events ns) (append-nil (notes ++ h.more)) stands;
+  earlier = h.earlier;
+  puts = h.puts;
+}
 
-pub until_all : (network : Network) (events : List Event) (notes : List Note) (until : Units) (world next : Progress Segment) (old new : Shown) → next ≡ world
-    → (h : HasPut network events notes world old new)
-    → (world.now.0 <ℤ until.0 → AreSilentBefore network events (amount until ∷ []) (notes ++ h.more))
-    → PutsUntil {T = Unit {0}} network events notes until next (Ok (tt {0})) old new
-until_all network events notes until world next old new same h all =
-    let here : PutsUntil {T = Unit {0}} network events notes until world (Ok (tt {0})) old new =
-    record { more = h.more; stands = h.stands; puts = h.puts; all = all } in
-    subst (λ (w : Progress Segment). PutsUntil {T = Unit {0}} network events notes until w (Ok (tt {0})) old new) (sym same) here
+pub until_all : (network : Network) (events : List Event) (notes : List Note) (until : Units) (from world next : ExactWorld) (old new : Shown)
+    → (h : HasPut network events notes until world old new) → StandsExact network next events ((notes ++ h.more) ++ [])
+    → (pos from.now <ℤ until.0 → AreRecordsBefore network events (amount until ∷ []) (notes ++ h.more))
+    → PutsUntil {T = Unit {0}} network events notes until from next (Ok (tt {0})) old new
+until_all network events notes until from world next old new h stands all = record {
+  more = h.more;
+  stands = subst (λ (ns : List Note). StandsExact network next events ns) (append-nil (notes ++ h.more)) stands;
+  earlier = h.earlier;
+  puts = h.puts;
+  all = all;
+}
 
-pub until_fails : (network : Network) (events : List Event) (notes : List Note) (until : Units) (world : Progress Segment) (old new : Shown)
-    → HasFailed network events notes world old new → PutsUntil {T = Unit {0}} network events notes until world (Err WriteFault) old new
-until_fails network events notes until world old new h = record { more = h.more; stands = h.stands; puts = inl (refl, inl h.fails); all = tt {0} }
+pub until_fails : (network : Network) (events : List Event) (notes : List Note) (until : Units) (from world : ExactWorld) (old new : Shown)
+    → HasFailed network events notes until world old new → PutsUntil {T = Unit {0}} network events notes until from world (Err WriteFault) old new
+until_fails network events notes until from world old new h =
+    record { more = h.more; stands = h.stands; earlier = h.earlier; puts = inl (refl, inl h.fails); all = tt {0} }
 
 -- memory ran out behind the lines, and all was passed on, or that failed
 pub no_memory : (lines : List (List ℕ)) (status : Status) (old now new : Shown) → PutsLines lines old now → Ends OutOfMemory status now new
@@ -142,19 +182,20 @@ pub no_memory : (lines : List (List ℕ)) (status : Status) (old now new : Shown
 no_memory lines status old now new p (none, inl e) = inr (e.0, PutsLines-still lines old now new p none)
 no_memory lines status old now new p (none, inr e) = inl (e, inr (PutsLines-still lines old now new p none))
 
-pub until_no_memory : (network : Network) (events : List Event) (notes : List Note) (until : Units) (world : Progress Segment) (status : Status)
-    (old now new : Shown) → HasPut network events notes world old now → Ends OutOfMemory status now new
-    → PutsUntil {T = Unit {0}} network events notes until world (Err status) old new
-until_no_memory network events notes until world status old now new h ends = record {
+pub until_no_memory : (network : Network) (events : List Event) (notes : List Note) (until : Units) (from world : ExactWorld) (status : Status)
+    (old now new : Shown) → HasPut network events notes until world old now → Ends OutOfMemory status now new
+    → PutsUntil {T = Unit {0}} network events notes until from world (Err status) old new
+until_no_memory network events notes until from world status old now new h ends = record {
   more = h.more;
   stands = h.stands;
+  earlier = h.earlier;
   puts = no_memory (report_of network h.more) status old now new h.puts ends;
   all = tt {0};
 }
 
 -- ---- up to the end
 
-next_amount : (time : ℤ) → pos 0 ≤ℤ time → unsigned_abs (time +ℤ pos 1) ≡ unsigned_abs time + 1
+pub next_amount : (time : ℤ) → pos 0 ≤ℤ time → unsigned_abs (time +ℤ pos 1) ≡ unsigned_abs time + 1
 next_amount (pos n) begun = refl
 next_amount (negsuc n) begun = absurd (omega (arith, ints))
 
@@ -162,21 +203,32 @@ next_amount (negsuc n) begun = absurd (omega (arith, ints))
 pub amount_after : (time next : Units) → pos 0 ≤ℤ time.0 → next.0 ≡ time.0 +ℤ pos 1 → amount next ≡ amount time + 1
 amount_after time next begun is = ap unsigned_abs is ∙ next_amount time.0 begun
 
-pub rest_done : (network : Network) (events : List Event) (notes : List Note) (end until : Units) (world : Progress Segment) (status : Status)
+-- the time after, as it is
+next_time : (end until : Units) → until.0 ≡ end.0 +ℤ pos 1 → until ≡ record { 0 = end.0 +ℤ pos 1 }
+next_time end until is = ap (λ (z : ℤ). let u : Units = record { 0 = z } in u) is
+
+pub rest_done : (network : Network) (events : List Event) (notes : List Note) (end until : Units) (from world : ExactWorld) (status : Status)
     (old now new : Shown)
-    → PutsUntil {T = Unit {0}} network events notes until world (Ok (tt {0})) old now
-    → pos 0 ≤ℤ end.0 → world.now ≡ end → until.0 ≡ end.0 +ℤ pos 1 → Ends Done status now new → PutsRest network events notes end world status old new
-rest_done network events notes end until world status old now new p begun same after ends =
-    let later : world.now.0 <ℤ until.0 = let now : world.now.0 ≡ end.0 = ap (λ (t : Units). t.0) same in omega (arith, ints, now, after) in
-    let all : AreSilentBefore network events ((amount end + 1) ∷ []) (notes ++ p.more) =
-    subst (λ (n : ℕ). AreSilentBefore network events (n ∷ []) (notes ++ p.more)) (amount_after end until begun after) (p.all later) in
+    → PutsUntil {T = Unit {0}} network events notes until from world (Ok (tt {0})) old now
+    → pos 0 ≤ℤ end.0 → pos from.now ≡ end.0 → until.0 ≡ end.0 +ℤ pos 1 → Ends Done status now new → PutsRest network events notes end world status old new
+rest_done network events notes end until from world status old now new p begun same after ends =
+    let later : pos from.now <ℤ until.0 = omega (arith, ints, same, after) in
+    let all : AreRecordsBefore network events ((amount end + 1) ∷ []) (notes ++ p.more) =
+    subst (λ (n : ℕ). AreRecordsBefore network events (n ∷ []) (notes ++ p.more)) (amount_after end until begun after) (p.all later) in
     let puts = PutsLines-still (report_of network p.more) old now new p.puts ends.0 in
     record {
       more = p.more;
       stands = p.stands;
+      earlier = subst (AreEarlier network events notes p.more) (next_time end until after) p.earlier;
       puts = elim ends.1 [ inl e ↦ inl (e.0, puts, e.1, all) | inr e ↦ inr (inl (e, inr puts)) ];
     }
 
-pub rest_cut : (network : Network) (events : List Event) (notes : List Note) (end until : Units) (world : Progress Segment) (status : Status) (old new : Shown)
-    → PutsUntil {T = Unit {0}} network events notes until world (Err status) old new → PutsRest network events notes end world status old new
-rest_cut network events notes end until world status old new p = record { more = p.more; stands = p.stands; puts = inr p.puts }
+pub rest_cut : (network : Network) (events : List Event) (notes : List Note) (end until : Units) (from world : ExactWorld) (status : Status)
+    (old new : Shown) → until.0 ≡ end.0 +ℤ pos 1
+    → PutsUntil {T = Unit {0}} network events notes until from world (Err status) old new → PutsRest network events notes end world status old new
+rest_cut network events notes end until from world status old new after p = record {
+  more = p.more;
+  stands = p.stands;
+  earlier = subst (AreEarlier network events notes p.more) (next_time end until after) p.earlier;
+  puts = inr p.puts;
+}

@@ -1,5 +1,5 @@
 -- The answer of `run` for its two sources.
-use Rattle.std.proofs.Common.{◌≡◌, ◌⊎◌, ℕ, List, Option, Some, None, inl, inr, refl}
+use Rattle.std.proofs.Common.{◌≡◌, ℕ, List, Option, Some, None, inr, refl}
 use Rattle.std.specs.Prelude.{IfSome}
 use Rattle.net_plan.specs.declared.network.Network.{Network}
 use Rattle.schedule_checker.specs.Refusals.{RefusalIsOne}
@@ -7,18 +7,16 @@ use Rattle.tte_run.specs.networks.Accepting.{IsNetworkAnswer, MeansAccepted}
 use Rattle.tte_run.specs.Answering.{ForOctets, Gives, GivesOne}
 use Rattle.tte_run.specs.networks.NoNetworks.{IsNoNetwork, no_network_answer}
 use Rattle.tte_run.specs.Putting.{Shown}
-use Rattle.tte_run.specs.traces.Refusing.{early_answer}
-use Rattle.tte_run.specs.traces.Answer.{IsRunAnswer, IsTraceAnswer, IsUnbuilt}
+use Rattle.tte_run.specs.traces.Answer.{IsRunAnswer}
 use Rattle.tte_run.specs.traces.Steps.{RunEnds}
 use Rattle.tte_run.specs.declared.accepting.NoNetwork.{NoNetwork}
 use Rattle.tte_run.specs.declared.status.Status.{Status}
-use Rattle.tte_run.specs.declared.status.Status.TheVariants.{NetworkRefused, OutOfMemory, ReadFault, WriteFault}
+use Rattle.tte_run.specs.declared.status.Status.TheVariants.{OutOfMemory, ReadFault}
 use Rattle.tte_run.proofs.networks.Answers.{accepted_network, no_network}
 use Rattle.tte_run.proofs.Octets.{for_more}
 use Rattle.tte_run.proofs.OneAnswers.{none_put}
 use Rattle.tte_run.proofs.Puts.{PutsLines-none}
-use Rattle.tte_run.proofs.traces.Given.{built_given, early_given}
-use Rattle.tte_run.proofs.traces.Streams.{untouched, writes_answer, writes_nothing}
+use Rattle.tte_run.proofs.traces.Streams.{untouched, writes_nothing}
 
 -- what holds for all octets that a source may have left
 pub if_all : (left : Option (List ℕ)) (P : List ℕ → Type 0) → ((octets : List ℕ) → P octets) → IfSome left P
@@ -31,30 +29,6 @@ if_more None P Q f h = tt {0}
 if_more (Some octets) P Q f h = f octets h
 
 -- ---- for an accepted network
-
-early_no_read : {X : Type 0} (status : Status) → (status ≡ NetworkRefused) ⊎ ((status ≡ WriteFault) × X) → status ≡ ReadFault → ⊥
-early_no_read status (inl e) is = cc
-early_no_read status (inr w) is = let e = w.0 in cc
-
--- nothing was taken of the trace, and no read failed
-pub run_early : {network : Network} (left : Option (List ℕ)) (status : Status) {old new : Shown} {PutFails : Type 0} → IsUnbuilt network
-    → Gives early_answer status old new
-    → (status ≡ NetworkRefused) ⊎ ((status ≡ WriteFault) × PutFails) → RunEnds (λ trace. IsRunAnswer trace network) network left left status old new
-run_early {network} left status {old} {new} unbuilt g which = record {
-  general = if_all left (λ trace. GivesOne (IsRunAnswer trace network) status old new) (λ trace. early_given trace network status old new unbuilt g);
-  cut = λ is. absurd (early_no_read status which is);
-  little = untouched network left old new (writes_answer early_answer status old new g);
-}
-
-pub run_built : {network : Network} {left after : Option (List ℕ)} {status : Status} {old new : Shown} → (IsUnbuilt network → ⊥)
-    → RunEnds (IsTraceAnswer network) network left after status old new
-    → RunEnds (λ trace. IsRunAnswer trace network) network left after status old new
-run_built {network} {left} {status} {old} {new} built e = record {
-  general = if_more left (λ trace. GivesOne (IsTraceAnswer network trace) status old new) (λ trace. GivesOne (IsRunAnswer trace network) status old new)
-      (λ trace h. built_given trace network status old new built h) e.general;
-  cut = e.cut;
-  little = e.little;
-}
 
 -- where there is no memory for a run, nothing was put
 pub run_no_memory : (network : Network) (left : Option (List ℕ)) (s : Shown) → RunEnds (λ trace. IsRunAnswer trace network) network left left OutOfMemory s s

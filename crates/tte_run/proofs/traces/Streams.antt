@@ -2,8 +2,6 @@
 use Rattle.std.proofs.Common.{◌≡◌, suc, ◌≤◌, ◌==◌, Bool, true, false, if◌then◌else◌, arith, ℕ, List, [], ◌∷◌, ◌++◌, length, Option, Some, None, Result, Err, inl, inr, refl, sym, subst}
 use Rattle.std.specs.List.{concat}
 use Rattle.std.proofs.KnownBytes.{Appends-nil, Appends-trans}
-use Rattle.drift_clock.specs.Segment.{Segment}
-use Rattle.drift_world.specs.Progress.{Progress}
 use Rattle.net_plan.specs.declared.event.Event.{Event}
 use Rattle.net_plan.specs.declared.network.Network.{Network}
 use Rattle.report_text.specs.NoteLine.{report_of}
@@ -12,7 +10,7 @@ use Rattle.tte_io.specs.Line.{lf, behind_line}
 use Rattle.tte_io.specs.ReaderState.{pending}
 use Rattle.tte_run.specs.Answering.{Answer, Gives}
 use Rattle.tte_run.specs.traces.Following.{TakesFew, TakesNext}
-use Rattle.tte_run.specs.traces.Records.{PutsEvent, PutsOr, PutsOrRest, PutsRest}
+use Rattle.tte_run.specs.traces.Records.{ExactWorld, PutsEvent, PutsOr, PutsOrRest, PutsRest}
 use Rattle.tte_run.specs.Putting.{Shown, PutsLines, PutFails, StopsWriting, WriteFails}
 use Rattle.tte_run.specs.traces.Steps.{IsRunning}
 use Rattle.tte_run.specs.traces.Streaming.{ForTrace, StopsBehindLines, TakesLittle, WritesSome}
@@ -25,7 +23,6 @@ use Rattle.tte_run.proofs.traces.Admitted.{admitted_none}
 use Rattle.tte_run.proofs.Puts.{PutsLines-none}
 use Rattle.tte_run.proofs.traces.PuttingRecords.{if_some}
 use Rattle.tte_run.proofs.traces.Answers.{records_none}
-use Rattle.tte_run.proofs.traces.SilentRuns.{so_far_of_silent}
 use Rattle.tte_run.proofs.traces.Steps.{ReadsFound}
 use Rattle.tte_units.specs.declared.units.Units.{Units}
 
@@ -53,7 +50,7 @@ writes_or : (status : Status) (lines : List (List ℕ)) (old new : Shown) → Pu
 writes_or status lines old new (inl f) = writes_stops lines old new f.1
 writes_or status lines old new (inr m) = writes_lines lines old new m.1
 
-pub writes_event : (network : Network) (events : List Event) (notes : List Note) (event : Event) (world : Progress Segment) (status : Status) (old new : Shown)
+pub writes_event : (network : Network) (events : List Event) (notes : List Note) (event : Event) (world : ExactWorld) (status : Status) (old new : Shown)
     → PutsEvent {T = Unit {0}} network events notes event world (Err status) old new → WritesSome old new
 writes_event network events notes event world status old new p = writes_or status (report_of network p.more) old new p.puts
 
@@ -63,7 +60,7 @@ writes_or_rest network events notes more end status old new (inl d) = writes_lin
 writes_or_rest network events notes more end status old new (inr (inl f)) = writes_stops (report_of network more) old new f.1
 writes_or_rest network events notes more end status old new (inr (inr m)) = writes_lines (report_of network more) old new m.1
 
-pub writes_rest : (network : Network) (events : List Event) (notes : List Note) (end : Units) (world : Progress Segment) (status : Status) (old new : Shown)
+pub writes_rest : (network : Network) (events : List Event) (notes : List Note) (end : Units) (world : ExactWorld) (status : Status) (old new : Shown)
     → PutsRest network events notes end world status old new → WritesSome old new
 writes_rest network events notes end world status old new p = writes_or_rest network events notes p.more end status old new p.puts
 
@@ -95,7 +92,7 @@ takes_little {network} {first} {after} {old} {now} new r takes more =
         events = r.events;
         admitted = h.2.admitted;
         notes = r.notes;
-        records = so_far_of_silent network octets r.events r.notes r.stands.built h.2.admitted r.stands.so_far;
+        records = r.stands.so_far;
         between = now;
         puts = r.puts;
         more = more;
@@ -148,7 +145,7 @@ stops_behind {network} {first} {after} {old} {now} {next} r is reads =
         unbroken = o.2.1;
         taken = o.2.0.coming;
         notes = r.notes;
-        records = so_far_of_silent network octets r.events r.notes r.stands.built o.2.0.admitted r.stands.so_far;
+        records = r.stands.so_far;
         puts = r.puts;
       },
     ))

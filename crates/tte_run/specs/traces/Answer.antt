@@ -1,17 +1,12 @@
 -- What `run` answers for the octets of a network file and of a trace.
-use Rattle.std.specs.Prelude.{◌≡◌, ◌≢◌, ◌⊎◌, ℕ, ◌+◌, List, [], ◌∷◌, ◌++◌, length, Any, IsNone, codes}
+use Rattle.std.specs.Prelude.{◌≡◌, ◌⊎◌, ℕ, ◌+◌, List, [], ◌∷◌, ◌++◌, length}
 use Rattle.drift_clock.specs.Segment.{fresh_segment, stepped_segment, segment_reading}
-use Rattle.drift_world.specs.Clocks.{reading_of}
-use Rattle.drift_world.specs.Standing.{behind_events, last_time}
-use Rattle.net_plan.specs.Ranges.{IsInRange}
 use Rattle.net_plan.specs.declared.event.Event.{Event}
 use Rattle.net_plan.specs.declared.ids.DeviceId.{DeviceId}
 use Rattle.net_plan.specs.declared.network.Network.{Network}
 use Rattle.report_text.specs.NoteLine.{report_of}
 use Rattle.run_law.specs.runs.DueRecords.{EndsAt, IsRunOf}
 use Rattle.run_law.specs.declared.note.Note.{Note}
-use Rattle.schedule_tables.specs.Rules.{KeepsRules}
-use Rattle.tte_run.specs.networks.Accepting.{refused_answer}
 use Rattle.tte_run.specs.Answering.{Answer}
 use Rattle.tte_run.specs.traces.FaultLine.{fault_status, fault_lines}
 use Rattle.tte_run.specs.traces.Lines.{AreAdmitted, HaveEnded, IsFault, behind_lines}
@@ -20,6 +15,7 @@ use Rattle.tte_run.specs.declared.status.Status.{Status}
 use Rattle.tte_run.specs.declared.status.Status.TheVariants.{Done, Usage, FrameRefused, NetworkRefused, TraceRefused, OutsideHypothesis, ReadFault, WriteFault, OutOfMemory, TooLong}
 use Rattle.tte_units.specs.Amount.{amount}
 use Rattle.tte_units.specs.declared.units.Units.{Units}
+use Rattle.whole_world.specs.Running.{behind_events, last_time, reading_of}
 
 -- what the exact clock of a device reads at a time, under the rates that the events set
 abbrev pub clock_reading : Network → List Event → DeviceId → ℕ → ℕ
@@ -31,7 +27,7 @@ AreRecordsBefore network events mark notes = IsRunOf network (clock_reading netw
 
 -- the records that are earlier than the last event, and those of all events
 abbrev pub AreRecordsSoFar : Network → List Event → List Note → Type 0
-AreRecordsSoFar network events notes = AreRecordsBefore network events (behind_events (last_time events)) notes
+AreRecordsSoFar network events notes = AreRecordsBefore network events (behind_events (amount (last_time events))) notes
 
 -- the records up to the time of the end
 abbrev pub AreAllRecords : Network → List Event → List Note → Type 0
@@ -57,27 +53,11 @@ pub record IsFaultyAnswer (network : Network) (octets : List ℕ) (events : List
     lines = report_of network notes ++ fault_lines (length events + 1) fault;
   }
 
--- the answer for a network under the octets of a trace
-pub record IsTraceAnswer (network : Network) (octets : List ℕ) (a : Answer) : Type 0 where
+-- the answer for an accepted network under the octets of a trace
+pub record IsRunAnswer (octets : List ℕ) (network : Network) (a : Answer) : Type 0 where
   pub events : List Event
   pub admitted : AreAdmitted network octets events
   pub is : IsWholeAnswer network octets events a ⊎ IsFaultyAnswer network octets events a
-
--- the run of the network is not built yet: it has a virtual link, or a device that begins off
-abbrev pub IsUnbuilt : Network → Type 0
-IsUnbuilt network = (network.vl ≢ []) ⊎ Any (λ d. IsNone d.start) network.device
-
--- the answer for an accepted network under the octets of a trace
-abbrev pub IsRunAnswer : List ℕ → Network → Answer → Type 0
-IsRunAnswer octets network a =
-    (IsUnbuilt network × (a ≡ refused_answer (codes "early")))
-    ⊎ ((IsUnbuilt network → ⊥) × IsTraceAnswer network octets a)
-
--- an accepted network whose run is built
-pub record IsBuilt (network : Network) : Type 0 where
-  pub range : IsInRange network
-  pub rules : KeepsRules network
-  pub built : IsUnbuilt network → ⊥
 
 -- the statuses of `run`
 abbrev pub IsRunStatus : Status → Type 0

@@ -34,7 +34,6 @@ fault_lines number faults.TooMany = []
 fault_lines number faults.After = trace_refusal_line number (codes "after") ∷ []
 fault_lines number faults.Long = trace_refusal_line number (codes "long") ∷ []
 fault_lines number (faults.Line refusal) = trace_refusal_line number (line_reason refusal) ∷ []
-fault_lines number faults.Early = trace_refusal_line number (codes "early") ∷ []
 fault_lines number (faults.Event outside) = outside_line number outside ∷ []
 
 -- the status for the fault
@@ -44,5 +43,4 @@ fault_status faults.TooMany = TooLong
 fault_status faults.After = TraceRefused
 fault_status faults.Long = TraceRefused
 fault_status (faults.Line refusal) = TraceRefused
-fault_status faults.Early = TraceRefused
 fault_status (faults.Event outside) = OutsideHypothesis

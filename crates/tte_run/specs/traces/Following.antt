@@ -10,7 +10,7 @@ use Rattle.tte_io.specs.Line.{line_limit, ahead_limit, IsUnbroken, first_line}
 use Rattle.tte_io.specs.ReaderState.{LineReaderState, pending}
 use Rattle.tte_io.specs.declared.lines.LineTaken.{LineTaken}
 use Rattle.tte_io.specs.declared.lines.LineTaken.TheVariants as found
-use Rattle.tte_run.specs.traces.Lines.{AreAdmitted, HaveEnded, IsAdmitted, IsEarly, IsFault, behind_lines}
+use Rattle.tte_run.specs.traces.Lines.{AreAdmitted, HaveEnded, IsAdmitted, IsFault, behind_lines}
 use Rattle.tte_run.specs.declared.trace.fault.TraceFault.{TraceFault}
 use Rattle.tte_run.specs.declared.trace.fault.TraceStop.{TraceStop}
 use Rattle.tte_run.specs.declared.trace.fault.TraceStop.TheVariants as stops
@@ -37,7 +37,6 @@ pub record GivesEvent (network : Network) (before : List Event) (event : Event) 
   pub unended : HaveEnded before → ⊥
   pub of_network : IsOfNetwork network event.what
   pub range : IsEventInRange event
-  pub timely : IsEarly network event → ⊥
   pub within : IsWithinHypothesis network before event
   pub follows : Follows network (before ++ event ∷ []) trace
 

@@ -1,15 +1,13 @@
 -- A trace judged line by line.
-use Rattle.std.specs.Prelude.{◌≡◌, ◌≢◌, ◌⊎◌, ℕ, zero, suc, ◌+◌, ◌/◌, ◌^◌, ◌<◌, ◌≤◌, List, [], ◌∷◌, ◌++◌, length, Any, Ok, Err}
+use Rattle.std.specs.Prelude.{◌≡◌, ◌≢◌, ℕ, zero, suc, ◌+◌, ◌^◌, ◌<◌, ◌≤◌, List, [], ◌∷◌, ◌++◌, length, Any, Ok, Err}
 use Rattle.net_plan.specs.declared.event.Event.{Event}
-use Rattle.net_plan.specs.declared.event.What.TheVariants.{Send, End}
-use Rattle.net_plan.specs.declared.ids.LinkId.{LinkId}
+use Rattle.net_plan.specs.declared.event.What.TheVariants.{End}
 use Rattle.net_plan.specs.declared.network.Network.{Network}
 use Rattle.run_law.specs.scenario.Hypothesis.{IsWithinHypothesis, IsOutsideBy}
 use Rattle.trace_text.specs.EventReading.{event_read}
 use Rattle.tte_io.specs.Line.{line_limit, first_line, behind_line}
 use Rattle.tte_run.specs.declared.trace.fault.TraceFault.{TraceFault}
 use Rattle.tte_run.specs.declared.trace.fault.TraceFault.TheVariants as faults
-use Rattle.tte_units.specs.Amount.{amount}
 
 -- what is left of the octets behind so many lines
 abbrev pub behind_lines : ℕ → List ℕ → List ℕ
@@ -20,24 +18,17 @@ behind_lines (suc n) octets = behind_line (behind_lines n octets)
 abbrev pub HaveEnded : List Event → Type 0
 HaveEnded events = Any (λ e. e.what ≡ End) events
 
--- the run of the event is not built yet: it sends, or comes when the first cycle is half over
-abbrev pub IsEarly : Network → Event → Type 0
-IsEarly network event =
-    ((link : LinkId) × (octets : List ℕ) × (event.what ≡ Send link octets))
-    ⊎ (amount network.cycle / 2 ≤ amount event.time)
-
 -- there is a further line, of a number below 2^32, and the events before it have no end
 pub record IsOpen (before : List Event) (rest : List ℕ) : Type 0 where
   pub some : rest ≢ []
   pub number : length before + 1 < 2 ^ 32
   pub unended : HaveEnded before → ⊥
 
--- the next line, which is not too long, has this event, and its run is built
+-- the next line, which is not too long, has this event
 pub record HasEvent (network : Network) (before : List Event) (rest : List ℕ) (event : Event) : Type 0 where
   pub is_open : IsOpen before rest
   pub short : length (first_line rest) ≤ line_limit
   pub read : event_read network (first_line rest) ≡ Ok event
-  pub timely : IsEarly network event → ⊥
 
 -- the next line is admitted with this event
 pub record IsAdmitted (network : Network) (before : List Event) (rest : List ℕ) (event : Event) : Type 0 where
@@ -51,8 +42,7 @@ AreAdmitted network octets events =
     → IsAdmitted network before (behind_lines (length before) octets) event
 
 -- the trace goes on behind the admitted events with this fault: the octets end without an end; there are too
--- many lines; a line stands behind the end; it is too long; it has no event; its run is not built; its event is
--- outside the hypothesis
+-- many lines; a line stands behind the end; it is too long; it has no event; its event is outside the hypothesis
 abbrev pub IsFault : Network → List Event → List ℕ → TraceFault → Type 0
 IsFault network before rest faults.Missing = (rest ≡ []) × (HaveEnded before → ⊥)
 IsFault network before rest faults.TooMany = (rest ≢ []) × (length before + 1 ≡ 2 ^ 32)
@@ -60,8 +50,5 @@ IsFault network before rest faults.After = (rest ≢ []) × (length before + 1 <
 IsFault network before rest faults.Long = IsOpen before rest × (line_limit < length (first_line rest))
 IsFault network before rest (faults.Line refusal) =
     IsOpen before rest × (length (first_line rest) ≤ line_limit) × (event_read network (first_line rest) ≡ Err refusal)
-IsFault network before rest faults.Early =
-    IsOpen before rest × (length (first_line rest) ≤ line_limit)
-    × ((event : Event) × (event_read network (first_line rest) ≡ Ok event) × IsEarly network event)
 IsFault network before rest (faults.Event outside) =
     (event : Event) × HasEvent network before rest event × IsOutsideBy network before event outside

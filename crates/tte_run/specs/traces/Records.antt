@@ -1,50 +1,65 @@
 -- What is put of the records of a run.
-use Rattle.std.specs.Prelude.{◌≡◌, ◌⊎◌, ℕ, ◌+◌, ◌^◌, pos, ◌<ℤ◌, ◌≤ℤ◌, false, List, [], ◌∷◌, ◌++◌, Result, Ok, Err, OnOk}
+use Rattle.std.specs.Prelude.{◌≡◌, ◌⊎◌, ℕ, ◌+◌, ◌≤◌, pos, ◌+ℤ◌, ◌<ℤ◌, ◌≤ℤ◌, true, false, List, [], ◌∷◌, ◌++◌, Result, Ok, Err, OnOk}
+use Rattle.device_machines.specs.Standing.{StandsAsDevice}
+use Rattle.device_machines.specs.declared.device_machine.DeviceMachine.{DeviceMachine}
 use Rattle.drift_clock.specs.Segment.{Segment, fresh_segment, stepped_segment, segment_reading}
-use Rattle.drift_world.specs.Progress.{Progress}
-use Rattle.drift_world.specs.Standing.{Stands, behind_events, last_time}
+use Rattle.net_plan.specs.Belonging.{IsOfNetwork}
 use Rattle.net_plan.specs.declared.event.Event.{Event}
 use Rattle.net_plan.specs.declared.network.Network.{Network}
 use Rattle.report_text.specs.NoteLine.{report_of}
-use Rattle.run_law.specs.scenario.Hypothesis.{SetsFastRate}
-use Rattle.run_law.specs.law.Silent.{IsSilentRunOf}
 use Rattle.run_law.specs.declared.note.Note.{Note}
-use Rattle.net_plan.specs.Belonging.{IsOfNetwork}
+use Rattle.run_law.specs.records.Order.{IsBefore}
+use Rattle.run_law.specs.scenario.Hypothesis.{IsWithinHypothesis}
+use Rattle.trace_text.specs.Ranges.{IsEventInRange}
 use Rattle.tte_run.specs.Putting.{Shown, IsPassedOn, PutsLines, StopsWriting}
-use Rattle.tte_run.specs.traces.Answer.{clock_reading}
-use Rattle.fault_hypothesis.specs.Watching.{AreOfNetwork}
+use Rattle.tte_run.specs.traces.Answer.{AreRecordsBefore, AreRecordsSoFar}
 use Rattle.tte_run.specs.declared.status.Status.{Status}
 use Rattle.tte_run.specs.declared.status.Status.TheVariants.{Done, WriteFault, OutOfMemory}
 use Rattle.tte_units.specs.Amount.{amount}
 use Rattle.tte_units.specs.declared.units.Units.{Units}
+use Rattle.whole_world.specs.Running.{StandsUnder, last_time}
+use Rattle.whole_world.specs.declared.kept.Kept.{Kept}
+use Rattle.world_law.specs.source.Applying.{place_of_event}
+use Rattle.world_law.specs.world.World.{World}
 
--- the records of the silent cycle's run under the events, before the mark
-abbrev pub AreSilentBefore : Network → List Event → List ℕ → List Note → Type 0
-AreSilentBefore network events mark notes = IsSilentRunOf network (clock_reading network events) events mark notes
+-- the world of the program, whose clocks are exact
+abbrev pub ExactWorld : Type 0
+ExactWorld = World Segment (Kept DeviceMachine)
 
--- those that are earlier than the last event, and those of all events
-abbrev pub AreSilentSoFar : Network → List Event → List Note → Type 0
-AreSilentSoFar network events notes = AreSilentBefore network events (behind_events (last_time events)) notes
+-- it stands where these events and records leave it
+abbrev pub StandsExact : Network → ExactWorld → List Event → List Note → Type 0
+StandsExact network world events notes =
+    StandsUnder fresh_segment stepped_segment segment_reading StandsAsDevice network world events notes
 
--- the world of exact clocks stands where these events and records leave it
-abbrev pub StandsExact : Network → Progress Segment → List Event → List Note → Type 0
-StandsExact network world events notes = Stands fresh_segment stepped_segment segment_reading network world events notes
-
--- the world stands where some events of the network, and some records, leave it
-pub record IsUnderway (network : Network) (world : Progress Segment) : Type 0 where
+-- the world stands where some events, and some records, leave it
+pub record IsUnderway (network : Network) (world : ExactWorld) : Type 0 where
   pub events : List Event
   pub notes : List Note
-  pub of_network : AreOfNetwork network events
   pub stands : StandsExact network world events notes
 
--- the event of this line may befall the world
-pub record MayBefall (world : Progress Segment) (line : ℕ) (event : Event) : Type 0 where
+-- the world has come to the time, and nothing of it but events is worked off
+pub record IsReached (world : ExactWorld) (time : Units) : Type 0 where
+  pub now : pos world.now ≡ time.0
+  pub early : world.early ≡ true
+
+-- the event of this line may come next: the world is open, and it is no earlier
+pub record MayCome (network : Network) (world : ExactWorld) (line : ℕ) (event : Event) : Type 0 where
+  pub events : List Event
+  pub notes : List Note
+  pub stands : StandsExact network world events notes
+  pub within : IsWithinHypothesis network events event
+  pub of_network : IsOfNetwork network event.what
+  pub range : IsEventInRange event
   pub number : line ≡ world.lines + 1
-  pub order : world.now.0 ≤ℤ event.time.0
-  pub limit : event.time.0 ≤ℤ pos (2 ^ 60)
-  pub of_network : IsOfNetwork world.network event.what
-  pub rate : SetsFastRate world.network event → ⊥
+  pub order : pos world.now ≤ℤ event.time.0
+  pub early : world.early ≡ true
   pub unended : world.ended ≡ false
+
+-- the event is the next behind those whose records are given
+pub record ComesNext (network : Network) (events : List Event) (notes : List Note) (event : Event) : Type 0 where
+  pub within : IsWithinHypothesis network events event
+  pub so_far : AreRecordsSoFar network events notes
+  pub order : amount (last_time events) ≤ amount event.time
 
 -- writing failed, or memory ran out
 abbrev pub IsCut : Status → Type 0 → Type 0
@@ -56,36 +71,56 @@ PutsOr (Ok _) lines old new = PutsLines lines old new
 PutsOr (Err status) lines old new =
     ((status ≡ WriteFault) × StopsWriting lines old new) ⊎ ((status ≡ OutOfMemory) × PutsLines lines old new)
 
--- the next records of the run were put: where all went well, each that is earlier than the time
+-- the records are the run under the events up to a mark that is not behind the place of the next event's record
+pub record IsOnTheWay (network : Network) (events : List Event) (event : Event) (notes : List Note) : Type 0 where
+  pub mark : List ℕ
+  pub sooner : (p : List ℕ) → IsBefore p mark → IsBefore p (place_of_event events event)
+  pub run : AreRecordsBefore network events mark notes
+
+-- no more records were put; or they are the run under the events up to a mark that is not behind the time
+abbrev pub AreEarlier : Network → List Event → List Note → List Note → Units → Type 0
+AreEarlier network events notes more until =
+    (more ≡ [])
+    ⊎ ((mark : List ℕ) × ((p : List ℕ) → IsBefore p mark → IsBefore p (amount until ∷ []))
+    × AreRecordsBefore network events mark (notes ++ more))
+
+-- the next records of the run were put, which are earlier than the time; where all went well, each of them was
 pub record PutsUntil {T : Type 0} (network : Network) (events : List Event) (notes : List Note) (until : Units)
-    (world : Progress Segment) (result : Result T Status) (old new : Shown) : Type 0 where
+    (from world : ExactWorld) (result : Result T Status) (old new : Shown) : Type 0 where
   pub more : List Note
   pub stands : StandsExact network world events (notes ++ more)
+  pub earlier : AreEarlier network events notes more until
   pub puts : PutsOr result (report_of network more) old new
-  pub all : OnOk result (world.now.0 <ℤ until.0 → AreSilentBefore network events (amount until ∷ []) (notes ++ more))
+  pub all : OnOk result (pos from.now <ℤ until.0 → AreRecordsBefore network events (amount until ∷ []) (notes ++ more))
+
+-- the records are those up to the event's own, which befell; or they are on the way to it
+abbrev pub HasBefallen : Network → List Event → Event → List Event → List Note → Type 0
+HasBefallen network events event befallen notes =
+    ((befallen ≡ events) × IsOnTheWay network events event notes)
+    ⊎ ((befallen ≡ events ++ event ∷ []) × AreRecordsSoFar network befallen notes)
 
 -- the event befell the world, and the records up to its own were put; or that was cut short, before it or after it
 pub record PutsEvent {T : Type 0} (network : Network) (events : List Event) (notes : List Note) (event : Event)
-    (world : Progress Segment) (result : Result T Status) (old new : Shown) : Type 0 where
+    (world : ExactWorld) (result : Result T Status) (old new : Shown) : Type 0 where
   pub befallen : List Event
-  pub whether : (befallen ≡ events) ⊎ (befallen ≡ events ++ event ∷ [])
-  pub befalls : OnOk result (befallen ≡ events ++ event ∷ [])
   pub more : List Note
+  pub whether : HasBefallen network events event befallen (notes ++ more)
+  pub befalls : OnOk result (befallen ≡ events ++ event ∷ [])
   pub stands : StandsExact network world befallen (notes ++ more)
-  pub so_far : AreSilentSoFar network befallen (notes ++ more)
   pub puts : PutsOr result (report_of network more) old new
 
 -- the records up to the end were put and passed on; or writing them failed; or memory ran out behind some
 abbrev pub PutsOrRest : Network → List Event → List Note → List Note → Units → Status → Shown → Shown → Type 0
 PutsOrRest network events notes more end status old new =
     ((status ≡ Done) × PutsLines (report_of network more) old new × IsPassedOn new
-    × AreSilentBefore network events ((amount end + 1) ∷ []) (notes ++ more))
+    × AreRecordsBefore network events ((amount end + 1) ∷ []) (notes ++ more))
     ⊎ ((status ≡ WriteFault) × StopsWriting (report_of network more) old new)
     ⊎ ((status ≡ OutOfMemory) × PutsLines (report_of network more) old new)
 
 -- the records that are left up to the end were put and passed on, or that was cut short
-pub record PutsRest (network : Network) (events : List Event) (notes : List Note) (end : Units)
-    (world : Progress Segment) (status : Status) (old new : Shown) : Type 0 where
+pub record PutsRest (network : Network) (events : List Event) (notes : List Note) (end : Units) (world : ExactWorld)
+    (status : Status) (old new : Shown) : Type 0 where
   pub more : List Note
   pub stands : StandsExact network world events (notes ++ more)
+  pub earlier : AreEarlier network events notes more (record { 0 = end.0 +ℤ pos 1 })
   pub puts : PutsOrRest network events notes more end status old new

@@ -1,16 +1,16 @@
 -- A run under a trace, line by line, and how it ends.
 use Rattle.std.specs.Prelude.{◌≡◌, ℕ, List, [], Option, Some, None, IfSome}
-use Rattle.drift_world.specs.Standing.{last_time}
 use Rattle.net_plan.specs.declared.event.Event.{Event}
 use Rattle.net_plan.specs.declared.network.Network.{Network}
 use Rattle.report_text.specs.NoteLine.{report_of}
 use Rattle.run_law.specs.declared.note.Note.{Note}
 use Rattle.trace_text.specs.Ranges.{IsTime}
+use Rattle.whole_world.specs.Running.{last_time}
 use Rattle.tte_run.specs.Answering.{Answer, GivesOne}
 use Rattle.tte_run.specs.traces.Following.{Follows, Reads}
-use Rattle.tte_run.specs.traces.Records.{AreSilentSoFar, StandsExact}
+use Rattle.tte_run.specs.traces.Records.{IsReached, StandsExact}
 use Rattle.tte_run.specs.Putting.{Shown, IsPassedOn, PutsLines}
-use Rattle.tte_run.specs.traces.Answer.{IsBuilt, IsTraceAnswer}
+use Rattle.tte_run.specs.traces.Answer.{AreRecordsSoFar, IsRunAnswer}
 use Rattle.tte_run.specs.traces.Streaming.{ForTrace, StopsBehindLines, TakesLittle}
 use Rattle.tte_run.specs.declared.status.Status.{Status}
 use Rattle.tte_run.specs.declared.status.Status.TheVariants.{ReadFault}
@@ -19,11 +19,11 @@ use Rattle.tte_run.specs.declared.trace.steps.Running.{Running}
 
 -- the run of the network stands where these events, one of each line taken, and these records leave it
 pub record StandsBy (network : Network) (events : List Event) (notes : List Note) (run : Running) : Type 0 where
-  pub built : IsBuilt network
   pub follows : Follows network events run.trace
   pub world : StandsExact network run.world events notes
-  pub so_far : AreSilentSoFar network events notes
+  pub so_far : AreRecordsSoFar network events notes
   pub last : run.time ≡ last_time events
+  pub reached : IsReached run.world run.time
   pub range : IsTime run.time
 
 -- some events and records leave the run where it stands
@@ -65,4 +65,4 @@ pub record RunEnds (IsAnswer : List ℕ → Answer → Type 0) (network : Networ
 -- after a step the run goes on, or has ended with a status
 abbrev pub Steps : Network → Option (List ℕ) → Option (List ℕ) → Option Status → Running → Shown → Shown → Type 0
 Steps network first left None run old new = IsRunning network first left old new run
-Steps network first left (Some status) run old new = RunEnds (IsTraceAnswer network) network first left status old new
+Steps network first left (Some status) run old new = RunEnds (λ trace. IsRunAnswer trace network) network first left status old new

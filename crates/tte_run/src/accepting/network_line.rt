@@ -1,4 +1,4 @@
-ghost use Rattle.std.specs.Prelude.{◌≡◌, ◌≤◌, ◌+◌, ◌*◌, ◌^◌, ◌<◌, ◌++◌, codes, length};
+ghost use Rattle.std.specs.Prelude.{◌≡◌, ◌≤◌, ◌+◌, ◌*◌, ◌^◌, ◌<◌, ◌++◌, length};
 ghost use Rattle.tte_run.specs.networks.NetworkLine.{acceptance_line, file_reason, network_refusal_line, place_text, rule_reason, spot_text, table_text};
 
 use net_file::{FileRefusal, Spot, TableName};
@@ -99,14 +99,6 @@ pub fn make_rule_line(line: &mut LineText, told: RuleBroken)
     line.push("refused network ");
     push_rule_reason(line, told);
     line.push("\n");
-}
-
-/// Makes the line of a network whose run is not built yet.
-pub fn make_early_line(line: &mut LineText)
-    ensures { line.new ≡ network_refusal_line (codes "early") }
-{
-    line.clear();
-    line.push("refused network early\n");
 }
 
 /// Makes the line of a network that is accepted.

@@ -38,7 +38,12 @@ pub(super) struct Run<'a> {
     pub(super) status: Status,
 }
 
-fn try_run(rt: &impl Abort, alloc: Global, network: &str, run: &Run) -> Result<(), Fail> {
+pub(super) fn try_run(
+    rt: &impl Abort,
+    alloc: Global,
+    network: &str,
+    run: &Run<'_>,
+) -> Result<(), Fail> {
     let words = words_of(alloc, &["run", "net.toml", "net.trace"])?;
     let mut first = SteadySource::new(alloc, network.as_bytes())?;
     let mut second = MemorySource::new(alloc, run.trace.as_bytes(), 17, run.failing_reads)?;
@@ -200,20 +205,6 @@ fn traces_are_refused(rt: HostRuntime) -> Result<(), Fail> {
                 "refused line 1 form\n",
                 Status::TraceRefused,
             ),
-            whole(
-                "65536000000 end\n",
-                "refused line 1 early\n",
-                Status::TraceRefused,
-            ),
         ],
     )
-}
-
-#[test]
-fn networks_of_later_runs_are_refused(rt: HostRuntime) -> Result<(), Fail> {
-    let alloc = rt.alloc();
-    let run = whole("0 end\n", "refused network early\n", Status::NetworkRefused);
-    try_run(&rt, alloc, WORKED, &run)?;
-    let off: Edit<'_> = ("member=3, start=0", "member=3");
-    try_runs(&rt, alloc, off, &[run])
 }

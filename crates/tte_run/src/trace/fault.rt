@@ -14,8 +14,6 @@ pub(crate) enum TraceFault {
     Long,
     /// The line has no event.
     Line(LineRefusal),
-    /// The run of the line's event is not built yet.
-    Early,
     /// The line's event is outside the fault hypothesis.
     Event(Outside),
 }

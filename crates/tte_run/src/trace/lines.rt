@@ -7,7 +7,7 @@ ghost use Rattle.trace_text.specs.Ranges.{IsEventInRange};
 ghost use Rattle.tte_run.specs.Faults.{PutFailed, ReadFailed};
 ghost use Rattle.tte_run.specs.Putting.{IsPassedOn, Over, PutsNone, shown_by};
 ghost use Rattle.tte_run.specs.traces.Following.{Follows, GoesOn, IsFound, Judges, Reads, TakesNext};
-ghost use Rattle.tte_run.specs.traces.Lines.{HasEvent, IsAdmitted, IsEarly, IsFault, IsOpen};
+ghost use Rattle.tte_run.specs.traces.Lines.{HasEvent, IsAdmitted, IsFault, IsOpen};
 
 use crate::trace::fault::{TraceFault, TraceStop};
 use crate::trace::reading::next_line;
@@ -149,7 +149,6 @@ impl<'a> Trace<'a> {
         }
         let network = self.accepted.network();
         match line(network, self.reader.text()) {
-            Ok(event) if is_early(network, &event) => Err(TraceFault::Early),
             Ok(event) => Ok(event),
             Err(refusal) => Err(TraceFault::Line(refusal)),
         }
@@ -179,14 +178,4 @@ impl<'a> Trace<'a> {
         self.ended = matches!(event.what, What::End);
         Ok(event)
     }
-}
-
-/// Is the run of the event not built yet? It is where the event sends, or comes when the first
-/// cycle is half over.
-fn is_early(network: &Network, event: &Event) -> bool
-    requires network { IsInRange network.now }
-    requires event { IsEventInRange event.now }
-    ensures { IsTrue result ↔ IsEarly network.now event.now }
-{
-    matches!(event.what, What::Send(_, _)) || network.cycle.amount() / 2 <= event.time.amount()
 }

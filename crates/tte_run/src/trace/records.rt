@@ -1,23 +1,25 @@
-ghost use Rattle.std.specs.Prelude.{◌≡◌, ◌⊎◌, List, IfErr, OnOk};
+ghost use Rattle.std.specs.Prelude.{◌≡◌, ◌+◌, ◌⊎◌, ◌^◌, pos, ◌≤ℤ◌, List, IfErr, OnOk, true};
 ghost use Rattle.net_plan.specs.Ranges.{IsInRange};
 ghost use Rattle.net_plan.specs.declared.event.Event.{Event as EventValue};
 ghost use Rattle.run_law.specs.declared.note.Note.{Note as NoteValue};
 ghost use Rattle.trace_text.specs.Ranges.{IsTime};
-ghost use Rattle.tte_run.specs.traces.Records.{IsCut, IsUnderway, MayBefall, PutsEvent, PutsRest, PutsUntil, StandsExact};
 ghost use Rattle.tte_run.specs.Faults.{PutFailed};
 ghost use Rattle.tte_run.specs.Putting.{Over};
+ghost use Rattle.tte_run.specs.traces.Records.{ComesNext, IsCut, IsReached, IsUnderway, MayCome, PutsEvent, PutsRest, PutsUntil, StandsExact};
+ghost use Rattle.whole_world.specs.Running.{Reaches};
 
 use crate::Status;
 use crate::put_line::end_with;
+use device_machines::DeviceMachine;
 use drift_clock::SegmentClock;
-use drift_world::World;
 use net_plan::{Event, Network};
 use report_text::write;
 use tte_io::{LineText, Sink};
 use tte_units::Units;
+use whole_world::World;
 
 /// The world of the program, whose clocks are exact.
-pub(crate) type ExactWorld<'a> = World<'a, SegmentClock>;
+pub(crate) type ExactWorld<'a> = World<'a, SegmentClock, DeviceMachine>;
 
 /// Puts the next records that are earlier than a time. Their lines are made in `text`, one after the
 /// other.
@@ -32,8 +34,11 @@ pub(crate) fn put_until<K: Sink>(
 ) -> Result<(), Status>
     requires in_range { IsInRange network.now }
     requires underway { IsUnderway network.now world.old }
+    requires time { until.0 ≤ℤ pos (2 ^ 60 + 1) }
+    requires ended { world.old.ended ≡ true → until.0 ≤ℤ pos (world.old.now + 1) }
     ensures puts { (events : List EventValue) (notes : List NoteValue) → StandsExact network.now world.old events notes
-        → Over K.Sink out.old out.new (PutsUntil network.now events notes until world.new result) }
+        → Over K.Sink out.old out.new (PutsUntil network.now events notes until world.old world.new result) }
+    ensures reached { OnOk result (Reaches world.old world.new until) }
     ensures quiet { OnOk result (K.faults out.new ≡ K.faults out.old) }
     ensures cause { IfErr result (λ status. IsCut status (PutFailed K.Sink out.old out.new)) }
 {
@@ -63,9 +68,11 @@ pub(crate) fn put_event<K: Sink>(
 ) -> Result<(), Status>
     requires in_range { IsInRange network.now }
     requires underway { IsUnderway network.now world.old }
-    requires next { MayBefall world.old line event.now }
+    requires next { MayCome network.now world.old line event.now }
     ensures puts { (events : List EventValue) (notes : List NoteValue) → StandsExact network.now world.old events notes
+        → ComesNext network.now events notes event.now
         → Over K.Sink out.old out.new (PutsEvent network.now events notes event.now world.new result) }
+    ensures reached { OnOk result (IsReached world.new event.now.time) }
     ensures quiet { OnOk result (K.faults out.new ≡ K.faults out.old) }
     ensures cause { IfErr result (λ status. IsCut status (PutFailed K.Sink out.old out.new)) }
 {
@@ -96,7 +103,7 @@ pub(crate) fn put_rest<K: Sink>(
     requires in_range { IsInRange network.now }
     requires underway { IsUnderway network.now world.old }
     requires time { IsTime end }
-    requires last { end ≡ world.old.now }
+    requires reached { IsReached world.old end }
     ensures puts { (events : List EventValue) (notes : List NoteValue) → StandsExact network.now world.old events notes
         → Over K.Sink out.old out.new (PutsRest network.now events notes end world.new result) }
     ensures cause { (result ≡ Status.Done) ⊎ IsCut result (PutFailed K.Sink out.old out.new) }

@@ -28,7 +28,6 @@ pub(crate) fn put_fault<K: Sink>(
         TraceFault::After => put_refusal(number, "after", line, out),
         TraceFault::Long => put_refusal(number, "long", line, out),
         TraceFault::Line(refusal) => put_refusal(number, line_reason(refusal), line, out),
-        TraceFault::Early => put_refusal(number, "early", line, out),
         TraceFault::Event(outside) => put_outside(number, outside, line, out),
     }
 }

@@ -2,7 +2,7 @@ ghost use Rattle.std.specs.Prelude.{◌≡◌, ◌<◌, ◌^◌, List, ℕ, Opti
 ghost use Rattle.net_plan.specs.declared.network.Network.{Network as NetworkValue};
 ghost use Rattle.tte_run.specs.Faults.{HasCause, PutFailed, ReadFailed};
 ghost use Rattle.tte_run.specs.Putting.{Over, Shown, shown_by};
-ghost use Rattle.tte_run.specs.traces.Answer.{IsBuilt, IsRunStatus, IsTraceAnswer};
+ghost use Rattle.tte_run.specs.traces.Answer.{IsRunStatus, IsRunAnswer};
 ghost use Rattle.tte_run.specs.traces.Steps.{Begins, IsOngoing, IsRunning, RunEnds, Steps};
 
 use crate::Status;
@@ -10,11 +10,12 @@ use crate::trace::fault::TraceStop;
 use crate::trace::lines::Trace;
 use crate::trace::records::{ExactWorld, put_event, put_rest};
 use crate::trace::refusing::put_fault;
-use drift_world::{OutOfMemory, World};
+use device_machines::machines_of;
 use schedule_tables::Accepted;
 use std::alloc::Global;
 use tte_io::{LineText, Sink, Source};
 use tte_units::Units;
+use whole_world::{OutOfMemory, World};
 
 /// A run under a trace.
 #[derive(Drop)]
@@ -29,13 +30,20 @@ pub(crate) struct Running<'a> {
 
 impl<'a> Running<'a> {
     /// The run of a network that nothing has befallen.
-    pub(crate) fn begin(alloc: Global, accepted: &'a Accepted) -> Result<Running<'a>, OutOfMemory>
-        requires { IsBuilt accepted.now }
+    ///
+    /// The error is that memory ran out.
+    pub(crate) fn begin(
+        alloc: Global,
+        accepted: &'a Accepted,
+    ) -> Result<Running<'a>, OutOfMemory>
         ensures { IfOk result (Begins accepted.now) }
     {
+        let Ok(machines) = machines_of(alloc, accepted) else {
+            return Err(OutOfMemory);
+        };
         Ok(Running {
             trace: Trace::new(accepted),
-            world: World::begin(alloc, accepted)?,
+            world: World::begin(alloc, accepted, machines)?,
             time: Units(0),
         })
     }
@@ -89,7 +97,7 @@ impl<'a> Running<'a> {
     pub(crate) fn finish<B: Source, K: Sink>(&mut self, second: &mut B, out: &mut K) -> Status
         requires { IsOngoing self.old }
         ensures ends { (network : NetworkValue) → Begins network self.old → Over K.Sink out.old out.new
-            (RunEnds (IsTraceAnswer network) network (B.left second.old) (B.left second.new) result) }
+            (RunEnds (λ trace. IsRunAnswer trace network) network (B.left second.old) (B.left second.new) result) }
         ensures statuses { IsRunStatus result }
         ensures cause { HasCause result (ReadFailed B.Source second.old second.new) (PutFailed K.Sink out.old out.new) }
     {

@@ -29,8 +29,5 @@ returns-in-Line-clause-gives g c =
     (subst (λ (reason : List ℕ). Gives (line_answer TraceRefused (trace_refusal_line c.args.number reason)) c.put_refusal-in-Line.result
     (shown c.args.out.now) (shown c.put_refusal-in-Line.new.out)) c.line_reason.ensures.text c.put_refusal-in-Line.ensures.gives)
 
-pub returns-in-Early-clause-gives : goal.returns-in-Early-clause-gives
-returns-in-Early-clause-gives g c = same_fault c.args.number c.in-Early.is c.put_refusal-in-Early.ensures.gives
-
 pub returns-in-Event-clause-gives : goal.returns-in-Event-clause-gives
 returns-in-Event-clause-gives g c = same_fault c.args.number c.in-Event.is c.put_outside.ensures.gives

@@ -6,17 +6,17 @@ use Rattle.tte_run.specs.Faults.{PutFailed}
 use Rattle.tte_run.specs.traces.Refusing.{fault_answer}
 use Rattle.tte_run.specs.declared.trace.fault.TraceFault.{TraceFault}
 use Rattle.tte_run.proofs.traces.Ends.{IsStatusOf, fault_cause, ends_at_end, ends_at_event, ends_at_fault, ends_at_read, ends_unpassed}
-use Rattle.tte_run.proofs.traces.Steps.{ends_as, next_befalls, next_given, one_line_more, reads_end, reads_fault, reads_found, reads_next, runs_as, runs_on, runs_still, stands_as, stands_next}
+use Rattle.tte_run.proofs.traces.Steps.{ends_as, comes_next, next_comes, next_given, one_line_more, reads_end, reads_fault, reads_found, reads_next, runs_as, runs_on, runs_still, stands_as, stands_next}
 use Rattle.tte_run.proofs.traces.Streams.{stops_behind, takes_little, writes_answer, writes_event, writes_nothing, writes_rest}
 use Rattle.tte_run.proofs.trace.steps.Running.step.Goals as goal
 
 pub put_event-requires-clause-next : goal.put_event-requires-clause-next
 put_event-requires-clause-next g c =
-    let o = c.requires in
-    let gives =
-    next_given o.network o.events c.next_event.new.self c.in-Ok-Some.event c.in-Ok-Some.field-0-is
-    (c.in-Ok-Some.ensures.follows o.network o.events o.stands.follows) in
-    next_befalls c.into-line.result o.stands gives (c.into-line.ensures ∙ c.lines.ensures)
+    let at = c.network-network.result.now in
+    let events = c.requires.events in
+    let stands = stands_as (c.network-network.ensures.value ∙ c.requires.stands.follows.over) c.requires.stands in
+    let gives = next_given at events c.next_event.new.self c.in-Ok-Some.event c.in-Ok-Some.field-0-is (c.in-Ok-Some.ensures.follows at events stands.follows) in
+    next_comes c.into-line.result stands gives (c.into-line.ensures ∙ c.lines.ensures)
 
 pub returns-in-Ok-clause-further : goal.returns-in-Ok-clause-further
 returns-in-Ok-clause-further g c =
@@ -32,8 +32,13 @@ returns-in-Ok-clause-ongoing g c =
     let events = c.requires.events in
     let stands = stands_as (c.network-network.ensures.value ∙ c.requires.stands.follows.over) c.requires.stands in
     let gives = next_given at events c.next_event.new.self c.in-Ok-Some.event c.in-Ok-Some.field-0-is (c.in-Ok-Some.ensures.follows at events stands.follows) in
-    let puts = c.in-Ok.ensures.puts events c.requires.notes stands.world in
-    record { network = at; events = events ++ c.in-Ok-Some.event ∷ []; notes = c.requires.notes ++ puts.more; stands = stands_next stands gives puts }
+    let puts = c.in-Ok.ensures.puts events c.requires.notes stands.world (comes_next stands gives) in
+    record {
+      network = at;
+      events = events ++ c.in-Ok-Some.event ∷ [];
+      notes = c.requires.notes ++ puts.more;
+      stands = stands_next stands gives c.in-Ok.ensures.reached puts;
+    }
 
 pub returns-in-Ok-clause-steps : goal.returns-in-Ok-clause-steps
 returns-in-Ok-clause-steps g c network first old running =
@@ -44,7 +49,7 @@ returns-in-Ok-clause-steps g c network first old running =
     let event = c.in-Ok-Some.event in
     let gives = next_given at r.events c.next_event.new.self event c.in-Ok-Some.field-0-is (c.in-Ok-Some.ensures.follows at r.events r.stands.follows) in
     let reads = reads_next event c.in-Ok-Some.field-0-is (reads_found r c.in-Ok-Some.ensures.takes) in
-    runs_on r gives reads (c.in-Ok.ensures.puts r.events r.notes r.stands.world))
+    runs_on r gives reads c.in-Ok.ensures.reached (c.in-Ok.ensures.puts r.events r.notes r.stands.world (comes_next r.stands gives)))
 
 pub returns-in-Err-clause-steps : goal.returns-in-Err-clause-steps
 returns-in-Err-clause-steps g c network first old running =
@@ -53,7 +58,10 @@ returns-in-Err-clause-steps g c network first old running =
     let r = runs_still now begun c.next_event.ensures.nothing_put in
     let new = shown_by g.K.Sink c.put_event.new.out in
     let event = c.in-Ok-Some.event in
-    let puts = c.in-Err.ensures.puts r.events r.notes r.stands.world in
+    let gives =
+    next_given c.network-network.result.now r.events c.next_event.new.self event c.in-Ok-Some.field-0-is
+    (c.in-Ok-Some.ensures.follows c.network-network.result.now r.events r.stands.follows) in
+    let puts = c.in-Err.ensures.puts r.events r.notes r.stands.world (comes_next r.stands gives) in
     let writes = writes_event c.network-network.result.now r.events r.notes event c.put_event.new.world c.in-Err.status now new puts in
     let reads = reads_next event c.in-Ok-Some.field-0-is (reads_found r c.in-Ok-Some.ensures.takes) in
     ends_at_event c.next_event.new.self r reads puts (takes_little new r c.in-Ok-Some.ensures.takes writes))

@@ -1,6 +1,0 @@
-pub mod Times
-pub mod Due
-pub mod Clocks
-pub mod Steps
-pub mod Standings
-pub mod Callers

@@ -1,5 +1,0 @@
-pub mod Progress
-pub mod Kept
-pub mod Clocks
-pub mod Notes
-pub mod Standing
