@@ -1,4 +1,4 @@
-use Rattle.std.proofs.Common.{ap, subst, sym, ◌≡◌, ◌∙◌, pos, ℕ, List, Result, Ok, Err, arith}
+use Rattle.std.proofs.Common.{ap, subst, sym, ◌≡◌, ◌∙◌, pos, ℕ, List, Result, Ok, Err, arith, length, ◌<◌}
 use Rattle.std.specs.Prelude.{IfOk, OnErr}
 use Rattle.net_plan.specs.declared.ids.DeviceId.{DeviceId}
 use Rattle.net_plan.specs.declared.network.Network.{Network}
