@@ -124,8 +124,7 @@ module _ {C M : Type 0} (reading : C → ℕ → ℕ) (stands : M → Network �
       let s = running.s in
       let own = running.is.devices device (subst (λ (k : Network). device.0 < length k.device) running.is.same of_it) in
       let same : own.0 ≡ machine = let e : Some own.0 ≡ Some machine = sym own.1 ∙ held in cc in
-      let is : (node : Node) × keeps stands own.0 s.network device node = elim own.2 [ inl k ↦ (k.node, k.is) | inr o ↦ (o.node, o.is) ] in
-      (
+      let is : (node : Node) × keeps stands own.0 s.network device node = elim own.2 [ inl k ↦ (k.node, k.is) | inr o ↦ (o.node, o.is) ] in (
         is.0,
         subst (λ (k : Kept M). keeps stands k network device is.0) same
             (subst (λ (k : Network). keeps stands own.0 k device is.0) (sym running.is.same) is.1),
@@ -167,7 +166,7 @@ if_some : {X : Type 0} (P : X → Type 0) (o : Option X) → ((x : X) → o ≡ 
 if_some P None each = tt
 if_some P (Some x) each = each x refl
 
-from_some : {X : Type 0} (P : X → Type 0) (o : Option X) (x : X) → IfSome o P → o ≡ Some x → P x
+pub from_some : {X : Type 0} (P : X → Type 0) (o : Option X) (x : X) → IfSome o P → o ≡ Some x → P x
 from_some P None x is e = absurd cc
 from_some {X} P (Some y) x is e = let same : y ≡ x = cc in subst P same is
 
@@ -350,6 +349,39 @@ module _ {C M : Type 0} (last_step : C → ℕ) (reading : C → ℕ → ℕ) (s
       (λ d e le. inl (after_now (14 ∷ state.shown ∷ []) d (from_some (λ (x : Due). x.time ≡ state.time → ⊥) due d no_due e) le))
       (none_befell (now ∷ 14 ∷ state.shown ∷ []) calm)
       (λ ended more. never_self (now ∷ 14 ∷ state.shown ∷ []))
+
+  -- all that is under way, and each timer, is of a later time
+  pub place_after : IfSome place (λ q. q.at ≡ state.time → q.rank ≡ 2 → ⊥) → IfSome place (λ q. q.at ≡ state.time → q.rank ≡ 8 → ⊥)
+      → IfSome place (λ q. state.time < q.at)
+  place_after no_arrival no_departure =
+      if_some (λ (q : Place). state.time < q.at) place
+      (λ q e.
+      let le = place_later q e in
+      elim (cases_lt now q.at) [
+        | inl lt ↦ lt
+        | inr ge ↦
+            let same : q.at ≡ state.time = omega (arith, le, ge) in
+            elim (first_rank q e) [
+              | inl two ↦ absurd (from_some (λ (x : Place). x.at ≡ state.time → x.rank ≡ 2 → ⊥) place q no_arrival e same two)
+              | inr eight ↦ absurd (from_some (λ (x : Place). x.at ≡ state.time → x.rank ≡ 8 → ⊥) place q no_departure e same eight)
+            ]
+      ])
+
+  pub due_after : IfSome due (λ d. d.time ≡ state.time → ⊥) → IfSome due (λ d. state.time < d.time)
+  due_after no_due =
+      if_some (λ (d : Due). state.time < d.time) due
+      (λ d e.
+      let le = due_later d e in
+      elim (cases_lt now d.time) [
+        | inl lt ↦ lt
+        | inr ge ↦ absurd (from_some (λ (x : Due). x.time ≡ state.time → ⊥) due d no_due e (omega (arith, le, ge)))
+      ])
+
+  -- the first that is under way is at this place of the network
+  pub placed : (q : Place) → place ≡ Some q → (q.device < length network.device) × (q.link < length network.link)
+  placed q e =
+      let first = first_is q e in
+      subst (λ (p : Place). (p.device < length network.device) × (p.link < length network.link)) first.at (under.placed first.entry first.there)
 
   -- nothing before a time
   pub none_before : (t : ℕ) → t ≤ 2 ^ 60 + 1 → state.pending ≡ false → (state.ended ≡ true → state.shown < length network.device → ⊥)

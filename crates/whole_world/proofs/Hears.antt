@@ -122,14 +122,25 @@ told_settled network other now hs place signal is so =
     ∙ ap (λ (l : List ℕ). let h : Happening = record
     { note = record { number = 0; time = units_of now; body = body }; frame = frame_by other hs body; octets = l } in h) so.octets
 
--- no record of it needs more octets
-pub arrival_octets : (place : Place) (is : Arrival) (signal : SignalSent) → have_octets (arrived place is signal)
-arrival_octets place (arrivals.Dropped reason) signal = tt
-arrival_octets place (arrivals.Waits frame point) signal = tt
-arrival_octets place (arrivals.Passes frame way) signal = tt
-arrival_octets place (arrivals.PassesAndWaits frame way point) signal = tt
-arrival_octets place (arrivals.Accepted vl cycle) signal = tt
-arrival_octets place (arrivals.Delivered vl cycle) signal = tt
+-- the record has its octets, where it needs them
+sent_octets : (place : Place) (given : _) (is : Arrival) → have_octets (arrived place is (signals.Octets given))
+sent_octets place given (arrivals.Dropped reason) = tt
+sent_octets place given (arrivals.Waits frame point) = tt
+sent_octets place given (arrivals.Passes frame way) = tt
+sent_octets place given (arrivals.PassesAndWaits frame way point) = tt
+sent_octets place given (arrivals.Accepted vl cycle) = tt
+sent_octets place given (arrivals.Delivered vl cycle) = tt
+
+arrival_octets : (network other : Network) (device : DeviceId) (node : Node) (moment : Moment) (place : Place) (link : LinkId) (signal : SignalSent)
+    → have_octets (arrived place (arrival_at other device node moment link (signal_as network signal)) signal)
+arrival_octets network other device node moment place link (signals.Control frame) =
+    control_so (λ (is : Arrival). have_octets (arrived place is (signals.Control frame))) other device link (standpoint_at node moment) frame
+    (record { dropped = λ reason. tt; waits = λ point. tt; passes = λ way. tt; both = λ way point. tt })
+arrival_octets network other device node moment place link (signals.Timed own) =
+    timed_so (λ (is : Arrival). have_octets (arrived place is (signals.Timed own))) other device link (standpoint_at node moment) (octets_of network own)
+    (last_taken_by node) (record { dropped = λ reason. tt; accepted = λ vl cycle. tt; delivered = λ vl cycle. tt })
+arrival_octets network other device node moment place link (signals.Octets given) =
+    sent_octets place given (arrival_at other device node moment link (signal_as network (signals.Octets given)))
 
 -- ---- the list of machines
 
@@ -232,7 +243,18 @@ module _ {C M : Type 0} (reading : C → ℕ → ℕ) (stands : Kept M → Netwo
       record { call = node_of.2; arrives = λ octets are linked. may_come_so octets are },
     )
 
-    -- and once it has, the world stands again
+    -- and once it has, its record has its octets
+    pub heard_octets : (heard : Kept M) (octets : List ℕ) (result : Arrival) → AreOctetsOf (signal_as network signal) octets
+        → ((other : Network) (device : DeviceId) → HasHeard stands other device moment e.link octets result machine heard)
+        → have_octets (arrived place result signal)
+    heard_octets heard octets result are hears =
+        let answer : result ≡ arrival_at s.network e.device node_of.0 moment e.link (signal_as network signal) =
+        (hears s.network e.device node_of.0 node_of.1 node_of.2 (may_come_so octets are)).0
+        ∙ ap (arrival_at s.network e.device node_of.0 moment e.link) are.is in
+        subst (λ (is : Arrival). have_octets (arrived place is signal)) (sym answer)
+        (arrival_octets network s.network e.device node_of.0 moment place e.link signal)
+
+    -- and the world stands again
     pub heard_stands : (heard : Kept M) (octets : List ℕ) (result : Arrival) (machines : List (Kept M)) (settled : List Settled) (put_at : ℕ)
         → AreUnderWay network state.under_way.entries
         → ComesFirst reading stands s (world_of network state) notes old (numbers_of place)

@@ -1,5 +1,5 @@
 -- The frames that senders make.
-use Rattle.std.proofs.Common.{◌≡◌, ℕ, ◌+◌, ◌-◌, ◌≤◌, ◌<◌, ◌^◌, ◌==◌, Bool, true, false, List, [], ◌++◌, length, Option, Some, None, ap, refl, replicate, subst, sym, ◌∙◌, slice_get, get_or, take, length-append, append_assoc, inl, inr, arith}
+use Rattle.std.proofs.Common.{◌≡◌, ℕ, ◌+◌, ◌-◌, ◌≤◌, ◌<◌, ◌^◌, ◌==◌, Bool, true, false, List, [], ◌++◌, length, Option, Some, None, ap, refl, replicate, subst, sym, ◌∙◌, slice_get, drop, get_or, take, length-append, append_assoc, inl, inr, arith}
 use Rattle.std.specs.List.{All}
 use Rattle.std.specs.Option.{option_map_or}
 use Rattle.std.specs.Prelude.{if◌then◌else◌}
@@ -71,7 +71,7 @@ front_made network vl cycle range =
 
 read_behind : (front rest : List ℕ) (at size x : ℕ) → length front ≡ at → x < 256 ^ size → field at size (front ++ (big_bytes size x ++ rest)) ≡ x
 read_behind front rest at size x is less =
-    ap (λ (n : ℕ). big_number size (Rattle.std.proofs.Common.drop n (front ++ (big_bytes size x ++ rest)))) (sym is)
+    ap (λ (n : ℕ). big_number size (drop n (front ++ (big_bytes size x ++ rest)))) (sym is)
     ∙ ap (big_number size) (drop-append_seam front (big_bytes size x ++ rest))
     ∙ big_number-reads_back size x rest less
 
@@ -101,7 +101,7 @@ type_shown network vl cycle less =
     ∙ sym (append_assoc (a ++ b) c (d ++ (e ++ rest))) in
     ap (field 12 2) split ∙ read_behind front (e ++ rest) 12 2 vl.ethertype size (omega (arith, less))
 
-in_all : {X : Type 0} (P : X → Type 0) (xs : List X) (i : ℕ) (x : X) → All P xs → slice_get xs i ≡ Some x → P x
+pub in_all : {X : Type 0} (P : X → Type 0) (xs : List X) (i : ℕ) (x : X) → All P xs → slice_get xs i ≡ Some x → P x
 in_all P xs i x all e = subst P (get_or_from_slice_get xs i x x e) (all i x (slice_get_within xs i x e))
 
 -- octets with another EtherType are no protocol control frame

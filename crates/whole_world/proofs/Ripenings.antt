@@ -3,6 +3,7 @@ use Rattle.std.proofs.Common.{◌≡◌, ◌⊎◌, ℕ, ◌+◌, ◌<◌, ◌�
 use Rattle.std.specs.List.{slice_get}
 use Rattle.std.specs.Prelude.{◌↔◌}
 use Rattle.std.specs.Option.{option_and_then}
+use Rattle.std.proofs.lemmas.Option.{get_or_from_slice_get, slice_get_within}
 use Rattle.net_plan.specs.declared.ids.DeviceId.{DeviceId}
 use Rattle.net_plan.specs.declared.network.Network.{Network}
 use Rattle.pcf_values.specs.declared.pcf.Pcf.{Pcf}
@@ -24,10 +25,11 @@ use Rattle.sync_state.specs.declared.state.State.TheVariants.{Joining}
 use Rattle.tte_units.specs.Amount.{units_of}
 use Rattle.tte_units.specs.declared.units.Units.{Units}
 use Rattle.whole_world.proofs.Fits.{all_put, all_put_some, have_octets}
-use Rattle.whole_world.proofs.HiddenCauses.{settled_in_order}
+use Rattle.whole_world.proofs.HiddenCauses.{InOrder, settled_in_order}
 use Rattle.whole_world.proofs.Puts.{one_put_in, two_put_in}
 use Rattle.whole_world.proofs.Swaps.{IsTaken, at_in, from_map, in_at, in_map, is_set, same_place, stayed, stays, stood}
 use Rattle.whole_world.specs.Keeping.{keeps}
+use Rattle.whole_world.specs.Places.{IsPutAt}
 use Rattle.whole_world.specs.Ripening.{AreSettledSo, joined_record, judged_so, ripe_record}
 use Rattle.whole_world.specs.Stepping.{IsAt}
 use Rattle.whole_world.specs.Views.{settled_at, waiting_as, world_of}
@@ -37,6 +39,7 @@ use Rattle.whole_world.specs.declared.kept.Kept.{Kept}
 use Rattle.whole_world.specs.declared.state.State.{State}
 use Rattle.world_law.proofs.giving.Given.{some_same}
 use Rattle.world_law.proofs.ripening.Asking.{MayAsk, may_ask}
+use Rattle.world_law.proofs.ripening.Ripens.{all_in}
 use Rattle.world_law.proofs.ripening.RipenedSteps.{ripened_step, waits_within}
 use Rattle.world_law.specs.world.Calls.{moment_of}
 use Rattle.world_law.specs.world.Ripening.{HasRipened, ripe_bodies}
@@ -83,10 +86,10 @@ module _ (index : ℕ) (w : Waits) (old new : List Waits) (t : IsTaken index w o
 pub below_taken : (number index : ℕ) (w : Waits) (old new : List Waits) → IsTaken index w old new → All (λ v. v.cause < number) old
     → All (λ v. v.cause < number) new
 below_taken number index w old new t below =
-    Rattle.world_law.proofs.ripening.Ripens.all_in (λ v. v.cause < number) new (λ v there.
+    all_in (λ v. v.cause < number) new (λ v there.
     let at = in_at old v (stayed index w old new t v there) in
-    let lt = Rattle.std.proofs.lemmas.Option.slice_get_within old at.0 v at.1 in
-    subst (λ (x : Waits). x.cause < number) (Rattle.std.proofs.lemmas.Option.get_or_from_slice_get old at.0 v v at.1) (below at.0 v lt))
+    let lt = slice_get_within old at.0 v at.1 in
+    subst (λ (x : Waits). x.cause < number) (get_or_from_slice_get old at.0 v v at.1) (below at.0 v lt))
 
 pub others_wait : (index : ℕ) (w : Waits) (old new : List Waits) → IsTaken index w old new → (v : Waits) → (v.device.0 ≡ w.device.0 → ⊥)
     → IsIn v new ↔ IsIn v old
@@ -169,17 +172,17 @@ frame_is s network now hs w verdict of =
     } in h) (sym of)
 
 module _ (s : Scenario) (network : Network) (now : ℕ) (hs : List Happening) (w : Waits) (of : frame_from hs w.cause ≡ Some w.frame) where
-  judged_in : (verdict : Judgement) (old mid new : List Settled) (at : ℕ) → Rattle.whole_world.specs.Places.IsPutAt (judged_so w verdict) old mid at
-      → new ≡ mid → Rattle.whole_world.proofs.HiddenCauses.InOrder (map (settled_at network now) old)
+  judged_in : (verdict : Judgement) (old mid new : List Settled) (at : ℕ) → IsPutAt (judged_so w verdict) old mid at
+      → new ≡ mid → InOrder (map (settled_at network now) old)
       → ArePutIn s.network hs now (kinds.Permanent w.device w.link w.cause w.point verdict ∷ []) (map (settled_at network now) old)
       (map (settled_at network now) new)
   judged_in verdict old mid new at put same order =
       one_put_in s.network network now hs (kinds.Permanent w.device w.link w.cause w.point verdict) (judged_so w verdict) old new at
-      (subst (λ (l : List Settled). Rattle.whole_world.specs.Places.IsPutAt (judged_so w verdict) old l at) (sym same) put) order
+      (subst (λ (l : List Settled). IsPutAt (judged_so w verdict) old l at) (sym same) put) order
       (frame_is s network now hs w verdict of)
 
   pub are_put_in : (result : Ripe) (old new : List Settled) → AreSettledSo w result old new
-      → Rattle.whole_world.proofs.HiddenCauses.InOrder (map (settled_at network now) old)
+      → InOrder (map (settled_at network now) old)
       → ArePutIn s.network hs now (ripe_bodies w.device w.link w.cause w.point result) (map (settled_at network now) old)
       (map (settled_at network now) new)
   are_put_in ripe.Opened old new a order = judged_in judgements.Opened old a.mid new a.at a.first a.more order
@@ -194,7 +197,7 @@ module _ (s : Scenario) (network : Network) (now : ℕ) (hs : List Happening) (w
       (frame_is s network now hs w judgements.Integrates of) refl
   are_put_in (ripe.Dropped reason) old new a order =
       one_put_in s.network network now hs (kinds.Dropped w.device w.link w.cause reason) (ripe_record w (ripe.Dropped reason)) old new a.at
-      (subst (λ (l : List Settled). Rattle.whole_world.specs.Places.IsPutAt (ripe_record w (ripe.Dropped reason)) old l a.at) (sym a.more) a.first) order refl
+      (subst (λ (l : List Settled). IsPutAt (ripe_record w (ripe.Dropped reason)) old l a.at) (sym a.more) a.first) order refl
 
 -- none of them needs octets
 record_fits : (w : Waits) (result : Ripe) → have_octets (ripe_record w result)

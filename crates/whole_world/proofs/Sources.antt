@@ -176,7 +176,7 @@ module _ {C M : Type 0} (last_step : C → ℕ) (reading : C → ℕ → ℕ) (s
   waits_by (Some d) first none (inr r) w clock there own of_it time at t le most reached b =
       let least = least_slot state.timers d w.device.0 time first at in
       let by = same_time t d.time (3 ∷ w.device.0 ∷ amount w.point ∷ parting w) (3 ∷ r.one.device.0 ∷ amount r.one.point ∷ parting r.one)
-          (omega (arith, least, le)) (subst (λ (q : List ℕ). IsBefore (ripe_place t (waiting_as w)) q) r.place b) in
+      (omega (arith, least, le)) (subst (λ (q : List ℕ). IsBefore (ripe_place t (waiting_as w)) q) r.place b) in
       let now : t ≡ d.time = by.0 in
       let one = r.at in
       let low : r.one.device.0 ≤ w.device.0 =
@@ -203,7 +203,7 @@ module _ {C M : Type 0} (last_step : C → ℕ) (reading : C → ℕ → ℕ) (s
   acts_by (Some d) first none (inr r) device time at t le most b =
       let least = least_slot state.timers d (length network.device + device.0) time first at in
       let by = same_time t d.time (4 ∷ device.0 ∷ []) (3 ∷ r.one.device.0 ∷ amount r.one.point ∷ parting r.one)
-          (omega (arith, least, le)) (subst (λ (q : List ℕ). IsBefore (act_place t device) q) r.place b) in
+      (omega (arith, least, le)) (subst (λ (q : List ℕ). IsBefore (act_place t device) q) r.place b) in
       ranked_before (device.0 ∷ []) (r.one.device.0 ∷ amount r.one.point ∷ parting r.one) by.1
 
   -- nor what is under way
@@ -235,7 +235,7 @@ module _ {C M : Type 0} (last_step : C → ℕ) (reading : C → ℕ → ℕ) (s
         let clock_is = some_same _ _ _ own timed.of_clock in
         let machine_is = some_same _ _ _ held timed.of_machine in
         let le = timed.acts.none node task (subst (λ (k : Kept M). keeps stands k network device node) machine_is kept) pending t from most
-            (subst (λ (k : C). reading_for network node task ≤ℤ pos (reading k t)) clock_is reached) in
+        (subst (λ (k : C). reading_for network node task ≤ℤ pos (reading k t)) clock_is reached) in
         acts_by due firsts.some_due firsts.no_due not.timers device timed.act timed.of_act t le most b;
     befell = not.befell;
     clocks = not.clocks;
@@ -299,8 +299,7 @@ module _ {C M : Type 0} (reading : C → ℕ → ℕ) (stands : M → Network �
       let of_it : device.0 < length network.device = omega (arith, inside, slots, high) in
       let timed = are.each device of_it in
       let slot : due.slot ≡ length network.device + device.0 = omega (arith, high) in
-      let is = is_time timed.act (ap (λ (n : ℕ). slice_get state.timers n) slot ∙ timed.of_act) in
-      (
+      let is = is_time timed.act (ap (λ (n : ℕ). slice_get state.timers n) slot ∙ timed.of_act) in (
         device,
         slot,
         of_it,
@@ -405,12 +404,11 @@ module _ {C M : Type 0} (last_step : C → ℕ) (reading : C → ℕ → ℕ) (s
       let machine_is = some_same _ _ _ held timed.of_machine in
       let clock_is = some_same _ _ _ own.1 timed.of_clock in
       let task = timed.acts.one (omega (arith, is, now, limit)) node
-          (subst (λ (k : Kept M). keeps stands k network device node) machine_is
-          (subst (λ (k : Network). keeps stands machine k device node) (sym old.same) kept)) in
+      (subst (λ (k : Kept M). keeps stands k network device node) machine_is
+      (subst (λ (k : Network). keeps stands machine k device node) (sym old.same) kept)) in
       let reads : reading timed.clock timed.act ≡ s.reading device state.time =
-          ap (λ (n : ℕ). reading timed.clock n) (omega (arith, is, now)) ∙ ap (λ (k : C). reading k state.time) (sym clock_is)
-          ∙ sym (own.2 state.time (omega arith)) in
-      (
+      ap (λ (n : ℕ). reading timed.clock n) (omega (arith, is, now)) ∙ ap (λ (k : C). reading k state.time) (sym clock_is)
+      ∙ sym (own.2 state.time (omega arith)) in (
         task.0,
         subst (λ (k : Network). IsPending k device node task.0) old.same task.1,
         subst (λ (k : Network). reading_for k node task.0 ≤ℤ pos (s.reading device state.time)) old.same

@@ -119,7 +119,7 @@ module _ {X : Type 0} (index : ℕ) (x : X) (old new : List X) (t : IsTaken inde
   stayed v there = in_permuted _ _ v (IsPermutation-sym _ _ permuted) (inr there)
 
   pub stays : (v : X) → IsIn v old → (v ≡ x → ⊥) → IsIn v new
-  stays v there other = elim (in_permuted _ _ v permuted there) [ | inl e ↦ absurd (other e) | inr rest ↦ rest ]
+  stays v there other = elim (in_permuted _ _ v permuted there) [ inl e ↦ absurd (other e) | inr rest ↦ rest ]
 
 -- what `swap_remove` takes out
 pub taken : {X : Type 0} (old new : Vec X) (index : ℕ) (x : X) → index < length old.items → x ≡ get_or old.items index x

@@ -12,7 +12,8 @@ use Rattle.run_law.specs.records.Order.{IsIn}
 use Rattle.tte_units.specs.declared.units.Units.{Units}
 use Rattle.whole_world.specs.Keeping.{keeps}
 use Rattle.whole_world.specs.Sourcing.{AreTimed}
-use Rattle.whole_world.specs.Stepping.{ActsAt, ChangesOnly, IsRipeAt, IsTimed}
+use Rattle.whole_world.specs.Sound.{IsSized}
+use Rattle.whole_world.specs.Stepping.{ActsAt, ChangesOnly, IsRipeAt, IsRunning, IsTimed}
 use Rattle.whole_world.specs.Timing.{IsLeastPoint, IsReachedAt, IsTimeFor}
 use Rattle.whole_world.specs.declared.contents.Waits.{Waits}
 use Rattle.whole_world.specs.declared.kept.Kept.{Kept}
@@ -74,13 +75,12 @@ ripe_timed reading clock waiting device now None time low none is = record {
 ripe_timed reading clock waiting device now (Some point) time low least is = record {
   none = λ w there at u from most reached.
       let le = least.1 w there at in reads_less reading clock now point time u low is from most (omega (arith, ints, le, reached));
-  one = λ true_time.
-      (
-        least.0.0,
-        least.0.1,
-        least.0.2,
-        subst (λ (p : Units). p.0 ≤ℤ pos (reading clock time)) (sym least.0.3) (reads_so reading clock now point time is true_time),
-      );
+  one = λ true_time. (
+    least.0.0,
+    least.0.1,
+    least.0.2,
+    subst (λ (p : Units). p.0 ≤ℤ pos (reading clock time)) (sym least.0.3) (reads_so reading clock now point time is true_time),
+  );
 }
 
 pub acts_timed : {C M : Type 0} (reading : C → ℕ → ℕ) (stands : M → Network → DeviceId → Node → Type 0) (network : Network) (clock : C) (machine : Kept M)
@@ -131,6 +131,39 @@ still_timed reading stands network old new device is clocks machines waiting lat
 }
 
 module _ {C M : Type 0} (reading : C → ℕ → ℕ) (stands : M → Network → DeviceId → Node → Type 0) (network : Network) where
+  -- one device and its clock have changed, and its timers are set then
+  pub rekeyed_by : (device : DeviceId) (old mid new : State C M) → AreTimed reading stands network old → device.0 < length network.device
+      → ((i : ℕ) → (i ≡ device.0 → ⊥) → slice_get mid.clocks.items i ≡ slice_get old.clocks.items i)
+      → ((i : ℕ) → (i ≡ device.0 → ⊥) → slice_get mid.machines.items i ≡ slice_get old.machines.items i)
+      → ((w : Waits) → (w.device.0 ≡ device.0 → ⊥) → IsIn w mid.waiting.items ↔ IsIn w old.waiting.items)
+      → mid.time ≡ old.time → mid.timers ≡ old.timers
+      → new ≡ record mid { timers = new.timers }
+      → IsTimed reading stands network new.timers new device
+      → length new.timers ≡ length mid.timers
+      → ((slot : ℕ) → (slot ≡ device.0 → ⊥) → (slot ≡ length network.device + device.0 → ⊥) → slice_get new.timers slot ≡ slice_get mid.timers slot)
+      → (All (λ (time : ℕ). mid.time ≤ time) mid.timers → All (λ (time : ℕ). new.time ≤ time) new.timers)
+      → AreTimed reading stands network new
+  rekeyed_by device old mid new are of_it clocks machines waiting time timers same own sized others later = record {
+    sized = sized ∙ ap length timers ∙ are.sized;
+    each = λ other there.
+        elim (cases_eq other.0 device.0) [
+          | inl e ↦
+              subst (λ (d : DeviceId). IsTimed reading stands network new.timers new d) (ap (λ (n : ℕ). let d : DeviceId = record { 0 = n } in d) (sym e)) own
+          | inr ne ↦
+              still_timed reading stands network old new other (are.each other there)
+              (ap (λ (s : State C M). slice_get s.clocks.items other.0) same ∙ clocks other.0 ne)
+              (ap (λ (s : State C M). slice_get s.machines.items other.0) same ∙ machines other.0 ne)
+              (λ w at. subst (λ (s : State C M). IsIn w s.waiting.items ↔ IsIn w old.waiting.items) (sym same) (waiting w (λ e. ne (sym at ∙ e))))
+              (let now = ap (λ (s : State C M). s.time) same in omega (arith, now, time))
+              (others other.0 ne (λ e. omega (arith, e, there)) ∙ ap (λ (l : List ℕ). slice_get l other.0) timers)
+              (others (length network.device + other.0) (λ e. omega (arith, e, of_it)) (λ e. ne (omega (arith, e)))
+              ∙ ap (λ (l : List ℕ). slice_get l (length network.device + other.0)) timers)
+        ];
+    later = later
+        (subst (λ (n : ℕ). All (λ (t : ℕ). n ≤ t) mid.timers) (sym time)
+        (subst (λ (l : List ℕ). All (λ (t : ℕ). old.time ≤ t) l) (sym timers) are.later));
+  }
+
   -- a step of one device, whose timers are set then
   pub rekeyed : (device : DeviceId) (old mid new : State C M) → AreTimed reading stands network old → device.0 < length network.device
       → ChangesOnly device.0 old mid
@@ -141,24 +174,9 @@ module _ {C M : Type 0} (reading : C → ℕ → ℕ) (stands : M → Network �
       → ((slot : ℕ) → (slot ≡ device.0 → ⊥) → (slot ≡ length network.device + device.0 → ⊥) → slice_get new.timers slot ≡ slice_get mid.timers slot)
       → (All (λ (time : ℕ). mid.time ≤ time) mid.timers → All (λ (time : ℕ). new.time ≤ time) new.timers)
       → AreTimed reading stands network new
-  rekeyed device old mid new are of_it changes timers same own sized others later = record {
-    sized = sized ∙ ap length timers ∙ are.sized;
-    each = λ other there.
-        elim (cases_eq other.0 device.0) [
-          | inl e ↦ subst (λ (d : DeviceId). IsTimed reading stands network new.timers new d) (ap (λ (n : ℕ). let d : DeviceId = record { 0 = n } in d) (sym e)) own
-          | inr ne ↦
-              still_timed reading stands network old new other (are.each other there)
-              (ap (λ (s : State C M). slice_get s.clocks.items other.0) same ∙ ap (λ (c : _). slice_get c.items other.0) changes.clocks)
-              (ap (λ (s : State C M). slice_get s.machines.items other.0) same ∙ changes.machines other.0 ne)
-              (λ w at. subst (λ (s : State C M). IsIn w s.waiting.items ↔ IsIn w old.waiting.items) (sym same)
-              (changes.waiting w (λ e. ne (sym at ∙ e))))
-              (let now = ap (λ (s : State C M). s.time) same in let was = changes.time in omega (arith, now, was))
-              (others other.0 ne (λ e. omega (arith, e, there)) ∙ ap (λ (l : List ℕ). slice_get l other.0) timers)
-              (others (length network.device + other.0) (λ e. omega (arith, e, of_it)) (λ e. ne (omega (arith, e))) ∙ ap (λ (l : List ℕ). slice_get l (length network.device + other.0)) timers)
-        ];
-    later = later (subst (λ (n : ℕ). All (λ (time : ℕ). n ≤ time) mid.timers) (sym changes.time)
-    (subst (λ (l : List ℕ). All (λ (time : ℕ). old.time ≤ time) l) (sym timers) are.later));
-  }
+  rekeyed device old mid new are of_it changes timers same own sized others later =
+      rekeyed_by device old mid new are of_it (λ i ne. ap (λ (c : _). slice_get c.items i) changes.clocks) changes.machines changes.waiting changes.time
+      timers same own sized others later
 
   -- a step that leaves what timers are for as it was
   pub unmoved : (old new : State C M) → AreTimed reading stands network old → new.clocks ≡ old.clocks → new.machines.items ≡ old.machines.items
@@ -172,7 +190,7 @@ module _ {C M : Type 0} (reading : C → ℕ → ℕ) (stands : M → Network �
         (omega (arith, time)) (ap (λ (l : List ℕ). slice_get l device.0) timers)
         (ap (λ (l : List ℕ). slice_get l (length network.device + device.0)) timers);
     later = subst (λ (n : ℕ). All (λ (t : ℕ). n ≤ t) new.timers) (sym time)
-    (subst (λ (l : List ℕ). All (λ (t : ℕ). old.time ≤ t) l) (sym timers) are.later);
+        (subst (λ (l : List ℕ). All (λ (t : ℕ). old.time ≤ t) l) (sym timers) are.later);
   }
 
   -- a step of none of the devices
@@ -188,7 +206,7 @@ module _ {C M : Type 0} (reading : C → ℕ → ℕ) (stands : M → Network �
         (omega (arith, time)) (ap (λ (l : List ℕ). slice_get l device.0) timers)
         (ap (λ (l : List ℕ). slice_get l (length network.device + device.0)) timers);
     later = subst (λ (n : ℕ). All (λ (t : ℕ). n ≤ t) new.timers) (sym c.time)
-    (subst (λ (l : List ℕ). All (λ (t : ℕ). old.time ≤ t) l) (sym timers) are.later);
+        (subst (λ (l : List ℕ). All (λ (t : ℕ). old.time ≤ t) l) (sym timers) are.later);
   }
 
   pub unchanged : (old new : State C M) → AreTimed reading stands network old → ((device : ℕ) → ChangesOnly device old new) → new.timers ≡ old.timers
@@ -205,4 +223,75 @@ module _ {C M : Type 0} (reading : C → ℕ → ℕ) (stands : M → Network �
         still_timed reading stands network old (record old { time = t; early = early }) device (are.each device there) refl refl
         (λ w at. ((λ i. i), (λ i. i))) later refl refl;
     later = none;
+  }
+
+-- ---- the timers of all devices are set, one after the other
+
+-- those of so many are right, none is past, and nothing else has changed
+pub record AreSetTo {C M : Type 0} (reading : C → ℕ → ℕ) (stands : M → Network → DeviceId → Node → Type 0) (network : Network) (count : ℕ)
+    (old state : State C M) : Type 0 where
+  pub same : state ≡ record old { timers = state.timers }
+  pub sized : length state.timers ≡ 2 * length network.device
+  pub later : All (λ (time : ℕ). old.time ≤ time) state.timers
+  pub each : (device : DeviceId) → device.0 < count → device.0 < length network.device → IsTimed reading stands network state.timers state device
+
+module _ {C M : Type 0} (last_step : C → ℕ) (reading : C → ℕ → ℕ) (stands : M → Network → DeviceId → Node → Type 0) (network : Network)
+    (old state : State C M) (same : state ≡ record old { timers = state.timers }) where
+  -- what a state keeps does not depend on its timers
+  pub sized_with : IsSized last_step network old → IsSized last_step network state
+  sized_with is =
+      subst (λ (s : State C M). IsSized last_step network s) (sym same)
+      (record {
+        clocks = is.clocks;
+        machines = is.machines;
+        broken = is.broken;
+        ups = is.ups;
+        downs = is.downs;
+        stepped = is.stepped;
+        limit = is.limit;
+        shown = is.shown;
+      })
+
+  pub running_with : IsRunning reading stands network old → IsRunning reading stands network state
+  running_with is =
+      subst (λ (s : State C M). IsRunning reading stands network s) (sym same) (record { s = is.s; notes = is.notes; is = is.is })
+
+module _ {C M : Type 0} (reading : C → ℕ → ℕ) (stands : M → Network → DeviceId → Node → Type 0) (network : Network) where
+  -- one device more
+  pub set_more : (device : DeviceId) (old mid new : State C M) → AreSetTo reading stands network device.0 old mid
+      → new ≡ record mid { timers = new.timers }
+      → IsTimed reading stands network new.timers new device
+      → length new.timers ≡ length mid.timers
+      → ((slot : ℕ) → (slot ≡ device.0 → ⊥) → (slot ≡ length network.device + device.0 → ⊥) → slice_get new.timers slot ≡ slice_get mid.timers slot)
+      → (All (λ (time : ℕ). mid.time ≤ time) mid.timers → All (λ (time : ℕ). new.time ≤ time) new.timers)
+      → device.0 < length network.device → AreSetTo reading stands network (device.0 + 1) old new
+  set_more device old mid new are same own sized others later there =
+      let was = ap (λ (s : State C M). s.time) are.same in
+      let now = ap (λ (s : State C M). s.time) same in
+      record {
+        same = same ∙ ap (λ (s : State C M). let k : State C M = record s { timers = new.timers } in k) are.same;
+        sized = sized ∙ are.sized;
+        later = subst (λ (n : ℕ). All (λ (time : ℕ). n ≤ time) new.timers) (now ∙ was)
+            (later (subst (λ (n : ℕ). All (λ (time : ℕ). n ≤ time) mid.timers) (sym was) are.later));
+        each = λ other less of_it.
+            elim (cases_eq other.0 device.0) [
+              | inl e ↦
+                  subst (λ (d : DeviceId). IsTimed reading stands network new.timers new d) (ap (λ (n : ℕ). let d : DeviceId = record { 0 = n } in d) (sym e))
+                  own
+              | inr ne ↦
+                  still_timed reading stands network mid new other (are.each other (omega (arith, less, ne)) of_it)
+                  (ap (λ (s : State C M). slice_get s.clocks.items other.0) same)
+                  (ap (λ (s : State C M). slice_get s.machines.items other.0) same)
+                  (λ w at. subst (λ (s : State C M). IsIn w s.waiting.items ↔ IsIn w mid.waiting.items) (sym same) ((λ i. i), (λ i. i)))
+                  (omega (arith, now)) (others other.0 ne (λ e. omega (arith, e, of_it)))
+                  (others (length network.device + other.0) (λ e. omega (arith, e, there)) (λ e. ne (omega (arith, e))))
+            ];
+      }
+
+  pub all_set : (count : ℕ) (old new : State C M) → AreSetTo reading stands network count old new → length network.device ≤ count
+      → AreTimed reading stands network new
+  all_set count old new are all = record {
+    sized = are.sized;
+    each = λ device there. are.each device (omega (arith, there, all)) there;
+    later = subst (λ (n : ℕ). All (λ (time : ℕ). n ≤ time) new.timers) (sym (ap (λ (s : State C M). s.time) are.same)) are.later;
   }

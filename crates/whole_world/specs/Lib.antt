@@ -1,4 +1,6 @@
+pub mod Acting
 pub mod Applying
+pub mod Befalling
 pub mod Beginning
 pub mod Following
 pub mod Frames
@@ -9,13 +11,13 @@ pub mod Leaving
 pub mod Naming
 pub mod Places
 pub mod Ripening
+pub mod Running
 pub mod Showing
 pub mod Sound
-pub mod Views
-pub mod Stepping
-pub mod Running
 pub mod Sourcing
-pub mod Timing
-pub mod Wells
-pub mod Turns
+pub mod Stepping
 pub mod Storing
+pub mod Timing
+pub mod Turns
+pub mod Views
+pub mod Wells

@@ -3,6 +3,7 @@ use Rattle.std.specs.Prelude.{◌≡◌, ◌⊎◌, ℕ, ◌-◌, ◌^◌, ◌<�
 use Rattle.drift_clock.specs.Readings.{reading_at, value_after}
 use Rattle.net_plan.specs.Belonging.{IsOfNetwork}
 use Rattle.net_plan.specs.declared.event.Event.{Event}
+use Rattle.net_plan.specs.declared.event.What.TheVariants.{Hold}
 use Rattle.net_plan.specs.declared.event.What.{What}
 use Rattle.net_plan.specs.declared.ids.DeviceId.{DeviceId}
 use Rattle.net_plan.specs.declared.network.Network.{Network}
@@ -53,6 +54,11 @@ pub record IsOpenTo {C M : Type 0} (world : World C (Kept M)) (event : Event) : 
   pub time : event.time.0 ≡ pos world.now
   pub early : world.early ≡ true
   pub unended : world.ended ≡ false
+
+-- a hold that it sets is a time from 0 on
+abbrev pub HoldsATime : What → Type 0
+HoldsATime (Hold link way hold) = pos 0 ≤ℤ hold.0
+HoldsATime other = Unit {0}
 
 -- the record of an event, with its number and line
 abbrev pub event_note : ℕ → ℕ → Event → Note

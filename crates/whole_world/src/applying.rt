@@ -1,4 +1,4 @@
-ghost use Rattle.std.specs.Prelude.{◌≡◌, ◌<◌, ◌≤◌, ◌^◌, ◌||◌, Bool, pos, unsigned_abs, ◌≤ℤ◌, All, length, filter, not, slice_get, Some, ℕ, ◌≢◌, ◌++◌, map, IfSome, IfNone, IfOk, OnOk, OnErr};
+ghost use Rattle.std.specs.Prelude.{◌≡◌, ◌*◌, ◌+◌, ◌<◌, ◌≤◌, ◌^◌, ◌||◌, Bool, pos, unsigned_abs, ◌≤ℤ◌, All, length, filter, not, slice_get, Some, ℕ, ◌≢◌, ◌++◌, map, IfSome, IfNone, IfOk, OnOk, OnErr};
 ghost use Rattle.std.specs.List.{list_any};
 ghost use Rattle.net_plan.specs.declared.event.What.{What as WhatValue};
 ghost use Rattle.net_plan.specs.declared.ids.DeviceId.{DeviceId};
@@ -10,7 +10,7 @@ ghost use Rattle.run_law.specs.scenario.Scenarios.{turns_on};
 ghost use Rattle.run_law.specs.scenario.Ways.{is_way};
 ghost use Rattle.sync_state.specs.declared.state.State.TheVariants.{Off};
 ghost use Rattle.tte_units.specs.declared.rates.Ppb.{Ppb};
-ghost use Rattle.whole_world.specs.Applying.{clock_after, way_after, HasItsLink};
+ghost use Rattle.whole_world.specs.Applying.{IsElsewhere, device_in, clock_after, way_after, HasItsLink};
 ghost use Rattle.whole_world.specs.Views.{befell_as};
 ghost use Rattle.net_plan.specs.declared.tables.Way.{Way as WayOf};
 ghost use Rattle.whole_world.specs.Keeping.{keeps};
@@ -21,8 +21,9 @@ ghost use Rattle.world_law.specs.world.Steps.{also_befell, befallen_node, ends_w
 use crate::OutOfMemory;
 use crate::contents::{Befallen, Waits, WayState};
 use crate::kept::Kept;
+use crate::state::State;
 use drift_clock::Clock;
-use net_plan::{DeviceId, Way, What};
+use net_plan::{DeviceId, Network, Way, What};
 use run_law::Machine;
 use tte_units::Units;
 
@@ -126,6 +127,8 @@ pub fn befall_machines<M: Machine + Drop>(machines: &mut Vec<Kept<M>>, what: &Wh
         → (after : KeptValue M) × (slice_get machines.new.items device.0 ≡ Some after)
         × ((node : Node) → keeps M.stands machine network device node
         → keeps M.stands after network device (befallen_node turned what.now device node)) }
+    ensures others { (device : DeviceId) → IsElsewhere what.now device
+        → slice_get machines.new.items device.0 ≡ slice_get machines.old.items device.0 }
     ensures length { length machines.new.items ≡ length machines.old.items }
 {
     match what {
@@ -205,4 +208,46 @@ pub fn ends(what: &What) -> bool
     ensures { result ≡ ends_world what.now }
 {
     matches!(what, What::End)
+}
+
+/// The device whose clock or machine the event changes.
+fn device_in(what: &What) -> Option<DeviceId>
+    ensures { result ≡ device_in what.now }
+{
+    match what {
+        What::Rate(device, _) | What::On(device) | What::Break(device) => Some(*device),
+        What::Wire(_, _, _)
+        | What::Hold(_, _, _)
+        | What::Cut(_, _)
+        | What::Heal(_, _)
+        | What::Send(_, _)
+        | What::End => None,
+    }
+}
+
+impl<C: Clock, M: Machine + Drop> State<C, M> {
+    ghost use Rattle.net_plan.specs.Belonging.{IsOfNetwork};
+    ghost use Rattle.whole_world.specs.Sound.{IsSized};
+    ghost use Rattle.whole_world.specs.Stepping.{IsRunning, IsTimed};
+
+    /// Sets the timers of the device that the event changes, if it changes one.
+    pub fn rekey_by(&mut self, network: &Network, what: &What)
+        requires sized { IsSized C.last_step network.now self.old }
+        requires there { IsOfNetwork network.now what.now }
+        requires slots { length self.old.timers ≡ 2 * length network.now.device }
+        requires running { IsRunning C.reading M.stands network.now self.old }
+        ensures same { self.new ≡ record self.old { timers = self.new.timers } }
+        ensures timed { (device : DeviceId) → device_in what.now ≡ Some device
+            → IsTimed C.reading M.stands network.now self.new.timers self.new device }
+        ensures sized { length self.new.timers ≡ length self.old.timers }
+        ensures others { (device : DeviceId) → device.0 < length network.now.device → IsElsewhere what.now device
+            → (slice_get self.new.timers device.0 ≡ slice_get self.old.timers device.0)
+            × (slice_get self.new.timers (length network.now.device + device.0)
+            ≡ slice_get self.old.timers (length network.now.device + device.0)) }
+        ensures later { All (λ (time : ℕ). self.old.time ≤ time) self.old.timers → All (λ (time : ℕ). self.new.time ≤ time) self.new.timers }
+    {
+        if let Some(device) = device_in(what) {
+            self.rekey(network, device.0);
+        }
+    }
 }

@@ -1,13 +1,19 @@
 ghost use Rattle.std.specs.Prelude.{◌≡◌, length, replicate, map, IfOk, false, All, ◌≤◌};
 ghost use Rattle.net_plan.specs.Ranges.{IsInRange};
 ghost use Rattle.tte_units.specs.Amount.{amount};
-ghost use Rattle.whole_world.specs.Beginning.{first_way};
+ghost use Rattle.whole_world.specs.Beginning.{IsFirstState, first_way};
 
 use crate::OutOfMemory;
 use crate::contents::WayState;
+use crate::kept::all_kept;
+use crate::state::State;
 use drift_clock::Clock;
+use due_queue::UnderWay;
+use due_timers::Timers;
 use net_plan::Network;
+use run_law::Machine;
 use std::alloc::Global;
+use std::collections::VecDeque;
 
 /// A fresh clock for each device.
 pub fn fresh_clocks<C: Clock>(alloc: Global, network: &Network) -> Result<Vec<C>, OutOfMemory>
@@ -49,4 +55,42 @@ pub fn none_broken(alloc: Global, devices: usize) -> Result<Vec<bool>, OutOfMemo
     ensures { IfOk result (λ broken. broken.items ≡ replicate devices false) }
 {
     Ok(vec![in alloc; false; devices]?)
+}
+
+/// The state of a network at time 0.
+pub fn fresh_state<C: Clock, M: Machine + Drop>(
+    alloc: Global,
+    network: &Network,
+    machines: Vec<M>,
+) -> Result<State<C, M>, OutOfMemory>
+    requires range { IsInRange network.now }
+    requires each { length machines.items ≡ length network.now.device }
+    ensures { IfOk result (λ state. IsFirstState C.fresh C.last_step network.now machines.items state) }
+{
+    let clocks = fresh_clocks(alloc, network)?;
+    let ups = first_ways(alloc, network)?;
+    let downs = first_ways(alloc, network)?;
+    let broken = none_broken(alloc, machines.len())?;
+    let timers = Timers::new(alloc, 2 * machines.len())?;
+    let machines = all_kept(alloc, machines)?;
+    Ok(State {
+        clocks,
+        machines,
+        broken,
+        ups,
+        downs,
+        under_way: UnderWay::new(alloc),
+        waiting: Vec::new(alloc),
+        stored: Vec::new(alloc),
+        timers,
+        early: true,
+        pending: false,
+        befell: Vec::new(alloc),
+        settled: VecDeque::new(alloc),
+        time: 0,
+        lines: 0,
+        given: 0,
+        ended: false,
+        shown: 0,
+    })
 }

@@ -46,12 +46,7 @@ fn fill(octets: &mut [u8; MOST_OCTETS], front: &[u8])
 }
 
 /// Writes the frame of a virtual link that its sender makes for a cycle, and answers how many octets it has.
-pub fn write_made(
-    network: &Network,
-    vl: VlId,
-    cycle: u32,
-    octets: &mut [u8; MOST_OCTETS],
-) -> usize
+pub fn write_made(network: &Network, vl: VlId, cycle: u32, octets: &mut [u8; MOST_OCTETS]) -> usize
     requires { IsInRange network.now }
     ensures made { take result octets.new ≡ octets_of network.now (Timed.Made vl cycle) }
     ensures least { 60 ≤ result }

@@ -1,18 +1,19 @@
-ghost use Rattle.std.specs.Prelude.{◌≡◌, Bool, map, IfOk};
+ghost use Rattle.std.specs.Prelude.{◌≡◌, Bool, true, map, IfOk, IfSome, IfNone};
 ghost use Rattle.net_plan.specs.declared.ids.DeviceId.{DeviceId};
 ghost use Rattle.net_plan.specs.declared.network.Network.{Network};
 ghost use Rattle.net_plan.specs.declared.event.What.TheVariants.{On, Break};
-ghost use Rattle.run_law.specs.machines.Calls.{MayHear, StandsFor};
+ghost use Rattle.run_law.specs.machines.Calls.{MayAct, MayHear, StandsFor};
 ghost use Rattle.run_law.specs.machines.Nodes.{Node};
 ghost use Rattle.run_law.specs.machines.Tasks.{IsDueReading};
 ghost use Rattle.sync_state.specs.declared.state.State.TheVariants.{Off};
 ghost use Rattle.whole_world.specs.Keeping.{keeps, sound_one};
+ghost use Rattle.world_law.specs.world.Acting.{HasActed};
 ghost use Rattle.world_law.specs.world.Arriving.{HasHeard};
-ghost use Rattle.world_law.specs.world.Steps.{befallen_node};
+ghost use Rattle.world_law.specs.world.Steps.{IsStateOf, befallen_node};
 
 use crate::OutOfMemory;
 use net_plan::LinkId;
-use run_law::{Arrival, Machine, Moment, Reason};
+use run_law::{Act, Arrival, Machine, Moment, Reason};
 use std::alloc::Global;
 use sync_state::State;
 use tte_units::Units;
@@ -22,6 +23,13 @@ use tte_units::Units;
 pub enum Kept<M: Machine + Drop> {
     Sound(M),
     Out(State, Units),
+}
+
+/// What a device shows of itself.
+#[derive(Clone, Copy, Debug, PartialEq, Eq)]
+pub struct Shown {
+    pub state: State,
+    pub adjustment: Units,
 }
 
 impl<M: Machine + Drop> Kept<M> {
@@ -47,6 +55,17 @@ impl<M: Machine + Drop> Kept<M> {
         }
     }
 
+    /// Both.
+    pub fn shown(&self) -> Shown
+        ensures { (network : Network) (device : DeviceId)
+            → IsStateOf (keeps M.stands) network device self.now result.state result.adjustment }
+    {
+        Shown {
+            state: self.state(),
+            adjustment: self.adjustment(),
+        }
+    }
+
     /// The least reading at which it acts by itself. A broken device never does.
     pub fn due(&self) -> Option<Units>
         ensures { (network : Network) (device : DeviceId) (node : Node) → keeps M.stands self.now network device node
@@ -54,6 +73,20 @@ impl<M: Machine + Drop> Kept<M> {
     {
         match self {
             Kept::Sound(machine) => machine.due(),
+            Kept::Out(_, _) => None,
+        }
+    }
+
+    /// Does the first of all that is due at the moment. Where it is None, the device is broken.
+    pub fn act(&mut self, moment: Moment) -> Option<Act>
+        requires { StandsFor (keeps M.stands) self.old (λ network device node. MayAct network device node moment) }
+        ensures acted { IfSome result (λ act. (network : Network) (device : DeviceId)
+            → HasActed (keeps M.stands) network device moment act self.old self.new) }
+        ensures none { IfNone result ((network : Network) (device : DeviceId) (node : Node)
+            → keeps M.stands self.old network device node → node.broken ≡ true) }
+    {
+        match self {
+            Kept::Sound(machine) => Some(machine.act(moment)),
             Kept::Out(_, _) => None,
         }
     }

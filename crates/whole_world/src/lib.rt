@@ -1,11 +1,13 @@
 //! A whole world: a network as it runs, with all its frames.
 #![tactic(auto)]
 
+mod act;
 mod applying;
+mod befalling;
 mod begin;
 mod contents;
-mod give;
 mod frames;
+mod give;
 mod giving;
 mod hear;
 mod kept;
@@ -13,6 +15,7 @@ mod leaving;
 mod memory;
 mod naming;
 mod next;
+mod outcomes;
 mod ripe;
 mod ripen;
 mod sending;
@@ -20,7 +23,6 @@ mod settled;
 mod source;
 mod state;
 mod stepping;
-mod stubs;
 mod timing;
 mod storing;
 mod waiting;

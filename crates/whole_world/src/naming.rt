@@ -9,7 +9,7 @@ use run_law::{Judgement, NoteBody, Why};
 use std::collections::VecDeque;
 
 /// The cause of a record that follows one that is to come.
-const NONE_YET: u64 = u64::MAX;
+pub const NONE_YET: u64 = u64::MAX;
 
 /// Does the record say that the device is told the time?
 fn does_join(first: &NoteBody, device: DeviceId) -> bool

@@ -1,4 +1,4 @@
-ghost use Rattle.std.specs.Prelude.{◌≡◌, ◌^◌, ◌≤◌, ◌<◌, [], ◌∷◌, List, ℕ, true, false, length, Some, slice_get, if◌then◌else◌, pos, unsigned_abs, ◌++◌, ◌+◌, IfOk, OnErr, IfSome, IfNone, None, All, Option, vec_len, vec_capacity};
+ghost use Rattle.std.specs.Prelude.{◌≡◌, ◌↔◌, ◌^◌, ◌≤◌, ◌<◌, [], ◌∷◌, List, ℕ, true, false, length, Some, slice_get, if◌then◌else◌, pos, unsigned_abs, ◌++◌, ◌+◌, IfOk, OnOk, OnErr, IfSome, IfNone, None, All, Option, vec_len, vec_capacity};
 ghost use Rattle.std.specs.VecDeque.{deque_capacity, deque_len};
 ghost use Rattle.due_queue.specs.Places.{IsFirst, numbers_of};
 ghost use Rattle.net_plan.specs.Ranges.{IsInRange};
@@ -23,6 +23,7 @@ use net_plan::{DeviceId, Event, LinkId, Network, Way, What};
 use pcf_values::Pcf;
 use run_law::{Machine, Note, NoteBody};
 use std::collections::VecDeque;
+use sync_state::State as DeviceState;
 use tte_units::Units;
 
 /// The parts of a world that change.
@@ -79,10 +80,14 @@ impl<C: Clock, M: Machine + Drop> State<C, M> {
     ghost use Rattle.world_law.specs.world.Steps.{ComesFirst, FitsWorld, NothingBefore, StandsBehind};
     ghost use Rattle.world_law.specs.source.Agreeing.{scenario};
     ghost use Rattle.world_law.specs.source.Applying.{note_of_event};
+    ghost use Rattle.whole_world.specs.Applying.{IsElsewhere, IsShown, SetsShort, clock_after};
     ghost use Rattle.whole_world.specs.Following.{Follows};
+    ghost use Rattle.run_law.specs.records.Order.{IsIn};
+    ghost use Rattle.whole_world.specs.declared.contents.Waits.{Waits as WaitsValue};
     ghost use Rattle.net_plan.specs.Belonging.{IsOfNetwork};
     ghost use Rattle.net_plan.specs.declared.event.Event.{Event as EventValue};
     ghost use Rattle.net_plan.specs.declared.ids.DeviceId.{DeviceId as DeviceOf};
+    ghost use Rattle.sync_state.specs.declared.state.State.{State as DeviceState};
     ghost use Rattle.tte_units.specs.declared.rates.Ppb.{Ppb};
     ghost use Rattle.world_law.specs.world.World.{Stands, clock_place, note_of};
 
@@ -151,7 +156,7 @@ impl<C: Clock, M: Machine + Drop> State<C, M> {
     }
 
     /// How the way is on which a device sends on a link.
-    fn way_from(&self, network: &Network, device: DeviceId, link: LinkId) -> WayState
+    pub fn way_from(&self, network: &Network, device: DeviceId, link: LinkId) -> WayState
         requires sized { IsSized C.last_step network.now self.now }
         requires there { link.0 < length network.now.link }
         ensures { slice_get (if is_parent_of network.now device link then self.now.downs.items else self.now.ups.items) link.0 ≡ Some result }
@@ -205,6 +210,18 @@ impl<C: Clock, M: Machine + Drop> State<C, M> {
         put_some(&mut self.settled, record);
     }
 
+    /// The state of the device that is turned on, as its machine shows it, where that is what befalls the network.
+    pub fn turned_on(&self, what: &What) -> Option<DeviceState>
+        requires { (device : DeviceOf) → what.now ≡ What.On device → device.0 < length self.now.machines.items }
+        ensures { (network : Network) (device : DeviceOf) → what.now ≡ What.On device → (state : DeviceState)
+            × (result ≡ Some state) × IsShown (keeps M.stands) network self.now.machines.items device state }
+    {
+        match what {
+            What::On(device) => Some(self.machines[device.0 as usize].state()),
+            _ => None,
+        }
+    }
+
     /// An event befalls, before all else of the present instant. Its record is given.
     ///
     /// On an error nothing has changed.
@@ -215,7 +232,21 @@ impl<C: Clock, M: Machine + Drop> State<C, M> {
         requires open { self.old.ended ≡ false }
         requires of_network { IsOfNetwork network.now event.now.what }
         requires slow { (device : DeviceOf) (rate : Ppb) → event.now.what ≡ What.Rate device rate → unsigned_abs rate.0 ≤ 1000000 }
+        requires short { SetsShort event.now.what }
         ensures sound { IsSound C.last_step network.now self.new }
+        ensures note { IfOk result (λ note. note ≡ record {
+            number = self.old.given + 1;
+            time = event.now.time;
+            body = NoteBody.Event (self.old.lines + 1) event.now.what;
+        }) }
+        ensures still { (self.new.time ≡ self.old.time) × (self.new.early ≡ self.old.early) }
+        ensures clocks { OnOk result ((device : DeviceOf) (clock : C) → slice_get self.old.clocks.items device.0 ≡ Some clock
+            → slice_get self.new.clocks.items device.0 ≡ Some (clock_after C.after_step device event.now.time event.now.what clock)) }
+        ensures timers { self.new.timers ≡ self.old.timers }
+        ensures others { OnOk result ((device : DeviceOf) → device.0 < length network.now.device → IsElsewhere event.now.what device
+            → (slice_get self.new.clocks.items device.0 ≡ slice_get self.old.clocks.items device.0)
+            × (slice_get self.new.machines.items device.0 ≡ slice_get self.old.machines.items device.0)
+            × ((w : WaitsValue) → w.device.0 ≡ device.0 → IsIn w self.new.waiting.items ↔ IsIn w self.old.waiting.items)) }
         ensures stands { (f g : DeviceOf → ℕ → ℕ) (past : List EventValue) (notes : List Note)
             → (old : Stands C.reading (keeps M.stands) (scenario network.now f past) (world_of network.now self.old) notes)
             → Follows C.after_step C.reading network.now f g past event.now self.old
@@ -224,6 +255,7 @@ impl<C: Clock, M: Machine + Drop> State<C, M> {
             × Stands C.reading (keeps M.stands) (scenario network.now g (past ++ event.now ∷ [])) (world_of network.now self.new)
             (notes ++ note ∷ [])) }
         ensures err { OnErr result (world_of network.now self.new ≡ world_of network.now self.old) }
+        ensures kept { OnErr result (self.new ≡ record self.old { befell = self.new.befell }) }
     {
         if self.given >= u64::MAX - 1 || self.lines == u64::MAX {
             return Err(OutOfMemory);

@@ -1,5 +1,6 @@
 ghost use Rattle.std.specs.Prelude.{◌≡◌, ℕ, List, [], ◌∷◌, ◌++◌, ◌+◌, ◌*◌, ◌≤◌, ◌<◌, ◌^◌, All, length, slice_get, Option};
 ghost use Rattle.whole_world.specs.declared.contents.Waits.{Waits};
+ghost use Rattle.net_plan.specs.Ranges.{IsInRange};
 ghost use Rattle.whole_world.specs.Timing.{IsLeastPoint, IsTimeFor};
 
 use crate::contents::Waits;
@@ -57,6 +58,7 @@ fn time_for<C: Clock>(clock: &C, now: u64, value: Option<Units>) -> u64
 
 impl<C: Clock, M: Machine + Drop> State<C, M> {
     ghost use Rattle.whole_world.specs.Sound.{IsSized};
+    ghost use Rattle.whole_world.specs.Sourcing.{AreTimed};
     ghost use Rattle.whole_world.specs.Stepping.{IsRunning, IsTimed};
 
     /// Sets the timers of a device: for the frames that wait at it, and for what it does by itself.
@@ -77,7 +79,24 @@ impl<C: Clock, M: Machine + Drop> State<C, M> {
         let ripe = time_for(&self.clocks[index], self.time, point);
         let due = self.machines[index].due();
         let act = time_for(&self.clocks[index], self.time, due);
+        let devices = network.device.as_slice().len();
         self.timers.set(index, ripe);
-        self.timers.set(network.device.as_slice().len() + index, act);
+        self.timers.set(devices + index, act);
+    }
+
+    /// Sets the timers of all devices, where none is past.
+    pub fn rekey_all(&mut self, network: &Network)
+        requires range { IsInRange network.now }
+        requires sized { IsSized C.last_step network.now self.old }
+        requires slots { length self.old.timers ≡ 2 * length network.now.device }
+        requires running { IsRunning C.reading M.stands network.now self.old }
+        requires later { All (λ (time : ℕ). self.old.time ≤ time) self.old.timers }
+        ensures same { self.new ≡ record self.old { timers = self.new.timers } }
+        ensures timed { AreTimed C.reading M.stands network.now self.new }
+    {
+        let devices = network.device.as_slice().len() as u32;
+        for device in 0..devices {
+            self.rekey(network, device);
+        }
     }
 }

@@ -14,6 +14,7 @@ pub mod Emitting
 pub mod FirstStep
 pub mod FromZero
 pub mod GoesOn
+pub mod Held
 pub mod JoinStep
 pub mod JoinSteps
 pub mod JoinsBy

@@ -6,5 +6,6 @@ pub mod Worlds
 pub mod Agreement
 pub mod SameCauses
 pub mod Applies
+pub mod Stays
 pub mod SourcesBack
 pub mod Foremost

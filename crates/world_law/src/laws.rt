@@ -1,5 +1,5 @@
 ghost use Rattle.world_law.specs.device.Growing.{ActsAreFew, ActsGrow, FewAreEmitted};
-ghost use Rattle.world_law.specs.source.Applying.{RunGoesOnByEvent};
+ghost use Rattle.world_law.specs.source.Applying.{RunGoesOnByEvent, RunStaysUnderMore};
 ghost use Rattle.world_law.specs.source.Sources.{DueIsSourced};
 ghost use Rattle.world_law.specs.world.Acting.{ActedStep, LastActedStep};
 ghost use Rattle.world_law.specs.world.Befalling.{BefellStep};
@@ -46,6 +46,11 @@ pub fn few_are_emitted()
 /// The run goes on by the record of an event that befalls.
 pub fn run_goes_on_by_event()
     ensures { RunGoesOnByEvent }
+{}
+
+/// The run up to the next event is the same under this event and those behind it.
+pub fn run_stays_under_more()
+    ensures { RunStaysUnderMore }
 {}
 
 /// A fresh world stands for the run of no records under no events.

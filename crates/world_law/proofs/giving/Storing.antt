@@ -52,6 +52,7 @@ stored_then hs h number stored new is m t = record { real = real; all = all }
           record { taking = it.taking; last = last_then hs h e.device e.vl false o.1 ∙ it.last; number = it.number; octets = it.octets }
       | inr n ↦ record { taking = h; last = last_then hs h e.device e.vl true n.0; number = n.1 ∙ is; octets = n.2 }
     ]
+
     all : (device : DeviceId) (vl : VlId) (taking : Happening) → last_taking (hs ++ h ∷ []) device vl ≡ Some taking
         → (e : Stored) × IsIn e new × (e.device ≡ device) × (e.vl ≡ vl)
     all device vl taking last = elim (cases_Bool (is_accepted device vl h.note.body)) [

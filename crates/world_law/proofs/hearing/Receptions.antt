@@ -119,7 +119,7 @@ arrives_now s hs zs now e is it at so = record {
 }
 
 -- its device is one of the network
-in_all : {X : Type 0} (P : X → Type 0) (xs : List X) (i : ℕ) (x : X) → All P xs → slice_get xs i ≡ Some x → P x
+pub in_all : {X : Type 0} (P : X → Type 0) (xs : List X) (i : ℕ) (x : X) → All P xs → slice_get xs i ≡ Some x → P x
 in_all P xs i x all e = subst P (get_or_from_slice_get xs i x x e) (all i x (slice_get_within xs i x e))
 
 target_in : (network : Network) (way : Way) (l : Link) (device : DeviceId) → IsLinkInRange network l → target_by way l ≡ device

@@ -177,6 +177,19 @@ pub value_is : (network : Network) (row : RowId) (entry : Entry) (cycle : ℕ) �
 value_is network row entry cycle is =
     ap (λ (o : Option Row). pos (cycle * amount network.cycle + option_map_or (λ (r : Row). amount r.offset) o 0)) is.row
 
+-- at a device that does not send the frame, each record of a taking is of an earlier time
+pub taken_sooner : (s : Scenario) (hs : List Happening) (device : DeviceId) (node : Node) (row : RowId) (entry : Entry) (cycle t : ℕ)
+    → IsReaching s hs device node row entry cycle t → IsForwarded s.network device row.0 entry
+    → (h : Happening) → IsIn h hs → is_accepted device entry.row.vl h.note.body ≡ true → time_of h < t
+taken_sooner s hs device node row entry cycle t r f h i e =
+    elim (cases_lt (time_of h) t) [
+      | inl lt ↦ lt
+      | inr ge ↦
+          let it = accepts device entry.row.vl h.note.body e in
+          let le = r.past h i in
+          absurd (none_at_value s hs device row.0 cycle t entry r.range r.rules r.steady r.founded f r.reached h it.0 it.1 it.2 i (omega (arith, ge, le)) it.3)
+    ]
+
 -- at a switch, the last record of a taking is of an earlier time, and the node's frame is that of the record
 last_at : (s : Scenario) (hs : List Happening) (device : DeviceId) (node : Node) (row : RowId) (entry : Entry) (cycle t : ℕ)
     → IsReaching s hs device node row entry cycle t → IsForwarded s.network device row.0 entry → is_end s.network device ≡ false
@@ -184,13 +197,7 @@ last_at : (s : Scenario) (hs : List Happening) (device : DeviceId) (node : Node)
 last_at s hs device node row entry cycle t r f switch =
     let vl = entry.row.vl in
     let at = local_before s hs device in
-    let sooner : (h : Happening) → IsIn h hs → is_accepted device vl h.note.body ≡ true → time_of h < t = λ h i e. elim (cases_lt (time_of h) t) [
-      | inl lt ↦ lt
-      | inr ge ↦
-          let it = accepts device vl h.note.body e in
-          let le = r.past h i in
-          absurd (none_at_value s hs device row.0 cycle t entry r.range r.rules r.steady r.founded f r.reached h it.0 it.1 it.2 i (omega (arith, ge, le)) it.3)
-    ] in
+    let sooner = taken_sooner s hs device node row entry cycle t r f in
     let same = filter_earlier (λ h. is_accepted device vl h.note.body) t hs sooner in
     let last = last_by device vl at hs None None tt (λ h i link from of_vl of_cycle e.
     (let bad : false ≡ true = sym switch ∙ delivered_at s hs h device link from of_vl of_cycle r.founded i e in cc)) in

@@ -7,6 +7,7 @@ use Rattle.std.specs.Prelude.{◌==◌, Result, Ok, Err, option_map, option_and_
 use Rattle.std.proofs.Math.Nat.{div-add-mod, mod-lt}
 use Rattle.std.proofs.lemmas.Bool.{and_parts, cases_Bool, eq-eqb, eqb-true, leb-true, or_parts}
 use Rattle.std.proofs.lemmas.Int.{ints}
+use Rattle.std.proofs.lemmas.Option.{slice_get_within}
 use Rattle.net_plan.specs.Places.{link_at}
 use Rattle.net_plan.specs.declared.ids.DeviceId.{DeviceId}
 use Rattle.net_plan.specs.declared.ids.LinkId.{LinkId}
@@ -244,6 +245,34 @@ delivered_so network device link at octets last vl cycle takes = by (octets_faul
     by (Some reason) t = absurd ((none_dropped reason).1 vl cycle t)
     by None t = by_entry (entry_entering network device link (field 4 2 octets)) t
 
+-- a frame that is delivered is of a virtual link of the network
+delivered_vl : (network : Network) (device : DeviceId) (link : LinkId) (way : Way) (at : Standpoint) (octets : List ℕ) (last : VlId → Option ℕ) (vl : VlId)
+    (cycle : ℕ) → receiver_of network link way ≡ Some device → timed_arrival network device link at octets last ≡ arrivals.Delivered vl cycle
+    → vl.0 < length network.vl
+delivered_vl network device link way at octets last vl cycle received takes = by (octets_fault network at octets) takes
+  where
+    own : (end : Bool) (mine : VlId) (number : ℕ)
+        → (if end then arrivals.Delivered mine number else arrivals.Accepted mine number) ≡ arrivals.Delivered vl cycle → mine ≡ vl
+    own true mine number e = cc
+    own false mine number e = absurd cc
+
+    by_row : (entry : Entry) → entry_entering network device link (field 4 2 octets) ≡ Some entry → (o : Option Reason)
+        → taken_or_fault network device at entry o ≡ arrivals.Delivered vl cycle → vl.0 < length network.vl
+    by_row entry found (Some reason) t = absurd ((none_dropped reason).1 vl cycle t)
+    by_row entry found None t =
+        let it = entering network device link way (field 4 2 octets) entry received found in
+        subst (λ (v : VlId). v.0 < length network.vl) (own (is_end network device) entry.row.vl _ t)
+        (slice_get_within network.vl entry.row.vl.0 entry.vl it.is.vl)
+
+    by_entry : (o : Option Entry) → entry_entering network device link (field 4 2 octets) ≡ o
+        → entry_arrival network device at (length octets) last o ≡ arrivals.Delivered vl cycle → vl.0 < length network.vl
+    by_entry None found t = absurd ((none_dropped _).1 vl cycle t)
+    by_entry (Some entry) found t = by_row entry found (row_fault network at entry (length octets) (last entry.row.vl)) t
+
+    by : (o : Option Reason) → octets_or_fault network device link at octets last o ≡ arrivals.Delivered vl cycle → vl.0 < length network.vl
+    by (Some reason) t = absurd ((none_dropped reason).1 vl cycle t)
+    by None t = by_entry (entry_entering network device link (field 4 2 octets)) refl t
+
 -- a switch that accepts a frame found so
 pub taken_at : (s : Scenario) (front : List Happening) (device : DeviceId) (t : ℕ) (link : LinkId) (cause : ℕ) (vl : VlId) (cycle : ℕ)
     → ArrivesAs s front device t link cause (arrivals.Accepted vl cycle) → IsTakenAt s.network device vl cycle (local_before s front device t)
@@ -277,3 +306,14 @@ value_in (pos a) size cycle some begun e =
     let turned : size * (a / size) ≡ cycle * size = ap (λ (n : ℕ). size * n) e ∙ omega arith in
     (a % size, mod-lt a {m = size} some, ap (λ (n : ℕ). pos n) (omega (arith, parts, turned)), refl)
 value_in (negsuc a) size cycle some begun e = absurd (let none : 0 ≡ cycle = e in omega (arith, none, begun))
+
+-- the virtual link of a frame that is delivered is the network's
+pub delivered_of : (s : Scenario) (front : List Happening) (device : DeviceId) (t : ℕ) (link : LinkId) (cause : ℕ) (vl : VlId) (cycle : ℕ)
+    → ArrivesAs s front device t link cause (arrivals.Delivered vl cycle) → vl.0 < length s.network.vl
+delivered_of s front device t link cause vl cycle a = by a.signal a.arrives.receiver a.becomes
+  where
+    by : (signal : Signal) → receiver_of s.network link a.arrives.way ≡ Some device
+        → arrivals.Delivered vl cycle ≡ arrival_of s front device t link cause signal → vl.0 < length s.network.vl
+    by (control frame) received e = absurd ((none_control s.network device link (standpoint s front device t) frame).1 vl cycle (sym e))
+    by (timed octets) received e =
+        delivered_vl s.network device link a.arrives.way (standpoint s front device t) octets (last_taken front device t link cause) vl cycle received (sym e)

@@ -36,12 +36,12 @@ no_later : (a b : ℕ) (ps qs : List ℕ) → IsBefore (a ∷ ps) (b ∷ qs) →
 no_later a b ps qs (inl lt) = omega arith
 no_later a b ps qs (inr h) = omega (arith, h.0)
 
-up_to_it : (ps : List Happening) (y : Happening) → AllBefore place_of ps (place_of y) → AreUpTo (time_of y) ps
+pub up_to_it : (ps : List Happening) (y : Happening) → AllBefore place_of ps (place_of y) → AreUpTo (time_of y) ps
 up_to_it ps y before h i =
     no_later (time_of h) (time_of y) (rank h.note.body ∷ key (members_in h) h.note.body) (rank y.note.body ∷ key (members_in y) y.note.body) (before h i)
 
 -- the kinds of record: of an event, of a clock, or any other
-kinds : (body : NoteBody) → IsEventBody body ⊎ ((rank body ≡ 14) ⊎ (IsOwn body × (2 ≤ rank body)))
+pub kinds : (body : NoteBody) → IsEventBody body ⊎ ((rank body ≡ 14) ⊎ (IsOwn body × (2 ≤ rank body)))
 kinds (notes.Event line what) = inl tt
 kinds (notes.Clock device reading adjustment state) = inr (inl refl)
 kinds (notes.Arrived device link cause clock) = inr (inr (tt, omega arith))
@@ -75,7 +75,7 @@ event_cause s hs time (notes.Delivered device link cause vl cycle) e c = absurd 
 event_cause s hs time (notes.Dropped device link cause reason) e c = absurd e
 event_cause s hs time (notes.Clock device reading adjustment state) e c = absurd e
 
-clock_cause : (s : Scenario) (hs : List Happening) (time : Units) (body : NoteBody) → rank body ≡ 14 → IsCaused s hs time body → EndsAt s.events time
+pub clock_cause : (s : Scenario) (hs : List Happening) (time : Units) (body : NoteBody) → rank body ≡ 14 → IsCaused s hs time body → EndsAt s.events time
 clock_cause s hs time (notes.Clock device reading adjustment state) e c = c.ends
 clock_cause s hs time (notes.Event line what) e c = absurd (omega (arith, e))
 clock_cause s hs time (notes.Arrived device link cause clock) e c = absurd (omega (arith, e))
@@ -108,7 +108,7 @@ pub event_place : (y : Happening) (line : ℕ) (what : What) → y.note.body ≡
 event_place y line what e = ap (λ (b : NoteBody). time_of y ∷ rank b ∷ key (members_in y) b) e
 
 -- a record of rank 2 or more before the event's is of an earlier time
-earlier_by_rank : (t r a line : ℕ) (more : List ℕ) → 2 ≤ r → IsBefore (t ∷ r ∷ more) (a ∷ 1 ∷ line ∷ []) → t < a
+pub earlier_by_rank : (t r a line : ℕ) (more : List ℕ) → 2 ≤ r → IsBefore (t ∷ r ∷ more) (a ∷ 1 ∷ line ∷ []) → t < a
 earlier_by_rank t r a line more two (inl lt) = lt
 earlier_by_rank t r a line more two (inr (e, inl lt)) = absurd (omega (arith, lt, two))
 earlier_by_rank t r a line more two (inr (e, inr (f, b))) = absurd (omega (arith, f, two))

@@ -51,3 +51,20 @@ RunGoesOnByEvent =
     → MayBefall network reading later events event mark ns → IsScenarioRun (scenario network reading events) mark ns
     → IsScenarioRun (scenario network later (events ++ event ∷ [])) (behind (place_of_event events event))
     (ns ++ note_of_event ns events event ∷ [])
+
+-- the events go on with this one and others, none of them earlier; before its time the scenarios agree, no end has
+-- come, and the mark is not behind the place of its record
+pub record MayFollow (network : Network) (reading later : DeviceId → ℕ → ℕ) (events : List Event) (event : Event)
+    (others : List Event) (mark : List ℕ) : Type 0 where
+  pub agree : (t : ℕ) → t < amount event.time → Agree network reading later events (events ++ event ∷ others) t
+  pub running : (time : Units) → EndsAt events time → ⊥
+  pub in_order : (i : ℕ) (e : Event) → slice_get (event ∷ others) i ≡ Some e → amount event.time ≤ amount e.time
+  pub sooner : (p : List ℕ) → IsBefore p mark → IsBefore p (place_of_event events event)
+
+-- then the run up to the mark is the same under all the events
+abbrev pub RunStaysUnderMore : Type 0
+RunStaysUnderMore =
+    (network : Network) (reading later : DeviceId → ℕ → ℕ) (events : List Event) (event : Event) (others : List Event)
+    (mark : List ℕ) (ns : List Note)
+    → MayFollow network reading later events event others mark → IsScenarioRun (scenario network reading events) mark ns
+    → IsScenarioRun (scenario network later (events ++ event ∷ others)) mark ns

@@ -1,5 +1,5 @@
-use Rattle.std.proofs.Common.{rules, ◌≡◌, ◌≤◌, ◌<◌, List, length, None, Some, slice_get, subst}
-use Rattle.std.proofs.lemmas.Option.{slice_get-get_or, slice_get_past}
+use Rattle.std.proofs.Common.{◌≡◌, ◌≤◌, List, length, Some, slice_get, subst}
+use Rattle.std.proofs.lemmas.Option.{slice_get_past}
 use Rattle.net_plan.specs.declared.tables.VirtualLink.{VirtualLink}
 use Rattle.whole_world.proofs.Made.{found_at, made_found, made_none}
 use Rattle.whole_world.proofs.frames.write_made.Goals as goal

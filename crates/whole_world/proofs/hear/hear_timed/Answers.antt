@@ -1,10 +1,10 @@
-use Rattle.std.proofs.Common.{◌≡◌, List, ℕ, subst, sym, take}
+use Rattle.std.proofs.Common.{◌≡◌, subst, sym, take}
 use Rattle.run_law.specs.control.Wires.{signal_of, timed}
 use Rattle.run_law.specs.machines.Calls.{StandsFor}
 use Rattle.whole_world.specs.Hearing.{AreOctetsOf, MayCome}
 use Rattle.whole_world.specs.Keeping.{keeps}
 use Rattle.whole_world.specs.Views.{octets_of}
-use Rattle.whole_world.specs.declared.contents.Timed.TheVariants.{Made, Sent}
+use Rattle.whole_world.specs.declared.contents.Timed.TheVariants.{Made}
 use Rattle.whole_world.specs.declared.contents.Timed.{Timed}
 use Rattle.whole_world.proofs.Hearings.{made_are, may_hear, sent_octets}
 use Rattle.whole_world.proofs.hear.hear_timed.Goals as goal

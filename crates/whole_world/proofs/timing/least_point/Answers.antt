@@ -1,4 +1,4 @@
-use Rattle.std.proofs.Common.{◌≡◌, ℕ, ◌+◌, List, suc, arith, length, take, subst, sym, ap, ◌∙◌, ◌++◌, ◌∷◌, []}
+use Rattle.std.proofs.Common.{◌≡◌, ℕ, ◌+◌, List, suc, arith, take, subst, sym, ap, ◌∙◌, ◌++◌, ◌∷◌, []}
 use Rattle.std.proofs.Math.Seq.{take-length, take-suc}
 use Rattle.whole_world.specs.Timing.{IsLeastPoint}
 use Rattle.whole_world.specs.declared.contents.Waits.{Waits}

@@ -1,4 +1,4 @@
-use Rattle.std.proofs.Common.{◌≡◌, ◌≤ℤ◌, List, None, Some, arith, subst, Option, ◌++◌, ◌∷◌, []}
+use Rattle.std.proofs.Common.{arith, subst, Option}
 use Rattle.std.proofs.lemmas.Int.{ints}
 use Rattle.tte_units.specs.declared.units.Units.{Units}
 use Rattle.whole_world.proofs.LeastPoints.{first_least, kept_elsewhere, kept_least, new_least}

@@ -1,14 +1,18 @@
 use Rattle.std.proofs.Common.{◌≡◌, ◌+◌, ◌∷◌, [], ◌++◌, ℕ, Bool, List, Some, ap, arith, length, map, subst, sym, false, true, unsigned_abs, ◌∙◌}
 use Rattle.std.specs.List.{list_any}
-use Rattle.std.specs.Prelude.{◌↔◌}
+use Rattle.std.specs.Prelude.{◌↔◌, ◌<◌, All, not}
 use Rattle.std.proofs.lemmas.Int.{ints}
 use Rattle.net_plan.specs.declared.event.What.{What}
+use Rattle.net_plan.specs.declared.tables.Way.TheVariants.{Up, Down}
+use Rattle.run_law.specs.scenario.Hypothesis.{breaks_at}
 use Rattle.run_law.specs.declared.note.Note.{Note}
 use Rattle.run_law.specs.declared.note.NoteBody.TheVariants as kinds
 use Rattle.run_law.specs.scenario.Scenarios.{is_broken, is_turned_on_at, turns_on}
 use Rattle.tte_units.specs.Amount.{amount}
 use Rattle.whole_world.proofs.Applies.{any_mapped, waits_more, ways_more}
 use Rattle.whole_world.proofs.Beginnings.{found}
+use Rattle.whole_world.proofs.Elsewhere.{clock_elsewhere, waits_elsewhere}
+use Rattle.whole_world.proofs.Fitting.{AreApart, apart_kept, below_more, ways_short}
 use Rattle.whole_world.proofs.TurnedOn.{turned_on_is}
 use Rattle.whole_world.specs.Keeping.{keeps}
 use Rattle.run_law.specs.records.Order.{IsIn}
@@ -38,6 +42,19 @@ returns-clause-sound g c =
         shown = omega arith;
       };
       under_way = c.requires.sound.under_way;
+      fit = record {
+        ups = ways_short c.args.self.now.ups.items c.set_way.new.ways.items Up c.args.event.now.what c.requires.short c.set_way.ensures.length
+            c.set_way.ensures.each c.requires.sound.fit.ups;
+        downs = ways_short c.args.self.now.downs.items c.set_way-2.new.ways.items Down c.args.event.now.what c.requires.short c.set_way-2.ensures.length
+            c.set_way-2.ensures.each c.requires.sound.fit.downs;
+        octets = c.requires.sound.fit.octets;
+        below = λ e there. let was = c.requires.sound.fit.below e there in omega (arith, was);
+        waits_below = subst (All (λ (w : Waits). w.cause < c.args.self.now.given + 1 + 1)) (sym c.drop_waiting.ensures)
+            (below_more (c.args.self.now.given + 1) (λ w. not (breaks_at w.device.0 c.args.event.now.what)) c.args.self.now.waiting.items
+            c.requires.sound.fit.waits_below);
+        apart = subst AreApart (sym c.drop_waiting.ensures)
+            (apart_kept (λ w. not (breaks_at w.device.0 c.args.event.now.what)) c.args.self.now.waiting.items c.requires.sound.fit.apart);
+      };
     }
 
 pub returns-clause-stands : goal.returns-clause-stands
@@ -101,4 +118,13 @@ returns-clause-stands g c = λ f h past notes old follows may.
           (notes ++ note_of_event notes past event ∷ [])) (sym c.ends-self.ensures)
           (subst (λ (l : List Befell). Stands K.reading stands then_ (after l (ends_world event.what)) (notes ++ note_of_event notes past event ∷ []))
           (sym befell_is) step)),
+    )
+
+pub returns-clause-others : goal.returns-clause-others
+returns-clause-others g c = λ device there away.
+    let many = c.requires.sound.sized.clocks in (
+      clock_elsewhere g.C.Clock.after_step c.args.self.now.clocks.items c.set_rate.new.clocks.items device c.args.event.now.time c.args.event.now.what
+          (omega (arith, there, many)) away c.set_rate.ensures.each,
+      c.befall_machines.ensures.others device away,
+      waits_elsewhere c.args.self.now.waiting.items c.drop_waiting.new.waiting.items device c.args.event.now.what c.drop_waiting.ensures away,
     )

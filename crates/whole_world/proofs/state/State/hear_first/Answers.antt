@@ -1,4 +1,4 @@
-use Rattle.std.proofs.Common.{◌≡◌, ◌+◌, ◌<◌, arith, length, refl, set, subst, sym, ◌∙◌}
+use Rattle.std.proofs.Common.{◌+◌, ◌<◌, arith, length, refl, set, subst, sym, ◌∙◌}
 use Rattle.std.proofs.lemmas.List.{length-set}
 use Rattle.std.proofs.lemmas.List.Sorted.{length_permutation}
 use Rattle.std.proofs.lemmas.Option.{slice_get_read}
@@ -10,7 +10,7 @@ use Rattle.whole_world.specs.declared.contents.Settled.{Settled}
 use Rattle.world_law.proofs.giving.Given.{some_same}
 use Rattle.whole_world.proofs.Befalls.{set_here}
 use Rattle.whole_world.proofs.Fits.{all_put, below_without, have_octets}
-use Rattle.whole_world.proofs.Hears.{arrival_octets, as_sent, heard_stands, may_come, moment_is, set_aside}
+use Rattle.whole_world.proofs.Hears.{as_sent, heard_octets, heard_stands, may_come, moment_is, set_aside}
 use Rattle.whole_world.proofs.UnderWays.{sound_without}
 use Rattle.whole_world.proofs.state.State.hear_first.Goals as goal
 
@@ -49,6 +49,26 @@ returns-clause-sound g c =
     let fit = c.requires.sound.fit in
     let took = c.take_wire-signal in
     let put = c.put_in.ensures.is in
+    let at = c.requires.comes in
+    let device : DeviceId = record { 0 = c.args.place.device } in
+    let within = c.requires.device in
+    let clocks = z.clocks in
+    let machines = z.machines in
+    let held = w.clocks.ok.0 in
+    let kept = w.machines.ok.0 in
+    let there : device.0 < length at.s.network.device = subst (λ (n : Network). device.0 < length n.device) at.is.same within in
+    let own = at.is.clocks device there in
+    let heard = c.hear_signal-arrival in
+    let octets = heard_octets g.C.Clock.reading (keeps g.M.Machine.stands) at.s c.args.network.now w at.notes at.is c.args.place took.result
+    took.new.under_way.entries took.ensures c.requires.wire c.requires.at c.index_mut.result.now
+    (record { time = c.from_amount-time.result; reading = c.read.result })
+    (slice_get_read w.machines.items w.machines.len device.0 c.index_mut.result.now w.machines.ok.0 (omega (arith, machines, within, kept))
+    c.index_mut.ensures.value)
+    (moment_is g.C.Clock.reading at.s w.time device own.0 c.index.result.now c.from_amount-time.result c.read.result
+    (some_same _ _ _ own.1
+    (slice_get_read w.clocks.items w.clocks.len device.0 c.index.result.now w.clocks.ok.0 (omega (arith, clocks, within, held)) c.index.ensures))
+    own.2 c.from_amount-time.ensures.value c.read.ensures)
+    heard.new.kept heard.ensures.0 heard.result heard.ensures.1 heard.ensures.2 in
     record {
       sized = record {
         clocks = z.clocks;
@@ -65,7 +85,7 @@ returns-clause-sound g c =
         ups = fit.ups;
         downs = fit.downs;
         octets = all_put have_octets c.arrived.result w.settled.items c.put_in.new.settled.items put.0 put.1
-            (subst have_octets (sym c.arrived.ensures) (arrival_octets c.args.place c.hear_signal-arrival.result took.result)) fit.octets;
+            (subst have_octets (sym c.arrived.ensures) octets) fit.octets;
         below = below_without (w.given + 1) w.under_way.entries took.new.under_way.entries _ took.ensures fit.below;
         waits_below = fit.waits_below;
         apart = fit.apart;

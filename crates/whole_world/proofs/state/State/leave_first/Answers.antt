@@ -46,7 +46,7 @@ returns-clause-sound g c =
       fit = record {
         ups = fit.ups;
         downs = fit.downs;
-        octets = all_put_some have_octets c.departure-record.result w.settled.items c.put_some.new.settled.items c.put_some.ensures
+        octets = all_put_some have_octets c.departure-record.result w.settled.items c.put_some.new.settled.items c.put_some.ensures.is
             (if_some have_octets c.departure-record.result c.departure-record.ensures.octets) fit.octets;
         below = below_without (w.given + 1) w.under_way.entries c.take_port-frame.new.under_way.entries _ c.take_port-frame.ensures fit.below;
         waits_below = fit.waits_below;
@@ -72,7 +72,7 @@ returns-clause-stands g c = λ s notes old now_is first.
     let given = frame_of_port s hs e (old.ports.real e there).0 in
     let of = shows_of K.reading stands s network w notes old in
     let put = subst (λ (o : Option Settled). IsSomePut o w.settled.items c.put_some.new.settled.items)
-    (c.departure-record.ensures.is s (record { same = of.same; clocks = of.clocks; broken = of.broken; ways = of.ways })) c.put_some.ensures in
+    (c.departure-record.ensures.is s (record { same = of.same; clocks = of.clocks; broken = of.broken; ways = of.ways })) c.put_some.ensures.is in
     let step = left_step K.reading stands s world notes e (filter_map at_port took.new.under_way.entries)
     (map (settled_at network w.time) c.put_some.new.settled.items) old there now_is
     (subst (ComesFirst K.reading stands s world notes old) numbers first)

@@ -1,12 +1,10 @@
-use Rattle.std.proofs.Common.{◌≡◌, ℕ, ◌+◌, ◌*◌, ◌<◌, ◌≤◌, ◌^◌, arith, List, length, slice_get, slice_set, Option, Some, subst, sym, ap, ◌∙◌, All}
+use Rattle.std.proofs.Common.{◌≡◌, ℕ, ◌+◌, ◌<◌, ◌≤◌, arith, List, length, slice_get, slice_set, subst, sym, ap, ◌∙◌, All}
 use Rattle.std.proofs.lemmas.List.{length-set}
 use Rattle.std.proofs.lemmas.List.Elements.{All-set}
 use Rattle.std.proofs.lemmas.Option.{slice_get_read}
 use Rattle.net_plan.specs.declared.ids.DeviceId.{DeviceId}
 use Rattle.net_plan.specs.declared.network.Network.{Network}
-use Rattle.run_law.specs.machines.Nodes.{Node}
 use Rattle.whole_world.proofs.Timings.{IsLow, acts_timed, not_past, ripe_timed, set_other, set_same}
-use Rattle.whole_world.specs.Stepping.{IsRipeAt}
 use Rattle.whole_world.specs.Timing.{IsLeastPoint, IsTimeFor}
 use Rattle.whole_world.specs.declared.contents.Waits.{Waits}
 use Rattle.world_law.proofs.giving.Given.{some_same}
@@ -19,9 +17,9 @@ timers_are : (g : Over) (c : goal.After-set-2 g)
     (length c.args.network.now.device + c.args.device) c.time_for-act.result
 timers_are g c =
     c.set-2.ensures
-    ∙ ap (λ (l : List ℕ). slice_set l (length c.as_slice-2.result.now + c.args.device) c.time_for-act.result) c.set.ensures
+    ∙ ap (λ (l : List ℕ). slice_set l (length c.as_slice-devices.result.now + c.args.device) c.time_for-act.result) c.set.ensures
     ∙ ap (λ (n : ℕ). slice_set (slice_set c.args.self.now.timers c.args.device c.time_for-ripe.result) (n + c.args.device) c.time_for-act.result)
-    (ap length c.as_slice-2.ensures)
+    (ap length c.as_slice-devices.ensures)
 
 pub returns-clause-timed : goal.returns-clause-timed
 returns-clause-timed g c =
@@ -45,7 +43,7 @@ returns-clause-timed g c =
     let again : clock ≡ c.index-3.result.now = some_same _ _ _ own.1
     (slice_get_read w.clocks.items w.clocks.len c.args.device c.index-3.result.now w.clocks.ok.0 (omega (arith, clocks, there, held)) c.index-3.ensures) in
     let low : IsLow K.reading clock w.time = λ u from most.
-        let least = (old.steady device).low u most in let reads = own.2 u from in omega (arith, least, reads) in
+    let least = (old.steady device).low u most in let reads = own.2 u from in omega (arith, least, reads) in
     let point : IsLeastPoint w.waiting.items c.args.device c.least_point-point.result =
     subst (λ (l : List Waits). IsLeastPoint l c.args.device c.least_point-point.result) c.as_slice.ensures.value c.least_point-point.ensures in
     record {

@@ -1,4 +1,4 @@
-use Rattle.std.proofs.Common.{ℕ, List, length, subst}
+use Rattle.std.proofs.Common.{List, length, subst}
 use Rattle.whole_world.proofs.Ripes.{first_ripe, none_ripe}
 use Rattle.whole_world.specs.Ripening.{IsFirstReached}
 use Rattle.whole_world.specs.declared.contents.Waits.{Waits}

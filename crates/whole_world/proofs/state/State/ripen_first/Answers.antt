@@ -1,16 +1,13 @@
-use Rattle.std.proofs.Common.{◌≡◌, ◌+◌, ◌<◌, ◌^◌, ℕ, false, List, Some, length, slice_get, slice_set, length-set, arith, ap, refl, sym, subst, ◌∙◌}
+use Rattle.std.proofs.Common.{◌+◌, false, length, length-set, arith, ap, refl, subst, ◌∙◌}
 use Rattle.std.specs.Vec.{with_item}
 use Rattle.std.proofs.lemmas.Option.{slice_get_read}
-use Rattle.run_law.specs.machines.Nodes.{Node}
 use Rattle.run_law.specs.declared.steps.Moment.{Moment}
 use Rattle.whole_world.proofs.Ripenings.{StandsAfter, asked, below_taken, device_in, low, moment_by, moment_is, octets_fit, others_wait, ripened, still_apart}
 use Rattle.whole_world.proofs.Swaps.{at_in, is_set, taken}
 use Rattle.whole_world.specs.Keeping.{keeps}
-use Rattle.whole_world.specs.Stepping.{ChangesOnly}
 use Rattle.whole_world.specs.declared.contents.Waits.{Waits}
 use Rattle.whole_world.specs.declared.state.State.{State}
 use Rattle.world_law.proofs.giving.Given.{some_same}
-use Rattle.world_law.specs.world.Calls.{moment_of}
 use Rattle.world_law.specs.world.Ripening.{HasRipened}
 use Rattle.whole_world.proofs.state.State.ripen_first.Goals as goal
 

@@ -1,0 +1,13 @@
+-- How the machine of a device stands for it.
+use Rattle.device_machines.specs.declared.device_machine.DeviceMachine.{DeviceMachine}
+use Rattle.device_machines.specs.declared.device_machine.DeviceMachine.TheVariants.{EndSystem, Switch}
+use Rattle.end_system.specs.Standing.{StandsAsEnd}
+use Rattle.net_plan.specs.declared.ids.DeviceId.{DeviceId}
+use Rattle.net_plan.specs.declared.network.Network.{Network}
+use Rattle.run_law.specs.machines.Nodes.{Node}
+use Rattle.switch_ports.specs.Standing.{StandsAs}
+
+-- it stands as the device of the network: as an end system does, or as a switch
+abbrev pub StandsAsDevice : DeviceMachine → Network → DeviceId → Node → Type 0
+StandsAsDevice (EndSystem machine) network device node = StandsAsEnd machine network device node
+StandsAsDevice (Switch machine) network device node = StandsAs machine network device node

@@ -1,0 +1,65 @@
+-- What an act leaves as it was.
+use Rattle.std.proofs.Common.{◌≡◌, ℤ, ◌≤ℤ◌, ◌<ℤ◌, Option, Some, None, ap, arith, refl, subst, sym, ◌∙◌}
+use Rattle.std.specs.Prelude.{IfSome, IsSomeAnd}
+use Rattle.std.proofs.lemmas.Int.{ints}
+use Rattle.net_plan.specs.declared.ids.DeviceId.{DeviceId}
+use Rattle.net_plan.specs.declared.network.Network.{Network}
+use Rattle.run_law.specs.declared.steps.Act.TheVariants as acts
+use Rattle.run_law.specs.declared.steps.Act.{Act}
+use Rattle.run_law.specs.declared.steps.Moment.{Moment}
+use Rattle.run_law.specs.declared.steps.Ripe.TheVariants as ripe
+use Rattle.run_law.specs.declared.steps.Ripe.{Ripe}
+use Rattle.compression.specs.declared.compressed.Compressed.{Compressed}
+use Rattle.membership.specs.Summary.{Summary}
+use Rattle.run_law.specs.machines.Answers.{IsActOf, after_correction, after_emission}
+use Rattle.run_law.specs.machines.Calls.{HasDue}
+use Rattle.run_law.specs.machines.Nodes.{Node}
+use Rattle.run_law.specs.machines.Tasks.{IsDueReading, IsPending, Task, reading_for}
+use Rattle.tte_units.specs.declared.units.Units.{Units}
+use Rattle.sync_state.specs.declared.answers.Verdict.TheVariants.{Corrected, SyncClique, AsyncClique, Cleared}
+use Rattle.sync_state.specs.declared.answers.Verdict.{Verdict}
+
+of_emission : (network : Network) (device : DeviceId) (node : Node) (moment : Moment) (sent : Compressed) (heard : Ripe)
+    → (after_emission network device node moment sent heard).broken ≡ node.broken
+of_emission network device node moment sent ripe.Opened = refl
+of_emission network device node moment sent ripe.Joined = refl
+of_emission network device node moment sent ripe.Repeat = refl
+of_emission network device node moment sent ripe.Within = refl
+of_emission network device node moment sent ripe.Outside = refl
+of_emission network device node moment sent ripe.Integrates = refl
+of_emission network device node moment sent ripe.Ignored = refl
+of_emission network device node moment sent (ripe.Dropped reason) = refl
+
+of_correction : (node : Node) (moment : Moment) (heard : Summary) (cycle : _) (verdict : Verdict)
+    → (after_correction node moment heard cycle verdict).broken ≡ node.broken
+of_correction node moment heard cycle (Corrected by) = refl
+of_correction node moment heard cycle SyncClique = refl
+of_correction node moment heard cycle AsyncClique = refl
+of_correction node moment heard cycle Cleared = refl
+
+-- a device that acts is as sound as before
+pub still_sound : (network : Network) (device : DeviceId) (node : Node) (moment : Moment) (act : Act) (new : Node)
+    → IsActOf network device node moment act new → new.broken ≡ node.broken
+still_sound network device node moment (acts.Send frame) new (cycle, first, of_frame, is) = ap (λ (n : Node). n.broken) is
+still_sound network device node moment (acts.Dispatch row cycle) new (first, is) = ap (λ (n : Node). n.broken) is
+still_sound network device node moment (acts.Emit sent heard) new (first, so, is) =
+    ap (λ (n : Node). n.broken) is ∙ of_emission network device node moment sent heard
+still_sound network device node moment (acts.Correct cycle verdict) new (first, (heard, comes, is)) =
+    ap (λ (n : Node). n.broken) is ∙ of_correction node moment heard cycle verdict
+
+-- ---- what is due
+
+-- what is due is reached: something is
+pub some_due : (network : Network) (device : DeviceId) (node : Node) (due : Option Units) (reading : ℤ) → IsDueReading network device node due
+    → IsSomeAnd due (λ at. at.0 ≤ℤ reading) → HasDue network device node reading
+some_due network device node None reading is reached = absurd reached
+some_due network device node (Some at) reading is reached =
+    (is.0.0, is.0.1, subst (λ (z : ℤ). z ≤ℤ reading) (sym is.0.2) reached)
+
+-- it is not: nothing is
+pub none_due : (network : Network) (device : DeviceId) (node : Node) (due : Option Units) (reading : ℤ) → IsDueReading network device node due
+    → IfSome due (λ at. reading <ℤ at.0) → (task : Task) → IsPending network device node task → reading <ℤ reading_for network node task
+none_due network device node None reading is later task pending = absurd (is task pending)
+none_due network device node (Some at) reading is later task pending =
+    let least = is.1 task pending in
+    omega (arith, ints, later, least)

@@ -1,0 +1,90 @@
+-- Where only events of the present instant are worked off, the records given are the run behind them.
+use Rattle.std.proofs.Common.{◌≡◌, ◌⊎◌, ℕ, ◌+◌, ◌≤◌, ◌<◌, List, [], ◌∷◌, ◌++◌, true, inl, inr, refl, sym, ap, subst, ◌∙◌, arith}
+use Rattle.std.proofs.lemmas.List.{append-nil}
+use Rattle.net_plan.specs.declared.event.Event.{Event}
+use Rattle.net_plan.specs.declared.ids.DeviceId.{DeviceId}
+use Rattle.net_plan.specs.declared.network.Network.{Network}
+use Rattle.run_law.proofs.runs.Grow.{move_mark}
+use Rattle.run_law.proofs.runs.Places.{chain, never_self}
+use Rattle.run_law.specs.declared.note.Note.{Note}
+use Rattle.run_law.specs.machines.Nodes.{Node}
+use Rattle.run_law.specs.records.Happenings.{Happening, happenings}
+use Rattle.run_law.specs.records.Order.{IsBefore, IsIn}
+use Rattle.run_law.specs.records.Ranks.{place_of}
+use Rattle.run_law.specs.runs.DueRecords.{IsDue, IsScenarioRun}
+use Rattle.run_law.specs.scenario.Scenarios.{Scenario}
+use Rattle.tte_units.specs.Amount.{amount}
+use Rattle.world_law.proofs.runs.Firsts.{source_before}
+use Rattle.world_law.proofs.runs.Next.{none_due}
+use Rattle.world_law.proofs.runs.Sourced.{sourced}
+use Rattle.world_law.specs.source.Next.{NoneDueBefore}
+use Rattle.world_law.specs.source.Sources.{IsSource}
+use Rattle.world_law.specs.world.World.{AreSettled, IsWorkedOff, Stands, World}
+
+-- ---- what is before the place behind the events
+
+-- a place of the time before the place behind its events is of a lesser time, or of the rank 0 or 1
+sooner : (t now k : ℕ) (ws : List ℕ) → IsBefore (t ∷ k ∷ ws) (now ∷ 2 ∷ []) → 2 ≤ k → t < now
+sooner t now k ws (inl lt) high = lt
+sooner t now k ws (inr (e, inl few)) high = absurd (omega (arith, few, high))
+sooner t now k ws (inr (e, inr (same, none))) high = absurd none
+
+event_sooner : (t now : ℕ) → IsBefore (t ∷ 1 ∷ []) (now ∷ 2 ∷ []) → (t < now) ⊎ (t ≡ now)
+event_sooner t now (inl lt) = inl lt
+event_sooner t now (inr (e, b)) = inr e
+
+module _ {C M : Type 0} (reading : C → ℕ → ℕ) (stands : M → Network → DeviceId → Node → Type 0) (s : Scenario) (world : World C M) (notes : List Note)
+    (old : Stands reading stands s world notes) (early : world.early ≡ true) where
+  hs : List Happening
+  hs = happenings s.network notes
+
+  -- what is of an earlier time is worked off
+  past : (t : ℕ) (ws : List ℕ) → t < world.now → IsBefore (t ∷ ws) old.cursor
+  past t ws lt = old.ahead (t ∷ ws) (old.of_now (t ∷ ws) (inl lt))
+
+  -- an event of the instant is
+  told : (i : ℕ) (e : Event) → Rattle.std.specs.Prelude.slice_get s.events i ≡ Rattle.std.proofs.Common.Some e → IsBefore (amount e.time ∷ 1 ∷ []) old.cursor
+  told i e is =
+      old.ahead (amount e.time ∷ 1 ∷ [])
+      (chain (amount e.time ∷ 1 ∷ []) (amount e.time ∷ 1 ∷ (i + 1) ∷ []) old.mark (inr (refl, inr (refl, tt))) (old.befallen.told i e is))
+
+  by_time : (t k : ℕ) (ws : List ℕ) → 2 ≤ k → IsBefore (t ∷ k ∷ ws) (world.now ∷ 2 ∷ []) → IsBefore (t ∷ k ∷ ws) old.cursor
+  by_time t k ws high b = past t (k ∷ ws) (sooner t world.now k ws b high)
+
+  -- so is each source that is before the place behind the events
+  worked : (w : List ℕ) → IsSource s hs w → IsBefore w (world.now ∷ 2 ∷ []) → IsBefore w old.cursor
+  unfolding hs
+  worked w (IsSource.arriving t device link cause a) b = by_time t 2 (device.0 ∷ link.0 ∷ cause ∷ []) (omega arith) b
+  worked w (IsSource.ripening t device link cause point r) b = 
+      by_time t 3 (device.0 ∷ amount point ∷ r.frame.members.0 ∷ link.0 ∷ cause ∷ []) (omega arith) b
+  worked w (IsSource.acting t device a) b = by_time t 4 (device.0 ∷ []) (omega arith) b
+  worked w (IsSource.departing t device link cause d) b = by_time t 8 (device.0 ∷ link.0 ∷ cause ∷ []) (omega arith) b
+  worked w (IsSource.following t cause h it) b = by_time t 2 [] (omega arith) b
+  worked w (IsSource.befalling time line what r) b =
+      subst (λ (n : ℕ). IsBefore (n ∷ 1 ∷ []) old.cursor) (ap amount (sym r.at)) (told r.before r.event r.is)
+  worked w (IsSource.ending time device is there ends) b = by_time (amount time) 14 (device.0 ∷ []) (omega arith) b
+
+  -- nothing is to come
+  pub none_coming : old.coming ≡ []
+  none_coming = from old.coming (λ z i. old.are.begun z i)
+    where
+      from : (l : List Happening) → ((z : Happening) → IsIn z l → IsBefore (world.now ∷ 2 ∷ []) old.cursor) → l ≡ []
+      from [] begun = refl
+      from (z ∷ zs) begun = absurd (never_self (world.now ∷ 2 ∷ []) (old.early early (world.now ∷ 2 ∷ []) (begun z (inl refl))))
+
+  nothing : NoneDueBefore place_of (IsDue s) old.mark hs (world.now ∷ 2 ∷ [])
+  unfolding hs
+  nothing y due not here =
+      let from = sourced s hs y due in
+      let is_worked = worked from.place from.source (source_before from.place (place_of y) (world.now ∷ 2 ∷ []) from.no_later here) in
+      let are = subst (λ (l : List Happening). AreSettled s hs l old.mark old.cursor world.now) none_coming old.are in
+      (are.full [] [] y refl (λ n i. absurd i) (λ n i. absurd i) not (subst (λ (l : List Happening). IsDue s l y) (sym (append-nil hs)) due)
+      (subst (λ (l : List Happening). IsWorkedOff s l old.cursor y) (sym (append-nil hs)) (from.place, from.own, from.source, is_worked))).1
+
+  -- the records are the run behind the events of the instant
+  pub run_behind_events : IsScenarioRun s (world.now ∷ 2 ∷ []) notes
+  unfolding hs
+  run_behind_events =
+      move_mark place_of (IsDue s) old.mark (world.now ∷ 2 ∷ []) hs old.run
+      (λ n i. old.early early (place_of n) (old.ahead (place_of n) (old.run.within n i)))
+      (none_due place_of (IsDue s) old.mark hs (world.now ∷ 2 ∷ []) old.run.within nothing)

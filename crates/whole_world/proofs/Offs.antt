@@ -1,0 +1,233 @@
+-- A device that began off, and that no event turned on, is off.
+use Rattle.std.proofs.Common.{◌≡◌, ℕ, ℤ, Bool, true, false, ◌&&◌, ◌||◌, ◌==◌, if◌then◌else◌, List, [], ◌∷◌, ◌++◌, append_assoc, fold, Option, Some, None, inl, inr, refl, sym, ap, subst, ◌∙◌}
+use Rattle.std.specs.Prelude.{nat_lt, IsSomeAnd, IsNone, MatchBool, option_and_then}
+use Rattle.std.proofs.lemmas.Bool.{eqb-true, false_from_ne_true}
+use Rattle.compression.specs.Clusters.{point_at}
+use Rattle.compression.specs.declared.taken.Taken.TheVariants as taken
+use Rattle.compression.specs.declared.taken.Taken.{Taken}
+use Rattle.net_plan.specs.Places.{device_at}
+use Rattle.net_plan.specs.declared.event.Event.{Event}
+use Rattle.net_plan.specs.declared.event.What.TheVariants.{On}
+use Rattle.net_plan.specs.declared.event.What.{What}
+use Rattle.net_plan.specs.declared.ids.DeviceId.{DeviceId}
+use Rattle.net_plan.specs.declared.ids.LinkId.{LinkId}
+use Rattle.net_plan.specs.declared.tables.Device.{Device}
+use Rattle.pcf_values.specs.declared.members.Members.{Members}
+use Rattle.run_law.proofs.law.FirstPlaces.{in_at, in_filter, numbered_in}
+use Rattle.run_law.proofs.runs.Places.{in_parts}
+use Rattle.run_law.specs.control.Collections.{master_of, observation_window, point_fault, points_of, ripe_by_role}
+use Rattle.run_law.specs.control.Corrections.{ComesToCorrection, next_cycle}
+use Rattle.run_law.specs.control.Emissions.{Emits}
+use Rattle.run_law.specs.control.Hearing.{heard_as}
+use Rattle.run_law.specs.control.Permanence.{BecomesPermanent, IsCollectedOrDropped, before_permanence, ripe_as}
+use Rattle.run_law.specs.declared.judgement.Judgement.TheVariants.{Integrates}
+use Rattle.run_law.specs.declared.judgement.Judgement.{Judgement}
+use Rattle.run_law.specs.declared.judgement.Reason.{Reason}
+use Rattle.run_law.specs.declared.judgement.Why.TheVariants as whys
+use Rattle.run_law.specs.declared.judgement.Why.{Why}
+use Rattle.run_law.specs.declared.note.NoteBody.TheVariants as notes
+use Rattle.run_law.specs.declared.note.NoteBody.{NoteBody}
+use Rattle.run_law.specs.declared.steps.Ripe.TheVariants as ripe
+use Rattle.run_law.specs.device.StateChanges.{ChangesState}
+use Rattle.run_law.specs.device.States.{adjustment_at_hearing, has_joined_at, state_after, state_at_hearing, state_before, state_with}
+use Rattle.run_law.specs.records.Happenings.{Happening, earlier, time_of}
+use Rattle.run_law.specs.records.Order.{IsIn}
+use Rattle.run_law.specs.runs.DueRecords.{IsCaused, IsDue, IsEventRecord}
+use Rattle.run_law.specs.scenario.Devices.{is_cm, plan_of, start_of}
+use Rattle.run_law.specs.scenario.Faults.{BeginsOn}
+use Rattle.run_law.specs.scenario.Scenarios.{Scenario, is_turned_on_at, turns_on}
+use Rattle.sync_state.specs.Standing.{point_in, state_at_start}
+use Rattle.sync_state.specs.declared.answers.Verdict.TheVariants.{Corrected}
+use Rattle.sync_state.specs.declared.plan.SyncPlan.{SyncPlan}
+use Rattle.sync_state.specs.declared.state.State.TheVariants.{Off, Integrating, Joining, Synchronised}
+use Rattle.sync_state.specs.declared.state.State.{State}
+use Rattle.tte_units.specs.Amount.{amount}
+use Rattle.tte_units.specs.declared.units.Units.{Units}
+use Rattle.world_law.proofs.devices.OwnRecords.{joins_no_other, keeps_state}
+use Rattle.world_law.proofs.ripening.Awake.{any_in, both_are}
+use Rattle.world_law.specs.device.Own.{moves}
+
+-- ---- what hears nothing joins by nothing
+
+-- of a frame of a device that is off nothing comes that tells it the time
+off_hears : (plan : SyncPlan) (precision : ℤ) (adjustment point : ℤ) (cycle : ℕ) (members : Members) (state : State) → state ≡ Off
+    → Integrates ≡ heard_as plan precision state adjustment point cycle members → ⊥
+off_hears plan precision adjustment point cycle members Off off e = cc
+off_hears plan precision adjustment point cycle members Integrating off e = cc
+off_hears plan precision adjustment point cycle members Joining off e = cc
+off_hears plan precision adjustment point cycle members Synchronised off e = cc
+
+ripe_joins : (judgement : Judgement) → ripe.Integrates ≡ ripe_as judgement → Integrates ≡ judgement
+ripe_joins Integrates e = refl
+ripe_joins judgement e = absurd cc
+
+by_role : (t : Taken) → ripe.Integrates ≡ ripe_by_role t → ⊥
+by_role taken.Opened e = cc
+by_role taken.Joined e = cc
+by_role taken.Repeat e = cc
+by_role taken.OtherCycle e = cc
+
+-- ---- no record moves it
+
+none_joined : (device : DeviceId) (t : ℕ) (hs : List Happening) → ((h : Happening) → IsIn h hs → moves device h.note.body ≡ false)
+    → has_joined_at hs device t ≡ false
+none_joined device t [] still = refl
+none_joined device t (h ∷ hs) still =
+    ap (λ (b : Bool). (time_of h == t && b) || has_joined_at hs device t)
+    (joins_no_other device h.note.body (still h (inl refl)))
+    ∙ ap (λ (b : Bool). b || has_joined_at hs device t) (and_false (time_of h == t)) ∙ none_joined device t hs (λ g i. still g (inr i))
+  where
+    and_false : (b : Bool) → (b && false) ≡ false
+    and_false true = refl
+    and_false false = refl
+
+unmoved : (device : DeviceId) (first : State) (hs : List Happening) → ((h : Happening) → IsIn h hs → moves device h.note.body ≡ false)
+    → fold (λ state h. state_with device state h.note.body) first hs ≡ first
+unmoved device first [] still = refl
+unmoved device first (h ∷ hs) still =
+    ap (λ (z : State). fold (λ state g. state_with device state g.note.body) z hs) (keeps_state device first h.note.body (still h (inl refl)))
+    ∙ unmoved device first hs (λ g i. still g (inr i))
+
+same_device : (device other : DeviceId) → (device.0 == other.0) ≡ true → other ≡ device
+same_device device other e = let same = eqb-true device.0 other.0 e in ap (λ (n : ℕ). let d : DeviceId = record { 0 = n } in d) (sym same)
+
+pub on_by : (device : DeviceId) (what : What) → turns_on device what ≡ true → what ≡ On device
+on_by device (On other) e = ap On (same_device device other e)
+on_by device other e = absurd cc
+
+module _ (s : Scenario) (device : DeviceId) (begins : state_at_start (start_of s.network device) ≡ Off)
+    (never : (e : Event) → IsIn e s.events → e.what ≡ On device → ⊥) where
+  -- no event turns it on at a time
+  pub not_on : (t : ℕ) → is_turned_on_at s device t ≡ false
+  not_on t = false_from_ne_true (is_turned_on_at s device t) (λ on.
+      let found = any_in (λ e. turns_on device e.what && amount e.time == t) s.events on in
+      let parts = both_are (turns_on device found.0.what) (amount found.0.time == t) found.2 in
+      never found.0 found.1 (on_by device found.0.what parts.0))
+
+  -- while no record has moved it, it is off
+  off_then : (hs : List Happening) (t : ℕ) → ((h : Happening) → IsIn h hs → moves device h.note.body ≡ false) → state_before s hs device t ≡ Off
+  off_then hs t still =
+      ap (λ (b : Bool). if b then Integrating else state_after s (earlier t hs) device) (not_on t)
+      ∙ unmoved device (state_at_start (start_of s.network device)) (earlier t hs) (λ h i. still h (in_filter (λ g. nat_lt (time_of g) t) hs h i))
+      ∙ begins
+
+  off_at_hearing : (hs : List Happening) (t : ℕ) → ((h : Happening) → IsIn h hs → moves device h.note.body ≡ false)
+      → state_at_hearing s hs device t ≡ Off
+  off_at_hearing hs t still =
+      ap (λ (b : Bool). if b then Joining else state_before s hs device t) (none_joined device t hs still) ∙ off_then hs t still
+
+  no_point : (hs : List Happening) (t cycle : ℕ) → ((h : Happening) → IsIn h hs → moves device h.note.body ≡ false)
+      → point_in (state_before s hs device t) (next_cycle s hs device t) ≡ Some cycle → ⊥
+  no_point hs t cycle still e =
+      let bad : None ≡ Some cycle = sym (ap (λ (z : State). point_in z (next_cycle s hs device t)) (off_then hs t still)) ∙ e in cc
+
+  no_frame : (hs : List Happening) (t : ℕ) (link : LinkId) (cause : ℕ) (point : Units)
+      → ((h : Happening) → IsIn h hs → moves device h.note.body ≡ false) → BecomesPermanent s hs device t link cause point ripe.Integrates → ⊥
+  no_frame hs t link cause point still c =
+      let judged = before_permanence hs device t link cause c.frame point in
+      let kept : (h : Happening) → IsIn h judged → moves device h.note.body ≡ false = λ h i. still h (in_filter _ hs h i) in
+      from judged kept (is_cm s.network device) c.becomes
+    where
+      from : (judged : List Happening) → ((h : Happening) → IsIn h judged → moves device h.note.body ≡ false) → (b : Bool)
+          → MatchBool b
+          (IsCollectedOrDropped s.network (points_of judged device)
+          (point_at point.0 (master_of c.frame.members.0) c.frame.cycle)
+          (point_fault s.network (state_at_hearing s judged device t)
+          (adjustment_at_hearing s judged device t).0 point.0 c.frame.cycle)
+          ripe.Integrates)
+          (ripe.Integrates ≡ ripe_as (heard_as (plan_of s.network device) (observation_window s.network) (state_at_hearing s judged device t)
+          (adjustment_at_hearing s judged device t).0 point.0 c.frame.cycle c.frame.members))
+          → ⊥
+      from judged kept false e =
+          off_hears (plan_of s.network device) (observation_window s.network) (adjustment_at_hearing s judged device t).0
+          point.0 c.frame.cycle c.frame.members (state_at_hearing s judged device t) (off_at_hearing judged t kept) (ripe_joins _ e)
+      from judged kept true e =
+          collected (point_fault s.network (state_at_hearing s judged device t)
+          (adjustment_at_hearing s judged device t).0 point.0 c.frame.cycle) e
+        where
+          collected : (o : Option Reason) → IsCollectedOrDropped s.network (points_of judged device)
+              (point_at point.0 (master_of c.frame.members.0) c.frame.cycle) o
+              ripe.Integrates → ⊥
+          collected None it = by_role it.taken it.becomes
+          collected (Some reason) it = cc
+
+  -- nor does the next
+  no_change : (hs : List Happening) (t : ℕ) (state : State) (cause : ℕ) (why : Why) → ((h : Happening) → IsIn h hs → moves device h.note.body ≡ false)
+      → ((h : Happening) → IsIn h hs → (line : ℕ) → h.note.body ≡ notes.Event line (On device) → ⊥)
+      → ChangesState s hs device t state cause why → ⊥
+  no_change hs t state cause whys.On still untold c = untold c.2.1 (numbered_in hs cause c.2.1 c.2.2.there) c.2.0 c.2.3
+  no_change hs t state cause whys.Frame still untold c =
+      let h = c.1.0 in
+      let no = joins_no_other device h.note.body (still h (numbered_in hs cause h c.1.1.there)) in
+      let bad : false ≡ true = sym no ∙ c.1.2 in cc
+  no_change hs t state cause whys.Correction still untold c = let bad : Off ≡ Joining = sym (off_then hs t still) ∙ c.1 in cc
+  no_change hs t state cause whys.SyncClique still untold c = no_point hs t c.2.0 still c.2.1.next
+  no_change hs t state cause whys.AsyncClique still untold c = no_point hs t c.2.0 still c.2.1.next
+
+  stays : (hs : List Happening) (time : Units) (body : NoteBody) → ((h : Happening) → IsIn h hs → moves device h.note.body ≡ false)
+      → ((h : Happening) → IsIn h hs → (line : ℕ) → h.note.body ≡ notes.Event line (On device) → ⊥)
+      → IsCaused s hs time body → moves device body ≡ true → ⊥
+  stays hs time (notes.State other state cause why) still untold c own =
+      no_change hs (amount time) state cause why still untold
+      (subst (λ (d : DeviceId). ChangesState s hs d (amount time) state cause why) (same_device device other own) c)
+  stays hs time (notes.Corrected other cycle by adjustment) still untold c own =
+      no_point hs (amount time) cycle still
+      (subst (λ (d : DeviceId). ComesToCorrection s hs d (amount time) cycle
+      (Corrected by)) (same_device device other own) c.corrected).next
+  stays hs time (notes.Permanent other link cause point Integrates) still untold c own =
+      no_frame hs (amount time) link cause point still
+      (subst (λ (d : DeviceId). BecomesPermanent s hs d (amount time) link cause point ripe.Integrates) (same_device device other own) c)
+  stays hs time (notes.Compressed other opened at cycle members Integrates) still untold c own =
+      let e = subst (λ (d : DeviceId). Emits s hs d (amount time) (record { opened = opened; at = at; cycle = cycle; members = members }) Integrates)
+      (same_device device other own) c in
+      off_hears (plan_of s.network device) (observation_window s.network)
+      (adjustment_at_hearing s hs device (amount time)).0 at.0 cycle members
+      (state_at_hearing s hs device (amount time)) (off_at_hearing hs (amount time) still) e.heard
+  stays hs time other still untold c own = absurd cc
+
+  -- the record of an event that turns it on is not there
+  untold_by : (h : Happening) (ps : List Happening) → IsDue s ps h → (line : ℕ) → h.note.body ≡ notes.Event line (On device) → ⊥
+  untold_by h ps due line is =
+      let r : IsEventRecord s.events h.note.time line (On device) = subst (IsCaused s ps h.note.time) is due.cause in
+      never r.event (in_at s.events r.before r.event r.is) (sym r.same)
+
+  -- so no record of a list, of which each is due given those before it, moves the device
+  from : (ps qs : List Happening) → ((front rest : List Happening) (z : Happening) → ps ++ qs ≡ front ++ z ∷ rest → IsDue s front z)
+      → ((h : Happening) → IsIn h ps → moves device h.note.body ≡ false)
+      → ((h : Happening) → IsIn h ps → (line : ℕ) → h.note.body ≡ notes.Event line (On device) → ⊥)
+      → (h : Happening) → IsIn h qs → moves device h.note.body ≡ false
+  from ps [] founded still untold h i = absurd i
+  from ps (q ∷ qs) founded still untold h i =
+      let due = founded ps qs q refl in
+      let here : moves device q.note.body ≡ false = false_from_ne_true (moves device q.note.body) (stays ps q.note.time q.note.body still untold due.cause) in
+      elim i [
+        | inl same ↦ ap (λ (x : Happening). moves device x.note.body) same ∙ here
+        | inr more ↦
+            from (ps ++ q ∷ []) qs (λ front rest z e. founded front rest z (sym (append_assoc ps (q ∷ []) qs) ∙ e))
+            (λ g j. elim (in_parts g ps (q ∷ []) j) [
+              | inl l ↦ still g l
+              | inr (inl same) ↦ ap (λ (x : Happening). moves device x.note.body) same ∙ here
+              | inr (inr none) ↦ absurd none
+            ])
+            (λ g j line is. elim (in_parts g ps (q ∷ []) j) [
+              | inl l ↦ untold g l line is
+              | inr (inl same) ↦ untold_by q ps due line (ap (λ (x : Happening). x.note.body) (sym same) ∙ is)
+              | inr (inr none) ↦ absurd none
+            ])
+            h more
+      ]
+
+  pub stays_off : (hs : List Happening) → ((front rest : List Happening) (z : Happening) → hs ≡ front ++ z ∷ rest → IsDue s front z) → (t : ℕ)
+      → state_before s hs device t ≡ Off
+  stays_off hs founded t = off_then hs t (from [] hs founded (λ h i. absurd i) (λ h i line is. absurd i))
+
+-- a device that does not begin on begins off
+pub begins_off : (s : Scenario) (device : DeviceId) → (BeginsOn s.network device → ⊥) → state_at_start (start_of s.network device) ≡ Off
+begins_off s device not = from (device_at s.network device) not
+  where
+    by_start : (o : Option Units) → ((IsNone o → ⊥) → ⊥) → state_at_start o ≡ Off
+    by_start None not = refl
+    by_start (Some u) not = absurd (not (λ none. cc))
+    from : (o : Option Device) → (IsSomeAnd o (λ d. IsNone d.start → ⊥) → ⊥) → state_at_start (option_and_then (λ (d : Device). d.start) o) ≡ Off
+    from None not = refl
+    from (Some d) not = by_start d.start not

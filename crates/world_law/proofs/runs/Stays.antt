@@ -1,0 +1,139 @@
+-- A run up to the record of an event is the same under this event and those behind it.
+use Rattle.std.proofs.Common.{◌≡◌, ◌⊎◌, ℕ, zero, suc, ◌+◌, ◌-◌, ◌≤◌, ◌<◌, List, [], ◌∷◌, ◌++◌, length, Some, slice_get, inl, inr, refl, sym, ap, subst, ◌∙◌, arith}
+use Rattle.std.proofs.lemmas.Bool.{cases_lt}
+use Rattle.std.proofs.lemmas.List.Elements.{Contains-append_cases}
+use Rattle.std.specs.List.{Contains}
+use Rattle.net_plan.specs.declared.event.Event.{Event}
+use Rattle.net_plan.specs.declared.event.What.TheVariants.{End}
+use Rattle.net_plan.specs.declared.event.What.{What}
+use Rattle.net_plan.specs.declared.ids.DeviceId.{DeviceId}
+use Rattle.net_plan.specs.declared.network.Network.{Network}
+use Rattle.run_law.proofs.law.FirstPlaces.{in_front}
+use Rattle.run_law.proofs.runs.Places.{in_right}
+use Rattle.run_law.specs.declared.note.Note.{Note}
+use Rattle.run_law.specs.declared.note.NoteBody.{NoteBody}
+use Rattle.run_law.specs.records.Happenings.{Happening, happenings, time_of}
+use Rattle.run_law.specs.records.Order.{AllBefore, IsBefore, IsIn}
+use Rattle.run_law.specs.records.Ranks.{key, members_in, place_of, rank}
+use Rattle.run_law.specs.runs.DueRecords.{EndsAt, IsCaused, IsDue, IsEventRecord, IsScenarioRun}
+use Rattle.tte_units.specs.Amount.{amount}
+use Rattle.tte_units.specs.declared.units.Units.{Units}
+use Rattle.world_law.proofs.runs.Applies.{agree_back, clock_cause, earlier_by_rank, event_cause, event_place, kinds, up_to_it}
+use Rattle.world_law.proofs.runs.SameCauses.{caused_same}
+use Rattle.world_law.specs.source.Agreeing.{Agree, scenario}
+use Rattle.world_law.specs.source.Applying.{MayFollow, RunStaysUnderMore, place_of_event}
+
+-- what stands in two lists behind each other stands in one of them
+get_parts : {X : Type 0} (xs ys : List X) (x : X) (i : ℕ) → slice_get (xs ++ ys) i ≡ Some x
+    → (slice_get xs i ≡ Some x) ⊎ ((length xs ≤ i) × (slice_get ys (i - length xs) ≡ Some x))
+get_parts [] ys x i e =
+    let same : i ≡ i - 0 = omega arith in inr (omega arith, subst (λ (k : ℕ). slice_get ys k ≡ Some x) same e)
+get_parts (z ∷ xs) ys x zero e = inl e
+get_parts (z ∷ xs) ys x (suc i) e = elim (get_parts xs ys x i e) [
+  | inl a ↦ inl a
+  | inr b ↦
+      let same : i - length xs ≡ suc i - length (z ∷ xs) = omega arith in
+      inr (omega (arith, b.0), subst (λ (k : ℕ). slice_get ys k ≡ Some x) same b.1)
+]
+
+-- an event's record that is before that of the next event is one of those before
+old_event : (events others : List Event) (event : Event) (y : Happening) (line : ℕ) (what : What)
+    → ((i : ℕ) (e : Event) → slice_get (event ∷ others) i ≡ Some e → amount event.time ≤ amount e.time)
+    → IsEventRecord (events ++ event ∷ others) y.note.time line what → IsBefore (time_of y ∷ 1 ∷ line ∷ []) (place_of_event events event)
+    → IsEventRecord events y.note.time line what
+old_event events others event y line what order r b =
+    elim (get_parts events (event ∷ others) r.event r.before r.is) [
+      | inl old ↦ record { event = r.event; before = r.before; line_is = r.line_is; is = old; at = r.at; same = r.same }
+      | inr new ↦
+          let late = order (r.before - length events) r.event new.1 in
+          let time : time_of y ≡ amount r.event.time = ap amount r.at in
+          absurd (elim b [
+            | inl lt ↦ omega (arith, lt, late, time)
+            | inr same ↦ elim same.1 [
+              | inl low ↦ omega (arith, low)
+              | inr last ↦ elim last.1 [ inl few ↦ omega (arith, few, r.line_is, new.0) | inr none ↦ none.1 ]
+            ]
+          ])
+    ]
+
+contains_get : {X : Type 0} (xs : List X) (x : X) → Contains xs x → (i : ℕ) × (slice_get xs i ≡ Some x)
+contains_get [] x there = absurd (omega (arith, there.1))
+contains_get (y ∷ ys) x (zero, lt, e) = (0, ap Some e)
+contains_get (y ∷ ys) x (suc i, lt, e) = let more = contains_get ys x (i, omega (arith, lt), e) in (suc more.0, more.1)
+
+-- a clock's record is that of the end, which is none of the events before, and no later event is before its time
+no_clock : (events others : List Event) (event : Event) (time : Units) → ((time : Units) → EndsAt events time → ⊥)
+    → ((i : ℕ) (e : Event) → slice_get (event ∷ others) i ≡ Some e → amount event.time ≤ amount e.time)
+    → EndsAt (events ++ event ∷ others) time → amount time < amount event.time → ⊥
+no_clock events others event time running order ends lt =
+    elim (Contains-append_cases events (event ∷ others) (record { time = time; what = End }) ends) [
+      | inl old ↦ running time old
+      | inr new ↦ let there = contains_get (event ∷ others) _ new in let late = order there.0 _ there.1 in omega (arith, late, lt)
+    ]
+
+due_on : (n : Network) (f g : DeviceId → ℕ → ℕ) (events others : List Event) (event : Event) (mark : List ℕ) → MayFollow n f g events event others mark
+    → (ps : List Happening) (y : Happening) → IsBefore (place_of y) mark → AllBefore place_of ps (place_of y) → IsDue (scenario n f events) ps y
+    → IsDue (scenario n g (events ++ event ∷ others)) ps y
+due_on n f g events others event mark may ps y here before due = record {
+  number = due.number;
+  same = due.same;
+  begun = due.begun;
+  cause = elim (kinds y.note.body) [
+    | inl it ↦
+        let found = event_cause (scenario n f events) ps y.note.time y.note.body it due.cause in
+        let r = found.3 in
+        let still : IsEventRecord (events ++ event ∷ others) y.note.time found.0 found.1 = record {
+          event = r.event;
+          before = r.before;
+          line_is = r.line_is;
+          is = in_front events (event ∷ others) r.before r.event r.is;
+          at = r.at;
+          same = r.same;
+        } in
+        subst (IsCaused (scenario n g (events ++ event ∷ others)) ps y.note.time) (sym found.2) still
+    | inr (inl clock) ↦ absurd (may.running y.note.time (clock_cause (scenario n f events) ps y.note.time y.note.body clock due.cause))
+    | inr (inr own) ↦
+        let lt = earlier_by_rank (time_of y) (rank y.note.body) (amount event.time) (length events + 1) (key (members_in y) y.note.body) own.1
+        (may.sooner (place_of y) here) in
+        caused_same n f g events (events ++ event ∷ others) ps (time_of y) y.note.time y.note.body (may.agree (time_of y) lt) (omega arith)
+        (up_to_it ps y before) own.0 due.cause
+  ];
+}
+
+due_back : (n : Network) (f g : DeviceId → ℕ → ℕ) (events others : List Event) (event : Event) (mark : List ℕ) → MayFollow n f g events event others mark
+    → (ps : List Happening) (y : Happening) → IsBefore (place_of y) mark → AllBefore place_of ps (place_of y)
+    → IsDue (scenario n g (events ++ event ∷ others)) ps y → IsDue (scenario n f events) ps y
+due_back n f g events others event mark may ps y here before due = record {
+  number = due.number;
+  same = due.same;
+  begun = due.begun;
+  cause = elim (kinds y.note.body) [
+    | inl it ↦
+        let found = event_cause (scenario n g (events ++ event ∷ others)) ps y.note.time y.note.body it due.cause in
+        let at = event_place y found.0 found.1 found.2 in
+        let old = old_event events others event y found.0 found.1 may.in_order found.3
+        (subst (λ (p : List ℕ). IsBefore p (place_of_event events event)) at (may.sooner (place_of y) here)) in
+        subst (IsCaused (scenario n f events) ps y.note.time) (sym found.2) old
+    | inr (inl clock) ↦
+        let lt = earlier_by_rank (time_of y) (rank y.note.body) (amount event.time) (length events + 1) (key (members_in y) y.note.body)
+        (omega (arith, clock)) (may.sooner (place_of y) here) in
+        absurd (no_clock events others event y.note.time may.running may.in_order
+        (clock_cause (scenario n g (events ++ event ∷ others)) ps y.note.time y.note.body clock due.cause) lt)
+    | inr (inr own) ↦
+        let lt = earlier_by_rank (time_of y) (rank y.note.body) (amount event.time) (length events + 1) (key (members_in y) y.note.body) own.1
+        (may.sooner (place_of y) here) in
+        caused_same n g f (events ++ event ∷ others) events ps (time_of y) y.note.time y.note.body
+        (agree_back n f g events (events ++ event ∷ others) (time_of y) (may.agree (time_of y) lt)) (omega arith) (up_to_it ps y before) own.0 due.cause
+  ];
+}
+
+pub run_stays_under_more : RunStaysUnderMore
+run_stays_under_more n f g events event others mark ns may run = record {
+  founded = λ ps qs y e.
+      let was = run.founded ps qs y e in
+      let there : IsIn y (happenings n ns) = subst (λ (l : List Happening). IsIn y l) (sym e) (in_right y ps (y ∷ qs) (inl refl)) in
+      (was.0, due_on n f g events others event mark may ps y (run.within y there) was.0 was.1);
+  full = λ ps qs y e before rest due lt.
+      run.full ps qs y e before rest (due_back n f g events others event mark may ps y lt before due) lt;
+  within = run.within;
+}
