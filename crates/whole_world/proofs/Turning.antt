@@ -1,7 +1,7 @@
 -- A turn of a world: what comes first, and what the steps keep.
 use Rattle.std.proofs.Common.{◌≡◌, ◌⊎◌, ℕ, ◌+◌, ◌-◌, ◌*◌, ◌<◌, ◌≤◌, ◌^◌, pos, List, [], ◌∷◌, ◌++◌, All, length, map, Option, Some, None, Bool, true, Result, Ok, Err, slice_get, inl, inr, refl, sym, ap, subst, ◌∙◌, arith}
 use Rattle.std.proofs.lemmas.List.{append-nil, length-map}
-use Rattle.std.specs.Prelude.{◌↔◌, OnErr, OnOk}
+use Rattle.std.specs.Prelude.{◌↔◌, IfOk, OnErr, OnOk}
 use Rattle.net_plan.specs.declared.ids.DeviceId.{DeviceId}
 use Rattle.net_plan.specs.declared.network.Network.{Network}
 use Rattle.run_law.proofs.runs.Places.{before_later, before_later_time, chain, never_self}
@@ -24,7 +24,7 @@ use Rattle.whole_world.specs.Places.{own_place}
 use Rattle.whole_world.specs.Sound.{IsSound}
 use Rattle.whole_world.specs.Sourcing.{AreTimed, HasNothingBefore}
 use Rattle.whole_world.specs.Stepping.{ChangesOnly, IsAt, IsRunning, IsTimed}
-use Rattle.whole_world.specs.Turns.{HasRoom, IsAhead, IsForemost, IsNow, IsStep, IsThere, PassSays, SettledFirst, SourceFirst, given_in, own_numbers, source_place}
+use Rattle.whole_world.specs.Turns.{HasRoom, IsAfter, IsAhead, IsForemost, IsNow, IsStep, IsThere, PassSays, SettledFirst, SourceFirst, TurnSays, given_in, own_numbers, source_place}
 use Rattle.whole_world.specs.Views.{settled_at, world_of}
 use Rattle.whole_world.specs.Wells.{IsWell}
 use Rattle.whole_world.specs.declared.contents.Settled.{Settled}
@@ -355,3 +355,30 @@ far_device (Shown device reading adjustment state) none = refl
 pub either_end : {A E : Type 0} (result : Result A E) (P Q R : Type 0) → OnOk result P → OnErr result Q → (P → R) → (Q → R) → R
 either_end (Ok a) P Q R ok err f g = f ok
 either_end (Err e) P Q R ok err f g = g err
+
+-- ---- one turn after the other
+
+pub after_then : {C M : Type 0} (old mid new : State C M) → IsAfter old mid → IsAfter mid new → IsAfter old new
+after_then old mid new first second = record {
+  clocks = second.clocks ∙ first.clocks;
+  ended = second.ended ∙ first.ended;
+  later = let a = first.later in let b = second.later in omega (arith, a, b);
+}
+
+-- what a turn says of the state before it, it says of one with as many records given
+pub says_then : {C M : Type 0} (E : Type 0) (old mid new : State C M) (until : ℕ) (result : Result Turn E) → mid.given ≡ old.given
+    → mid.ended ≡ old.ended → IfOk result (TurnSays mid new until) → IfOk result (TurnSays old new until)
+says_then E old mid new until (Ok (Gives note)) given ended says = (says.0, says.1, says.2 ∙ ap (λ (n : ℕ). n + 1) given)
+says_then E old mid new until (Ok GoesOn) given ended says = (says.0, says.1 ∙ given)
+says_then E old mid new until (Ok Ends) given ended says = λ is limit. says (ended ∙ is) limit
+says_then E old mid new until (Err e) given ended says = tt
+
+-- some turns on from where the state was: nothing is given, and it is not yet the time
+pub record IsOnward {C M : Type 0} (last_step : C → ℕ) (reading : C → ℕ → ℕ) (stands : M → Network → DeviceId → Node → Type 0) (network : Network)
+    (old new : State C M) (until : ℕ) : Type 0 where
+  pub well : IsWell last_step reading stands network new
+  pub after : IsAfter old new
+  pub still : (s : Scenario) (notes : List Note) → Stands reading (keeps stands) s (world_of network old) notes
+      → Stands reading (keeps stands) s (world_of network new) notes
+  pub early : new.time < until
+  pub given : new.given ≡ old.given
