@@ -1,7 +1,7 @@
 -- A turn of a world: what comes first, and what the steps keep.
 use Rattle.std.proofs.Common.{◌≡◌, ◌⊎◌, ℕ, ◌+◌, ◌-◌, ◌*◌, ◌<◌, ◌≤◌, ◌^◌, pos, List, [], ◌∷◌, ◌++◌, All, length, map, Option, Some, None, Bool, true, Result, Ok, Err, slice_get, inl, inr, refl, sym, ap, subst, ◌∙◌, arith}
-use Rattle.std.proofs.lemmas.List.{length-map}
-use Rattle.std.specs.Prelude.{OnErr, OnOk}
+use Rattle.std.proofs.lemmas.List.{append-nil, length-map}
+use Rattle.std.specs.Prelude.{◌↔◌, IfOk, OnErr, OnOk}
 use Rattle.net_plan.specs.declared.ids.DeviceId.{DeviceId}
 use Rattle.net_plan.specs.declared.network.Network.{Network}
 use Rattle.run_law.proofs.runs.Places.{before_later, before_later_time, chain, never_self}
@@ -18,13 +18,13 @@ use Rattle.whole_world.proofs.HiddenCauses.{InOrder, settled_in_order}
 use Rattle.whole_world.proofs.Sources.{of_world, sooner_too}
 use Rattle.whole_world.proofs.Foremost.{timers_later}
 use Rattle.whole_world.proofs.Timings.{passed, rekeyed, unchanged}
-use Rattle.whole_world.specs.Giving.{changed_device}
+use Rattle.whole_world.specs.Giving.{HasItsOctets, changed_device}
 use Rattle.whole_world.specs.Keeping.{keeps}
 use Rattle.whole_world.specs.Places.{own_place}
 use Rattle.whole_world.specs.Sound.{IsSound}
 use Rattle.whole_world.specs.Sourcing.{AreTimed, HasNothingBefore}
 use Rattle.whole_world.specs.Stepping.{ChangesOnly, IsAt, IsRunning, IsTimed}
-use Rattle.whole_world.specs.Turns.{HasRoom, IsAhead, IsForemost, IsNow, IsStep, IsThere, SettledFirst, SourceFirst, own_numbers, source_place}
+use Rattle.whole_world.specs.Turns.{HasRoom, IsAfter, IsAhead, IsForemost, IsNow, IsStep, IsThere, PassSays, SettledFirst, SourceFirst, TurnSays, given_in, own_numbers, source_place}
 use Rattle.whole_world.specs.Views.{settled_at, world_of}
 use Rattle.whole_world.specs.Wells.{IsWell}
 use Rattle.whole_world.specs.declared.contents.Settled.{Settled}
@@ -35,7 +35,9 @@ use Rattle.world_law.proofs.acts.NoActs.{nothing_comes_before}
 use Rattle.world_law.specs.source.First.{NoSourceBefore}
 use Rattle.world_law.specs.world.Steps.{ComesFirst}
 use Rattle.world_law.proofs.runs.Worlds.{nothing_settled_is_all}
-use Rattle.world_law.specs.world.World.{AreSettled, Stands, hidden}
+use Rattle.whole_world.specs.declared.next.Turn.TheVariants.{Gives, Ends, GoesOn}
+use Rattle.whole_world.specs.declared.next.Turn.{Turn}
+use Rattle.world_law.specs.world.World.{AreSettled, Stands, World, hidden}
 use Rattle.run_law.specs.runs.DueRecords.{IsScenarioRun}
 
 -- ---- a source and what is settled
@@ -246,6 +248,50 @@ module _ {C M : Type 0} (last_step : C → ℕ) (reading : C → ℕ → ℕ) (s
         given = ap (λ (t : State C M). t.given) same ∙ given;
       }
 
+  -- room is taken
+  pub roomier : (old new : State C M) → IsWell last_step reading stands network old → new ≡ record old { settled = new.settled }
+      → new.settled.items ≡ old.settled.items → IsStep last_step reading stands network old new
+  roomier old new well same items =
+      let fit = well.sound.fit in
+      let sized = well.sound.sized in
+      plain_step old new well
+      (subst (IsSound last_step network) (sym same)
+      (record {
+        sized = record {
+          clocks = sized.clocks;
+          machines = sized.machines;
+          broken = sized.broken;
+          ups = sized.ups;
+          downs = sized.downs;
+          stepped = sized.stepped;
+          limit = sized.limit;
+          shown = sized.shown;
+        };
+        under_way = well.sound.under_way;
+        fit = record {
+          ups = fit.ups;
+          downs = fit.downs;
+          octets = subst (All (λ (z : Settled). HasItsOctets z.body z.octets)) (sym items) fit.octets;
+          below = fit.below;
+          waits_below = fit.waits_below;
+          apart = fit.apart;
+        };
+      }))
+      (λ n. record {
+        clocks = ap (λ (t : State C M). t.clocks) same;
+        time = ap (λ (t : State C M). t.time) same;
+        ended = ap (λ (t : State C M). t.ended) same;
+        machines = λ i other. ap (λ (t : State C M). slice_get t.machines.items i) same;
+        waiting = λ w other.
+            subst (λ (t : State C M). IsIn w t.waiting.items ↔ IsIn w old.waiting.items) (sym same) ((λ there. there), (λ there. there));
+      })
+      (ap (λ (t : State C M). t.timers) same) (ap (λ (t : State C M). t.given) same)
+      (λ s notes is.
+          subst (λ (t : State C M). Stands reading (keeps stands) s (world_of network t) notes) (sym same)
+          (subst
+          (λ (l : List Settled). Stands reading (keeps stands) s (record (world_of network old) { settled = map (settled_at network old.time) l }) notes)
+          (sym items) is))
+
   -- time passes
   pub passes : (old new : State C M) (time : ℕ) → IsWell last_step reading stands network old
       → HasNothingBefore reading stands network old (time ∷ []) → old.time < time → time ≤ 2 ^ 60
@@ -262,6 +308,30 @@ module _ {C M : Type 0} (last_step : C → ℕ) (reading : C → ℕ → ℕ) (s
   }
 
 -- ---- results
+
+-- a source that is not later is of the present instant
+pub now_so : (source : Source) → ((time : ℕ) → source ≡ Later time → ⊥) → IsNow source
+now_so Events not = tt
+now_so (Arrival place) not = tt
+now_so (Ripening index w) not = tt
+now_so (Act device) not = tt
+now_so (Departure place) not = tt
+now_so (Clock device) not = tt
+now_so (Later time) not = not time refl
+
+-- where time passes, no record is given
+pub none_given : {C M : Type 0} (E : Type 0) (old new : State C M) (until : ℕ) (turn : Turn) → PassSays old new until turn
+    → given_in {E = E} (Ok turn) ≡ []
+none_given E old new until (Gives note) says = absurd says
+none_given E old new until Ends says = refl
+none_given E old new until GoesOn says = refl
+
+-- where nothing is given, the records are the same
+pub same_records : {C M : Type 0} (reading : C → ℕ → ℕ) (stands : M → Network → DeviceId → Node → Type 0) (s : Scenario) (world : World C M)
+    (notes more : List Note) → more ≡ [] → Stands reading stands s world notes → Stands reading stands s world (notes ++ more)
+same_records reading stands s world notes more none is =
+    subst (λ (l : List Note). Stands reading stands s world (notes ++ l)) (sym none)
+    (subst (Stands reading stands s world) (sym (append-nil notes)) is)
 
 -- no device of a network is the one that a record of no arrival changes
 pub far_device : (body : NoteBody)
@@ -285,3 +355,30 @@ far_device (Shown device reading adjustment state) none = refl
 pub either_end : {A E : Type 0} (result : Result A E) (P Q R : Type 0) → OnOk result P → OnErr result Q → (P → R) → (Q → R) → R
 either_end (Ok a) P Q R ok err f g = f ok
 either_end (Err e) P Q R ok err f g = g err
+
+-- ---- one turn after the other
+
+pub after_then : {C M : Type 0} (old mid new : State C M) → IsAfter old mid → IsAfter mid new → IsAfter old new
+after_then old mid new first second = record {
+  clocks = second.clocks ∙ first.clocks;
+  ended = second.ended ∙ first.ended;
+  later = let a = first.later in let b = second.later in omega (arith, a, b);
+}
+
+-- what a turn says of the state before it, it says of one with as many records given
+pub says_then : {C M : Type 0} (E : Type 0) (old mid new : State C M) (until : ℕ) (result : Result Turn E) → mid.given ≡ old.given
+    → mid.ended ≡ old.ended → IfOk result (TurnSays mid new until) → IfOk result (TurnSays old new until)
+says_then E old mid new until (Ok (Gives note)) given ended says = (says.0, says.1, says.2 ∙ ap (λ (n : ℕ). n + 1) given)
+says_then E old mid new until (Ok GoesOn) given ended says = (says.0, says.1 ∙ given)
+says_then E old mid new until (Ok Ends) given ended says = λ is limit. says (ended ∙ is) limit
+says_then E old mid new until (Err e) given ended says = tt
+
+-- some turns on from where the state was: nothing is given, and it is not yet the time
+pub record IsOnward {C M : Type 0} (last_step : C → ℕ) (reading : C → ℕ → ℕ) (stands : M → Network → DeviceId → Node → Type 0) (network : Network)
+    (old new : State C M) (until : ℕ) : Type 0 where
+  pub well : IsWell last_step reading stands network new
+  pub after : IsAfter old new
+  pub still : (s : Scenario) (notes : List Note) → Stands reading (keeps stands) s (world_of network old) notes
+      → Stands reading (keeps stands) s (world_of network new) notes
+  pub early : new.time < until
+  pub given : new.given ≡ old.given

@@ -60,7 +60,7 @@ impl<C: Clock, M: Machine + Drop> State<C, M> {
         ensures before { IfOk result (λ next. IfSome next (λ note. (note.time ≡ units_of self.new.time) × (note.time.0 <ℤ pos until))) }
         ensures given { IfOk result (λ next. IfSome next (λ _. self.new.given ≡ self.old.given + 1)) }
     {
-        for _ in 0..u64::MAX {
+        'turns: for _ in 0..u64::MAX {
             match self.turn(network, until) {
                 Ok(Turn::Gives(note)) => return Ok(Some(note)),
                 Ok(Turn::Ends) => return Ok(None),
@@ -89,6 +89,25 @@ impl<C: Clock, M: Machine + Drop> State<C, M> {
         if let Err(error) = self.make_places() {
             return Err(error);
         }
+        self.take_turn(network, until)
+    }
+
+    /// A turn, for which there is room.
+    fn take_turn(&mut self, network: &Network, until: u64) -> Result<Turn, OutOfMemory>
+        requires range { IsInRange network.now }
+        requires well { IsWell C.last_step C.reading M.stands network.now self.old }
+        requires limit { until ≤ 2 ^ 60 + 1 }
+        requires open { self.old.time < until }
+        requires ended { self.old.ended ≡ true → until ≤ self.old.time + 1 }
+        requires room { HasRoom self.old }
+        ensures well { IsWell C.last_step C.reading M.stands network.now self.new }
+        ensures after { IsAfter self.old self.new }
+        ensures stands { (s : Scenario) (notes : List NoteOf) → Stands C.reading (keeps M.stands) s (world_of network.now self.old) notes
+            → Stands C.reading (keeps M.stands) s (world_of network.now self.new) (notes ++ given_in result) }
+        ensures whole { (s : Scenario) (notes : List NoteOf) → Stands C.reading (keeps M.stands) s (world_of network.now self.old) notes
+            → IfOk result (λ turn. IsWhole s notes until turn) }
+        ensures says { IfOk result (λ turn. TurnSays self.old self.new until turn) }
+    {
         let source = self.first_source(network, until);
         if self.has_first(&source) {
             return self.give_next(network, source);
