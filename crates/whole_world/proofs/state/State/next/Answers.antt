@@ -1,6 +1,11 @@
-use Rattle.std.proofs.Common.{◌≡◌, ℕ, ◌+◌, List, [], ap, arith, refl, sym, ◌∙◌}
+use Rattle.std.proofs.Common.{◌≡◌, ℕ, ◌+◌, List, [], ◌++◌, Ok, ap, append-nil, arith, refl, subst, sym, ◌∙◌}
 use Rattle.whole_world.proofs.Turning.{after_then, same_records}
+use Rattle.run_law.specs.declared.note.Note.{Note}
 use Rattle.whole_world.specs.Keeping.{keeps}
+use Rattle.whole_world.specs.Turns.{IsWhole, TurnSays, given_in}
+use Rattle.whole_world.specs.declared.memory.OutOfMemory.{OutOfMemory}
+use Rattle.whole_world.specs.declared.next.Turn.{Turn}
+use Rattle.world_law.specs.world.World.{Stands}
 use Rattle.whole_world.specs.Views.{world_of}
 use Rattle.whole_world.proofs.state.State.next.Goals as goal
 
@@ -30,22 +35,29 @@ pub returns-in-Ok-Gives-clause-after : goal.returns-in-Ok-Gives-clause-after
 returns-in-Ok-Gives-clause-after g c = after_then c.args.self.now c.turns.self c.turn.new.self c.turns.invariant.after c.turn.ensures.after
 
 pub returns-in-Ok-Gives-clause-stands : goal.returns-in-Ok-Gives-clause-stands
-returns-in-Ok-Gives-clause-stands g c = λ s notes is. c.in-Ok-Gives.ensures.stands s notes (c.turns.invariant.still s notes is)
+returns-in-Ok-Gives-clause-stands g c = λ s notes is.
+    subst (λ (t : Turn). Stands g.C.Clock.reading (keeps g.M.Machine.stands) s (world_of c.args.network.now c.turn.new.self) (notes ++ given_in {E = OutOfMemory} (Ok t))) c.in-Ok-Gives.field-0-is
+    (c.in-Ok-Gives.ensures.stands s notes (c.turns.invariant.still s notes is))
 
 pub returns-in-Ok-Gives-clause-given : goal.returns-in-Ok-Gives-clause-given
-returns-in-Ok-Gives-clause-given g c = c.in-Ok-Gives.ensures.says.2 ∙ ap (λ (n : ℕ). n + 1) c.turns.invariant.given
+returns-in-Ok-Gives-clause-given g c =
+    (subst (TurnSays c.turns.self c.turn.new.self c.args.until) c.in-Ok-Gives.field-0-is c.in-Ok-Gives.ensures.says).2 ∙ ap (λ (n : ℕ). n + 1) c.turns.invariant.given
 
 pub returns-in-Ok-Ends-clause-after : goal.returns-in-Ok-Ends-clause-after
 returns-in-Ok-Ends-clause-after g c = after_then c.args.self.now c.turns.self c.turn.new.self c.turns.invariant.after c.turn.ensures.after
 
 pub returns-in-Ok-Ends-clause-stands : goal.returns-in-Ok-Ends-clause-stands
-returns-in-Ok-Ends-clause-stands g c = λ s notes is. c.in-Ok-Ends.ensures.stands s notes (c.turns.invariant.still s notes is)
+returns-in-Ok-Ends-clause-stands g c = λ s notes is.
+    subst (λ (t : Turn). Stands g.C.Clock.reading (keeps g.M.Machine.stands) s (world_of c.args.network.now c.turn.new.self) (notes ++ given_in {E = OutOfMemory} (Ok t))) c.in-Ok-Ends.field-0-is
+    (c.in-Ok-Ends.ensures.stands s notes (c.turns.invariant.still s notes is))
 
 pub returns-in-Ok-Ends-clause-complete : goal.returns-in-Ok-Ends-clause-complete
-returns-in-Ok-Ends-clause-complete g c = λ s notes is. c.in-Ok-Ends.ensures.whole s notes (c.turns.invariant.still s notes is)
+returns-in-Ok-Ends-clause-complete g c = λ s notes is.
+    subst (IsWhole s notes c.args.until) c.in-Ok-Ends.field-0-is (c.in-Ok-Ends.ensures.whole s notes (c.turns.invariant.still s notes is))
 
 pub returns-in-Ok-Ends-clause-reached : goal.returns-in-Ok-Ends-clause-reached
-returns-in-Ok-Ends-clause-reached g c = λ is limit. c.in-Ok-Ends.ensures.says (c.turns.invariant.after.ended ∙ is) limit
+returns-in-Ok-Ends-clause-reached g c = λ is limit.
+    subst (TurnSays c.turns.self c.turn.new.self c.args.until) c.in-Ok-Ends.field-0-is c.in-Ok-Ends.ensures.says (c.turns.invariant.after.ended ∙ is) limit
 
 pub returns-in-Err-clause-after : goal.returns-in-Err-clause-after
 returns-in-Err-clause-after g c = after_then c.args.self.now c.turns.self c.turn.new.self c.turns.invariant.after c.turn.ensures.after
@@ -57,12 +69,17 @@ pub turns-preserved : goal.turns-preserved
 turns-preserved g c =
     let before = c.turns.invariant in
     let turn = c.in-Ok-GoesOn.ensures in
+    let says = subst (TurnSays c.turns.self c.turn.new.self c.args.until) c.in-Ok-GoesOn.field-0-is turn.says in
+    let none : given_in {E = OutOfMemory} (Ok c.in-Ok-GoesOn.field-0) ≡ [] =
+    ap (λ (t : Turn). given_in {E = OutOfMemory} (Ok t)) c.in-Ok-GoesOn.field-0-is in
     record {
       well = turn.well;
       after = after_then c.args.self.now c.turns.self c.turn.new.self before.after turn.after;
-      still = λ s notes is. same_records g.C.Clock.reading (keeps g.M.Machine.stands) s (world_of c.args.network.now c.turn.new.self) notes [] refl (turn.stands s notes (before.still s notes is));
-      early = turn.says.0;
-      given = turn.says.1 ∙ before.given;
+      still = λ s notes is.
+          subst (Stands g.C.Clock.reading (keeps g.M.Machine.stands) s (world_of c.args.network.now c.turn.new.self)) (ap (λ (l : List Note). notes ++ l) none ∙ append-nil notes)
+          (turn.stands s notes (before.still s notes is));
+      early = says.0;
+      given = says.1 ∙ before.given;
     }
 
 pub returns-clause-well : goal.returns-clause-well
