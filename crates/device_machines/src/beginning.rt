@@ -1,5 +1,5 @@
 ghost use Rattle.std.specs.Prelude.{◌≡◌, ◌<◌, length, IfOk};
-ghost use Rattle.whole_world.specs.Beginning.{AreFresh};
+ghost use Rattle.drift_world.specs.Beginning.{AreFresh};
 ghost use Rattle.device_machines.specs.Standing.{StandsAsDevice};
 ghost use Rattle.run_law.specs.machines.Nodes.{begun_node};
 

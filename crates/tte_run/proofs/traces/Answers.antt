@@ -26,7 +26,7 @@ use Rattle.tte_run.proofs.traces.Admitted.{IsStopped, admitted_in_order, admitte
 use Rattle.tte_run.proofs.traces.EventOrder.{last_before, last_of}
 use Rattle.tte_run.proofs.traces.Lasting.{lasts, no_further, so_far_at}
 use Rattle.tte_run.proofs.traces.Faults.{end_has_no_fault, fault_one, fault_stops}
-use Rattle.whole_world.specs.Running.{behind_events, last_time}
+use Rattle.drift_world.specs.Running.{behind_events, last_time}
 use Rattle.world_law.specs.source.Applying.{place_of_event}
 
 -- ---- reports

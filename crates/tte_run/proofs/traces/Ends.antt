@@ -27,7 +27,7 @@ use Rattle.std.proofs.lemmas.List.{append-nil}
 use Rattle.run_law.proofs.runs.Places.{before_next_time}
 use Rattle.run_law.specs.records.Order.{IsBefore}
 use Rattle.tte_run.proofs.traces.PuttingRecords.{next_amount}
-use Rattle.whole_world.specs.Running.{behind_events, last_time}
+use Rattle.drift_world.specs.Running.{behind_events, last_time}
 use Rattle.tte_units.specs.Amount.{amount}
 use Rattle.tte_units.specs.declared.units.Units.{Units}
 

@@ -4,7 +4,7 @@ use Rattle.net_plan.specs.declared.event.Event.{Event}
 use Rattle.run_law.specs.runs.DueRecords.{EndsAt}
 use Rattle.tte_units.specs.Amount.{amount, units_of}
 use Rattle.tte_units.specs.declared.units.Units.{Units}
-use Rattle.whole_world.specs.Running.{last_time}
+use Rattle.drift_world.specs.Running.{last_time}
 
 -- the times of the events are from this on, and none is earlier than one before it
 abbrev pub IsInOrder : ℕ → List Event → Type 0

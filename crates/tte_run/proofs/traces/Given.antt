@@ -27,7 +27,7 @@ use Rattle.tte_run.proofs.frames.Frames.{Gives-behind}
 use Rattle.tte_run.proofs.OneAnswers.{one_given}
 use Rattle.tte_run.proofs.Puts.{PutsLines-append, PutFails-behind}
 use Rattle.tte_units.specs.Amount.{amount}
-use Rattle.whole_world.specs.Running.{last_time}
+use Rattle.drift_world.specs.Running.{last_time}
 use Rattle.tte_run.proofs.traces.Answers.{BeginWith, IsAllAdmitted, IsFaultBehind, all_is_whole, answer_begins, ended_begins, faulty_answer, faulty_is, next_begins}
 
 -- ---- records put one after another

@@ -28,7 +28,7 @@ use Rattle.tte_run.specs.traces.Answer.{AreRecordsBefore, AreRecordsSoFar, clock
 use Rattle.tte_run.specs.traces.Lines.{AreAdmitted}
 use Rattle.tte_units.specs.Amount.{amount}
 use Rattle.tte_units.specs.declared.units.Units.{Units}
-use Rattle.whole_world.specs.Running.{behind_events, last_time}
+use Rattle.drift_world.specs.Running.{behind_events, last_time}
 use Rattle.world_law.proofs.runs.Applies.{event_cause, event_place, kinds}
 use Rattle.world_law.proofs.runs.Stays.{run_stays_under_more}
 use Rattle.world_law.specs.source.Agreeing.{Agree, scenario}

@@ -43,7 +43,7 @@ use Rattle.schedule_tables.specs.Entries.{IsEntry, source_by, source_of}
 use Rattle.schedule_tables.specs.declared.entry.Entry.{Entry}
 use Rattle.tte_units.specs.Amount.{amount}
 use Rattle.tte_units.specs.declared.units.Units.{Units}
-use Rattle.whole_world.proofs.Launches.{gives_in}
+use Rattle.drift_world.proofs.Launches.{gives_in}
 use Rattle.world_law.proofs.hearing.Receptions.{in_all, receiver_in}
 use Rattle.world_law.proofs.rows.Entered.{delivered_of, taken_at}
 use Rattle.world_law.specs.device.Own.{moves}

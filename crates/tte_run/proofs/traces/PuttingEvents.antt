@@ -30,7 +30,7 @@ use Rattle.tte_run.specs.traces.Answer.{AreRecordsBefore, AreRecordsSoFar}
 use Rattle.tte_run.specs.traces.Records.{AreEarlier, ComesNext, ExactWorld, IsOnTheWay, IsUnderway, MayCome, PutsEvent, PutsUntil, StandsExact}
 use Rattle.tte_units.specs.Amount.{amount}
 use Rattle.tte_units.specs.declared.units.Units.{Units}
-use Rattle.whole_world.specs.Running.{HasReached, HoldsATime, IsOpenTo, MayBefall, Reaches, behind_events, last_time}
+use Rattle.drift_world.specs.Running.{HasReached, HoldsATime, IsOpenTo, MayBefall, Reaches, behind_events, last_time}
 
 -- ---- the event may befall the world whose earlier records were put
 

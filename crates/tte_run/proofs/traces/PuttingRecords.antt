@@ -13,7 +13,7 @@ use Rattle.tte_io.specs.Told.{AppendsFront}
 use Rattle.tte_run.specs.traces.Records.{AreEarlier, ExactWorld, IsUnderway, PutsOr, PutsRest, PutsUntil, StandsExact}
 use Rattle.tte_run.specs.traces.Answer.{AreRecordsBefore}
 use Rattle.tte_run.proofs.traces.Worlds.{below_amount, go_on}
-use Rattle.whole_world.specs.Running.{Reaches}
+use Rattle.drift_world.specs.Running.{Reaches}
 use Rattle.run_law.proofs.runs.Places.{before_later_time}
 use Rattle.run_law.specs.records.Order.{IsBefore}
 use Rattle.tte_run.specs.Putting.{Shown, PutsLines, PutFails}

@@ -8,7 +8,7 @@ use Rattle.net_plan.specs.declared.network.Network.{Network}
 use Rattle.run_law.specs.declared.note.Note.{Note}
 use Rattle.run_law.specs.declared.outside.Outside.TheVariants as conditions
 use Rattle.run_law.specs.scenario.Hypothesis.{ComesTooEarly}
-use Rattle.whole_world.specs.Running.{last_time}
+use Rattle.drift_world.specs.Running.{last_time}
 use Rattle.trace_text.specs.Ranges.{IsTime}
 use Rattle.tte_run.specs.traces.Following.{Follows, GivesEvent, GoesOn, ReadsOn, TakesNext}
 use Rattle.tte_run.specs.traces.Records.{ComesNext, ExactWorld, HasBefallen, IsReached, IsUnderway, MayCome, PutsEvent, StandsExact}

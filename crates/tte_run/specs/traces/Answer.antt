@@ -15,7 +15,7 @@ use Rattle.tte_run.specs.declared.status.Status.{Status}
 use Rattle.tte_run.specs.declared.status.Status.TheVariants.{Done, Usage, FrameRefused, NetworkRefused, TraceRefused, OutsideHypothesis, ReadFault, WriteFault, OutOfMemory, TooLong}
 use Rattle.tte_units.specs.Amount.{amount}
 use Rattle.tte_units.specs.declared.units.Units.{Units}
-use Rattle.whole_world.specs.Running.{behind_events, last_time, reading_of}
+use Rattle.drift_world.specs.Running.{behind_events, last_time, reading_of}
 
 -- what the exact clock of a device reads at a time, under the rates that the events set
 abbrev pub clock_reading : Network → List Event → DeviceId → ℕ → ℕ

@@ -17,8 +17,8 @@ use Rattle.tte_run.specs.declared.status.Status.{Status}
 use Rattle.tte_run.specs.declared.status.Status.TheVariants.{Done, WriteFault, OutOfMemory}
 use Rattle.tte_units.specs.Amount.{amount}
 use Rattle.tte_units.specs.declared.units.Units.{Units}
-use Rattle.whole_world.specs.Running.{StandsUnder, last_time}
-use Rattle.whole_world.specs.declared.kept.Kept.{Kept}
+use Rattle.drift_world.specs.Running.{StandsUnder, last_time}
+use Rattle.drift_world.specs.declared.kept.Kept.{Kept}
 use Rattle.world_law.specs.source.Applying.{place_of_event}
 use Rattle.world_law.specs.world.World.{World}
 

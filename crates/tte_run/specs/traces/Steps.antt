@@ -5,7 +5,7 @@ use Rattle.net_plan.specs.declared.network.Network.{Network}
 use Rattle.report_text.specs.NoteLine.{report_of}
 use Rattle.run_law.specs.declared.note.Note.{Note}
 use Rattle.trace_text.specs.Ranges.{IsTime}
-use Rattle.whole_world.specs.Running.{last_time}
+use Rattle.drift_world.specs.Running.{last_time}
 use Rattle.tte_run.specs.Answering.{Answer, GivesOne}
 use Rattle.tte_run.specs.traces.Following.{Follows, Reads}
 use Rattle.tte_run.specs.traces.Records.{IsReached, StandsExact}

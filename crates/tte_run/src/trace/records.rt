@@ -6,7 +6,7 @@ ghost use Rattle.trace_text.specs.Ranges.{IsTime};
 ghost use Rattle.tte_run.specs.Faults.{PutFailed};
 ghost use Rattle.tte_run.specs.Putting.{Over};
 ghost use Rattle.tte_run.specs.traces.Records.{ComesNext, IsCut, IsReached, IsUnderway, MayCome, PutsEvent, PutsRest, PutsUntil, StandsExact};
-ghost use Rattle.whole_world.specs.Running.{Reaches};
+ghost use Rattle.drift_world.specs.Running.{Reaches};
 
 use crate::Status;
 use crate::put_line::end_with;
@@ -16,7 +16,7 @@ use net_plan::{Event, Network};
 use report_text::write;
 use tte_io::{LineText, Sink};
 use tte_units::Units;
-use whole_world::World;
+use drift_world::World;
 
 /// The world of the program, whose clocks are exact.
 pub(crate) type ExactWorld<'a> = World<'a, SegmentClock, DeviceMachine>;

@@ -15,7 +15,7 @@ use schedule_tables::Accepted;
 use std::alloc::Global;
 use tte_io::{LineText, Sink, Source};
 use tte_units::Units;
-use whole_world::{OutOfMemory, World};
+use drift_world::{OutOfMemory, World};
 
 /// A run under a trace.
 #[derive(Drop)]

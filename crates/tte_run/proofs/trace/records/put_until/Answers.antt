@@ -7,7 +7,7 @@ use Rattle.tte_run.specs.Putting.{shown_by}
 use Rattle.tte_run.proofs.traces.OwnNotes.{note_of}
 use Rattle.tte_run.proofs.traces.PuttingRecords.{HasPut-none, HasPut-more, HasPut-fails, HasPut-still, given_none, given_some, if_none, if_some, is_before, reached_by, still_ended, underway_still, until_all, until_fails, until_no_memory}
 use Rattle.tte_run.proofs.trace.records.put_until.Goals as goal
-use Rattle.whole_world.specs.Running.{Reaches, left_of}
+use Rattle.drift_world.specs.Running.{Reaches, left_of}
 use Rattle.world_law.specs.source.Agreeing.{scenario}
 
 pub notes-init : goal.notes-init

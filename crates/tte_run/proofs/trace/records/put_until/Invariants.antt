@@ -5,7 +5,7 @@ use Rattle.tte_run.specs.traces.Records.{StandsExact}
 use Rattle.tte_run.specs.Putting.{shown_by}
 use Rattle.tte_run.proofs.traces.PuttingRecords.{HasPut}
 use Rattle.tte_run.proofs.trace.records.put_until.Given as goal
-use Rattle.whole_world.specs.Running.{left_of}
+use Rattle.drift_world.specs.Running.{left_of}
 
 abbrev pub invariant-notes : goal.invariant-notes
 invariant-notes g l = record {

@@ -1,0 +1,357 @@
+-- The records of an act are those of the law, and are put in.
+use Rattle.std.proofs.Common.{◌≡◌, ℕ, ◌≤◌, ◌==◌, Bool, true, false, Option, Some, None, List, [], ◌∷◌, ◌++◌, map, inl, inr, refl, sym, ap, subst, ◌∙◌, arith}
+use Rattle.std.specs.Prelude.{if◌then◌else◌, ◌⊎◌}
+use Rattle.std.specs.Option.{option_map, option_map_or}
+use Rattle.std.proofs.lemmas.Bool.{ne_eqb}
+use Rattle.std.proofs.lemmas.Option.{slice_get_within}
+use Rattle.net_plan.specs.declared.ids.DeviceId.{DeviceId}
+use Rattle.net_plan.specs.declared.ids.RowId.{RowId}
+use Rattle.net_plan.specs.declared.network.Network.{Network}
+use Rattle.pcf_values.specs.declared.pcf.Pcf.{Pcf}
+use Rattle.run_law.proofs.runs.Places.{in_left, in_parts, in_right}
+use Rattle.run_law.specs.declared.judgement.Why.TheVariants as whys
+use Rattle.run_law.specs.declared.note.NoteBody.TheVariants as kinds
+use Rattle.run_law.specs.declared.note.NoteBody.{NoteBody}
+use Rattle.run_law.specs.declared.steps.Act.TheVariants as acts
+use Rattle.run_law.specs.declared.steps.Act.{Act}
+use Rattle.run_law.specs.declared.steps.Ripe.TheVariants as ripe
+use Rattle.run_law.specs.declared.steps.Ripe.{Ripe}
+use Rattle.run_law.specs.machines.Answers.{IsActOf}
+use Rattle.run_law.specs.machines.Nodes.{Node, dispatching}
+use Rattle.run_law.specs.machines.Tasks.{IsFirstTask, doing}
+use Rattle.run_law.specs.records.Frames.{dispatched_frame, tt_frame}
+use Rattle.run_law.specs.records.Happenings.{Happening, octets_from}
+use Rattle.run_law.specs.records.Order.{IsBefore, IsIn}
+use Rattle.run_law.specs.records.Ranks.{key, rank, sign}
+use Rattle.run_law.specs.scenario.Scenarios.{Scenario}
+use Rattle.run_law.specs.scenario.Ways.{is_cut, way_from}
+use Rattle.run_law.specs.timed.Dispatching.{HasAtHand}
+use Rattle.schedule_tables.specs.Entries.{IsEntry}
+use Rattle.schedule_tables.specs.declared.entry.Entry.{Entry}
+use Rattle.sync_state.specs.declared.answers.Verdict.TheVariants.{Corrected, SyncClique, AsyncClique, Cleared}
+use Rattle.sync_state.specs.declared.answers.Verdict.{Verdict}
+use Rattle.sync_state.specs.declared.state.State.TheVariants.{Off, Integrating, Joining, Synchronised}
+use Rattle.sync_state.specs.declared.state.State.{State as Standing}
+use Rattle.tte_units.specs.Amount.{amount}
+use Rattle.tte_units.specs.declared.units.Units.{Units}
+use Rattle.drift_world.proofs.HiddenCauses.{InOrder}
+use Rattle.drift_world.proofs.Made.{made_octets}
+use Rattle.drift_world.proofs.Puts.{is_put_in, order_put}
+use Rattle.drift_world.specs.Acting.{AreOutcomes, IsHeldIn, bare, bodies_of, body_of, corrected_by, dispatched_by, emitted_by, first_by, framed, joined_by, sent_by}
+use Rattle.drift_world.specs.Giving.{HasItsOctets}
+use Rattle.drift_world.specs.Places.{IsSomePut, own_place}
+use Rattle.drift_world.specs.Views.{octets_of, settled_at, stored_as}
+use Rattle.drift_world.specs.declared.act.AtHand.{AtHand}
+use Rattle.drift_world.specs.declared.contents.Holding.{Holding}
+use Rattle.drift_world.specs.declared.contents.Settled.{Settled}
+use Rattle.drift_world.specs.declared.contents.Timed.TheVariants.{Made}
+use Rattle.drift_world.specs.declared.outcomes.Outcomes.{Outcomes}
+use Rattle.world_law.proofs.acting.Held.{IsHeldFrame, held_frame}
+use Rattle.world_law.proofs.acting.Stage.{Stage}
+use Rattle.world_law.proofs.rows.AtHand.{sender_or}
+use Rattle.world_law.specs.world.Acting.{AreActBodies, first_bodies, joining_bodies, judged_as}
+use Rattle.world_law.specs.world.Calls.{moment_of}
+use Rattle.world_law.specs.world.Steps.{ArePutIn, IsPutIn, settled_as}
+use Rattle.world_law.specs.world.World.{AreStored, Stored, act_place, none_yet}
+
+-- ---- two records are put in, one after the other
+
+-- it is the record of its body
+abbrev pub IsOwn : Network → Network → ℕ → List Happening → Option Settled → Type 0
+IsOwn other network now hs None = Unit {0}
+IsOwn other network now hs (Some z) = settled_at network now z ≡ settled_as other hs now z.body
+
+module _ (other network : Network) (now : ℕ) (hs : List Happening) where
+  abbrev all_at : List Settled → List Happening
+  all_at zs = map (settled_at network now) zs
+
+  pub order_then : (o : Option Settled) (old new : List Settled) → IsSomePut o old new → InOrder (all_at old) → InOrder (all_at new)
+  order_then None old new put order = subst (λ (l : List Settled). InOrder (all_at l)) (sym put) order
+  order_then (Some z) old new put order =
+      order_put (settled_at network now z) (all_at old) (all_at new) order (is_put_in network now z old new put.0 put.1 order)
+
+  one_by : (o : Option Settled) (old new : List Settled) → IsSomePut o old new → InOrder (all_at old) → IsOwn other network now hs o
+      → ArePutIn other hs now (body_of o) (all_at old) (all_at new)
+  one_by None old new put order own = ap all_at put
+  one_by (Some z) old new put order own = (
+    all_at new,
+    subst (λ (h : Happening). IsPutIn h (all_at old) (all_at new)) own (is_put_in network now z old new put.0 put.1 order),
+    refl,
+  )
+
+  pub both_put : (first second : Option Settled) (old mid new : List Settled) → IsSomePut first old mid → IsSomePut second mid new → InOrder (all_at old)
+      → IsOwn other network now hs first → IsOwn other network now hs second
+      → ArePutIn other hs now (body_of first ++ body_of second) (all_at old) (all_at new)
+  both_put None second old mid new one two order own also =
+      subst (λ (l : List Settled). ArePutIn other hs now (body_of second) (all_at l) (all_at new)) one
+      (one_by second mid new two (order_then None old mid one order) also)
+  both_put (Some z) second old mid new one two order own also = (
+    all_at mid,
+    subst (λ (h : Happening). IsPutIn h (all_at old) (all_at mid)) own (is_put_in network now z old mid one.0 one.1 order),
+    one_by second mid new two (order_then (Some z) old mid one order) also,
+  )
+
+  -- what is there after a record is put in
+  pub there_then : (o : Option Settled) (old new : List Settled) → IsSomePut o old new → InOrder (all_at old) → (h : Happening) → IsIn h (all_at new)
+      → IsIn h (all_at old) ⊎ ((z : Settled) × (o ≡ Some z) × (h ≡ settled_at network now z))
+  there_then None old new put order h there = inl (subst (λ (l : List Settled). IsIn h (all_at l)) put there)
+  there_then (Some z) old new put order h there =
+      let p = is_put_in network now z old new put.0 put.1 order in
+      elim (in_parts h p.front (settled_at network now z ∷ p.back) (subst (λ (l : List Happening). IsIn h l) p.is there)) [
+        | inl a ↦ inl (subst (λ (l : List Happening). IsIn h l) (sym p.was) (in_left h p.front p.back a))
+        | inr (inl e) ↦ inr (z, refl, e)
+        | inr (inr b) ↦ inl (subst (λ (l : List Happening). IsIn h l) (sym p.was) (in_right h p.front p.back b))
+      ]
+
+-- ---- they have their octets, and are not before the place of the act
+
+abbrev pub IsFine : ℕ → DeviceId → Option Settled → Type 0
+IsFine now device None = Unit {0}
+IsFine now device (Some z) = HasItsOctets z.body z.octets × (IsBefore (now ∷ own_place z) (act_place now device) → ⊥)
+
+later_rank : (now r d : ℕ) (key : List ℕ) → 5 ≤ r → IsBefore (now ∷ r ∷ key) (now ∷ 4 ∷ d ∷ []) → ⊥
+later_rank now r d key le (inl lt) = omega (arith, lt)
+later_rank now r d key le (inr (e, inl lt)) = omega (arith, le, lt)
+later_rank now r d key le (inr (e, inr (f, b))) = omega (arith, le, f)
+
+late : (now : ℕ) (device : DeviceId) (z : Settled) → 5 ≤ rank z.body → IsBefore (now ∷ own_place z) (act_place now device) → ⊥
+late now device z le = later_rank now (rank z.body) device.0 (key (option_map_or (λ frame. frame.members.0) z.frame 0) z.body) le
+
+own_rank : (now d : ℕ) (key : List ℕ) → IsBefore (now ∷ 4 ∷ d ∷ key) (now ∷ 4 ∷ d ∷ []) → ⊥
+own_rank now d key (inl lt) = omega (arith, lt)
+own_rank now d key (inr (e, inl lt)) = omega (arith, lt)
+own_rank now d key (inr (e, inr (f, inl lt))) = omega (arith, lt)
+own_rank now d key (inr (e, inr (f, inr (g, b)))) = b
+
+-- the records of an act
+pub record AreProper (s : Scenario) (hs : List Happening) (now : ℕ) (device : DeviceId) (was : Standing) (adjustment : Units) (act : Act)
+    (outcomes : Outcomes) : Type 0 where
+  pub bodies : AreActBodies s hs now device was adjustment act (bodies_of outcomes)
+  pub first : IsOwn s.network s.network now hs outcomes.first
+  pub second : IsOwn s.network s.network now hs outcomes.second
+  pub first_fine : IsFine now device outcomes.first
+  pub second_fine : IsFine now device outcomes.second
+
+-- ---- frames of control
+
+joining : (device : DeviceId) (heard : Ripe) → body_of (joined_by device heard) ≡ joining_bodies device heard
+joining device ripe.Opened = refl
+joining device ripe.Joined = refl
+joining device ripe.Repeat = refl
+joining device ripe.Within = refl
+joining device ripe.Outside = refl
+joining device ripe.Integrates = refl
+joining device ripe.Ignored = refl
+joining device (ripe.Dropped reason) = refl
+
+joining_own : (network : Network) (now : ℕ) (hs : List Happening) (device : DeviceId) (heard : Ripe) → IsOwn network network now hs (joined_by device heard)
+joining_own network now hs device ripe.Opened = tt
+joining_own network now hs device ripe.Joined = tt
+joining_own network now hs device ripe.Repeat = tt
+joining_own network now hs device ripe.Within = tt
+joining_own network now hs device ripe.Outside = tt
+joining_own network now hs device ripe.Integrates = refl
+joining_own network now hs device ripe.Ignored = tt
+joining_own network now hs device (ripe.Dropped reason) = tt
+
+joining_fine : (now : ℕ) (device : DeviceId) (heard : Ripe) → IsFine now device (joined_by device heard)
+joining_fine now device ripe.Opened = tt
+joining_fine now device ripe.Joined = tt
+joining_fine now device ripe.Repeat = tt
+joining_fine now device ripe.Within = tt
+joining_fine now device ripe.Outside = tt
+joining_fine now device ripe.Integrates = (tt, late now device (bare (kinds.State device Joining none_yet whys.Frame)) (omega arith))
+joining_fine now device ripe.Ignored = tt
+joining_fine now device (ripe.Dropped reason) = tt
+
+-- ---- corrections
+
+first_is : (device : DeviceId) (was : Standing) → body_of (first_by device was) ≡ first_bodies device was
+first_is device Off = refl
+first_is device Integrating = refl
+first_is device Joining = refl
+first_is device Synchronised = refl
+
+first_own : (network : Network) (now : ℕ) (hs : List Happening) (device : DeviceId) (was : Standing) → IsOwn network network now hs (first_by device was)
+first_own network now hs device Off = tt
+first_own network now hs device Integrating = tt
+first_own network now hs device Joining = refl
+first_own network now hs device Synchronised = tt
+
+first_fine : (now : ℕ) (device : DeviceId) (was : Standing) → IsFine now device (first_by device was)
+first_fine now device Off = tt
+first_fine now device Integrating = tt
+first_fine now device Joining = (tt, late now device (bare (kinds.State device Synchronised none_yet whys.Correction)) (omega arith))
+first_fine now device Synchronised = tt
+
+of_correction : (s : Scenario) (hs : List Happening) (now : ℕ) (device : DeviceId) (was : Standing) (adjustment : Units) (cycle : ℕ) (verdict : Verdict)
+    → AreProper s hs now device was adjustment (acts.Correct cycle verdict) (corrected_by device was cycle adjustment verdict)
+of_correction s hs now device was adjustment cycle (Corrected by) = record {
+  bodies = ap (λ (l : List NoteBody). kinds.Corrected device cycle by adjustment ∷ l) (first_is device was);
+  first = refl;
+  second = first_own s.network now hs device was;
+  first_fine = (tt, late now device (bare (kinds.Corrected device cycle by adjustment)) (omega arith));
+  second_fine = first_fine now device was;
+}
+of_correction s hs now device was adjustment cycle SyncClique = record {
+  bodies = refl;
+  first = refl;
+  second = tt;
+  first_fine = (tt, late now device (bare (kinds.State device Integrating 0 whys.SyncClique)) (omega arith));
+  second_fine = tt;
+}
+of_correction s hs now device was adjustment cycle AsyncClique = record {
+  bodies = refl;
+  first = refl;
+  second = tt;
+  first_fine = (tt, late now device (bare (kinds.State device Integrating 0 whys.AsyncClique)) (omega arith));
+  second_fine = tt;
+}
+of_correction s hs now device was adjustment cycle Cleared = record { bodies = refl; first = tt; second = tt; first_fine = tt; second_fine = tt }
+
+-- ---- a dispatch
+
+-- the sender's octets are the frame of the law
+made_is : (network : Network) (cycle : ℕ) (entry : Entry) (place : ℕ) → IsEntry network place entry
+    → octets_of network (Made entry.row.vl cycle) ≡ tt_frame network entry.row.vl cycle
+made_is network cycle entry place is = made_octets network entry.row.vl cycle (slice_get_within network.vl entry.row.vl.0 entry.vl is.vl)
+
+module _ (s : Scenario) (hs : List Happening) (now : ℕ) (device : DeviceId) (was : Standing) (adjustment : Units) (row : RowId) (cycle : ℕ) (entry : Entry)
+    (hand : AtHand) where
+  abbrev told : Bool → Settled
+  told b = dispatched_by b device entry cycle hand
+
+  abbrev octets_now : List ℕ
+  octets_now = if hand.cause == 0 then tt_frame s.network entry.row.vl cycle else octets_from hs hand.cause
+
+  told_body : (b : Bool) → body_of (Some (told b)) ++ [] ≡ (if b then kinds.Lost device entry.row.link hand.cause
+      else kinds.TtSent device entry.row.link hand.cause entry.row.vl cycle) ∷ []
+  told_body true = refl
+  told_body false = refl
+
+  told_own : octets_of s.network hand.octets ≡ octets_now → (b : Bool) → IsOwn s.network s.network now hs (Some (told b))
+  told_own octets true = refl
+  told_own octets false =
+      ap (λ (l : List ℕ). let h : Happening = record (settled_at s.network now (told false)) { octets = l } in h) octets
+
+  told_fine : (b : Bool) → IsFine now device (Some (told b))
+  told_fine true = (tt, late now device (told true) (omega arith))
+  told_fine false = (tt, late now device (told false) (omega arith))
+
+  of_dispatch : (outcomes : Outcomes) → IsEntry s.network row.0 entry → HasAtHand s.network hs device entry now hand.cause cycle
+      → octets_of s.network hand.octets ≡ octets_now
+      → outcomes.first ≡ Some (told (is_cut s entry.row.link (way_from s.network device entry.row.link) now)) → outcomes.second ≡ None
+      → AreProper s hs now device was adjustment (acts.Dispatch row cycle) outcomes
+  of_dispatch outcomes is at octets first second =
+      let cut = is_cut s entry.row.link (way_from s.network device entry.row.link) now in
+      record {
+        bodies = (
+          entry,
+          hand.cause,
+          is,
+          at,
+          ap (λ (o : Option Settled). body_of o ++ body_of outcomes.second) first
+              ∙ ap (λ (o : Option Settled). body_of (Some (told cut)) ++ body_of o) second ∙ told_body cut,
+        );
+        first = subst (IsOwn s.network s.network now hs) (sym first) (told_own octets cut);
+        second = subst (IsOwn s.network s.network now hs) (sym second) tt;
+        first_fine = subst (IsFine now device) (sym first) (told_fine cut);
+        second_fine = subst (IsFine now device) (sym second) tt;
+      }
+
+in_stored : (network : Network) (stored : List Holding) (e : Stored) → IsIn e (map (stored_as network) stored)
+    → (h : Holding) × IsIn h stored × (e ≡ stored_as network h)
+in_stored network [] e there = absurd there
+in_stored network (h ∷ stored) e (inl is) = (h, inl refl, is)
+in_stored network (h ∷ stored) e (inr rest) = let o = in_stored network stored e rest in (o.0, inr o.1, o.2)
+
+stored_in : (network : Network) (stored : List Holding) (h : Holding) → IsIn h stored → IsIn (stored_as network h) (map (stored_as network) stored)
+stored_in network [] h there = absurd there
+stored_in network (k ∷ stored) h (inl is) = inl (ap (stored_as network) is)
+stored_in network (k ∷ stored) h (inr rest) = inr (stored_in network stored h rest)
+
+not_zero : (n : ℕ) (a b : List ℕ) → 1 ≤ n → b ≡ (if n == 0 then a else b)
+not_zero n a b le = sym (ap (λ (c : Bool). if c then a else b) (ne_eqb n 0 (λ e. omega (arith, e, le))))
+
+-- the frame that is held
+of_held : (s : Scenario) (hs : List Happening) (stored : List Holding) (now : ℕ) (device : DeviceId) (was : Standing) (adjustment : Units) (row : RowId)
+    (cycle : ℕ) (entry : Entry) (outcomes : Outcomes) (hand : Option AtHand) → IsEntry s.network row.0 entry
+    → IsHeldFrame s hs (map (stored_as s.network) stored) now device entry cycle → IsHeldIn stored device entry.row.vl hand
+    → outcomes.first ≡ option_map (dispatched_by (is_cut s entry.row.link (way_from s.network device entry.row.link) now) device entry cycle) hand
+    → outcomes.second ≡ None → AreProper s hs now device was adjustment (acts.Dispatch row cycle) outcomes
+of_held s hs stored now device was adjustment row cycle entry outcomes None is held none first second =
+    let found = in_stored s.network stored held.there.0 held.there.1 in
+    absurd (none found.0 found.1 (ap (λ (e : Stored). e.device) (sym found.2) ∙ held.there.2)
+    (ap (λ (e : Stored). e.vl) (sym found.2) ∙ held.there.3))
+of_held s hs stored now device was adjustment row cycle entry outcomes (Some hand) is held (h, there, of_device, of_vl, same) first second =
+    let e = stored_as s.network h in
+    let i = stored_in s.network stored h there in
+    let cause : hand.cause ≡ h.number = ap (λ (a : AtHand). a.cause) same in
+    let octets : octets_of s.network hand.octets ≡ octets_from hs hand.cause =
+    ap (λ (a : AtHand). octets_of s.network a.octets) same ∙ held.octets e i of_device of_vl ∙ ap (octets_from hs) (sym cause) in
+    let some : 1 ≤ hand.cause = subst (λ (n : ℕ). 1 ≤ n) (sym cause) (held.some e i of_device of_vl) in
+    of_dispatch s hs now device was adjustment row cycle entry hand outcomes is
+    (subst (λ (n : ℕ). HasAtHand s.network hs device entry now n cycle) (sym cause) (held.hand e i of_device of_vl))
+    (octets ∙ not_zero hand.cause (tt_frame s.network entry.row.vl cycle) (octets_from hs hand.cause) some) first second
+
+-- a dispatch
+of_row : {M : Type 0} (stands : M → Network → DeviceId → Node → Type 0) (s : Scenario) (hs coming : List Happening) (mark cursor : List ℕ)
+    (stored : List Holding) (now : ℕ) (device : DeviceId) (machine : M) (node : Node) (was : Standing) (adjustment : Units) (row : RowId) (cycle : ℕ)
+    (outcomes : Outcomes) → Stage stands s hs coming mark cursor now device machine node → AreStored hs (map (stored_as s.network) stored)
+    → IsFirstTask s.network device node (moment_of s device now).reading.0 (doing (dispatching row cycle))
+    → AreOutcomes s stored now device was adjustment (acts.Dispatch row cycle) outcomes
+    → AreProper s hs now device was adjustment (acts.Dispatch row cycle) outcomes
+of_row stands s hs coming mark cursor stored now device machine node was adjustment row cycle outcomes st are first is =
+    let p = first.pending in
+    let entry = p.1.own.1.entry in
+    let d = is entry p.1.own.1.is in
+    elim (sender_or entry.vl.sender device) [
+      | inl sender ↦
+          let hand : AtHand = record { cause = 0; octets = Made entry.row.vl cycle } in
+          let cut = is_cut s entry.row.link (way_from s.network device entry.row.link) now in
+          of_dispatch s hs now device was adjustment row cycle entry hand outcomes p.1.own.1.is (inl (sender, refl))
+          (made_is s.network cycle entry row.0 p.1.own.1.is)
+          (d.0.is ∙ ap (λ (o : Option AtHand). option_map (dispatched_by cut device entry cycle) o) (d.0.of_hand.sender sender)) d.1
+      | inr other ↦
+          of_held s hs stored now device was adjustment row cycle entry outcomes d.0.hand p.1.own.1.is
+          (held_frame stands s hs coming mark cursor now device machine node row cycle (map (stored_as s.network) stored) st are p first.due other)
+          (d.0.of_hand.held other) d.0.is d.1
+    ]
+
+-- ---- an act
+
+same_outcomes : (s : Scenario) (hs : List Happening) (now : ℕ) (device : DeviceId) (was : Standing) (adjustment : Units) (act : Act) (a b : Outcomes) → a ≡ b
+    → AreProper s hs now device was adjustment act b → AreProper s hs now device was adjustment act a
+same_outcomes s hs now device was adjustment act a b same = subst (λ (o : Outcomes). AreProper s hs now device was adjustment act o) (sym same)
+
+-- the records of an act of a device of a world that stands
+pub proper : {M : Type 0} (stands : M → Network → DeviceId → Node → Type 0) (s : Scenario) (hs coming : List Happening) (mark cursor : List ℕ)
+    (stored : List Holding) (now : ℕ) (device : DeviceId) (machine : M) (node after : Node) (was : Standing) (adjustment : Units) (act : Act)
+    (outcomes : Outcomes) → Stage stands s hs coming mark cursor now device machine node → AreStored hs (map (stored_as s.network) stored)
+    → IsActOf s.network device node (moment_of s device now) act after → AreOutcomes s stored now device was adjustment act outcomes
+    → AreProper s hs now device was adjustment act outcomes
+proper stands s hs coming mark cursor stored now device machine node after was adjustment (acts.Send frame) outcomes st are acted is =
+    let cycle : frame.cycle ≡ acted.0 = ap (λ (f : Pcf). f.cycle) acted.2 in
+    let of_cycle : frame ≡ dispatched_frame s.network device frame.cycle = acted.2 ∙ ap (dispatched_frame s.network device) (sym cycle) in
+    same_outcomes s hs now device was adjustment (acts.Send frame) outcomes (sent_by device frame) is
+    (record {
+      bodies = refl;
+      first = ap (λ (f : Pcf). let h : Happening = record (settled_at s.network now (bare (kinds.Sent device frame.cycle))) { frame = Some f } in h) of_cycle;
+      second = tt;
+      first_fine = (tt, late now device (framed (kinds.Sent device frame.cycle) frame) (omega arith));
+      second_fine = tt;
+    })
+proper stands s hs coming mark cursor stored now device machine node after was adjustment (acts.Emit sent heard) outcomes st are acted is =
+    same_outcomes s hs now device was adjustment (acts.Emit sent heard) outcomes (emitted_by s.network device sent heard) is
+    (record {
+      bodies = ap (λ (l : List NoteBody). kinds.Compressed device sent.opened sent.at sent.cycle sent.members (judged_as heard) ∷ l) (joining device heard);
+      first = refl;
+      second = joining_own s.network now hs device heard;
+      first_fine = (tt, own_rank now device.0 (amount sent.opened ∷ amount sent.at ∷ sent.cycle ∷ sent.members.0 ∷ sign sent.opened.0 ∷ sign sent.at.0 ∷ []));
+      second_fine = joining_fine now device heard;
+    })
+proper stands s hs coming mark cursor stored now device machine node after was adjustment (acts.Correct cycle verdict) outcomes st are acted is =
+    same_outcomes s hs now device was adjustment (acts.Correct cycle verdict) outcomes (corrected_by device was cycle adjustment verdict) is
+    (of_correction s hs now device was adjustment cycle verdict)
+proper stands s hs coming mark cursor stored now device machine node after was adjustment (acts.Dispatch row cycle) outcomes st are acted is =
+    of_row stands s hs coming mark cursor stored now device machine node was adjustment row cycle outcomes st are acted.0 is

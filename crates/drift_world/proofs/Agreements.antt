@@ -1,0 +1,140 @@
+-- How the clocks of a network go on by an event: what they read up to then stays, and from then on they read what the
+-- event makes of them.
+use Rattle.std.proofs.Common.{◌≡◌, ℕ, ◌≤◌, ℤ, ◌==◌, List, [], ◌∷◌, ◌++◌, Option, Some, None, true, false, if◌then◌else◌, Bool, inl, inr, refl, sym, ap, subst, ◌∙◌, arith}
+use Rattle.std.specs.List.{All}
+use Rattle.std.specs.Option.{option_map_or}
+use Rattle.std.proofs.lemmas.Bool.{cases_lt, le-leb, lt-leb}
+use Rattle.std.proofs.lemmas.List.{append-nil}
+use Rattle.std.proofs.lemmas.List.Elements.{filter-append, filter_map-append}
+use Rattle.std.proofs.lemmas.List.Sums.{fold-append}
+use Rattle.drift_clock.proofs.Histories.{up_to-all}
+use Rattle.drift_clock.proofs.Readings.{IsLawful}
+use Rattle.drift_clock.specs.Counts.{rounded}
+use Rattle.drift_clock.specs.RateSteps.{RateStep, up_to}
+use Rattle.drift_clock.specs.Readings.{reading_at, value_after}
+use Rattle.net_plan.specs.declared.event.Event.{Event}
+use Rattle.net_plan.specs.declared.event.What.{What}
+use Rattle.net_plan.specs.declared.event.What.TheVariants as events
+use Rattle.net_plan.specs.declared.ids.DeviceId.{DeviceId}
+use Rattle.net_plan.specs.declared.network.Network.{Network}
+use Rattle.run_law.specs.records.Order.{IsIn}
+use Rattle.run_law.specs.scenario.Rates.{rate_steps, step_by}
+use Rattle.tte_units.specs.Amount.{amount}
+use Rattle.drift_world.specs.Applying.{clock_after}
+use Rattle.drift_world.specs.Running.{clock_of, reading_of}
+
+-- ---- the steps of more events
+
+-- the step, where there is one
+abbrev one_of : Option RateStep → List RateStep
+one_of None = []
+one_of (Some step) = step ∷ []
+
+steps_more : (past : List Event) (event : Event) (device : DeviceId)
+    → rate_steps (past ++ event ∷ []) device ≡ rate_steps past device ++ one_of (step_by device (amount event.time) event.what)
+steps_more past event device =
+    filter_map-append (λ (e : Event). step_by device (amount e.time) e.what) past (event ∷ [])
+    ∙ ap (λ (l : List RateStep). rate_steps past device ++ l) (last (step_by device (amount event.time) event.what) refl)
+  where
+    last : (o : Option RateStep) → step_by device (amount event.time) event.what ≡ o → rate_steps (event ∷ []) device ≡ one_of (step_by device (amount event.time) event.what)
+    last None e = ap (λ (o : Option RateStep). Rattle.std.specs.List.cons_option o []) e ∙ sym (ap one_of e)
+    last (Some step) e = ap (λ (o : Option RateStep). Rattle.std.specs.List.cons_option o []) e ∙ sym (ap one_of e)
+
+-- what the last step makes of a clock
+step_last : {C : Type 0} (after_step : C → ℕ → ℤ → C) (o : Option RateStep) (clock : C)
+    → value_after after_step clock (one_of o) ≡ option_map_or (λ step. after_step clock step.at step.rate) o clock
+step_last after_step None clock = refl
+step_last after_step (Some step) clock = refl
+
+pub clock_more : {C : Type 0} (fresh : ℕ → C) (after_step : C → ℕ → ℤ → C) (network : Network) (past : List Event) (event : Event) (device : DeviceId)
+    → clock_of fresh after_step network (past ++ event ∷ []) device
+    ≡ clock_after after_step device event.time event.what (clock_of fresh after_step network past device)
+clock_more {C} fresh after_step network past event device =
+    let first = fresh (amount network.grain) in
+    let step = λ (c : C) (s : RateStep). after_step c s.at s.rate in
+    ap (value_after after_step first) (steps_more past event device)
+    ∙ fold-append step first (rate_steps past device) (one_of (step_by device (amount event.time) event.what))
+    ∙ step_last after_step (step_by device (amount event.time) event.what) (value_after after_step first (rate_steps past device))
+
+-- ---- each step is at the time of its event
+
+-- what holds of the value, where there is one
+abbrev Holds : {X : Type 0} → Option X → (X → Type 0) → Type 0
+Holds None P = Unit {0}
+Holds (Some x) P = P x
+
+step_at : (device : DeviceId) (time : ℕ) (what : What) → Holds (step_by device time what) (λ s. s.at ≡ time)
+step_at device time (events.Rate other rate) =
+    elim (device.0 == other.0) as (λ b. Holds (if b then Some (let s : RateStep = record { at = time; rate = rate.0 } in s) else None) (λ s. s.at ≡ time)) [
+      | true ↦ refl
+      | false ↦ tt
+    ]
+step_at device time (events.Wire link way delay) = tt
+step_at device time (events.Hold link way delay) = tt
+step_at device time (events.Cut link way) = tt
+step_at device time (events.Heal link way) = tt
+step_at device time (events.On other) = tt
+step_at device time (events.Break other) = tt
+step_at device time (events.Send link octets) = tt
+step_at device time events.End = tt
+
+all_one : (t time : ℕ) (o : Option RateStep) (steps : List RateStep) → time ≤ t → Holds o (λ s. s.at ≡ time) → All (λ s. s.at ≤ t) steps
+    → All (λ s. s.at ≤ t) (Rattle.std.specs.List.cons_option o steps)
+all_one t time None steps le at all = all
+all_one t time (Some step) steps le at all =
+    Rattle.std.proofs.lemmas.List.Elements.All-cons (λ (s : RateStep). s.at ≤ t) step steps (omega (arith, le, at)) all
+
+-- up to a time all steps have come, where all events have
+pub all_come : (events : List Event) (device : DeviceId) (t : ℕ) → ((e : Event) → IsIn e events → amount e.time ≤ t)
+    → All (λ s. s.at ≤ t) (rate_steps events device)
+all_come [] device t past = Rattle.std.proofs.lemmas.List.Elements.All-nil (λ (s : RateStep). s.at ≤ t)
+all_come (e ∷ es) device t past =
+    all_one t (amount e.time) (step_by device (amount e.time) e.what) (rate_steps es device) (past e (inl refl))
+    (step_at device (amount e.time) e.what) (all_come es device t (λ d i. past d (inr i)))
+
+-- what a clock reads from then on is what its value reads
+pub reads_value : {C : Type 0} (fresh : ℕ → C) (after_step : C → ℕ → ℤ → C) (reading : C → ℕ → ℕ) (network : Network) (events : List Event)
+    (device : DeviceId) (t : ℕ) → ((e : Event) → IsIn e events → amount e.time ≤ t)
+    → reading_of fresh after_step reading network events device t ≡ reading (clock_of fresh after_step network events device) t
+reads_value fresh after_step reading network events device t past =
+    ap (λ (l : List RateStep). reading (value_after after_step (fresh (amount network.grain)) l) t)
+    (up_to-all t (rate_steps events device) (all_come events device t past))
+
+-- ---- up to the event
+
+-- a step does not change what is read at its time
+step_reads : {C : Type 0} (fresh : ℕ → C) (after_step : C → ℕ → ℤ → C) (reading : C → ℕ → ℕ) (grain : C → ℕ) (count : C → ℕ → ℕ)
+    (law : IsLawful fresh after_step reading grain count) (clock : C) (t : ℕ) (rate : ℤ) → reading (after_step clock t rate) t ≡ reading clock t
+step_reads fresh after_step reading grain count law clock t rate =
+    law.reads_count (after_step clock t rate) t
+    ∙ ap (λ (n : ℕ). rounded n (count (after_step clock t rate) t)) (law.keeps_grain clock t rate)
+    ∙ ap (rounded (grain clock)) (law.keeps_count clock t rate)
+    ∙ sym (law.reads_count clock t)
+
+one_reads : {C : Type 0} (fresh : ℕ → C) (after_step : C → ℕ → ℤ → C) (reading : C → ℕ → ℕ) (grain : C → ℕ) (count : C → ℕ → ℕ)
+    (law : IsLawful fresh after_step reading grain count) (clock : C) (time x : ℕ) (o : Option RateStep) → Holds o (λ s. s.at ≡ time) → x ≤ time
+    → reading (value_after after_step clock (up_to x (one_of o))) x ≡ reading clock x
+one_reads fresh after_step reading grain count law clock time x None at le = refl
+one_reads fresh after_step reading grain count law clock time x (Some step) at le = elim (cases_lt x step.at) [
+  | inl later ↦ ap (λ (b : Bool). reading (value_after after_step clock (if b then step ∷ [] else [])) x) (lt-leb step.at x later)
+  | inr now ↦
+      let same : step.at ≡ x = omega (arith, now, at, le) in
+      ap (λ (b : Bool). reading (value_after after_step clock (if b then step ∷ [] else [])) x) (le-leb step.at x now)
+      ∙ subst (λ (n : ℕ). reading (after_step clock n step.rate) x ≡ reading clock x) (sym same)
+      (step_reads fresh after_step reading grain count law clock x step.rate)
+]
+
+pub reads_same : {C : Type 0} (fresh : ℕ → C) (after_step : C → ℕ → ℤ → C) (reading : C → ℕ → ℕ) (grain : C → ℕ) (count : C → ℕ → ℕ)
+    → IsLawful fresh after_step reading grain count → (network : Network) (past : List Event) (event : Event) (device : DeviceId) (x : ℕ)
+    → x ≤ amount event.time
+    → reading_of fresh after_step reading network (past ++ event ∷ []) device x ≡ reading_of fresh after_step reading network past device x
+reads_same {C} fresh after_step reading grain count law network past event device x le =
+    let first = fresh (amount network.grain) in
+    let step = λ (c : C) (s : RateStep). after_step c s.at s.rate in
+    let o = step_by device (amount event.time) event.what in
+    ap (λ (l : List RateStep). reading_at after_step reading first l x) (steps_more past event device)
+    ∙ ap (λ (l : List RateStep). reading (value_after after_step first l) x)
+    (filter-append (λ (s : RateStep). Rattle.std.specs.Prelude.nat_le s.at x) (rate_steps past device) (one_of o))
+    ∙ ap (λ (c : C). reading c x) (fold-append step first (up_to x (rate_steps past device)) (up_to x (one_of o)))
+    ∙ one_reads fresh after_step reading grain count law (value_after after_step first (up_to x (rate_steps past device))) (amount event.time) x o
+    (step_at device (amount event.time) event.what) le

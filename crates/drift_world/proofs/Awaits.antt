@@ -1,0 +1,166 @@
+-- What waits by a record, as its law asks for it.
+use Rattle.std.proofs.Common.{◌≡◌, ◌⊎◌, ℕ, pos, Bool, true, false, not, ◌&&◌, List, ◌∷◌, [], ◌++◌, map, Option, Some, None, inl, inr, refl, sym, ap, subst, ◌∙◌}
+use Rattle.std.specs.Prelude.{if◌then◌else◌}
+use Rattle.net_plan.specs.declared.ids.DeviceId.{DeviceId}
+use Rattle.net_plan.specs.declared.ids.LinkId.{LinkId}
+use Rattle.net_plan.specs.declared.network.Network.{Network}
+use Rattle.pcf_values.specs.declared.pcf.Pcf.{Pcf}
+use Rattle.run_law.specs.control.Permanence.{waits_for}
+use Rattle.run_law.specs.declared.note.NoteBody.TheVariants.{Event, Arrived, Permanent, Compressed, Sent, Corrected, State as Changed, Left, Lost, TtSent, Accepted, Delivered, Dropped, Clock}
+use Rattle.run_law.specs.declared.note.NoteBody.{NoteBody}
+use Rattle.run_law.specs.records.Happenings.{Happening, time_of}
+use Rattle.run_law.specs.records.Order.{IsIn}
+use Rattle.run_law.specs.scenario.Scenarios.{Scenario, is_broken}
+use Rattle.transparent_clock.specs.Points.{point_of}
+use Rattle.drift_world.proofs.Puts.{map_parts}
+use Rattle.drift_world.proofs.UnderWays.{some_is}
+use Rattle.drift_world.specs.Giving.{awaited_by, giver_of, waits_from, with_one}
+use Rattle.drift_world.specs.Views.{waiting_as}
+use Rattle.drift_world.specs.declared.contents.Waits.{Waits}
+use Rattle.drift_world.specs.declared.giving.Giving.{Giving}
+use Rattle.world_law.specs.world.Steps.{AreAwaited}
+use Rattle.world_law.specs.world.World.{IsAwaitedFor, Waiting}
+
+in_push : {X : Type 0} (xs : List X) (y x : X) → IsIn x (xs ++ y ∷ []) → IsIn x xs ⊎ (x ≡ y)
+in_push [] y x (inl e) = inr e
+in_push [] y x (inr rest) = absurd rest
+in_push (z ∷ xs) y x (inl e) = inl (inl e)
+in_push (z ∷ xs) y x (inr rest) =
+    elim (in_push xs y x rest) [
+      | inl i ↦ inl (inr i)
+      | inr e ↦ inr e
+    ]
+
+push_old : {X : Type 0} (xs : List X) (y x : X) → IsIn x xs → IsIn x (xs ++ y ∷ [])
+push_old [] y x there = absurd there
+push_old (z ∷ xs) y x (inl e) = inl e
+push_old (z ∷ xs) y x (inr rest) = inr (push_old xs y x rest)
+
+push_new : {X : Type 0} (xs : List X) (y x : X) → x ≡ y → IsIn x (xs ++ y ∷ [])
+push_new [] y x e = inl e
+push_new (z ∷ xs) y x e = inr (push_new xs y x e)
+
+-- an arrival, or another record, by which nothing waits
+record IsArrival (body : NoteBody) : Type 0 where
+  device : DeviceId
+  link : LinkId
+  cause : ℕ
+  clock : ℕ
+  is : body ≡ Arrived device link cause clock
+
+record IsNone (body : NoteBody) : Type 0 where
+  none : (network : Network) (broken : Bool) (frame : Option Pcf) (reading number : ℕ) → awaited_by network broken body frame reading number ≡ None
+  apart : (device : DeviceId) (link : LinkId) (cause clock : ℕ) → body ≡ Arrived device link cause clock → ⊥
+
+arrival_or_none : (body : NoteBody) → IsArrival body ⊎ IsNone body
+arrival_or_none (Arrived device link cause clock) = inl (record { device = device; link = link; cause = cause; clock = clock; is = refl })
+arrival_or_none (Event line what) = inr (record { none = λ n b f r k. refl; apart = λ d l c k e. absurd cc })
+arrival_or_none (Permanent device link cause point verdict) = inr (record { none = λ n b f r k. refl; apart = λ d l c k e. absurd cc })
+arrival_or_none (Compressed device opened at cycle members verdict) = inr (record { none = λ n b f r k. refl; apart = λ d l c k e. absurd cc })
+arrival_or_none (Sent device cycle) = inr (record { none = λ n b f r k. refl; apart = λ d l c k e. absurd cc })
+arrival_or_none (Corrected device cycle by adjustment) = inr (record { none = λ n b f r k. refl; apart = λ d l c k e. absurd cc })
+arrival_or_none (Changed device state cause why) = inr (record { none = λ n b f r k. refl; apart = λ d l c k e. absurd cc })
+arrival_or_none (Left device link cause clock) = inr (record { none = λ n b f r k. refl; apart = λ d l c k e. absurd cc })
+arrival_or_none (Lost device link cause) = inr (record { none = λ n b f r k. refl; apart = λ d l c k e. absurd cc })
+arrival_or_none (TtSent device link cause vl cycle) = inr (record { none = λ n b f r k. refl; apart = λ d l c k e. absurd cc })
+arrival_or_none (Accepted device link cause vl cycle) = inr (record { none = λ n b f r k. refl; apart = λ d l c k e. absurd cc })
+arrival_or_none (Delivered device link cause vl cycle) = inr (record { none = λ n b f r k. refl; apart = λ d l c k e. absurd cc })
+arrival_or_none (Dropped device link cause reason) = inr (record { none = λ n b f r k. refl; apart = λ d l c k e. absurd cc })
+arrival_or_none (Clock device reading adjustment state) = inr (record { none = λ n b f r k. refl; apart = λ d l c k e. absurd cc })
+
+split : (b w : Bool) → (not b && w) ≡ true → (b ≡ false) × (w ≡ true)
+split true w e = absurd cc
+split false true e = (refl, refl)
+split false false e = absurd cc
+
+same_waiting : (e f : Waiting) → e.device ≡ f.device → e.link ≡ f.link → e.cause ≡ f.cause → e.frame ≡ f.frame → e.point.0 ≡ f.point.0 → e ≡ f
+same_waiting e f device link cause frame point =
+    ap (λ (d : DeviceId). let w : Waiting = record e { device = d } in w) device
+    ∙ ap (λ (l : LinkId). let w : Waiting = record { device = f.device; link = l; cause = e.cause; frame = e.frame; point = e.point } in w) link
+    ∙ ap (λ (k : ℕ). let w : Waiting = record { device = f.device; link = f.link; cause = k; frame = e.frame; point = e.point } in w) cause
+    ∙ ap (λ (p : Pcf). let w : Waiting = record { device = f.device; link = f.link; cause = f.cause; frame = p; point = e.point } in w) frame
+    ∙ ap (λ (z : Rattle.std.specs.Prelude.ℤ). let w : Waiting = record { device = f.device; link = f.link; cause = f.cause; frame = f.frame; point = record { 0 = z } } in w) point
+
+-- nothing waits by it
+pub none_awaited : (s : Scenario) (x : Happening) (number : ℕ) (old : List Waiting)
+    → ((e : Waiting) → IsAwaitedFor s x e → is_broken s e.device (time_of x) ≡ false → ⊥) → AreAwaited s x number old old
+none_awaited s x number old none = record { real = λ e there. inl there; kept = λ e there. there; all = λ e cause for sound. absurd (none e for sound) }
+
+module _ (s : Scenario) (now : ℕ) (x : Happening) (number : ℕ) (giving : Giving) (at : time_of x ≡ now) (by : giver_of x.note.body ≡ Some giving.device)
+    (numbered : giving.number ≡ number) (frame : x.frame ≡ Some giving.frame) (read : giving.reading ≡ s.reading giving.device now)
+    (broken : giving.broken ≡ is_broken s giving.device now) (old : List Waits) where
+  reads_so : giving.reading ≡ s.reading giving.device (time_of x)
+  reads_so = read ∙ ap (s.reading giving.device) (sym at)
+
+  broken_so : giving.broken ≡ is_broken s giving.device (time_of x)
+  broken_so = broken ∙ ap (is_broken s giving.device) (sym at)
+
+  module _ (link : LinkId) (cause clock : ℕ) (is : x.note.body ≡ Arrived giving.device link cause clock) where
+    abbrev one : Waits
+    one = waits_from s.network giving.device link clock giving.reading giving.number giving.frame
+
+    -- whatever waits by it is this one
+    only : (e : Waiting) → e.cause ≡ number → IsAwaitedFor s x e → (e ≡ waiting_as one) × (e.device ≡ giving.device) × (e.link ≡ link)
+    only e cause_is for =
+        let bodies : Arrived e.device e.link for.from for.clock ≡ Arrived giving.device link cause clock = sym for.arrived ∙ is in
+        let device : e.device ≡ giving.device = cc in
+        let links : e.link ≡ link = cc in
+        let clocks : for.clock ≡ clock = cc in
+        let frames : e.frame ≡ giving.frame = some_is _ _ (sym for.of_frame ∙ frame) in
+        let points : e.point.0 ≡ point_of (pos giving.reading) clock s.network.dmax.0 =
+        for.at_point ∙ ap (λ (d : DeviceId). point_of (pos (s.reading d (time_of x))) for.clock s.network.dmax.0) device
+        ∙ ap (λ (k : ℕ). point_of (pos (s.reading giving.device (time_of x))) k s.network.dmax.0) clocks
+        ∙ ap (λ (r : ℕ). point_of (pos r) clock s.network.dmax.0) (sym reads_so) in
+        (same_waiting e (waiting_as one) device links (cause_is ∙ sym numbered) frames points, device, links)
+
+    arrival_waits : (b : Bool) → (not giving.broken && waits_for s.network giving.device link) ≡ b
+        → AreAwaited s x number (map waiting_as old) (map waiting_as (with_one (if b then Some one else None) old))
+    arrival_waits false e = none_awaited s x number (map waiting_as old) (λ w for sound.
+        let o = only (record w { cause = number }) refl (record { from = for.from; clock = for.clock; arrived = for.arrived; of_frame = for.of_frame; waits = for.waits; at_point = for.at_point }) in
+        let whole : giving.broken ≡ false = broken_so ∙ ap (λ (d : DeviceId). is_broken s d (time_of x)) (sym o.1) ∙ sound in
+        let wait : waits_for s.network giving.device link ≡ true =
+        ap (λ (d : DeviceId). waits_for s.network d link) (sym o.1) ∙ ap (waits_for s.network w.device) (sym o.2) ∙ for.waits in
+        let both : (not giving.broken && waits_for s.network giving.device link) ≡ true =
+        ap (λ (c : Bool). not c && waits_for s.network giving.device link) whole ∙ wait in
+        let no_bool : true ≡ false = sym both ∙ e in absurd cc)
+    arrival_waits true e =
+        let parts = split giving.broken (waits_for s.network giving.device link) e in
+        let lists : map waiting_as (old ++ one ∷ []) ≡ map waiting_as old ++ waiting_as one ∷ [] = map_parts waiting_as old (one ∷ []) in
+        subst (AreAwaited s x number (map waiting_as old)) (sym lists) (record {
+          real = λ w there.
+              elim (in_push (map waiting_as old) (waiting_as one) w there) [
+                | inl before ↦ inl before
+                | inr own ↦ inr (subst (λ (v : Waiting). (v.cause ≡ number) × IsAwaitedFor s x v × (is_broken s v.device (time_of x) ≡ false)) (sym own) (
+                  numbered,
+                  record {
+                    from = cause;
+                    clock = clock;
+                    arrived = is;
+                    of_frame = frame;
+                    waits = parts.1;
+                    at_point = ap (λ (r : ℕ). point_of (pos r) clock s.network.dmax.0) reads_so;
+                  },
+                  sym broken_so ∙ parts.0,
+                ))
+              ];
+          kept = λ w there. push_old (map waiting_as old) (waiting_as one) w there;
+          all = λ w cause_is for sound. push_new (map waiting_as old) (waiting_as one) w (only w cause_is for).0;
+        })
+
+  -- what waits by it
+  pub awaits : AreAwaited s x number (map waiting_as old)
+      (map waiting_as (with_one (awaited_by s.network giving.broken x.note.body (Some giving.frame) giving.reading giving.number) old))
+  awaits =
+      elim (arrival_or_none x.note.body) [
+        | inl a ↦
+            let device : a.device ≡ giving.device = some_is _ _ (ap giver_of (sym a.is) ∙ by) in
+            let is : x.note.body ≡ Arrived giving.device a.link a.cause a.clock = a.is ∙ ap (λ (d : DeviceId). Arrived d a.link a.cause a.clock) device in
+            subst
+            (λ (b : NoteBody). AreAwaited s x number (map waiting_as old)
+            (map waiting_as (with_one (awaited_by s.network giving.broken b (Some giving.frame) giving.reading giving.number) old))) (sym is)
+            (arrival_waits a.link a.cause a.clock is _ refl)
+        | inr a ↦
+            subst (λ (o : Option Waits). AreAwaited s x number (map waiting_as old) (map waiting_as (with_one o old)))
+            (sym (a.none s.network giving.broken (Some giving.frame) giving.reading giving.number))
+            (none_awaited s x number (map waiting_as old) (λ w for sound. a.apart w.device w.link for.from for.clock for.arrived))
+      ]

@@ -1,0 +1,44 @@
+-- A fresh world.
+use Rattle.std.proofs.Common.{◌≡◌, ℕ, ◌<◌, List, [], map, length, replicate, Some, Option, false, inl, inr, sym, ap, ◌∙◌, arith}
+use Rattle.std.specs.List.{IsDistinct, slice_get}
+use Rattle.std.specs.Option.{option_map, option_map_or}
+use Rattle.std.proofs.lemmas.List.{get_or-replicate, length-replicate}
+use Rattle.std.proofs.lemmas.Option.{slice_get-get_or, slice_get-map, slice_get_cases}
+use Rattle.net_plan.specs.declared.ids.DeviceId.{DeviceId}
+use Rattle.net_plan.specs.declared.ids.LinkId.{LinkId}
+use Rattle.net_plan.specs.declared.network.Network.{Network}
+use Rattle.net_plan.specs.declared.tables.Link.{Link}
+use Rattle.net_plan.specs.declared.tables.Way.TheVariants.{Up, Down}
+use Rattle.net_plan.specs.declared.tables.Way.{Way}
+use Rattle.tte_units.specs.Amount.{amount}
+use Rattle.world_law.specs.source.Agreeing.{scenario}
+use Rattle.world_law.specs.world.World.{AreWays, WayNow, way_now}
+use Rattle.drift_world.specs.Beginning.{first_way}
+use Rattle.drift_world.specs.Sound.{AreUnderWay}
+use Rattle.drift_world.specs.Views.{way_as}
+
+pub found : {X : Type 0} (xs : List X) (i : ℕ) → i < length xs → (x : X) × (slice_get xs i ≡ Some x)
+found xs i lt =
+    elim (slice_get_cases xs i).1 [
+      | inl it ↦ (it.0, it.2)
+      | inr past ↦ absurd (omega (arith, lt, past.0))
+    ]
+
+pub found_in : {X : Type 0} (n i : ℕ) (x : X) → i < n → slice_get (replicate n x) i ≡ Some x
+found_in n i x lt = slice_get-get_or (replicate n x) i x (omega (arith, lt, length-replicate n x)) ∙ ap Some (get_or-replicate n i x x lt)
+
+first_way_is : (network : Network) (f : DeviceId → ℕ → ℕ) (link : LinkId) (way : Way) → link.0 < length network.link
+    → slice_get (map way_as (map first_way network.link)) link.0 ≡ Some (way_now (scenario network f []) 0 link way)
+first_way_is network f link way lt =
+    let of = found network.link link.0 lt in
+    slice_get-map way_as (map first_way network.link) link.0 ∙ ap (option_map way_as) (slice_get-map first_way network.link link.0)
+    ∙ ap (λ (o : Option Link). option_map way_as (option_map first_way o)) of.1
+    ∙ sym (ap (λ (o : Option Link). let w : WayNow = record { delay = option_map_or (λ l. amount l.wire) o 0; hold = 0; cut = false } in Some w) of.1)
+
+pub first_ways_are : (network : Network) (f : DeviceId → ℕ → ℕ)
+    → AreWays (scenario network f []) 0 (map way_as (map first_way network.link)) (map way_as (map first_way network.link))
+first_ways_are network f = record { up = λ link lt. first_way_is network f link Up lt; down = λ link lt. first_way_is network f link Down lt }
+
+pub none_under_way : (network : Network) → AreUnderWay network []
+unfolding IsDistinct
+none_under_way network = record { kinds = λ e there. absurd there; placed = λ e there. absurd there; apart = tt }

@@ -1,0 +1,116 @@
+-- An event leaves all devices as they were but one.
+use Rattle.std.proofs.Common.{◌≡◌, ◌≢◌, ◌↔◌, ℕ, ℤ, ◌+◌, ◌<◌, ◌≤◌, Bool, true, false, ◌==◌, if◌then◌else◌, List, [], ◌∷◌, All, filter, length, Option, Some, None, slice_get, inl, inr, refl, sym, ap, subst, ◌∙◌, arith}
+use Rattle.std.specs.Prelude.{IfSome, not}
+use Rattle.std.specs.Option.{option_map_or}
+use Rattle.std.proofs.lemmas.Bool.{cases_eq, eqb-true, false_from_ne_true}
+use Rattle.net_plan.specs.declared.event.What.{What}
+use Rattle.net_plan.specs.declared.event.What.TheVariants as events
+use Rattle.net_plan.specs.declared.ids.DeviceId.{DeviceId}
+use Rattle.net_plan.specs.declared.network.Network.{Network}
+use Rattle.drift_clock.specs.RateSteps.{RateStep}
+use Rattle.run_law.proofs.law.FirstPlaces.{in_filter}
+use Rattle.run_law.specs.machines.Nodes.{Node}
+use Rattle.run_law.specs.records.Order.{IsIn}
+use Rattle.run_law.specs.scenario.Hypothesis.{breaks_at}
+use Rattle.tte_units.specs.Amount.{amount}
+use Rattle.tte_units.specs.declared.units.Units.{Units}
+use Rattle.drift_world.proofs.Timings.{still_timed}
+use Rattle.drift_world.specs.Applying.{IsElsewhere, clock_after, device_in}
+use Rattle.drift_world.specs.Sourcing.{AreTimed}
+use Rattle.drift_world.specs.Stepping.{IsTimed}
+use Rattle.drift_world.specs.declared.contents.Waits.{Waits}
+use Rattle.drift_world.specs.declared.state.State.{State}
+
+-- ---- what an event does to another device
+
+other_clock : {C : Type 0} (after_step : C → ℕ → ℤ → C) (device : DeviceId) (time : Units) (what : What) (clock : C) → IsElsewhere what device
+    → clock_after after_step device time what clock ≡ clock
+other_clock {C} after_step device time (events.Rate other rate) clock away =
+    ap (λ (b : Bool). option_map_or (λ (s : RateStep). after_step clock s.at s.rate)
+    (if b then Some (let s : RateStep = record { at = amount time; rate = rate.0 } in s) else None) clock)
+    (false_from_ne_true (device.0 == other.0) (λ e. away (sym (eqb-true device.0 other.0 e))))
+other_clock after_step device time (events.Wire link way delay) clock away = refl
+other_clock after_step device time (events.Hold link way hold) clock away = refl
+other_clock after_step device time (events.Cut link way) clock away = refl
+other_clock after_step device time (events.Heal link way) clock away = refl
+other_clock after_step device time (events.On other) clock away = refl
+other_clock after_step device time (events.Break other) clock away = refl
+other_clock after_step device time (events.Send link octets) clock away = refl
+other_clock after_step device time events.End clock away = refl
+
+pub clock_elsewhere : {C : Type 0} (after_step : C → ℕ → ℤ → C) (old new : List C) (device : DeviceId) (time : Units) (what : What)
+    → device.0 < length old → IsElsewhere what device
+    → ((d : DeviceId) (clock : C) → slice_get old d.0 ≡ Some clock → slice_get new d.0 ≡ Some (clock_after after_step d time what clock))
+    → slice_get new device.0 ≡ slice_get old device.0
+clock_elsewhere after_step old new device time what there away each =
+    let it = Rattle.drift_world.proofs.Beginnings.found old device.0 there in
+    each device it.0 it.1 ∙ ap Some (other_clock after_step device time what it.0 away) ∙ sym it.1
+
+breaks_other : (device w : ℕ) (what : What) → IsElsewhere what (record { 0 = device }) → w ≡ device → breaks_at w what ≡ false
+breaks_other device w (events.Break other) away at = false_from_ne_true (other.0 == w) (λ e. away (eqb-true other.0 w e ∙ at))
+breaks_other device w (events.Rate other rate) away at = refl
+breaks_other device w (events.Wire link way delay) away at = refl
+breaks_other device w (events.Hold link way hold) away at = refl
+breaks_other device w (events.Cut link way) away at = refl
+breaks_other device w (events.Heal link way) away at = refl
+breaks_other device w (events.On other) away at = refl
+breaks_other device w (events.Send link octets) away at = refl
+breaks_other device w events.End away at = refl
+
+in_kept : {X : Type 0} (q : X → Bool) (xs : List X) (x : X) → q x ≡ true → IsIn x xs → IsIn x (filter q xs)
+in_kept q [] x passes i = i
+in_kept q (y ∷ ys) x passes (inl same) =
+    subst (λ (b : Bool). IsIn x (if b then y ∷ filter q ys else filter q ys)) (sym (ap q (sym same) ∙ passes)) (inl same)
+in_kept q (y ∷ ys) x passes (inr i) =
+    elim (q y) as (λ b. IsIn x (if b then y ∷ filter q ys else filter q ys)) [ true ↦ inr (in_kept q ys x passes i) | false ↦ in_kept q ys x passes i ]
+
+pub waits_elsewhere : (old new : List Waits) (device : DeviceId) (what : What) → new ≡ filter (λ w. not (breaks_at w.device.0 what)) old
+    → IsElsewhere what device → (w : Waits) → w.device.0 ≡ device.0 → IsIn w new ↔ IsIn w old
+waits_elsewhere old new device what is away w at =
+    let q : Waits → Bool = λ v. not (breaks_at v.device.0 what) in
+    let passes : q w ≡ true = ap not (breaks_other device.0 w.device.0 what away at) in
+    subst (λ (l : List Waits). IsIn w l ↔ IsIn w old) (sym is) (in_filter q old w, in_kept q old w passes)
+
+-- ---- the timers
+
+-- the timers are right, where those of the device that the event changes are set
+pub timed_by_event : {C M : Type 0} (reading : C → ℕ → ℕ) (stands : M → Network → DeviceId → Node → Type 0) (network : Network)
+    (old mid new : State C M) (what : What) → AreTimed reading stands network old
+    → ((device : DeviceId) → device.0 < length network.device → IsElsewhere what device
+    → (slice_get mid.clocks.items device.0 ≡ slice_get old.clocks.items device.0)
+    × (slice_get mid.machines.items device.0 ≡ slice_get old.machines.items device.0)
+    × ((w : Waits) → w.device.0 ≡ device.0 → IsIn w mid.waiting.items ↔ IsIn w old.waiting.items))
+    → mid.timers ≡ old.timers → mid.time ≡ old.time
+    → new ≡ record mid { timers = new.timers }
+    → ((device : DeviceId) → device_in what ≡ Some device → IsTimed reading stands network new.timers new device)
+    → length new.timers ≡ length mid.timers
+    → ((device : DeviceId) → device.0 < length network.device → IsElsewhere what device
+    → (slice_get new.timers device.0 ≡ slice_get mid.timers device.0)
+    × (slice_get new.timers (length network.device + device.0) ≡ slice_get mid.timers (length network.device + device.0)))
+    → (All (λ (time : ℕ). mid.time ≤ time) mid.timers → All (λ (time : ℕ). new.time ≤ time) new.timers)
+    → AreTimed reading stands network new
+timed_by_event {C} {M} reading stands network old mid new what are away timers time same own sized others later = record {
+  sized = sized ∙ ap length timers ∙ are.sized;
+  each = λ device there. each device there (device_in what) refl;
+  later = later (subst (λ (n : ℕ). All (λ (t : ℕ). n ≤ t) mid.timers) (sym time)
+      (subst (λ (l : List ℕ). All (λ (t : ℕ). old.time ≤ t) l) (sym timers) are.later));
+}
+  where
+    still : (device : DeviceId) → device.0 < length network.device → IsElsewhere what device → IsTimed reading stands network new.timers new device
+    still device there else_where =
+        let is = away device there else_where in
+        let kept = others device there else_where in
+        still_timed reading stands network old new device (are.each device there)
+        (ap (λ (s : State C M). slice_get s.clocks.items device.0) same ∙ is.0)
+        (ap (λ (s : State C M). slice_get s.machines.items device.0) same ∙ is.1)
+        (λ w at. subst (λ (s : State C M). IsIn w s.waiting.items ↔ IsIn w old.waiting.items) (sym same) (is.2 w at))
+        (let now = ap (λ (s : State C M). s.time) same in omega (arith, now, time))
+        (kept.0 ∙ ap (λ (l : List ℕ). slice_get l device.0) timers)
+        (kept.1 ∙ ap (λ (l : List ℕ). slice_get l (length network.device + device.0)) timers)
+    each : (device : DeviceId) → device.0 < length network.device → (o : Option DeviceId) → device_in what ≡ o → IsTimed reading stands network new.timers new device
+    each device there None none =
+        still device there (subst (λ (o : Option DeviceId). IfSome o (λ d. d.0 ≢ device.0)) (sym none) tt)
+    each device there (Some other) is = elim (cases_eq other.0 device.0) [
+      | inl at ↦ own device (is ∙ ap (λ (n : ℕ). Some (let d : DeviceId = record { 0 = n } in d)) at)
+      | inr ne ↦ still device there (subst (λ (o : Option DeviceId). IfSome o (λ d. d.0 ≢ device.0)) (sym is) ne)
+    ]

@@ -1,0 +1,416 @@
+-- What comes first of all that a state has under way.
+use Rattle.std.proofs.Common.{◌≡◌, ◌⊎◌, ℕ, ◌+◌, ◌-◌, ◌*◌, ◌<◌, ◌≤◌, ◌^◌, pos, ◌≤ℤ◌, true, false, List, [], ◌∷◌, All, length, get_or, Option, Some, None, slice_get, inl, inr, refl, sym, ap, subst, ◌∙◌, arith}
+use Rattle.std.specs.Prelude.{IfSome, IfNone}
+use Rattle.std.proofs.lemmas.Bool.{both_ways, cases_lt}
+use Rattle.std.proofs.lemmas.Option.{get_or_from_slice_get, slice_get-get_or}
+use Rattle.due_queue.proofs.Bags.{is_given}
+use Rattle.due_queue.specs.declared.Entry.{Entry}
+use Rattle.due_queue.specs.declared.Place.{Place}
+use Rattle.due_queue.specs.Places.{IsFirst, numbers_of}
+use Rattle.due_timers.specs.declared.Due.{Due}
+use Rattle.due_timers.specs.Times.{IsFirst as IsFirstDue, never}
+use Rattle.net_plan.specs.declared.ids.DeviceId.{DeviceId}
+use Rattle.net_plan.specs.declared.network.Network.{Network}
+use Rattle.run_law.proofs.runs.Places.{never_self}
+use Rattle.run_law.specs.declared.note.Note.{Note}
+use Rattle.run_law.specs.machines.Nodes.{Node}
+use Rattle.run_law.specs.records.Happenings.{happenings}
+use Rattle.run_law.specs.records.Order.{IsBefore, IsIn}
+use Rattle.run_law.specs.scenario.Scenarios.{Scenario}
+use Rattle.drift_world.proofs.Sources.{due_time, slot_high, slot_low}
+use Rattle.drift_world.specs.Keeping.{keeps}
+use Rattle.drift_world.specs.Sound.{AreUnderWay, IsSized, rank_of}
+use Rattle.drift_world.specs.Sourcing.{AreFirsts, AreNotBefore, AreTimed, HasNothingBefore, IsRipePlace, due_place}
+use Rattle.drift_world.specs.Stepping.{IsRunning, IsTimed}
+use Rattle.drift_world.specs.Views.{at_port, on_wire, port_at, waiting_as, wire_at, world_of}
+use Rattle.drift_world.specs.declared.contents.Content.TheVariants.{Wire, Port}
+use Rattle.drift_world.specs.declared.contents.Content.{Content}
+use Rattle.drift_world.specs.declared.contents.Waits.{Waits}
+use Rattle.drift_world.specs.declared.kept.Kept.{Kept}
+use Rattle.drift_world.specs.declared.state.State.{State}
+use Rattle.world_law.specs.world.World.{AtPort, IsHeld, OnWire, Stands, act_place, port_place, ripe_place, wire_place}
+
+-- ---- places of one time, or of a later one
+
+-- what is no earlier, and at the time not before by its rank, is not before
+pub not_earlier : (t now : ℕ) (rest more : List ℕ) → now ≤ t → (t ≡ now → IsBefore rest more → ⊥) → IsBefore (t ∷ rest) (now ∷ more) → ⊥
+not_earlier t now rest more le ranks (inl lt) = omega (arith, le, lt)
+not_earlier t now rest more le ranks (inr (e, b)) = ranks e b
+
+pub higher : (high rank : ℕ) (rest more : List ℕ) → rank < high → IsBefore (high ∷ rest) (rank ∷ more) → ⊥
+higher high rank rest more lt (inl less) = omega (arith, lt, less)
+higher high rank rest more lt (inr (e, b)) = omega (arith, lt, e)
+
+-- a place of a rank is not before the first of its rank
+pub not_first : (rank low : ℕ) (rest : List ℕ) → low ≤ rank → IsBefore (rank ∷ rest) (low ∷ []) → ⊥
+not_first rank low rest le (inl lt) = omega (arith, le, lt)
+not_first rank low rest le (inr (e, b)) = b
+
+-- a place of a run is in time
+pub of_run : (now : ℕ) (rest : List ℕ) → now ≤ 2 ^ 60 → IsBefore ((2 ^ 60 + 1) ∷ []) (now ∷ rest) → ⊥
+of_run now rest le (inl lt) = omega (arith, le, lt)
+of_run now rest le (inr (e, b)) = omega (arith, le, e)
+
+pub of_end : (until : ℕ) → until ≤ 2 ^ 60 + 1 → IsBefore ((2 ^ 60 + 1) ∷ []) (until ∷ []) → ⊥
+of_end until le (inl lt) = omega (arith, le, lt)
+of_end until le (inr (e, b)) = b
+
+-- no place of a time is before an earlier time
+pub not_before_time : (t until : ℕ) (rest : List ℕ) → until ≤ t → IsBefore (t ∷ rest) (until ∷ []) → ⊥
+not_before_time t until rest le (inl lt) = omega (arith, le, lt)
+not_before_time t until rest le (inr (e, b)) = b
+
+-- what a slot is for is due at the slot's time
+pub slot_time : (devices : ℕ) (due : Due) (p : List ℕ) → (IsBefore (due.time ∷ 3 ∷ due.slot ∷ []) p → ⊥)
+    → (IsBefore (due.time ∷ 4 ∷ (due.slot - devices) ∷ []) p → ⊥) → IsBefore (due_place devices due) p → ⊥
+slot_time devices due p low high b =
+    elim (cases_lt due.slot devices) [
+      | inl lt ↦ low (subst (λ (q : List ℕ). IsBefore q p) (slot_low devices due lt) b)
+      | inr le ↦ high (subst (λ (q : List ℕ). IsBefore q p) (slot_high devices due le) b)
+    ]
+
+-- ---- nothing under way, and no timer, is past
+
+module _ {C M : Type 0} (reading : C → ℕ → ℕ) (stands : M → Network → DeviceId → Node → Type 0) (network : Network) (state : State C M)
+    (running : IsRunning reading stands network state) where
+  -- no place before the present time is still to be worked off
+  past : (p q : List ℕ) → p ≡ q → (IsBefore p running.is.cursor → ⊥) → IsBefore q (state.time ∷ []) → ⊥
+  past p q same not b =
+      not (subst (λ (r : List ℕ). IsBefore r running.is.cursor) (sym same) (running.is.ahead q (running.is.of_now q b)))
+
+  entry_later : (e : Entry Content) (content : Content) → e.content ≡ content → IsIn e state.under_way.entries → e.place.rank ≡ rank_of content
+      → state.time ≤ e.place.at
+  entry_later e (Wire signal) is there kind =
+      let x : OnWire = record {
+        at = e.place.at;
+        device = record { 0 = e.place.device };
+        link = record { 0 = e.place.link };
+        cause = e.place.cause;
+        signal = Rattle.drift_world.specs.Views.signal_as network signal;
+      } in
+      let i = is_given (on_wire network) state.under_way.entries e x there (ap (wire_at network e.place) is) in
+      elim (cases_lt e.place.at state.time) [
+        | inl lt ↦ absurd (past (wire_place x) (wire_place x) refl (running.is.wires.real x i).2 (inl lt))
+        | inr le ↦ le
+      ]
+  entry_later e (Port frame given) is there kind =
+      let x : AtPort = record {
+        at = e.place.at;
+        device = record { 0 = e.place.device };
+        link = record { 0 = e.place.link };
+        cause = e.place.cause;
+        frame = frame;
+        reading = given;
+      } in
+      let i = is_given at_port state.under_way.entries e x there (ap (port_at e.place) is) in
+      elim (cases_lt e.place.at state.time) [
+        | inl lt ↦ absurd (past (port_place x) (port_place x) refl (running.is.ports.real x i).1 (inl lt))
+        | inr le ↦ le
+      ]
+
+  -- nothing that is under way is past
+  pub entries_later : AreUnderWay network state.under_way.entries → (e : Entry Content) → IsIn e state.under_way.entries → state.time ≤ e.place.at
+  entries_later are e there = entry_later e e.content refl there (are.kinds e there)
+
+  -- nor the first place
+  pub first_later : AreUnderWay network state.under_way.entries → (place : Place) → IsFirst state.under_way.entries place → state.time ≤ place.at
+  first_later are place first =
+      subst (λ (p : Place). state.time ≤ p.at) first.at (entries_later are first.entry first.there)
+
+  -- the node of a device's machine
+  node_of : (device : DeviceId) (machine : Kept M) → device.0 < length network.device → slice_get state.machines.items device.0 ≡ Some machine
+      → (node : Node) × keeps stands machine network device node
+  node_of device machine of_it held =
+      let s = running.s in
+      let own = running.is.devices device (subst (λ (k : Network). device.0 < length k.device) running.is.same of_it) in
+      let same : own.0 ≡ machine = let e : Some own.0 ≡ Some machine = sym own.1 ∙ held in cc in
+      let is : (node : Node) × keeps stands own.0 s.network device node = elim own.2 [ inl k ↦ (k.node, k.is) | inr o ↦ (o.node, o.is) ] in (
+        is.0,
+        subst (λ (k : Kept M). keeps stands k network device is.0) same
+            (subst (λ (k : Network). keeps stands own.0 k device is.0) (sym running.is.same) is.1),
+      )
+
+  -- where nothing is before a time, no timer is
+  pub timers_later : (t : ℕ) → t ≤ never → AreTimed reading stands network state → HasNothingBefore reading stands network state (t ∷ [])
+      → All (λ (time : ℕ). t ≤ time) state.timers
+  timers_later t most are has = λ k d lt.
+      let slots = are.sized in
+      let now = are.later k d lt in
+      let at = slice_get-get_or state.timers k d lt in
+      elim (cases_lt (get_or state.timers k d) t) [
+        | inr le ↦ le
+        | inl sooner ↦
+            elim (cases_lt k (length network.device)) [
+              | inl low ↦
+                  let timed = are.each (record { 0 = k }) low in
+                  let is = get_or_from_slice_get state.timers k timed.ripe d timed.of_ripe in
+                  let w = timed.ripens.one (omega (arith, is, sooner, most)) in
+                  absurd (has.waiting w.0 timed.clock w.1 (ap (λ (n : ℕ). slice_get state.clocks.items n) w.2 ∙ timed.of_clock) timed.ripe
+                  (omega (arith, is, now)) w.3 (inl (omega (arith, is, sooner))))
+              | inr high ↦
+                  let device : DeviceId = record { 0 = k - length network.device } in
+                  let of_it : device.0 < length network.device = omega (arith, lt, slots, high) in
+                  let timed = are.each device of_it in
+                  let slot : k ≡ length network.device + device.0 = omega (arith, high) in
+                  let is = get_or_from_slice_get state.timers k timed.act d (ap (λ (n : ℕ). slice_get state.timers n) slot ∙ timed.of_act) in
+                  let node = node_of device timed.machine of_it timed.of_machine in
+                  let task = timed.acts.one (omega (arith, is, sooner, most)) node.0 node.1 in
+                  absurd (has.acting device timed.machine timed.clock node.0 task.0 timed.of_machine timed.of_clock node.1 task.1 timed.act
+                  (omega (arith, is, now)) task.2 (inl (omega (arith, is, sooner))))
+            ]
+      ]
+
+-- ---- the source that comes first
+
+if_some : {X : Type 0} (P : X → Type 0) (o : Option X) → ((x : X) → o ≡ Some x → P x) → IfSome o P
+if_some P None each = tt
+if_some P (Some x) each = each x refl
+
+pub from_some : {X : Type 0} (P : X → Type 0) (o : Option X) (x : X) → IfSome o P → o ≡ Some x → P x
+from_some P None x is e = absurd cc
+from_some {X} P (Some y) x is e = let same : y ≡ x = cc in subst P same is
+
+rank_is : (content : Content) → (rank_of content ≡ 2) ⊎ (rank_of content ≡ 8)
+rank_is (Wire signal) = inl refl
+rank_is (Port frame reading) = inr refl
+
+-- the place is of this time and rank
+pub record HasShape (devices : ℕ) (due : Due) (p : List ℕ) : Type 0 where
+  pub rank : ℕ
+  pub rest : List ℕ
+  pub is : p ≡ due.time ∷ rank ∷ rest
+  pub least : 3 ≤ rank
+  pub most : rank ≤ 4
+
+shape_of : {C M : Type 0} (reading : C → ℕ → ℕ) (network : Network) (state : State C M) (due : Due) (p : List ℕ)
+    → (p ≡ due_place (length network.device) due) ⊎ IsRipePlace reading network state due p → HasShape (length network.device) due p
+shape_of reading network state due p (inl e) =
+    elim (cases_lt due.slot (length network.device)) [
+      | inl lt ↦ record { rank = 3; rest = due.slot ∷ []; is = e ∙ slot_low (length network.device) due lt; least = omega arith; most = omega arith }
+      | inr le ↦
+          record { rank = 4; rest = (due.slot - length network.device) ∷ []; is = e ∙ slot_high (length network.device) due le; least = omega arith; most = omega arith }
+    ]
+shape_of reading network state due p (inr r) = record {
+  rank = 3;
+  rest = _;
+  is = r.place;
+  least = omega arith;
+  most = omega arith;
+}
+
+module _ {C M : Type 0} (last_step : C → ℕ) (reading : C → ℕ → ℕ) (stands : M → Network → DeviceId → Node → Type 0) (network : Network)
+    (state : State C M) (place : Option Place) (due : Option Due) (running : IsRunning reading stands network state)
+    (sized : IsSized last_step network state) (are : AreTimed reading stands network state) (under : AreUnderWay network state.under_way.entries)
+    (firsts : AreFirsts state place due) where
+  abbrev now : ℕ
+  now = state.time
+
+  first_is : (q : Place) → place ≡ Some q → IsFirst state.under_way.entries q
+  first_is q e = from_some (λ p. IsFirst state.under_way.entries p) place q firsts.some_place e
+
+  first_rank : (q : Place) → place ≡ Some q → (q.rank ≡ 2) ⊎ (q.rank ≡ 8)
+  first_rank q e =
+      let first = first_is q e in
+      let kind = under.kinds first.entry first.there in
+      let rank : q.rank ≡ rank_of first.entry.content = sym (ap (λ (p : Place). p.rank) first.at) ∙ kind in
+      elim (rank_is first.entry.content) [ inl two ↦ inl (rank ∙ two) | inr eight ↦ inr (rank ∙ eight) ]
+
+  place_later : (q : Place) → place ≡ Some q → now ≤ q.at
+  place_later q e = first_later reading stands network state running under q (first_is q e)
+
+  due_later : (d : Due) → due ≡ Some d → now ≤ d.time
+  due_later d e = due_time reading stands network state d are (from_some (λ x. IsFirstDue state.timers x) due d firsts.some_due e)
+
+  -- none is before the place, where each is so
+  are_not : (p : List ℕ) → (IsBefore ((2 ^ 60 + 1) ∷ []) p → ⊥)
+      → ((q : Place) → place ≡ Some q → now ≤ q.at → (q.rank ≡ 2) ⊎ (q.rank ≡ 8) → IsBefore (numbers_of q) p → ⊥)
+      → ((d : Due) → due ≡ Some d → now ≤ d.time
+      → (IsBefore (due_place (length network.device) d) p → ⊥) ⊎ IsRipePlace reading network state d p)
+      → (state.pending ≡ true → IsBefore (now ∷ 2 ∷ []) p → ⊥)
+      → (state.ended ≡ true → state.shown < length network.device → IsBefore (now ∷ 14 ∷ state.shown ∷ []) p → ⊥)
+      → AreNotBefore reading network state place due p
+  are_not p in_time places dues befell clocks = record {
+    in_time = in_time;
+    under_way = if_some (λ (q : Place). IsBefore (numbers_of q) p → ⊥) place (λ q e. places q e (place_later q e) (first_rank q e));
+    timers = if_some (λ (d : Due). (IsBefore (due_place (length network.device) d) p → ⊥) ⊎ IsRipePlace reading network state d p) due
+        (λ d e. dues d e (due_later d e));
+    befell = befell;
+    clocks = clocks;
+  }
+
+  -- a timer is not before what is of the present time and a lower rank
+  after_lower : (rank : ℕ) (rest : List ℕ) (d : Due) → rank < 3 → now ≤ d.time → IsBefore (due_place (length network.device) d) (now ∷ rank ∷ rest) → ⊥
+  after_lower rank rest d lt le =
+      slot_time (length network.device) d (now ∷ rank ∷ rest)
+      (not_earlier d.time now (3 ∷ d.slot ∷ []) (rank ∷ rest) le (λ e. higher 3 rank (d.slot ∷ []) rest lt))
+      (not_earlier d.time now (4 ∷ (d.slot - length network.device) ∷ []) (rank ∷ rest) le
+      (λ e. higher 4 rank ((d.slot - length network.device) ∷ []) rest (omega (arith, lt))))
+
+  -- a timer of a later time is not before a place of the present time
+  after_now : (more : List ℕ) (d : Due) → (d.time ≡ now → ⊥) → now ≤ d.time → IsBefore (due_place (length network.device) d) (now ∷ more) → ⊥
+  after_now more d not le =
+      slot_time (length network.device) d (now ∷ more) (not_earlier d.time now (3 ∷ d.slot ∷ []) more le (λ e. absurd (not e)))
+      (not_earlier d.time now (4 ∷ (d.slot - length network.device) ∷ []) more le (λ e. absurd (not e)))
+
+  clocks_after : (rank : ℕ) (rest : List ℕ) → rank < 14 → IsBefore (now ∷ 14 ∷ state.shown ∷ []) (now ∷ rank ∷ rest) → ⊥
+  clocks_after rank rest lt =
+      not_earlier now now (14 ∷ state.shown ∷ []) (rank ∷ rest) (omega arith) (λ e. higher 14 rank (state.shown ∷ []) rest lt)
+
+  none_befell : (p : List ℕ) → state.pending ≡ false → state.pending ≡ true → IsBefore (now ∷ 2 ∷ []) p → ⊥
+  none_befell p calm told = absurd (both_ways state.pending calm told)
+
+  -- the outcomes of the events of the instant
+  pub events_first : AreNotBefore reading network state place due (state.time ∷ 2 ∷ [])
+  events_first =
+      are_not (now ∷ 2 ∷ []) (of_run now (2 ∷ []) sized.limit)
+      (λ q e le rank. not_earlier q.at now (q.rank ∷ q.device ∷ q.link ∷ q.cause ∷ []) (2 ∷ []) le
+      (λ same. not_first q.rank 2 (q.device ∷ q.link ∷ q.cause ∷ []) (elim rank [ inl two ↦ omega (arith, two) | inr eight ↦ omega (arith, eight) ])))
+      (λ d e le. inl (after_lower 2 [] d (omega arith) le))
+      (λ yes. never_self (now ∷ 2 ∷ []))
+      (λ ended more. clocks_after 2 [] (omega arith))
+
+  -- what arrives now
+  pub arrival_first : (q : Place) → state.pending ≡ false → place ≡ Some q → q.at ≡ state.time → q.rank ≡ 2
+      → AreNotBefore reading network state place due (numbers_of q)
+  arrival_first q calm is at rank =
+      subst (λ (p : List ℕ). AreNotBefore reading network state place due p)
+      (let same : now ∷ 2 ∷ q.device ∷ q.link ∷ q.cause ∷ [] ≡ numbers_of q =
+      ap (λ (n : ℕ). n ∷ 2 ∷ q.device ∷ q.link ∷ q.cause ∷ []) (sym at) ∙ ap (λ (n : ℕ). q.at ∷ n ∷ q.device ∷ q.link ∷ q.cause ∷ []) (sym rank) in same)
+      (are_not (now ∷ 2 ∷ q.device ∷ q.link ∷ q.cause ∷ []) (of_run now (2 ∷ q.device ∷ q.link ∷ q.cause ∷ []) sized.limit)
+      (λ r e le either.
+      let same : q ≡ r = let both : Some q ≡ Some r = sym is ∙ e in cc in
+      subst (λ (x : Place). IsBefore (numbers_of x) (now ∷ 2 ∷ q.device ∷ q.link ∷ q.cause ∷ []) → ⊥) same
+      (subst (λ (n : ℕ). IsBefore (q.at ∷ n ∷ q.device ∷ q.link ∷ q.cause ∷ []) (now ∷ 2 ∷ q.device ∷ q.link ∷ q.cause ∷ []) → ⊥) (sym rank)
+      (subst (λ (n : ℕ). IsBefore (n ∷ 2 ∷ q.device ∷ q.link ∷ q.cause ∷ []) (now ∷ 2 ∷ q.device ∷ q.link ∷ q.cause ∷ []) → ⊥) (sym at)
+      (never_self (now ∷ 2 ∷ q.device ∷ q.link ∷ q.cause ∷ [])))))
+      (λ d e le. inl (after_lower 2 (q.device ∷ q.link ∷ q.cause ∷ []) d (omega arith) le))
+      (none_befell (now ∷ 2 ∷ q.device ∷ q.link ∷ q.cause ∷ []) calm)
+      (λ ended more. clocks_after 2 (q.device ∷ q.link ∷ q.cause ∷ []) (omega arith)))
+
+  -- what is due by a timer now
+  pub slot_first : (d : Due) (p : List ℕ) → state.pending ≡ false → IfSome place (λ q. q.at ≡ state.time → q.rank ≡ 2 → ⊥) → due ≡ Some d
+      → d.time ≡ state.time → (p ≡ due_place (length network.device) d) ⊎ IsRipePlace reading network state d p
+      → AreNotBefore reading network state place due p
+  slot_first d p calm no_arrival is at of_slot =
+      let shape = shape_of reading network state d p of_slot in
+      let rank = shape.rank in
+      let least = shape.least in
+      let most = shape.most in
+      let of_now : p ≡ now ∷ rank ∷ shape.rest = shape.is ∙ ap (λ (n : ℕ). n ∷ rank ∷ shape.rest) at in
+      are_not p (subst (λ (l : List ℕ). IsBefore ((2 ^ 60 + 1) ∷ []) l → ⊥) (sym of_now) (of_run now (rank ∷ shape.rest) sized.limit))
+      (λ q e le either.
+      subst (λ (l : List ℕ). IsBefore (numbers_of q) l → ⊥) (sym of_now)
+      (not_earlier q.at now (q.rank ∷ q.device ∷ q.link ∷ q.cause ∷ []) (rank ∷ shape.rest) le
+      (λ same. higher q.rank rank (q.device ∷ q.link ∷ q.cause ∷ []) shape.rest
+      (elim either [
+        | inl two ↦ absurd (from_some (λ (x : Place). x.at ≡ state.time → x.rank ≡ 2 → ⊥) place q no_arrival e same two)
+        | inr eight ↦ omega (arith, eight, most)
+      ]))))
+      (λ x e le.
+      let same : d ≡ x = let both : Some d ≡ Some x = sym is ∙ e in cc in
+      subst (λ (y : Due). (IsBefore (due_place (length network.device) y) p → ⊥) ⊎ IsRipePlace reading network state y p) same
+      (elim of_slot [
+        | inl own ↦ inl (subst (λ (l : List ℕ). IsBefore l p → ⊥) own (never_self p))
+        | inr ripe ↦ inr ripe
+      ]))
+      (none_befell p calm)
+      (λ ended more. subst (λ (l : List ℕ). IsBefore (now ∷ 14 ∷ state.shown ∷ []) l → ⊥) (sym of_now)
+      (clocks_after rank shape.rest (omega (arith, most))))
+
+  -- what leaves now
+  pub departure_first : (q : Place) → state.pending ≡ false → IfSome due (λ d. d.time ≡ state.time → ⊥) → place ≡ Some q → q.at ≡ state.time → q.rank ≡ 8
+      → AreNotBefore reading network state place due (numbers_of q)
+  departure_first q calm no_due is at rank =
+      subst (λ (p : List ℕ). AreNotBefore reading network state place due p)
+      (let same : now ∷ 8 ∷ q.device ∷ q.link ∷ q.cause ∷ [] ≡ numbers_of q =
+      ap (λ (n : ℕ). n ∷ 8 ∷ q.device ∷ q.link ∷ q.cause ∷ []) (sym at) ∙ ap (λ (n : ℕ). q.at ∷ n ∷ q.device ∷ q.link ∷ q.cause ∷ []) (sym rank) in same)
+      (are_not (now ∷ 8 ∷ q.device ∷ q.link ∷ q.cause ∷ []) (of_run now (8 ∷ q.device ∷ q.link ∷ q.cause ∷ []) sized.limit)
+      (λ r e le either.
+      let same : q ≡ r = let both : Some q ≡ Some r = sym is ∙ e in cc in
+      subst (λ (x : Place). IsBefore (numbers_of x) (now ∷ 8 ∷ q.device ∷ q.link ∷ q.cause ∷ []) → ⊥) same
+      (subst (λ (n : ℕ). IsBefore (q.at ∷ n ∷ q.device ∷ q.link ∷ q.cause ∷ []) (now ∷ 8 ∷ q.device ∷ q.link ∷ q.cause ∷ []) → ⊥) (sym rank)
+      (subst (λ (n : ℕ). IsBefore (n ∷ 8 ∷ q.device ∷ q.link ∷ q.cause ∷ []) (now ∷ 8 ∷ q.device ∷ q.link ∷ q.cause ∷ []) → ⊥) (sym at)
+      (never_self (now ∷ 8 ∷ q.device ∷ q.link ∷ q.cause ∷ [])))))
+      (λ d e le. inl (after_now (8 ∷ q.device ∷ q.link ∷ q.cause ∷ []) d (from_some (λ (x : Due). x.time ≡ state.time → ⊥) due d no_due e) le))
+      (none_befell (now ∷ 8 ∷ q.device ∷ q.link ∷ q.cause ∷ []) calm)
+      (λ ended more. clocks_after 8 (q.device ∷ q.link ∷ q.cause ∷ []) (omega arith)))
+
+  -- the clock that is to be shown
+  pub clock_first : state.pending ≡ false → IfSome place (λ q. q.at ≡ state.time → q.rank ≡ 2 → ⊥) → IfSome due (λ d. d.time ≡ state.time → ⊥)
+      → IfSome place (λ q. q.at ≡ state.time → q.rank ≡ 8 → ⊥)
+      → AreNotBefore reading network state place due (state.time ∷ 14 ∷ state.shown ∷ [])
+  clock_first calm no_arrival no_due no_departure =
+      are_not (now ∷ 14 ∷ state.shown ∷ []) (of_run now (14 ∷ state.shown ∷ []) sized.limit)
+      (λ q e le either. not_earlier q.at now (q.rank ∷ q.device ∷ q.link ∷ q.cause ∷ []) (14 ∷ state.shown ∷ []) le
+      (λ same. elim either [
+        | inl two ↦ absurd (from_some (λ (x : Place). x.at ≡ state.time → x.rank ≡ 2 → ⊥) place q no_arrival e same two)
+        | inr eight ↦ absurd (from_some (λ (x : Place). x.at ≡ state.time → x.rank ≡ 8 → ⊥) place q no_departure e same eight)
+      ]))
+      (λ d e le. inl (after_now (14 ∷ state.shown ∷ []) d (from_some (λ (x : Due). x.time ≡ state.time → ⊥) due d no_due e) le))
+      (none_befell (now ∷ 14 ∷ state.shown ∷ []) calm)
+      (λ ended more. never_self (now ∷ 14 ∷ state.shown ∷ []))
+
+  -- all that is under way, and each timer, is of a later time
+  pub place_after : IfSome place (λ q. q.at ≡ state.time → q.rank ≡ 2 → ⊥) → IfSome place (λ q. q.at ≡ state.time → q.rank ≡ 8 → ⊥)
+      → IfSome place (λ q. state.time < q.at)
+  place_after no_arrival no_departure =
+      if_some (λ (q : Place). state.time < q.at) place
+      (λ q e.
+      let le = place_later q e in
+      elim (cases_lt now q.at) [
+        | inl lt ↦ lt
+        | inr ge ↦
+            let same : q.at ≡ state.time = omega (arith, le, ge) in
+            elim (first_rank q e) [
+              | inl two ↦ absurd (from_some (λ (x : Place). x.at ≡ state.time → x.rank ≡ 2 → ⊥) place q no_arrival e same two)
+              | inr eight ↦ absurd (from_some (λ (x : Place). x.at ≡ state.time → x.rank ≡ 8 → ⊥) place q no_departure e same eight)
+            ]
+      ])
+
+  pub due_after : IfSome due (λ d. d.time ≡ state.time → ⊥) → IfSome due (λ d. state.time < d.time)
+  due_after no_due =
+      if_some (λ (d : Due). state.time < d.time) due
+      (λ d e.
+      let le = due_later d e in
+      elim (cases_lt now d.time) [
+        | inl lt ↦ lt
+        | inr ge ↦ absurd (from_some (λ (x : Due). x.time ≡ state.time → ⊥) due d no_due e (omega (arith, le, ge)))
+      ])
+
+  -- the first that is under way is at this place of the network
+  pub placed : (q : Place) → place ≡ Some q → (q.device < length network.device) × (q.link < length network.link)
+  placed q e =
+      let first = first_is q e in
+      subst (λ (p : Place). (p.device < length network.device) × (p.link < length network.link)) first.at (under.placed first.entry first.there)
+
+  -- nothing before a time
+  pub none_before : (t : ℕ) → t ≤ 2 ^ 60 + 1 → state.pending ≡ false → (state.ended ≡ true → state.shown < length network.device → ⊥)
+      → IfSome place (λ q. t ≤ q.at) → IfSome due (λ d. t ≤ d.time) → AreNotBefore reading network state place due (t ∷ [])
+  none_before t most calm no_clock places dues =
+      are_not (t ∷ []) (of_end t most)
+      (λ q e le either. not_before_time q.at t (q.rank ∷ q.device ∷ q.link ∷ q.cause ∷ []) (from_some (λ (x : Place). t ≤ x.at) place q places e))
+      (λ d e le. inl (slot_time (length network.device) d (t ∷ [])
+      (not_before_time d.time t (3 ∷ d.slot ∷ []) (from_some (λ (x : Due). t ≤ x.time) due d dues e))
+      (not_before_time d.time t (4 ∷ (d.slot - length network.device) ∷ []) (from_some (λ (x : Due). t ≤ x.time) due d dues e))))
+      (none_befell (t ∷ []) calm)
+      (λ ended more. absurd (no_clock ended more))
+
+-- the place of the first frame that is permanent at a device now
+pub ripe_place_is : {C M : Type 0} (reading : C → ℕ → ℕ) (network : Network) (state : State C M) (due : Due) (device : DeviceId) (one : Waits) (clock : C)
+    → device.0 < length network.device → due.slot ≡ device.0 → due.time ≡ state.time → one.device ≡ device
+    → slice_get state.clocks.items device.0 ≡ Some clock
+    → ((w : Waits) → IsIn w state.waiting.items → w.device ≡ device → w.point.0 ≤ℤ pos (reading clock state.time)
+    → IsBefore (ripe_place state.time (waiting_as w)) (ripe_place state.time (waiting_as one)) → ⊥)
+    → IsRipePlace reading network state due (ripe_place state.time (waiting_as one))
+ripe_place_is reading network state due device one clock of_it slot at own held none = record {
+  there = omega (arith, of_it, slot);
+  one = one;
+  at = ap (λ (d : DeviceId). d.0) own ∙ sym slot;
+  place = ap (λ (t : ℕ). ripe_place t (waiting_as one)) (sym at);
+  none = λ w k there same has reached.
+      let clocks : clock ≡ k = let e : Some clock ≡ Some k = sym held ∙ ap (λ (n : ℕ). slice_get state.clocks.items n) (sym slot) ∙ has in cc in
+      subst (λ (t : ℕ). IsBefore (ripe_place t (waiting_as w)) (ripe_place state.time (waiting_as one)) → ⊥) (sym at)
+      (none w there (ap (λ (n : ℕ). let d : DeviceId = record { 0 = n } in d) (same ∙ slot))
+      (subst (λ (t : ℕ). w.point.0 ≤ℤ pos (reading clock t)) at
+      (subst (λ (c : _). w.point.0 ≤ℤ pos (reading c due.time)) (sym clocks) reached)));
+}

@@ -1,0 +1,120 @@
+-- A world as it is at first is sound, and it stands.
+use Rattle.std.proofs.Common.{◌≡◌, ℕ, ◌+◌, ◌<◌, ℤ, List, [], ◌∷◌, ◌++◌, filter_map, length, map, slice_get, All, refl, sym, ap, subst, ◌∙◌, arith}
+use Rattle.std.specs.Option.{option_map}
+use Rattle.std.proofs.lemmas.Int.{ints}
+use Rattle.std.proofs.lemmas.List.{length-map, length-replicate}
+use Rattle.std.proofs.lemmas.List.Elements.{All-nil}
+use Rattle.std.proofs.lemmas.Option.{slice_get-get_or, slice_get-map}
+use Rattle.drift_clock.proofs.Readings.{IsLawful, begins_at_zero, keeps_clock_laws}
+use Rattle.net_plan.specs.Belonging.{IsOfNetwork}
+use Rattle.net_plan.specs.Ranges.{IsInRange, IsLinkInRange}
+use Rattle.net_plan.specs.declared.event.Event.{Event}
+use Rattle.net_plan.specs.declared.ids.DeviceId.{DeviceId}
+use Rattle.net_plan.specs.declared.network.Network.{Network}
+use Rattle.run_law.specs.machines.Nodes.{Node}
+use Rattle.run_law.specs.scenario.Hypothesis.{AreWithinHypothesis}
+use Rattle.schedule_tables.proofs.EntryLemmas.{all_at}
+use Rattle.schedule_tables.specs.Rules.{KeepsRules}
+use Rattle.tte_units.specs.Amount.{amount}
+use Rattle.drift_world.proofs.Beginnings.{first_ways_are, found, found_in, none_under_way}
+use Rattle.drift_world.proofs.Fitting.{AreApart, some_is}
+use Rattle.drift_world.proofs.Forwards.{forward}
+use Rattle.drift_world.proofs.Steadiness.{steady}
+use Rattle.drift_world.specs.Beginning.{AreFresh, IsFirstState, first_way}
+use Rattle.drift_world.specs.Giving.{HasItsOctets}
+use Rattle.drift_world.specs.Keeping.{keeps, sound_one}
+use Rattle.drift_world.specs.Running.{StandsUnder, reading_of}
+use Rattle.drift_world.specs.Sound.{AreBelow, AreUnderWay, IsShort, IsSound}
+use Rattle.drift_world.specs.Views.{at_port, on_wire, way_as, world_of}
+use Rattle.drift_world.specs.declared.contents.Settled.{Settled}
+use Rattle.drift_world.specs.declared.contents.Waits.{Waits}
+use Rattle.drift_world.specs.declared.state.State.{State}
+use Rattle.world_law.proofs.steps.Beginnings.{begun}
+use Rattle.world_law.specs.source.Agreeing.{scenario}
+use Rattle.world_law.specs.world.World.{AreWays}
+
+none_within : (network : Network) → AreWithinHypothesis network []
+none_within network before behind e order = absurd (from before order)
+  where
+    from : (l : List Event) → [] ≡ l ++ e ∷ behind → ⊥
+    from [] same = cc
+    from (x ∷ l) same = cc
+
+module _ {C M : Type 0} (fresh : ℕ → C) (last_step : C → ℕ) (network : Network) (machines : List M) (state : State C M)
+    (first : IsFirstState fresh last_step network machines state) where
+  ways_short : IsInRange network → All IsShort (map first_way network.link)
+  ways_short range k d lt =
+      let n : length (map first_way network.link) ≡ length network.link = length-map _ _ in
+      let it = found network.link k (omega (arith, lt, n)) in
+      let known = all_at (IsLinkInRange network) network.link k it.0 range.links it.1 in
+      let least = known.wire.least in
+      let most = known.wire.most in
+      let short : IsShort (first_way it.0) = (omega (arith, ints, least, most), omega arith) in
+      let at = slice_get-map first_way network.link k ∙ ap (option_map first_way) it.1 in
+      subst IsShort (some_is (slice_get (map first_way network.link) k) _ _ at
+      (slice_get-get_or (map first_way network.link) k d lt)) short
+
+  pub first_sound : IsInRange network → length machines ≡ length network.device → IsSound last_step network state
+  first_sound range many = record {
+    sized = record {
+      clocks = ap length first.clocks ∙ length-replicate _ _;
+      machines = ap length first.machines ∙ length-map _ _ ∙ many;
+      broken = ap length first.broken ∙ length-replicate _ _;
+      ups = ap length first.ups ∙ length-map _ _;
+      downs = ap length first.downs ∙ length-map _ _;
+      stepped = λ k d lt. let at = first.time in let un = first.unstepped k d lt in omega (arith, at, un);
+      limit = let at = first.time in omega (arith, at);
+      shown = let none = first.shown in omega (arith, none);
+    };
+    under_way = subst (AreUnderWay network) (sym first.under_way) (none_under_way network);
+    fit = record {
+      ups = subst (All IsShort) (sym first.ups) (ways_short range);
+      downs = subst (All IsShort) (sym first.downs) (ways_short range);
+      octets = subst (All (λ (z : Settled). HasItsOctets z.body z.octets)) (sym first.settled) (All-nil _);
+      below = subst (AreBelow (state.given + 1)) (sym first.under_way) (λ e i. absurd i);
+      waits_below = subst (All (λ (w : Waits). w.cause < state.given + 1)) (sym first.waiting) (All-nil _);
+      apart = subst AreApart (sym first.waiting) (λ i j v w here there same. absurd cc);
+    };
+  }
+
+  module _ (after_step : C → ℕ → ℤ → C) (reading : C → ℕ → ℕ) (grain : C → ℕ) (count : C → ℕ → ℕ) (law : IsLawful fresh after_step reading grain count)
+      (stands : M → Network → DeviceId → Node → Type 0) (are : AreFresh stands network machines) (range : IsInRange network) (rules : KeepsRules network) where
+    pub first_stands : StandsUnder fresh after_step reading stands network (world_of network state) [] []
+    first_stands = record {
+      is = begun reading (keeps stands) network (reading_of fresh after_step reading network []) (world_of network state)
+          (record {
+            of_it = refl;
+            clocks = λ device lt. (fresh (amount network.grain), ap (λ cs. slice_get cs device.0) first.clocks ∙ found_in _ _ _ lt, λ t late. refl);
+            machines = λ device lt. let of = found machines device.0 (subst (λ n. device.0 < n) (sym are.each) lt) in (
+              sound_one of.0,
+              ap (λ ms. slice_get ms device.0) first.machines ∙ slice_get-map sound_one machines device.0 ∙ ap (option_map sound_one) of.1,
+              (are.begun device of.0 of.1, refl),
+            );
+            broken = λ device lt. ap (λ bs. slice_get bs device.0) first.broken ∙ found_in _ _ _ lt;
+            ways = subst (λ l. AreWays (scenario network (reading_of fresh after_step reading network []) []) 0 (map way_as l) (map way_as state.downs.items))
+                (sym first.ups)
+                (subst (λ l. AreWays (scenario network (reading_of fresh after_step reading network []) []) 0 (map way_as (map first_way network.link))
+                (map way_as l)) (sym first.downs) (first_ways_are network (reading_of fresh after_step reading network [])));
+            wires = ap (filter_map (on_wire network)) first.under_way;
+            ports = ap (filter_map at_port) first.under_way;
+            waiting = ap (map _) first.waiting;
+            stored = ap (map _) first.stored;
+            settled = ap (map _) first.settled;
+            early = first.early;
+            pending = first.pending;
+            befell = ap (map _) first.befell;
+            now = first.time;
+            lines = first.lines;
+            given = first.given;
+            ended = first.ended;
+            shown = first.shown;
+          })
+          (forward network (reading_of fresh after_step reading network []) [] range (none_within network))
+          (λ device. steady fresh after_step reading (keeps_clock_laws fresh after_step reading grain count law)
+          (begins_at_zero fresh after_step reading grain count law) network [] device range rules (none_within network) (λ e i. absurd i))
+          (λ device. begins_at_zero fresh after_step reading grain count law (amount network.grain) [])
+          (let least = range.precision.least in omega (arith, ints, least)) range rules;
+      clocks = λ device lt. ap (λ cs. slice_get cs device.0) first.clocks ∙ found_in _ _ _ lt;
+      of_network = All-nil (λ (e : Event). IsOfNetwork network e.what);
+      within = none_within network;
+    }

@@ -1,0 +1,381 @@
+-- Once a record is given the state is sound again.
+use Rattle.std.proofs.Common.{◌≡◌, ◌⊎◌, ℕ, zero, suc, ◌+◌, ◌<◌, Bool, true, false, not, ◌&&◌, if◌then◌else◌, List, [], ◌∷◌, ◌++◌, map, length, slice_get, Option, Some, None, inl, inr, refl, sym, ap, subst, ◌∙◌, arith}
+use Rattle.std.specs.Prelude.{All, IfSome, filter_map, ◌^◌, ◌≤◌, ◌↔◌}
+use Rattle.std.specs.Option.{option_map}
+use Rattle.std.proofs.lemmas.List.Elements.{All-map, All-push, All-weaker}
+use Rattle.std.proofs.lemmas.List.Sorted.{IsPermutation-sym}
+use Rattle.std.proofs.lemmas.Option.{get_or_from_slice_get, slice_get_within}
+use Rattle.due_queue.proofs.Bags.{in_permuted}
+use Rattle.due_queue.specs.Places.{numbers_of}
+use Rattle.due_queue.specs.declared.Entry.{Entry}
+use Rattle.due_queue.specs.declared.Place.{Place}
+use Rattle.net_plan.specs.Places.{link_at}
+use Rattle.net_plan.specs.Ranges.{IsInRange}
+use Rattle.net_plan.specs.declared.ids.DeviceId.{DeviceId}
+use Rattle.net_plan.specs.declared.ids.LinkId.{LinkId}
+use Rattle.net_plan.specs.declared.network.Network.{Network}
+use Rattle.pcf_values.specs.declared.pcf.Pcf.{Pcf}
+use Rattle.run_law.proofs.runs.Places.{in_left}
+use Rattle.run_law.specs.control.Permanence.{waits_for}
+use Rattle.run_law.specs.declared.note.NoteBody.TheVariants.{Event, Arrived, Permanent, Compressed, Sent, Corrected, State as Changed, Left, Lost, TtSent, Accepted, Delivered, Dropped, Clock}
+use Rattle.run_law.specs.declared.note.NoteBody.{NoteBody}
+use Rattle.run_law.specs.records.Order.{IsIn}
+use Rattle.run_law.specs.scenario.Ways.{receiver_of, way_from}
+use Rattle.drift_world.proofs.Sendings.{link_within}
+use Rattle.drift_world.proofs.Storings.{in_pushed}
+use Rattle.drift_world.proofs.UnderWays.{some_is, sound_with}
+use Rattle.drift_world.specs.Giving.{HasItsOctets, IsGivenOut, IsPutOn, awaited_by, changed_device, control_on_wire, delay_by, place_on_wire, timed_on_wire, waits_from, wire_entry, with_one}
+use Rattle.drift_world.specs.Naming.{named_settled}
+use Rattle.drift_world.specs.Sound.{AreBelow, AreUnderWay, IsShort, IsSound, rank_of}
+use Rattle.drift_world.specs.Stepping.{ChangesOnly}
+use Rattle.drift_world.specs.Views.{at_port, on_wire, settled_at, stored_as, waiting_as, with_first, world_of}
+use Rattle.drift_world.specs.declared.contents.Content.{Content}
+use Rattle.drift_world.specs.declared.contents.Holding.{Holding}
+use Rattle.drift_world.specs.declared.contents.Settled.{Settled}
+use Rattle.drift_world.specs.declared.contents.Timed.{Timed}
+use Rattle.drift_world.specs.declared.contents.Waits.{Waits}
+use Rattle.drift_world.specs.declared.contents.WayState.{WayState}
+use Rattle.drift_world.specs.declared.giving.Giving.{Giving}
+use Rattle.drift_world.specs.declared.kept.Kept.{Kept}
+use Rattle.drift_world.specs.declared.state.State.{State}
+use Rattle.world_law.proofs.hearing.Receptions.{receiver_in}
+use Rattle.world_law.specs.world.Steps.{named_body}
+use Rattle.world_law.specs.world.World.{World}
+
+-- ---- what is put to ports
+
+-- what is there now was there before, or is at a port by the record of this number
+pub from_ports : {C M : Type 0} (reading : C → ℕ → ℕ) (network : Network) (old new : State C M) (body : NoteBody) (frame : Option Pcf) (number : ℕ)
+    (giving : Option Giving) → IsGivenOut reading network old new body frame number giving → (e : Entry Content) → IsIn e new.under_way.entries
+    → IsIn e old.under_way.entries ⊎ ((e.place.cause ≡ number) × (e.place.rank ≡ 8))
+from_ports reading network old new body frame number None out e there = inl (subst (λ (l : List (Entry Content)). IsIn e l) out.none there)
+from_ports reading network old new body frame number (Some g) out e there =
+    elim (out.put.real e there) [
+      | inl before ↦ inl before
+      | inr to ↦ inr (ap (λ (x : Entry Content). x.place.cause) to.3 ∙ out.giver.numbered, ap (λ (x : Entry Content). x.place.rank) to.3)
+    ]
+
+-- ---- what is put on a wire
+
+-- it is put on a wire of the network by the record of this number
+pub record IsOnWire (network : Network) (number : ℕ) (e : Entry Content) : Type 0 where
+  pub two : e.place.rank ≡ 2
+  pub kind : rank_of e.content ≡ 2
+  pub device : e.place.device < length network.device
+  pub link : e.place.link < length network.link
+  pub cause : e.place.cause ≡ number
+
+module _ (network : Network) (ups downs : List WayState) (range : IsInRange network) (number : ℕ) where
+  placed : (f : Place → Entry Content) → ((p : Place) → (f p).place ≡ p) → ((p : Place) → rank_of (f p).content ≡ 2)
+      → (device : DeviceId) (link : LinkId) (time on_port : ℕ)
+      → IfSome (option_map f (place_on_wire network ups downs device link time on_port number)) (IsOnWire network number)
+  placed f same kind device link time on_port = by_receiver (receiver_of network link (way_from network device link)) refl
+    where
+      by_receiver : (o : Option DeviceId) → receiver_of network link (way_from network device link) ≡ o
+          → IfSome (option_map f (option_map (λ (receiver : DeviceId). let p : Place = record {
+            at = time + on_port + delay_by network ups downs device link;
+            rank = 2;
+            device = receiver.0;
+            link = link.0;
+            cause = number;
+          } in p) o)) (IsOnWire network number)
+      by_receiver None is = tt
+      by_receiver (Some receiver) is =
+          let p : Place = record {
+            at = time + on_port + delay_by network ups downs device link;
+            rank = 2;
+            device = receiver.0;
+            link = link.0;
+            cause = number;
+          } in
+          record {
+            two = ap (λ (q : Place). q.rank) (same p);
+            kind = kind p;
+            device = subst (λ (q : Place). q.device < length network.device) (sym (same p))
+                (receiver_in network (way_from network device link) link (link_at network link) receiver refl range is);
+            link = subst (λ (q : Place). q.link < length network.link) (sym (same p))
+                (link_within network.link link.0 (way_from network device link) (link_at network link) receiver refl is);
+            cause = ap (λ (q : Place). q.cause) (same p);
+          }
+
+  pub wire_is : (body : NoteBody) (frame : Option Pcf) (octets : Option Timed) (time : ℕ)
+      → IfSome (wire_entry network ups downs body frame octets time number) (IsOnWire network number)
+  wire_is (Left d l c k) None octets time = tt
+  wire_is (Left d l c k) (Some frame) octets time = placed (control_on_wire frame) (λ p. refl) (λ p. refl) d l time 0
+  wire_is (TtSent d l c v k) frame None time = tt
+  wire_is (TtSent d l c v k) frame (Some o) time = placed (timed_on_wire o) (λ p. refl) (λ p. refl) d l time _
+  wire_is (Event a b) frame octets time = tt
+  wire_is (Arrived a b c d) frame octets time = tt
+  wire_is (Permanent a b c d e) frame octets time = tt
+  wire_is (Compressed a b c d e f) frame octets time = tt
+  wire_is (Sent a b) frame octets time = tt
+  wire_is (Corrected a b c d) frame octets time = tt
+  wire_is (Changed a b c d) frame octets time = tt
+  wire_is (Lost a b c) frame octets time = tt
+  wire_is (Accepted a b c d e) frame octets time = tt
+  wire_is (Delivered a b c d e) frame octets time = tt
+  wire_is (Dropped a b c d) frame octets time = tt
+  wire_is (Clock a b c d) frame octets time = tt
+
+rank_in : List ℕ → ℕ
+rank_in (at ∷ rank ∷ rest) = rank
+rank_in other = 0
+
+cause_in : List ℕ → ℕ
+cause_in (at ∷ rank ∷ device ∷ link ∷ cause ∷ rest) = cause
+cause_in other = 0
+
+same_rank : (p q : Place) → numbers_of p ≡ numbers_of q → p.rank ≡ q.rank
+unfolding rank_in
+same_rank p q e = ap rank_in e
+
+same_cause : (p q : Place) → numbers_of p ≡ numbers_of q → p.cause ≡ q.cause
+unfolding cause_in
+same_cause p q e = ap cause_in e
+
+-- it is sound with what is put on a wire, where all else is by records before, or at ports
+pub wire_sound : (network : Network) (number : ℕ) (old new : List (Entry Content)) (o : Option (Entry Content)) → IfSome o (IsOnWire network number)
+    → IsPutOn o old new → ((d : Entry Content) → IsIn d old → (d.place.cause < number) ⊎ (d.place.rank ≡ 8)) → AreUnderWay network old
+    → AreUnderWay network new
+wire_sound network number old new None is put apart was = subst (AreUnderWay network) (sym put) was
+wire_sound network number old new (Some e) is put apart was =
+    sound_with network old new e was put (is.two ∙ sym is.kind) is.device is.link
+    (λ d there same.
+    let rank = same_rank d.place e.place same in
+    let cause = same_cause d.place e.place same in
+    let two = is.two in
+    let own = is.cause in
+    elim (apart d there) [
+      | inl low ↦ omega (arith, low, cause, own)
+      | inr port ↦ omega (arith, port, rank, two)
+    ])
+
+-- what is there now was there before, or is by the record of this number
+pub from_wire : (network : Network) (number : ℕ) (old new : List (Entry Content)) (o : Option (Entry Content)) → IfSome o (IsOnWire network number)
+    → IsPutOn o old new → (e : Entry Content) → IsIn e new → IsIn e old ⊎ (e.place.cause ≡ number)
+from_wire network number old new None is put e there = inl (subst (λ (l : List (Entry Content)). IsIn e l) put there)
+from_wire network number old new (Some d) is put e there =
+    elim (in_permuted new (d ∷ old) e (IsPermutation-sym _ _ put) there) [
+      | inl own ↦ inr (ap (λ (x : Entry Content). x.place.cause) own ∙ is.cause)
+      | inr rest ↦ inl rest
+    ]
+
+-- ---- what waits
+
+-- nothing more waits, or one more, at the device of the record, by its number
+pub record IsOneMore (body : NoteBody) (number : ℕ) (old new : List Waits) : Type 0 where
+  pub one : Waits
+  pub cause : one.cause ≡ number
+  pub device : one.device.0 ≡ changed_device body
+  pub is : new ≡ old ++ one ∷ []
+
+awaited_so : (network : Network) (broken : Bool) (body : NoteBody) (frame : Option Pcf) (reading number : ℕ)
+    → IfSome (awaited_by network broken body frame reading number) (λ w. (w.cause ≡ number) × (w.device.0 ≡ changed_device body))
+awaited_so network broken (Arrived d l c k) frame reading number = by_test (not broken && waits_for network d l) frame
+  where
+    by_test : (b : Bool) (o : Option Pcf) → IfSome (if b then option_map (waits_from network d l k reading number) o else None)
+        (λ w. (w.cause ≡ number) × (w.device.0 ≡ d.0))
+    by_test true (Some f) = (refl, refl)
+    by_test true None = tt
+    by_test false o = tt
+awaited_so network broken (Event a b) frame reading number = tt
+awaited_so network broken (Permanent a b c d e) frame reading number = tt
+awaited_so network broken (Compressed a b c d e f) frame reading number = tt
+awaited_so network broken (Sent a b) frame reading number = tt
+awaited_so network broken (Corrected a b c d) frame reading number = tt
+awaited_so network broken (Changed a b c d) frame reading number = tt
+awaited_so network broken (Left a b c d) frame reading number = tt
+awaited_so network broken (Lost a b c) frame reading number = tt
+awaited_so network broken (TtSent a b c d e) frame reading number = tt
+awaited_so network broken (Accepted a b c d e) frame reading number = tt
+awaited_so network broken (Delivered a b c d e) frame reading number = tt
+awaited_so network broken (Dropped a b c d) frame reading number = tt
+awaited_so network broken (Clock a b c d) frame reading number = tt
+
+one_more : (body : NoteBody) (number : ℕ) (old new : List Waits) (o : Option Waits)
+    → IfSome o (λ w. (w.cause ≡ number) × (w.device.0 ≡ changed_device body)) → new ≡ with_one o old → (new ≡ old) ⊎ IsOneMore body number old new
+one_more body number old new None so is = inl is
+one_more body number old new (Some w) so is = inr (record { one = w; cause = so.0; device = so.1; is = is })
+
+pub waits_more : {C M : Type 0} (reading : C → ℕ → ℕ) (network : Network) (old new : State C M) (body : NoteBody) (frame : Option Pcf) (number : ℕ)
+    (giving : Option Giving) → IsGivenOut reading network old new body frame number giving
+    → (new.waiting.items ≡ old.waiting.items) ⊎ IsOneMore body number old.waiting.items new.waiting.items
+waits_more reading network old new body frame number None out = inl out.no_wait
+waits_more reading network old new body frame number (Some g) out =
+    one_more body number old.waiting.items new.waiting.items (awaited_by network g.broken body (Some g.frame) g.reading number)
+    (awaited_so network g.broken body (Some g.frame) g.reading number)
+    (out.waits ∙ ap (λ (k : ℕ). with_one (awaited_by network g.broken body (Some g.frame) g.reading k) old.waiting.items) out.giver.numbered)
+
+waits_at : (number : ℕ) (xs ys : List Waits) → ys ≡ xs → All (λ w. w.cause < number) xs → All (λ w. w.cause < number + 1) ys
+waits_at number xs ys is all = subst (λ (l : List Waits). All (λ w. w.cause < number + 1) l) (sym is)
+    (All-weaker (λ (w : Waits). w.cause < number) (λ (w : Waits). w.cause < number + 1) (λ w lt. omega (arith, lt)) xs all)
+
+pub waits_below : (body : NoteBody) (number : ℕ) (old new : List Waits) → (new ≡ old) ⊎ IsOneMore body number old new → All (λ w. w.cause < number) old
+    → All (λ w. w.cause < number + 1) new
+waits_below body number old new (inl same) all = waits_at number old new same all
+waits_below body number old new (inr more) all =
+    let cause = more.cause in
+    subst (λ (l : List Waits). All (λ w. w.cause < number + 1) l) (sym more.is)
+    (All-push (λ (w : Waits). w.cause < number + 1) old more.one (waits_at number old old refl all) (omega (arith, cause)))
+
+pushed_at : {X : Type 0} (xs : List X) (y : X) (i : ℕ) (v : X) → slice_get (xs ++ y ∷ []) i ≡ Some v → (slice_get xs i ≡ Some v) ⊎ ((i ≡ length xs) × (v ≡ y))
+pushed_at [] y zero v e = inr (refl, sym (some_is _ _ e))
+pushed_at [] y (suc i) v e = absurd cc
+pushed_at (x ∷ xs) y zero v e = inl e
+pushed_at (x ∷ xs) y (suc i) v e =
+    elim (pushed_at xs y i v e) [
+      | inl old ↦ inl old
+      | inr new ↦ let at = new.0 in inr (omega (arith, at), new.1)
+    ]
+
+abbrev pub AreApart : List Waits → Type 0
+AreApart waiting = (i j : ℕ) (v w : Waits) → slice_get waiting i ≡ Some v → slice_get waiting j ≡ Some w → v.cause ≡ w.cause → i ≡ j
+
+low_at : (number : ℕ) (xs : List Waits) (i : ℕ) (w : Waits) → All (λ w. w.cause < number) xs → slice_get xs i ≡ Some w → w.cause < number
+low_at number xs i w all at =
+    subst (λ (v : Waits). v.cause < number) (get_or_from_slice_get xs i w w at) (all i w (slice_get_within xs i w at))
+
+pub waits_apart : (body : NoteBody) (number : ℕ) (old new : List Waits) → (new ≡ old) ⊎ IsOneMore body number old new → All (λ w. w.cause < number) old
+    → AreApart old → AreApart new
+waits_apart body number old new (inl same) all apart = subst AreApart (sym same) apart
+waits_apart body number old new (inr more) all apart = subst AreApart (sym more.is) (λ i j v w at there same.
+    let own = more.cause in
+    elim (pushed_at old more.one i v at) [
+      | inl a ↦
+          elim (pushed_at old more.one j w there) [
+            | inl b ↦ apart i j v w a b same
+            | inr b ↦
+                let low = low_at number old i v all a in
+                let new = ap (λ (x : Waits). x.cause) b.1 in
+                omega (arith, low, new, own, same)
+          ]
+      | inr a ↦
+          elim (pushed_at old more.one j w there) [
+            | inl b ↦
+                let low = low_at number old j w all b in
+                let new = ap (λ (x : Waits). x.cause) a.1 in
+                omega (arith, low, new, own, same)
+            | inr b ↦ a.0 ∙ sym b.0
+          ]
+    ])
+
+-- of other devices the same frames wait
+pub waits_elsewhere : (body : NoteBody) (number : ℕ) (old new : List Waits) → (new ≡ old) ⊎ IsOneMore body number old new
+    → (w : Waits) → (w.device.0 ≡ changed_device body → ⊥) → IsIn w new ↔ IsIn w old
+waits_elsewhere body number old new (inl same) w apart =
+    (λ i. subst (λ (l : List Waits). IsIn w l) same i, λ i. subst (λ (l : List Waits). IsIn w l) (sym same) i)
+waits_elsewhere body number old new (inr more) w apart = (
+  λ i.
+      elim (in_pushed old more.one w (subst (λ (l : List Waits). IsIn w l) more.is i)) [
+        | inl was ↦ was
+        | inr e ↦ absurd (apart (ap (λ (x : Waits). x.device.0) e ∙ more.device))
+      ],
+  λ i. subst (λ (l : List Waits). IsIn w l) (sym more.is) (in_left w old (more.one ∷ []) i),
+)
+
+-- ---- what is settled
+
+named_has : (number : ℕ) (first : NoteBody) (body : NoteBody) (octets : Option Timed) → HasItsOctets body octets
+    → HasItsOctets (named_body number first body) octets
+named_has number first (Changed a b c d) octets has = tt
+named_has number first (Event a b) octets has = has
+named_has number first (Arrived a b c d) octets has = has
+named_has number first (Permanent a b c d e) octets has = has
+named_has number first (Compressed a b c d e f) octets has = has
+named_has number first (Sent a b) octets has = has
+named_has number first (Corrected a b c d) octets has = has
+named_has number first (Left a b c d) octets has = has
+named_has number first (Lost a b c) octets has = has
+named_has number first (TtSent a b c d e) octets has = has
+named_has number first (Accepted a b c d e) octets has = has
+named_has number first (Delivered a b c d e) octets has = has
+named_has number first (Dropped a b c d) octets has = has
+named_has number first (Clock a b c d) octets has = has
+
+-- what is settled has its octets by its new names too
+pub settled_has : (number : ℕ) (first : NoteBody) (zs : List Settled) → All (λ z. HasItsOctets z.body z.octets) zs
+    → All (λ z. HasItsOctets z.body z.octets) (map (named_settled number first) zs)
+settled_has number first zs all = All-map (λ (z : Settled). HasItsOctets z.body z.octets) (named_settled number first) zs
+    (All-weaker (λ (z : Settled). HasItsOctets z.body z.octets) (λ (z : Settled). HasItsOctets (named_body number first z.body) z.octets)
+    (λ z has. named_has number first z.body z.octets has) zs all)
+
+-- ---- another state with the same
+
+-- what a state keeps it keeps with less that is settled, and elsewhere in memory
+pub sound_same : {C M : Type 0} (last_step : C → ℕ) (network : Network) (old new : State C M) → IsSound last_step network old
+    → new.clocks ≡ old.clocks → new.machines ≡ old.machines → new.broken ≡ old.broken → new.ups ≡ old.ups → new.downs ≡ old.downs → new.time ≡ old.time
+    → new.shown ≡ old.shown → new.given ≡ old.given → new.under_way.entries ≡ old.under_way.entries → new.waiting.items ≡ old.waiting.items
+    → All (λ z. HasItsOctets z.body z.octets) new.settled.items → IsSound last_step network new
+sound_same {C} last_step network old new sound clocks machines broken ups downs time shown given entries waiting octets =
+    let z = sound.sized in
+    let fit = sound.fit in
+    let number = ap (λ (k : ℕ). k + 1) (sym given) in
+    record {
+      sized = record {
+        clocks = ap (λ v. length v.items) clocks ∙ z.clocks;
+        machines = ap (λ v. length v.items) machines ∙ z.machines;
+        broken = ap (λ v. length v.items) broken ∙ z.broken;
+        ups = ap (λ v. length v.items) ups ∙ z.ups;
+        downs = ap (λ v. length v.items) downs ∙ z.downs;
+        stepped = subst (λ (t : ℕ). All (λ (c : C). last_step c ≤ t) new.clocks.items) (sym time)
+            (subst (λ v. All (λ (c : C). last_step c ≤ old.time) v.items) (sym clocks) z.stepped);
+        limit = subst (λ (t : ℕ). t ≤ 2 ^ 60) (sym time) z.limit;
+        shown = subst (λ (k : ℕ). k ≤ length network.device) (sym shown) z.shown;
+      };
+      under_way = subst (AreUnderWay network) (sym entries) sound.under_way;
+      fit = record {
+        ups = subst (λ v. All IsShort v.items) (sym ups) fit.ups;
+        downs = subst (λ v. All IsShort v.items) (sym downs) fit.downs;
+        octets = octets;
+        below = subst (λ (k : ℕ). AreBelow k new.under_way.entries) number (subst (AreBelow (old.given + 1)) (sym entries) fit.below);
+        waits_below = subst (λ (k : ℕ). All (λ (w : Waits). w.cause < k) new.waiting.items) number
+            (subst (All (λ (w : Waits). w.cause < old.given + 1)) (sym waiting) fit.waits_below);
+        apart = subst AreApart (sym waiting) fit.apart;
+      };
+    }
+
+-- the world of a state whose first settled record is taken out
+pub popped_world : {C M : Type 0} (network : Network) (old new : State C M) (first : Settled)
+    → new.under_way.entries ≡ old.under_way.entries → new.waiting.items ≡ old.waiting.items → new.stored.items ≡ old.stored.items
+    → old.settled.items ≡ first ∷ new.settled.items
+    → new ≡ record old { under_way = new.under_way; waiting = new.waiting; stored = new.stored; settled = new.settled }
+    → with_first network new first new.settled.items ≡ world_of network old
+popped_world {C} {M} network old new first entries waiting stored settled same =
+    let make = λ (es : List (Entry Content)) (ws : List Waits) (hs : List Holding) (zs : List Settled).
+    let w : World C (Kept M) = record (world_of network old) {
+      wires = filter_map (on_wire network) es;
+      ports = filter_map at_port es;
+      waiting = map waiting_as ws;
+      stored = map (stored_as network) hs;
+      settled = map (settled_at network old.time) zs;
+    } in w in
+    ap (λ (q : State C M). with_first network q first new.settled.items) same
+    ∙ ap (λ (es : List (Entry Content)). make es new.waiting.items new.stored.items (first ∷ new.settled.items)) entries
+    ∙ ap (λ (ws : List Waits). make old.under_way.entries ws new.stored.items (first ∷ new.settled.items)) waiting
+    ∙ ap (λ (hs : List Holding). make old.under_way.entries old.waiting.items hs (first ∷ new.settled.items)) stored
+    ∙ ap (λ (zs : List Settled). make old.under_way.entries old.waiting.items old.stored.items zs) (sym settled)
+
+-- what the timers are for changes as it did since then
+pub changes_since : {C M : Type 0} (device : ℕ) (old mid new : State C M) → mid.clocks ≡ old.clocks → mid.time ≡ old.time → mid.ended ≡ old.ended
+    → mid.machines ≡ old.machines → mid.waiting.items ≡ old.waiting.items → ChangesOnly device mid new → ChangesOnly device old new
+changes_since device old mid new clocks time ended machines waiting c = record {
+  clocks = c.clocks ∙ clocks;
+  time = c.time ∙ time;
+  ended = c.ended ∙ ended;
+  machines = λ i apart. c.machines i apart ∙ ap (λ v. slice_get v.items i) machines;
+  waiting = λ w apart. (
+    λ i. subst (λ (l : List Waits). IsIn w l) waiting ((c.waiting w apart).0 i),
+    λ i. (c.waiting w apart).1 (subst (λ (l : List Waits). IsIn w l) (sym waiting) i),
+  );
+}
+
+-- it is as it was, elsewhere in memory
+pub unchanged : {C M : Type 0} (device : ℕ) (old new : State C M) → new.clocks ≡ old.clocks → new.time ≡ old.time → new.ended ≡ old.ended
+    → new.machines ≡ old.machines → new.waiting.items ≡ old.waiting.items → ChangesOnly device old new
+unchanged device old new clocks time ended machines waiting = record {
+  clocks = clocks;
+  time = time;
+  ended = ended;
+  machines = λ i apart. ap (λ v. slice_get v.items i) machines;
+  waiting = λ w apart. (λ i. subst (λ (l : List Waits). IsIn w l) waiting i, λ i. subst (λ (l : List Waits). IsIn w l) (sym waiting) i);
+}

@@ -1,0 +1,124 @@
+-- The first of what is settled is given: the world stands again.
+use Rattle.std.proofs.Common.{◌≡◌, ℕ, ◌+◌, List, [], ◌∷◌, ◌++◌, map, length, Option, Some, None, refl, sym, ap, subst, ◌∙◌}
+use Rattle.std.specs.Prelude.{IfSome}
+use Rattle.std.specs.List.{filter_map}
+use Rattle.std.specs.Option.{option_map}
+use Rattle.due_queue.specs.declared.Entry.{Entry}
+use Rattle.due_queue.specs.declared.Place.{Place}
+use Rattle.net_plan.specs.declared.ids.DeviceId.{DeviceId}
+use Rattle.net_plan.specs.declared.network.Network.{Network}
+use Rattle.pcf_values.specs.declared.pcf.Pcf.{Pcf}
+use Rattle.run_law.specs.declared.note.Note.{Note}
+use Rattle.run_law.specs.declared.note.NoteBody.TheVariants.{Event, Arrived, Permanent, Compressed, Sent, Corrected, State as Changed, Left, Lost, TtSent, Accepted, Delivered, Dropped, Clock}
+use Rattle.run_law.specs.declared.note.NoteBody.{NoteBody}
+use Rattle.run_law.specs.machines.Nodes.{Node}
+use Rattle.run_law.specs.records.Happenings.{Happening, happening, happenings}
+use Rattle.run_law.specs.records.Order.{behind}
+use Rattle.run_law.specs.records.Ranks.{place_of}
+use Rattle.run_law.specs.scenario.Scenarios.{Scenario}
+use Rattle.drift_world.proofs.Apart.{given_then, ports_kept, put_from, wires_kept}
+use Rattle.drift_world.proofs.FirstSettled.{first_is}
+use Rattle.drift_world.proofs.Launches.{given_out}
+use Rattle.drift_world.proofs.Sendings.{puts}
+use Rattle.drift_world.specs.Giving.{IsGivenOut, IsPutOn, MayBeGiven, control_on_wire, timed_on_wire, wire_entry}
+use Rattle.drift_world.specs.Showing.{IsOf}
+use Rattle.drift_world.proofs.Storings.{taken_by}
+use Rattle.drift_world.specs.Storing.{stored_by}
+use Rattle.drift_world.specs.Views.{at_port, octets_in, on_wire, settled_at, stored_as, waiting_as, with_first}
+use Rattle.drift_world.specs.Naming.{named_settled}
+use Rattle.drift_world.specs.declared.contents.Content.{Content}
+use Rattle.drift_world.specs.declared.contents.Holding.{Holding}
+use Rattle.drift_world.specs.declared.contents.Settled.{Settled}
+use Rattle.drift_world.specs.declared.contents.Timed.{Timed}
+use Rattle.drift_world.specs.declared.contents.WayState.{WayState}
+use Rattle.drift_world.specs.declared.giving.Giving.{Giving}
+use Rattle.drift_world.specs.declared.kept.Kept.{Kept}
+use Rattle.drift_world.specs.declared.state.State.{State}
+use Rattle.world_law.proofs.giving.Given.{given_step}
+use Rattle.world_law.specs.source.First.{NoSourceBefore}
+use Rattle.world_law.specs.world.Steps.{AreTaken, StandsBehind, named}
+use Rattle.world_law.specs.world.World.{Stands, note_of}
+
+no_port_at : (f : Place → Entry Content) → ((p : Place) → at_port (f p) ≡ None) → (o : Option Place) → IfSome (option_map f o) (λ one. at_port one ≡ None)
+no_port_at f none None = tt
+no_port_at f none (Some p) = none p
+
+no_port : (network : Network) (ups downs : List WayState) (body : NoteBody) (frame : Option Pcf) (octets : Option Timed) (time number : ℕ)
+    → IfSome (wire_entry network ups downs body frame octets time number) (λ one. at_port one ≡ None)
+no_port network ups downs (Left d l c k) None octets time number = tt
+no_port network ups downs (Left d l c k) (Some frame) octets time number = no_port_at (control_on_wire frame) (λ p. refl) _
+no_port network ups downs (TtSent d l c v k) frame None time number = tt
+no_port network ups downs (TtSent d l c v k) frame (Some o) time number = no_port_at (timed_on_wire o) (λ p. refl) _
+no_port network ups downs (Event a b) frame octets time number = tt
+no_port network ups downs (Arrived a b c d) frame octets time number = tt
+no_port network ups downs (Permanent a b c d e) frame octets time number = tt
+no_port network ups downs (Compressed a b c d e f) frame octets time number = tt
+no_port network ups downs (Sent a b) frame octets time number = tt
+no_port network ups downs (Corrected a b c d) frame octets time number = tt
+no_port network ups downs (Changed a b c d) frame octets time number = tt
+no_port network ups downs (Lost a b c) frame octets time number = tt
+no_port network ups downs (Accepted a b c d e) frame octets time number = tt
+no_port network ups downs (Delivered a b c d e) frame octets time number = tt
+no_port network ups downs (Dropped a b c d) frame octets time number = tt
+no_port network ups downs (Clock a b c d) frame octets time number = tt
+
+-- what follows it is named
+pub named_all : (network : Network) (now number : ℕ) (first : Settled) (xs : List Settled)
+    → map (named number (settled_at network now first)) (map (settled_at network now) xs) ≡ map (settled_at network now) (map (named_settled number first.body) xs)
+named_all network now number first [] = refl
+named_all network now number first (z ∷ xs) = ap (λ l. settled_at network now (named_settled number first.body z) ∷ l) (named_all network now number first xs)
+
+-- it is given: what it launches is under way, or waits, and what a switch took by it is held
+abbrev pub GivesOn : {C M : Type 0} → (C → ℕ → ℕ) → (Kept M → Network → DeviceId → Node → Type 0) → Scenario → Network → Type 0
+GivesOn {C} {M} reading stands s network =
+    (state after : State C M) (notes : List Note) (first : Settled) (rest : List Settled) (giving : Option Giving) (entries : List (Entry Content))
+    (held : List Holding)
+    → (old : Stands reading stands s (with_first network state first rest) notes)
+    → NoSourceBefore s (happenings s.network notes) old.cursor (place_of (settled_at network state.time first))
+    → MayBeGiven network first.body first.frame first.octets
+    → IsGivenOut reading network state after first.body first.frame (length notes + 1) giving
+    → IsPutOn (wire_entry network state.ups.items state.downs.items first.body first.frame first.octets state.time (length notes + 1))
+    after.under_way.entries entries
+    → held ≡ stored_by first.body first.octets (length notes + 1) state.stored.items
+    → StandsBehind reading stands s
+    (record (with_first network state first rest) {
+      wires = filter_map (on_wire network) entries;
+      ports = filter_map at_port entries;
+      waiting = map waiting_as after.waiting.items;
+      stored = map (stored_as network) held;
+      settled = map (named (length notes + 1) (settled_at network state.time first)) (map (settled_at network state.time) rest);
+      given = state.given + 1;
+    }) (notes ++ note_of notes (settled_at network state.time first) ∷ []) (behind (place_of (settled_at network state.time first)))
+
+given_stands : {C M : Type 0} (reading : C → ℕ → ℕ) (stands : Kept M → Network → DeviceId → Node → Type 0) (s : Scenario)
+    → GivesOn {C = C} {M = M} reading stands s s.network
+given_stands {C} {M} reading stands s state after notes first rest giving entries held old none may out sent held_is =
+    let number = length notes + 1 in
+    let z = settled_at s.network state.time first in
+    let others = map (settled_at s.network state.time) rest in
+    let world = with_first s.network state first rest in
+    let x : Happening = happening s.network (happenings s.network notes) (note_of notes z) in
+    let is = first_is reading stands s world notes z others old refl in
+    let frame : x.frame ≡ first.frame = ap (λ (h : Happening). h.frame) is in
+    let octets : x.octets ≡ octets_in s.network first.octets = ap (λ (h : Happening). h.octets) is in
+    let of : IsOf reading s s.network state = record { same = refl; clocks = old.clocks; broken = old.broken; ways = old.ways } in
+    let own = subst (λ (f : Option Pcf). IsGivenOut reading s.network state after first.body f number giving) (sym frame) out in
+    let both = given_out reading s state after x number giving of old.range refl (λ d by no. may.framed d by (sym frame ∙ no)) may.arrived own in
+    let put = puts s state.time state.ups.items state.downs.items old.ways x number refl after.under_way.entries entries first.body first.frame first.octets refl
+    may.with_octets frame octets sent in
+    let taken = subst (λ (l : List Holding). AreTaken x number (map (stored_as s.network) state.stored.items) (map (stored_as s.network) l)) (sym held_is)
+    (taken_by s.network x number state.stored.items first.body first.octets refl may.with_octets octets) in
+    given_step reading stands s world notes z others (filter_map (on_wire s.network) entries) (filter_map at_port entries) (map waiting_as after.waiting.items)
+    (map (stored_as s.network) held) old refl none
+    (put_from s x number _ _ _ (wires_kept (length s.network.link) s.network s.network state.ups.items state.downs.items first.body giving
+    state.under_way.entries after.under_way.entries out.put out.none) put)
+    (given_then s x number _ _ _ (ports_kept (wire_entry s.network state.ups.items state.downs.items first.body first.frame first.octets state.time number)
+    after.under_way.entries entries
+    (no_port s.network state.ups.items state.downs.items first.body first.frame first.octets state.time number) sent) both.0)
+    both.1
+    taken
+
+-- and so it is on the scenario's network, by whatever name
+pub given_on : {C M : Type 0} (reading : C → ℕ → ℕ) (stands : Kept M → Network → DeviceId → Node → Type 0) (s : Scenario) (network : Network)
+    → s.network ≡ network → GivesOn {C = C} {M = M} reading stands s network
+given_on {C} {M} reading stands s network same = subst (GivesOn {C = C} {M = M} reading stands s) same (given_stands {C = C} {M = M} reading stands s)

@@ -1,0 +1,300 @@
+-- What is on a wire arrives: its device may hear it, and the world stands again.
+use Rattle.std.proofs.Common.{◌≡◌, ℕ, zero, suc, ◌≤◌, ◌<◌, ◌==◌, pos, Bool, set, true, false, if◌then◌else◌, List, [], ◌∷◌, length, map, Option, Some, None, Ok, Err, Result, slice_get, option_map, inl, inr, refl, sym, ap, subst, ◌∙◌, arith}
+use Rattle.std.specs.List.{filter_map}
+use Rattle.std.specs.List.Sorted.{IsPermutation}
+use Rattle.std.proofs.lemmas.List.Sorted.{IsPermutation-sym}
+use Rattle.due_queue.proofs.Bags.{in_permuted, is_given}
+use Rattle.due_queue.specs.Places.{numbers_of}
+use Rattle.due_queue.specs.declared.Entry.{Entry}
+use Rattle.due_queue.specs.declared.Place.{Place}
+use Rattle.net_plan.specs.declared.ids.DeviceId.{DeviceId}
+use Rattle.net_plan.specs.declared.ids.LinkId.{LinkId}
+use Rattle.net_plan.specs.declared.network.Network.{Network}
+use Rattle.pcf_codec.specs.Decoding.{decoded}
+use Rattle.pcf_codec.specs.EtherType.{pcf_type}
+use Rattle.pcf_codec.specs.Fields.{field}
+use Rattle.pcf_codec.specs.declared.refusal.PcfRefusal.{PcfRefusal}
+use Rattle.pcf_values.specs.declared.pcf.Pcf.{Pcf}
+use Rattle.run_law.specs.control.Arrivals.{clock_on_arrival}
+use Rattle.run_law.specs.control.Wires.{Signal, control, signal_of, timed}
+use Rattle.run_law.specs.declared.note.Note.{Note}
+use Rattle.run_law.specs.declared.steps.Arrival.TheVariants as arrivals
+use Rattle.run_law.specs.declared.steps.Arrival.{Arrival}
+use Rattle.run_law.specs.declared.steps.Moment.{Moment}
+use Rattle.run_law.specs.machines.Answers.{arrival_at}
+use Rattle.run_law.specs.machines.Calls.{MayArrive, MayCall, StandsFor}
+use Rattle.run_law.specs.machines.Nodes.{Node, arriving, last_taken_by, standpoint_at}
+use Rattle.run_law.specs.records.Happenings.{Happening, frame_by, frame_from, happenings, octets_by, octets_from, with_clock}
+use Rattle.run_law.specs.records.Order.{IsBefore, IsIn, behind}
+use Rattle.run_law.specs.scenario.Scenarios.{Scenario}
+use Rattle.tte_units.specs.Amount.{amount, units_of}
+use Rattle.tte_units.specs.declared.units.Units.{Units}
+use Rattle.drift_world.proofs.Alike.{with_ports}
+use Rattle.drift_world.proofs.Arrivals.{control_so, on_arrival, timed_so}
+use Rattle.drift_world.proofs.Fits.{have_octets}
+use Rattle.drift_world.proofs.HiddenCauses.{settled_in_order}
+use Rattle.drift_world.proofs.Puts.{one_put_in, same_units}
+use Rattle.drift_world.proofs.Signals.{frame_told, octets_told, plain_on_wire}
+use Rattle.drift_world.proofs.UnderWays.{ports_stay, wires_without}
+use Rattle.drift_world.specs.Hearing.{AreOctetsOf, IsAsSent, MayCome, arrived, frame_kept, octets_kept, timed_in}
+use Rattle.drift_world.specs.Places.{IsPutAt}
+use Rattle.drift_world.specs.Sound.{AreUnderWay}
+use Rattle.drift_world.specs.Views.{at_port, octets_in, octets_of, on_wire, settled_at, signal_as, world_of}
+use Rattle.drift_world.specs.declared.contents.Content.TheVariants.{Wire}
+use Rattle.drift_world.specs.declared.contents.Content.{Content}
+use Rattle.drift_world.specs.declared.contents.Settled.{Settled}
+use Rattle.drift_world.specs.declared.contents.Signal.TheVariants as signals
+use Rattle.drift_world.specs.declared.contents.Signal.{Signal as SignalSent}
+use Rattle.drift_world.specs.declared.contents.Timed.{Timed}
+use Rattle.drift_world.specs.declared.kept.Kept.{Kept}
+use Rattle.drift_world.specs.declared.state.State.{State}
+use Rattle.world_law.proofs.giving.Given.{some_same}
+use Rattle.world_law.proofs.hearing.Calling.{may_call}
+use Rattle.world_law.proofs.hearing.HeardSteps.{heard_step}
+use Rattle.world_law.proofs.hearing.OneMaster.{may_arrive}
+use Rattle.world_law.proofs.hearing.Receptions.{device_there}
+use Rattle.world_law.specs.world.Arriving.{HasHeard, arrival_body}
+use Rattle.world_law.specs.world.Calls.{IsSet, moment_of}
+use Rattle.world_law.specs.world.Steps.{ComesFirst, StandsBehind, settled_as}
+use Rattle.world_law.specs.world.World.{IsClockOf, IsHeld, OnWire, Stands, World, wire_place}
+
+-- ---- the record of what becomes of it
+
+-- the octets of what is on a wire
+given_same : (b : Bool) (r : Result Pcf PcfRefusal) (given octets : List ℕ) → (if b then control r else timed given) ≡ timed octets → given ≡ octets
+given_same true r given octets e = absurd cc
+given_same false r given octets e = cc
+
+octets_held : (network : Network) (signal : SignalSent) (octets : List ℕ) → signal_as network signal ≡ timed octets
+    → octets_in network (timed_in signal) ≡ octets
+octets_held network (signals.Control frame) octets is = absurd cc
+octets_held network (signals.Timed own) octets is = cc
+octets_held network (signals.Octets given) octets is = given_same (field 12 2 given == pcf_type) (decoded given) given octets is
+
+-- the frame and the octets of the record are those of its cause
+pub record IsTold (network other : Network) (hs : List Happening) (device : DeviceId) (link : LinkId) (cause : ℕ) (signal : SignalSent)
+    (is : Arrival) : Type 0 where
+  pub frame : frame_kept is ≡ frame_by other hs (arrival_body device link cause is)
+  pub octets : octets_in network (octets_kept is signal) ≡ octets_by other hs (arrival_body device link cause is)
+
+module _ (network other : Network) (hs : List Happening) (device : DeviceId) (link : LinkId) (cause : ℕ) (signal : SignalSent) where
+  told_control : (frame : Pcf) (clock : ℕ) (is : Arrival) → frame_from hs cause ≡ Some frame
+      → frame_kept is ≡ Some (with_clock clock frame)
+      → frame_by other hs (arrival_body device link cause is) ≡ option_map (with_clock clock) (frame_from hs cause)
+      → frame_kept is ≡ frame_by other hs (arrival_body device link cause is)
+  told_control frame clock is of one two = one ∙ ap (option_map (with_clock clock)) (sym of) ∙ sym two
+
+  told : (node : Node) (moment : Moment) (sent : Signal) → signal_as network signal ≡ sent
+      → ((frame : Pcf) → sent ≡ control (Ok frame) → frame_from hs cause ≡ Some frame)
+      → ((octets : List ℕ) → sent ≡ timed octets → octets_from hs cause ≡ octets)
+      → IsTold network other hs device link cause signal (arrival_at other device node moment link sent)
+  told node moment (control (Err refusal)) as_sent frames octets = record { frame = refl; octets = refl }
+  told node moment (control (Ok frame)) as_sent frames octets =
+      let of = frames frame refl in
+      let clock = clock_on_arrival other link frame in
+      control_so (IsTold network other hs device link cause signal) other device link (standpoint_at node moment) frame
+      (record {
+        dropped = λ reason. record { frame = refl; octets = refl };
+        waits = λ point. record { frame = told_control frame clock (arrivals.Waits (on_arrival other link frame) point) of refl refl; octets = refl };
+        passes = λ way. record { frame = told_control frame clock (arrivals.Passes (on_arrival other link frame) way) of refl refl; octets = refl };
+        both = λ way point. record {
+          frame = told_control frame clock (arrivals.PassesAndWaits (on_arrival other link frame) way point) of refl refl;
+          octets = refl;
+        };
+      })
+  told node moment (timed given) as_sent frames octets =
+      let of = octets_held network signal given as_sent ∙ sym (octets given refl) in
+      timed_so (IsTold network other hs device link cause signal) other device link (standpoint_at node moment) given (last_taken_by node)
+      (record {
+        dropped = λ reason. record { frame = refl; octets = refl };
+        accepted = λ vl cycle. record { frame = refl; octets = of };
+        delivered = λ vl cycle. record { frame = refl; octets = of };
+      })
+
+told_settled : (network other : Network) (now : ℕ) (hs : List Happening) (place : Place) (signal : SignalSent) (is : Arrival)
+    → IsTold network other hs (record { 0 = place.device }) (record { 0 = place.link }) place.cause signal is
+    → settled_at network now (arrived place is signal)
+    ≡ settled_as other hs now (arrival_body (record { 0 = place.device }) (record { 0 = place.link }) place.cause is)
+told_settled network other now hs place signal is so =
+    let body = arrival_body (record { 0 = place.device }) (record { 0 = place.link }) place.cause is in
+    ap (λ (o : Option Pcf). let h : Happening = record
+    { note = record { number = 0; time = units_of now; body = body }; frame = o; octets = octets_in network (octets_kept is signal) } in h) so.frame
+    ∙ ap (λ (l : List ℕ). let h : Happening = record
+    { note = record { number = 0; time = units_of now; body = body }; frame = frame_by other hs body; octets = l } in h) so.octets
+
+-- the record has its octets, where it needs them
+sent_octets : (place : Place) (given : _) (is : Arrival) → have_octets (arrived place is (signals.Octets given))
+sent_octets place given (arrivals.Dropped reason) = tt
+sent_octets place given (arrivals.Waits frame point) = tt
+sent_octets place given (arrivals.Passes frame way) = tt
+sent_octets place given (arrivals.PassesAndWaits frame way point) = tt
+sent_octets place given (arrivals.Accepted vl cycle) = tt
+sent_octets place given (arrivals.Delivered vl cycle) = tt
+
+arrival_octets : (network other : Network) (device : DeviceId) (node : Node) (moment : Moment) (place : Place) (link : LinkId) (signal : SignalSent)
+    → have_octets (arrived place (arrival_at other device node moment link (signal_as network signal)) signal)
+arrival_octets network other device node moment place link (signals.Control frame) =
+    control_so (λ (is : Arrival). have_octets (arrived place is (signals.Control frame))) other device link (standpoint_at node moment) frame
+    (record { dropped = λ reason. tt; waits = λ point. tt; passes = λ way. tt; both = λ way point. tt })
+arrival_octets network other device node moment place link (signals.Timed own) =
+    timed_so (λ (is : Arrival). have_octets (arrived place is (signals.Timed own))) other device link (standpoint_at node moment) (octets_of network own)
+    (last_taken_by node) (record { dropped = λ reason. tt; accepted = λ vl cycle. tt; delivered = λ vl cycle. tt })
+arrival_octets network other device node moment place link (signals.Octets given) =
+    sent_octets place given (arrival_at other device node moment link (signal_as network (signals.Octets given)))
+
+-- ---- the list of machines
+
+pub set_aside : {X : Type 0} (xs : List X) (i j : ℕ) (x : X) → (j ≡ i → ⊥) → slice_get (set xs i x) j ≡ slice_get xs j
+set_aside [] i j x apart = refl
+set_aside (y ∷ xs) zero zero x apart = absurd (apart refl)
+set_aside (y ∷ xs) zero (suc j) x apart = refl
+set_aside (y ∷ xs) (suc i) zero x apart = refl
+set_aside (y ∷ xs) (suc i) (suc j) x apart = set_aside xs i j x (λ e. apart (ap (λ (n : ℕ). suc n) e))
+
+-- ---- the moment
+
+pub moment_is : {C : Type 0} (reading : C → ℕ → ℕ) (s : Scenario) (now : ℕ) (device : DeviceId) (own clock : C) (time read : Units) → own ≡ clock
+    → IsClockOf reading s now device own → time ≡ units_of now → read.0 ≡ pos (reading clock (amount time))
+    → record { time = time; reading = read } ≡ moment_of s device now
+moment_is reading s now device own clock time read same of at reads =
+    let is : read ≡ units_of (s.reading device now) = same_units _ _ (reads ∙ ap (λ (t : Units). pos (reading clock (amount t))) at
+    ∙ ap (λ k. pos (reading k now)) (sym same) ∙ ap pos (sym (of now (omega arith)))) in
+    ap (λ (t : Units). let m : Moment = record { time = t; reading = read } in m) at
+    ∙ ap (λ (r : Units). let m : Moment = record { time = units_of now; reading = r } in m) is
+
+-- ---- it may come
+
+module _ {C M : Type 0} (reading : C → ℕ → ℕ) (stands : Kept M → Network → DeviceId → Node → Type 0) (s : Scenario) (network : Network) (state : State C M)
+    (notes : List Note) (old : Stands reading stands s (world_of network state) notes) (place : Place) (signal : SignalSent) (rest : List (Entry Content))
+    (took : IsPermutation state.under_way.entries (record { place = place; content = Wire signal } ∷ rest)) (kind : place.rank ≡ 2)
+    (at : place.at ≡ state.time) where
+  abbrev pub hs : List Happening
+  hs = happenings s.network notes
+
+  abbrev pub e : OnWire
+  e = record {
+    at = place.at;
+    device = record { 0 = place.device };
+    link = record { 0 = place.link };
+    cause = place.cause;
+    signal = signal_as network signal;
+  }
+
+  abbrev taken : Entry Content
+  taken = record { place = place; content = Wire signal }
+
+  there : IsIn e (filter_map (on_wire network) state.under_way.entries)
+  there = is_given (on_wire network) state.under_way.entries taken e (in_permuted _ _ taken (IsPermutation-sym _ _ took) (inl refl)) refl
+
+  may_come_so : (octets : List ℕ) → AreOctetsOf (signal_as network signal) octets → MayArrive s.network e.device e.link octets
+  may_come_so octets are =
+      may_arrive s hs e octets old.rules (record { ends = old.befallen.sent }) old.run.founded (old.wires.real e there).0 are.is are.least are.most
+
+  -- octets of the schedule are no control frame
+  pub as_sent : IsAsSent network signal
+  as_sent = by signal (λ octets is. plain_on_wire s hs old.run.founded old.range e (old.wires.real e there).0 octets is)
+    where
+      by : (x : SignalSent) → ((octets : List ℕ) → signal_as network x ≡ timed octets → signal_of octets ≡ timed octets) → IsAsSent network x
+      by (signals.Control frame) plain = tt
+      by (signals.Timed octets) plain = plain (octets_of network octets) refl
+      by (signals.Octets given) plain = tt
+
+  not_gone : IsBefore (state.time ∷ 2 ∷ place.device ∷ place.link ∷ place.cause ∷ []) old.cursor → ⊥
+  not_gone before = (old.wires.real e there).2
+      (subst (λ (t : ℕ). IsBefore (t ∷ 2 ∷ place.device ∷ place.link ∷ place.cause ∷ []) old.cursor) (sym at) before)
+
+  module _ (machine : Kept M) (moment : Moment) (found : slice_get state.machines.items place.device ≡ Some machine)
+      (now : moment ≡ moment_of s e.device state.time) where
+    held : IsHeld stands s hs old.coming old.cursor state.time e.device machine
+    held =
+        let own = old.devices e.device (device_there s hs e old.range (old.wires.real e there).0) in
+        subst (λ (x : Kept M). IsHeld stands s hs old.coming old.cursor state.time e.device x) (some_same own.0 machine _ own.1 found) own.2
+
+    called : (node : Node) (m : Moment) → Type 0
+    called node m = MayCall s.network e.device node m arriving
+
+    -- the machine stands for a node that may be called
+    node_of : (node : Node) × stands machine s.network e.device node × MayCall s.network e.device node moment arriving
+    node_of =
+        elim held [
+          | inl k ↦ (
+            k.node,
+            k.is,
+            subst (λ (m : Moment). MayCall s.network e.device k.node m arriving) (sym now)
+                (may_call s old.cursor state.time e.device k.node arriving (place.device ∷ place.link ∷ place.cause ∷ []) k.ready k.phase
+                (old.steady e.device) old.limit not_gone),
+          )
+          | inr k ↦ (
+            k.node,
+            k.is,
+            subst (λ (m : Moment). MayCall s.network e.device k.node m arriving) (sym now)
+                (may_call s old.cursor state.time e.device k.node arriving (place.device ∷ place.link ∷ place.cause ∷ []) k.ready k.phase
+                (old.steady e.device) old.limit not_gone),
+          )
+        ]
+
+    -- so it may hear it
+    pub may_come : StandsFor stands machine (MayCome (signal_as network signal) moment e.link)
+    may_come = (
+      s.network,
+      e.device,
+      node_of.0,
+      node_of.1,
+      record { call = node_of.2; arrives = λ octets are linked. may_come_so octets are },
+    )
+
+    -- and once it has, its record has its octets
+    pub heard_octets : (heard : Kept M) (octets : List ℕ) (result : Arrival) → AreOctetsOf (signal_as network signal) octets
+        → ((other : Network) (device : DeviceId) → HasHeard stands other device moment e.link octets result machine heard)
+        → have_octets (arrived place result signal)
+    heard_octets heard octets result are hears =
+        let answer : result ≡ arrival_at s.network e.device node_of.0 moment e.link (signal_as network signal) =
+        (hears s.network e.device node_of.0 node_of.1 node_of.2 (may_come_so octets are)).0
+        ∙ ap (arrival_at s.network e.device node_of.0 moment e.link) are.is in
+        subst (λ (is : Arrival). have_octets (arrived place is signal)) (sym answer)
+        (arrival_octets network s.network e.device node_of.0 moment place e.link signal)
+
+    -- and the world stands again
+    pub heard_stands : (heard : Kept M) (octets : List ℕ) (result : Arrival) (machines : List (Kept M)) (settled : List Settled) (put_at : ℕ)
+        → AreUnderWay network state.under_way.entries
+        → ComesFirst reading stands s (world_of network state) notes old (numbers_of place)
+        → AreOctetsOf (signal_as network signal) octets
+        → ((other : Network) (device : DeviceId) → HasHeard stands other device moment e.link octets result machine heard)
+        → IsSet place.device heard state.machines.items machines
+        → IsPutAt (arrived place result signal) state.settled.items settled put_at
+        → StandsBehind reading stands s
+        (record (world_of network state) {
+          early = false;
+          machines = machines;
+          wires = filter_map (on_wire network) rest;
+          ports = filter_map at_port rest;
+          settled = map (settled_at network state.time) settled;
+        }) notes (behind (numbers_of place))
+    heard_stands heard octets result machines settled put_at under first are hears set put =
+        let world = world_of network state in
+        let it = (old.wires.real e there).0 in
+        let may = may_come_so octets are in
+        let numbers : numbers_of place ≡ wire_place e = ap (λ (r : ℕ). place.at ∷ r ∷ place.device ∷ place.link ∷ place.cause ∷ []) kind in
+        let answer : result ≡ arrival_at s.network e.device node_of.0 moment e.link (signal_as network signal) =
+        (hears s.network e.device node_of.0 node_of.1 node_of.2 may).0
+        ∙ ap (arrival_at s.network e.device node_of.0 moment e.link) are.is in
+        let so : IsTold network s.network hs e.device e.link e.cause signal result =
+        subst (IsTold network s.network hs e.device e.link e.cause signal) (sym answer)
+        (told network s.network hs e.device e.link e.cause signal node_of.0 moment (signal_as network signal) refl
+        (λ frame is. frame_told s hs old.run.founded e it frame is) (λ given is. octets_told s hs old.run.founded e it given is)) in
+        let step = heard_step reading stands s world notes e machine heard octets result machines (filter_map (on_wire network) rest)
+        (map (settled_at network state.time) settled) old there at (subst (ComesFirst reading stands s world notes old) numbers first) found are.is may
+        (subst (λ (m : Moment). HasHeard stands s.network e.device m e.link octets result machine heard) now (hears s.network e.device)) set
+        (wires_without network state.under_way.entries rest taken under took e refl)
+        (one_put_in s.network network state.time hs (arrival_body e.device e.link e.cause result) (arrived place result signal) state.settled.items settled
+        put_at put (settled_in_order reading stands s world notes old)
+        (told_settled network s.network state.time hs place signal result so)) in
+        let after : World C (Kept M) = record world {
+          early = false;
+          machines = machines;
+          wires = filter_map (on_wire network) rest;
+          settled = map (settled_at network state.time) settled;
+        } in
+        with_ports reading stands s after notes (filter_map at_port rest) (behind (numbers_of place))
+        (ports_stay network state.under_way.entries rest taken under took refl)
+        (subst (λ (p : List ℕ). StandsBehind reading stands s after notes (behind p)) (sym numbers) step)

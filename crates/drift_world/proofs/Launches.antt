@@ -1,0 +1,260 @@
+-- What a record launches, as its law asks for it.
+use Rattle.std.proofs.Common.{◌≡◌, ℕ, ◌+◌, ◌<◌, Bool, true, false, List, ◌∷◌, [], map, length, Option, Some, None, inl, inr, refl, sym, ap, subst, ◌∙◌, arith}
+use Rattle.std.specs.Prelude.{if◌then◌else◌, IsSomeAnd, IfSome, IfNone}
+use Rattle.std.specs.List.{All, filter_map, slice_get}
+use Rattle.std.specs.Option.{option_map, option_map_or}
+use Rattle.std.proofs.lemmas.Option.{get_or_from_slice_get, slice_get-map, slice_get_within}
+use Rattle.due_queue.proofs.Bags.{given_of, is_given}
+use Rattle.due_queue.specs.declared.Entry.{Entry}
+use Rattle.net_plan.specs.declared.ids.DeviceId.{DeviceId}
+use Rattle.net_plan.specs.declared.ids.LinkId.{LinkId}
+use Rattle.net_plan.specs.declared.network.Network.{Network}
+use Rattle.net_plan.specs.declared.tables.Link.{Link}
+use Rattle.net_plan.specs.declared.tables.Way.TheVariants.{Up, Down}
+use Rattle.run_law.specs.control.Leaving.{Gives}
+use Rattle.run_law.specs.declared.note.NoteBody.TheVariants.{Event, Arrived, Permanent, Compressed, Sent, Corrected, State as Changed, Left, Lost, TtSent, Accepted, Delivered, Dropped, Clock}
+use Rattle.run_law.specs.declared.note.NoteBody.{NoteBody}
+use Rattle.run_law.specs.records.Happenings.{Happening, time_of}
+use Rattle.run_law.specs.scenario.Devices.{is_parent_of}
+use Rattle.run_law.specs.scenario.Scenarios.{Scenario, is_broken}
+use Rattle.run_law.specs.scenario.Ways.{delay_at, hold_at, way_from}
+use Rattle.drift_world.proofs.UnderWays.{some_is}
+use Rattle.drift_world.specs.Giving.{ArePutTo, ArrivedAt, HasItsFrame, IsGivenOut, IsGiver, delay_by, entry_at_port, giver_of, hold_by}
+use Rattle.drift_world.specs.Showing.{IsOf}
+use Rattle.drift_world.specs.Sound.{AreBelow, AreUnderWay}
+use Rattle.drift_world.specs.Views.{at_port, waiting_as, way_as}
+use Rattle.drift_world.specs.declared.contents.Waits.{Waits}
+use Rattle.drift_world.specs.declared.state.State.{State}
+use Rattle.drift_world.proofs.Awaits.{awaits, none_awaited}
+use Rattle.net_plan.specs.Ranges.{IsInRange, IsLinkInRange}
+use Rattle.pcf_values.specs.declared.pcf.Pcf.{Pcf}
+use Rattle.drift_world.specs.declared.contents.Content.{Content}
+use Rattle.drift_world.specs.declared.contents.WayState.{WayState}
+use Rattle.drift_world.specs.declared.giving.Giving.{Giving}
+use Rattle.world_law.specs.world.Steps.{AreAwaited, AreGiven}
+use Rattle.world_law.specs.world.World.{AreWays, AtPort, IsGivenBy, WayNow, port_place, way_now}
+
+some_of : {X Y : Type 0} (f : X → Y) (o : Option X) (y : Y) → option_map f o ≡ Some y → (x : X) × (o ≡ Some x) × (f x ≡ y)
+some_of f None y e = absurd cc
+some_of f (Some x) y e = (x, refl, some_is _ _ e)
+
+within_and : {X : Type 0} (P : X → Type 0) (xs : List X) (i : ℕ) (o : Option X) → slice_get xs i ≡ o → IsSomeAnd o P → i < length xs
+within_and P xs i None e and = absurd and
+within_and P xs i (Some x) e and = slice_get_within xs i x e
+
+-- ---- the device that gives a frame, and the link
+
+pub giver_gives : (network : Network) (body : NoteBody) (device giver : DeviceId) (link : LinkId) → Gives network body device link
+    → giver_of body ≡ Some giver → device ≡ giver
+giver_gives network (Sent master cycle) device giver link gives by = gives.0 ∙ some_is _ _ by
+giver_gives network (Compressed cm opened at cycle members verdict) device giver link gives by = gives.0 ∙ some_is _ _ by
+giver_gives network (Arrived relay from cause clock) device giver link gives by = gives.0 ∙ some_is _ _ by
+giver_gives network (Event line what) device giver link gives by = absurd gives
+giver_gives network (Permanent d l cause point verdict) device giver link gives by = absurd gives
+giver_gives network (Corrected d cycle of adjustment) device giver link gives by = absurd gives
+giver_gives network (Changed d state cause why) device giver link gives by = absurd gives
+giver_gives network (Left d l cause clock) device giver link gives by = absurd gives
+giver_gives network (Lost d l cause) device giver link gives by = absurd gives
+giver_gives network (TtSent d l cause vl cycle) device giver link gives by = absurd gives
+giver_gives network (Accepted d l cause vl cycle) device giver link gives by = absurd gives
+giver_gives network (Delivered d l cause vl cycle) device giver link gives by = absurd gives
+giver_gives network (Dropped d l cause reason) device giver link gives by = absurd gives
+giver_gives network (Clock d reading adjustment state) device giver link gives by = absurd gives
+
+pub gives_within : (network : Network) (body : NoteBody) (device : DeviceId) (link : LinkId) → Gives network body device link
+    → link.0 < length network.link
+gives_within network (Sent master cycle) device link gives = within_and (λ (l : Link). l.child ≡ device) network.link link.0 _ refl gives.1
+gives_within network (Compressed cm opened at cycle members verdict) device link gives =
+    within_and (λ (l : Link). l.parent ≡ device) network.link link.0 _ refl gives.1
+gives_within network (Arrived relay from cause clock) device link gives =
+    elim gives.1.on [
+      | inl up ↦ within_and (λ (l : Link). l.child ≡ device) network.link link.0 _ refl up.1
+      | inr down ↦ within_and (λ (l : Link). l.parent ≡ device) network.link link.0 _ refl down.1
+    ]
+gives_within network (Event line what) device link gives = absurd gives
+gives_within network (Permanent d l cause point verdict) device link gives = absurd gives
+gives_within network (Corrected d cycle of adjustment) device link gives = absurd gives
+gives_within network (Changed d state cause why) device link gives = absurd gives
+gives_within network (Left d l cause clock) device link gives = absurd gives
+gives_within network (Lost d l cause) device link gives = absurd gives
+gives_within network (TtSent d l cause vl cycle) device link gives = absurd gives
+gives_within network (Accepted d l cause vl cycle) device link gives = absurd gives
+gives_within network (Delivered d l cause vl cycle) device link gives = absurd gives
+gives_within network (Dropped d l cause reason) device link gives = absurd gives
+gives_within network (Clock d reading adjustment state) device link gives = absurd gives
+
+pub gives_by : (network : Network) (body : NoteBody) (device : DeviceId) (link : LinkId) → Gives network body device link
+    → giver_of body ≡ Some device
+gives_by network (Sent master cycle) device link gives = ap (λ (d : DeviceId). Some d) (sym gives.0)
+gives_by network (Compressed cm opened at cycle members verdict) device link gives = ap (λ (d : DeviceId). Some d) (sym gives.0)
+gives_by network (Arrived relay from cause clock) device link gives = ap (λ (d : DeviceId). Some d) (sym gives.0)
+gives_by network (Event line what) device link gives = absurd gives
+gives_by network (Permanent d l cause point verdict) device link gives = absurd gives
+gives_by network (Corrected d cycle of adjustment) device link gives = absurd gives
+gives_by network (Changed d state cause why) device link gives = absurd gives
+gives_by network (Left d l cause clock) device link gives = absurd gives
+gives_by network (Lost d l cause) device link gives = absurd gives
+gives_by network (TtSent d l cause vl cycle) device link gives = absurd gives
+gives_by network (Accepted d l cause vl cycle) device link gives = absurd gives
+gives_by network (Delivered d l cause vl cycle) device link gives = absurd gives
+gives_by network (Dropped d l cause reason) device link gives = absurd gives
+gives_by network (Clock d reading adjustment state) device link gives = absurd gives
+
+in_all : {X : Type 0} (P : X → Type 0) (xs : List X) (i : ℕ) (x : X) → All P xs → slice_get xs i ≡ Some x → P x
+in_all P xs i x all e = subst P (get_or_from_slice_get xs i x x e) (all i x (slice_get_within xs i x e))
+
+child_in : (network : Network) (device : DeviceId) (i : ℕ) (o : Option Link) → slice_get network.link i ≡ o → IsInRange network
+    → IsSomeAnd o (λ l. l.child ≡ device) → device.0 < length network.device
+child_in network device i None e range and = absurd and
+child_in network device i (Some l) e range and =
+    subst (λ (d : DeviceId). d.0 < length network.device) and (in_all (IsLinkInRange network) network.link i l range.links e).child
+
+parent_in : (network : Network) (device : DeviceId) (i : ℕ) (o : Option Link) → slice_get network.link i ≡ o → IsInRange network
+    → IsSomeAnd o (λ l. l.parent ≡ device) → device.0 < length network.device
+parent_in network device i None e range and = absurd and
+parent_in network device i (Some l) e range and =
+    subst (λ (d : DeviceId). d.0 < length network.device) and (in_all (IsLinkInRange network) network.link i l range.links e).parent
+
+pub gives_in : (network : Network) (body : NoteBody) (device : DeviceId) (link : LinkId) → IsInRange network → Gives network body device link
+    → device.0 < length network.device
+gives_in network (Sent master cycle) device link range gives = child_in network device link.0 _ refl range gives.1
+gives_in network (Compressed cm opened at cycle members verdict) device link range gives = parent_in network device link.0 _ refl range gives.1
+gives_in network (Arrived relay from cause clock) device link range gives =
+    elim gives.1.on [
+      | inl up ↦ child_in network device link.0 _ refl range up.1
+      | inr down ↦ parent_in network device link.0 _ refl range down.1
+    ]
+gives_in network (Event line what) device link range gives = absurd gives
+gives_in network (Permanent d l cause point verdict) device link range gives = absurd gives
+gives_in network (Corrected d cycle of adjustment) device link range gives = absurd gives
+gives_in network (Changed d state cause why) device link range gives = absurd gives
+gives_in network (Left d l cause clock) device link range gives = absurd gives
+gives_in network (Lost d l cause) device link range gives = absurd gives
+gives_in network (TtSent d l cause vl cycle) device link range gives = absurd gives
+gives_in network (Accepted d l cause vl cycle) device link range gives = absurd gives
+gives_in network (Delivered d l cause vl cycle) device link range gives = absurd gives
+gives_in network (Dropped d l cause reason) device link range gives = absurd gives
+gives_in network (Clock d reading adjustment state) device link range gives = absurd gives
+
+-- ---- the ways
+
+module _ (s : Scenario) (now : ℕ) (ups downs : List WayState) (ways : AreWays s now (map way_as ups) (map way_as downs)) where
+  way_there : (down : Bool) (link : LinkId) → link.0 < length s.network.link
+      → (w : WayState) × (slice_get (if down then downs else ups) link.0 ≡ Some w) × (way_as w ≡ way_now s now link (if down then Down else Up))
+  way_there true link lt = some_of way_as (slice_get downs link.0) _ (sym (slice_get-map way_as downs link.0) ∙ ways.down link lt)
+  way_there false link lt = some_of way_as (slice_get ups link.0) _ (sym (slice_get-map way_as ups link.0) ∙ ways.up link lt)
+
+  pub hold_is : (device : DeviceId) (link : LinkId) → link.0 < length s.network.link
+      → hold_by s.network ups downs device link ≡ hold_at s link (way_from s.network device link) now
+  hold_is device link lt =
+      let w = way_there (is_parent_of s.network device link) link lt in
+      ap (λ (o : Option WayState). option_map_or (λ (v : WayState). v.hold) o 0) w.1 ∙ ap (λ (k : WayNow). k.hold) w.2
+
+  pub delay_is : (device : DeviceId) (link : LinkId) → link.0 < length s.network.link
+      → delay_by s.network ups downs device link ≡ delay_at s link (way_from s.network device link) now
+  delay_is device link lt =
+      let w = way_there (is_parent_of s.network device link) link lt in
+      ap (λ (o : Option WayState). option_map_or (λ (v : WayState). v.delay) o 0) w.1 ∙ ap (λ (k : WayNow). k.delay) w.2
+
+  -- ---- what is given to ports
+
+  module _ (x : Happening) (number : ℕ) (giving : Giving) (at : time_of x ≡ now) (by : giver_of x.note.body ≡ Some giving.device)
+      (time : giving.time ≡ now) (numbered : giving.number ≡ number) (frame : x.frame ≡ Some giving.frame)
+      (read : giving.reading ≡ s.reading giving.device now) where
+    abbrev port_of : LinkId → AtPort
+    port_of link = record {
+      at = giving.time + hold_by s.network ups downs giving.device link;
+      device = giving.device;
+      link = link;
+      cause = giving.number;
+      frame = giving.frame;
+      reading = giving.reading;
+    }
+
+    held_so : (link : LinkId) → link.0 < length s.network.link
+        → giving.time + hold_by s.network ups downs giving.device link
+        ≡ time_of x + hold_at s link (way_from s.network giving.device link) (time_of x)
+    held_so link lt =
+        ap (λ (t : ℕ). t + hold_by s.network ups downs giving.device link) (time ∙ sym at)
+        ∙ ap (λ (h : ℕ). time_of x + h)
+        (hold_is giving.device link lt ∙ ap (λ (t : ℕ). hold_at s link (way_from s.network giving.device link) t) (sym at))
+
+    given_so : (link : LinkId) → link.0 < length s.network.link → Gives s.network x.note.body giving.device link → IsGivenBy s x (port_of link)
+    given_so link lt gives =
+        record {
+          gives = gives;
+          held = held_so link lt;
+          of_frame = frame;
+          read = read ∙ ap (s.reading giving.device) (sym at);
+        }
+
+    pub given_to : (old new : List (Entry Content)) → ArePutTo (length s.network.link) s.network ups downs x.note.body giving old new
+        → AreGiven s x number (filter_map at_port old) (filter_map at_port new)
+    given_to old new put =
+        record {
+          real = λ e there.
+              let of = given_of at_port new e there in
+              elim (put.real of.0 of.1) [
+                | inl before ↦ inl (is_given at_port old of.0 e before of.2)
+                | inr to ↦
+                    let is : e ≡ port_of to.0 = some_is _ _ (sym of.2 ∙ ap at_port to.3) in
+                    inr (subst (λ (p : AtPort). (p.cause ≡ number) × IsGivenBy s x p) (sym is) (numbered, given_so to.0 to.1 to.2))
+              ];
+          kept = λ e there. let of = given_of at_port old e there in is_given at_port new of.0 e (put.kept of.0 of.1) of.2;
+          all = λ device link gives.
+              let lt = gives_within s.network x.note.body device link gives in
+              let own = giver_gives s.network x.note.body device giving.device link gives by in
+              let to = subst (λ (d : DeviceId). Gives s.network x.note.body d link) own gives in (
+                port_of link,
+                is_given at_port new (entry_at_port s.network ups downs giving link) (port_of link) (put.all link lt to) refl,
+                subst (λ (d : DeviceId). port_place (port_of link)
+                    ≡ (time_of x + hold_at s link (way_from s.network d link) (time_of x)) ∷ 8 ∷ d.0 ∷ link.0 ∷ number ∷ []) (sym own)
+                    (ap (λ (t : ℕ). t ∷ 8 ∷ giving.device.0 ∷ link.0 ∷ giving.number ∷ []) (held_so link lt)
+                    ∙ ap (λ (k : ℕ). (time_of x + hold_at s link (way_from s.network giving.device link) (time_of x)) ∷ 8 ∷ giving.device.0 ∷ link.0 ∷ k ∷ [])
+                    numbered),
+              );
+        }
+
+-- ---- what is under way is sound then
+
+pub sound_after : {C M : Type 0} (reading : C → ℕ → ℕ) (network : Network) (state : State C M) (body : NoteBody) (frame : Option Pcf) (number : ℕ)
+    (old new : List (Entry Content)) (giving : Option Giving) → IfSome giving (IsGiver reading network state body frame number)
+    → IfSome giving (λ g. AreBelow g.number old → AreUnderWay network old → AreUnderWay network new) → IfNone giving (new ≡ old)
+    → AreBelow number old → AreUnderWay network old → AreUnderWay network new
+sound_after reading network state body frame number old new None giver sound none below was = subst (AreUnderWay network) (sym none) was
+sound_after reading network state body frame number old new (Some g) giver sound none below was =
+    sound (subst (λ (k : ℕ). AreBelow k old) (sym giver.numbered) below) was
+
+-- ---- what is given out, as the law asks for it
+
+-- what the device gives to links is in its port, or waits
+pub given_out : {C M : Type 0} (reading : C → ℕ → ℕ) (s : Scenario) (old new : State C M) (x : Happening) (number : ℕ) (giving : Option Giving)
+    → IsOf reading s s.network old → IsInRange s.network → time_of x ≡ old.time → HasItsFrame x.note.body x.frame
+    → ArrivedAt (length s.network.device) x.note.body
+    → IsGivenOut reading s.network old new x.note.body x.frame number giving
+    → AreGiven s x number (filter_map at_port old.under_way.entries) (filter_map at_port new.under_way.entries)
+    × AreAwaited s x number (map waiting_as old.waiting.items) (map waiting_as new.waiting.items)
+given_out reading s old new x number (Some g) of range at framed arrived out =
+    let by = out.giver in
+    let frame = by.of_frame in
+    let clock = of.clocks g.device by.there in
+    let read : g.reading ≡ s.reading g.device old.time =
+    by.reads ∙ ap (λ k. reading k old.time) (some_is _ _ (sym by.own ∙ clock.1)) ∙ sym (clock.2 old.time (omega arith)) in
+    let broken : g.broken ≡ is_broken s g.device old.time = some_is _ _ (sym by.broken ∙ of.broken g.device by.there) in (
+      given_to s old.time old.ups.items old.downs.items of.ways x number g at by.by by.time by.numbered frame read old.under_way.entries
+          new.under_way.entries out.put,
+      subst (λ (l : List Waits). AreAwaited s x number (map waiting_as old.waiting.items) (map waiting_as l)) (sym out.waits)
+          (awaits s old.time x number g at by.by by.numbered frame read broken old.waiting.items),
+    )
+given_out reading s old new x number None of range at framed arrived out =
+    let none : (device : DeviceId) (link : LinkId) → Gives s.network x.note.body device link → ⊥ = λ device link gives.
+    let by = gives_by s.network x.note.body device link gives in
+    framed device by (out.no_giver device by (gives_in s.network x.note.body device link range gives)) in (
+      subst (λ (l : List (Entry Content)). AreGiven s x number (filter_map at_port old.under_way.entries) (filter_map at_port l)) (sym out.none)
+          (record { real = λ e there. inl there; kept = λ e there. there; all = λ device link gives. absurd (none device link gives) }),
+      subst (λ (l : List Waits). AreAwaited s x number (map waiting_as old.waiting.items) (map waiting_as l)) (sym out.no_wait)
+          (none_awaited s x number (map waiting_as old.waiting.items) (λ e for sound.
+          let by : giver_of x.note.body ≡ Some e.device = ap giver_of for.arrived in
+          framed e.device by (out.no_giver e.device by
+          (subst (ArrivedAt (length s.network.device)) for.arrived arrived)))),
+    )

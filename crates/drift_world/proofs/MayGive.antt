@@ -1,0 +1,136 @@
+-- The first of what is settled may be given, where the state stands.
+use Rattle.std.proofs.Common.{◌≡◌, ℕ, ◌+◌, ◌<◌, ◌≤◌, List, [], ◌∷◌, length, slice_get, Option, Some, None, inl, inr, refl, sym, ap, subst, ◌∙◌, append-nil, arith}
+use Rattle.std.specs.Prelude.{◌^◌, option_map, option_and_then}
+use Rattle.std.proofs.lemmas.Option.{slice_get_within}
+use Rattle.net_plan.specs.Places.{link_at}
+use Rattle.net_plan.specs.Ranges.{IsInRange}
+use Rattle.net_plan.specs.declared.ids.DeviceId.{DeviceId}
+use Rattle.net_plan.specs.declared.ids.LinkId.{LinkId}
+use Rattle.net_plan.specs.declared.network.Network.{Network}
+use Rattle.pcf_values.specs.declared.pcf.Pcf.{Pcf}
+use Rattle.run_law.proofs.law.FirstPlaces.{founded_at, numbered_in}
+use Rattle.run_law.specs.control.Wires.{Arrives}
+use Rattle.run_law.specs.declared.note.Note.{Note}
+use Rattle.run_law.specs.declared.note.NoteBody.TheVariants.{Event, Arrived, Permanent, Compressed, Sent, Corrected, State as Changed, Left, Lost, TtSent, Accepted, Delivered, Dropped, Clock}
+use Rattle.run_law.specs.declared.note.NoteBody.{NoteBody}
+use Rattle.run_law.specs.machines.Nodes.{Node}
+use Rattle.run_law.specs.records.Happenings.{Happening, frame_by, happenings, time_of, with_clock}
+use Rattle.run_law.specs.records.Ranks.{place_of}
+use Rattle.run_law.specs.runs.DueRecords.{IsArrivedRecord, IsCaused, IsDue}
+use Rattle.run_law.specs.runs.Runs.{IsFounded}
+use Rattle.run_law.specs.scenario.Scenarios.{Scenario}
+use Rattle.tte_units.specs.Amount.{amount}
+use Rattle.tte_units.specs.declared.units.Units.{Units}
+use Rattle.drift_world.proofs.FirstSettled.{first_of}
+use Rattle.drift_world.proofs.HiddenCauses.{change_or_other}
+use Rattle.drift_world.proofs.Sendings.{link_within}
+use Rattle.drift_world.proofs.UnderWays.{some_is}
+use Rattle.drift_world.specs.Giving.{ArrivedAt, CameBy, HasItsFrame, HasItsOctets, IsYoung, MayBeGiven}
+use Rattle.drift_world.specs.Views.{settled_at}
+use Rattle.drift_world.specs.declared.contents.Settled.{Settled}
+use Rattle.world_law.proofs.growing.FromZero.{arrived_clock}
+use Rattle.world_law.proofs.hearing.Receptions.{receiver_in}
+use Rattle.world_law.proofs.ripening.Proper.{arrived_so, launched_frame}
+use Rattle.world_law.specs.world.World.{Stands, World, hidden_body}
+
+-- it may be given but for its octets
+record MayBut (network : Network) (body : NoteBody) (frame : Option Pcf) : Type 0 where
+  by : CameBy (length network.link) body
+  young : IsYoung (amount network.dmax) body
+  arrived : ArrivedAt (length network.device) body
+  framed : HasItsFrame body frame
+
+-- ---- what arrived
+
+arrives_in : (s : Scenario) (h : Happening) (device : DeviceId) (link : LinkId) (t : ℕ) (signal : _) → IsInRange s.network → Arrives s h device link t signal
+    → (link.0 < length s.network.link) × (device.0 < length s.network.device)
+arrives_in s h device link t signal range a = (
+  link_within s.network.link link.0 a.way (link_at s.network link) device refl a.receiver,
+  receiver_in s.network a.way link (link_at s.network link) device refl range a.receiver,
+)
+
+arrived_may : (s : Scenario) (hs : List Happening) (time : Units) (device : DeviceId) (link : LinkId) (cause clock : ℕ) (frame : Option Pcf)
+    → IsInRange s.network → IsFounded place_of (IsDue s) hs → IsArrivedRecord s hs device (amount time) link cause clock
+    → frame ≡ frame_by s.network hs (Arrived device link cause clock) → MayBut s.network (Arrived device link cause clock) frame
+arrived_may s hs time device link cause clock frame range founded a own =
+    let so = arrived_so s hs device (amount time) link cause clock a in
+    let there = arrives_in s so.putting device link (amount time) _ range so.arrives in
+    let put = founded_at s hs so.putting founded (numbered_in hs cause so.putting so.there) in
+    let put_frame : so.putting.frame ≡ Some so.came =
+    launched_frame s put.front so.putting (time_of so.putting) link so.arrives.way so.came so.putting.note.body (ap (λ (h : Happening). h.frame) put.due.same)
+    so.arrives.put in
+    let has : frame ≡ Some (with_clock clock so.came) = own
+    ∙ ap (λ (o : Option Happening). option_map (with_clock clock) (option_and_then (λ h. h.frame) o)) so.there
+    ∙ ap (option_map (with_clock clock)) put_frame in
+    record {
+      by = there.0;
+      young = arrived_clock s hs device (amount time) link cause clock a;
+      arrived = there.1;
+      framed = λ d is none. let bad : None ≡ Some (with_clock clock so.came) = sym none ∙ has in absurd cc;
+    }
+
+-- ---- by its cause
+
+caused_may : (s : Scenario) (hs : List Happening) (time : Units) (body : NoteBody) (frame : Option Pcf) → IsInRange s.network
+    → IsFounded place_of (IsDue s) hs → IsCaused s hs time body → frame ≡ frame_by s.network hs body → MayBut s.network body frame
+caused_may s hs time (Arrived d l c k) frame range founded caused own = arrived_may s hs time d l c k frame range founded caused own
+caused_may s hs time (Sent d k) frame range founded caused own =
+    record { by = tt; young = tt; arrived = tt; framed = λ e is none. let bad : None ≡ Some _ = sym none ∙ own in absurd cc }
+caused_may s hs time (Compressed d o a k m v) frame range founded caused own =
+    record { by = tt; young = tt; arrived = tt; framed = λ e is none. let bad : None ≡ Some _ = sym none ∙ own in absurd cc }
+caused_may s hs time (Event a b) frame range founded caused own = record { by = tt; young = tt; arrived = tt; framed = λ e is none. absurd cc }
+caused_may s hs time (Permanent a b c d e) frame range founded caused own = record { by = tt; young = tt; arrived = tt; framed = λ e is none. absurd cc }
+caused_may s hs time (Corrected a b c d) frame range founded caused own = record { by = tt; young = tt; arrived = tt; framed = λ e is none. absurd cc }
+caused_may s hs time (Changed a b c d) frame range founded caused own = record { by = tt; young = tt; arrived = tt; framed = λ e is none. absurd cc }
+caused_may s hs time (Left a b c d) frame range founded caused own = record { by = tt; young = tt; arrived = tt; framed = λ e is none. absurd cc }
+caused_may s hs time (Lost a b c) frame range founded caused own = record { by = tt; young = tt; arrived = tt; framed = λ e is none. absurd cc }
+caused_may s hs time (TtSent a b c d e) frame range founded caused own = record { by = tt; young = tt; arrived = tt; framed = λ e is none. absurd cc }
+caused_may s hs time (Accepted a b c d e) frame range founded caused own = record { by = tt; young = tt; arrived = tt; framed = λ e is none. absurd cc }
+caused_may s hs time (Delivered a b c d e) frame range founded caused own = record { by = tt; young = tt; arrived = tt; framed = λ e is none. absurd cc }
+caused_may s hs time (Dropped a b c d) frame range founded caused own = record { by = tt; young = tt; arrived = tt; framed = λ e is none. absurd cc }
+caused_may s hs time (Clock a b c d) frame range founded caused own = record { by = tt; young = tt; arrived = tt; framed = λ e is none. absurd cc }
+
+-- a record that hides its cause may be given as it may with it
+hidden_may : (network : Network) (given : ℕ) (body : NoteBody) (frame : Option Pcf) → MayBut network body frame → MayBut network (hidden_body given body) frame
+hidden_may network given body frame may =
+    elim (change_or_other given body) [
+      | inl a ↦
+          subst (λ (b : NoteBody). MayBut network (hidden_body given b) frame) (sym a.is)
+          (record { by = tt; young = tt; arrived = tt; framed = λ d is none. absurd cc })
+      | inr a ↦ subst (λ (b : NoteBody). MayBut network b frame) (sym a.same) may
+    ]
+
+-- ---- the first of what is settled
+
+first_may : {C M : Type 0} (reading : C → ℕ → ℕ) (stands : M → Network → DeviceId → Node → Type 0) (s : Scenario) (world : World C M) (notes : List Note)
+    (z : Happening) (rest : List Happening) → Stands reading stands s world notes → world.settled ≡ z ∷ rest → MayBut s.network z.note.body z.frame
+first_may reading stands s world notes z rest old is =
+    let hs = happenings s.network notes in
+    let of = first_of (length notes) old.coming z rest (sym is ∙ old.settled) in
+    let due : IsDue s hs of.first = subst (λ (l : List Happening). IsDue s l of.first) (append-nil hs) (old.are.founded [] of.others of.first of.whole).1 in
+    let may = caused_may s hs of.first.note.time of.first.note.body of.first.frame old.range old.run.founded due.cause (ap (λ (h : Happening). h.frame) due.same)
+    in
+    subst (λ (h : Happening). MayBut s.network h.note.body h.frame) (sym of.shows) (hidden_may s.network (length notes) of.first.note.body of.first.frame may)
+
+-- it may be given, with its octets
+pub may_be_given : {C M : Type 0} (reading : C → ℕ → ℕ) (stands : M → Network → DeviceId → Node → Type 0) (s : Scenario) (world : World C M)
+    (notes : List Note) (network : Network) (now : ℕ) (first : Settled) (rest : List Happening) → Stands reading stands s world notes → network ≡ s.network
+    → world.settled ≡ settled_at network now first ∷ rest → HasItsOctets first.body first.octets → MayBeGiven network first.body first.frame first.octets
+may_be_given reading stands s world notes network now first rest old same is has =
+    let may = subst (λ (n : Network). MayBut n first.body first.frame) (sym same)
+    (first_may reading stands s world notes (settled_at network now first) rest old is) in
+    record { by = may.by; young = may.young; arrived = may.arrived; with_octets = has; framed = may.framed }
+
+-- ---- what the clocks read
+
+-- no clock is much ahead of the time
+pub low_now : {C M : Type 0} (reading : C → ℕ → ℕ) (stands : M → Network → DeviceId → Node → Type 0) (s : Scenario) (world : World C M) (notes : List Note)
+    → Stands reading stands s world notes → (devices : ℕ) → devices ≡ length s.network.device → length world.clocks ≡ devices → (k : ℕ) (clock : C)
+    → slice_get world.clocks k ≡ Some clock → reading clock world.now ≤ 2 ^ 60 + 2 ^ 51
+low_now {C} reading stands s world notes old devices same all k clock at =
+    let within = slice_get_within world.clocks k clock at in
+    let device : DeviceId = record { 0 = k } in
+    let own = old.clocks device (omega (arith, within, all, same)) in
+    let is : clock ≡ own.0 = some_is _ _ (sym at ∙ own.1) in
+    let low = (old.steady device).low world.now old.limit in
+    subst (λ (n : ℕ). n ≤ 2 ^ 60 + 2 ^ 51) (own.2 world.now (omega arith) ∙ ap (λ (c : C). reading c world.now) (sym is)) low

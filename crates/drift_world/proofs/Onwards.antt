@@ -1,0 +1,211 @@
+-- A world goes on by an event.
+use Rattle.std.proofs.Common.{◌≡◌, ℕ, ◌≤◌, ◌<◌, ℤ, pos, ◌≤ℤ◌, List, [], ◌∷◌, ◌++◌, length, slice_get, Some, true, unsigned_abs, inl, inr, refl, sym, ap, subst, ◌∙◌, arith}
+use Rattle.std.specs.Prelude.{IfOk, OnOk, Result, Ok, Err}
+use Rattle.std.proofs.lemmas.Int.{ints}
+use Rattle.std.proofs.lemmas.List.Elements.{All-push}
+use Rattle.std.proofs.lemmas.Option.{slice_get_within}
+use Rattle.drift_clock.proofs.Readings.{IsLawful, begins_at_zero, keeps_clock_laws}
+use Rattle.net_plan.specs.Belonging.{IsOfNetwork}
+use Rattle.net_plan.specs.declared.event.Event.{Event}
+use Rattle.net_plan.specs.declared.event.What.TheVariants.{On}
+use Rattle.net_plan.specs.declared.ids.DeviceId.{DeviceId}
+use Rattle.net_plan.specs.declared.network.Network.{Network}
+use Rattle.run_law.proofs.runs.Places.{in_parts}
+use Rattle.run_law.specs.declared.note.Note.{Note}
+use Rattle.run_law.specs.machines.Nodes.{Node}
+use Rattle.run_law.specs.records.Order.{IsIn}
+use Rattle.run_law.specs.runs.DueRecords.{IsRunOf}
+use Rattle.run_law.specs.scenario.Hypothesis.{IsWithinHypothesis}
+use Rattle.sync_state.specs.declared.state.State.{State as DeviceState}
+use Rattle.tte_units.specs.Amount.{amount}
+use Rattle.drift_world.proofs.Agreements.{clock_more, reads_same, reads_value}
+use Rattle.drift_world.proofs.EventRuns.{run_behind_events}
+use Rattle.drift_world.proofs.Fitting.{some_is}
+use Rattle.drift_world.proofs.Forwards.{forward}
+use Rattle.drift_world.proofs.Histories.{all_within}
+use Rattle.drift_world.proofs.Steadiness.{steady}
+use Rattle.drift_world.proofs.Suits.{suits}
+use Rattle.drift_world.specs.Applying.{IsShown, clock_after}
+use Rattle.drift_world.specs.Following.{Follows}
+use Rattle.drift_world.specs.Keeping.{keeps}
+use Rattle.drift_world.specs.Running.{IsOpenTo, StandsUnder, behind_events, clock_of, reading_of}
+use Rattle.drift_world.specs.Views.{world_of}
+use Rattle.drift_world.specs.declared.kept.Kept.{Kept}
+use Rattle.drift_world.specs.declared.memory.OutOfMemory.{OutOfMemory}
+use Rattle.drift_world.specs.declared.state.State.{State}
+use Rattle.world_law.proofs.giving.Given.{in_get}
+use Rattle.world_law.specs.source.Agreeing.{scenario}
+use Rattle.world_law.specs.source.Applying.{note_of_event}
+use Rattle.world_law.specs.world.Steps.{FitsWorld}
+use Rattle.world_law.specs.world.World.{Stands, World}
+
+module _ {C M : Type 0} (fresh : ℕ → C) (after_step : C → ℕ → ℤ → C) (reading : C → ℕ → ℕ) (grain : C → ℕ) (count : C → ℕ → ℕ)
+    (law : IsLawful fresh after_step reading grain count) (stands : M → Network → DeviceId → Node → Type 0) (network : Network) (state : State C M)
+    (events : List Event) (notes : List Note) (event : Event)
+    (under : StandsUnder fresh after_step reading stands network (world_of network state) events notes)
+    (time : event.time.0 ≡ pos state.time) (within : IsWithinHypothesis network events event) where
+  -- no event is before time 0, or later than the present
+  begun_before : (e : Event) → IsIn e events → pos 0 ≤ℤ e.time.0
+  begun_before e i = let at = in_get events e i in under.is.befallen.begun at.0 e at.1
+
+  begun_all : (e : Event) → IsIn e (events ++ event ∷ []) → pos 0 ≤ℤ e.time.0
+  begun_all e i = elim (in_parts e events (event ∷ []) i) [
+    | inl old ↦ begun_before e old
+    | inr (inl same) ↦ subst (λ (d : Event). pos 0 ≤ℤ d.time.0) (sym same) (omega (arith, ints, time))
+    | inr (inr none) ↦ absurd none
+  ]
+
+  now_is : amount event.time ≡ state.time
+  now_is = ap unsigned_abs time
+
+  past_all : (e : Event) → IsIn e (events ++ event ∷ []) → amount e.time ≤ state.time
+  past_all e i = elim (in_parts e events (event ∷ []) i) [
+    | inl old ↦ (let at = in_get events e old in under.is.befallen.past at.0 e at.1)
+    | inr (inl same) ↦ (let own : amount e.time ≡ amount event.time = ap (λ (d : Event). amount d.time) same in omega (arith, own, now_is))
+    | inr (inr none) ↦ absurd none
+  ]
+
+  -- the clocks go on by it
+  pub followed : length state.clocks.items ≡ length network.device
+      → Follows after_step reading network (reading_of fresh after_step reading network events)
+      (reading_of fresh after_step reading network (events ++ event ∷ [])) events event state
+  followed many = record {
+    begun = begun_before;
+    same = λ device x le. reads_same fresh after_step reading grain count law network events event device x (omega (arith, le, now_is));
+    steady = λ device. steady fresh after_step reading (keeps_clock_laws fresh after_step reading grain count law)
+        (begins_at_zero fresh after_step reading grain count law) network (events ++ event ∷ []) device under.is.range under.is.rules
+        (all_within network events event under.within within) begun_all;
+    reads = λ device clock is t late.
+        let lt : device.0 < length network.device = let there = slice_get_within state.clocks.items device.0 clock is in omega (arith, there, many) in
+        let own : clock_of fresh after_step network events device ≡ clock =
+        some_is (slice_get state.clocks.items device.0) (clock_of fresh after_step network events device) clock (under.clocks device lt) is in
+        reads_value fresh after_step reading network (events ++ event ∷ []) device t (λ e i. let past = past_all e i in omega (arith, past, late))
+        ∙ ap (λ (c : C). reading c t) (clock_more fresh after_step network events event device
+        ∙ ap (clock_after after_step device event.time event.what) own);
+    forward = forward network (reading_of fresh after_step reading network (events ++ event ∷ [])) (events ++ event ∷ []) under.is.range
+        (all_within network events event under.within within);
+  }
+
+  -- and the world stands under the events with it
+  pub stands_again : (new : State C M) (more : List Note) → IsOfNetwork network event.what
+      → ((device : DeviceId) (clock : C) → slice_get state.clocks.items device.0 ≡ Some clock
+      → slice_get new.clocks.items device.0 ≡ Some (clock_after after_step device event.time event.what clock))
+      → Stands reading (keeps stands) (scenario network (reading_of fresh after_step reading network (events ++ event ∷ [])) (events ++ event ∷ []))
+      (world_of network new) more
+      → StandsUnder fresh after_step reading stands network (world_of network new) (events ++ event ∷ []) more
+  stands_again new more of_network clocks is = record {
+    is = is;
+    clocks = λ device lt. clocks device (clock_of fresh after_step network events device) (under.clocks device lt)
+        ∙ ap Some (sym (clock_more fresh after_step network events event device));
+    of_network = All-push (λ (e : Event). IsOfNetwork network e.what) events event under.of_network of_network;
+    within = all_within network events event under.within within;
+  }
+
+-- ---- by what a step answers
+
+pub more_ok : {T E : Type 0} (P Q : T → Type 0) (K : Type 0) (r : Result T E) → (K → (x : T) → P x → Q x) → OnOk r K → IfOk r P → IfOk r Q
+more_ok P Q K (Ok x) step known it = step known x it
+more_ok P Q K (Err e) step known it = it
+
+module _ {C M E : Type 0} (fresh : ℕ → C) (after_step : C → ℕ → ℤ → C) (reading : C → ℕ → ℕ) (grain : C → ℕ) (count : C → ℕ → ℕ)
+    (law : IsLawful fresh after_step reading grain count) (stands : M → Network → DeviceId → Node → Type 0) (network : Network) (state new : State C M)
+    (event : Event) (result : Result Note E) (many : length state.clocks.items ≡ length network.device) (early : state.early ≡ true)
+    (time : event.time.0 ≡ pos state.time) (of_network : IsOfNetwork network event.what)
+    (shown : (device : DeviceId) → event.what ≡ On device
+    → (is : DeviceState) × IsShown (keeps stands) network state.machines.items device is)
+    (still : (new.time ≡ state.time) × (new.early ≡ state.early))
+    (clocks : OnOk result ((device : DeviceId) (clock : C) → slice_get state.clocks.items device.0 ≡ Some clock
+    → slice_get new.clocks.items device.0 ≡ Some (clock_after after_step device event.time event.what clock)))
+    (step : (f h : DeviceId → ℕ → ℕ) (past : List Event) (notes : List Note)
+    → (old : Stands reading (keeps stands) (scenario network f past) (world_of network state) notes)
+    → Follows after_step reading network f h past event state
+    → FitsWorld (keeps stands) network (world_of network state) event.what
+    → IfOk result (λ note. (note ≡ note_of_event notes past event)
+    × Stands reading (keeps stands) (scenario network h (past ++ event ∷ [])) (world_of network new) (notes ++ note ∷ []))) where
+  pub goes_on : (events : List Event) (notes : List Note) → StandsUnder fresh after_step reading stands network (world_of network state) events notes
+      → IsWithinHypothesis network events event
+      → IfOk result (λ note. StandsUnder fresh after_step reading stands network (world_of network new) (events ++ event ∷ []) (notes ++ note ∷ []))
+  goes_on events notes under within =
+      let f = reading_of fresh after_step reading network events in
+      let h = reading_of fresh after_step reading network (events ++ event ∷ []) in
+      let fits = suits reading (keeps stands) network f events (world_of network state) notes under.is early event within event.what refl under.within of_network
+      shown in
+      let goes = followed fresh after_step reading grain count law stands network state events notes event under time within many in
+      more_ok (λ (note : Note). (note ≡ note_of_event notes events event)
+      × Stands reading (keeps stands) (scenario network h (events ++ event ∷ [])) (world_of network new) (notes ++ note ∷ []))
+      (λ (note : Note). StandsUnder fresh after_step reading stands network (world_of network new) (events ++ event ∷ []) (notes ++ note ∷ []))
+      _ result
+      (λ known note it. stands_again fresh after_step reading grain count law stands network state events notes event under time within new (notes ++ note ∷ [])
+      of_network known it.1)
+      clocks (step f h events notes under.is goes fits)
+
+  pub runs_on : (events : List Event) (notes : List Note) → StandsUnder fresh after_step reading stands network (world_of network state) events notes
+      → IsWithinHypothesis network events event
+      → IfOk result (λ note. IsRunOf network (reading_of fresh after_step reading network (events ++ event ∷ [])) (events ++ event ∷ [])
+      (behind_events state.time) (notes ++ note ∷ []))
+  runs_on events notes under within =
+      let h = reading_of fresh after_step reading network (events ++ event ∷ []) in
+      more_ok (λ (note : Note). StandsUnder fresh after_step reading stands network (world_of network new) (events ++ event ∷ []) (notes ++ note ∷ []))
+      (λ (note : Note). IsRunOf network h (events ++ event ∷ []) (behind_events state.time) (notes ++ note ∷ []))
+      _ result
+      (λ known note it. subst (λ (t : ℕ). IsRunOf network h (events ++ event ∷ []) (behind_events t) (notes ++ note ∷ [])) still.0
+      (run_behind_events reading (keeps stands) (scenario network h (events ++ event ∷ [])) (world_of network new) (notes ++ note ∷ []) it.is
+      (still.1 ∙ early)))
+      clocks (goes_on events notes under within)
+
+  -- and so for the network that it is
+  pub goes_on_there : (n : Network) (events : List Event) (notes : List Note)
+      → StandsUnder fresh after_step reading stands n (world_of network state) events notes → IsWithinHypothesis n events event
+      → IfOk result (λ note. StandsUnder fresh after_step reading stands n (world_of network new) (events ++ event ∷ []) (notes ++ note ∷ []))
+  goes_on_there n events notes under within =
+      subst (λ (m : Network). StandsUnder fresh after_step reading stands m (world_of network state) events notes → IsWithinHypothesis m events event
+      → IfOk result (λ note. StandsUnder fresh after_step reading stands m (world_of network new) (events ++ event ∷ []) (notes ++ note ∷ [])))
+      under.is.same (goes_on events notes) under within
+
+  pub runs_on_there : (n : Network) (events : List Event) (notes : List Note)
+      → StandsUnder fresh after_step reading stands n (world_of network state) events notes → IsWithinHypothesis n events event
+      → IfOk result (λ note. IsRunOf n (reading_of fresh after_step reading n (events ++ event ∷ [])) (events ++ event ∷ [])
+      (behind_events state.time) (notes ++ note ∷ []))
+  runs_on_there n events notes under within =
+      subst (λ (m : Network). StandsUnder fresh after_step reading stands m (world_of network state) events notes → IsWithinHypothesis m events event
+      → IfOk result (λ note. IsRunOf m (reading_of fresh after_step reading m (events ++ event ∷ [])) (events ++ event ∷ [])
+      (behind_events state.time) (notes ++ note ∷ [])))
+      under.is.same (runs_on events notes) under within
+
+-- ---- by the view of the state
+
+module _ {C M : Type 0} (fresh : ℕ → C) (after_step : C → ℕ → ℤ → C) (reading : C → ℕ → ℕ) (grain : C → ℕ) (count : C → ℕ → ℕ)
+    (law : IsLawful fresh after_step reading grain count) (stands : M → Network → DeviceId → Node → Type 0) (network : Network) (state new : State C M)
+    (world : World C (Kept M)) (view : world_of network state ≡ world) (event : Event) (note : Note)
+    (many : length state.clocks.items ≡ length network.device) (open_to : IsOpenTo world event) (of_network : IsOfNetwork world.network event.what)
+    (shown : (n : Network) (device : DeviceId) → event.what ≡ On device → (is : DeviceState) × IsShown (keeps stands) n
+    state.machines.items device is)
+    (still : (new.time ≡ state.time) × (new.early ≡ state.early))
+    (clocks : (device : DeviceId) (clock : C) → slice_get state.clocks.items device.0 ≡ Some clock
+    → slice_get new.clocks.items device.0 ≡ Some (clock_after after_step device event.time event.what clock))
+    (step : (f h : DeviceId → ℕ → ℕ) (past : List Event) (notes : List Note)
+    → (old : Stands reading (keeps stands) (scenario network f past) (world_of network state) notes)
+    → Follows after_step reading network f h past event state
+    → FitsWorld (keeps stands) network (world_of network state) event.what
+    → (note ≡ note_of_event notes past event)
+    × Stands reading (keeps stands) (scenario network h (past ++ event ∷ [])) (world_of network new) (notes ++ note ∷ [])) where
+  -- it stands again, and the records are the run behind the events of the instant
+  pub befalls : (n : Network) (events : List Event) (notes : List Note) → StandsUnder fresh after_step reading stands n world events notes
+      → IsWithinHypothesis n events event
+      → StandsUnder fresh after_step reading stands n (world_of network new) (events ++ event ∷ []) (notes ++ note ∷ [])
+      × IsRunOf n (reading_of fresh after_step reading n (events ++ event ∷ [])) (events ++ event ∷ []) (behind_events world.now) (notes ++ note ∷ [])
+  befalls n events notes under within =
+      let here = subst (λ (w : World C (Kept M)). StandsUnder fresh after_step reading stands n w events notes) (sym view) under in
+      let early : state.early ≡ true = ap (λ (w : World C (Kept M)). w.early) view ∙ open_to.early in
+      let time : event.time.0 ≡ pos state.time = open_to.time ∙ ap (λ (w : World C (Kept M)). pos w.now) (sym view) in
+      let own = subst (λ (w : World C (Kept M)). IsOfNetwork w.network event.what) (sym view) of_network in
+      let answer : Result Note OutOfMemory = Ok note in
+      let shows : (device : DeviceId) → event.what ≡ On device → (is : DeviceState) × IsShown (keeps stands) network state.machines.items device is =
+      λ device on. shown network device on in (
+        goes_on_there fresh after_step reading grain count law stands network state new event answer many early time own shows still clocks step n events notes
+            here within,
+        subst (λ (w : World C (Kept M)). IsRunOf n (reading_of fresh after_step reading n (events ++ event ∷ [])) (events ++ event ∷ [])
+            (behind_events w.now) (notes ++ note ∷ [])) view
+            (runs_on_there fresh after_step reading grain count law stands network state new event answer many early time own shows still clocks step n events
+            notes here within),
+      )

@@ -1,0 +1,140 @@
+-- A record that is put in at its place.
+use Rattle.std.proofs.Common.{◌≡◌, ℕ, ℤ, zero, suc, ◌<◌, Bool, true, false, Option, Some, None, List, [], ◌∷◌, ◌++◌, map, length, take, drop, get_or, inl, inr, refl, sym, ap, subst, ◌∙◌, arith}
+use Rattle.std.proofs.lemmas.List.{take-append-drop}
+use Rattle.net_plan.specs.declared.network.Network.{Network}
+use Rattle.run_law.proofs.runs.Places.{chain, either_way, in_left, in_parts, in_right, never_self}
+use Rattle.std.specs.Prelude.{if◌then◌else◌}
+use Rattle.std.specs.Option.{option_and_then, option_map}
+use Rattle.pcf_values.specs.declared.pcf.Pcf.{Pcf}
+use Rattle.run_law.specs.control.Leaving.{Departure, leaves, on_cut_way, too_old}
+use Rattle.run_law.specs.scenario.Scenarios.{Scenario}
+use Rattle.tte_units.specs.Amount.{units_of}
+use Rattle.run_law.specs.records.Happenings.{Happening, frame_from, with_clock}
+use Rattle.run_law.specs.records.Order.{AllBefore, IsBefore, NoneBefore}
+use Rattle.run_law.specs.records.Ranks.{place_of}
+use Rattle.run_law.specs.declared.note.NoteBody.{NoteBody}
+use Rattle.tte_units.specs.declared.units.Units.{Units}
+use Rattle.drift_world.proofs.HiddenCauses.{InOrder}
+use Rattle.drift_world.specs.Leaving.{frame_after}
+use Rattle.drift_world.specs.Places.{IsPutAt, IsSomePut, own_place}
+use Rattle.drift_world.specs.Views.{settled_at}
+use Rattle.drift_world.specs.declared.contents.Settled.{Settled}
+use Rattle.world_law.specs.world.Steps.{ArePutIn, IsPutIn, departure_body, settled_as}
+use Rattle.world_law.specs.world.World.{AtPort, IsAtPort}
+
+pub map_parts : {X Y : Type 0} (f : X → Y) (xs ys : List X) → map f (xs ++ ys) ≡ map f xs ++ map f ys
+map_parts f [] ys = refl
+map_parts f (x ∷ xs) ys = ap (λ l. f x ∷ l) (map_parts f xs ys)
+
+module _ (network : Network) (now : ℕ) where
+  abbrev shown : Settled → Happening
+  shown z = settled_at network now z
+
+  -- the time goes before
+  timed : (a b : Settled) → IsBefore (own_place a) (own_place b) → IsBefore (place_of (shown a)) (place_of (shown b))
+  timed a b before = inr (refl, before)
+
+  untimed : (a b : Settled) → IsBefore (place_of (shown a)) (place_of (shown b)) → IsBefore (own_place a) (own_place b)
+  untimed a b (inl lt) = absurd (omega (arith, lt))
+  untimed a b (inr h) = h.1
+
+  all_before : (at : ℕ) (old : List Settled) (z : Settled) → ((k : ℕ) (d : Settled) → k < at → IsBefore (own_place (get_or old k d)) (own_place z))
+      → AllBefore place_of (map shown (take at old)) (place_of (shown z))
+  all_before zero old z before h there = absurd there
+  all_before (suc at) [] z before h there = absurd there
+  all_before (suc at) (x ∷ old) z before h (inl e) = subst (λ (h : Happening). IsBefore (place_of h) (place_of (shown z))) (sym e)
+      (timed x z (before 0 z (omega arith)))
+  all_before (suc at) (x ∷ old) z before h (inr rest) = all_before at old z (λ k d lt. before (suc k) d (omega (arith, lt))) h rest
+
+  none_before : (at : ℕ) (old : List Settled) (z : Settled) → InOrder (map shown old)
+      → ((d : Settled) → at < length old → IsBefore (own_place (get_or old at d)) (own_place z) → ⊥)
+      → NoneBefore place_of (map shown (drop at old)) (place_of (shown z))
+  none_before zero [] z order stops h there before = absurd there
+  none_before zero (x ∷ old) z order stops h (inl e) before = stops z (omega arith)
+      (untimed x z (subst (λ (h : Happening). IsBefore (place_of h) (place_of (shown z))) e before))
+  none_before zero (x ∷ old) z order stops h (inr rest) before =
+      elim (either_way (place_of (shown x)) (place_of (shown z))) [
+        | inl sooner ↦ stops z (omega arith) (untimed x z sooner)
+        | inr (inl same) ↦ order.0 h rest (subst (λ (p : List ℕ). IsBefore (place_of h) p) (sym same) before)
+        | inr (inr later) ↦ order.0 h rest (chain (place_of h) (place_of (shown z)) (place_of (shown x)) before later)
+      ]
+  none_before (suc at) [] z order stops h there before = absurd there
+  none_before (suc at) (x ∷ old) z order stops h there before = none_before at old z order.1 (λ d lt. stops d (omega (arith, lt))) h there before
+
+  pub is_put_in : (z : Settled) (old new : List Settled) (at : ℕ) → IsPutAt z old new at → InOrder (map shown old)
+      → IsPutIn (shown z) (map shown old) (map shown new)
+  is_put_in z old new at put order =
+      record {
+        front = map shown (take at old);
+        back = map shown (drop at old);
+        was = ap (map shown) (sym (take-append-drop at old)) ∙ map_parts shown (take at old) (drop at old);
+        is = ap (map shown) put.is ∙ map_parts shown (take at old) (z ∷ drop at old);
+        before = all_before at old z put.before;
+        none = none_before at old z order put.stops;
+      }
+
+-- one record is put in, as the law says it
+pub one_put_in : (other network : Network) (now : ℕ) (hs : List Happening) (body : NoteBody) (z : Settled) (old new : List Settled) (at : ℕ)
+    → IsPutAt z old new at → InOrder (map (settled_at network now) old) → settled_at network now z ≡ settled_as other hs now body
+    → ArePutIn other hs now (body ∷ []) (map (settled_at network now) old) (map (settled_at network now) new)
+one_put_in other network now hs body z old new at put order is = (
+  map (settled_at network now) new,
+  subst (λ (h : Happening). IsPutIn h (map (settled_at network now) old) (map (settled_at network now) new)) is (is_put_in network now z old new at put order),
+  refl,
+)
+
+pub same_units : (a b : Units) → a.0 ≡ b.0 → a ≡ b
+same_units a b same = ap (λ (n : ℤ). let t : Units = record { 0 = n } in t) same
+
+-- a record is put in, or there is none
+pub some_put_in : (other network : Network) (now : ℕ) (hs : List Happening) (body : NoteBody) (z : Settled) (old new : List Settled) (none : Bool)
+    → IsSomePut (if none then None else Some z) old new → InOrder (map (settled_at network now) old) → settled_at network now z ≡ settled_as other hs now body
+    → ArePutIn other hs now (if none then [] else body ∷ []) (map (settled_at network now) old) (map (settled_at network now) new)
+some_put_in other network now hs body z old new true put order is = ap (map (settled_at network now)) put
+some_put_in other network now hs body z old new false put order is = one_put_in other network now hs body z old new put.0 put.1 order is
+
+-- the record of a frame that leaves
+pub departed_is : (other network : Network) (now : ℕ) (hs : List Happening) (e : AtPort) (d : Departure) → frame_from hs e.cause ≡ Some e.frame
+    → settled_at network now (record { body = departure_body e d; frame = frame_after e.frame d; octets = None }) ≡ settled_as other hs now (departure_body e d)
+departed_is other network now hs e (leaves clock) of =
+    ap (λ (o : Option Pcf). let h : Happening = record
+    { note = record { number = 0; time = units_of now; body = departure_body e (leaves clock) }; frame = option_map (with_clock clock) o; octets = [] } in
+    h) (sym of)
+departed_is other network now hs e too_old of = refl
+departed_is other network now hs e on_cut_way of = refl
+
+-- the frame of what is at a port is that of the record that gave it
+pub frame_of_port : (s : Scenario) (hs : List Happening) (e : AtPort) → IsAtPort s hs e → frame_from hs e.cause ≡ Some e.frame
+frame_of_port s hs e it = ap (option_and_then (λ h. h.frame)) it.there ∙ it.gave.of_frame
+
+-- ---- with it what is settled is in order
+
+order_with : (w : Happening) (front back : List Happening) → InOrder (front ++ back) → AllBefore place_of front (place_of w)
+    → NoneBefore place_of back (place_of w) → InOrder (front ++ w ∷ back)
+order_with w [] back order before none = (none, order)
+order_with w (x ∷ front) back order before none = (
+  λ h there b. elim (in_parts h front (w ∷ back) there) [
+    | inl f ↦ order.0 h (in_left h front back f) b
+    | inr (inl same) ↦
+        never_self (place_of x) (chain (place_of x) (place_of w) (place_of x) (before x (inl refl))
+        (subst (λ (y : Happening). IsBefore (place_of y) (place_of x)) same b))
+    | inr (inr r) ↦ order.0 h (in_right h front back r) b
+  ],
+  order_with w front back order.1 (λ h i. before h (inr i)) none,
+)
+
+pub order_put : (w : Happening) (old new : List Happening) → InOrder old → IsPutIn w old new → InOrder new
+order_put w old new order put = subst InOrder (sym put.is) (order_with w put.front put.back (subst InOrder put.was order) put.before put.none)
+
+-- two records are put in, one after the other
+pub two_put_in : (other network : Network) (now : ℕ) (hs : List Happening) (first second : NoteBody) (y z : Settled) (old mid new : List Settled) (at then_at : ℕ)
+    → IsPutAt y old mid at → IsPutAt z mid new then_at → InOrder (map (settled_at network now) old)
+    → settled_at network now y ≡ settled_as other hs now first → settled_at network now z ≡ settled_as other hs now second
+    → ArePutIn other hs now (first ∷ second ∷ []) (map (settled_at network now) old) (map (settled_at network now) new)
+two_put_in other network now hs first second y z old mid new at then_at put put_then order is is_then =
+    let one = subst (λ (h : Happening). IsPutIn h (map (settled_at network now) old) (map (settled_at network now) mid)) is
+    (is_put_in network now y old mid at put order) in (
+      map (settled_at network now) mid,
+      one,
+      one_put_in other network now hs second z mid new then_at put_then (order_put _ _ _ order one) is_then,
+    )

@@ -1,0 +1,257 @@
+-- A frame that waits is permanent: its machine may be asked, and the state stands behind it.
+use Rattle.std.proofs.Common.{◌≡◌, ◌⊎◌, ℕ, ◌+◌, ◌<◌, ◌≤◌, pos, ◌≤ℤ◌, ◌^◌, List, [], ◌∷◌, length, map, slice_set, All, Option, Some, None, false, inl, inr, refl, sym, ap, subst, ◌∙◌, arith}
+use Rattle.std.specs.List.{slice_get}
+use Rattle.std.specs.Prelude.{◌↔◌}
+use Rattle.std.specs.Option.{option_and_then}
+use Rattle.std.proofs.lemmas.Option.{get_or_from_slice_get, slice_get_within}
+use Rattle.net_plan.specs.declared.ids.DeviceId.{DeviceId}
+use Rattle.net_plan.specs.declared.network.Network.{Network}
+use Rattle.pcf_values.specs.declared.pcf.Pcf.{Pcf}
+use Rattle.run_law.specs.declared.judgement.Judgement.TheVariants as judgements
+use Rattle.run_law.specs.declared.judgement.Judgement.{Judgement}
+use Rattle.run_law.specs.declared.judgement.Why.TheVariants as whys
+use Rattle.run_law.specs.declared.note.Note.{Note}
+use Rattle.run_law.specs.declared.note.NoteBody.TheVariants as kinds
+use Rattle.run_law.specs.declared.note.NoteBody.{NoteBody}
+use Rattle.run_law.specs.declared.steps.Moment.{Moment}
+use Rattle.run_law.specs.declared.steps.Ripe.TheVariants as ripe
+use Rattle.run_law.specs.declared.steps.Ripe.{Ripe}
+use Rattle.run_law.specs.machines.Calls.{MayTake, StandsFor}
+use Rattle.run_law.specs.machines.Nodes.{Node}
+use Rattle.run_law.specs.records.Happenings.{Happening, frame_from, happenings}
+use Rattle.run_law.specs.records.Order.{IsIn, behind}
+use Rattle.run_law.specs.scenario.Scenarios.{Scenario}
+use Rattle.sync_state.specs.declared.state.State.TheVariants.{Joining}
+use Rattle.tte_units.specs.Amount.{units_of}
+use Rattle.tte_units.specs.declared.units.Units.{Units}
+use Rattle.drift_world.proofs.Fits.{all_put, all_put_some, have_octets}
+use Rattle.drift_world.proofs.HiddenCauses.{InOrder, settled_in_order}
+use Rattle.drift_world.proofs.Puts.{one_put_in, two_put_in}
+use Rattle.drift_world.proofs.Swaps.{IsTaken, at_in, from_map, in_at, in_map, is_set, same_place, stayed, stays, stood}
+use Rattle.drift_world.specs.Keeping.{keeps}
+use Rattle.drift_world.specs.Places.{IsPutAt}
+use Rattle.drift_world.specs.Ripening.{AreSettledSo, joined_record, judged_so, ripe_record}
+use Rattle.drift_world.specs.Stepping.{IsAt}
+use Rattle.drift_world.specs.Views.{settled_at, waiting_as, world_of}
+use Rattle.drift_world.specs.declared.contents.Settled.{Settled}
+use Rattle.drift_world.specs.declared.contents.Waits.{Waits}
+use Rattle.drift_world.specs.declared.kept.Kept.{Kept}
+use Rattle.drift_world.specs.declared.state.State.{State}
+use Rattle.world_law.proofs.giving.Given.{some_same}
+use Rattle.world_law.proofs.ripening.Asking.{MayAsk, may_ask}
+use Rattle.world_law.proofs.ripening.Ripens.{all_in}
+use Rattle.world_law.proofs.ripening.RipenedSteps.{ripened_step, waits_within}
+use Rattle.world_law.specs.world.Calls.{moment_of}
+use Rattle.world_law.specs.world.Ripening.{HasRipened, ripe_bodies}
+use Rattle.world_law.specs.world.Steps.{ArePutIn, ComesFirst, IsWithout, StandsBehind, settled_as}
+use Rattle.world_law.specs.world.World.{Stands, Waiting, World, none_yet, ripe_place}
+
+-- ---- what waits is apart by its cause
+
+abbrev pub AreApart : List Waits → Type 0
+AreApart l = (i j : ℕ) (v w : Waits) → slice_get l i ≡ Some v → slice_get l j ≡ Some w → v.cause ≡ w.cause → i ≡ j
+
+module _ (index : ℕ) (w : Waits) (old new : List Waits) (t : IsTaken index w old new) (apart : AreApart old) where
+  pub still_apart : AreApart new
+  still_apart i j u v a b same =
+      let p = stood index w old new t i u a in
+      let q = stood index w old new t j v b in
+      same_place index w old new t i j u v p q (apart p.was q.was u v p.is q.is same)
+
+  others : (v : Waits) → IsIn v new → v.cause ≡ w.cause → ⊥
+  others v there same =
+      let at = in_at new v there in
+      let p = stood index w old new t at.0 v at.1 in
+      p.other (apart p.was index v w p.is t.is same)
+
+  cause_of : (now : ℕ) (v : Waits) → ripe_place now (waiting_as v) ≡ ripe_place now (waiting_as w) → v.cause ≡ w.cause
+  cause_of now v e = cc
+
+  pub without : (now : ℕ) → IsWithout (ripe_place now) (ripe_place now (waiting_as w)) (map waiting_as old) (map waiting_as new)
+  without now e = (
+    λ there.
+        let from = from_map waiting_as new e there in
+        let v = from.0 in (
+          subst (λ (x : Waiting). IsIn x (map waiting_as old)) (sym from.2) (in_map waiting_as old v (stayed index w old new t v from.1)),
+          λ place. others v from.1 (cause_of now v (sym (ap (ripe_place now) from.2) ∙ place)),
+        ),
+    λ h.
+        let from = from_map waiting_as old e h.0 in
+        let v = from.0 in
+        subst (λ (x : Waiting). IsIn x (map waiting_as new)) (sym from.2)
+        (in_map waiting_as new v (stays index w old new t v from.1 (λ same. h.1 (ap (ripe_place now) from.2
+        ∙ ap (λ (x : Waits). ripe_place now (waiting_as x)) same)))),
+  )
+
+pub below_taken : (number index : ℕ) (w : Waits) (old new : List Waits) → IsTaken index w old new → All (λ v. v.cause < number) old
+    → All (λ v. v.cause < number) new
+below_taken number index w old new t below =
+    all_in (λ v. v.cause < number) new (λ v there.
+    let at = in_at old v (stayed index w old new t v there) in
+    let lt = slice_get_within old at.0 v at.1 in
+    subst (λ (x : Waits). x.cause < number) (get_or_from_slice_get old at.0 v v at.1) (below at.0 v lt))
+
+pub others_wait : (index : ℕ) (w : Waits) (old new : List Waits) → IsTaken index w old new → (v : Waits) → (v.device.0 ≡ w.device.0 → ⊥)
+    → IsIn v new ↔ IsIn v old
+others_wait index w old new t v other = (
+  λ there. stayed index w old new t v there,
+  λ there. stays index w old new t v there (λ same. other (ap (λ (x : Waits). x.device.0) same)),
+)
+
+-- ---- the machine may be asked
+
+abbrev pub moment_by : Units → Units → Moment
+moment_by time reading = record { time = time; reading = reading }
+
+module _ {C M : Type 0} (reading : C → ℕ → ℕ) (stands : M → Network → DeviceId → Node → Type 0) (network : Network) (state : State C M) (w : Waits)
+    (there : IsIn w state.waiting.items)
+    (reached : (clock : C) → slice_get state.clocks.items w.device.0 ≡ Some clock → w.point.0 ≤ℤ pos (reading clock state.time)) where
+  in_waiting : IsIn (waiting_as w) (map waiting_as state.waiting.items)
+  in_waiting = in_map waiting_as state.waiting.items w there
+
+  pub within : (s : Scenario) (notes : List Note) → Stands reading (keeps stands) s (world_of network state) notes → w.device.0 < length s.network.device
+  within s notes old = waits_within s (happenings s.network notes) (waiting_as w) (old.waiting.real (waiting_as w) in_waiting) old.run.founded old.range
+
+  pub device_in : (s : Scenario) (notes : List Note) → Stands reading (keeps stands) s (world_of network state) notes → w.device.0 < length network.device
+  device_in s notes old = subst (λ (n : Network). w.device.0 < length n.device) (sym old.same) (within s notes old)
+
+  -- what its clock reads is what the scenario says
+  pub reads : (s : Scenario) (notes : List Note) → Stands reading (keeps stands) s (world_of network state) notes → (clock : C)
+      → slice_get state.clocks.items w.device.0 ≡ Some clock → reading clock state.time ≡ s.reading w.device state.time
+  reads s notes old clock own =
+      let it = old.clocks w.device (within s notes old) in
+      ap (λ (k : C). reading k state.time) (some_same clock it.0 _ own it.1) ∙ sym (it.2 state.time (omega arith))
+
+  point : (s : Scenario) (notes : List Note) → Stands reading (keeps stands) s (world_of network state) notes
+      → w.point.0 ≤ℤ pos (s.reading w.device state.time)
+  point s notes old =
+      let it = old.clocks w.device (within s notes old) in
+      subst (λ (n : ℕ). w.point.0 ≤ℤ pos n) (reads s notes old it.0 it.1) (reached it.0 it.1)
+
+  pub low : (s : Scenario) (notes : List Note) → Stands reading (keeps stands) s (world_of network state) notes → (clock : C)
+      → slice_get state.clocks.items w.device.0 ≡ Some clock → reading clock state.time ≤ 2 ^ 60 + 2 ^ 51
+  low s notes old clock own =
+      subst (λ (n : ℕ). n ≤ 2 ^ 60 + 2 ^ 51) (sym (reads s notes old clock own)) ((old.steady w.device).low state.time old.limit)
+
+  pub moment_is : (s : Scenario) (notes : List Note) → Stands reading (keeps stands) s (world_of network state) notes → (clock : C)
+      → slice_get state.clocks.items w.device.0 ≡ Some clock → (number : ℕ) → number ≡ reading clock state.time → (time read : Units)
+      → time ≡ units_of state.time → read ≡ units_of number → moment_by time read ≡ moment_of s w.device state.time
+  moment_is s notes old clock own number is time read a b =
+      ap (λ (t : Units). moment_by t read) a ∙ ap (moment_by (units_of state.time)) b
+      ∙ ap (λ (n : ℕ). moment_by (units_of state.time) (units_of n)) (is ∙ reads s notes old clock own)
+
+  pub asked : (at : IsAt reading stands network state (ripe_place state.time (waiting_as w))) (machine : Kept M) (moment : Moment)
+      → slice_get state.machines.items w.device.0 ≡ Some machine → moment ≡ moment_of at.s w.device state.time
+      → StandsFor (keeps stands) machine (λ n device node. MayTake n device node moment w.link w.frame w.point)
+  asked at machine moment own same =
+      let s = at.s in
+      let ask = may_ask reading (keeps stands) s (world_of network state) at.notes (waiting_as w) at.is in_waiting (point s at.notes at.is) at.first in
+      let machine_is = some_same ask.machine machine _ ask.there own in
+      subst (λ (m : Moment). StandsFor (keeps stands) machine (λ n device node. MayTake n device node m w.link w.frame w.point)) (sym same) (
+        s.network,
+        w.device,
+        ask.node,
+        subst (λ (m : Kept M). keeps stands m s.network w.device ask.node) machine_is ask.is,
+        record {
+          call = ask.asked.call;
+          reached = ask.asked.ripens.reached;
+          in_time = ask.asked.ripens.in_time;
+          ripens = λ hearing. ask.asked.ripens;
+        },
+      )
+
+-- ---- its records
+
+frame_is : (s : Scenario) (network : Network) (now : ℕ) (hs : List Happening) (w : Waits) (verdict : Judgement) → frame_from hs w.cause ≡ Some w.frame
+    → settled_at network now (judged_so w verdict) ≡ settled_as s.network hs now (kinds.Permanent w.device w.link w.cause w.point verdict)
+frame_is s network now hs w verdict of =
+    ap (λ (o : Option Pcf). let h : Happening = record {
+      note = record { number = 0; time = units_of now; body = kinds.Permanent w.device w.link w.cause w.point verdict };
+      frame = o;
+      octets = [];
+    } in h) (sym of)
+
+module _ (s : Scenario) (network : Network) (now : ℕ) (hs : List Happening) (w : Waits) (of : frame_from hs w.cause ≡ Some w.frame) where
+  judged_in : (verdict : Judgement) (old mid new : List Settled) (at : ℕ) → IsPutAt (judged_so w verdict) old mid at
+      → new ≡ mid → InOrder (map (settled_at network now) old)
+      → ArePutIn s.network hs now (kinds.Permanent w.device w.link w.cause w.point verdict ∷ []) (map (settled_at network now) old)
+      (map (settled_at network now) new)
+  judged_in verdict old mid new at put same order =
+      one_put_in s.network network now hs (kinds.Permanent w.device w.link w.cause w.point verdict) (judged_so w verdict) old new at
+      (subst (λ (l : List Settled). IsPutAt (judged_so w verdict) old l at) (sym same) put) order
+      (frame_is s network now hs w verdict of)
+
+  pub are_put_in : (result : Ripe) (old new : List Settled) → AreSettledSo w result old new
+      → InOrder (map (settled_at network now) old)
+      → ArePutIn s.network hs now (ripe_bodies w.device w.link w.cause w.point result) (map (settled_at network now) old)
+      (map (settled_at network now) new)
+  are_put_in ripe.Opened old new a order = judged_in judgements.Opened old a.mid new a.at a.first a.more order
+  are_put_in ripe.Joined old new a order = judged_in judgements.Joined old a.mid new a.at a.first a.more order
+  are_put_in ripe.Repeat old new a order = judged_in judgements.Repeat old a.mid new a.at a.first a.more order
+  are_put_in ripe.Within old new a order = judged_in judgements.Within old a.mid new a.at a.first a.more order
+  are_put_in ripe.Outside old new a order = judged_in judgements.Outside old a.mid new a.at a.first a.more order
+  are_put_in ripe.Ignored old new a order = judged_in judgements.Ignored old a.mid new a.at a.first a.more order
+  are_put_in ripe.Integrates old new a order =
+      two_put_in s.network network now hs (kinds.Permanent w.device w.link w.cause w.point judgements.Integrates)
+      (kinds.State w.device Joining none_yet whys.Frame) (judged_so w judgements.Integrates) _ old a.mid new a.at a.more.0 a.first a.more.1 order
+      (frame_is s network now hs w judgements.Integrates of) refl
+  are_put_in (ripe.Dropped reason) old new a order =
+      one_put_in s.network network now hs (kinds.Dropped w.device w.link w.cause reason) (ripe_record w (ripe.Dropped reason)) old new a.at
+      (subst (λ (l : List Settled). IsPutAt (ripe_record w (ripe.Dropped reason)) old l a.at) (sym a.more) a.first) order refl
+
+-- none of them needs octets
+record_fits : (w : Waits) (result : Ripe) → have_octets (ripe_record w result)
+record_fits w ripe.Opened = tt
+record_fits w ripe.Joined = tt
+record_fits w ripe.Repeat = tt
+record_fits w ripe.Within = tt
+record_fits w ripe.Outside = tt
+record_fits w ripe.Integrates = tt
+record_fits w ripe.Ignored = tt
+record_fits w (ripe.Dropped reason) = tt
+
+joined_fits : (device : DeviceId) (result : Ripe) (z : Settled) → joined_record device result ≡ Some z → have_octets z
+joined_fits device ripe.Integrates z e =
+    subst have_octets (some_same _ z _ refl e) tt
+joined_fits device other z e = absurd cc
+
+pub octets_fit : (w : Waits) (result : Ripe) (old new : List Settled) → AreSettledSo w result old new → All have_octets old → All have_octets new
+octets_fit w result old new a all =
+    all_put_some have_octets (joined_record w.device result) a.mid new a.more (joined_fits w.device result)
+    (all_put have_octets (ripe_record w result) old a.mid a.at a.first (record_fits w result) all)
+
+-- ---- so the state stands behind it
+
+-- wherever the old state stood and this came first, the new one stands behind it
+abbrev pub StandsAfter : {C M : Type 0} → (C → ℕ → ℕ) → (M → Network → DeviceId → Node → Type 0) → Network → State C M → State C M → Waits → Type 0
+StandsAfter reading stands network old new w =
+    (s : Scenario) (notes : List Note) (was : Stands reading (keeps stands) s (world_of network old) notes)
+    → ComesFirst reading (keeps stands) s (world_of network old) notes was (ripe_place old.time (waiting_as w))
+    → StandsBehind reading (keeps stands) s (world_of network new) notes (behind (ripe_place old.time (waiting_as w)))
+
+pub ripened : {C M : Type 0} (reading : C → ℕ → ℕ) (stands : M → Network → DeviceId → Node → Type 0) (network : Network) (state : State C M) (index : ℕ)
+    (w : Waits) (new : List Waits) (machine after : Kept M) (result : Ripe) (settled : List Settled)
+    → IsTaken index w state.waiting.items new → AreApart state.waiting.items
+    → ((clock : C) → slice_get state.clocks.items w.device.0 ≡ Some clock → w.point.0 ≤ℤ pos (reading clock state.time))
+    → w.device.0 < length state.machines.items → slice_get state.machines.items w.device.0 ≡ Some machine
+    → AreSettledSo w result state.settled.items settled
+    → (s : Scenario) (notes : List Note) (old : Stands reading (keeps stands) s (world_of network state) notes)
+    → ComesFirst reading (keeps stands) s (world_of network state) notes old (ripe_place state.time (waiting_as w))
+    → HasRipened (keeps stands) s.network w.device (moment_of s w.device state.time) w.link w.frame w.point result machine after
+    → StandsBehind reading (keeps stands) s (record (world_of network state) {
+      early = false;
+      machines = slice_set state.machines.items w.device.0 after;
+      waiting = map waiting_as new;
+      settled = map (settled_at network state.time) settled;
+    }) notes (behind (ripe_place state.time (waiting_as w)))
+ripened reading stands network state index w new machine after result settled t apart reached many own put s notes old first has =
+    let world = world_of network state in
+    let there = at_in state.waiting.items index w t.is in
+    let hs = happenings s.network notes in
+    let inside = in_map waiting_as state.waiting.items w there in
+    let it = old.waiting.real (waiting_as w) inside in
+    let of : frame_from hs w.cause ≡ Some w.frame = ap (λ (o : Option Happening). option_and_then (λ h. h.frame) o) it.there ∙ it.awaited.of_frame in
+    ripened_step reading (keeps stands) s world notes (waiting_as w) machine after result (slice_set state.machines.items w.device.0 after)
+    (map waiting_as new) (map (settled_at network state.time) settled) old inside (point reading stands network state w there reached s notes old) first own has
+    (is_set state.machines.items w.device.0 after many) (without index w state.waiting.items new t apart state.time)
+    (are_put_in s network state.time hs w of result state.settled.items settled put (settled_in_order reading (keeps stands) s world notes old))

@@ -1,0 +1,66 @@
+-- A delay or a hold that an event within the hypothesis sets is short.
+use Rattle.std.proofs.Common.{◌≡◌, ◌⊎◌, ℤ, negsuc, unsigned_abs, List, ◌≤◌, ◌^◌, pos, ◌≤ℤ◌, ◌<ℤ◌, ◌+ℤ◌, Option, inl, inr, sym, subst, arith}
+use Rattle.std.specs.Prelude.{IsSomeAnd}
+use Rattle.std.proofs.lemmas.Bool.{cases_lt}
+use Rattle.std.proofs.lemmas.Int.{ints}
+use Rattle.net_plan.specs.Belonging.{IsOfNetwork}
+use Rattle.net_plan.specs.Ranges.{IsInRange, IsLinkInRange}
+use Rattle.net_plan.specs.declared.event.Event.{Event}
+use Rattle.net_plan.specs.declared.event.What.{What}
+use Rattle.net_plan.specs.declared.event.What.TheVariants as events
+use Rattle.net_plan.specs.declared.network.Network.{Network}
+use Rattle.net_plan.specs.declared.tables.Link.{Link}
+use Rattle.run_law.specs.declared.outside.Outside.TheVariants as outside
+use Rattle.run_law.specs.scenario.Hypothesis.{IsWithinHypothesis}
+use Rattle.schedule_tables.proofs.EntryLemmas.{all_at}
+use Rattle.tte_units.specs.Amount.{amount}
+use Rattle.drift_world.proofs.Beginnings.{found}
+use Rattle.drift_world.specs.Applying.{SetsShort}
+use Rattle.drift_world.specs.Running.{HoldsATime}
+
+pub sets_short : (network : Network) (past : List Event) (event : Event) → IsInRange network → IsWithinHypothesis network past event → (what : What)
+    → event.what ≡ what → IsOfNetwork network what → HoldsATime what → SetsShort what
+sets_short network past event range within (events.Wire link way delay) same there hold =
+    let it = found network.link link.0 there in
+    let l = it.0 in
+    let known = all_at (IsLinkInRange network) network.link link.0 l range.links it.1 in
+    let wire = known.wire in
+    let jitter = known.jitter in
+    elim (cases_lt (amount delay) (2 ^ 62)) [
+      | inl short ↦ short
+      | inr far ↦ absurd (within outside.Wire (record {
+        link = link;
+        way = way;
+        delay = delay;
+        what = same;
+        other = subst (λ (o : Option Link). IsSomeAnd o (λ l. (delay.0 <ℤ l.wire.0) ⊎ ((l.wire.0 +ℤ l.jitter.0) <ℤ delay.0))) (sym it.1)
+            (out delay.0 l.wire.0 l.jitter.0 far wire.least wire.most jitter.least jitter.most);
+      }))
+    ]
+  where
+    out : (d w j : ℤ) → 2 ^ 62 ≤ unsigned_abs d → pos 1 ≤ℤ w → w ≤ℤ pos (2 ^ 40) → pos 0 ≤ℤ j → j ≤ℤ pos (2 ^ 40)
+        → (d <ℤ w) ⊎ ((w +ℤ j) <ℤ d)
+    out (pos n) w j far a b c d = inr (omega (arith, ints, far, a, b, c, d))
+    out (negsuc n) w j far a b c d = inl (omega (arith, ints, far, a, b, c, d))
+sets_short network past event range within (events.Hold link way hold) same there begun =
+    let it = found network.link link.0 there in
+    let l = it.0 in
+    let known = all_at (IsLinkInRange network) network.link link.0 l range.links it.1 in
+    let most = known.hold.most in
+    elim (cases_lt (amount hold) (2 ^ 62)) [
+      | inl short ↦ short
+      | inr far ↦ absurd (within outside.Hold (record {
+        link = link;
+        way = way;
+        delay = hold;
+        what = same;
+        long = subst (λ (o : Option Link). IsSomeAnd o (λ l. l.hold.0 <ℤ hold.0)) (sym it.1) (omega (arith, ints, far, begun, most));
+      }))
+    ]
+sets_short network past event range within (events.Rate device rate) same there hold = tt
+sets_short network past event range within (events.Cut link way) same there hold = tt
+sets_short network past event range within (events.Heal link way) same there hold = tt
+sets_short network past event range within (events.On device) same there hold = tt
+sets_short network past event range within (events.Break device) same there hold = tt
+sets_short network past event range within (events.Send link octets) same there hold = tt
+sets_short network past event range within events.End same there hold = tt

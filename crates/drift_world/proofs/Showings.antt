@@ -1,0 +1,49 @@
+-- What the parts of a state show of a scenario.
+use Rattle.std.proofs.Common.{◌≡◌, ℕ, ◌<◌, Bool, true, false, List, map, length, Some, None, sym, ap, ◌∙◌}
+use Rattle.std.specs.Prelude.{if◌then◌else◌}
+use Rattle.std.specs.List.{slice_get}
+use Rattle.std.specs.Option.{option_map}
+use Rattle.std.proofs.lemmas.Option.{slice_get-map}
+use Rattle.net_plan.specs.declared.ids.DeviceId.{DeviceId}
+use Rattle.net_plan.specs.declared.ids.LinkId.{LinkId}
+use Rattle.net_plan.specs.declared.network.Network.{Network}
+use Rattle.net_plan.specs.declared.tables.Way.TheVariants.{Up, Down}
+use Rattle.net_plan.specs.declared.tables.Way.{Way}
+use Rattle.run_law.specs.machines.Nodes.{Node}
+use Rattle.run_law.specs.scenario.Scenarios.{Scenario, is_broken}
+use Rattle.run_law.specs.scenario.Ways.{is_cut, way_from}
+use Rattle.run_law.specs.declared.note.Note.{Note}
+use Rattle.drift_world.specs.Leaving.{departed, departure_in}
+use Rattle.drift_world.specs.Showing.{IsOf}
+use Rattle.drift_world.specs.Views.{way_as, world_of}
+use Rattle.drift_world.specs.declared.contents.WayState.{WayState}
+use Rattle.drift_world.specs.declared.kept.Kept.{Kept}
+use Rattle.drift_world.specs.declared.state.State.{State}
+use Rattle.world_law.proofs.giving.Given.{some_same}
+use Rattle.world_law.specs.world.World.{AreWays, AtPort, Stands, way_now}
+
+pub shows_of : {C M : Type 0} (reading : C → ℕ → ℕ) (stands : Kept M → Network → DeviceId → Node
+    → Type 0) (s : Scenario) (network : Network) (state : State C M) (notes : List Note) → Stands reading stands s (world_of network state) notes
+    → IsOf reading s network state
+shows_of reading stands s network state notes old = record { same = old.same; clocks = old.clocks; broken = old.broken; ways = old.ways }
+
+way_is : (s : Scenario) (now : ℕ) (ups downs : List WayState) (link : LinkId) (up : Way) (ways : List WayState) (way : WayState)
+    → slice_get (map way_as ways) link.0 ≡ Some (way_now s now link up) → slice_get ways link.0 ≡ Some way → way_as way ≡ way_now s now link up
+way_is s now ups downs link up ways way is found = some_same _ _ _ (slice_get-map way_as ways link.0 ∙ ap (option_map way_as) found) is
+
+-- the way on which a device sends is as the scenario has it
+pub way_by : (s : Scenario) (now : ℕ) (ups downs : List WayState) (link : LinkId) (way : WayState) (down : Bool)
+    → AreWays s now (map way_as ups) (map way_as downs) → link.0 < length s.network.link → slice_get (if down then downs else ups) link.0 ≡ Some way
+    → way_as way ≡ way_now s now link (if down then Down else Up)
+way_by s now ups downs link way true are lt found = way_is s now ups downs link Down downs way (are.down link lt) found
+way_by s now ups downs link way false are lt found = way_is s now ups downs link Up ups way (are.up link lt) found
+
+-- the record of what leaves
+pub departure_is : (s : Scenario) (now : ℕ) (e : AtPort) (network : Network) (reading : ℕ) (cut : Bool) → network ≡ s.network
+    → is_broken s e.device now ≡ false → reading ≡ s.reading e.device now → cut ≡ is_cut s e.link (way_from s.network e.device e.link) now
+    → Some (departed network reading cut e) ≡ departure_in s now e
+departure_is s now e network reading cut same sound read is =
+    ap (λ (n : Network). Some (departed n reading cut e)) same ∙ ap (λ (r : ℕ). Some (departed s.network r cut e)) read
+    ∙ ap (λ (c : Bool). Some (departed s.network (s.reading e.device now) c e)) is
+    ∙ sym (ap (λ (b : Bool). if b then None else Some
+    (departed s.network (s.reading e.device now) (is_cut s e.link (way_from s.network e.device e.link) now) e)) sound)

@@ -1,0 +1,166 @@
+-- What switches hold once a record is given, as its law asks for it.
+use Rattle.std.proofs.Common.{◌≡◌, ◌⊎◌, ℕ, Bool, true, false, not, ◌&&◌, ◌==◌, if◌then◌else◌, List, [], ◌∷◌, ◌++◌, map, filter, Option, Some, None, inl, inr, refl, sym, ap, subst, ◌∙◌}
+use Rattle.std.proofs.lemmas.Bool.{both_ways, eqb-true, eq-eqb}
+use Rattle.net_plan.specs.declared.ids.DeviceId.{DeviceId}
+use Rattle.net_plan.specs.declared.ids.VlId.{VlId}
+use Rattle.net_plan.specs.declared.network.Network.{Network}
+use Rattle.run_law.proofs.runs.Places.{in_left, in_right}
+use Rattle.run_law.specs.declared.note.NoteBody.TheVariants.{Event, Arrived, Permanent, Compressed, Sent, Corrected, State as Changed, Left, Lost, TtSent, Accepted, Delivered, Dropped, Clock}
+use Rattle.run_law.specs.declared.note.NoteBody.{NoteBody}
+use Rattle.run_law.specs.records.Happenings.{Happening}
+use Rattle.run_law.specs.records.Order.{IsIn}
+use Rattle.run_law.specs.timed.Dispatching.{is_accepted}
+use Rattle.drift_world.specs.Giving.{HasItsOctets}
+use Rattle.drift_world.specs.Storing.{is_held_of, stored_by, stored_for, stored_with}
+use Rattle.drift_world.specs.Views.{octets_in, octets_of, stored_as}
+use Rattle.drift_world.specs.declared.contents.Holding.{Holding}
+use Rattle.drift_world.specs.declared.contents.Timed.{Timed}
+use Rattle.world_law.specs.world.Steps.{AreTaken}
+use Rattle.world_law.specs.world.World.{Stored}
+
+-- ---- lists that are mapped and filtered
+
+into_map : {X Y : Type 0} (f : X → Y) (xs : List X) (x : X) → IsIn x xs → IsIn (f x) (map f xs)
+into_map f [] x there = absurd there
+into_map f (y ∷ xs) x (inl e) = inl (ap f e)
+into_map f (y ∷ xs) x (inr rest) = inr (into_map f xs x rest)
+
+out_of_map : {X Y : Type 0} (f : X → Y) (xs : List X) (y : Y) → IsIn y (map f xs) → (x : X) × IsIn x xs × (y ≡ f x)
+out_of_map f [] y there = absurd there
+out_of_map f (x ∷ xs) y (inl e) = (x, inl refl, e)
+out_of_map f (x ∷ xs) y (inr rest) = let of = out_of_map f xs y rest in (of.0, inr of.1, of.2)
+
+record IsPassed {X : Type 0} (q : X → Bool) (xs : List X) (x : X) : Type 0 where
+  was : IsIn x xs
+  passes : q x ≡ true
+
+out_of_filter : {X : Type 0} (q : X → Bool) (xs : List X) (x : X) → IsIn x (filter q xs) → IsPassed q xs x
+out_of_filter q [] x there = absurd there
+out_of_filter {X} q (y ∷ xs) x there = by_test (q y) refl (λ i. out_of_filter q xs x i) there
+  where
+    by_test : (b : Bool) → q y ≡ b → (IsIn x (filter q xs) → IsPassed q xs x) → IsIn x (if b then y ∷ filter q xs else filter q xs) → IsPassed q (y ∷ xs) x
+    by_test true is more (inl e) = record { was = inl e; passes = ap q e ∙ is }
+    by_test true is more (inr rest) = let of = more rest in record { was = inr of.was; passes = of.passes }
+    by_test false is more rest = let of = more rest in record { was = inr of.was; passes = of.passes }
+
+into_filter : {X : Type 0} (q : X → Bool) (xs : List X) (x : X) → IsIn x xs → q x ≡ true → IsIn x (filter q xs)
+into_filter q [] x there is = absurd there
+into_filter {X} q (y ∷ xs) x (inl e) is = subst (λ (b : Bool). IsIn x (if b then y ∷ filter q xs else filter q xs)) (sym is ∙ ap q e) (inl e)
+into_filter {X} q (y ∷ xs) x (inr rest) is =
+    elim (q y) as (λ b. IsIn x (if b then y ∷ filter q xs else filter q xs)) [
+      | true ↦ inr (into_filter q xs x rest is)
+      | false ↦ into_filter q xs x rest is
+    ]
+
+pub in_pushed : {X : Type 0} (xs : List X) (y x : X) → IsIn x (xs ++ y ∷ []) → IsIn x xs ⊎ (x ≡ y)
+in_pushed [] y x (inl e) = inr e
+in_pushed [] y x (inr rest) = absurd rest
+in_pushed (z ∷ xs) y x (inl e) = inl (inl e)
+in_pushed (z ∷ xs) y x (inr rest) =
+    elim (in_pushed xs y x rest) [
+      | inl i ↦ inl (inr i)
+      | inr e ↦ inr e
+    ]
+
+not_not : (b : Bool) → not b ≡ true → b ≡ false
+not_not true e = absurd cc
+not_not false e = refl
+
+not_so : (b : Bool) → b ≡ false → not b ≡ true
+not_so true e = absurd cc
+not_so false e = refl
+
+-- ---- no frame is taken
+
+none_taken : (x : Happening) (number : ℕ) (held : List Stored) → ((device : DeviceId) (vl : VlId) → is_accepted device vl x.note.body ≡ false)
+    → AreTaken x number held held
+none_taken x number held none = record {
+  real = λ e there. inl (there, none e.device e.vl);
+  kept = λ e there not. there;
+  all = λ device vl is. absurd (both_ways _ (none device vl) is);
+}
+
+-- ---- one is
+
+same_both : (a b c d : ℕ) → (a == b && c == d) ≡ true → (a ≡ b) × (c ≡ d)
+same_both a b c d e = by_first (a == b) refl e
+  where
+    by_first : (t : Bool) → (a == b) ≡ t → (t && c == d) ≡ true → (a ≡ b) × (c ≡ d)
+    by_first true is e = (eqb-true a b is, eqb-true c d e)
+    by_first false is e = absurd cc
+
+module _ (network : Network) (x : Happening) (number : ℕ) (held : List Holding) (one : Holding)
+    (by : (device : DeviceId) (vl : VlId) → is_accepted device vl x.note.body ≡ (device.0 == one.device.0 && vl.0 == one.vl.0)) (numbered : one.number ≡ number)
+    (own : x.octets ≡ octets_of network one.octets) where
+  one_taken : AreTaken x number (map (stored_as network) held) (map (stored_as network) (stored_with one held))
+  one_taken = record {
+    real = λ e there.
+        let of = out_of_map (stored_as network) (stored_with one held) e there in
+        elim (in_pushed _ one of.0 of.1) [
+          | inl old ↦
+              let was = out_of_filter (λ (h : Holding). not (is_held_of one.device one.vl h)) held of.0 old in
+              inl (subst (λ (s : Stored). IsIn s (map (stored_as network) held) × (is_accepted s.device s.vl x.note.body ≡ false)) (sym of.2) (
+                into_map (stored_as network) held of.0 was.was,
+                by of.0.device of.0.vl ∙ not_not _ was.passes,
+              ))
+          | inr new ↦
+              let same : e ≡ stored_as network one = of.2 ∙ ap (stored_as network) new in
+              inr (subst (λ (s : Stored). (is_accepted s.device s.vl x.note.body ≡ true) × (s.number ≡ number) × (s.octets ≡ x.octets)) (sym same) (
+                by one.device one.vl ∙ itself,
+                numbered,
+                sym own,
+              ))
+        ];
+    kept = λ e there not_taken.
+        let of = out_of_map (stored_as network) held e there in
+        let is = subst (λ (s : Stored). is_accepted s.device s.vl x.note.body ≡ false) of.2 not_taken in
+        subst (λ (s : Stored). IsIn s (map (stored_as network) (stored_with one held))) (sym of.2)
+        (into_map (stored_as network) (stored_with one held) of.0
+        (in_left of.0 _ (one ∷ [])
+        (into_filter (λ (h : Holding). not (is_held_of one.device one.vl h)) held of.0 of.1 (not_so _ (sym (by of.0.device of.0.vl) ∙ is)))));
+    all = λ device vl is.
+        let same = same_both device.0 one.device.0 vl.0 one.vl.0 (sym (by device vl) ∙ is) in (
+          stored_as network one,
+          into_map (stored_as network) (stored_with one held) one (in_right one _ (one ∷ []) (inl refl)),
+          ap (λ (k : ℕ). let d : DeviceId = record { 0 = k } in d) (sym same.0),
+          ap (λ (k : ℕ). let v : VlId = record { 0 = k } in v) (sym same.1),
+        );
+  }
+    where
+      itself : (one.device.0 == one.device.0 && one.vl.0 == one.vl.0) ≡ true
+      itself = ap (λ (b : Bool). b && one.vl.0 == one.vl.0) (eq-eqb one.device.0 one.device.0 refl) ∙ eq-eqb one.vl.0 one.vl.0 refl
+
+-- ---- by the record
+
+by_accepted : (network : Network) (x : Happening) (number : ℕ) (held : List Holding) (device : DeviceId) (vl : VlId) (octets : Option Timed)
+    → ((other : DeviceId) (of_vl : VlId) → is_accepted other of_vl x.note.body ≡ (other.0 == device.0 && of_vl.0 == vl.0))
+    → (octets ≡ None → ⊥) → x.octets ≡ octets_in network octets
+    → AreTaken x number (map (stored_as network) held) (map (stored_as network) (stored_for device vl octets number held))
+by_accepted network x number held device vl None by some own = absurd (some refl)
+by_accepted network x number held device vl (Some octets) by some own =
+    one_taken network x number held (record { device = device; vl = vl; number = number; octets = octets }) by refl own
+
+has_some : (device : DeviceId) (link : _) (cause : ℕ) (vl : VlId) (cycle : ℕ) (octets : Option Timed)
+    → HasItsOctets (Accepted device link cause vl cycle) octets → octets ≡ None → ⊥
+has_some device link cause vl cycle None has e = has
+has_some device link cause vl cycle (Some o) has e = cc
+
+-- what the switch took by it is held, and nothing else changes
+pub taken_by : (network : Network) (x : Happening) (number : ℕ) (held : List Holding) (body : NoteBody) (octets : Option Timed) → x.note.body ≡ body
+    → HasItsOctets body octets → x.octets ≡ octets_in network octets
+    → AreTaken x number (map (stored_as network) held) (map (stored_as network) (stored_by body octets number held))
+taken_by network x number held (Accepted d l c v k) octets is has own = by_accepted network x number held d v octets
+    (λ other of_vl. ap (is_accepted other of_vl) is) (has_some d l c v k octets has) own
+taken_by network x number held (Event a b) octets is has own = none_taken x number _ (λ device vl. ap (is_accepted device vl) is)
+taken_by network x number held (Arrived a b c d) octets is has own = none_taken x number _ (λ device vl. ap (is_accepted device vl) is)
+taken_by network x number held (Permanent a b c d e) octets is has own = none_taken x number _ (λ device vl. ap (is_accepted device vl) is)
+taken_by network x number held (Compressed a b c d e f) octets is has own = none_taken x number _ (λ device vl. ap (is_accepted device vl) is)
+taken_by network x number held (Sent a b) octets is has own = none_taken x number _ (λ device vl. ap (is_accepted device vl) is)
+taken_by network x number held (Corrected a b c d) octets is has own = none_taken x number _ (λ device vl. ap (is_accepted device vl) is)
+taken_by network x number held (Changed a b c d) octets is has own = none_taken x number _ (λ device vl. ap (is_accepted device vl) is)
+taken_by network x number held (Left a b c d) octets is has own = none_taken x number _ (λ device vl. ap (is_accepted device vl) is)
+taken_by network x number held (Lost a b c) octets is has own = none_taken x number _ (λ device vl. ap (is_accepted device vl) is)
+taken_by network x number held (TtSent a b c d e) octets is has own = none_taken x number _ (λ device vl. ap (is_accepted device vl) is)
+taken_by network x number held (Delivered a b c d e) octets is has own = none_taken x number _ (λ device vl. ap (is_accepted device vl) is)
+taken_by network x number held (Dropped a b c d) octets is has own = none_taken x number _ (λ device vl. ap (is_accepted device vl) is)
+taken_by network x number held (Clock a b c d) octets is has own = none_taken x number _ (λ device vl. ap (is_accepted device vl) is)

@@ -1,0 +1,154 @@
+-- An event within the hypothesis suits the world: it turns on only a device that is off, and has octets sent only by an
+-- end system.
+use Rattle.std.proofs.Common.{◌≡◌, ℕ, ◌<◌, true, false, List, [], ◌∷◌, ◌++◌, length, Option, Some, None, inl, inr, refl, sym, ap, subst, ◌∙◌}
+use Rattle.std.specs.Prelude.{nat_le, IsSomeAnd}
+use Rattle.std.specs.List.{Any}
+use Rattle.std.specs.Option.{option_map_or}
+use Rattle.std.proofs.lemmas.Bool.{cases_Bool, eqb-true}
+use Rattle.std.proofs.lemmas.List.{append-nil}
+use Rattle.net_plan.specs.Belonging.{IsOfNetwork}
+use Rattle.net_plan.specs.Places.{device_at, is_end_system, is_master, link_at}
+use Rattle.net_plan.specs.declared.event.Event.{Event}
+use Rattle.net_plan.specs.declared.event.What.{What}
+use Rattle.net_plan.specs.declared.event.What.TheVariants as events
+use Rattle.net_plan.specs.declared.ids.DeviceId.{DeviceId}
+use Rattle.net_plan.specs.declared.ids.LinkId.{LinkId}
+use Rattle.net_plan.specs.declared.network.Network.{Network}
+use Rattle.net_plan.specs.declared.tables.Device.{Device}
+use Rattle.net_plan.specs.declared.tables.Link.{Link}
+use Rattle.net_plan.specs.declared.tables.Role.{Role}
+use Rattle.net_plan.specs.declared.tables.Role.TheVariants.{Client, Cm, Master, Relay}
+use Rattle.run_law.proofs.law.FirstPlaces.{in_filter}
+use Rattle.run_law.proofs.runs.Places.{parted}
+use Rattle.run_law.proofs.scenario.Decisions.{any_first, any_later, any_of_none, any_parts}
+use Rattle.run_law.specs.declared.note.Note.{Note}
+use Rattle.run_law.specs.declared.outside.Outside.TheVariants as outside
+use Rattle.run_law.specs.machines.Nodes.{Node}
+use Rattle.run_law.specs.records.Happenings.{Happening, happenings}
+use Rattle.run_law.specs.records.Order.{IsIn}
+use Rattle.run_law.specs.scenario.Devices.{is_end}
+use Rattle.run_law.specs.scenario.Faults.{Breaks, IsBroken, TurnsOn}
+use Rattle.run_law.specs.scenario.Hypothesis.{AreWithinHypothesis, IsWithinHypothesis, breaks_at}
+use Rattle.run_law.specs.scenario.Scenarios.{is_broken}
+use Rattle.sync_state.specs.declared.state.State.{State}
+use Rattle.sync_state.specs.declared.state.State.TheVariants.{Off}
+use Rattle.tte_units.specs.Amount.{amount}
+use Rattle.drift_world.proofs.EventRuns.{none_coming}
+use Rattle.drift_world.proofs.Offs.{begins_off, stays_off}
+use Rattle.drift_world.specs.Applying.{IsShown}
+use Rattle.world_law.proofs.ripening.Awake.{any_in}
+use Rattle.world_law.specs.source.Agreeing.{scenario}
+use Rattle.world_law.specs.world.Steps.{FitsWorld}
+use Rattle.world_law.specs.world.World.{IsFromEnd, IsHeld, Stands, World}
+
+-- ---- one of the events
+
+any_of_in : {X : Type 0} (P : X → Type 0) (x : X) (xs : List X) → IsIn x xs → P x → Any P xs
+any_of_in P x [] i p = absurd i
+any_of_in P x (y ∷ xs) (inl same) p = any_first P y xs (subst P same p)
+any_of_in P x (y ∷ xs) (inr i) p = any_later P y xs (any_of_in P x xs i p)
+
+in_of_any : {X : Type 0} (P : X → Type 0) (xs : List X) → Any P xs → (x : X) × IsIn x xs × P x
+in_of_any P [] any = absurd (any_of_none P any)
+in_of_any P (x ∷ xs) any = elim (any_parts P x xs any) [
+  | inl p ↦ (x, inl refl, p)
+  | inr more ↦ let it = in_of_any P xs more in (it.0, inr it.1, it.2)
+]
+
+broken_by : (device : DeviceId) (what : What) → breaks_at device.0 what ≡ true → what ≡ events.Break device
+broken_by device (events.Break other) e =
+    let same = eqb-true other.0 device.0 e in ap (λ (n : ℕ). events.Break (let d : DeviceId = record { 0 = n } in d)) same
+broken_by device other e = absurd cc
+
+-- ---- octets are sent by a broken device alone, which is a master
+
+master_ends : (role : Role) → is_master role ≡ true → is_end_system role ≡ true
+master_ends Master e = refl
+master_ends Client e = refl
+master_ends Cm e = absurd cc
+master_ends Relay e = absurd cc
+
+not_end : (o : Option Device) → option_map_or (λ d. is_end_system d.role) o false ≡ false → IsSomeAnd o (λ d. is_master d.role ≡ true) → ⊥
+not_end None none_such master = absurd master
+not_end (Some d) none_such master = let yes = master_ends d.role master in let bad : true ≡ false = sym yes ∙ none_such in cc
+
+-- a device that is broken is an end system
+broken_ends : (network : Network) (past : List Event) (device : DeviceId) → AreWithinHypothesis network past → is_end network device ≡ false
+    → IsBroken past device → ⊥
+broken_ends network past device within none_such broken =
+    let it = in_of_any (Breaks device) past broken in
+    let at = parted it.0 past it.1 in
+    within at.0 at.1 it.0 at.2 outside.NotMaster (record { device = device; breaks = it.2; no_master = not_end (device_at network device) none_such })
+
+sends_end : (network : Network) (past : List Event) (event : Event) (link : LinkId) (octets : List ℕ) → AreWithinHypothesis network past
+    → IsWithinHypothesis network past event → event.what ≡ events.Send link octets → link.0 < length network.link → IsFromEnd network link
+sends_end network past event link octets within here what there = from (link_at network link) refl
+  where
+    lacks : (o : Option Link) → link_at network link ≡ o → IsSomeAnd o (λ l. is_end network l.child ≡ false) → IsSomeAnd o (λ l. IsBroken past l.child) → ⊥
+    lacks None is none_such broken = absurd none_such
+    lacks (Some l) is none_such broken = broken_ends network past l.child within none_such broken
+    from : (o : Option Link) → link_at network link ≡ o → IsFromEnd network link
+    from None none = let it = Rattle.drift_world.proofs.Beginnings.found network.link link.0 there in let bad : None ≡ Some it.0 = sym none ∙ it.1 in absurd cc
+    from (Some l) is = elim (cases_Bool (is_end network l.child)) [
+      | inl is_so ↦ subst (λ (o : Option Link). IsSomeAnd o (λ l. is_end network l.child ≡ true)) (sym is) is_so
+      | inr none_such ↦ absurd (here outside.NotBroken (record {
+        link = link;
+        octets = octets;
+        what = what;
+        unbroken = λ broken. lacks (Some l) is none_such (subst (λ (o : Option Link). IsSomeAnd o (λ l. IsBroken past l.child)) is broken);
+      }))
+    ]
+
+-- ---- a device that is turned on is off
+
+module _ {C M : Type 0} (reading : C → ℕ → ℕ) (stands : M → Network → DeviceId → Node → Type 0) (network : Network) (f : DeviceId → ℕ → ℕ)
+    (past : List Event) (world : World C M) (notes : List Note) (old : Stands reading stands (scenario network f past) world notes)
+    (early : world.early ≡ true) (event : Event) (within : IsWithinHypothesis network past event) where
+  hs : List Happening
+  hs = happenings network notes
+
+  not_broken : (device : DeviceId) → event.what ≡ events.On device → is_broken (scenario network f past) device world.now ≡ true → ⊥
+  not_broken device what broken =
+      let it = any_in (λ e. breaks_at device.0 e.what) (Rattle.run_law.specs.scenario.Scenarios.events_up_to (scenario network f past) world.now) broken in
+      within outside.NotOff (record {
+        device = device;
+        what = what;
+        known = inr (inr (any_of_in (Breaks device) it.0 past (in_filter (λ (e : Event). nat_le (amount e.time) world.now) past it.0 it.1)
+            (broken_by device it.0.what it.2)));
+      })
+
+  held_off : (device : DeviceId) (machine : M) → event.what ≡ events.On device
+      → IsHeld stands (scenario network f past) (happenings network notes) old.coming old.cursor world.now device machine
+      → (node : Node) × stands machine network device node × (node.standing.state ≡ Off)
+  held_off device machine what (inr k) = absurd (not_broken device what k.broken)
+  held_off device machine what (inl k) =
+      let s = scenario network f past in
+      let whole : happenings network notes ++ old.coming ≡ happenings network notes =
+      ap (λ (l : List Happening). happenings network notes ++ l) (none_coming reading stands s world notes old early) ∙ append-nil (happenings network notes) in
+      let off = stays_off s device (begins_off s device (λ begins. within outside.NotOff (record { device = device; what = what; known = inl begins })))
+      (λ e i on. within outside.NotOff (record { device = device; what = what; known = inr (inl (any_of_in (TurnsOn device) e past i on)) }))
+      (happenings network notes ++ old.coming)
+      (λ front rest z e. (old.run.founded front rest z (sym whole ∙ e)).1) k.up in (
+        k.node,
+        k.is,
+        k.left.state ∙ off,
+      )
+
+  pub suits : (what : What) → event.what ≡ what → AreWithinHypothesis network past → IsOfNetwork network what
+      → ((device : DeviceId) → what ≡ events.On device → (state : State) × IsShown stands network world.machines device state) → FitsWorld stands network world what
+  suits (events.On device) what all of_network shows =
+      let state = shows device refl in
+      let it = old.devices device of_network in
+      let off = held_off device it.0 what it.2 in
+      let is : state.0 ≡ Off = state.1 it.0 off.0 it.1 off.1 ∙ off.2 in (
+        of_network,
+        λ machine node there k. sym (state.1 machine node there k) ∙ is,
+      )
+  suits (events.Send link octets) what all of_network shows = sends_end network past event link octets all within what of_network
+  suits (events.Rate device rate) what all of_network shows = tt
+  suits (events.Wire link way delay) what all of_network shows = tt
+  suits (events.Hold link way hold) what all of_network shows = tt
+  suits (events.Cut link way) what all of_network shows = tt
+  suits (events.Heal link way) what all of_network shows = tt
+  suits (events.Break device) what all of_network shows = tt
+  suits events.End what all of_network shows = tt

@@ -1,0 +1,297 @@
+-- Timers that are right, and stay so.
+use Rattle.std.proofs.Common.{◌≡◌, ◌⊎◌, ◌↔◌, ℕ, zero, suc, ◌+◌, ◌*◌, ◌<◌, ◌≤◌, ◌^◌, pos, ◌<ℤ◌, ◌≤ℤ◌, Bool, List, [], ◌∷◌, All, length, Option, Some, None, slice_get, slice_set, inl, inr, refl, sym, ap, subst, ◌∙◌, arith}
+use Rattle.std.proofs.lemmas.Bool.{cases_eq, cases_lt}
+use Rattle.std.proofs.lemmas.Int.{ints}
+use Rattle.std.proofs.lemmas.List.Elements.{All-set}
+use Rattle.due_timers.specs.Times.{never}
+use Rattle.net_plan.specs.declared.ids.DeviceId.{DeviceId}
+use Rattle.net_plan.specs.declared.network.Network.{Network}
+use Rattle.run_law.specs.machines.Nodes.{Node}
+use Rattle.run_law.specs.machines.Tasks.{IsDueReading}
+use Rattle.run_law.specs.records.Order.{IsIn}
+use Rattle.tte_units.specs.declared.units.Units.{Units}
+use Rattle.drift_world.specs.Keeping.{keeps}
+use Rattle.drift_world.specs.Sourcing.{AreTimed}
+use Rattle.drift_world.specs.Sound.{IsSized}
+use Rattle.drift_world.specs.Stepping.{ActsAt, ChangesOnly, IsRipeAt, IsRunning, IsTimed}
+use Rattle.drift_world.specs.Timing.{IsLeastPoint, IsReachedAt, IsTimeFor}
+use Rattle.drift_world.specs.declared.contents.Waits.{Waits}
+use Rattle.drift_world.specs.declared.kept.Kept.{Kept}
+use Rattle.drift_world.specs.declared.state.State.{State}
+
+-- ---- a slot that is set
+
+pub set_same : {X : Type 0} (xs : List X) (i : ℕ) (x : X) → i < length xs → slice_get (slice_set xs i x) i ≡ Some x
+set_same [] i x h = absurd (omega (arith, h))
+set_same (y ∷ xs) zero x h = refl
+set_same (y ∷ xs) (suc i) x h = set_same xs i x (omega (arith, h))
+
+pub set_other : {X : Type 0} (xs : List X) (i j : ℕ) (x : X) → (j ≡ i → ⊥) → slice_get (slice_set xs i x) j ≡ slice_get xs j
+set_other [] i j x h = refl
+set_other (y ∷ xs) zero zero x h = absurd (h refl)
+set_other (y ∷ xs) zero (suc j) x h = refl
+set_other (y ∷ xs) (suc i) zero x h = refl
+set_other (y ∷ xs) (suc i) (suc j) x h = set_other xs i j x (λ e. h (ap suc e))
+
+-- ---- a time at which a clock reads so much
+
+-- no clock reads more in a run
+abbrev pub IsLow : {C : Type 0} → (C → ℕ → ℕ) → C → ℕ → Type 0
+IsLow reading clock now = (u : ℕ) → now ≤ u → u ≤ 2 ^ 60 → reading clock u ≤ 2 ^ 60 + 2 ^ 51
+
+-- it is not past
+pub not_past : {C : Type 0} (reading : C → ℕ → ℕ) (clock : C) (now : ℕ) (value : Option Units) (time : ℕ) → now ≤ 2 ^ 60
+    → IsTimeFor reading clock now value time → now ≤ time
+not_past reading clock now None time limit is = omega (arith, is, limit)
+not_past reading clock now (Some value) time limit (inl is) = let e = is.0 in omega (arith, e, limit)
+not_past reading clock now (Some value) time limit (inr is) = is.from_now
+
+-- before it the clock reads less
+pub reads_less : {C : Type 0} (reading : C → ℕ → ℕ) (clock : C) (now : ℕ) (value : Units) (time u : ℕ) → IsLow reading clock now
+    → IsTimeFor reading clock now (Some value) time → now ≤ u → u ≤ 2 ^ 60 → value.0 ≤ℤ pos (reading clock u) → time ≤ u
+reads_less reading clock now value time u low (inl is) from most reached =
+    let above = is.1 in let most_read = low u from most in absurd (omega (arith, ints, above, reached, most_read))
+reads_less reading clock now value time u low (inr is) from most reached =
+    elim (cases_lt u time) [
+      | inl sooner ↦ let less = is.not_before u from sooner in absurd (omega (arith, ints, less, reached))
+      | inr le ↦ le
+    ]
+
+-- at it, it reads so much
+pub reads_so : {C : Type 0} (reading : C → ℕ → ℕ) (clock : C) (now : ℕ) (value : Units) (time : ℕ) → IsTimeFor reading clock now (Some value) time
+    → time < never → value.0 ≤ℤ pos (reading clock time)
+reads_so reading clock now value time (inl is) true_time = let e = is.0 in absurd (omega (arith, e, true_time))
+reads_so reading clock now value time (inr is) true_time = is.reached
+
+-- ---- the timers of a device are right
+
+pub ripe_timed : {C : Type 0} (reading : C → ℕ → ℕ) (clock : C) (waiting : List Waits) (device now : ℕ) (point : Option Units) (time : ℕ)
+    → IsLow reading clock now → IsLeastPoint waiting device point → IsTimeFor reading clock now point time
+    → IsRipeAt reading clock waiting device now time
+ripe_timed reading clock waiting device now None time low none is = record {
+  none = λ w there at u from most reached. absurd (none w there at);
+  one = λ true_time. absurd (omega (arith, is, true_time));
+}
+ripe_timed reading clock waiting device now (Some point) time low least is = record {
+  none = λ w there at u from most reached.
+      let le = least.1 w there at in reads_less reading clock now point time u low is from most (omega (arith, ints, le, reached));
+  one = λ true_time. (
+    least.0.0,
+    least.0.1,
+    least.0.2,
+    subst (λ (p : Units). p.0 ≤ℤ pos (reading clock time)) (sym least.0.3) (reads_so reading clock now point time is true_time),
+  );
+}
+
+pub acts_timed : {C M : Type 0} (reading : C → ℕ → ℕ) (stands : M → Network → DeviceId → Node → Type 0) (network : Network) (clock : C) (machine : Kept M)
+    (device : DeviceId) (now : ℕ) (due : Option Units) (time : ℕ)
+    → IsLow reading clock now → ((node : Node) → keeps stands machine network device node → IsDueReading network device node due)
+    → IsTimeFor reading clock now due time → ActsAt reading stands network clock machine device now time
+acts_timed reading stands network clock machine device now None time low none is = record {
+  none = λ node task kept pending u from most reached. absurd (none node kept task pending);
+  one = λ true_time. absurd (omega (arith, is, true_time));
+}
+acts_timed reading stands network clock machine device now (Some due) time low least is = record {
+  none = λ node task kept pending u from most reached.
+      let le = (least node kept).1 task pending in reads_less reading clock now due time u low is from most (omega (arith, ints, le, reached));
+  one = λ true_time node kept.
+      let first = (least node kept).0 in let at = first.2 in let reads = reads_so reading clock now due time is true_time in
+      (first.0, first.1, omega (arith, ints, at, reads));
+}
+
+-- ---- they stay so
+
+-- where the device is as it was, and time has not gone back
+pub still_timed : {C M : Type 0} (reading : C → ℕ → ℕ) (stands : M → Network → DeviceId → Node → Type 0) (network : Network) (old new : State C M)
+    (device : DeviceId) → IsTimed reading stands network old.timers old device
+    → slice_get new.clocks.items device.0 ≡ slice_get old.clocks.items device.0
+    → slice_get new.machines.items device.0 ≡ slice_get old.machines.items device.0
+    → ((w : Waits) → w.device.0 ≡ device.0 → IsIn w new.waiting.items ↔ IsIn w old.waiting.items)
+    → old.time ≤ new.time
+    → slice_get new.timers device.0 ≡ slice_get old.timers device.0
+    → slice_get new.timers (length network.device + device.0) ≡ slice_get old.timers (length network.device + device.0)
+    → IsTimed reading stands network new.timers new device
+still_timed reading stands network old new device is clocks machines waiting later ripe act = record {
+  clock = is.clock;
+  of_clock = clocks ∙ is.of_clock;
+  machine = is.machine;
+  of_machine = machines ∙ is.of_machine;
+  ripe = is.ripe;
+  of_ripe = ripe ∙ is.of_ripe;
+  ripens = record {
+    none = λ w there at u from most reached. is.ripens.none w ((waiting w at).0 there) at u (omega (arith, later, from)) most reached;
+    one = λ true_time. let r = is.ripens.one true_time in (r.0, (waiting r.0 r.2).1 r.1, r.2, r.3);
+  };
+  act = is.act;
+  of_act = act ∙ is.of_act;
+  acts = record {
+    none = λ node task kept pending u from most reached. is.acts.none node task kept pending u (omega (arith, later, from)) most reached;
+    one = is.acts.one;
+  };
+}
+
+module _ {C M : Type 0} (reading : C → ℕ → ℕ) (stands : M → Network → DeviceId → Node → Type 0) (network : Network) where
+  -- one device and its clock have changed, and its timers are set then
+  pub rekeyed_by : (device : DeviceId) (old mid new : State C M) → AreTimed reading stands network old → device.0 < length network.device
+      → ((i : ℕ) → (i ≡ device.0 → ⊥) → slice_get mid.clocks.items i ≡ slice_get old.clocks.items i)
+      → ((i : ℕ) → (i ≡ device.0 → ⊥) → slice_get mid.machines.items i ≡ slice_get old.machines.items i)
+      → ((w : Waits) → (w.device.0 ≡ device.0 → ⊥) → IsIn w mid.waiting.items ↔ IsIn w old.waiting.items)
+      → mid.time ≡ old.time → mid.timers ≡ old.timers
+      → new ≡ record mid { timers = new.timers }
+      → IsTimed reading stands network new.timers new device
+      → length new.timers ≡ length mid.timers
+      → ((slot : ℕ) → (slot ≡ device.0 → ⊥) → (slot ≡ length network.device + device.0 → ⊥) → slice_get new.timers slot ≡ slice_get mid.timers slot)
+      → (All (λ (time : ℕ). mid.time ≤ time) mid.timers → All (λ (time : ℕ). new.time ≤ time) new.timers)
+      → AreTimed reading stands network new
+  rekeyed_by device old mid new are of_it clocks machines waiting time timers same own sized others later = record {
+    sized = sized ∙ ap length timers ∙ are.sized;
+    each = λ other there.
+        elim (cases_eq other.0 device.0) [
+          | inl e ↦
+              subst (λ (d : DeviceId). IsTimed reading stands network new.timers new d) (ap (λ (n : ℕ). let d : DeviceId = record { 0 = n } in d) (sym e)) own
+          | inr ne ↦
+              still_timed reading stands network old new other (are.each other there)
+              (ap (λ (s : State C M). slice_get s.clocks.items other.0) same ∙ clocks other.0 ne)
+              (ap (λ (s : State C M). slice_get s.machines.items other.0) same ∙ machines other.0 ne)
+              (λ w at. subst (λ (s : State C M). IsIn w s.waiting.items ↔ IsIn w old.waiting.items) (sym same) (waiting w (λ e. ne (sym at ∙ e))))
+              (let now = ap (λ (s : State C M). s.time) same in omega (arith, now, time))
+              (others other.0 ne (λ e. omega (arith, e, there)) ∙ ap (λ (l : List ℕ). slice_get l other.0) timers)
+              (others (length network.device + other.0) (λ e. omega (arith, e, of_it)) (λ e. ne (omega (arith, e)))
+              ∙ ap (λ (l : List ℕ). slice_get l (length network.device + other.0)) timers)
+        ];
+    later = later
+        (subst (λ (n : ℕ). All (λ (t : ℕ). n ≤ t) mid.timers) (sym time)
+        (subst (λ (l : List ℕ). All (λ (t : ℕ). old.time ≤ t) l) (sym timers) are.later));
+  }
+
+  -- a step of one device, whose timers are set then
+  pub rekeyed : (device : DeviceId) (old mid new : State C M) → AreTimed reading stands network old → device.0 < length network.device
+      → ChangesOnly device.0 old mid
+      → mid.timers ≡ old.timers
+      → new ≡ record mid { timers = new.timers }
+      → IsTimed reading stands network new.timers new device
+      → length new.timers ≡ length mid.timers
+      → ((slot : ℕ) → (slot ≡ device.0 → ⊥) → (slot ≡ length network.device + device.0 → ⊥) → slice_get new.timers slot ≡ slice_get mid.timers slot)
+      → (All (λ (time : ℕ). mid.time ≤ time) mid.timers → All (λ (time : ℕ). new.time ≤ time) new.timers)
+      → AreTimed reading stands network new
+  rekeyed device old mid new are of_it changes timers same own sized others later =
+      rekeyed_by device old mid new are of_it (λ i ne. ap (λ (c : _). slice_get c.items i) changes.clocks) changes.machines changes.waiting changes.time
+      timers same own sized others later
+
+  -- a step that leaves what timers are for as it was
+  pub unmoved : (old new : State C M) → AreTimed reading stands network old → new.clocks ≡ old.clocks → new.machines.items ≡ old.machines.items
+      → new.waiting.items ≡ old.waiting.items → new.time ≡ old.time → new.timers ≡ old.timers → AreTimed reading stands network new
+  unmoved old new are clocks machines waiting time timers = record {
+    sized = ap length timers ∙ are.sized;
+    each = λ device there.
+        still_timed reading stands network old new device (are.each device there) (ap (λ (c : _). slice_get c.items device.0) clocks)
+        (ap (λ (l : _). slice_get l device.0) machines)
+        (λ w at. subst (λ (l : List Waits). IsIn w l ↔ IsIn w old.waiting.items) (sym waiting) ((λ i. i), (λ i. i)))
+        (omega (arith, time)) (ap (λ (l : List ℕ). slice_get l device.0) timers)
+        (ap (λ (l : List ℕ). slice_get l (length network.device + device.0)) timers);
+    later = subst (λ (n : ℕ). All (λ (t : ℕ). n ≤ t) new.timers) (sym time)
+        (subst (λ (l : List ℕ). All (λ (t : ℕ). old.time ≤ t) l) (sym timers) are.later);
+  }
+
+  -- a step of none of the devices
+  pub aside : (other : ℕ) (old new : State C M) → AreTimed reading stands network old → length network.device ≤ other → ChangesOnly other old new
+      → new.timers ≡ old.timers → AreTimed reading stands network new
+  aside other old new are none c timers = record {
+    sized = ap length timers ∙ are.sized;
+    each = λ device there.
+        let time = c.time in
+        still_timed reading stands network old new device (are.each device there) (ap (λ (k : _). slice_get k.items device.0) c.clocks)
+        (c.machines device.0 (λ e. omega (arith, e, there, none)))
+        (λ w at. c.waiting w (λ e. omega (arith, e, at, there, none)))
+        (omega (arith, time)) (ap (λ (l : List ℕ). slice_get l device.0) timers)
+        (ap (λ (l : List ℕ). slice_get l (length network.device + device.0)) timers);
+    later = subst (λ (n : ℕ). All (λ (t : ℕ). n ≤ t) new.timers) (sym c.time)
+        (subst (λ (l : List ℕ). All (λ (t : ℕ). old.time ≤ t) l) (sym timers) are.later);
+  }
+
+  pub unchanged : (old new : State C M) → AreTimed reading stands network old → ((device : ℕ) → ChangesOnly device old new) → new.timers ≡ old.timers
+      → AreTimed reading stands network new
+  unchanged old new are changes timers =
+      aside (length network.device) old new are (omega arith) (changes (length network.device)) timers
+
+  -- time passes, up to no timer's time
+  pub passed : (old : State C M) (t : ℕ) (early : Bool) → AreTimed reading stands network old → old.time ≤ t → All (λ (time : ℕ). t ≤ time) old.timers
+      → AreTimed reading stands network (record old { time = t; early = early })
+  passed old t early are later none = record {
+    sized = are.sized;
+    each = λ device there.
+        still_timed reading stands network old (record old { time = t; early = early }) device (are.each device there) refl refl
+        (λ w at. ((λ i. i), (λ i. i))) later refl refl;
+    later = none;
+  }
+
+-- ---- the timers of all devices are set, one after the other
+
+-- those of so many are right, none is past, and nothing else has changed
+pub record AreSetTo {C M : Type 0} (reading : C → ℕ → ℕ) (stands : M → Network → DeviceId → Node → Type 0) (network : Network) (count : ℕ)
+    (old state : State C M) : Type 0 where
+  pub same : state ≡ record old { timers = state.timers }
+  pub sized : length state.timers ≡ 2 * length network.device
+  pub later : All (λ (time : ℕ). old.time ≤ time) state.timers
+  pub each : (device : DeviceId) → device.0 < count → device.0 < length network.device → IsTimed reading stands network state.timers state device
+
+module _ {C M : Type 0} (last_step : C → ℕ) (reading : C → ℕ → ℕ) (stands : M → Network → DeviceId → Node → Type 0) (network : Network)
+    (old state : State C M) (same : state ≡ record old { timers = state.timers }) where
+  -- what a state keeps does not depend on its timers
+  pub sized_with : IsSized last_step network old → IsSized last_step network state
+  sized_with is =
+      subst (λ (s : State C M). IsSized last_step network s) (sym same)
+      (record {
+        clocks = is.clocks;
+        machines = is.machines;
+        broken = is.broken;
+        ups = is.ups;
+        downs = is.downs;
+        stepped = is.stepped;
+        limit = is.limit;
+        shown = is.shown;
+      })
+
+  pub running_with : IsRunning reading stands network old → IsRunning reading stands network state
+  running_with is =
+      subst (λ (s : State C M). IsRunning reading stands network s) (sym same) (record { s = is.s; notes = is.notes; is = is.is })
+
+module _ {C M : Type 0} (reading : C → ℕ → ℕ) (stands : M → Network → DeviceId → Node → Type 0) (network : Network) where
+  -- one device more
+  pub set_more : (device : DeviceId) (old mid new : State C M) → AreSetTo reading stands network device.0 old mid
+      → new ≡ record mid { timers = new.timers }
+      → IsTimed reading stands network new.timers new device
+      → length new.timers ≡ length mid.timers
+      → ((slot : ℕ) → (slot ≡ device.0 → ⊥) → (slot ≡ length network.device + device.0 → ⊥) → slice_get new.timers slot ≡ slice_get mid.timers slot)
+      → (All (λ (time : ℕ). mid.time ≤ time) mid.timers → All (λ (time : ℕ). new.time ≤ time) new.timers)
+      → device.0 < length network.device → AreSetTo reading stands network (device.0 + 1) old new
+  set_more device old mid new are same own sized others later there =
+      let was = ap (λ (s : State C M). s.time) are.same in
+      let now = ap (λ (s : State C M). s.time) same in
+      record {
+        same = same ∙ ap (λ (s : State C M). let k : State C M = record s { timers = new.timers } in k) are.same;
+        sized = sized ∙ are.sized;
+        later = subst (λ (n : ℕ). All (λ (time : ℕ). n ≤ time) new.timers) (now ∙ was)
+            (later (subst (λ (n : ℕ). All (λ (time : ℕ). n ≤ time) mid.timers) (sym was) are.later));
+        each = λ other less of_it.
+            elim (cases_eq other.0 device.0) [
+              | inl e ↦
+                  subst (λ (d : DeviceId). IsTimed reading stands network new.timers new d) (ap (λ (n : ℕ). let d : DeviceId = record { 0 = n } in d) (sym e))
+                  own
+              | inr ne ↦
+                  still_timed reading stands network mid new other (are.each other (omega (arith, less, ne)) of_it)
+                  (ap (λ (s : State C M). slice_get s.clocks.items other.0) same)
+                  (ap (λ (s : State C M). slice_get s.machines.items other.0) same)
+                  (λ w at. subst (λ (s : State C M). IsIn w s.waiting.items ↔ IsIn w mid.waiting.items) (sym same) ((λ i. i), (λ i. i)))
+                  (omega (arith, now)) (others other.0 ne (λ e. omega (arith, e, of_it)))
+                  (others (length network.device + other.0) (λ e. omega (arith, e, there)) (λ e. ne (omega (arith, e))))
+            ];
+      }
+
+  pub all_set : (count : ℕ) (old new : State C M) → AreSetTo reading stands network count old new → length network.device ≤ count
+      → AreTimed reading stands network new
+  all_set count old new are all = record {
+    sized = are.sized;
+    each = λ device there. are.each device (omega (arith, there, all)) there;
+    later = subst (λ (n : ℕ). All (λ (time : ℕ). n ≤ time) new.timers) (sym (ap (λ (s : State C M). s.time) are.same)) are.later;
+  }

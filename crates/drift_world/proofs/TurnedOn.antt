@@ -1,0 +1,225 @@
+-- A device is turned on at the present instant where such an event befell and is pending.
+use Rattle.std.proofs.Common.{◌≡◌, ◌⊎◌, ℕ, suc, pos, ◌≤ℤ◌, ◌+◌, Bool, true, false, ◌&&◌, ◌||◌, ◌==◌, List, [], ◌∷◌, ◌++◌, length, Some, inl, inr, refl, sym, ap, subst, ◌∙◌, append_assoc, arith}
+use Rattle.std.specs.List.{list_any, slice_get}
+use Rattle.std.proofs.lemmas.Bool.{both_ways, cases_Bool, eq-eqb, eqb-true}
+use Rattle.net_plan.specs.declared.event.Event.{Event}
+use Rattle.net_plan.specs.declared.event.What.TheVariants as events
+use Rattle.net_plan.specs.declared.event.What.{What}
+use Rattle.net_plan.specs.declared.ids.DeviceId.{DeviceId}
+use Rattle.net_plan.specs.declared.network.Network.{Network}
+use Rattle.run_law.proofs.law.FirstPlaces.{in_at, numbered_in}
+use Rattle.run_law.proofs.runs.Places.{before_or_not, chain, in_right, never_self, parted}
+use Rattle.run_law.specs.machines.Nodes.{Node}
+use Rattle.run_law.specs.records.Causes.{IsOfThisTime}
+use Rattle.run_law.specs.records.Happenings.{Happening, happening, happenings, time_of}
+use Rattle.run_law.specs.records.Order.{AllBefore, IsBefore, IsIn, NoneBefore}
+use Rattle.run_law.specs.records.Ranks.{place_of}
+use Rattle.run_law.specs.runs.DueRecords.{IsCaused, IsDue, IsEventRecord}
+use Rattle.run_law.specs.runs.Runs.{IsFounded}
+use Rattle.run_law.specs.scenario.Scenarios.{Scenario, is_turned_on_at, turns_on}
+use Rattle.run_law.specs.declared.note.Note.{Note}
+use Rattle.run_law.specs.declared.note.NoteBody.TheVariants as kinds
+use Rattle.tte_units.specs.Amount.{amount}
+use Rattle.drift_world.proofs.HiddenCauses.{Rises}
+use Rattle.world_law.proofs.giving.Given.{in_get, some_same}
+use Rattle.world_law.proofs.runs.Applies.{event_cause, event_place}
+use Rattle.world_law.proofs.steps.AppliedParts.{before_others}
+use Rattle.world_law.specs.world.World.{Befell, Stands, World, has_outcome}
+
+-- ---- tests of a list
+
+by_first : (a b : Bool) → (a || b) ≡ true → (a ≡ true) ⊎ (b ≡ true)
+by_first true b e = inl refl
+by_first false b e = inr e
+
+pub any_in : {X : Type 0} (p : X → Bool) (xs : List X) → list_any p xs ≡ true → (x : X) × IsIn x xs × (p x ≡ true)
+any_in p [] e = absurd (both_ways false refl e)
+any_in p (x ∷ xs) e =
+    elim (by_first (p x) (list_any p xs) e) [
+      | inl here ↦ (x, inl refl, here)
+      | inr rest ↦ let found = any_in p xs rest in (found.0, inr found.1, found.2)
+    ]
+
+true_either : (a b : Bool) → (a ≡ true) ⊎ (b ≡ true) → (a || b) ≡ true
+true_either true b h = refl
+true_either false b (inl h) = absurd (both_ways false refl h)
+true_either false b (inr h) = h
+
+pub in_any : {X : Type 0} (p : X → Bool) (xs : List X) (x : X) → IsIn x xs → p x ≡ true → list_any p xs ≡ true
+in_any p [] x there e = absurd there
+in_any p (y ∷ xs) x (inl same) e = true_either (p y) (list_any p xs) (inl (ap p (sym same) ∙ e))
+in_any p (y ∷ xs) x (inr rest) e = true_either (p y) (list_any p xs) (inr (in_any p xs x rest e))
+
+both_true : (a b : Bool) → (a && b) ≡ true → (a ≡ true) × (b ≡ true)
+both_true true b e = (refl, e)
+both_true false b e = absurd (both_ways false refl e)
+
+and_true : (a b : Bool) → a ≡ true → b ≡ true → (a && b) ≡ true
+and_true true b e f = f
+and_true false b e f = absurd (both_ways false refl e)
+
+same_tests : (a b : Bool) → (a ≡ true → b ≡ true) → (b ≡ true → a ≡ true) → a ≡ b
+same_tests true true f g = refl
+same_tests false false f g = refl
+same_tests true false f g = sym (f refl)
+same_tests false true f g = g refl
+
+-- ---- records at a place
+
+rises : (s : Scenario) (hs : List Happening) → IsFounded place_of (IsDue s) hs → (front xs : List Happening) → hs ≡ front ++ xs → Rises xs
+rises s hs founded front [] is = tt
+rises s hs founded front (x ∷ xs) is = (
+  λ y there.
+      let split = parted y xs there in
+      let whole : hs ≡ (front ++ x ∷ split.0) ++ y ∷ split.1 = is ∙ ap (λ (l : List Happening). front ++ x ∷ l) split.2
+      ∙ sym (append_assoc front (x ∷ split.0) (y ∷ split.1)) in
+      (founded (front ++ x ∷ split.0) split.1 y whole).0 x (in_right x front (x ∷ split.0) (inl refl)),
+  rises s hs founded (front ++ x ∷ []) xs (is ∙ sym (append_assoc front (x ∷ []) xs)),
+)
+
+record IsSplit (hs : List Happening) (p : List ℕ) : Type 0 where
+  pub front : List Happening
+  pub back : List Happening
+  pub whole : hs ≡ front ++ back
+  pub before : AllBefore place_of front p
+  pub none : NoneBefore place_of back p
+
+split_at : (hs : List Happening) (p : List ℕ) → Rises hs → IsSplit hs p
+split_at [] p up = record { front = []; back = []; whole = refl; before = λ y there. absurd there; none = λ y there. absurd there }
+split_at (x ∷ xs) p up =
+    elim (before_or_not (place_of x) p) [
+      | inl sooner ↦
+          let rest = split_at xs p up.1 in
+          record {
+            front = x ∷ rest.front;
+            back = rest.back;
+            whole = ap (λ (l : List Happening). x ∷ l) rest.whole;
+            before = λ y there. elim there [ inl e ↦ subst (λ (h : Happening). IsBefore (place_of h) p) (sym e) sooner | inr inside ↦ rest.before y inside ];
+            none = rest.none;
+          }
+      | inr later ↦
+          record {
+            front = [];
+            back = x ∷ xs;
+            whole = refl;
+            before = λ y there. absurd there;
+            none = λ y there b.
+                elim there [
+                  | inl e ↦ later (subst (λ (h : Happening). IsBefore (place_of h) p) e b)
+                  | inr inside ↦ later (chain (place_of x) (place_of y) p (up.0 y inside) b)
+                ];
+          }
+    ]
+
+abbrev first_of : List ℕ → ℕ
+first_of [] = 0
+first_of (n ∷ ns) = n
+
+abbrev third_of : List ℕ → ℕ
+third_of (a ∷ b ∷ n ∷ ns) = n
+third_of other = 0
+
+-- ---- the events of the instant
+
+on_has_outcome : (device : DeviceId) (what : What) → turns_on device what ≡ true → has_outcome what ≡ true
+on_has_outcome device (events.On other) on = refl
+on_has_outcome device (events.Rate other rate) on = absurd (both_ways false refl on)
+on_has_outcome device (events.Wire link way delay) on = absurd (both_ways false refl on)
+on_has_outcome device (events.Hold link way delay) on = absurd (both_ways false refl on)
+on_has_outcome device (events.Cut link way) on = absurd (both_ways false refl on)
+on_has_outcome device (events.Heal link way) on = absurd (both_ways false refl on)
+on_has_outcome device (events.Break other) on = absurd (both_ways false refl on)
+on_has_outcome device (events.Send link octets) on = absurd (both_ways false refl on)
+on_has_outcome device events.End on = absurd (both_ways false refl on)
+
+module _ {C M : Type 0} (reading : C → ℕ → ℕ) (stands : M → Network → DeviceId → Node
+    → Type 0) (s : Scenario) (world : World C M) (notes : List Note) (old : Stands reading stands s world notes) (early : world.early ≡ true)
+    (begun : (e : Event) → IsIn e s.events → pos 0 ≤ℤ e.time.0) (device : DeviceId) where
+  hs : List Happening
+  hs = happenings s.network notes
+
+  -- what befell at this instant was an event
+  fell : list_any (λ b. turns_on device b.what) world.befell ≡ true → is_turned_on_at s device world.now ≡ true
+  unfolding hs
+  fell on =
+      let found = any_in (λ (b : Befell). turns_on device b.what) world.befell on in
+      let b = found.0 in
+      let real = old.untold.real b found.1 in
+      let h = real.1 in
+      let there : IsIn h hs = numbered_in hs b.number h real.2.there in
+      let split = parted h hs there in
+      let due = (old.run.founded split.0 split.1 h split.2).1 in
+      let r : IsEventRecord s.events h.note.time real.0 b.what = subst (IsCaused s split.0 h.note.time) real.3 due.cause in
+      in_any (λ e. turns_on device e.what && amount e.time == world.now) s.events r.event (in_at s.events r.before r.event r.is)
+      (and_true _ _ (ap (turns_on device) (sym r.same) ∙ found.2) (eq-eqb (amount r.event.time) world.now (ap amount (sym r.at) ∙ real.2.same_time)))
+
+  -- the events of this instant are pending
+  unsettled : (number : ℕ) (h : Happening) → IsOfThisTime hs world.now number h → world.pending ≡ true
+  unfolding hs
+  unsettled number h it =
+      elim (cases_Bool world.pending) [
+        | inl yes_pending ↦ yes_pending
+        | inr closed ↦ let over = old.untold.done closed number h it in absurd (never_self (world.now ∷ 2 ∷ []) (old.early early (world.now ∷ 2 ∷ []) over))
+      ]
+
+  -- an event of this instant has its record
+  record IsTold (i : ℕ) (e : Event) : Type 0 where
+    pub number : ℕ
+    pub h : Happening
+    pub this : IsOfThisTime hs world.now number h
+    pub line : ℕ
+    pub body : h.note.body ≡ kinds.Event line e.what
+
+  told : (i : ℕ) (e : Event) → slice_get s.events i ≡ Some e → amount e.time ≡ world.now → IsTold i e
+  unfolding hs
+  told i e is now_is =
+      let place = amount e.time ∷ 1 ∷ (i + 1) ∷ [] in
+      let split = split_at hs place (rises s hs old.run.founded [] hs refl) in
+      let y = happening s.network split.front (record { number = length split.front + 1; time = e.time; body = kinds.Event (i + 1) e.what }) in
+      let due : IsDue s split.front y = record {
+        number = refl;
+        same = refl;
+        begun = begun e (in_at s.events i e is);
+        cause = record { event = e; before = i; line_is = refl; is = is; at = refl; same = refl };
+      } in
+      let found = old.run.full split.front split.back y split.whole split.before split.none due (old.befallen.told i e is) in
+      let m = found.0 in
+      let at_place : place_of m ≡ place = found.2 in
+      let time_is : time_of m ≡ world.now = ap first_of at_place ∙ now_is in
+      let soon : IsBefore (place_of m) (world.now ∷ 2 ∷ []) = subst (λ (q : List ℕ). IsBefore q (world.now ∷ 2 ∷ [])) (sym at_place)
+      (inr (now_is, inl (omega arith))) in
+      elim (before_others m world.now soon) [
+        | inl past ↦ absurd (omega (arith, past, time_is))
+        | inr here ↦
+            let parts = parted m hs found.1 in
+            let m_due = (old.run.founded parts.0 parts.1 m parts.2).1 in
+            let c = event_cause s parts.0 m.note.time m.note.body here.1 m_due.cause in
+            let r = c.3 in
+            let lines : c.0 ≡ i + 1 = ap third_of (sym (event_place m c.0 c.1 c.2) ∙ at_place) in
+            let line_is = r.line_is in
+            let own : r.event ≡ e = some_same r.event e (slice_get s.events i)
+            (subst (λ (n : ℕ). slice_get s.events n ≡ Some r.event) (omega (arith, lines, line_is)) r.is) is in
+            let of = in_get hs m found.1 in
+            record {
+              number = suc of.0;
+              h = m;
+              this = record { there = of.1; same_time = time_is };
+              line = c.0;
+              body = c.2 ∙ ap (kinds.Event c.0) (r.same ∙ ap (λ (x : Event). x.what) own);
+            }
+      ]
+
+  befell_so : is_turned_on_at s device world.now ≡ true → list_any (λ b. turns_on device b.what) world.befell ≡ true
+  unfolding hs
+  befell_so on =
+      let found = any_in (λ e. turns_on device e.what && amount e.time == world.now) s.events on in
+      let e = found.0 in
+      let both = both_true (turns_on device e.what) (amount e.time == world.now) found.2 in
+      let at = in_get s.events e found.1 in
+      let it = told at.0 e at.1 (eqb-true (amount e.time) world.now both.1) in
+      in_any (λ (b : Befell). turns_on device b.what) world.befell (record { number = it.number; what = e.what })
+      (old.untold.all (unsettled it.number it.h it.this) it.number it.line e.what it.h it.this it.body (on_has_outcome device e.what both.0)) both.0
+
+  -- the device is turned on at this instant exactly where what befell turns it on
+  pub turned_on_is : is_turned_on_at s device world.now ≡ list_any (λ b. turns_on device b.what) world.befell
+  turned_on_is = same_tests _ _ befell_so fell

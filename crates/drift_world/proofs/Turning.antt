@@ -1,0 +1,384 @@
+-- A turn of a world: what comes first, and what the steps keep.
+use Rattle.std.proofs.Common.{◌≡◌, ◌⊎◌, ℕ, ◌+◌, ◌-◌, ◌*◌, ◌<◌, ◌≤◌, ◌^◌, pos, List, [], ◌∷◌, ◌++◌, All, length, map, Option, Some, None, Bool, true, Result, Ok, Err, slice_get, inl, inr, refl, sym, ap, subst, ◌∙◌, arith}
+use Rattle.std.proofs.lemmas.List.{append-nil, length-map}
+use Rattle.std.specs.Prelude.{◌↔◌, IfOk, OnErr, OnOk}
+use Rattle.net_plan.specs.declared.ids.DeviceId.{DeviceId}
+use Rattle.net_plan.specs.declared.network.Network.{Network}
+use Rattle.run_law.proofs.runs.Places.{before_later, before_later_time, chain, never_self}
+use Rattle.net_plan.specs.declared.ids.LinkId.{LinkId}
+use Rattle.run_law.specs.declared.note.Note.{Note}
+use Rattle.run_law.specs.declared.note.NoteBody.TheVariants.{Event, Arrived, Permanent, Compressed, Sent, Corrected, State as Changed, Left, Lost, TtSent, Accepted, Delivered, Dropped, Clock as Shown}
+use Rattle.run_law.specs.declared.note.NoteBody.{NoteBody}
+use Rattle.run_law.specs.machines.Nodes.{Node}
+use Rattle.run_law.specs.records.Happenings.{Happening, happenings}
+use Rattle.run_law.specs.records.Order.{IsBefore, IsIn}
+use Rattle.run_law.specs.records.Ranks.{place_of}
+use Rattle.run_law.specs.scenario.Scenarios.{Scenario}
+use Rattle.drift_world.proofs.HiddenCauses.{InOrder, settled_in_order}
+use Rattle.drift_world.proofs.Sources.{of_world, sooner_too}
+use Rattle.drift_world.proofs.Foremost.{timers_later}
+use Rattle.drift_world.proofs.Timings.{passed, rekeyed, unchanged}
+use Rattle.drift_world.specs.Giving.{HasItsOctets, changed_device}
+use Rattle.drift_world.specs.Keeping.{keeps}
+use Rattle.drift_world.specs.Places.{own_place}
+use Rattle.drift_world.specs.Sound.{IsSound}
+use Rattle.drift_world.specs.Sourcing.{AreTimed, HasNothingBefore}
+use Rattle.drift_world.specs.Stepping.{ChangesOnly, IsAt, IsRunning, IsTimed}
+use Rattle.drift_world.specs.Turns.{HasRoom, IsAfter, IsAhead, IsForemost, IsNow, IsStep, IsThere, PassSays, SettledFirst, SourceFirst, TurnSays, given_in, own_numbers, source_place}
+use Rattle.drift_world.specs.Views.{settled_at, world_of}
+use Rattle.drift_world.specs.Wells.{IsWell}
+use Rattle.drift_world.specs.declared.contents.Settled.{Settled}
+use Rattle.drift_world.specs.declared.source.Source.TheVariants.{Events, Arrival, Ripening, Act, Departure, Clock, Later}
+use Rattle.drift_world.specs.declared.source.Source.{Source}
+use Rattle.drift_world.specs.declared.state.State.{State}
+use Rattle.world_law.proofs.acts.NoActs.{nothing_comes_before}
+use Rattle.world_law.specs.source.First.{NoSourceBefore}
+use Rattle.world_law.specs.world.Steps.{ComesFirst}
+use Rattle.world_law.proofs.runs.Worlds.{nothing_settled_is_all}
+use Rattle.drift_world.specs.declared.next.Turn.TheVariants.{Gives, Ends, GoesOn}
+use Rattle.drift_world.specs.declared.next.Turn.{Turn}
+use Rattle.world_law.specs.world.World.{AreSettled, Stands, World, hidden}
+use Rattle.run_law.specs.runs.DueRecords.{IsScenarioRun}
+
+-- ---- a source and what is settled
+
+-- the place of a source of the present instant
+pub record IsShaped (now : ℕ) (source : Source) : Type 0 where
+  pub numbers : List ℕ
+  pub own : own_numbers source ≡ Some numbers
+  pub place : source_place now source ≡ now ∷ numbers
+
+pub shaped : {C M : Type 0} (reading : C → ℕ → ℕ) (stands : M → Network → DeviceId → Node → Type 0) (network : Network) (state : State C M)
+    (source : Source) → IsThere reading stands network state source → IsNow source → IsShaped state.time source
+shaped reading stands network state Events there now = record { numbers = _; own = refl; place = refl }
+shaped reading stands network state (Arrival place) there now = record {
+  numbers = _;
+  own = refl;
+  place = ap (λ (n : ℕ). n ∷ place.rank ∷ place.device ∷ place.link ∷ place.cause ∷ []) there.now;
+}
+shaped reading stands network state (Ripening index w) there now = record { numbers = _; own = refl; place = refl }
+shaped reading stands network state (Act device) there now = record { numbers = _; own = refl; place = refl }
+shaped reading stands network state (Departure place) there now = record {
+  numbers = _;
+  own = refl;
+  place = ap (λ (n : ℕ). n ∷ place.rank ∷ place.device ∷ place.link ∷ place.cause ∷ []) there.now;
+}
+shaped reading stands network state (Clock device) there now = record { numbers = _; own = refl; place = refl }
+shaped reading stands network state (Later time) there now = absurd now
+
+untimed : (now : ℕ) (p q : List ℕ) → IsBefore (now ∷ p) (now ∷ q) → IsBefore p q
+untimed now p q (inl lt) = absurd (omega (arith, lt))
+untimed now p q (inr h) = h.1
+
+-- what is not ahead of a source of the present instant is not before it
+not_ahead : (network : Network) (now : ℕ) (source : Source) (first : Settled) → IsShaped now source → (IsAhead (own_numbers source) first → ⊥)
+    → IsBefore (place_of (settled_at network now first)) (source_place now source) → ⊥
+not_ahead network now source first shape not before =
+    not (subst (λ (o : Option (List ℕ)). IsAhead o first) (sym shape.own)
+    (untimed now (own_place first) shape.numbers (subst (λ (p : List ℕ). IsBefore (now ∷ own_place first) p) shape.place before)))
+
+-- what is ahead of a source is before it
+pub ahead_before : {C M : Type 0} (reading : C → ℕ → ℕ) (stands : M → Network → DeviceId → Node → Type 0) (network : Network) (state : State C M)
+    (source : Source) (first : Settled) → IsThere reading stands network state source → IsAhead (own_numbers source) first
+    → IsBefore (place_of (settled_at network state.time first)) (source_place state.time source)
+ahead_before reading stands network state Events first there ahead = inr (refl, ahead)
+ahead_before reading stands network state (Arrival place) first there ahead = inr (sym there.now, ahead)
+ahead_before reading stands network state (Ripening index w) first there ahead = inr (refl, ahead)
+ahead_before reading stands network state (Act device) first there ahead = inr (refl, ahead)
+ahead_before reading stands network state (Departure place) first there ahead = inr (sym there.now, ahead)
+ahead_before reading stands network state (Clock device) first there ahead = inr (refl, ahead)
+ahead_before reading stands network state (Later time) first there ahead = inl there
+
+-- where something is settled, a source that comes first of it is not later
+pub none_settled : (settled : List Settled) (time : ℕ) → SourceFirst settled (Later time) → settled ≡ []
+none_settled [] time first = refl
+none_settled (z ∷ zs) time first = absurd (first z zs refl tt)
+
+-- nothing that is settled is before what the first of it is not before
+none_sooner : (network : Network) (now : ℕ) (settled : List Settled) (w : List ℕ) → InOrder (map (settled_at network now) settled)
+    → ((first : Settled) (others : List Settled) → settled ≡ first ∷ others → IsBefore (place_of (settled_at network now first)) w → ⊥)
+    → (z : Happening) → IsIn z (map (settled_at network now) settled) → IsBefore (place_of z) w → ⊥
+none_sooner network now [] w order not z there before = absurd there
+none_sooner network now (x ∷ xs) w order not z (inl e) before = not x xs refl (subst (λ (h : Happening). IsBefore (place_of h) w) e before)
+none_sooner network now (x ∷ xs) w order not z (inr rest) before =
+    let first = place_of (settled_at network now x) in
+    order.0 z rest (before_later (place_of z) first w before (not x xs refl))
+
+-- nothing is to come, where nothing is settled
+none_coming : (given : ℕ) (coming : List Happening) → [] ≡ map (hidden given) coming → coming ≡ []
+none_coming given [] e = refl
+none_coming given (c ∷ cs) e = absurd cc
+
+module _ {C M : Type 0} (last_step : C → ℕ) (reading : C → ℕ → ℕ) (stands : M → Network → DeviceId → Node → Type 0) (network : Network) where
+  -- the source that comes first of what is under way comes first of all
+  pub comes_first : (state : State C M) (source : Source) (s : Scenario) (notes : List Note) → IsSound last_step network state → HasRoom state
+      → IsForemost reading stands network state source → SourceFirst state.settled.items source → IsNow source
+      → (old : Stands reading (keeps stands) s (world_of network state) notes)
+      → ComesFirst reading (keeps stands) s (world_of network state) notes old (source_place state.time source)
+  comes_first state source s notes sound room foremost first now old =
+      let w = source_place state.time source in
+      let shape = shaped reading stands network state source foremost.there now in
+      let after = none_sooner network state.time state.settled.items w (settled_in_order reading (keeps stands) s (world_of network state) notes old)
+      (λ z others whole. not_ahead network state.time source z shape (first z others whole)) in
+      let given = old.given in
+      let numbers = room.numbers in
+      let many = length-map state.settled.items (settled_at network state.time) in
+      record {
+        none = nothing_comes_before reading (keeps stands) s (world_of network state) notes w old after
+            (of_world last_step reading stands s network state notes old sound.sized w sound.under_way foremost.nothing);
+        after = after;
+        room = omega (arith, given, numbers, many);
+      }
+
+  pub is_at : (state : State C M) (source : Source) → IsWell last_step reading stands network state → HasRoom state
+      → IsForemost reading stands network state source → SourceFirst state.settled.items source → IsNow source
+      → IsAt reading stands network state (source_place state.time source)
+  is_at state source well room foremost first now = record {
+    s = well.running.s;
+    notes = well.running.notes;
+    is = well.running.is;
+    first = comes_first state source well.running.s well.running.notes well.sound room foremost first now well.running.is;
+  }
+
+  -- nothing comes before the first that is settled, where it is ahead of all that is under way
+  pub gives_first : (state : State C M) (source : Source) (z : Settled) (others : List Settled) (s : Scenario) (notes : List Note)
+      → IsSound last_step network state → IsForemost reading stands network state source
+      → state.settled.items ≡ z ∷ others → IsAhead (own_numbers source) z
+      → (old : Stands reading (keeps stands) s (world_of network state) notes)
+      → NoSourceBefore s (happenings s.network notes) old.cursor (place_of (settled_at network state.time z))
+  gives_first state source z others s notes sound foremost whole ahead old =
+      let w = source_place state.time source in
+      let p = place_of (settled_at network state.time z) in
+      let before = ahead_before reading stands network state source z foremost.there ahead in
+      let after = none_sooner network state.time state.settled.items p (settled_in_order reading (keeps stands) s (world_of network state) notes old)
+      (λ x rest is. λ b. never_self p (subst (λ (y : Settled). IsBefore (place_of (settled_at network state.time y)) p) (first_is x rest is) b)) in
+      nothing_comes_before reading (keeps stands) s (world_of network state) notes p old after
+      (of_world last_step reading stands s network state notes old sound.sized p sound.under_way
+      (sooner_too reading stands network state w p foremost.nothing (λ b. never_self p (chain p w p before b))))
+    where
+      first_is : (x : Settled) (rest : List Settled) → state.settled.items ≡ x ∷ rest → x ≡ z
+      first_is x rest is = let e : x ∷ rest ≡ z ∷ others = sym is ∙ whole in cc
+
+  -- where nothing is settled, and nothing under way before a later time, the records are the run up to it
+  pub whole_run : (state : State C M) (s : Scenario) (notes : List Note) (until : ℕ) → IsSound last_step network state
+      → HasNothingBefore reading stands network state (until ∷ []) → state.settled.items ≡ [] → state.time < until
+      → (old : Stands reading (keeps stands) s (world_of network state) notes) → IsScenarioRun s (until ∷ []) notes
+  whole_run state s notes until sound none empty later old =
+      let settled : (world_of network state).settled ≡ [] = ap (map (settled_at network state.time)) empty in
+      let coming : old.coming ≡ [] = none_coming (length notes) old.coming (sym settled ∙ old.settled) in
+      nothing_settled_is_all s notes old.mark old.cursor state.time until old.run
+      (subst (λ (l : List Happening). AreSettled s (happenings s.network notes) l old.mark old.cursor state.time) coming old.are)
+      (λ p before. before_later_time p (state.time + 1) until (omega (arith, later)) (old.not_later p (old.ahead p before)))
+      (nothing_comes_before reading (keeps stands) s (world_of network state) notes (until ∷ []) old
+      (λ z there. absurd (subst (λ (l : List Happening). IsIn z l) settled there))
+      (of_world last_step reading stands s network state notes old sound.sized (until ∷ []) sound.under_way none))
+
+  -- ---- what steps keep
+
+  pub runs_on : (old new : State C M) → IsRunning reading stands network old
+      → ((s : Scenario) (notes : List Note) → Stands reading (keeps stands) s (world_of network old) notes
+      → Stands reading (keeps stands) s (world_of network new) notes)
+      → IsRunning reading stands network new
+  runs_on old new is still = record { s = is.s; notes = is.notes; is = still is.s is.notes is.is }
+
+  pub sound_so : (mid : State C M) (timers : List ℕ) → IsSound last_step network mid → IsSound last_step network (record mid { timers = timers })
+  sound_so mid timers is = record {
+    sized = record {
+      clocks = is.sized.clocks;
+      machines = is.sized.machines;
+      broken = is.sized.broken;
+      ups = is.sized.ups;
+      downs = is.sized.downs;
+      stepped = is.sized.stepped;
+      limit = is.sized.limit;
+      shown = is.sized.shown;
+    };
+    under_way = is.under_way;
+    fit = record {
+      ups = is.fit.ups;
+      downs = is.fit.downs;
+      octets = is.fit.octets;
+      below = is.fit.below;
+      waits_below = is.fit.waits_below;
+      apart = is.fit.apart;
+    };
+  }
+
+  -- a step that changes no device
+  pub plain_step : (old new : State C M) → IsWell last_step reading stands network old → IsSound last_step network new
+      → ((n : ℕ) → ChangesOnly n old new) → new.timers ≡ old.timers → new.given ≡ old.given
+      → ((s : Scenario) (notes : List Note) → Stands reading (keeps stands) s (world_of network old) notes
+      → Stands reading (keeps stands) s (world_of network new) notes)
+      → IsStep last_step reading stands network old new
+  plain_step old new well sound changes timers given still = record {
+    well = record {
+      sound = sound;
+      running = runs_on old new well.running still;
+      timed = unchanged reading stands network old new well.timed changes timers;
+    };
+    after = record { clocks = (changes 0).clocks; ended = (changes 0).ended; later = let same = (changes 0).time in omega (arith, same) };
+    still = still;
+    time = (changes 0).time;
+    given = given;
+  }
+
+  -- a step that changes one device, whose timers are set anew
+  pub rekeyed_step : (device : ℕ) (old mid new : State C M) → IsWell last_step reading stands network old → IsSound last_step network mid
+      → device < length network.device → ChangesOnly device old mid → mid.timers ≡ old.timers → mid.given ≡ old.given
+      → ((s : Scenario) (notes : List Note) → Stands reading (keeps stands) s (world_of network old) notes
+      → Stands reading (keeps stands) s (world_of network mid) notes)
+      → new ≡ record mid { timers = new.timers } → IsTimed reading stands network new.timers new (record { 0 = device })
+      → length new.timers ≡ length mid.timers
+      → ((slot : ℕ) → (slot ≡ device → ⊥) → (slot ≡ length network.device + device → ⊥) → slice_get new.timers slot ≡ slice_get mid.timers slot)
+      → (All (λ (time : ℕ). mid.time ≤ time) mid.timers → All (λ (time : ℕ). new.time ≤ time) new.timers)
+      → IsStep last_step reading stands network old new
+  rekeyed_step device old mid new well sound there changes timers given still same timed sized others later =
+      let on = λ (s : Scenario) (notes : List Note) (is : Stands reading (keeps stands) s (world_of network old) notes).
+      subst (λ (t : State C M). Stands reading (keeps stands) s (world_of network t) notes) (sym same) (still s notes is) in
+      let at : new.time ≡ old.time = ap (λ (t : State C M). t.time) same ∙ changes.time in
+      record {
+        well = record {
+          sound = subst (IsSound last_step network) (sym same) (sound_so mid new.timers sound);
+          running = runs_on old new well.running on;
+          timed = rekeyed reading stands network (record { 0 = device }) old mid new well.timed there changes timers same timed sized others later;
+        };
+        after = record { clocks = ap (λ (t : State C M). t.clocks) same ∙ changes.clocks; ended = ap (λ (t : State C M). t.ended) same ∙ changes.ended; later = omega (arith, at) };
+        still = on;
+        time = at;
+        given = ap (λ (t : State C M). t.given) same ∙ given;
+      }
+
+  -- room is taken
+  pub roomier : (old new : State C M) → IsWell last_step reading stands network old → new ≡ record old { settled = new.settled }
+      → new.settled.items ≡ old.settled.items → IsStep last_step reading stands network old new
+  roomier old new well same items =
+      let fit = well.sound.fit in
+      let sized = well.sound.sized in
+      plain_step old new well
+      (subst (IsSound last_step network) (sym same)
+      (record {
+        sized = record {
+          clocks = sized.clocks;
+          machines = sized.machines;
+          broken = sized.broken;
+          ups = sized.ups;
+          downs = sized.downs;
+          stepped = sized.stepped;
+          limit = sized.limit;
+          shown = sized.shown;
+        };
+        under_way = well.sound.under_way;
+        fit = record {
+          ups = fit.ups;
+          downs = fit.downs;
+          octets = subst (All (λ (z : Settled). HasItsOctets z.body z.octets)) (sym items) fit.octets;
+          below = fit.below;
+          waits_below = fit.waits_below;
+          apart = fit.apart;
+        };
+      }))
+      (λ n. record {
+        clocks = ap (λ (t : State C M). t.clocks) same;
+        time = ap (λ (t : State C M). t.time) same;
+        ended = ap (λ (t : State C M). t.ended) same;
+        machines = λ i other. ap (λ (t : State C M). slice_get t.machines.items i) same;
+        waiting = λ w other.
+            subst (λ (t : State C M). IsIn w t.waiting.items ↔ IsIn w old.waiting.items) (sym same) ((λ there. there), (λ there. there));
+      })
+      (ap (λ (t : State C M). t.timers) same) (ap (λ (t : State C M). t.given) same)
+      (λ s notes is.
+          subst (λ (t : State C M). Stands reading (keeps stands) s (world_of network t) notes) (sym same)
+          (subst
+          (λ (l : List Settled). Stands reading (keeps stands) s (record (world_of network old) { settled = map (settled_at network old.time) l }) notes)
+          (sym items) is))
+
+  -- time passes
+  pub passes : (old new : State C M) (time : ℕ) → IsWell last_step reading stands network old
+      → HasNothingBefore reading stands network old (time ∷ []) → old.time < time → time ≤ 2 ^ 60
+      → new ≡ record old { time = time; early = true } → IsSound last_step network new
+      → ((s : Scenario) (notes : List Note) → Stands reading (keeps stands) s (world_of network old) notes
+      → Stands reading (keeps stands) s (world_of network new) notes)
+      → IsWell last_step reading stands network new
+  passes old new time well none later limit same sound still = record {
+    sound = sound;
+    running = runs_on old new well.running still;
+    timed = subst (AreTimed reading stands network) (sym same)
+    (passed reading stands network old time true well.timed (omega (arith, later))
+    (timers_later reading stands network old well.running time (omega (arith, limit)) well.timed none));
+  }
+
+-- ---- results
+
+-- a source that is not later is of the present instant
+pub now_so : (source : Source) → ((time : ℕ) → source ≡ Later time → ⊥) → IsNow source
+now_so Events not = tt
+now_so (Arrival place) not = tt
+now_so (Ripening index w) not = tt
+now_so (Act device) not = tt
+now_so (Departure place) not = tt
+now_so (Clock device) not = tt
+now_so (Later time) not = not time refl
+
+-- where time passes, no record is given
+pub none_given : {C M : Type 0} (E : Type 0) (old new : State C M) (until : ℕ) (turn : Turn) → PassSays old new until turn
+    → given_in {E = E} (Ok turn) ≡ []
+none_given E old new until (Gives note) says = absurd says
+none_given E old new until Ends says = refl
+none_given E old new until GoesOn says = refl
+
+-- where nothing is given, the records are the same
+pub same_records : {C M : Type 0} (reading : C → ℕ → ℕ) (stands : M → Network → DeviceId → Node → Type 0) (s : Scenario) (world : World C M)
+    (notes more : List Note) → more ≡ [] → Stands reading stands s world notes → Stands reading stands s world (notes ++ more)
+same_records reading stands s world notes more none is =
+    subst (λ (l : List Note). Stands reading stands s world (notes ++ l)) (sym none)
+    (subst (Stands reading stands s world) (sym (append-nil notes)) is)
+
+-- no device of a network is the one that a record of no arrival changes
+pub far_device : (body : NoteBody)
+    → ((device : DeviceId) (link : LinkId) (cause clock : ℕ) → body ≡ Arrived device link cause clock → ⊥) → changed_device body ≡ 2 ^ 32
+far_device (Event line what) none = refl
+far_device (Arrived device link cause clock) none = absurd (none device link cause clock refl)
+far_device (Permanent device link cause point verdict) none = refl
+far_device (Compressed device opened at cycle members verdict) none = refl
+far_device (Sent device cycle) none = refl
+far_device (Corrected device cycle by adjustment) none = refl
+far_device (Changed device state cause why) none = refl
+far_device (Left device link cause clock) none = refl
+far_device (Lost device link cause) none = refl
+far_device (TtSent device link cause vl cycle) none = refl
+far_device (Accepted device link cause vl cycle) none = refl
+far_device (Delivered device link cause vl cycle) none = refl
+far_device (Dropped device link cause reason) none = refl
+far_device (Shown device reading adjustment state) none = refl
+
+-- one of two clauses of a result serves
+pub either_end : {A E : Type 0} (result : Result A E) (P Q R : Type 0) → OnOk result P → OnErr result Q → (P → R) → (Q → R) → R
+either_end (Ok a) P Q R ok err f g = f ok
+either_end (Err e) P Q R ok err f g = g err
+
+-- ---- one turn after the other
+
+pub after_then : {C M : Type 0} (old mid new : State C M) → IsAfter old mid → IsAfter mid new → IsAfter old new
+after_then old mid new first second = record {
+  clocks = second.clocks ∙ first.clocks;
+  ended = second.ended ∙ first.ended;
+  later = let a = first.later in let b = second.later in omega (arith, a, b);
+}
+
+-- what a turn says of the state before it, it says of one with as many records given
+pub says_then : {C M : Type 0} (E : Type 0) (old mid new : State C M) (until : ℕ) (result : Result Turn E) → mid.given ≡ old.given
+    → mid.ended ≡ old.ended → IfOk result (TurnSays mid new until) → IfOk result (TurnSays old new until)
+says_then E old mid new until (Ok (Gives note)) given ended says = (says.0, says.1, says.2 ∙ ap (λ (n : ℕ). n + 1) given)
+says_then E old mid new until (Ok GoesOn) given ended says = (says.0, says.1 ∙ given)
+says_then E old mid new until (Ok Ends) given ended says = λ is limit. says (ended ∙ is) limit
+says_then E old mid new until (Err e) given ended says = tt
+
+-- some turns on from where the state was: nothing is given, and it is not yet the time
+pub record IsOnward {C M : Type 0} (last_step : C → ℕ) (reading : C → ℕ → ℕ) (stands : M → Network → DeviceId → Node → Type 0) (network : Network)
+    (old new : State C M) (until : ℕ) : Type 0 where
+  pub well : IsWell last_step reading stands network new
+  pub after : IsAfter old new
+  pub still : (s : Scenario) (notes : List Note) → Stands reading (keeps stands) s (world_of network old) notes
+      → Stands reading (keeps stands) s (world_of network new) notes
+  pub early : new.time < until
+  pub given : new.given ≡ old.given

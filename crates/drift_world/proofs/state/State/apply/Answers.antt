@@ -1,0 +1,130 @@
+use Rattle.std.proofs.Common.{◌≡◌, ◌+◌, ◌∷◌, [], ◌++◌, ℕ, Bool, List, Some, ap, arith, length, map, subst, sym, false, true, unsigned_abs, ◌∙◌}
+use Rattle.std.specs.List.{list_any}
+use Rattle.std.specs.Prelude.{◌↔◌, ◌<◌, All, not}
+use Rattle.std.proofs.lemmas.Int.{ints}
+use Rattle.net_plan.specs.declared.event.What.{What}
+use Rattle.net_plan.specs.declared.tables.Way.TheVariants.{Up, Down}
+use Rattle.run_law.specs.scenario.Hypothesis.{breaks_at}
+use Rattle.run_law.specs.declared.note.Note.{Note}
+use Rattle.run_law.specs.declared.note.NoteBody.TheVariants as kinds
+use Rattle.run_law.specs.scenario.Scenarios.{is_broken, is_turned_on_at, turns_on}
+use Rattle.tte_units.specs.Amount.{amount}
+use Rattle.drift_world.proofs.Applies.{any_mapped, waits_more, ways_more}
+use Rattle.drift_world.proofs.Beginnings.{found}
+use Rattle.drift_world.proofs.Elsewhere.{clock_elsewhere, waits_elsewhere}
+use Rattle.drift_world.proofs.Fitting.{AreApart, apart_kept, below_more, ways_short}
+use Rattle.drift_world.proofs.TurnedOn.{turned_on_is}
+use Rattle.drift_world.specs.Keeping.{keeps}
+use Rattle.run_law.specs.records.Order.{IsIn}
+use Rattle.drift_world.specs.declared.contents.Waits.{Waits}
+use Rattle.drift_world.specs.Views.{befell_as, waiting_as, way_as, world_of}
+use Rattle.world_law.proofs.steps.Applied.{applied_step}
+use Rattle.world_law.proofs.steps.AppliedParts.{broken_more}
+use Rattle.world_law.specs.source.Agreeing.{scenario}
+use Rattle.world_law.specs.source.Applying.{note_of_event}
+use Rattle.world_law.specs.world.Steps.{FitsWorld, also_befell, ends_world}
+use Rattle.world_law.specs.world.World.{Befell, Stands, World}
+use Rattle.drift_world.proofs.state.State.apply.Goals as goal
+
+pub returns-clause-sound : goal.returns-clause-sound
+returns-clause-sound g c =
+    let z = c.requires.sound.sized in
+    let time = c.requires.time in
+    record {
+      sized = record {
+        clocks = c.set_rate.ensures.length ∙ z.clocks;
+        machines = c.befall_machines.ensures.length ∙ z.machines;
+        broken = c.set_broken.ensures.length ∙ z.broken;
+        ups = c.set_way.ensures.length ∙ z.ups;
+        downs = c.set_way-2.ensures.length ∙ z.downs;
+        stepped = λ k d lt. let stepped = c.set_rate.ensures.stepped k d lt in omega (arith, ints, stepped, time);
+        limit = z.limit;
+        shown = omega arith;
+      };
+      under_way = c.requires.sound.under_way;
+      fit = record {
+        ups = ways_short c.args.self.now.ups.items c.set_way.new.ways.items Up c.args.event.now.what c.requires.short c.set_way.ensures.length
+            c.set_way.ensures.each c.requires.sound.fit.ups;
+        downs = ways_short c.args.self.now.downs.items c.set_way-2.new.ways.items Down c.args.event.now.what c.requires.short c.set_way-2.ensures.length
+            c.set_way-2.ensures.each c.requires.sound.fit.downs;
+        octets = c.requires.sound.fit.octets;
+        below = λ e there. let was = c.requires.sound.fit.below e there in omega (arith, was);
+        waits_below = subst (All (λ (w : Waits). w.cause < c.args.self.now.given + 1 + 1)) (sym c.drop_waiting.ensures)
+            (below_more (c.args.self.now.given + 1) (λ w. not (breaks_at w.device.0 c.args.event.now.what)) c.args.self.now.waiting.items
+            c.requires.sound.fit.waits_below);
+        apart = subst AreApart (sym c.drop_waiting.ensures)
+            (apart_kept (λ w. not (breaks_at w.device.0 c.args.event.now.what)) c.args.self.now.waiting.items c.requires.sound.fit.apart);
+      };
+    }
+
+pub returns-clause-stands : goal.returns-clause-stands
+returns-clause-stands g c = λ f h past notes old follows may.
+    let w = c.args.self.now in
+    let K = g.C.Clock in
+    let stands = keeps g.M.Machine.stands in
+    let network = c.args.network.now in
+    let world = world_of network w in
+    let event = c.args.event.now in
+    let z = c.requires.sound.sized in
+    let at : amount event.time ≡ w.time = ap unsigned_abs c.requires.time in
+    let s = scenario network f past in
+    let step = applied_step K.reading stands network f h past event world notes c.set_rate.new.clocks.items c.befall_machines.new.machines.items
+    c.set_broken.new.broken.items
+    (map way_as c.set_way.new.ways.items) (map way_as c.set_way-2.new.ways.items) (map waiting_as c.drop_waiting.new.waiting.items) old c.requires.open
+    c.requires.time may c.requires.early
+    (let given = old.given in let few = c.if-self.false in omega (arith, given, few))
+    follows.same follows.steady
+    (λ device lt.
+    let own = found w.clocks.items device.0 (let many = z.clocks in omega (arith, lt, many)) in
+    (_, c.set_rate.ensures.each device own.0 own.1, λ t late. follows.reads device own.0 own.1 t late))
+    follows.forward
+    (record {
+      still = λ device machine there.
+          c.befall_machines.ensures.each network device machine (is_turned_on_at s device w.time) there
+          (λ broke. turned_on_is K.reading stands s world notes old c.requires.early follows.begun device ∙ any_mapped device w.befell.items
+          ∙ ap (list_any (λ b. turns_on device b.what)) (sym c.as_slice.ensures.value) ∙ sym (c.breaks_on-on.ensures device broke))
+          (λ on node k. (subst (FitsWorld stands network world) on may).1 machine node there k);
+    })
+    (λ device lt. c.set_broken.ensures.each device _ (old.broken device lt) ∙ ap Some (sym (broken_more network f h past event w.time device at)))
+    (ways_more network f h past event w.time at w.ups.items w.downs.items c.set_way.new.ways.items c.set_way-2.new.ways.items z.ups z.downs old.ways
+    c.set_way.ensures.each c.set_way-2.ensures.each)
+    (λ e. subst (λ (l : List Waits). IsIn e (map waiting_as l) ↔
+    (IsIn e world.waiting × (is_broken (scenario network h (past ++ event ∷ [])) e.device w.time ≡ false))) (sym c.drop_waiting.ensures)
+    (waits_more network f h past event w.time at w.waiting.items old.waiting.sound e)) in
+    let after : List Befell → Bool → World _ _ = λ befell over. record world {
+      clocks = c.set_rate.new.clocks.items;
+      machines = c.befall_machines.new.machines.items;
+      broken = c.set_broken.new.broken.items;
+      ups = map way_as c.set_way.new.ways.items;
+      downs = map way_as c.set_way-2.new.ways.items;
+      waiting = map waiting_as c.drop_waiting.new.waiting.items;
+      pending = true;
+      befell = befell;
+      lines = w.lines + 1;
+      given = w.given + 1;
+      ended = over;
+      shown = 0;
+    } in
+    let then_ = scenario network h (past ++ event ∷ []) in
+    let befell_is = c.in_ok-keep_befallen.ensures.ok ∙ ap (λ (n : ℕ). world.befell ++ also_befell (n + 1) event.what) old.given in
+    let note : ℕ → ℕ → What → Note = λ number line what. record { number = number + 1; time = event.time; body = kinds.Event (line + 1) what } in
+    let note_is : note w.given w.lines c.in_ok-what.what ≡ note_of_event notes past event =
+    ap (λ (n : ℕ). note n w.lines c.in_ok-what.what) old.given ∙ ap (λ (n : ℕ). note (length notes) n c.in_ok-what.what) old.lines
+    ∙ ap (note (length notes) (length past)) c.in_ok-what.ensures in (
+      note_is,
+      subst (λ (n : Note). Stands K.reading stands then_ (after (map befell_as c.keep_befallen.new.befell.items) c.ends-self.result) (notes ++ n ∷ []))
+          (sym note_is)
+          (subst (λ (over : Bool). Stands K.reading stands then_ (after (map befell_as c.keep_befallen.new.befell.items) over)
+          (notes ++ note_of_event notes past event ∷ [])) (sym c.ends-self.ensures)
+          (subst (λ (l : List Befell). Stands K.reading stands then_ (after l (ends_world event.what)) (notes ++ note_of_event notes past event ∷ []))
+          (sym befell_is) step)),
+    )
+
+pub returns-clause-others : goal.returns-clause-others
+returns-clause-others g c = λ device there away.
+    let many = c.requires.sound.sized.clocks in (
+      clock_elsewhere g.C.Clock.after_step c.args.self.now.clocks.items c.set_rate.new.clocks.items device c.args.event.now.time c.args.event.now.what
+          (omega (arith, there, many)) away c.set_rate.ensures.each,
+      c.befall_machines.ensures.others device away,
+      waits_elsewhere c.args.self.now.waiting.items c.drop_waiting.new.waiting.items device c.args.event.now.what c.drop_waiting.ensures away,
+    )

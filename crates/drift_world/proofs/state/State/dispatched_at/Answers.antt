@@ -1,0 +1,46 @@
+use Rattle.std.proofs.Common.{◌≡◌, ◌<◌, List, Some, None, Bool, length, subst, ap, ◌∙◌}
+use Rattle.std.specs.Prelude.{if◌then◌else◌}
+use Rattle.std.specs.List.{slice_get}
+use Rattle.std.proofs.lemmas.Option.{slice_get_within}
+use Rattle.net_plan.specs.declared.network.Network.{Network}
+use Rattle.run_law.specs.scenario.Devices.{is_parent_of}
+use Rattle.schedule_tables.proofs.EntryLemmas.{one_entry}
+use Rattle.schedule_tables.specs.declared.entry.Entry.{Entry}
+use Rattle.drift_world.proofs.Showings.{way_by}
+use Rattle.drift_world.specs.Acting.{IsDispatched, IsHand, dispatched_by}
+use Rattle.drift_world.specs.declared.contents.Holding.{Holding}
+use Rattle.world_law.specs.world.World.{WayNow}
+use Rattle.drift_world.proofs.state.State.dispatched_at.Goals as goal
+
+pub returns-in_err-hand : goal.returns-in_err-hand
+returns-in_err-hand g c = λ s entry of is.
+    let w = c.args.self.now in
+    subst (λ (e : Entry). IsDispatched s w.stored.items w.time c.args.device e c.args.cycle c.from_residual.result)
+    (one_entry c.args.network.now c.args.row.0 c.entry_of-entry.result entry c.entry_of-entry.ensures.is is)
+    (record {
+      hand = None;
+      of_hand = subst (λ (l : List Holding). IsHand l c.args.device c.entry_of-entry.result c.args.cycle None) c.as_slice.ensures.value
+          c.in_err-hand.ensures;
+      is = c.from_residual.ensures;
+    })
+
+pub returns : goal.returns
+returns g c = λ s entry of is.
+    let w = c.args.self.now in
+    let network = c.args.network.now in
+    let device = c.args.device in
+    let found = c.entry_of-entry.result in
+    let link = found.row.link in
+    let here : link.0 < length s.network.link = subst (λ (n : Network). link.0 < length n.link) of.same
+    (slice_get_within network.link link.0 found.link c.entry_of-entry.ensures.is.link) in
+    let way = subst (λ (n : Network). slice_get (if is_parent_of n device link then w.downs.items else w.ups.items) link.0 ≡ Some c.way_from-way.result)
+    of.same c.way_from-way.ensures in
+    let cut = ap (λ (k : WayNow). k.cut) (way_by s w.time w.ups.items w.downs.items link c.way_from-way.result (is_parent_of s.network device link) of.ways
+    here way) in
+    subst (λ (e : Entry). IsDispatched s w.stored.items w.time device e c.args.cycle (Some c.dispatched.result))
+    (one_entry network c.args.row.0 found entry c.entry_of-entry.ensures.is is)
+    (record {
+      hand = Some c.in_ok-hand.hand;
+      of_hand = subst (λ (l : List Holding). IsHand l device found c.args.cycle (Some c.in_ok-hand.hand)) c.as_slice.ensures.value c.in_ok-hand.ensures;
+      is = ap Some (c.dispatched.ensures ∙ ap (λ (b : Bool). dispatched_by b device found c.args.cycle c.in_ok-hand.hand) cut);
+    })

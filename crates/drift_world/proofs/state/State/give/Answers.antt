@@ -1,0 +1,107 @@
+use Rattle.std.proofs.Common.{◌≡◌, ◌+◌, ◌++◌, ◌∷◌, [], ℕ, List, length, map, ap, refl, subst, sym, ◌∙◌}
+use Rattle.std.specs.Prelude.{All, option_to_list}
+use Rattle.std.proofs.lemmas.List.Elements.{All-head, All-tail}
+use Rattle.run_law.specs.declared.note.Note.{Note}
+use Rattle.run_law.specs.records.Happenings.{happenings}
+use Rattle.run_law.specs.records.Order.{behind}
+use Rattle.run_law.specs.records.Ranks.{place_of}
+use Rattle.tte_units.specs.Amount.{units_of}
+use Rattle.drift_world.proofs.Gave.{changes_since, popped_world, sound_same, unchanged}
+use Rattle.drift_world.proofs.MayGive.{low_now, may_be_given}
+use Rattle.drift_world.specs.Giving.{HasItsOctets, changed_device}
+use Rattle.drift_world.specs.Keeping.{keeps}
+use Rattle.drift_world.specs.Stepping.{ChangesOnly}
+use Rattle.drift_world.specs.Views.{settled_at, world_of}
+use Rattle.drift_world.specs.declared.contents.Settled.{Settled}
+use Rattle.drift_world.specs.declared.state.State.{State}
+use Rattle.world_law.specs.source.First.{NoSourceBefore}
+use Rattle.world_law.specs.world.Steps.{StandsBehind}
+use Rattle.world_law.specs.world.World.{Stands, World, note_of}
+use Rattle.drift_world.proofs.state.State.give.Goals as goal
+
+heads : (x y : Settled) (xs ys : List Settled) → x ∷ xs ≡ y ∷ ys → x ≡ y
+heads x y xs ys e = cc
+
+pub returns-in-Err-clause-sound : goal.returns-in-Err-clause-sound
+returns-in-Err-clause-sound g c =
+    let room = c.in-Err.ensures in
+    sound_same g.C.Clock.last_step c.args.network.now c.args.self.now _ c.requires.sound refl refl refl refl refl refl refl refl room.entries room.waiting
+    c.requires.sound.fit.octets
+
+pub returns-in-Err-clause-unmoved : goal.returns-in-Err-clause-unmoved
+returns-in-Err-clause-unmoved g c = λ n. unchanged n c.args.self.now _ refl refl refl refl c.in-Err.ensures.waiting
+
+pub give_first-requires-clause-sound : goal.give_first-requires-clause-sound
+give_first-requires-clause-sound g c =
+    let room = c.make_room.ensures in
+    let whole = c.pop_front.ensures.items ∙ ap (λ o. option_to_list o ++ c.pop_front.new.self.items) c.unwrap-first.ensures in
+    let octets = All-tail (λ (z : Settled). HasItsOctets z.body z.octets) c.unwrap-first.result c.pop_front.new.self.items
+    (subst (All (λ (z : Settled). HasItsOctets z.body z.octets)) whole c.requires.sound.fit.octets) in
+    sound_same g.C.Clock.last_step c.args.network.now c.args.self.now _ c.requires.sound refl refl refl refl refl refl refl refl room.entries room.waiting octets
+
+pub give_first-requires-clause-may : goal.give_first-requires-clause-may
+give_first-requires-clause-may g c =
+    let w = c.args.self.now in
+    let network = c.args.network.now in
+    let run = c.requires.running in
+    let whole = c.pop_front.ensures.items ∙ ap (λ o. option_to_list o ++ c.pop_front.new.self.items) c.unwrap-first.ensures in
+    let has = All-head (λ (z : Settled). HasItsOctets z.body z.octets) c.unwrap-first.result c.pop_front.new.self.items
+    (subst (All (λ (z : Settled). HasItsOctets z.body z.octets)) whole c.requires.sound.fit.octets) in
+    may_be_given g.C.Clock.reading (keeps g.M.Machine.stands) run.s (world_of network w) run.notes network w.time c.unwrap-first.result _ run.is run.is.same
+    (ap (map (settled_at network w.time)) whole) has
+
+pub give_first-requires-clause-low : goal.give_first-requires-clause-low
+give_first-requires-clause-low g c =
+    let w = c.args.self.now in
+    let network = c.args.network.now in
+    let run = c.requires.running in
+    low_now g.C.Clock.reading (keeps g.M.Machine.stands) run.s (world_of network w) run.notes run.is _ (ap (λ n. length n.device) run.is.same)
+    c.requires.sound.sized.clocks
+
+pub returns-clause-stands : goal.returns-clause-stands
+returns-clause-stands g c = λ s notes other rest is.
+    let w = c.args.self.now in
+    let K = g.C.Clock in
+    let stands = keeps g.M.Machine.stands in
+    let network = c.args.network.now in
+    let room = c.make_room.ensures in
+    let first = c.unwrap-first.result in
+    let note = c.give_first.result in
+    let new = c.give_first.new.self in
+    let whole : w.settled.items ≡ first ∷ c.pop_front.new.self.items = c.pop_front.ensures.items
+    ∙ ap (λ o. option_to_list o ++ c.pop_front.new.self.items) c.unwrap-first.ensures in
+    let popped : State _ _ = record w {
+      under_way = c.make_room.new.under_way;
+      waiting = c.make_room.new.waiting;
+      stored = c.make_room.new.stored;
+      settled = c.pop_front.new.self;
+    } in
+    let z = settled_at network w.time first in
+    let Steps = λ (q : World _ _). (o : Stands K.reading stands s q notes) → NoSourceBefore s (happenings s.network notes) o.cursor (place_of z)
+    → StandsBehind K.reading stands s (world_of network new) (notes ++ note_of notes z ∷ []) (behind (place_of z)) in
+    let step : Steps (world_of network w) = subst Steps (popped_world network w popped first room.entries room.waiting room.stored whole refl)
+    (c.give_first.ensures.stands s notes) in
+    let Gives = λ (f : Settled). (o : Stands K.reading stands s (world_of network w) notes)
+    → NoSourceBefore s (happenings s.network notes) o.cursor (place_of (settled_at network w.time f))
+    → (note ≡ note_of notes (settled_at network w.time f))
+    × StandsBehind K.reading stands s (world_of network new) (notes ++ note ∷ []) (behind (place_of (settled_at network w.time f))) in
+    let given : Gives first = λ o none.
+    let same : note ≡ note_of notes z = c.give_first.ensures.note
+    ∙ ap (λ (k : ℕ). let n : Note = record { number = k + 1; time = units_of w.time; body = first.body } in n) o.given in (
+      same,
+      subst (λ (n : Note). StandsBehind K.reading stands s (world_of network new) (notes ++ n ∷ []) (behind (place_of z))) (sym same) (step o none),
+    ) in
+    subst Gives (heads first other c.pop_front.new.self.items rest (sym whole ∙ is)) given
+
+pub returns-clause-others : goal.returns-clause-others
+returns-clause-others g c =
+    let w = c.args.self.now in
+    let first = c.unwrap-first.result in
+    let popped : State _ _ = record w {
+      under_way = c.make_room.new.under_way;
+      waiting = c.make_room.new.waiting;
+      stored = c.make_room.new.stored;
+      settled = c.pop_front.new.self;
+    } in
+    subst (λ (n : Note). ChangesOnly (changed_device n.body) w c.give_first.new.self) (sym c.give_first.ensures.note)
+    (changes_since (changed_device first.body) w popped c.give_first.new.self refl refl refl refl c.make_room.ensures.waiting c.give_first.ensures.others)

@@ -1,0 +1,151 @@
+use Rattle.std.proofs.Common.{◌≡◌, ◌+◌, ◌++◌, ◌∷◌, [], ℕ, List, map, length, ap, arith, inl, inr, refl, subst, sym, ◌∙◌}
+use Rattle.std.specs.Prelude.{All}
+use Rattle.std.specs.List.{filter_map}
+use Rattle.run_law.specs.records.Happenings.{Happening}
+use Rattle.run_law.specs.records.Order.{behind}
+use Rattle.run_law.specs.records.Ranks.{place_of}
+use Rattle.drift_world.proofs.Gave.{from_ports, from_wire, settled_has, waits_apart, waits_below, waits_elsewhere, waits_more, wire_is, wire_sound}
+use Rattle.drift_world.proofs.Givings.{given_on, named_all}
+use Rattle.drift_world.specs.Giving.{HasItsOctets, IsGivenOut, IsPutOn, changed_device, wire_entry}
+use Rattle.drift_world.specs.Keeping.{keeps}
+use Rattle.drift_world.specs.Naming.{named_settled}
+use Rattle.drift_world.specs.Sound.{IsSound}
+use Rattle.drift_world.specs.Stepping.{ChangesOnly}
+use Rattle.drift_world.specs.Storing.{stored_by}
+use Rattle.drift_world.specs.Views.{at_port, on_wire, settled_at, stored_as, waiting_as, with_first, world_of}
+use Rattle.drift_world.specs.declared.contents.Settled.{Settled}
+use Rattle.drift_world.specs.declared.state.State.{State}
+use Rattle.world_law.specs.world.Steps.{StandsBehind}
+use Rattle.world_law.specs.world.World.{note_of}
+use Rattle.drift_world.proofs.state.State.give_first.Goals as goal
+
+pub returns-clause-sound : goal.returns-clause-sound
+returns-clause-sound g c =
+    let w = c.args.self.now in
+    let network = c.args.network.now in
+    let first = c.args.first in
+    let z = c.requires.sound.sized in
+    let fit = c.requires.sound.fit in
+    let number = w.given + 1 in
+    let one : State _ _ = record w { settled = c.name_followers.new.settled } in
+    let two = c.launch_frame.new.self in
+    let three = c.launch_octets.new.self in
+    let giving = c.launch_frame.ensures.given.0 in
+    let out = c.launch_frame.ensures.given.1 in
+    let wire = wire_entry network w.ups.items w.downs.items first.body first.frame first.octets w.time number in
+    let sent : IsPutOn wire two.under_way.entries three.under_way.entries =
+    subst (λ (q : State _ _). IsPutOn (wire_entry network q.ups.items q.downs.items first.body first.frame first.octets q.time number)
+    two.under_way.entries three.under_way.entries) c.launch_frame.ensures.same c.launch_octets.ensures.sent in
+    let on = wire_is network w.ups.items w.downs.items c.requires.range number first.body first.frame first.octets w.time in
+    let ports = from_ports g.C.Clock.reading network one two first.body first.frame number giving out in
+    let wires = from_wire network number two.under_way.entries three.under_way.entries wire on sent in
+    let mid = c.launch_frame.ensures.sound fit.below c.requires.sound.under_way in
+    let more = waits_more g.C.Clock.reading network one two first.body first.frame number giving out in
+    let last = ap (λ (q : State _ _). let r : State _ _ = record q { given = number } in r) c.launch_octets.ensures.same
+    ∙ ap (λ (q : State _ _). let r : State _ _ = record q { under_way = three.under_way; stored = three.stored; given = number } in r)
+    c.launch_frame.ensures.same in
+    let whole : IsSound g.C.Clock.last_step network (record one {
+      under_way = three.under_way;
+      waiting = two.waiting;
+      stored = three.stored;
+      given = number;
+    }) = record {
+      sized = record {
+        clocks = z.clocks;
+        machines = z.machines;
+        broken = z.broken;
+        ups = z.ups;
+        downs = z.downs;
+        stepped = z.stepped;
+        limit = z.limit;
+        shown = z.shown;
+      };
+      under_way = wire_sound network number two.under_way.entries three.under_way.entries wire on sent (λ d there. elim (ports d there) [
+        | inl old ↦ inl (fit.below d old)
+        | inr port ↦ inr port.1
+      ]) mid;
+      fit = record {
+        ups = fit.ups;
+        downs = fit.downs;
+        octets = subst (All (λ (q : Settled). HasItsOctets q.body q.octets)) (sym c.name_followers.ensures)
+            (settled_has number first.body w.settled.items fit.octets);
+        below = λ e there. elim (wires e there) [
+          | inl before ↦
+              elim (ports e before) [
+                | inl old ↦ let low = fit.below e old in omega (arith, low)
+                | inr port ↦ let cause = port.0 in omega (arith, cause)
+              ]
+          | inr cause ↦ omega (arith, cause)
+        ];
+        waits_below = waits_below first.body number w.waiting.items two.waiting.items more fit.waits_below;
+        apart = waits_apart first.body number w.waiting.items two.waiting.items more fit.waits_below fit.apart;
+      };
+    } in
+    subst (IsSound g.C.Clock.last_step network) (sym last) whole
+
+pub returns-clause-stands : goal.returns-clause-stands
+returns-clause-stands g c = λ s notes old none.
+    let w = c.args.self.now in
+    let K = g.C.Clock in
+    let stands = keeps g.M.Machine.stands in
+    let network = c.args.network.now in
+    let first = c.args.first in
+    let z = settled_at network w.time first in
+    let named_deque = c.name_followers.new.settled in
+    let one : State _ _ = record w { settled = named_deque } in
+    let two = c.launch_frame.new.self in
+    let three = c.launch_octets.new.self in
+    let number : w.given + 1 ≡ length notes + 1 = ap (λ (n : ℕ). n + 1) old.given in
+    let given = c.launch_frame.ensures.given in
+    let out = subst (λ (k : ℕ). IsGivenOut K.reading network one two first.body first.frame k given.0) number given.1 in
+    let sent = subst (λ (k : ℕ). IsPutOn (wire_entry network w.ups.items w.downs.items first.body first.frame first.octets w.time k)
+    two.under_way.entries three.under_way.entries) number
+    (subst (λ (q : State _ _). IsPutOn (wire_entry network q.ups.items q.downs.items first.body first.frame first.octets q.time (w.given + 1))
+    two.under_way.entries three.under_way.entries) c.launch_frame.ensures.same c.launch_octets.ensures.sent) in
+    let held : three.stored.items ≡ stored_by first.body first.octets (length notes + 1) w.stored.items =
+    c.launch_octets.ensures.stored ∙ ap (λ (q : State _ _). stored_by first.body first.octets (w.given + 1) q.stored.items) c.launch_frame.ensures.same
+    ∙ ap (λ (k : ℕ). stored_by first.body first.octets k w.stored.items) number in
+    let step = given_on K.reading stands s network (sym old.same) one two notes first w.settled.items given.0 three.under_way.entries three.stored.items old none
+    c.requires.may out sent held in
+    let lists = named_all network w.time (length notes + 1) first w.settled.items
+    ∙ ap (λ (k : ℕ). map (settled_at network w.time) (map (named_settled k first.body) w.settled.items)) (sym number)
+    ∙ ap (map (settled_at network w.time)) (sym c.name_followers.ensures) in
+    let last = ap (λ (q : State _ _). let r : State _ _ = record q { given = w.given + 1 } in r) c.launch_octets.ensures.same
+    ∙ ap (λ (q : State _ _). let r : State _ _ = record q { under_way = three.under_way; stored = three.stored; given = w.given + 1 } in r)
+    c.launch_frame.ensures.same in
+    subst (λ (q : State _ _). StandsBehind K.reading stands s (world_of network q) (notes ++ note_of notes z ∷ []) (behind (place_of z))) (sym last)
+    (subst (λ (l : List Happening). StandsBehind K.reading stands s (record (with_first network one first w.settled.items) {
+      wires = filter_map (on_wire network) three.under_way.entries;
+      ports = filter_map at_port three.under_way.entries;
+      waiting = map waiting_as two.waiting.items;
+      stored = map (stored_as network) three.stored.items;
+      settled = l;
+      given = w.given + 1;
+    }) (notes ++ note_of notes z ∷ []) (behind (place_of z))) lists step)
+
+pub returns-clause-others : goal.returns-clause-others
+returns-clause-others g c =
+    let w = c.args.self.now in
+    let first = c.args.first in
+    let number = w.given + 1 in
+    let one : State _ _ = record w { settled = c.name_followers.new.settled } in
+    let two = c.launch_frame.new.self in
+    let three = c.launch_octets.new.self in
+    let more = waits_more g.C.Clock.reading c.args.network.now one two first.body first.frame number c.launch_frame.ensures.given.0
+    c.launch_frame.ensures.given.1 in
+    let last = ap (λ (q : State _ _). let r : State _ _ = record q { given = number } in r) c.launch_octets.ensures.same
+    ∙ ap (λ (q : State _ _). let r : State _ _ = record q { under_way = three.under_way; stored = three.stored; given = number } in r)
+    c.launch_frame.ensures.same in
+    let whole : ChangesOnly (changed_device first.body) w (record one {
+      under_way = three.under_way;
+      waiting = two.waiting;
+      stored = three.stored;
+      given = number;
+    }) = record {
+      clocks = refl;
+      time = refl;
+      ended = refl;
+      machines = λ i apart. refl;
+      waiting = waits_elsewhere first.body number w.waiting.items two.waiting.items more;
+    } in
+    subst (ChangesOnly (changed_device first.body) w) (sym last) whole

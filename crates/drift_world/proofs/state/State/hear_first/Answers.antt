@@ -1,0 +1,135 @@
+use Rattle.std.proofs.Common.{◌+◌, ◌<◌, arith, length, refl, set, subst, sym, ◌∙◌}
+use Rattle.std.proofs.lemmas.List.{length-set}
+use Rattle.std.proofs.lemmas.List.Sorted.{length_permutation}
+use Rattle.std.proofs.lemmas.Option.{slice_get_read}
+use Rattle.net_plan.specs.declared.ids.DeviceId.{DeviceId}
+use Rattle.net_plan.specs.declared.network.Network.{Network}
+use Rattle.drift_world.specs.Keeping.{keeps}
+use Rattle.drift_world.specs.Places.{IsPutAt}
+use Rattle.drift_world.specs.declared.contents.Settled.{Settled}
+use Rattle.world_law.proofs.giving.Given.{some_same}
+use Rattle.drift_world.proofs.Befalls.{set_here}
+use Rattle.drift_world.proofs.Fits.{all_put, below_without, have_octets}
+use Rattle.drift_world.proofs.Hears.{as_sent, heard_octets, heard_stands, may_come, moment_is, set_aside}
+use Rattle.drift_world.proofs.UnderWays.{sound_without}
+use Rattle.drift_world.proofs.state.State.hear_first.Goals as goal
+
+pub hear_signal-arrival-requires-clause-may : goal.hear_signal-arrival-requires-clause-may
+hear_signal-arrival-requires-clause-may g c =
+    let w = c.args.self.now in
+    let at = c.requires.comes in
+    let device : DeviceId = record { 0 = c.args.place.device } in
+    let within = c.requires.device in
+    let clocks = c.requires.sound.sized.clocks in
+    let machines = c.requires.sound.sized.machines in
+    let held = w.clocks.ok.0 in
+    let kept = w.machines.ok.0 in
+    let there : device.0 < length at.s.network.device = subst (λ (n : Network). device.0 < length n.device) at.is.same within in
+    let own = at.is.clocks device there in
+    may_come g.C.Clock.reading (keeps g.M.Machine.stands) at.s c.args.network.now w at.notes at.is c.args.place c.take_wire-signal.result
+    c.take_wire-signal.new.under_way.entries c.take_wire-signal.ensures c.requires.wire c.requires.at c.index_mut.result.now
+    (record { time = c.from_amount-time.result; reading = c.read.result })
+    (slice_get_read w.machines.items w.machines.len device.0 c.index_mut.result.now w.machines.ok.0 (omega (arith, machines, within, kept))
+    c.index_mut.ensures.value)
+    (moment_is g.C.Clock.reading at.s w.time device own.0 c.index.result.now c.from_amount-time.result c.read.result
+    (some_same _ _ _ own.1
+    (slice_get_read w.clocks.items w.clocks.len device.0 c.index.result.now w.clocks.ok.0 (omega (arith, clocks, within, held)) c.index.ensures))
+    own.2 c.from_amount-time.ensures.value c.read.ensures)
+
+pub hear_signal-arrival-requires-clause-as_sent : goal.hear_signal-arrival-requires-clause-as_sent
+hear_signal-arrival-requires-clause-as_sent g c =
+    let at = c.requires.comes in
+    as_sent g.C.Clock.reading (keeps g.M.Machine.stands) at.s c.args.network.now c.args.self.now at.notes at.is c.args.place c.take_wire-signal.result
+    c.take_wire-signal.new.under_way.entries c.take_wire-signal.ensures c.requires.wire c.requires.at
+
+pub returns-clause-sound : goal.returns-clause-sound
+returns-clause-sound g c =
+    let w = c.args.self.now in
+    let z = c.requires.sound.sized in
+    let fit = c.requires.sound.fit in
+    let took = c.take_wire-signal in
+    let put = c.put_in.ensures.is in
+    let at = c.requires.comes in
+    let device : DeviceId = record { 0 = c.args.place.device } in
+    let within = c.requires.device in
+    let clocks = z.clocks in
+    let machines = z.machines in
+    let held = w.clocks.ok.0 in
+    let kept = w.machines.ok.0 in
+    let there : device.0 < length at.s.network.device = subst (λ (n : Network). device.0 < length n.device) at.is.same within in
+    let own = at.is.clocks device there in
+    let heard = c.hear_signal-arrival in
+    let octets = heard_octets g.C.Clock.reading (keeps g.M.Machine.stands) at.s c.args.network.now w at.notes at.is c.args.place took.result
+    took.new.under_way.entries took.ensures c.requires.wire c.requires.at c.index_mut.result.now
+    (record { time = c.from_amount-time.result; reading = c.read.result })
+    (slice_get_read w.machines.items w.machines.len device.0 c.index_mut.result.now w.machines.ok.0 (omega (arith, machines, within, kept))
+    c.index_mut.ensures.value)
+    (moment_is g.C.Clock.reading at.s w.time device own.0 c.index.result.now c.from_amount-time.result c.read.result
+    (some_same _ _ _ own.1
+    (slice_get_read w.clocks.items w.clocks.len device.0 c.index.result.now w.clocks.ok.0 (omega (arith, clocks, within, held)) c.index.ensures))
+    own.2 c.from_amount-time.ensures.value c.read.ensures)
+    heard.new.kept heard.ensures.0 heard.result heard.ensures.1 heard.ensures.2 in
+    record {
+      sized = record {
+        clocks = z.clocks;
+        machines = length-set w.machines.items c.args.place.device c.hear_signal-arrival.new.kept ∙ z.machines;
+        broken = z.broken;
+        ups = z.ups;
+        downs = z.downs;
+        stepped = z.stepped;
+        limit = z.limit;
+        shown = z.shown;
+      };
+      under_way = sound_without c.args.network.now w.under_way.entries took.new.under_way.entries _ c.requires.sound.under_way took.ensures;
+      fit = record {
+        ups = fit.ups;
+        downs = fit.downs;
+        octets = all_put have_octets c.arrived.result w.settled.items c.put_in.new.settled.items put.0 put.1
+            (subst have_octets (sym c.arrived.ensures) octets) fit.octets;
+        below = below_without (w.given + 1) w.under_way.entries took.new.under_way.entries _ took.ensures fit.below;
+        waits_below = fit.waits_below;
+        apart = fit.apart;
+      };
+    }
+
+pub returns-clause-stands : goal.returns-clause-stands
+returns-clause-stands g c = λ s notes old first.
+    let w = c.args.self.now in
+    let device : DeviceId = record { 0 = c.args.place.device } in
+    let within = c.requires.device in
+    let clocks = c.requires.sound.sized.clocks in
+    let machines = c.requires.sound.sized.machines in
+    let held = w.clocks.ok.0 in
+    let kept = w.machines.ok.0 in
+    let there : device.0 < length s.network.device = subst (λ (n : Network). device.0 < length n.device) old.same within in
+    let own = old.clocks device there in
+    let took = c.take_wire-signal in
+    let heard = c.hear_signal-arrival in
+    let put = c.put_in.ensures.is in
+    heard_stands g.C.Clock.reading (keeps g.M.Machine.stands) s c.args.network.now w notes old c.args.place took.result took.new.under_way.entries took.ensures
+    c.requires.wire c.requires.at c.index_mut.result.now (record { time = c.from_amount-time.result; reading = c.read.result })
+    (slice_get_read w.machines.items w.machines.len device.0 c.index_mut.result.now w.machines.ok.0 (omega (arith, machines, within, kept))
+    c.index_mut.ensures.value)
+    (moment_is g.C.Clock.reading s w.time device own.0 c.index.result.now c.from_amount-time.result c.read.result
+    (some_same _ _ _ own.1
+    (slice_get_read w.clocks.items w.clocks.len device.0 c.index.result.now w.clocks.ok.0 (omega (arith, clocks, within, held)) c.index.ensures))
+    own.2 c.from_amount-time.ensures.value c.read.ensures)
+    heard.new.kept heard.ensures.0 heard.result (set w.machines.items device.0 heard.new.kept) c.put_in.new.settled.items put.0
+    c.requires.sound.under_way first heard.ensures.1 heard.ensures.2
+    (record {
+      there = set_here w.machines.items device.0 heard.new.kept (omega (arith, machines, within, kept));
+      same = λ i apart. set_aside w.machines.items device.0 i heard.new.kept apart;
+    })
+    (subst (λ (z : Settled). IsPutAt z w.settled.items c.put_in.new.settled.items put.0) c.arrived.ensures put.1)
+
+pub returns-clause-others : goal.returns-clause-others
+returns-clause-others g c = record {
+  clocks = refl;
+  time = refl;
+  ended = refl;
+  machines = λ i apart. set_aside c.args.self.now.machines.items c.args.place.device i c.hear_signal-arrival.new.kept apart;
+  waiting = λ w apart. (λ there. there, λ there. there);
+}
+
+pub returns-clause-shorter : goal.returns-clause-shorter
+returns-clause-shorter g c = let same = length_permutation _ _ c.take_wire-signal.ensures in omega (arith, same)

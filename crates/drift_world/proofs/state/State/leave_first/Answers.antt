@@ -1,0 +1,93 @@
+use Rattle.std.proofs.Common.{◌≡◌, ◌+◌, ◌∷◌, [], ℕ, List, Option, false, ap, arith, inl, map, refl, subst, sym}
+use Rattle.std.specs.List.{filter_map}
+use Rattle.std.proofs.lemmas.List.Sorted.{IsPermutation-sym, length_permutation}
+use Rattle.due_queue.proofs.Bags.{in_permuted, is_given}
+use Rattle.due_queue.specs.declared.Entry.{Entry}
+use Rattle.due_queue.specs.Places.{numbers_of}
+use Rattle.run_law.specs.records.Happenings.{happenings}
+use Rattle.run_law.specs.records.Order.{behind}
+use Rattle.run_law.specs.scenario.Scenarios.{is_broken}
+use Rattle.drift_world.specs.Keeping.{keeps}
+use Rattle.drift_world.proofs.Alike.{with_wires}
+use Rattle.drift_world.proofs.Fits.{all_put_some, below_without, have_octets, if_some}
+use Rattle.drift_world.proofs.HiddenCauses.{settled_in_order}
+use Rattle.drift_world.proofs.Puts.{departed_is, frame_of_port, some_put_in}
+use Rattle.drift_world.proofs.Showings.{shows_of}
+use Rattle.drift_world.proofs.UnderWays.{ports_without, sound_without, wires_stay}
+use Rattle.drift_world.specs.Leaving.{port_entry}
+use Rattle.drift_world.specs.Places.{IsSomePut}
+use Rattle.drift_world.specs.Views.{at_port, on_wire, settled_at, world_of}
+use Rattle.drift_world.specs.declared.contents.Content.TheVariants.{Port}
+use Rattle.drift_world.specs.declared.contents.Content.{Content}
+use Rattle.drift_world.specs.declared.contents.Settled.{Settled}
+use Rattle.world_law.proofs.steps.LeftSteps.{left_step}
+use Rattle.world_law.specs.world.Steps.{ComesFirst, StandsBehind, departure_body, departure_now}
+use Rattle.world_law.specs.world.World.{World}
+use Rattle.drift_world.proofs.state.State.leave_first.Goals as goal
+
+pub returns-clause-sound : goal.returns-clause-sound
+returns-clause-sound g c =
+    let w = c.args.self.now in
+    let z = c.requires.sound.sized in
+    let fit = c.requires.sound.fit in
+    record {
+      sized = record {
+        clocks = z.clocks;
+        machines = z.machines;
+        broken = z.broken;
+        ups = z.ups;
+        downs = z.downs;
+        stepped = z.stepped;
+        limit = z.limit;
+        shown = z.shown;
+      };
+      under_way = sound_without c.args.network.now w.under_way.entries c.take_port-frame.new.under_way.entries _ c.requires.sound.under_way
+          c.take_port-frame.ensures;
+      fit = record {
+        ups = fit.ups;
+        downs = fit.downs;
+        octets = all_put_some have_octets c.departure-record.result w.settled.items c.put_some.new.settled.items c.put_some.ensures.is
+            (if_some have_octets c.departure-record.result c.departure-record.ensures.octets) fit.octets;
+        below = below_without (w.given + 1) w.under_way.entries c.take_port-frame.new.under_way.entries _ c.take_port-frame.ensures fit.below;
+        waits_below = fit.waits_below;
+        apart = fit.apart;
+      };
+    }
+
+pub returns-clause-stands : goal.returns-clause-stands
+returns-clause-stands g c = λ s notes old now_is first.
+    let w = c.args.self.now in
+    let K = g.C.Clock in
+    let stands = keeps g.M.Machine.stands in
+    let network = c.args.network.now in
+    let world = world_of network w in
+    let place = c.args.place in
+    let took = c.take_port-frame in
+    let e = port_entry place took.result.0 took.result.1 in
+    let taken : Entry Content = record { place = place; content = Port took.result.0 took.result.1 } in
+    let hs = happenings s.network notes in
+    let numbers : numbers_of place ≡ place.at ∷ 8 ∷ place.device ∷ place.link ∷ place.cause ∷ [] = ap
+    (λ (r : ℕ). place.at ∷ r ∷ place.device ∷ place.link ∷ place.cause ∷ []) c.requires.port in
+    let there = is_given at_port w.under_way.entries taken e (in_permuted _ _ taken (IsPermutation-sym _ _ took.ensures) (inl refl)) refl in
+    let given = frame_of_port s hs e (old.ports.real e there).0 in
+    let of = shows_of K.reading stands s network w notes old in
+    let put = subst (λ (o : Option Settled). IsSomePut o w.settled.items c.put_some.new.settled.items)
+    (c.departure-record.ensures.is s (record { same = of.same; clocks = of.clocks; broken = of.broken; ways = of.ways })) c.put_some.ensures.is in
+    let step = left_step K.reading stands s world notes e (filter_map at_port took.new.under_way.entries)
+    (map (settled_at network w.time) c.put_some.new.settled.items) old there now_is
+    (subst (ComesFirst K.reading stands s world notes old) numbers first)
+    (ports_without network w.under_way.entries took.new.under_way.entries taken c.requires.sound.under_way took.ensures e refl)
+    (some_put_in s.network network w.time hs (departure_body e (departure_now s e w.time)) _ w.settled.items c.put_some.new.settled.items
+    (is_broken s e.device w.time) put
+    (settled_in_order K.reading stands s world notes old) (departed_is s.network network w.time hs e (departure_now s e w.time) given)) in
+    let after : World _ _ = record world {
+      ports = filter_map at_port took.new.under_way.entries;
+      early = false;
+      settled = map (settled_at network w.time) c.put_some.new.settled.items;
+    } in
+    with_wires K.reading stands s after notes (filter_map (on_wire network) took.new.under_way.entries) (behind (numbers_of place))
+    (wires_stay network w.under_way.entries took.new.under_way.entries taken c.requires.sound.under_way took.ensures refl)
+    (subst (λ (p : List ℕ). StandsBehind K.reading stands s after notes (behind p)) (sym numbers) step)
+
+pub returns-clause-shorter : goal.returns-clause-shorter
+returns-clause-shorter g c = let same = length_permutation _ _ c.take_port-frame.ensures in omega (arith, same)

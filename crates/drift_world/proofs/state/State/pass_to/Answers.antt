@@ -1,0 +1,18 @@
+use Rattle.std.proofs.Common.{◌∷◌, [], List, ap, map, subst, sym, true, ◌∙◌}
+use Rattle.run_law.specs.records.Happenings.{Happening}
+use Rattle.drift_world.specs.Keeping.{keeps}
+use Rattle.drift_world.specs.Views.{settled_at, world_of}
+use Rattle.world_law.proofs.steps.Passed.{passed_step}
+use Rattle.world_law.specs.world.Steps.{StandsBehind}
+use Rattle.drift_world.proofs.state.State.pass_to.Goals as goal
+
+pub returns-clause-stands : goal.returns-clause-stands
+returns-clause-stands g c = λ network s notes old none.
+    let w = c.args.self.now in
+    let empty = c.requires.none in
+    subst (λ (l : List Happening). StandsBehind g.C.Clock.reading (keeps g.M.Machine.stands) s
+    (record (world_of network w) { now = c.args.time; early = true; settled = l }) notes (c.args.time ∷ []))
+    (ap (map (settled_at network w.time)) empty ∙ sym (ap (map (settled_at network c.args.time)) empty))
+    (passed_step g.C.Clock.reading (keeps g.M.Machine.stands) s (world_of network w) notes c.args.time old (ap (map (settled_at network w.time)) empty)
+    c.requires.later c.requires.limit
+    c.requires.open none)

@@ -1,0 +1,19 @@
+use Rattle.std.proofs.Common.{ap, subst, sym}
+use Rattle.drift_world.proofs.Turning.{either_end, plain_step}
+use Rattle.drift_world.proofs.state.State.settle.Goals as goal
+use Rattle.drift_world.specs.Keeping.{keeps}
+use Rattle.drift_world.specs.Views.{world_of}
+use Rattle.drift_world.specs.declared.state.State.{State}
+use Rattle.world_law.specs.world.World.{Stands, World}
+
+pub returns : goal.returns
+returns g c =
+    let w = c.args.self.now in
+    let r = c.requires in
+    let step = c.settle_befallen.ensures in
+    let after = world_of c.args.network.now c.settle_befallen.new.self in
+    plain_step g.C.Clock.last_step g.C.Clock.reading g.M.Machine.stands c.args.network.now w c.settle_befallen.new.self
+    r.well step.sound step.others (ap (λ (t : State _ _). t.timers) step.same) step.given
+    (λ s notes old. either_end c.settle_befallen.result _ _ (Stands g.C.Clock.reading (keeps g.M.Machine.stands) s after notes)
+    (step.stands s notes old) step.err (λ is. is.0)
+    (λ same. subst (λ (v : World _ _). Stands g.C.Clock.reading (keeps g.M.Machine.stands) s v notes) (sym same) old))

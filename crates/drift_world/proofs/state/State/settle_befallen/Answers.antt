@@ -1,0 +1,89 @@
+use Rattle.std.proofs.Common.{◌+◌, All, arith, subst, sym}
+use Rattle.drift_world.specs.Keeping.{keeps}
+use Rattle.drift_world.specs.Sound.{AreBelow, AreUnderWay}
+use Rattle.drift_world.proofs.BefallenLaws.{all_fresh, befallen_behind, numbers_given, octets_settled}
+use Rattle.drift_world.proofs.Befallings.{settled_with, sound_settled}
+use Rattle.drift_world.proofs.Fits.{have_octets}
+use Rattle.drift_world.proofs.state.State.settle_befallen.Goals as goal
+
+pub returns-in_err-make_room-clause-sound : goal.returns-in_err-make_room-clause-sound
+returns-in_err-make_room-clause-sound g c =
+    let w = c.args.self.now in
+    let z = c.requires.sound.sized in
+    let fit = c.requires.sound.fit in
+    let made = c.make_room.ensures in
+    record {
+      sized = record {
+        clocks = z.clocks;
+        machines = z.machines;
+        broken = z.broken;
+        ups = z.ups;
+        downs = z.downs;
+        stepped = z.stepped;
+        limit = z.limit;
+        shown = z.shown;
+      };
+      under_way = subst (AreUnderWay c.args.network.now) (sym made.entries) c.requires.sound.under_way;
+      fit = record {
+        ups = fit.ups;
+        downs = fit.downs;
+        octets = subst (All have_octets) (sym made.items) fit.octets;
+        below = subst (AreBelow (w.given + 1)) (sym made.entries) fit.below;
+        waits_below = fit.waits_below;
+        apart = fit.apart;
+      };
+    }
+
+pub returns-clause-sound : goal.returns-clause-sound
+returns-clause-sound g c =
+    let w = c.args.self.now in
+    let z = c.requires.sound.sized in
+    let fit = c.requires.sound.fit in
+    let network = c.args.network.now in
+    let at = c.requires.running in
+    let stands = keeps g.M.Machine.stands in
+    let after = c.settle_all.new in
+    let so = settled_with network c.as_slice.result.now w.broken.items c.as_slice-2.result.now w.ups.items w.time w.befell.items
+    c.make_room.new.settled.items w.settled.items after.settled.items c.make_room.new.under_way.entries w.under_way.entries after.under_way.entries
+    c.as_slice.ensures.value c.as_slice-2.ensures.value c.make_room.ensures.items c.make_room.ensures.entries c.settle_all.ensures.are in
+    let under = sound_settled network c.requires.range w.broken.items w.ups.items w.time (w.given + 1) w.befell.items w.settled.items after.settled.items
+    w.under_way.entries after.under_way.entries so c.requires.sound.under_way fit.below at.is.untold.in_order
+    (numbers_given g.C.Clock.reading stands at.s network w at.notes at.is c.requires.pending)
+    (all_fresh g.C.Clock.reading stands at.s network w at.notes at.is c.requires.pending c.requires.sound.under_way) in
+    record {
+      sized = record {
+        clocks = z.clocks;
+        machines = z.machines;
+        broken = z.broken;
+        ups = z.ups;
+        downs = z.downs;
+        stepped = z.stepped;
+        limit = z.limit;
+        shown = z.shown;
+      };
+      under_way = under.0;
+      fit = record {
+        ups = fit.ups;
+        downs = fit.downs;
+        octets = octets_settled network w.broken.items w.ups.items w.time w.befell.items w.settled.items after.settled.items w.under_way.entries
+            after.under_way.entries so fit.octets;
+        below = under.1;
+        waits_below = fit.waits_below;
+        apart = fit.apart;
+      };
+    }
+
+pub returns-clause-stands : goal.returns-clause-stands
+returns-clause-stands g c = λ s notes old.
+    let w = c.args.self.now in
+    let network = c.args.network.now in
+    let after = c.settle_all.new in
+    let so = settled_with network c.as_slice.result.now w.broken.items c.as_slice-2.result.now w.ups.items w.time w.befell.items
+    c.make_room.new.settled.items w.settled.items after.settled.items c.make_room.new.under_way.entries w.under_way.entries after.under_way.entries
+    c.as_slice.ensures.value c.as_slice-2.ensures.value c.make_room.ensures.items c.make_room.ensures.entries c.settle_all.ensures.are in
+    let few = c.if-more-self.false in
+    let len = c.len-more.ensures in
+    let own = w.befell.ok.0 in
+    let given = old.given in
+    befallen_behind g.C.Clock.reading (keeps g.M.Machine.stands) s network w notes old c.requires.pending after.befell.items after.settled.items
+    after.under_way.entries c.settle_all.ensures.none (omega (arith, few, len, own, given)) so

@@ -1,0 +1,23 @@
+use Rattle.std.proofs.Common.{ap, subst, sym, ℕ}
+use Rattle.drift_world.specs.declared.source.Source.TheVariants.{Clock}
+use Rattle.drift_world.specs.declared.state.State.{State}
+use Rattle.drift_world.proofs.Turning.{comes_first, plain_step}
+use Rattle.drift_world.proofs.state.State.show.Goals as goal
+
+use Rattle.net_plan.specs.declared.ids.DeviceId.{DeviceId}
+use Rattle.drift_world.specs.Keeping.{keeps}
+use Rattle.drift_world.specs.Views.{world_of}
+use Rattle.world_law.specs.world.Steps.{ComesFirst}
+use Rattle.world_law.specs.world.World.{clock_place}
+
+pub returns : goal.returns
+returns g c =
+    let w = c.args.self.now in
+    let r = c.requires in
+    let step = c.show_clock.ensures in
+    plain_step g.C.Clock.last_step g.C.Clock.reading g.M.Machine.stands c.args.network.now w c.show_clock.new.self r.well step.sound step.others
+    (ap (λ (t : State _ _). t.timers) step.same) (ap (λ (t : State _ _). t.given) step.same)
+    (λ s notes old. (step.stands s notes old r.foremost.there.ended
+    (subst (λ (n : ℕ). ComesFirst g.C.Clock.reading (keeps g.M.Machine.stands) s (world_of c.args.network.now w) notes old (clock_place w.time (record { 0 = n })))
+    r.foremost.there.next
+    (comes_first g.C.Clock.last_step g.C.Clock.reading g.M.Machine.stands c.args.network.now w (Clock c.args.device) s notes r.well.sound r.room r.foremost r.first tt old))).0)

@@ -1,0 +1,83 @@
+use Rattle.std.proofs.Common.{[], ap, subst, sym}
+use Rattle.drift_clock.proofs.Readings.{IsLawful}
+use Rattle.net_plan.specs.declared.network.Network.{Network}
+use Rattle.net_plan.specs.Ranges.{IsInRange}
+use Rattle.schedule_tables.specs.Rules.{KeepsRules}
+use Rattle.drift_world.proofs.Freshness.{first_sound, first_stands}
+use Rattle.drift_world.proofs.Wells.{sound_timers}
+use Rattle.drift_world.specs.Beginning.{AreFresh, IsFirstState}
+use Rattle.drift_world.specs.Running.{StandsUnder, reading_of}
+use Rattle.drift_world.specs.Sourcing.{AreTimed}
+use Rattle.drift_world.specs.Views.{world_of}
+use Rattle.drift_world.specs.declared.kept.Kept.{Kept}
+use Rattle.world_law.specs.source.Agreeing.{scenario}
+use Rattle.world_law.specs.world.World.{World}
+use Rattle.drift_world.proofs.world.World.begin.Given as given
+use Rattle.drift_world.proofs.world.World.begin.Goals as goal
+
+-- the laws of the clocks
+lawful : (g : given.Over) → IsLawful g.C.Clock.fresh g.C.Clock.after_step g.C.Clock.reading g.C.Clock.grain_of g.C.Clock.count
+lawful g = record {
+  has_grain = g.met.C.Clock.has_grain;
+  keeps_grain = g.met.C.Clock.keeps_grain;
+  reads_count = g.met.C.Clock.reads_count;
+  counts_time = g.met.C.Clock.counts_time;
+  keeps_count = g.met.C.Clock.keeps_count;
+  drifts = g.met.C.Clock.drifts;
+}
+
+pub rekey_all-requires-clause-sized : goal.rekey_all-requires-clause-sized
+rekey_all-requires-clause-sized g c =
+    (first_sound g.C.Clock.fresh g.C.Clock.last_step c.network-network.result.now c.args.machines.items c.in_ok-state.state c.in_ok-state.ensures
+    (subst IsInRange (sym c.network-network.ensures.value) c.network-network.ensures.range)
+    (subst (λ (n : Network). AreFresh g.M.Machine.stands n c.args.machines.items) (sym c.network-network.ensures.value) c.requires).each).sized
+
+pub rekey_all-requires-clause-running : goal.rekey_all-requires-clause-running
+rekey_all-requires-clause-running g c =
+    let K = g.C.Clock in
+    let network = c.network-network.result.now in
+    let under = first_stands K.fresh K.last_step network c.args.machines.items c.in_ok-state.state c.in_ok-state.ensures K.after_step K.reading K.grain_of K.count
+    (lawful g) g.M.Machine.stands
+    (subst (λ (n : Network). AreFresh g.M.Machine.stands n c.args.machines.items) (sym c.network-network.ensures.value) c.requires)
+    (subst IsInRange (sym c.network-network.ensures.value) c.network-network.ensures.range)
+    (subst KeepsRules (sym c.network-network.ensures.value) c.network-network.ensures.rules) in
+    record {
+      s = scenario network (reading_of K.fresh K.after_step K.reading network []) [];
+      notes = [];
+      is = under.is;
+    }
+
+-- the state is the first of the network, but for its timers
+first : (g : given.Over) (c : goal.After-rekey_all g)
+    → IsFirstState g.C.Clock.fresh g.C.Clock.last_step c.args.accepted.now c.args.machines.items c.in_ok-state.state
+first g c =
+    subst (λ (n : Network). IsFirstState g.C.Clock.fresh g.C.Clock.last_step n c.args.machines.items c.in_ok-state.state) c.network-network.ensures.value
+    c.in_ok-state.ensures
+
+stands : (g : given.Over) (c : goal.After-rekey_all g)
+    → StandsUnder g.C.Clock.fresh g.C.Clock.after_step g.C.Clock.reading g.M.Machine.stands c.args.accepted.now
+    (world_of c.args.accepted.now c.rekey_all.new.self) [] []
+stands g c =
+    let K = g.C.Clock in
+    subst (λ (w : World _ (Kept _)). StandsUnder K.fresh K.after_step K.reading g.M.Machine.stands c.args.accepted.now w [] [])
+    (ap (world_of c.args.accepted.now) (sym c.rekey_all.ensures.same))
+    (first_stands K.fresh K.last_step c.args.accepted.now c.args.machines.items c.in_ok-state.state (first g c) K.after_step K.reading K.grain_of K.count (lawful g)
+    g.M.Machine.stands c.requires c.network-network.ensures.range c.network-network.ensures.rules)
+
+pub invariant_of-result : goal.invariant_of-result
+invariant_of-result g c =
+    let K = g.C.Clock in
+    let network = c.args.accepted.now in
+    record {
+      sound = sound_timers K.last_step network c.in_ok-state.state c.rekey_all.new.self c.rekey_all.ensures.same
+          (first_sound K.fresh K.last_step network c.args.machines.items c.in_ok-state.state (first g c) c.network-network.ensures.range c.requires.each);
+      running = record {
+        s = scenario network (reading_of K.fresh K.after_step K.reading network []) [];
+        notes = [];
+        is = (stands g c).is;
+      };
+      timed = subst (λ (n : Network). AreTimed K.reading g.M.Machine.stands n c.rekey_all.new.self) c.network-network.ensures.value c.rekey_all.ensures.timed;
+    }
+
+pub returns-clause-stands : goal.returns-clause-stands
+returns-clause-stands g c = stands g c

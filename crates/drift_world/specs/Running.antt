@@ -1,0 +1,91 @@
+-- The run that a world gives: where the events applied to it, and the records that it gave, leave it.
+use Rattle.std.specs.Prelude.{◌≡◌, ◌⊎◌, ℕ, ◌-◌, ◌^◌, ◌<◌, ◌≤◌, ℤ, pos, ◌≤ℤ◌, ◌<ℤ◌, true, false, List, [], ◌∷◌, length, fold, slice_get, Option, Some, option_to_list, Result, Ok, Err, All}
+use Rattle.drift_clock.specs.Readings.{reading_at, value_after}
+use Rattle.net_plan.specs.Belonging.{IsOfNetwork}
+use Rattle.net_plan.specs.declared.event.Event.{Event}
+use Rattle.net_plan.specs.declared.event.What.TheVariants.{Hold}
+use Rattle.net_plan.specs.declared.event.What.{What}
+use Rattle.net_plan.specs.declared.ids.DeviceId.{DeviceId}
+use Rattle.net_plan.specs.declared.network.Network.{Network}
+use Rattle.run_law.specs.declared.note.Note.{Note}
+use Rattle.run_law.specs.declared.note.NoteBody.TheVariants.{Event as Befalls}
+use Rattle.run_law.specs.machines.Nodes.{Node}
+use Rattle.run_law.specs.scenario.Hypothesis.{AreWithinHypothesis, IsWithinHypothesis}
+use Rattle.run_law.specs.scenario.Rates.{rate_steps}
+use Rattle.tte_units.specs.Amount.{amount, units_of}
+use Rattle.tte_units.specs.declared.units.Units.{Units}
+use Rattle.drift_world.specs.Keeping.{keeps}
+use Rattle.drift_world.specs.declared.kept.Kept.{Kept}
+use Rattle.world_law.specs.source.Agreeing.{scenario}
+use Rattle.world_law.specs.world.World.{Stands, World}
+
+-- what the rates that the events set make of a device's clock
+abbrev pub clock_of : {C : Type 0} → (ℕ → C) → (C → ℕ → ℤ → C) → Network → List Event → DeviceId → C
+clock_of fresh after_step network events device =
+    value_after after_step (fresh (amount network.grain)) (rate_steps events device)
+
+-- what a device's clock reads at a time, under the rates that the events set
+abbrev pub reading_of : {C : Type 0} → (ℕ → C) → (C → ℕ → ℤ → C) → (C → ℕ → ℕ) → Network → List Event → DeviceId → ℕ → ℕ
+reading_of fresh after_step reading network events device time =
+    reading_at after_step reading (fresh (amount network.grain)) (rate_steps events device) time
+
+-- the events are the network's, and each is within the fault hypothesis; the records given are those of the run under
+-- them, and each part of the world is as these events and records leave it
+pub record StandsUnder {C M : Type 0} (fresh : ℕ → C) (after_step : C → ℕ → ℤ → C) (reading : C → ℕ → ℕ)
+    (stands : M → Network → DeviceId → Node → Type 0) (network : Network) (world : World C (Kept M)) (events : List Event)
+    (notes : List Note) : Type 0 where
+  pub is : Stands reading (keeps stands) (scenario network (reading_of fresh after_step reading network events) events) world notes
+  pub clocks : (device : DeviceId) → device.0 < length network.device
+      → slice_get world.clocks device.0 ≡ Some (clock_of fresh after_step network events device)
+  pub of_network : All (λ e. IsOfNetwork network e.what) events
+  pub within : AreWithinHypothesis network events
+
+-- some events and records leave the world where it stands, and after these events this one is within the hypothesis
+pub record MayBefall {C M : Type 0} (fresh : ℕ → C) (after_step : C → ℕ → ℤ → C) (reading : C → ℕ → ℕ)
+    (stands : M → Network → DeviceId → Node → Type 0) (world : World C (Kept M)) (event : Event) : Type 0 where
+  pub events : List Event
+  pub notes : List Note
+  pub is : StandsUnder fresh after_step reading stands world.network world events notes
+  pub of_network : IsOfNetwork world.network event.what
+  pub within : IsWithinHypothesis world.network events event
+
+-- it may befall now: the end has not come, and nothing of the present instant but events is worked off
+pub record IsOpenTo {C M : Type 0} (world : World C (Kept M)) (event : Event) : Type 0 where
+  pub time : event.time.0 ≡ pos world.now
+  pub early : world.early ≡ true
+  pub unended : world.ended ≡ false
+
+-- a hold that it sets is a time from 0 on
+abbrev pub HoldsATime : What → Type 0
+HoldsATime (Hold link way hold) = pos 0 ≤ℤ hold.0
+HoldsATime other = Unit {0}
+
+-- the record of an event, with its number and line
+abbrev pub event_note : ℕ → ℕ → Event → Note
+event_note number line event = record { number = number; time = event.time; body = Befalls line event.what }
+
+-- behind the records of the events of a time, which have the rank 1
+abbrev pub behind_events : ℕ → List ℕ
+behind_events time = time ∷ 2 ∷ []
+
+-- the time of the last event, or 0
+abbrev pub last_time : List Event → Units
+last_time events = fold (λ before event. event.time) (units_of 0) events
+
+-- the record that was given, if one was
+abbrev pub given_by : {E : Type 0} → Result (Option Note) E → List Note
+given_by (Ok next) = option_to_list next
+given_by (Err e) = []
+
+-- the world has come to the time, and nothing of it but events is worked off
+pub record HasReached {C M : Type 0} (old new : World C (Kept M)) (until : Units) : Type 0 where
+  pub time : pos new.now ≡ until.0
+  pub early : (pos old.now <ℤ until.0) ⊎ (old.early ≡ true) → new.early ≡ true
+
+-- unless the end has come, or the time is past, it has
+abbrev pub Reaches : {C M : Type 0} → World C (Kept M) → World C (Kept M) → Units → Type 0
+Reaches old new until = old.ended ≡ false → pos old.now ≤ℤ until.0 → until.0 ≤ℤ pos (2 ^ 60) → HasReached old new until
+
+-- how many numbers are left for records
+abbrev pub left_of : {C M : Type 0} → World C (Kept M) → ℕ
+left_of world = 2 ^ 64 - world.given

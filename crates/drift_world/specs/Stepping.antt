@@ -1,0 +1,69 @@
+-- Where a state stands, and what a step of it leaves.
+use Rattle.std.specs.Prelude.{◌≡◌, ◌⊎◌, ◌↔◌, ℕ, ◌+◌, ◌<◌, ◌≤◌, ◌^◌, pos, ◌≤ℤ◌, List, length, slice_get, Some}
+use Rattle.due_timers.specs.Times.{never}
+use Rattle.net_plan.specs.declared.ids.DeviceId.{DeviceId}
+use Rattle.net_plan.specs.declared.network.Network.{Network}
+use Rattle.run_law.specs.declared.note.Note.{Note}
+use Rattle.run_law.specs.machines.Nodes.{Node}
+use Rattle.run_law.specs.machines.Tasks.{IsPending, Task, reading_for}
+use Rattle.run_law.specs.records.Order.{IsIn}
+use Rattle.run_law.specs.scenario.Scenarios.{Scenario}
+use Rattle.drift_world.specs.Keeping.{keeps}
+use Rattle.drift_world.specs.Views.{world_of}
+use Rattle.drift_world.specs.declared.contents.Waits.{Waits}
+use Rattle.drift_world.specs.declared.kept.Kept.{Kept}
+use Rattle.drift_world.specs.declared.state.State.{State}
+use Rattle.world_law.specs.world.Steps.{ComesFirst}
+use Rattle.world_law.specs.world.World.{Stands}
+
+-- some scenario and records leave the state where it stands
+pub record IsRunning {C M : Type 0} (reading : C → ℕ → ℕ) (stands : M → Network → DeviceId → Node → Type 0) (network : Network)
+    (state : State C M) : Type 0 where
+  pub s : Scenario
+  pub notes : List Note
+  pub is : Stands reading (keeps stands) s (world_of network state) notes
+
+-- and the source at this place comes first
+pub record IsAt {C M : Type 0} (reading : C → ℕ → ℕ) (stands : M → Network → DeviceId → Node → Type 0) (network : Network) (state : State C M)
+    (place : List ℕ) : Type 0 where
+  pub s : Scenario
+  pub notes : List Note
+  pub is : Stands reading (keeps stands) s (world_of network state) notes
+  pub first : ComesFirst reading (keeps stands) s (world_of network state) notes is place
+
+-- of what the timers are for, a step changes that of one device at most
+pub record ChangesOnly {C M : Type 0} (device : ℕ) (old new : State C M) : Type 0 where
+  pub clocks : new.clocks ≡ old.clocks
+  pub time : new.time ≡ old.time
+  pub ended : new.ended ≡ old.ended
+  pub machines : (i : ℕ) → (i ≡ device → ⊥) → slice_get new.machines.items i ≡ slice_get old.machines.items i
+  pub waiting : (w : Waits) → (w.device.0 ≡ device → ⊥) → IsIn w new.waiting.items ↔ IsIn w old.waiting.items
+
+-- ---- timers
+
+-- no frame that waits at the device is permanent before the time, and where that is a time, one is then
+pub record IsRipeAt {C : Type 0} (reading : C → ℕ → ℕ) (clock : C) (waiting : List Waits) (device now time : ℕ) : Type 0 where
+  pub none : (w : Waits) → IsIn w waiting → w.device.0 ≡ device → (u : ℕ) → now ≤ u → u ≤ 2 ^ 60 → w.point.0 ≤ℤ pos (reading clock u) → time ≤ u
+  pub one : time < never → (w : Waits) × IsIn w waiting × (w.device.0 ≡ device) × (w.point.0 ≤ℤ pos (reading clock time))
+
+-- the device has nothing to do before the time, and where that is a time, something then
+pub record ActsAt {C M : Type 0} (reading : C → ℕ → ℕ) (stands : M → Network → DeviceId → Node → Type 0) (network : Network) (clock : C)
+    (machine : Kept M) (device : DeviceId) (now time : ℕ) : Type 0 where
+  pub none : (node : Node) (task : Task) → keeps stands machine network device node → IsPending network device node task
+      → (u : ℕ) → now ≤ u → u ≤ 2 ^ 60 → reading_for network node task ≤ℤ pos (reading clock u) → time ≤ u
+  pub one : time < never → (node : Node) → keeps stands machine network device node
+      → (task : Task) × IsPending network device node task × (reading_for network node task ≤ℤ pos (reading clock time))
+
+-- the timers of the device are right: one for the frames that wait at it, and one for what it does by itself
+pub record IsTimed {C M : Type 0} (reading : C → ℕ → ℕ) (stands : M → Network → DeviceId → Node → Type 0) (network : Network) (timers : List ℕ)
+    (state : State C M) (device : DeviceId) : Type 0 where
+  pub clock : C
+  pub of_clock : slice_get state.clocks.items device.0 ≡ Some clock
+  pub machine : Kept M
+  pub of_machine : slice_get state.machines.items device.0 ≡ Some machine
+  pub ripe : ℕ
+  pub of_ripe : slice_get timers device.0 ≡ Some ripe
+  pub ripens : IsRipeAt reading clock state.waiting.items device.0 state.time ripe
+  pub act : ℕ
+  pub of_act : slice_get timers (length network.device + device.0) ≡ Some act
+  pub acts : ActsAt reading stands network clock machine device state.time act

@@ -1,0 +1,189 @@
+-- How a world goes on, one source after the other.
+use Rattle.std.specs.Prelude.{◌≡◌, ◌⊎◌, ℕ, ◌+◌, ◌<◌, ◌≤◌, ◌^◌, ◌-◌, pos, ◌≤ℤ◌, ◌<ℤ◌, true, false, List, [], ◌∷◌, ◌++◌, length, slice_get, Some, None, Option, Result, Ok, Err}
+use Rattle.due_queue.specs.declared.Place.{Place}
+use Rattle.due_timers.specs.declared.Due.{Due}
+use Rattle.drift_world.specs.Sourcing.{HasNothingBefore, IsRipePlace, due_place}
+use Rattle.drift_world.specs.Wells.{IsWell}
+use Rattle.drift_world.specs.Places.{own_place}
+use Rattle.drift_world.specs.declared.contents.Settled.{Settled}
+use Rattle.tte_units.specs.Amount.{amount, units_of}
+use Rattle.std.specs.VecDeque.{deque_capacity, deque_len}
+use Rattle.due_queue.specs.Places.{IsFirst, numbers_of}
+use Rattle.net_plan.specs.declared.ids.DeviceId.{DeviceId}
+use Rattle.net_plan.specs.declared.network.Network.{Network}
+use Rattle.run_law.specs.declared.note.Note.{Note}
+use Rattle.run_law.specs.records.Order.{IsBefore}
+use Rattle.run_law.specs.machines.Calls.{HasDue}
+use Rattle.run_law.specs.machines.Nodes.{Node}
+use Rattle.run_law.specs.runs.DueRecords.{IsScenarioRun}
+use Rattle.run_law.specs.scenario.Scenarios.{Scenario}
+use Rattle.drift_world.specs.Keeping.{keeps}
+use Rattle.drift_world.specs.Views.{waiting_as, world_of}
+use Rattle.drift_world.specs.declared.contents.Waits.{Waits}
+use Rattle.drift_world.specs.declared.kept.Kept.{Kept}
+use Rattle.drift_world.specs.declared.source.Source.TheVariants.{Events, Arrival, Ripening, Act, Departure, Clock, Later}
+use Rattle.drift_world.specs.declared.source.Source.{Source}
+use Rattle.drift_world.specs.declared.next.Turn.TheVariants.{Gives, Ends, GoesOn}
+use Rattle.drift_world.specs.declared.next.Turn.{Turn}
+use Rattle.drift_world.specs.declared.state.State.{State}
+use Rattle.world_law.specs.world.World.{Stands, act_place, clock_place, ripe_place}
+
+-- the place of a source, at the present time
+abbrev pub source_place : ℕ → Source → List ℕ
+source_place now Events = now ∷ 2 ∷ []
+source_place now (Arrival place) = numbers_of place
+source_place now (Ripening index w) = ripe_place now (waiting_as w)
+source_place now (Act device) = act_place now device
+source_place now (Departure place) = numbers_of place
+source_place now (Clock device) = clock_place now device
+source_place now (Later time) = time ∷ []
+
+-- the first that is under way is at this place of the present instant
+pub record IsDueEntry {C M : Type 0} (network : Network) (state : State C M) (rank : ℕ) (place : Place) : Type 0 where
+  pub first : IsFirst state.under_way.entries place
+  pub now : place.at ≡ state.time
+  pub rank_is : place.rank ≡ rank
+  pub device : place.device < length network.device
+  pub link : place.link < length network.link
+
+-- the frame that waits at this index is permanent now
+pub record IsRipe {C M : Type 0} (reading : C → ℕ → ℕ) (network : Network) (state : State C M) (index : ℕ) (w : Waits) : Type 0 where
+  pub there : slice_get state.waiting.items index ≡ Some w
+  pub of : w.device.0 < length network.device
+  pub clock : C
+  pub own : slice_get state.clocks.items w.device.0 ≡ Some clock
+  pub reached : w.point.0 ≤ℤ pos (reading clock state.time)
+
+-- the device has something to do now
+pub record IsActive {C M : Type 0} (reading : C → ℕ → ℕ) (stands : M → Network → DeviceId → Node → Type 0) (network : Network) (state : State C M)
+    (device : DeviceId) : Type 0 where
+  pub of : device.0 < length network.device
+  pub clock : C
+  pub own : slice_get state.clocks.items device.0 ≡ Some clock
+  pub machine : Kept M
+  pub there : slice_get state.machines.items device.0 ≡ Some machine
+  pub due : (node : Node) → keeps stands machine network device node → HasDue network device node (pos (reading clock state.time))
+
+-- the clock of the device is to be shown
+pub record IsToShow {C M : Type 0} (network : Network) (state : State C M) (device : DeviceId) : Type 0 where
+  pub ended : state.ended ≡ true
+  pub next : device.0 ≡ state.shown
+  pub more : device.0 < length network.device
+
+-- the source is there
+abbrev pub IsThere : {C M : Type 0} → (C → ℕ → ℕ) → (M → Network → DeviceId → Node → Type 0) → Network → State C M → Source → Type 0
+IsThere reading stands network state Events = state.pending ≡ true
+IsThere reading stands network state (Arrival place) = IsDueEntry network state 2 place
+IsThere reading stands network state (Ripening index w) = IsRipe reading network state index w
+IsThere reading stands network state (Act device) = IsActive reading stands network state device
+IsThere reading stands network state (Departure place) = IsDueEntry network state 8 place
+IsThere reading stands network state (Clock device) = IsToShow network state device
+IsThere reading stands network state (Later time) = state.time < time
+
+-- the place is that of what a slot is for, which is due now: the first of the frames that wait at its device, or the
+-- act of its device
+abbrev pub IsSlotPlace : {C M : Type 0} → (C → ℕ → ℕ) → Network → State C M → ℕ → List ℕ → Type 0
+IsSlotPlace reading network state slot p =
+    let due : Due = record { time = state.time; slot = slot } in
+    (p ≡ due_place (length network.device) due) ⊎ IsRipePlace reading network state due p
+
+-- it is of the present instant
+abbrev pub IsNow : Source → Type 0
+IsNow (Later time) = ⊥
+IsNow other = Unit {0}
+
+-- it is no later than this
+abbrev pub IsWithin : ℕ → Source → Type 0
+IsWithin until (Later time) = time ≤ until
+IsWithin until other = Unit {0}
+
+-- the numbers of its place behind the time, where it is of the present instant
+abbrev pub own_numbers : Source → Option (List ℕ)
+own_numbers Events = Some (2 ∷ [])
+own_numbers (Arrival place) = Some (place.rank ∷ place.device ∷ place.link ∷ place.cause ∷ [])
+own_numbers (Ripening index w) = Some (3 ∷ w.device.0 ∷ amount w.point ∷ w.frame.members.0 ∷ w.link.0 ∷ w.cause ∷ [])
+own_numbers (Act device) = Some (4 ∷ device.0 ∷ [])
+own_numbers (Departure place) = Some (place.rank ∷ place.device ∷ place.link ∷ place.cause ∷ [])
+own_numbers (Clock device) = Some (14 ∷ device.0 ∷ [])
+own_numbers (Later time) = None
+
+-- the record is before these numbers, if there are such
+abbrev pub IsAhead : Option (List ℕ) → Settled → Type 0
+IsAhead None z = Unit {0}
+IsAhead (Some numbers) z = IsBefore (own_place z) numbers
+
+-- something is settled, of which the first is ahead of the source
+pub record SettledFirst (settled : List Settled) (source : Source) : Type 0 where
+  pub first : Settled
+  pub others : List Settled
+  pub whole : settled ≡ first ∷ others
+  pub ahead : IsAhead (own_numbers source) first
+
+-- or nothing that is settled is
+abbrev pub SourceFirst : List Settled → Source → Type 0
+SourceFirst settled source = (first : Settled) (others : List Settled) → settled ≡ first ∷ others
+    → IsAhead (own_numbers source) first → ⊥
+
+-- there is room for two more records that are settled, and there are numbers for them
+pub record HasRoom {C M : Type 0} (state : State C M) : Type 0 where
+  pub places : deque_len state.settled + 2 ≤ deque_capacity state.settled
+  pub numbers : state.given + length state.settled.items + 2 < 2 ^ 64 - 1
+
+-- the source comes first of all that is under way
+pub record IsForemost {C M : Type 0} (reading : C → ℕ → ℕ) (stands : M → Network → DeviceId → Node → Type 0) (network : Network) (state : State C M)
+    (source : Source) : Type 0 where
+  pub there : IsThere reading stands network state source
+  pub nothing : HasNothingBefore reading stands network state (source_place state.time source)
+
+-- ---- what a turn leaves
+
+-- the record that a turn gave, if it gave one
+abbrev pub given_in : {E : Type 0} → Result Turn E → List Note
+given_in (Ok (Gives note)) = note ∷ []
+given_in (Ok Ends) = []
+given_in (Ok GoesOn) = []
+given_in (Err e) = []
+
+-- the clocks are as they were, no time is taken back, and the end has come only if it had
+pub record IsAfter {C M : Type 0} (old new : State C M) : Type 0 where
+  pub clocks : new.clocks ≡ old.clocks
+  pub ended : new.ended ≡ old.ended
+  pub later : old.time ≤ new.time
+
+-- the state has come to the time, and nothing of it but events is worked off
+pub record HasCome {C M : Type 0} (new : State C M) (until : ℕ) : Type 0 where
+  pub time : new.time ≡ until
+  pub early : new.early ≡ true
+
+-- what the answer of a turn says, besides where it stands: the record given is before the time; where it goes on, the
+-- present is; and where it ends, and the end has not come, the world has come to the time
+abbrev pub TurnSays : {C M : Type 0} → State C M → State C M → ℕ → Turn → Type 0
+TurnSays old new until (Gives note) = (note.time ≡ units_of new.time) × (new.time < until) × (new.given ≡ old.given + 1)
+TurnSays old new until GoesOn = (new.time < until) × (new.given ≡ old.given)
+TurnSays old new until Ends = old.ended ≡ false → until ≤ 2 ^ 60 → HasCome new until
+
+-- what it says, where time passes
+abbrev pub PassSays : {C M : Type 0} → State C M → State C M → ℕ → Turn → Type 0
+PassSays old new until (Gives note) = ⊥
+PassSays old new until GoesOn = (new.time < until) × (new.given ≡ old.given)
+PassSays old new until Ends = old.ended ≡ false → until ≤ 2 ^ 60 → HasCome new until
+
+-- where it ends, the records are the run up to the time
+abbrev pub IsWhole : Scenario → List Note → ℕ → Turn → Type 0
+IsWhole s notes until Ends = IsScenarioRun s (until ∷ []) notes
+IsWhole s notes until other = Unit {0}
+
+-- what it is to work a source off: nothing is given, and the present instant stays
+pub record IsStep {C M : Type 0} (last_step : C → ℕ) (reading : C → ℕ → ℕ) (stands : M → Network → DeviceId → Node → Type 0) (network : Network)
+    (old new : State C M) : Type 0 where
+  pub well : IsWell last_step reading stands network new
+  pub after : IsAfter old new
+  pub still : (s : Scenario) (notes : List Note) → Stands reading (keeps stands) s (world_of network old) notes
+      → Stands reading (keeps stands) s (world_of network new) notes
+  pub time : new.time ≡ old.time
+  pub given : new.given ≡ old.given
+
+-- a record of the present instant is given
+abbrev pub GivesAt : {C M : Type 0} → State C M → State C M → Turn → Type 0
+GivesAt old new (Gives note) = (note.time ≡ units_of new.time) × (new.time ≡ old.time) × (new.given ≡ old.given + 1)
+GivesAt old new other = ⊥

@@ -1,0 +1,310 @@
+ghost use Rattle.std.specs.Prelude.{◌≡◌, ◌≤◌, ◌<◌, ◌+◌, ◌-◌, ◌^◌, ◌≤ℤ◌, ◌<ℤ◌, ℕ, List, Some, true, false, length, slice_get, IfOk, IfSome, IsSomeAnd, IsTrue, IsFalse, OnErr, OnOk};
+ghost use Rattle.std.specs.VecDeque.{deque_capacity, deque_len};
+ghost use Rattle.net_plan.specs.Ranges.{IsInRange};
+ghost use Rattle.net_plan.specs.declared.network.Network.{Network};
+ghost use Rattle.run_law.specs.declared.note.Note.{Note};
+ghost use Rattle.run_law.specs.declared.steps.Act.{Act as ActValue};
+ghost use Rattle.run_law.specs.records.Order.{behind};
+ghost use Rattle.run_law.specs.scenario.Scenarios.{Scenario};
+ghost use Rattle.run_law.specs.scenario.Ways.{way_from};
+ghost use Rattle.schedule_tables.specs.Entries.{IsEntry};
+ghost use Rattle.schedule_tables.specs.declared.entry.Entry.{Entry as EntryValue};
+ghost use Rattle.drift_world.specs.Acting.{AreOutcomes, HasItsRow, IsDispatched, IsDueAt, IsHand, IsHeldIn, IsIdle, SettlesFrom, act_cursor, dispatched_by};
+ghost use Rattle.drift_world.specs.Keeping.{keeps};
+ghost use Rattle.drift_world.specs.Places.{IsSomePut};
+ghost use Rattle.drift_world.specs.Showing.{IsOf};
+ghost use Rattle.drift_world.specs.Sound.{IsSized, IsSound};
+ghost use Rattle.drift_world.specs.Stepping.{ChangesOnly, IsAt};
+ghost use Rattle.drift_world.specs.Views.{world_of};
+ghost use Rattle.drift_world.specs.declared.contents.Settled.{Settled as SettledValue};
+ghost use Rattle.drift_world.specs.declared.kept.Kept.{Kept as KeptValue};
+ghost use Rattle.world_law.specs.world.Acting.{HasActed, IsDueNow};
+ghost use Rattle.world_law.specs.world.Calls.{moment_of};
+ghost use Rattle.world_law.specs.world.Steps.{ComesFirst, StandsBehind};
+ghost use Rattle.world_law.specs.world.World.{Stands, act_place};
+
+use crate::OutOfMemory;
+use crate::contents::{Holding, Settled, Timed};
+use crate::outcomes::{Outcomes, bare, corrected, emitted, sent};
+use crate::settled::put_some;
+use crate::state::State;
+use drift_clock::Clock;
+use net_plan::{DeviceId, Network, Octets, RowId, VlId};
+use run_law::{Act, Machine, Moment, NoteBody};
+use schedule_tables::{Entry, entry_of};
+use std::collections::VecDeque;
+use sync_state::State as Standing;
+use tte_units::Units;
+
+/// The frame of a row that a device has at hand, and the number of the record by which a switch took it, or 0 at its
+/// sender.
+#[derive(Debug, Drop)]
+pub struct AtHand {
+    pub cause: u64,
+    pub octets: Timed,
+}
+
+/// The same octets.
+fn copied(octets: &Timed) -> Timed
+    ensures { result ≡ octets.now }
+{
+    match octets {
+        Timed::Made(vl, cycle) => Timed::Made(*vl, *cycle),
+        Timed::Sent(given) => Timed::Sent(Octets::new(given.as_slice())),
+    }
+}
+
+/// The frame of the virtual link that the switch holds.
+fn held(stored: &[Holding], device: DeviceId, vl: VlId) -> Option<AtHand>
+    ensures { IsHeldIn stored.now device vl result }
+{
+    let index = stored
+        .iter()
+        .position(|holding| holding.device == device && holding.vl == vl)?;
+    let holding = &stored[index];
+    Some(AtHand {
+        cause: holding.number,
+        octets: copied(&holding.octets),
+    })
+}
+
+/// The frame that the device has at hand.
+fn at_hand(stored: &[Holding], device: DeviceId, entry: &Entry, cycle: u32) -> Option<AtHand>
+    ensures { IsHand stored.now device entry.now cycle result }
+{
+    if entry.vl.sender == device {
+        return Some(AtHand {
+            cause: 0,
+            octets: Timed::Made(entry.row.vl, cycle),
+        });
+    }
+    held(stored, device, entry.row.vl)
+}
+
+/// The record of its dispatch, where its way is cut or not.
+fn dispatched(cut: bool, device: DeviceId, entry: &Entry, cycle: u32, hand: AtHand) -> Settled
+    ensures { result ≡ dispatched_by cut device entry.now cycle hand }
+{
+    if cut {
+        return bare(NoteBody::Lost {
+            device,
+            link: entry.row.link,
+            cause: hand.cause,
+        });
+    }
+    Settled {
+        body: NoteBody::TtSent {
+            device,
+            link: entry.row.link,
+            cause: hand.cause,
+            vl: entry.row.vl,
+            cycle,
+        },
+        frame: None,
+        octets: Some(hand.octets),
+    }
+}
+
+/// Puts the records of an act in at their places.
+fn put_both(settled: &mut VecDeque<Settled>, outcomes: Outcomes)
+    requires { deque_len settled.old + 2 ≤ deque_capacity settled.old }
+    ensures { (mid : List SettledValue) × IsSomePut outcomes.first settled.old.items mid
+        × IsSomePut outcomes.second mid settled.new.items }
+{
+    let Outcomes { first, second } = outcomes;
+    put_some(settled, first);
+    put_some(settled, second);
+}
+
+/// Is the reading that is due, if there is one, reached?
+fn is_reached(due: Option<Units>, reading: Units) -> bool
+    ensures reached { IsTrue result → IsSomeAnd due (λ at. at.0 ≤ℤ reading.0) }
+    ensures later { IsFalse result → IfSome due (λ at. reading.0 <ℤ at.0) }
+{
+    match due {
+        Some(at) => at.0 <= reading.0,
+        None => false,
+    }
+}
+
+impl<C: Clock, M: Machine + Drop> State<C, M> {
+    /// The present instant, as the device meets it.
+    fn moment_at(&self, network: &Network, device: DeviceId) -> Moment
+        requires sized { IsSized C.last_step network.now self.now }
+        requires there { device.0 < length network.now.device }
+        ensures { (s : Scenario) → IsOf C.reading s network.now self.now → result ≡ moment_of s device self.now.time }
+    {
+        let time = Units::from_amount(self.time);
+        Moment {
+            time,
+            reading: self.clocks[device.0 as usize].read(time),
+        }
+    }
+
+    /// The record of a row's dispatch, where the device has its frame at hand.
+    fn dispatched_at(
+        &self,
+        network: &Network,
+        device: DeviceId,
+        row: RowId,
+        cycle: u32,
+    ) -> Option<Settled>
+        requires sized { IsSized C.last_step network.now self.now }
+        requires range { IsInRange network.now }
+        requires row { row.0 < length network.now.row }
+        ensures { (s : Scenario) (entry : EntryValue) → IsOf C.reading s network.now self.now
+            → IsEntry network.now row.0 entry → IsDispatched s self.now.stored.items self.now.time device entry cycle result }
+    {
+        let entry = entry_of(network, row);
+        let way = self.way_from(network, device, entry.row.link);
+        let hand = at_hand(self.stored.as_slice(), device, &entry, cycle)?;
+        Some(dispatched(way.cut, device, &entry, cycle, hand))
+    }
+
+    /// The records of an act of the device that was in this state, and has this adjustment then.
+    fn outcomes_of(
+        &self,
+        network: &Network,
+        device: DeviceId,
+        was: Standing,
+        adjustment: Units,
+        act: Act,
+    ) -> Outcomes
+        requires sized { IsSized C.last_step network.now self.now }
+        requires range { IsInRange network.now }
+        requires row { HasItsRow (length network.now.row) act }
+        ensures { (s : Scenario) → IsOf C.reading s network.now self.now
+            → AreOutcomes s self.now.stored.items self.now.time device was adjustment act result }
+    {
+        match act {
+            Act::Send(frame) => sent(device, frame),
+            Act::Emit(frame, heard) => emitted(network, device, frame, heard),
+            Act::Correct(cycle, verdict) => corrected(device, was, cycle, adjustment, verdict),
+            Act::Dispatch(row, cycle) => Outcomes {
+                first: self.dispatched_at(network, device, row, cycle),
+                second: None,
+            },
+        }
+    }
+
+    /// Is something due for the device at the present instant?
+    fn is_due(&self, network: &Network, device: DeviceId) -> bool
+        requires sized { IsSized C.last_step network.now self.now }
+        requires there { device.0 < length network.now.device }
+        ensures yes { result ≡ true → (s : Scenario) (machine : KeptValue M) → IsOf C.reading s network.now self.now
+            → slice_get self.now.machines.items device.0 ≡ Some machine
+            → IsDueNow (keeps M.stands) s.network device (moment_of s device self.now.time) machine }
+        ensures no { result ≡ false → (s : Scenario) (machine : KeptValue M) → IsOf C.reading s network.now self.now
+            → slice_get self.now.machines.items device.0 ≡ Some machine
+            → IsIdle M.stands s self.now.time device machine }
+    {
+        let moment = self.moment_at(network, device);
+        is_reached(self.machines[device.0 as usize].due(), moment.reading)
+    }
+
+    /// The device does the first of all that is due. Is more due at the instant?
+    fn act_once(&mut self, network: &Network, device: DeviceId) -> bool
+        requires sound { IsSound C.last_step network.now self.old }
+        requires range { IsInRange network.now }
+        requires there { device.0 < length network.now.device }
+        requires room { deque_len self.old.settled + 2 ≤ deque_capacity self.old.settled }
+        requires due { IsDueAt C.reading M.stands network.now self.old device }
+        requires comes { IsAt C.reading M.stands network.now self.old (act_place self.old.time device) }
+        ensures sound { IsSound C.last_step network.now self.new }
+        ensures same { self.new ≡ record self.old {
+          machines = self.new.machines;
+          early = false;
+          settled = self.new.settled;
+        } }
+        ensures machines { (i : ℕ) → (i ≡ device.0 → ⊥)
+            → slice_get self.new.machines.items i ≡ slice_get self.old.machines.items i }
+        ensures settled { SettlesFrom network.now device self.old self.new }
+        ensures stands { (s : Scenario) (notes : List Note)
+            → (old : Stands C.reading (keeps M.stands) s (world_of network.now self.old) notes)
+            → ComesFirst C.reading (keeps M.stands) s (world_of network.now self.old) notes old
+            (act_place self.old.time device)
+            → StandsBehind C.reading (keeps M.stands) s (world_of network.now self.new) notes
+            (act_cursor result self.old.time device) }
+        ensures due { result ≡ true → IsDueAt C.reading M.stands network.now self.new device }
+        ensures acted { (s : Scenario) (notes : List Note) (machine : KeptValue M)
+            → Stands C.reading (keeps M.stands) s (world_of network.now self.old) notes
+            → slice_get self.old.machines.items device.0 ≡ Some machine
+            → (act : ActValue) × (after : KeptValue M) × (slice_get self.new.machines.items device.0 ≡ Some after)
+            × HasActed (keeps M.stands) s.network device (moment_of s device self.old.time) act machine after }
+    {
+        let index = device.0 as usize;
+        let moment = self.moment_at(network, device);
+        let was = self.machines[index].shown();
+        let Some(act) = self.machines[index].act(moment) else {
+            return false;
+        };
+        let is = self.machines[index].shown();
+        let outcomes = self.outcomes_of(network, device, was.state, is.adjustment, act);
+        put_both(&mut self.settled, outcomes);
+        self.early = false;
+        self.is_due(network, device)
+    }
+
+    /// Makes place for two more records, for which there are numbers.
+    ///
+    /// On an error nothing is done.
+    fn reserve_two(&mut self) -> Result<(), OutOfMemory>
+        ensures same { self.new ≡ record self.old { settled = self.new.settled } }
+        ensures items { self.new.settled.items ≡ self.old.settled.items }
+        ensures room { OnOk result (deque_len self.new.settled + 2 ≤ deque_capacity self.new.settled) }
+        ensures numbers { OnOk result (self.old.given + length self.old.settled.items + 2 < 2 ^ 64 - 1) }
+    {
+        let most = u64::MAX - 2;
+        if self.given >= most {
+            return Err(OutOfMemory);
+        }
+        if self.settled.len() as u64 >= most - self.given {
+            return Err(OutOfMemory);
+        }
+        if self.settled.reserve(2).is_err() {
+            return Err(OutOfMemory);
+        }
+        Ok(())
+    }
+
+    /// The device does all that is due at the present instant.
+    ///
+    /// On an error it may have done some of it, and more is due.
+    pub fn act_first(&mut self, network: &Network, device: DeviceId) -> Result<(), OutOfMemory>
+        requires sound { IsSound C.last_step network.now self.old }
+        requires range { IsInRange network.now }
+        requires there { device.0 < length network.now.device }
+        requires due { IsDueAt C.reading M.stands network.now self.old device }
+        requires comes { IsAt C.reading M.stands network.now self.old (act_place self.old.time device) }
+        ensures sound { IsSound C.last_step network.now self.new }
+        ensures same { self.new ≡ record self.old {
+          machines = self.new.machines;
+          early = self.new.early;
+          settled = self.new.settled;
+        } }
+        ensures others { ChangesOnly device.0 self.old self.new }
+        ensures stands { (s : Scenario) (notes : List Note)
+            → (old : Stands C.reading (keeps M.stands) s (world_of network.now self.old) notes)
+            → ComesFirst C.reading (keeps M.stands) s (world_of network.now self.old) notes old
+            (act_place self.old.time device)
+            → IfOk result (λ done. StandsBehind C.reading (keeps M.stands) s (world_of network.now self.new) notes
+            (behind (act_place self.old.time device))) }
+        ensures err { (s : Scenario) (notes : List Note)
+            → (old : Stands C.reading (keeps M.stands) s (world_of network.now self.old) notes)
+            → ComesFirst C.reading (keeps M.stands) s (world_of network.now self.old) notes old
+            (act_place self.old.time device)
+            → OnErr result (Stands C.reading (keeps M.stands) s (world_of network.now self.new) notes) }
+    {
+        let mut acts: u32 = 0;
+        'acts: loop {
+            match self.reserve_two() {
+                Ok(()) => (),
+                Err(_) => return Err(OutOfMemory),
+            }
+            if !self.act_once(network, device) {
+                return Ok(());
+            }
+            acts += 1;
+        }
+    }
+}

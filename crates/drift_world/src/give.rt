@@ -1,0 +1,247 @@
+ghost use Rattle.std.specs.Prelude.{◌≡◌, ◌^◌, ◌≤◌, ◌<◌, [], ◌∷◌, List, ℕ, length, Some, ◌++◌, ◌+◌, IfOk, OnOk, OnErr, IfSome, IfNone, None, All, Option, vec_len, vec_capacity};
+ghost use Rattle.net_plan.specs.Ranges.{IsInRange};
+ghost use Rattle.run_law.specs.records.Order.{behind};
+ghost use Rattle.run_law.specs.declared.note.Note.{Note};
+ghost use Rattle.run_law.specs.scenario.Scenarios.{Scenario};
+
+use crate::OutOfMemory;
+use crate::contents::{Settled, Timed};
+use crate::giving::{Giving, give_frame, make_room};
+use crate::naming::name_followers;
+use crate::sending::{put_on, sent_by};
+use crate::state::State;
+use crate::storing::store;
+use crate::waiting::giver;
+use drift_clock::Clock;
+use net_plan::Network;
+use pcf_values::Pcf;
+use run_law::{Machine, Note, NoteBody};
+use tte_units::Units;
+
+impl<C: Clock, M: Machine + Drop> State<C, M> {
+    ghost use Rattle.drift_world.specs.Views.{settled_at, with_first, world_of};
+    ghost use Rattle.run_law.specs.records.Happenings.{happenings};
+    ghost use Rattle.run_law.specs.records.Ranks.{place_of};
+    ghost use Rattle.world_law.specs.source.First.{NoSourceBefore};
+    ghost use Rattle.drift_world.specs.Sound.{AreBelow, AreUnderWay, IsShort, IsSized, IsSound};
+    ghost use Rattle.drift_world.specs.Keeping.{keeps};
+    ghost use Rattle.drift_world.specs.Giving.{AreLow, ArrivedAt, CameBy, IsGiver, IsGivenOut, IsPutOn, IsYoung, MayBeGiven, changed_device, giver_of, wire_entry};
+    ghost use Rattle.drift_world.specs.Stepping.{ChangesOnly, IsRunning};
+    ghost use Rattle.drift_world.specs.Storing.{stored_by};
+    ghost use Rattle.drift_world.specs.declared.contents.Settled.{Settled as SettledValue};
+    ghost use Rattle.drift_world.specs.declared.giving.Giving.{Giving as GivingValue};
+    ghost use Rattle.tte_units.specs.Amount.{amount, units_of};
+    ghost use Rattle.world_law.specs.world.Steps.{StandsBehind};
+    ghost use Rattle.net_plan.specs.declared.ids.DeviceId.{DeviceId as DeviceOf};
+    ghost use Rattle.world_law.specs.world.World.{Stands, note_of};
+
+    /// The frame of a record that its device gives to links, or waits for.
+    fn giving_by(
+        &self,
+        network: &Network,
+        body: &NoteBody,
+        frame: Option<Pcf>,
+        number: u64,
+    ) -> Option<Giving>
+        requires sized { IsSized C.last_step network.now self.now }
+        ensures some { IfSome result (λ g. IsGiver C.reading network.now self.now body.now frame number g) }
+        ensures none { IfNone result ((device : DeviceOf) → giver_of body.now ≡ Some device
+            → device.0 < length network.now.device → frame ≡ None) }
+    {
+        let device = giver(body)?;
+        if device.0 as usize >= self.broken.len() {
+            return None;
+        }
+        let frame = frame?;
+        let reading = self.reading_of(network, device.0);
+        Some(Giving {
+            device,
+            time: self.time,
+            number,
+            frame,
+            reading,
+            broken: self.broken[device.0 as usize],
+        })
+    }
+
+    /// Puts on a wire what a record puts there.
+    fn launch_wire(
+        &mut self,
+        network: &Network,
+        body: &NoteBody,
+        frame: Option<Pcf>,
+        octets: Option<Timed>,
+        number: u64,
+    )
+        requires sized { IsSized C.last_step network.now self.old }
+        requires range { IsInRange network.now }
+        requires room { 0 < self.old.under_way.room }
+        requires ups { All IsShort self.old.ups.items }
+        requires downs { All IsShort self.old.downs.items }
+        ensures same { self.new ≡ record self.old { under_way = self.new.under_way } }
+        ensures sent { IsPutOn
+            (wire_entry network.now self.old.ups.items self.old.downs.items body.now frame octets self.old.time number)
+            self.old.under_way.entries self.new.under_way.entries }
+    {
+        let entry = sent_by(
+            network,
+            self.ups.as_slice(),
+            self.downs.as_slice(),
+            body,
+            frame,
+            octets,
+            self.time,
+            number,
+        );
+        put_on(&mut self.under_way, entry);
+    }
+
+    /// Gives the frame of a record to ports and has it wait, as its device does.
+    fn launch_frame(&mut self, network: &Network, body: &NoteBody, frame: Option<Pcf>, number: u64)
+        requires sized { IsSized C.last_step network.now self.old }
+        requires range { IsInRange network.now }
+        requires by { CameBy (length network.now.link) body.now }
+        requires young { IsYoung (amount network.now.dmax) body.now }
+        requires room { length network.now.link ≤ self.old.under_way.room }
+        requires capacity { vec_len self.old.waiting < vec_capacity self.old.waiting }
+        requires ups { All IsShort self.old.ups.items }
+        requires downs { All IsShort self.old.downs.items }
+        requires low { AreLow C.reading self.old }
+        ensures same { self.new ≡ record self.old { under_way = self.new.under_way; waiting = self.new.waiting } }
+        ensures room { self.old.under_way.room ≤ self.new.under_way.room + length network.now.link }
+        ensures sound { AreBelow number self.old.under_way.entries → AreUnderWay network.now self.old.under_way.entries
+            → AreUnderWay network.now self.new.under_way.entries }
+        ensures given { (giving : Option GivingValue)
+            × IsGivenOut C.reading network.now self.old self.new body.now frame number giving }
+    {
+        let giving = self.giving_by(network, body, frame, number);
+        give_frame(
+            &mut self.under_way,
+            &mut self.waiting,
+            network,
+            self.ups.as_slice(),
+            self.downs.as_slice(),
+            body,
+            giving,
+        );
+    }
+
+    /// Puts on a wire what a record puts there, or stores what a switch took by it.
+    fn launch_octets(
+        &mut self,
+        network: &Network,
+        body: &NoteBody,
+        frame: Option<Pcf>,
+        octets: Option<Timed>,
+        number: u64,
+    )
+        requires sized { IsSized C.last_step network.now self.old }
+        requires range { IsInRange network.now }
+        requires room { 0 < self.old.under_way.room }
+        requires capacity { vec_len self.old.stored < vec_capacity self.old.stored }
+        requires ups { All IsShort self.old.ups.items }
+        requires downs { All IsShort self.old.downs.items }
+        ensures same { self.new ≡ record self.old { under_way = self.new.under_way; stored = self.new.stored } }
+        ensures sent { IsPutOn
+            (wire_entry network.now self.old.ups.items self.old.downs.items body.now frame octets self.old.time number)
+            self.old.under_way.entries self.new.under_way.entries }
+        ensures stored { self.new.stored.items ≡ stored_by body.now octets number self.old.stored.items }
+    {
+        if let NoteBody::Accepted { device, vl, .. } = body {
+            store(&mut self.stored, *device, *vl, octets, number);
+        } else {
+            self.launch_wire(network, body, frame, octets, number);
+        }
+    }
+
+    /// Gives the first settled record, which was taken out, its number, and launches what it does.
+    fn give_first(&mut self, network: &Network, first: Settled) -> Note
+        requires sound { IsSound C.last_step network.now self.old }
+        requires range { IsInRange network.now }
+        requires may { MayBeGiven network.now first.body first.frame first.octets }
+        requires number { self.old.given + 1 < 2 ^ 64 }
+        requires room { length network.now.link < self.old.under_way.room }
+        requires capacity { vec_len self.old.waiting < vec_capacity self.old.waiting }
+        requires free { vec_len self.old.stored < vec_capacity self.old.stored }
+        requires low { AreLow C.reading self.old }
+        ensures note { result ≡ record {
+          number = self.old.given + 1;
+          time = units_of self.old.time;
+          body = first.body;
+        } }
+        ensures same { self.new ≡ record self.old {
+          under_way = self.new.under_way;
+          waiting = self.new.waiting;
+          stored = self.new.stored;
+          settled = self.new.settled;
+          given = self.old.given + 1;
+        } }
+        ensures sound { IsSound C.last_step network.now self.new }
+        ensures stands { let z = settled_at network.now self.old.time first in (s : Scenario) (notes : List Note)
+            → (old : Stands C.reading (keeps M.stands) s
+            (with_first network.now self.old first self.old.settled.items) notes)
+            → NoSourceBefore s (happenings s.network notes) old.cursor (place_of z)
+            → StandsBehind C.reading (keeps M.stands) s (world_of network.now self.new) (notes ++ note_of notes z ∷ [])
+            (behind (place_of z)) }
+        ensures arrived { ArrivedAt (length network.now.device) result.body }
+        ensures others { ChangesOnly (changed_device first.body) self.old self.new }
+    {
+        let number = self.given + 1;
+        name_followers(&mut self.settled, number, &first.body);
+        self.launch_frame(network, &first.body, first.frame, number);
+        let Settled {
+            body,
+            frame,
+            octets,
+        } = first;
+        self.launch_octets(network, &body, frame, octets, number);
+        self.given = number;
+        Note {
+            number,
+            time: Units::from_amount(self.time),
+            body,
+        }
+    }
+
+    /// The first record that is settled is given, with the next number: what it launches is under way, or waits.
+    ///
+    /// On an error nothing has changed.
+    pub fn give(&mut self, network: &Network) -> Result<Note, OutOfMemory>
+        requires sound { IsSound C.last_step network.now self.old }
+        requires range { IsInRange network.now }
+        requires some { 0 < length self.old.settled.items }
+        requires running { IsRunning C.reading M.stands network.now self.old }
+        ensures sound { IsSound C.last_step network.now self.new }
+        ensures same { self.new ≡ record self.old {
+          under_way = self.new.under_way;
+          waiting = self.new.waiting;
+          stored = self.new.stored;
+          settled = self.new.settled;
+          given = self.new.given;
+        } }
+        ensures stands { (s : Scenario) (notes : List Note) (first : SettledValue) (rest : List SettledValue)
+            → self.old.settled.items ≡ first ∷ rest
+            → (old : Stands C.reading (keeps M.stands) s (world_of network.now self.old) notes)
+            → NoSourceBefore s (happenings s.network notes) old.cursor
+            (place_of (settled_at network.now self.old.time first))
+            → IfOk result (λ note. (note ≡ note_of notes (settled_at network.now self.old.time first))
+            × StandsBehind C.reading (keeps M.stands) s (world_of network.now self.new) (notes ++ note ∷ [])
+            (behind (place_of (settled_at network.now self.old.time first)))) }
+        ensures err { OnErr result (world_of network.now self.new ≡ world_of network.now self.old) }
+        ensures given { OnOk result (self.new.given ≡ self.old.given + 1) }
+        ensures arrived { IfOk result (λ note. ArrivedAt (length network.now.device) note.body) }
+        ensures others { IfOk result (λ note. ChangesOnly (changed_device note.body) self.old self.new) }
+        ensures unmoved { OnErr result ((n : ℕ) → ChangesOnly n self.old self.new) }
+    {
+        if let Err(error) = make_room(
+            &mut self.under_way,
+            &mut self.waiting,
+            &mut self.stored,
+            network,
+        ) {
+            return Err(error);
+        }
+        let first = self.settled.pop_front().unwrap();
+        Ok(self.give_first(network, first))
+    }
+}

@@ -1,0 +1,230 @@
+ghost use Rattle.std.specs.Prelude.{◌≡◌, ◌∷◌, ◌+◌, ◌<◌, List, ℕ, false, length, IsPermutation};
+ghost use Rattle.std.specs.VecDeque.{deque_capacity, deque_len};
+ghost use Rattle.due_queue.specs.Places.{IsFirst, numbers_of};
+ghost use Rattle.net_plan.specs.Ranges.{IsInRange};
+ghost use Rattle.net_plan.specs.declared.network.Network.{Network as NetworkValue};
+ghost use Rattle.net_plan.specs.declared.ids.DeviceId.{DeviceId as DeviceOf};
+ghost use Rattle.run_law.specs.declared.note.Note.{Note};
+ghost use Rattle.run_law.specs.machines.Calls.{StandsFor};
+ghost use Rattle.run_law.specs.records.Order.{behind};
+ghost use Rattle.run_law.specs.scenario.Scenarios.{Scenario};
+ghost use Rattle.drift_world.specs.Hearing.{AreOctetsOf, IsAsSent, MayCome, arrived, frame_kept, octets_kept, timed_in};
+ghost use Rattle.drift_world.specs.Keeping.{keeps};
+ghost use Rattle.drift_world.specs.Sound.{AreUnderWay, IsSound, rank_of};
+ghost use Rattle.drift_world.specs.Stepping.{ChangesOnly, IsAt};
+ghost use Rattle.run_law.specs.control.Wires.{signal_of, timed};
+ghost use Rattle.drift_world.specs.Views.{octets_of, signal_as, world_of};
+ghost use Rattle.world_law.specs.world.Arriving.{HasHeard, arrival_body};
+ghost use Rattle.world_law.specs.world.Steps.{ComesFirst, StandsBehind};
+ghost use Rattle.world_law.specs.world.World.{Stands};
+
+use crate::contents::{Content, Settled, Signal, Timed};
+use crate::frames::{MOST_OCTETS, write_made};
+use crate::kept::Kept;
+use crate::settled::put_in;
+use crate::state::State;
+use drift_clock::Clock;
+use due_queue::{Place, UnderWay};
+use net_plan::{DeviceId, LinkId, Network};
+use pcf_codec::{PCF_LENGTH, encode};
+use pcf_values::Pcf;
+use run_law::{Arrival, Machine, Moment, NoteBody};
+use tte_units::Units;
+
+/// Takes out what is on a wire and the first of all that is under way.
+fn take_wire(under_way: &mut UnderWay<Content>, place: Place) -> Signal
+    requires first { IsFirst under_way.old.entries place }
+    requires sound { (network : NetworkValue) × AreUnderWay network under_way.old.entries }
+    requires wire { place.rank ≡ 2 }
+    ensures { IsPermutation under_way.old.entries (record { place = place; content = Content.Wire result } ∷ under_way.new.entries) }
+{
+    let Some(first) = under_way.take_first() else {
+        unreachable!()
+    };
+    signal_in(first.content)
+}
+
+/// What is on a wire.
+fn signal_in(content: Content) -> Signal
+    requires { rank_of content ≡ 2 }
+    ensures { content ≡ Content.Wire result }
+{
+    match content {
+        Content::Wire(signal) => signal,
+        Content::Port(_, _) => unreachable!(),
+    }
+}
+
+/// What becomes of a frame of the schedule, at the device that it comes to.
+fn hear_timed<M: Machine + Drop>(
+    kept: &mut Kept<M>,
+    network: &Network,
+    moment: Moment,
+    link: LinkId,
+    frame: &Timed,
+) -> Arrival
+    requires range { IsInRange network.now }
+    requires may { StandsFor (keeps M.stands) kept.old (MayCome (timed (octets_of network.now frame.now)) moment link) }
+    requires as_sent { signal_of (octets_of network.now frame.now) ≡ timed (octets_of network.now frame.now) }
+    ensures { (octets : List ℕ) × AreOctetsOf (timed (octets_of network.now frame.now)) octets
+        × ((other : NetworkValue) (device : DeviceOf) → HasHeard (keeps M.stands) other device moment link octets result kept.old kept.new) }
+{
+    match frame {
+        Timed::Made(vl, cycle) => {
+            let mut octets = [0; MOST_OCTETS];
+            let count = write_made(network, *vl, *cycle, &mut octets);
+            kept.hear(moment, link, &octets[..count])
+        }
+        Timed::Sent(octets) => kept.hear(moment, link, octets.as_slice()),
+    }
+}
+
+/// What becomes of what is on a wire, at the device that it comes to.
+fn hear_signal<M: Machine + Drop>(
+    kept: &mut Kept<M>,
+    network: &Network,
+    moment: Moment,
+    link: LinkId,
+    signal: &Signal,
+) -> Arrival
+    requires range { IsInRange network.now }
+    requires may { StandsFor (keeps M.stands) kept.old (MayCome (signal_as network.now signal.now) moment link) }
+    requires as_sent { IsAsSent network.now signal.now }
+    ensures { (octets : List ℕ) × AreOctetsOf (signal_as network.now signal.now) octets
+        × ((other : NetworkValue) (device : DeviceOf) → HasHeard (keeps M.stands) other device moment link octets result kept.old kept.new) }
+{
+    match signal {
+        Signal::Control(frame) => {
+            let mut octets = [0; PCF_LENGTH];
+            encode(frame, &mut octets);
+            kept.hear(moment, link, &octets)
+        }
+        Signal::Timed(frame) => hear_timed(kept, network, moment, link, frame),
+        Signal::Octets(octets) => kept.hear(moment, link, octets.as_slice()),
+    }
+}
+
+/// What the record of it says.
+fn body_of(place: Place, arrival: &Arrival) -> NoteBody
+    ensures { result ≡ arrival_body (record { 0 = place.device }) (record { 0 = place.link }) place.cause arrival.now }
+{
+    let device = DeviceId(place.device);
+    let link = LinkId(place.link);
+    let cause = place.cause;
+    match arrival {
+        Arrival::Dropped(reason) => NoteBody::Dropped {
+            device,
+            link,
+            cause,
+            reason: *reason,
+        },
+        Arrival::Waits(frame, _)
+        | Arrival::Passes(frame, _)
+        | Arrival::PassesAndWaits(frame, _, _) => NoteBody::Arrived {
+            device,
+            link,
+            cause,
+            clock: frame.clock,
+        },
+        Arrival::Accepted(vl, cycle) => NoteBody::Accepted {
+            device,
+            link,
+            cause,
+            vl: *vl,
+            cycle: *cycle,
+        },
+        Arrival::Delivered(vl, cycle) => NoteBody::Delivered {
+            device,
+            link,
+            cause,
+            vl: *vl,
+            cycle: *cycle,
+        },
+    }
+}
+
+/// The frame of the record.
+fn frame_of(arrival: &Arrival) -> Option<Pcf>
+    ensures { result ≡ frame_kept arrival.now }
+{
+    match arrival {
+        Arrival::Waits(frame, _)
+        | Arrival::Passes(frame, _)
+        | Arrival::PassesAndWaits(frame, _, _) => Some(*frame),
+        Arrival::Dropped(_) | Arrival::Accepted(_, _) | Arrival::Delivered(_, _) => None,
+    }
+}
+
+/// The octets of what was on the wire, where they were those of a frame of the schedule.
+fn timed_of(signal: Signal) -> Option<Timed>
+    ensures { result ≡ timed_in signal }
+{
+    match signal {
+        Signal::Control(_) => None,
+        Signal::Timed(octets) => Some(octets),
+        Signal::Octets(given) => Some(Timed::Sent(given)),
+    }
+}
+
+/// The octets of the record.
+fn octets_for(arrival: &Arrival, signal: Signal) -> Option<Timed>
+    ensures { result ≡ octets_kept arrival.now signal }
+{
+    match arrival {
+        Arrival::Accepted(_, _) | Arrival::Delivered(_, _) => timed_of(signal),
+        Arrival::Dropped(_)
+        | Arrival::Waits(_, _)
+        | Arrival::Passes(_, _)
+        | Arrival::PassesAndWaits(_, _, _) => None,
+    }
+}
+
+/// The record of what becomes of what was on the wire.
+fn arrived(place: Place, arrival: &Arrival, signal: Signal) -> Settled
+    ensures { result ≡ arrived place arrival.now signal }
+{
+    let octets = octets_for(arrival, signal);
+    let frame = frame_of(arrival);
+    let body = body_of(place, arrival);
+    Settled {
+        body,
+        frame,
+        octets,
+    }
+}
+
+impl<C: Clock, M: Machine + Drop> State<C, M> {
+    /// What is on a wire and the first of all that is under way arrives: its device hears it.
+    pub fn hear_first(&mut self, network: &Network, place: Place)
+        requires sound { IsSound C.last_step network.now self.old }
+        requires range { IsInRange network.now }
+        requires first { IsFirst self.old.under_way.entries place }
+        requires wire { place.rank ≡ 2 }
+        requires device { place.device < length network.now.device }
+        requires link { place.link < length network.now.link }
+        requires at { place.at ≡ self.old.time }
+        requires room { deque_len self.old.settled < deque_capacity self.old.settled }
+        requires comes { IsAt C.reading M.stands network.now self.old (numbers_of place) }
+        ensures sound { IsSound C.last_step network.now self.new }
+        ensures stands { (s : Scenario) (notes : List Note)
+            → (old : Stands C.reading (keeps M.stands) s (world_of network.now self.old) notes)
+            → ComesFirst C.reading (keeps M.stands) s (world_of network.now self.old) notes old (numbers_of place)
+            → StandsBehind C.reading (keeps M.stands) s (world_of network.now self.new) notes (behind (numbers_of place)) }
+        ensures others { ChangesOnly place.device self.old self.new }
+        ensures same { self.new ≡ record self.old { machines = self.new.machines; under_way = self.new.under_way; settled = self.new.settled; early = false } }
+        ensures given { self.new.given ≡ self.old.given }
+        ensures shorter { length self.old.under_way.entries ≡ length self.new.under_way.entries + 1 }
+    {
+        let signal = take_wire(&mut self.under_way, place);
+        let index = place.device as usize;
+        let time = Units::from_amount(self.time);
+        let moment = Moment {
+            time,
+            reading: self.clocks[index].read(time),
+        };
+        let link = LinkId(place.link);
+        let arrival = hear_signal(&mut self.machines[index], network, moment, link, &signal);
+        self.early = false;
+        put_in(&mut self.settled, arrived(place, &arrival, signal));
+    }
+}

@@ -1,0 +1,73 @@
+ghost use Rattle.std.specs.Prelude.{◌≡◌, map};
+ghost use Rattle.run_law.specs.device.States.{is_joined_by};
+ghost use Rattle.drift_world.specs.Naming.{named_settled};
+ghost use Rattle.world_law.specs.world.Steps.{follows, named_body};
+
+use crate::contents::Settled;
+use net_plan::DeviceId;
+use run_law::{Judgement, NoteBody, Why};
+use std::collections::VecDeque;
+
+/// The cause of a record that follows one that is to come.
+pub const NONE_YET: u64 = u64::MAX;
+
+/// Does the record say that the device is told the time?
+fn does_join(first: &NoteBody, device: DeviceId) -> bool
+    ensures { result ≡ is_joined_by device first.now }
+{
+    match first {
+        NoteBody::Permanent {
+            device: other,
+            verdict: Judgement::Integrates,
+            ..
+        } => device.0 == other.0,
+        NoteBody::Compressed {
+            device: other,
+            verdict: Judgement::Integrates,
+            ..
+        } => device.0 == other.0,
+        _ => false,
+    }
+}
+
+/// Does a change of the device's state for this reason follow the record?
+fn does_follow(first: &NoteBody, device: DeviceId, why: Why) -> bool
+    ensures { result ≡ follows first.now device why }
+{
+    match why {
+        Why::Correction => match first {
+            NoteBody::Corrected { device: other, .. } => device.0 == other.0,
+            _ => false,
+        },
+        Why::Frame => does_join(first, device),
+        Why::On | Why::SyncClique | Why::AsyncClique => false,
+    }
+}
+
+/// Gives what follows the first record its number as its cause.
+fn name(one: &mut Settled, number: u64, first: &NoteBody)
+    ensures { one.new ≡ named_settled number first.now one.old }
+{
+    if let NoteBody::State {
+        device,
+        cause,
+        why,
+        ..
+    } = &mut one.body
+    {
+        if does_follow(first, *device, *why) && *cause == NONE_YET {
+            *cause = number;
+        }
+    }
+}
+
+/// Gives each that follows the first record its number as its cause.
+pub fn name_followers(settled: &mut VecDeque<Settled>, number: u64, first: &NoteBody)
+    ensures { settled.new.items ≡ map (named_settled number first.now) settled.old.items }
+{
+    let mut index = 0;
+    while index < settled.len() {
+        name(&mut settled[index], number, first);
+        index += 1;
+    }
+}

@@ -1,0 +1,162 @@
+ghost use Rattle.std.specs.Prelude.{◌≡◌, ℕ, ◌⊎◌, ◌+◌, ◌*◌, ◌≤◌, ◌<◌, ◌^◌, ◌∷◌, [], List, true, length, Some, IfSome, IfNone, slice_get, All, Option};
+ghost use Rattle.due_queue.specs.declared.Entry.{Entry};
+ghost use Rattle.run_law.specs.records.Order.{IsBefore, IsIn};
+ghost use Rattle.due_timers.specs.Times.{IsFirst as IsFirstDue};
+ghost use Rattle.std.specs.Option.{option_map};
+ghost use Rattle.drift_world.specs.Turns.{own_numbers};
+
+use crate::contents::Waits;
+use crate::settled::{MOST, numbers};
+use crate::state::State;
+use drift_clock::Clock;
+use arrayvec::ArrayVec;
+use due_queue::Place;
+use due_timers::Due;
+use net_plan::{DeviceId, Network};
+use run_law::Machine;
+
+/// The rank of what arrives, among all of one instant.
+pub const ARRIVING: u8 = 2;
+
+/// The rank of what leaves.
+pub const LEAVING: u8 = 8;
+
+/// What comes first of all that is under way: at the present instant, or later.
+#[derive(Clone, Copy, Debug)]
+pub enum Source {
+    /// The outcomes of the events of the instant are to be settled.
+    Events,
+    /// What is on a wire arrives.
+    Arrival(Place),
+    /// A frame that waits is permanent: this one, at this index.
+    Ripening(usize, Waits),
+    /// A device does what is due.
+    Act(DeviceId),
+    /// A frame at a port leaves.
+    Departure(Place),
+    /// The clock of a device is shown, at the end.
+    Clock(DeviceId),
+    /// Nothing is under way before this time, which is later.
+    Later(u64),
+}
+
+/// The place, if it is of this time and rank.
+fn placed_at(place: Option<Place>, time: u64, rank: u8) -> Option<Place>
+    ensures some { IfSome result (λ p. (place ≡ Some p) × (p.at ≡ time) × (p.rank ≡ rank)) }
+    ensures none { IfNone result (IfSome place (λ p. p.at ≡ time → p.rank ≡ rank → ⊥)) }
+{
+    let place = place?;
+    if place.at == time && place.rank == rank {
+        Some(place)
+    } else {
+        None
+    }
+}
+
+/// The slot that is due, if it is at this time.
+fn slot_at(due: Option<Due>, time: u64) -> Option<usize>
+    ensures some { IfSome result (λ slot. due ≡ Some (record { time = time; slot = slot })) }
+    ensures none { IfNone result (IfSome due (λ d. d.time ≡ time → ⊥)) }
+{
+    let due = due?;
+    if due.time == time {
+        Some(due.slot)
+    } else {
+        None
+    }
+}
+
+/// The least of the times of a place, of a timer and of this one.
+fn least_of(place: Option<Place>, due: Option<Due>, time: u64) -> u64
+    ensures within { result ≤ time }
+    ensures place { IfSome place (λ p. result ≤ p.at) }
+    ensures due { IfSome due (λ d. result ≤ d.time) }
+    ensures later { (now : ℕ) → now < time → IfSome place (λ p. now < p.at) → IfSome due (λ d. now < d.time) → now < result }
+{
+    let least = match place {
+        Some(place) => time.min(place.at),
+        None => time,
+    };
+    match due {
+        Some(due) => least.min(due.time),
+        None => least,
+    }
+}
+
+/// The numbers of its place behind the time, where it is of the present instant.
+pub fn own_numbers(source: &Source) -> Option<ArrayVec<u64, MOST>>
+    ensures { option_map (λ p. p.items) result ≡ own_numbers source.now }
+{
+    match source {
+        Source::Events => Some(numbers(&[2])),
+        Source::Arrival(place) | Source::Departure(place) => Some(numbers(&[
+            u64::from(place.rank),
+            u64::from(place.device),
+            u64::from(place.link),
+            place.cause,
+        ])),
+        Source::Ripening(_, one) => Some(numbers(&[
+            3,
+            u64::from(one.device.0),
+            one.point.0.unsigned_abs(),
+            u64::from(one.frame.members.0),
+            u64::from(one.link.0),
+            one.cause,
+        ])),
+        Source::Act(device) => Some(numbers(&[4, u64::from(device.0)])),
+        Source::Clock(device) => Some(numbers(&[14, u64::from(device.0)])),
+        Source::Later(_) => None,
+    }
+}
+
+impl<C: Clock, M: Machine + Drop> State<C, M> {
+    ghost use Rattle.drift_world.specs.Turns.{IsSlotPlace, IsThere, IsWithin, source_place};
+    ghost use Rattle.drift_world.specs.Sourcing.{HasNothingBefore};
+    ghost use Rattle.drift_world.specs.Wells.{IsWell};
+
+    /// What comes first of all that is under way before a time.
+    pub fn first_source(&self, network: &Network, until: u64) -> Source
+        requires well { IsWell C.last_step C.reading M.stands network.now self.now }
+        requires limit { until ≤ 2 ^ 60 + 1 }
+        requires open { self.now.time < until }
+        ensures there { IsThere C.reading M.stands network.now self.now result }
+        ensures within { IsWithin until result }
+        ensures nothing { HasNothingBefore C.reading M.stands network.now self.now (source_place self.now.time result) }
+    {
+        let place = self.under_way.first();
+        let due = self.timers.first();
+        if self.pending {
+            return Source::Events;
+        }
+        if let Some(arrival) = placed_at(place, self.time, ARRIVING) {
+            return Source::Arrival(arrival);
+        }
+        if let Some(slot) = slot_at(due, self.time) {
+            return self.source_of_slot(network, slot);
+        }
+        if let Some(departure) = placed_at(place, self.time, LEAVING) {
+            return Source::Departure(departure);
+        }
+        if self.ended && (self.shown as usize) < network.device.as_slice().len() {
+            return Source::Clock(DeviceId(self.shown));
+        }
+        Source::Later(least_of(place, due, until))
+    }
+
+    /// The source of a slot that is due now: the first of the frames that wait at its device, or the device's act.
+    fn source_of_slot(&self, network: &Network, slot: usize) -> Source
+        requires well { IsWell C.last_step C.reading M.stands network.now self.now }
+        requires due { IsFirstDue self.now.timers (record { time = self.now.time; slot = slot }) }
+        ensures there { IsThere C.reading M.stands network.now self.now result }
+        ensures within { (until : ℕ) → IsWithin until result }
+        ensures place { IsSlotPlace C.reading network.now self.now slot (source_place self.now.time result) }
+    {
+        let devices = network.device.as_slice().len();
+        if slot < devices {
+            if let Some(index) = self.ripe_index(network, DeviceId(slot as u32)) {
+                return Source::Ripening(index, self.waiting[index]);
+            }
+        }
+        Source::Act(DeviceId((slot - devices) as u32))
+    }
+}

@@ -1,0 +1,286 @@
+ghost use Rattle.std.specs.Prelude.{◌≡◌, ◌↔◌, ◌^◌, ◌≤◌, ◌<◌, [], ◌∷◌, List, ℕ, true, false, length, Some, slice_get, if◌then◌else◌, pos, unsigned_abs, ◌++◌, ◌+◌, IfOk, OnOk, OnErr, IfSome, IfNone, None, All, Option, vec_len, vec_capacity};
+ghost use Rattle.std.specs.VecDeque.{deque_capacity, deque_len};
+ghost use Rattle.due_queue.specs.Places.{IsFirst, numbers_of};
+ghost use Rattle.net_plan.specs.Ranges.{IsInRange};
+ghost use Rattle.run_law.specs.records.Order.{behind};
+ghost use Rattle.net_plan.specs.declared.network.Network.{Network};
+ghost use Rattle.run_law.specs.declared.note.Note.{Note};
+ghost use Rattle.run_law.specs.scenario.Scenarios.{Scenario};
+
+use crate::OutOfMemory;
+use crate::applying::{
+    befall_machines, breaks_on, copy_of, drop_waiting, ends, keep_befallen, set_broken, set_rate,
+    set_way,
+};
+use crate::contents::{Befallen, Content, Holding, Settled, Waits, WayState};
+use crate::kept::Kept;
+use crate::leaving::{departed, is_parent, take_port};
+use crate::settled::{put_in, put_some};
+use drift_clock::Clock;
+use due_queue::{Place, UnderWay};
+use due_timers::Timers;
+use net_plan::{DeviceId, Event, LinkId, Network, Way, What};
+use pcf_values::Pcf;
+use run_law::{Machine, Note, NoteBody};
+use std::collections::VecDeque;
+use sync_state::State as DeviceState;
+use tte_units::Units;
+
+/// The parts of a world that change.
+#[derive(Drop)]
+pub struct State<C: Clock, M: Machine + Drop> {
+    /// The devices' clocks and what is kept of them, in the network's order, and whether they are broken.
+    pub clocks: Vec<C>,
+    pub machines: Vec<Kept<M>>,
+    pub broken: Vec<bool>,
+    /// The ways of the links, in the network's order.
+    pub ups: Vec<WayState>,
+    pub downs: Vec<WayState>,
+    /// What is on the wires and at the ports.
+    pub under_way: UnderWay<Content>,
+    /// The frames that wait for their permanence.
+    pub waiting: Vec<Waits>,
+    /// The frames that switches hold.
+    pub stored: Vec<Holding>,
+    /// When the frames that wait at each device are permanent, and then when each device acts by itself.
+    pub timers: Timers,
+    /// Is nothing of the present instant but events worked off?
+    pub early: bool,
+    /// Did events befall whose outcomes are not settled?
+    pub pending: bool,
+    pub befell: Vec<Befallen>,
+    /// The records of the present instant that are still to be given, in their order.
+    pub settled: VecDeque<Settled>,
+    /// The present time.
+    pub time: u64,
+    /// How many events were applied.
+    pub lines: u64,
+    /// How many records were given.
+    pub given: u64,
+    /// Has the end come?
+    pub ended: bool,
+    /// How many clocks have a record, since the end has come.
+    pub shown: u32,
+}
+
+impl<C: Clock, M: Machine + Drop> State<C, M> {
+    ghost use Rattle.drift_world.specs.Views.{settled_at, with_first, world_of};
+    ghost use Rattle.run_law.specs.records.Happenings.{happenings};
+    ghost use Rattle.run_law.specs.records.Ranks.{place_of};
+    ghost use Rattle.world_law.specs.source.First.{NoSourceBefore};
+    ghost use Rattle.drift_world.specs.Sound.{AreBelow, AreUnderWay, IsSized, IsSound};
+    ghost use Rattle.drift_world.specs.Stepping.{ChangesOnly};
+    ghost use Rattle.drift_world.specs.Leaving.{departure_in, port_entry};
+    ghost use Rattle.drift_world.specs.Keeping.{keeps};
+    ghost use Rattle.drift_world.specs.Showing.{IsOf};
+    ghost use Rattle.drift_world.specs.Giving.{CameBy, HasItsOctets, IsGiver, IsGivenOut, IsPutOn, IsYoung, MayBeGiven, giver_of, wire_entry};
+    ghost use Rattle.drift_world.specs.declared.giving.Giving.{Giving as GivingValue};
+    ghost use Rattle.tte_units.specs.Amount.{amount, units_of};
+    ghost use Rattle.run_law.specs.scenario.Devices.{is_parent_of};
+    ghost use Rattle.world_law.specs.world.Steps.{ComesFirst, FitsWorld, NothingBefore, StandsBehind};
+    ghost use Rattle.world_law.specs.source.Agreeing.{scenario};
+    ghost use Rattle.world_law.specs.source.Applying.{note_of_event};
+    ghost use Rattle.drift_world.specs.Applying.{IsElsewhere, IsShown, SetsShort, clock_after};
+    ghost use Rattle.drift_world.specs.Following.{Follows};
+    ghost use Rattle.run_law.specs.records.Order.{IsIn};
+    ghost use Rattle.drift_world.specs.declared.contents.Waits.{Waits as WaitsValue};
+    ghost use Rattle.net_plan.specs.Belonging.{IsOfNetwork};
+    ghost use Rattle.net_plan.specs.declared.event.Event.{Event as EventValue};
+    ghost use Rattle.net_plan.specs.declared.ids.DeviceId.{DeviceId as DeviceOf};
+    ghost use Rattle.sync_state.specs.declared.state.State.{State as DeviceState};
+    ghost use Rattle.tte_units.specs.declared.rates.Ppb.{Ppb};
+    ghost use Rattle.world_law.specs.world.World.{Stands, clock_place, note_of};
+
+    /// Time passes, where nothing is under way before.
+    pub fn pass_to(&mut self, time: u64)
+        requires later { self.old.time < time }
+        requires limit { time ≤ 2 ^ 60 }
+        requires none { self.old.settled.items ≡ [] }
+        requires open { self.old.ended ≡ false }
+        ensures sound { (network : Network) → IsSound C.last_step network self.old → IsSound C.last_step network self.new }
+        ensures stands { (network : Network) (s : Scenario) (notes : List Note)
+            → Stands C.reading (keeps M.stands) s (world_of network self.old) notes
+            → NothingBefore (keeps M.stands) s (world_of network self.old) (time ∷ [])
+            → StandsBehind C.reading (keeps M.stands) s (world_of network self.new) notes (time ∷ []) }
+        ensures same { self.new ≡ record self.old { time = time; early = true } }
+    {
+        self.time = time;
+        self.early = true;
+    }
+
+    /// The clock of the next device is shown, at the end.
+    pub fn show_clock(&mut self, network: &Network)
+        requires sound { IsSound C.last_step network.now self.old }
+        requires range { IsInRange network.now }
+        requires more { self.old.shown < length network.now.device }
+        requires room { deque_len self.old.settled < deque_capacity self.old.settled }
+        ensures sound { IsSound C.last_step network.now self.new }
+        ensures stands { (s : Scenario) (notes : List Note)
+            → (old : Stands C.reading (keeps M.stands) s (world_of network.now self.old) notes) → self.old.ended ≡ true
+            → ComesFirst C.reading (keeps M.stands) s (world_of network.now self.old) notes old (clock_place self.old.time (record { 0 = self.old.shown }))
+            → StandsBehind C.reading (keeps M.stands) s (world_of network.now self.new) notes
+            (behind (clock_place self.old.time (record { 0 = self.old.shown }))) }
+        ensures others { (n : ℕ) → ChangesOnly n self.old self.new }
+        ensures same { self.new ≡ record self.old { early = false; settled = self.new.settled; shown = self.old.shown + 1 } }
+    {
+        let index = self.shown as usize;
+        let reading = self.clocks[index].read(Units::from_amount(self.time));
+        let machine = &self.machines[index];
+        let body = NoteBody::Clock {
+            device: DeviceId(self.shown),
+            reading,
+            adjustment: machine.adjustment(),
+            state: machine.state(),
+        };
+        put_in(
+            &mut self.settled,
+            Settled {
+                body,
+                frame: None,
+                octets: None,
+            },
+        );
+        self.early = false;
+        self.shown += 1;
+    }
+
+    /// What the clock of a device reads at present.
+    pub fn reading_of(&self, network: &Network, device: u32) -> u64
+        requires sized { IsSized C.last_step network.now self.now }
+        requires there { device < length network.now.device }
+        ensures { (clock : C) × (slice_get self.now.clocks.items device ≡ Some clock) × (result ≡ C.reading clock self.now.time) }
+    {
+        self.clocks[device as usize]
+            .read(Units::from_amount(self.time))
+            .amount()
+    }
+
+    /// How the way is on which a device sends on a link.
+    pub fn way_from(&self, network: &Network, device: DeviceId, link: LinkId) -> WayState
+        requires sized { IsSized C.last_step network.now self.now }
+        requires there { link.0 < length network.now.link }
+        ensures { slice_get (if is_parent_of network.now device link then self.now.downs.items else self.now.ups.items) link.0 ≡ Some result }
+    {
+        if is_parent(network, device, link) {
+            self.downs[link.0 as usize]
+        } else {
+            self.ups[link.0 as usize]
+        }
+    }
+
+    /// The record of a frame at a port that leaves; of a broken device there is none.
+    fn departure(&self, network: &Network, place: Place, frame: Pcf, given: u64) -> Option<Settled>
+        requires sized { IsSized C.last_step network.now self.now }
+        requires range { IsInRange network.now }
+        requires device { place.device < length network.now.device }
+        requires link { place.link < length network.now.link }
+        ensures octets { IfSome result (λ z. HasItsOctets z.body z.octets) }
+        ensures is { (s : Scenario) → IsOf C.reading s network.now self.now
+            → result ≡ departure_in s self.now.time (port_entry place frame given) }
+    {
+        if self.broken[place.device as usize] {
+            return None;
+        }
+        let reading = self.reading_of(network, place.device);
+        let way = self.way_from(network, DeviceId(place.device), LinkId(place.link));
+        Some(departed(network, reading, way.cut, place, frame, given))
+    }
+
+    /// The frame at a port that is the first of all leaves.
+    pub fn leave_first(&mut self, network: &Network, place: Place)
+        requires sound { IsSound C.last_step network.now self.old }
+        requires range { IsInRange network.now }
+        requires first { IsFirst self.old.under_way.entries place }
+        requires port { place.rank ≡ 8 }
+        requires device { place.device < length network.now.device }
+        requires link { place.link < length network.now.link }
+        requires room { deque_len self.old.settled < deque_capacity self.old.settled }
+        ensures sound { IsSound C.last_step network.now self.new }
+        ensures stands { (s : Scenario) (notes : List Note)
+            → (old : Stands C.reading (keeps M.stands) s (world_of network.now self.old) notes) → place.at ≡ self.old.time
+            → ComesFirst C.reading (keeps M.stands) s (world_of network.now self.old) notes old (numbers_of place)
+            → StandsBehind C.reading (keeps M.stands) s (world_of network.now self.new) notes (behind (numbers_of place)) }
+        ensures others { (n : ℕ) → ChangesOnly n self.old self.new }
+        ensures same { self.new ≡ record self.old { early = false; under_way = self.new.under_way; settled = self.new.settled } }
+        ensures shorter { length self.old.under_way.entries ≡ length self.new.under_way.entries + 1 }
+    {
+        let (frame, given) = take_port(&mut self.under_way, place);
+        self.early = false;
+        let record = self.departure(network, place, frame, given);
+        put_some(&mut self.settled, record);
+    }
+
+    /// The state of the device that is turned on, as its machine shows it, where that is what befalls the network.
+    pub fn turned_on(&self, what: &What) -> Option<DeviceState>
+        requires { (device : DeviceOf) → what.now ≡ What.On device → device.0 < length self.now.machines.items }
+        ensures { (network : Network) (device : DeviceOf) → what.now ≡ What.On device → (state : DeviceState)
+            × (result ≡ Some state) × IsShown (keeps M.stands) network self.now.machines.items device state }
+    {
+        match what {
+            What::On(device) => Some(self.machines[device.0 as usize].state()),
+            _ => None,
+        }
+    }
+
+    /// An event befalls, before all else of the present instant. Its record is given.
+    ///
+    /// On an error nothing has changed.
+    pub fn apply(&mut self, network: &Network, event: &Event) -> Result<Note, OutOfMemory>
+        requires sound { IsSound C.last_step network.now self.old }
+        requires time { event.now.time.0 ≡ pos self.old.time }
+        requires early { self.old.early ≡ true }
+        requires open { self.old.ended ≡ false }
+        requires of_network { IsOfNetwork network.now event.now.what }
+        requires slow { (device : DeviceOf) (rate : Ppb) → event.now.what ≡ What.Rate device rate → unsigned_abs rate.0 ≤ 1000000 }
+        requires short { SetsShort event.now.what }
+        ensures sound { IsSound C.last_step network.now self.new }
+        ensures note { IfOk result (λ note. note ≡ record {
+            number = self.old.given + 1;
+            time = event.now.time;
+            body = NoteBody.Event (self.old.lines + 1) event.now.what;
+        }) }
+        ensures still { (self.new.time ≡ self.old.time) × (self.new.early ≡ self.old.early) }
+        ensures clocks { OnOk result ((device : DeviceOf) (clock : C) → slice_get self.old.clocks.items device.0 ≡ Some clock
+            → slice_get self.new.clocks.items device.0 ≡ Some (clock_after C.after_step device event.now.time event.now.what clock)) }
+        ensures timers { self.new.timers ≡ self.old.timers }
+        ensures others { OnOk result ((device : DeviceOf) → device.0 < length network.now.device → IsElsewhere event.now.what device
+            → (slice_get self.new.clocks.items device.0 ≡ slice_get self.old.clocks.items device.0)
+            × (slice_get self.new.machines.items device.0 ≡ slice_get self.old.machines.items device.0)
+            × ((w : WaitsValue) → w.device.0 ≡ device.0 → IsIn w self.new.waiting.items ↔ IsIn w self.old.waiting.items)) }
+        ensures stands { (f g : DeviceOf → ℕ → ℕ) (past : List EventValue) (notes : List Note)
+            → (old : Stands C.reading (keeps M.stands) (scenario network.now f past) (world_of network.now self.old) notes)
+            → Follows C.after_step C.reading network.now f g past event.now self.old
+            → FitsWorld (keeps M.stands) network.now (world_of network.now self.old) event.now.what
+            → IfOk result (λ note. (note ≡ note_of_event notes past event.now)
+            × Stands C.reading (keeps M.stands) (scenario network.now g (past ++ event.now ∷ [])) (world_of network.now self.new)
+            (notes ++ note ∷ [])) }
+        ensures err { OnErr result (world_of network.now self.new ≡ world_of network.now self.old) }
+        ensures kept { OnErr result (self.new ≡ record self.old { befell = self.new.befell }) }
+    {
+        if self.given >= u64::MAX - 1 || self.lines == u64::MAX {
+            return Err(OutOfMemory);
+        }
+        let what = copy_of(&event.what)?;
+        let on = breaks_on(self.befell.as_slice(), &event.what);
+        keep_befallen(&mut self.befell, self.given + 1, &event.what)?;
+        befall_machines(&mut self.machines, &event.what, on);
+        set_broken(&mut self.broken, &event.what);
+        set_way(&mut self.ups, Way::Up, &event.what);
+        set_way(&mut self.downs, Way::Down, &event.what);
+        drop_waiting(&mut self.waiting, &event.what);
+        set_rate(&mut self.clocks, event.time, &event.what);
+        self.pending = true;
+        self.lines += 1;
+        self.given += 1;
+        self.ended = ends(&event.what);
+        self.shown = 0;
+        Ok(Note {
+            number: self.given,
+            time: event.time,
+            body: NoteBody::Event {
+                line: self.lines,
+                what,
+            },
+        })
+    }
+}

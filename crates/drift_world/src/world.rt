@@ -1,0 +1,119 @@
+ghost use Rattle.std.specs.Prelude.{true, ◌≡◌, ◌+◌, ◌<◌, ◌^◌, pos, ◌≤ℤ◌, ◌<ℤ◌, List, [], ◌∷◌, ◌++◌, IfOk, IfSome, IfNone, OnErr};
+ghost use Rattle.net_plan.specs.declared.event.Event.{Event as EventValue};
+ghost use Rattle.net_plan.specs.declared.network.Network.{Network};
+ghost use Rattle.run_law.specs.declared.note.Note.{Note as NoteValue};
+ghost use Rattle.run_law.specs.runs.DueRecords.{IsRunOf};
+ghost use Rattle.run_law.specs.scenario.Hypothesis.{IsWithinHypothesis};
+ghost use Rattle.tte_units.specs.Amount.{amount, units_of};
+
+use crate::OutOfMemory;
+use crate::begin::fresh_state;
+use crate::state::State;
+use drift_clock::Clock;
+use net_plan::Event;
+use run_law::{Machine, Note};
+use schedule_tables::Accepted;
+use std::alloc::Global;
+use std::marker::Model;
+use tte_units::Units;
+
+/// A network as it runs: events are applied to it, and it gives the records of its run.
+#[derive(Drop)]
+pub struct World<'a, C: Clock, M: Machine + Drop> {
+    accepted: &'a Accepted,
+    state: State<C, M>,
+}
+
+impl<'a, C: Clock, M: Machine + Drop> Model for World<'a, C, M> {
+    ghost use Rattle.world_law.specs.world.World.{World};
+    ghost use Rattle.drift_world.specs.declared.kept.Kept.{Kept};
+
+    ghost Value = { World C (Kept M) };
+
+    ghost use Rattle.drift_world.specs.Views.{world_of};
+    ghost use Rattle.drift_world.specs.Wells.{IsWell};
+
+    ghost view = { λ w. world_of w.accepted.now w.state };
+
+    ghost invariant = { λ w. IsWell C.last_step C.reading M.stands w.accepted.now w.state };
+}
+
+impl<'a, C: Clock, M: Machine + Drop> World<'a, C, M> {
+    ghost use Rattle.drift_world.specs.Beginning.{AreFresh};
+    ghost use Rattle.drift_world.specs.Running.{HoldsATime, IsOpenTo, MayBefall, Reaches, StandsUnder, behind_events, event_note, given_by, left_of, reading_of};
+
+    /// The world of a network at time 0: nothing has befallen it, and its machines have just begun.
+    pub fn begin(
+        alloc: Global,
+        accepted: &'a Accepted,
+        machines: Vec<M>,
+    ) -> Result<World<'a, C, M>, OutOfMemory>
+        requires { AreFresh M.stands accepted.now machines.items }
+        ensures stands { IfOk result (λ world. StandsUnder C.fresh C.after_step C.reading M.stands accepted.now world [] []) }
+        ensures fresh { IfOk result (λ world. (world.now ≡ 0) × (world.early ≡ true)) }
+    {
+        let network = accepted.network();
+        let mut state = fresh_state(alloc, network, machines)?;
+        state.rekey_all(network);
+        Ok(World { accepted, state })
+    }
+
+    /// The event of this line befalls the network, at the present time. Its record is answered.
+    ///
+    /// The lines count the events from 1. The event is within the fault hypothesis after those applied, and comes before
+    /// the end. A hold that it sets is a time from 0 on. On an error nothing has changed.
+    pub fn apply(&mut self, line: u64, event: &Event) -> Result<Note, OutOfMemory>
+        requires line { line ≡ self.old.lines + 1 }
+        requires now { IsOpenTo self.old event.now }
+        requires within { MayBefall C.fresh C.after_step C.reading M.stands self.old event.now }
+        requires hold { HoldsATime event.now.what }
+        ensures stands { (network : Network) (events : List EventValue) (notes : List NoteValue)
+            → StandsUnder C.fresh C.after_step C.reading M.stands network self.old events notes
+            → IsWithinHypothesis network events event.now
+            → IfOk result (λ note. StandsUnder C.fresh C.after_step C.reading M.stands network self.new (events ++ event.now ∷ [])
+            (notes ++ note ∷ [])) }
+        ensures run { (network : Network) (events : List EventValue) (notes : List NoteValue)
+            → StandsUnder C.fresh C.after_step C.reading M.stands network self.old events notes
+            → IsWithinHypothesis network events event.now
+            → IfOk result (λ note. IsRunOf network (reading_of C.fresh C.after_step C.reading network (events ++ event.now ∷ []))
+            (events ++ event.now ∷ []) (behind_events self.old.now) (notes ++ note ∷ [])) }
+        ensures note { IfOk result (λ note. note ≡ event_note (self.old.given + 1) line event.now) }
+        ensures still { (self.new.now ≡ self.old.now) × (self.new.early ≡ self.old.early) }
+        ensures err { OnErr result (self.new ≡ self.old) }
+    {
+        let network = self.accepted.network();
+        // A device that is turned on is off: its machine shows it.
+        let _shown = self.state.turned_on(&event.what);
+        let note = match self.state.apply(network, event) {
+            Ok(note) => note,
+            Err(error) => return Err(error),
+        };
+        self.state.rekey_by(network, &event.what);
+        Ok(note)
+    }
+
+    /// The next record before a time, which is at most 2^60 + 1. It is None exactly where none is due before it.
+    ///
+    /// Where it is None, and the end has not come, the world comes to this time. After the end the time is at most the
+    /// one behind it. On an error no record is lost: those to come are the same.
+    pub fn next(&mut self, until: Units) -> Result<Option<Note>, OutOfMemory>
+        requires limit { until.0 ≤ℤ pos (2 ^ 60 + 1) }
+        requires ended { self.old.ended ≡ true → until.0 ≤ℤ pos (self.old.now + 1) }
+        ensures stands { (network : Network) (events : List EventValue) (notes : List NoteValue)
+            → StandsUnder C.fresh C.after_step C.reading M.stands network self.old events notes
+            → StandsUnder C.fresh C.after_step C.reading M.stands network self.new events (notes ++ given_by result) }
+        ensures complete { (network : Network) (events : List EventValue) (notes : List NoteValue)
+            → StandsUnder C.fresh C.after_step C.reading M.stands network self.old events notes
+            → pos self.old.now <ℤ until.0
+            → IfOk result (λ next. IfNone next
+            (IsRunOf network (reading_of C.fresh C.after_step C.reading network events) events (amount until ∷ []) notes)) }
+        ensures reached { IfOk result (λ next. IfNone next (Reaches self.old self.new until)) }
+        ensures before { IfOk result (λ next. IfSome next (λ note. (note.time ≡ units_of self.new.now) × (note.time.0 <ℤ until.0))) }
+        ensures fewer { IfOk result (λ next. IfSome next (λ _. left_of self.new < left_of self.old)) }
+    {
+        if until.0 <= Units::from_amount(self.state.time).0 {
+            return Ok(None);
+        }
+        self.state.next(self.accepted.network(), until.amount())
+    }
+}

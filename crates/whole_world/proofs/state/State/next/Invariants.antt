@@ -1,5 +1,0 @@
-use Rattle.whole_world.proofs.Turning.{IsOnward}
-use Rattle.whole_world.proofs.state.State.next.Given as goal
-
-abbrev pub invariant-turns : goal.invariant-turns
-invariant-turns g l = IsOnward g.C.Clock.last_step g.C.Clock.reading g.M.Machine.stands l.network l.fn.self l.self l.until
