@@ -1,0 +1,4 @@
+pub mod Masters
+pub mod Belongings
+pub mod Drawing
+pub mod Within

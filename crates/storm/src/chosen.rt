@@ -1,17 +1,18 @@
-ghost use Rattle.std.specs.Prelude.{◌≡◌, ◌<◌, ◌≤◌, ◌^◌, pos, ◌≤ℤ◌, List, IfSome, MatchOption};
+ghost use Rattle.std.specs.Prelude.{◌≡◌, ◌<◌, ◌≤◌, ◌^◌, pos, ◌≤ℤ◌, List, IfSome, MatchOption, Some};
 ghost use Rattle.fault_hypothesis.specs.Watching.{Watches};
-ghost use Rattle.net_plan.specs.Belonging.{IsOfNetwork};
+ghost use Rattle.net_plan.specs.Belonging.{HasLink, IsOfNetwork};
+ghost use Rattle.net_plan.specs.Places.{link_at};
 ghost use Rattle.net_plan.specs.Ranges.{IsInRange, IsWithin};
 ghost use Rattle.net_plan.specs.declared.event.Event.{Event as EventValue};
 ghost use Rattle.schedule_tables.specs.Rules.{KeepsRules};
 ghost use Rattle.storm.specs.Choosing.{hold_of, rate_of, wire_of};
-ghost use Rattle.storm.specs.Events.{IsDrawn, IsEventOf};
+ghost use Rattle.storm.specs.Events.{IsDrawn, IsEventOf, substitute};
 ghost use Rattle.storm.specs.Known.{KnowsBroken};
 
 use crate::draw::{Choice, Draw};
 use crate::strike::{forged_send, last_master};
 use fault_hypothesis::Watch;
-use net_plan::{DeviceId, Event, Link, Network, What};
+use net_plan::{DeviceId, Event, Link, LinkId, Network, What};
 use tte_units::{Ppb, Units};
 
 fn rate(network: &Network, draw: Draw) -> Ppb
@@ -38,6 +39,13 @@ fn hold(link: &Link, draw: Draw) -> Units
     Units::from_amount(u64::from(draw.size) % (link.hold.amount() + 1))
 }
 
+fn link_at(network: &Network, link: LinkId) -> &Link
+    requires { HasLink network.now link }
+    ensures { link_at network.now link ≡ Some result.now }
+{
+    &network.link.as_slice()[link.0 as usize]
+}
+
 // What befalls the network by the words of a step. It is None where the network has none of what
 // is chosen, which no accepted network comes to.
 fn drawn(network: &Network, broken: Option<DeviceId>, time: Units, draw: Draw) -> Option<What>
@@ -50,7 +58,7 @@ fn drawn(network: &Network, broken: Option<DeviceId>, time: Units, draw: Draw) -
     ensures of_network { IfSome result (IsOfNetwork network.now) }
 {
     let (device, link) = (draw.device(network), draw.link(network));
-    let found = &network.link.as_slice()[link.0 as usize];
+    let found = link_at(network, link);
     match draw.choice() {
         Choice::Rate => Some(What::Rate(device, rate(network, draw))),
         Choice::Wire => Some(What::Wire(link, draw.way(), wire(found, draw))),
@@ -65,8 +73,18 @@ fn drawn(network: &Network, broken: Option<DeviceId>, time: Units, draw: Draw) -
     }
 }
 
-// The event at the time by the words of a step: what is drawn, where the hypothesis lets it be.
-// Where it does not, the rate of the first device is set to 0.
+// What stands for an event that the hypothesis refuses: the rate of the first device is set to 0.
+fn substitute(time: Units) -> Event
+    ensures { result ≡ record { time = time; what = substitute } }
+{
+    Event {
+        time,
+        what: What::Rate(DeviceId(0), Ppb(0)),
+    }
+}
+
+/// The event at the time by the words of a step: what is drawn, where that is within the
+/// hypothesis, and otherwise what stands for it.
 pub(crate) fn chosen_event(network: &Network, watch: &Watch<'_>, time: Units, draw: Draw) -> Event
     requires range { IsInRange network.now }
     requires rules { KeepsRules network.now }
@@ -77,14 +95,12 @@ pub(crate) fn chosen_event(network: &Network, watch: &Watch<'_>, time: Units, dr
     ensures time { result.time ≡ time }
     ensures of_network { IsOfNetwork network.now result.what }
 {
-    if let Some(what) = drawn(network, watch.broken(), time, draw) {
-        let event = Event { time, what };
-        if watch.judge(&event).is_ok() {
-            return event;
-        }
-    }
-    Event {
-        time,
-        what: What::Rate(DeviceId(0), Ppb(0)),
+    let Some(what) = drawn(network, watch.broken(), time, draw) else {
+        return substitute(time);
+    };
+    let event = Event { time, what };
+    match watch.judge(&event) {
+        Ok(()) => event,
+        Err(_) => substitute(time),
     }
 }

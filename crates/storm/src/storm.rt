@@ -1,10 +1,11 @@
-ghost use Rattle.std.specs.Prelude.{◌≡◌, ◌+◌, ◌*◌, ◌<◌, ◌≤◌, ◌↔◌, ℕ, List, IsNone, IfSome, IfNone};
+ghost use Rattle.std.specs.Prelude.{◌≡◌, ◌+◌, ◌*◌, ◌<◌, ◌≤◌, ◌^◌, ◌↔◌, pos, ◌≤ℤ◌, List, IsNone, IfSome, IfNone};
 ghost use Rattle.fault_hypothesis.specs.Watching.{Watches};
 ghost use Rattle.net_plan.specs.Belonging.{IsOfNetwork};
 ghost use Rattle.net_plan.specs.Ranges.{IsInRange};
 ghost use Rattle.net_plan.specs.declared.event.Event.{Event as EventValue};
 ghost use Rattle.run_law.specs.scenario.Hypothesis.{IsWithinHypothesis};
 ghost use Rattle.storm.specs.Events.{AreNoLater, IsStormEvent, time_of};
+ghost use Rattle.tte_units.specs.Amount.{amount};
 
 use crate::chosen::chosen_event;
 use crate::words::Words;
@@ -92,6 +93,9 @@ fn step_time(network: &Network, step: u32) -> Units
     requires range { IsInRange network.now }
     requires step { step ≤ 800000 }
     ensures value { result ≡ time_of network.now step }
+    ensures early { pos 0 ≤ℤ result.0 }
+    ensures late { result.0 ≤ℤ pos (2 ^ 60) }
+    ensures in_run { result.0 ≤ℤ pos (2 ^ 20 * amount network.now.cycle) }
 {
     Units::from_amount((u64::from(step) + 1) * (network.cycle.amount() / u64::from(STEPS)))
 }

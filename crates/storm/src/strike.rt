@@ -1,5 +1,5 @@
-ghost use Rattle.std.specs.Prelude.{◌≡◌, ◌<◌, ◌^◌, ℕ, pos, ◌≤ℤ◌, List, MatchOption, length};
-ghost use Rattle.net_plan.specs.Belonging.{HasDevice, IsOfNetwork};
+ghost use Rattle.std.specs.Prelude.{◌≡◌, ◌<◌, ◌^◌, pos, ◌≤ℤ◌, IfSome, MatchOption, length};
+ghost use Rattle.net_plan.specs.Belonging.{IsOfNetwork};
 ghost use Rattle.net_plan.specs.Ranges.{IsInRange};
 ghost use Rattle.net_plan.specs.declared.ids.DeviceId.{DeviceId as DeviceIdValue};
 ghost use Rattle.schedule_tables.specs.Rules.{KeepsRules};
@@ -37,8 +37,9 @@ pub(crate) fn forged_send(
     requires range { IsInRange network.now }
     requires early { pos 0 ≤ℤ time.0 }
     requires late { time.0 ≤ℤ pos (2 ^ 60) }
-    ensures { KeepsRules network.now → IsMaster network.now device
+    ensures value { KeepsRules network.now → IsMaster network.now device
         → MatchOption result ⊥ (SendsForged network.now device time draw) }
+    ensures of_network { IfSome result (IsOfNetwork network.now) }
 {
     let master = network.device.as_slice().get(device.0 as usize)?;
     let member = master.member?;
