@@ -12,10 +12,10 @@ returns-clause-within c = λ admitted w no_later.
     let over = c.network-network.ensures.value in
     let same : c.args.self.now.given ≡ c.self.inside.given = let view = c.self.view_is in cc in
     let at : time_of c.args.accepted.now c.args.self.now.given ≡ c.step_time-time.result =
-        sym
-        (c.step_time-time.ensures.value
-        ∙ ap (λ (n : Network). time_of n c.self.inside.given) over
-        ∙ ap (λ (k : ℕ). time_of c.args.accepted.now k) (sym same))
+    sym
+    (c.step_time-time.ensures.value
+    ∙ ap (λ (n : Network). time_of n c.self.inside.given) over
+    ∙ ap (λ (k : ℕ). time_of c.args.accepted.now k) (sym same))
     in
     let later = subst (AreNoLater admitted) at no_later in
     subst (λ (n : Network). IsWithinHypothesis n admitted c.if-self-steps-2.event) over
