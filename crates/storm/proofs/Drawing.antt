@@ -3,7 +3,7 @@ use Rattle.std.proofs.Common.{◌≡◌, Option, Some, None, List, sym, ap, subs
 use Rattle.std.specs.Prelude.{IsSomeAnd, MatchOption}
 use Rattle.net_plan.specs.Places.{link_at}
 use Rattle.net_plan.specs.declared.event.Event.{Event}
-use Rattle.net_plan.specs.declared.event.What.TheVariants as events
+use Rattle.net_plan.specs.declared.event.What.TheVariants as kinds
 use Rattle.net_plan.specs.declared.event.What.{What}
 use Rattle.net_plan.specs.declared.ids.LinkId.{LinkId}
 use Rattle.net_plan.specs.declared.network.Network.{Network}
@@ -25,23 +25,23 @@ drawn_by network before time draw choice what chosen is =
 -- the wire delay of a link
 pub wire_drawn : (network : Network) (before : List Event) (time : Units) (draw : Draw) (link : LinkId) (way : Way) (delay : Units) (found : Link)
     → link ≡ link_of network draw → link_at network link ≡ Some found → way ≡ way_of draw → delay ≡ wire_of found draw
-    → IsChosen network before time draw Wire (events.Wire link way delay)
+    → IsChosen network before time draw Wire (kinds.Wire link way delay)
 wire_drawn network before time draw link way delay found link_is at way_is delay_is =
     let there : link_at network (link_of network draw) ≡ Some found = ap (link_at network) (sym link_is) ∙ at in
-    let same : events.Wire link way delay ≡ events.Wire (link_of network draw) (way_of draw) (wire_of found draw) = cc in
+    let same : kinds.Wire link way delay ≡ kinds.Wire (link_of network draw) (way_of draw) (wire_of found draw) = cc in
     subst
-    (λ (o : Option Link). IsSomeAnd o (λ l. events.Wire link way delay ≡ events.Wire (link_of network draw) (way_of draw) (wire_of l draw)))
+    (λ (o : Option Link). IsSomeAnd o (λ l. kinds.Wire link way delay ≡ kinds.Wire (link_of network draw) (way_of draw) (wire_of l draw)))
     (sym there) same
 
 -- the hold of a link
 pub hold_drawn : (network : Network) (before : List Event) (time : Units) (draw : Draw) (link : LinkId) (way : Way) (delay : Units) (found : Link)
     → link ≡ link_of network draw → link_at network link ≡ Some found → way ≡ way_of draw → delay ≡ hold_of found draw
-    → IsChosen network before time draw Hold (events.Hold link way delay)
+    → IsChosen network before time draw Hold (kinds.Hold link way delay)
 hold_drawn network before time draw link way delay found link_is at way_is delay_is =
     let there : link_at network (link_of network draw) ≡ Some found = ap (link_at network) (sym link_is) ∙ at in
-    let same : events.Hold link way delay ≡ events.Hold (link_of network draw) (way_of draw) (hold_of found draw) = cc in
+    let same : kinds.Hold link way delay ≡ kinds.Hold (link_of network draw) (way_of draw) (hold_of found draw) = cc in
     subst
-    (λ (o : Option Link). IsSomeAnd o (λ l. events.Hold link way delay ≡ events.Hold (link_of network draw) (way_of draw) (hold_of l draw)))
+    (λ (o : Option Link). IsSomeAnd o (λ l. kinds.Hold link way delay ≡ kinds.Hold (link_of network draw) (way_of draw) (hold_of l draw)))
     (sym there) same
 
 -- where a value is there and has one property, it has each that follows

@@ -8,7 +8,7 @@ use Rattle.fault_hypothesis.specs.Watching.{Watches}
 use Rattle.fault_hypothesis.specs.declared.watch.Watch.{Watch}
 use Rattle.net_plan.specs.Places.{device_at, is_master}
 use Rattle.net_plan.specs.declared.event.Event.{Event}
-use Rattle.net_plan.specs.declared.event.What.TheVariants as events
+use Rattle.net_plan.specs.declared.event.What.TheVariants as kinds
 use Rattle.net_plan.specs.declared.event.What.{What}
 use Rattle.net_plan.specs.declared.ids.DeviceId.{DeviceId}
 use Rattle.net_plan.specs.declared.network.Network.{Network}
@@ -61,7 +61,7 @@ in_order : (before : List Event) (event : Event) → AreNoLater before event.tim
 in_order before event no_later v = omega (arith, ints, v.later, no_later v.front v.last v.order)
 
 -- the end is within the hypothesis
-pub end_within : (network : Network) (before : List Event) (event : Event) → event.what ≡ events.End → AreNoLater before event.time
+pub end_within : (network : Network) (before : List Event) (event : Event) → event.what ≡ kinds.End → AreNoLater before event.time
     → event.time.0 ≤ℤ pos (2 ^ 20 * amount network.cycle) → IsWithinHypothesis network before event
 end_within network before event what no_later in_run Order v = in_order before event no_later v
 end_within network before event what no_later in_run Late v = omega (arith, ints, v, in_run)

@@ -4,3 +4,4 @@ pub mod Striking
 pub mod Events
 pub mod Known
 pub mod Progress
+pub mod Laws

@@ -1,5 +1,6 @@
 -- The strikes of a storm: a master breaks, and then sends forged frames.
 use Rattle.std.specs.Prelude.{◌≡◌, ◌⊎◌, ℕ, ◌+◌, ◌/◌, ◌%◌, ◌<◌, true, Some, List, IsSomeAnd, slice_index}
+use Rattle.hex.specs.Hex.{IsBytes}
 use Rattle.membership.specs.Members.{single}
 use Rattle.net_plan.specs.Paths.{IsUplink}
 use Rattle.net_plan.specs.Places.{device_at, is_master}
@@ -53,6 +54,7 @@ pub record SendsForged (network : Network) (device : DeviceId) (time : Units) (d
   pub uplink : IsUplink network (channel_of draw) device link
   pub spells : Spells octets (forged network master member time draw)
   pub padding : (i : ℕ) → IsPadding i → slice_index octets i ≡ 0
+  pub bytes : IsBytes octets
   pub sends : what ≡ Send link octets
 
 -- none is broken, and the last master breaks

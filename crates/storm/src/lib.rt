@@ -4,10 +4,12 @@
 
 mod chosen;
 mod draw;
+mod laws;
 mod storm;
 mod strike;
 mod words;
 
+pub use laws::{storm_is_one, storms_are_within};
 pub use storm::Storm;
 
 #[cfg(test)]

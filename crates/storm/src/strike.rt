@@ -1,7 +1,9 @@
-ghost use Rattle.std.specs.Prelude.{◌≡◌, ◌<◌, ◌^◌, pos, ◌≤ℤ◌, IfSome, MatchOption, length};
+ghost use Rattle.std.specs.Prelude.{◌≡◌, ◌<◌, ◌≤◌, ◌^◌, ℕ, pos, ◌≤ℤ◌, IfSome, MatchOption, length, slice_index};
+ghost use Rattle.hex.specs.Hex.{IsBytes};
 ghost use Rattle.net_plan.specs.Belonging.{IsOfNetwork};
 ghost use Rattle.net_plan.specs.Ranges.{IsInRange};
 ghost use Rattle.net_plan.specs.declared.ids.DeviceId.{DeviceId as DeviceIdValue};
+ghost use Rattle.pcf_codec.specs.Spelling.{IsPadding, Spells};
 ghost use Rattle.schedule_tables.specs.Rules.{KeepsRules};
 ghost use Rattle.storm.specs.Striking.{IsLastMaster, IsMaster, SendsForged, forged};
 
@@ -45,9 +47,28 @@ pub(crate) fn forged_send(
     let member = master.member?;
     let link = network.uplink(device, draw.channel())?;
     let frame = forged_frame(network, master, member, time, draw);
+    Some(What::Send(link, spelled(&frame)))
+}
+
+// The octets that spell the frame, with zeros in the padding.
+fn spelled(frame: &Pcf) -> Octets
+    ensures spells { Spells result frame.now }
+    ensures padding { (i : ℕ) → IsPadding i → slice_index result i ≡ 0 }
+    ensures bytes { IsBytes result }
+{
     let mut octets = [0; PCF_LENGTH];
-    encode(&frame, &mut octets);
-    Some(What::Send(link, Octets::new(&octets)))
+    encode(frame, &mut octets);
+    kept(&octets)
+}
+
+// Keeps the octets of a frame, which are bytes.
+fn kept(octets: &[u8]) -> Octets
+    requires least { 60 ≤ length octets.now }
+    requires most { length octets.now ≤ 1514 }
+    ensures value { result ≡ octets.now }
+    ensures bytes { IsBytes result }
+{
+    Octets::new(octets)
 }
 
 // The frame that the broken master forges.

@@ -1,5 +1,5 @@
 use Rattle.std.proofs.Common.{◌≡◌, inl, inr, refl, sym, ◌∙◌}
-use Rattle.net_plan.specs.declared.event.What.TheVariants as events
+use Rattle.net_plan.specs.declared.event.What.TheVariants as kinds
 use Rattle.storm.specs.Events.{IsDrawn}
 use Rattle.storm.specs.Striking.{SendsForged}
 use Rattle.storm.specs.declared.draw.Choice.TheVariants.{Wire, Hold, Strike}
@@ -16,13 +16,13 @@ link-link-requires-clause-some c = some_link c.args.network.now c.requires.rules
 
 pub returns-in-Wire-clause-value : goal.returns-in-Wire-clause-value
 returns-in-Wire-clause-value c = λ before knows.
-    drawn_by c.args.network.now before c.args.time c.args.draw Wire (events.Wire c.link-link.result c.way.result c.wire.result) c.in-Wire.ensures
+    drawn_by c.args.network.now before c.args.time c.args.draw Wire (kinds.Wire c.link-link.result c.way.result c.wire.result) c.in-Wire.ensures
     (wire_drawn c.args.network.now before c.args.time c.args.draw c.link-link.result c.way.result c.wire.result c.link_at-found.result.now
     c.link-link.ensures.value c.link_at-found.ensures c.way.ensures c.wire.ensures)
 
 pub returns-in-Hold-clause-value : goal.returns-in-Hold-clause-value
 returns-in-Hold-clause-value c = λ before knows.
-    drawn_by c.args.network.now before c.args.time c.args.draw Hold (events.Hold c.link-link.result c.way-in-Hold.result c.hold.result) c.in-Hold.ensures
+    drawn_by c.args.network.now before c.args.time c.args.draw Hold (kinds.Hold c.link-link.result c.way-in-Hold.result c.hold.result) c.in-Hold.ensures
     (hold_drawn c.args.network.now before c.args.time c.args.draw c.link-link.result c.way-in-Hold.result c.hold.result c.link_at-found.result.now
     c.link-link.ensures.value c.link_at-found.ensures c.way-in-Hold.ensures c.hold.ensures)
 

@@ -21,16 +21,16 @@ returns-clause-value c = λ keeps is. record {
   master = c.in_ok-master.master.now;
   member = c.in_ok-member.member;
   link = c.in_ok-link.link;
-  octets = c.new.result;
+  octets = c.spelled.result;
   at = ap (λ (xs : List Device). slice_get xs c.args.device.0) (sym c.as_slice.ensures)
       ∙ slice_get_read c.as_slice.result.now _ c.args.device.0 c.in_ok-master.master.now refl c.in_ok-master.ensures.lookup.3.0
       c.in_ok-master.ensures.lookup.1;
   numbered = search rules;
   uplink = subst (λ (n : Channel). IsUplink c.args.network.now n c.args.device c.in_ok-link.link) c.channel.ensures c.in_ok-link.ensures.first.leads;
-  spells = subst (λ (o : List ℕ). Spells o (forged c.args.network.now c.in_ok-master.master.now c.in_ok-member.member c.args.time c.args.draw)) (sym c.new.ensures)
-      (subst (λ (p : Pcf). Spells c.encode.new.octets p) c.forged_frame-frame.ensures c.encode.ensures.spelling);
-  padding = λ i is_padding. ap (λ (o : List ℕ). slice_index o i) c.new.ensures ∙ c.encode.ensures.padding i is_padding;
+  spells = subst (λ (p : Pcf). Spells c.spelled.result p) c.forged_frame-frame.ensures c.spelled.ensures.spells;
+  padding = c.spelled.ensures.padding;
   sends = refl;
+  bytes = c.spelled.ensures.bytes;
 }
 
 pub returns-clause-of_network : goal.returns-clause-of_network
