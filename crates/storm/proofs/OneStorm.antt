@@ -1,5 +1,5 @@
 -- There is one storm of a seed.
-use Rattle.std.proofs.Common.{◌≡◌, ◌⊎◌, ℕ, ◌+◌, ◌*◌, ◌<◌, List, [], ◌∷◌, ◌++◌, length, Option, Some, None, inl, inr, refl, sym, ap, subst, ◌∙◌, arith, append_assoc, suc}
+use Rattle.std.proofs.Common.{◌≡◌, ◌⊎◌, ℕ, List, [], ◌∷◌, ◌++◌, length, Option, Some, None, inl, inr, refl, sym, ap, subst, ◌∙◌, arith, append_assoc}
 use Rattle.std.specs.Prelude.{IsSomeAnd}
 use Rattle.std.specs.List.{Any}
 use Rattle.std.proofs.lemmas.Bool.{cases_order}
@@ -20,7 +20,7 @@ use Rattle.run_law.specs.scenario.Hypothesis.{AreWithinHypothesis, IsWithinHypot
 use Rattle.schedule_tables.specs.Rules.{KeepsRules}
 use Rattle.schedule_tables.specs.declared.rule.Rule.TheVariants.{Connections}
 use Rattle.storm.specs.Choosing.{channel_of, choice_of, hold_of, link_of, way_of, wire_of}
-use Rattle.storm.specs.Events.{AreStormEvents, IsChosen, IsDrawn, IsEventOf, IsStormEvent, time_of}
+use Rattle.storm.specs.Events.{AreStormEvents, IsChosen, IsEventOf, IsStormEvent, time_of}
 use Rattle.storm.specs.Laws.{StormIsOne}
 use Rattle.storm.specs.Striking.{IsLastMaster, SendsForged, Strikes, forged}
 use Rattle.storm.specs.Words.{draw_at}
@@ -93,10 +93,10 @@ one_send network before device time draw w v rules within broken a b =
     let one = (rules Connections device.0).ends end (channel_of draw) in
     let links = one.2 a.link a.uplink ∙ sym (one.2 b.link b.uplink) in
     let frames : forged network b.master b.member time draw ≡ forged network a.master a.member time draw =
-        ap (λ (d : Device). forged network d b.member time draw) (sym masters) ∙ ap (λ (m : ℕ). forged network a.master m time draw) (sym members)
+    ap (λ (d : Device). forged network d b.member time draw) (sym masters) ∙ ap (λ (m : ℕ). forged network a.master m time draw) (sym members)
     in
     let octets = same_octets a.octets b.octets (forged network a.master a.member time draw) a.spells (subst (λ (p : Pcf). Spells b.octets p) frames b.spells)
-        a.bytes b.bytes a.padding b.padding
+    a.bytes b.bytes a.padding b.padding
     in
     let same : kinds.Send a.link a.octets ≡ kinds.Send b.link b.octets = cc in
     a.sends ∙ same ∙ sym b.sends
@@ -169,12 +169,12 @@ same_rest network seed cycles front [] (y ∷ other) rules within a b size = abs
 same_rest network seed cycles front (x ∷ rest) [] rules within a b size = absurd (omega (arith, size))
 same_rest network seed cycles front (x ∷ rest) (y ∷ other) rules within a b size =
     let heads = one_storm_event network seed cycles front (length front) x y rules (within_front network front (x ∷ rest) within) (a front rest x refl)
-        (b front other y refl)
+    (b front other y refl)
     in
     let moved = sym (append_assoc front (x ∷ []) rest) in
     let shifted = ap (λ (e : Event). front ++ e ∷ other) (sym heads) ∙ sym (append_assoc front (x ∷ []) other) in
     let tails = same_rest network seed cycles (front ++ x ∷ []) rest other rules (subst (AreWithinHypothesis network) moved within)
-        (subst (AreStormEvents network seed cycles) moved a) (subst (AreStormEvents network seed cycles) shifted b) (omega (arith, size))
+    (subst (AreStormEvents network seed cycles) moved a) (subst (AreStormEvents network seed cycles) shifted b) (omega (arith, size))
     in
     ap (λ (e : Event). e ∷ rest) heads ∙ ap (λ (l : List Event). y ∷ l) tails
 

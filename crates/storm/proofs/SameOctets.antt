@@ -1,5 +1,5 @@
 -- Two spellings of one frame, of bytes and with zeros in the padding, are the same octets.
-use Rattle.std.proofs.Common.{◌≡◌, ◌⊎◌, ℕ, zero, suc, ◌+◌, ◌-◌, ◌*◌, ◌^◌, ◌<◌, ◌≤◌, List, drop, length, inl, inr, sym, ap, subst, ◌∙◌, arith}
+use Rattle.std.proofs.Common.{◌≡◌, ◌⊎◌, ℕ, zero, suc, ◌+◌, ◌-◌, ◌*◌, ◌^◌, ◌<◌, ◌≤◌, List, drop, inl, inr, sym, ap, subst, ◌∙◌, arith}
 use Rattle.std.proofs.Math.Nat.{mul-le-mul_right}
 use Rattle.std.proofs.lemmas.Bool.{cases_order}
 use Rattle.std.proofs.lemmas.List.{ext_get_or, get_or-drop}
@@ -50,7 +50,7 @@ same_field : (place n : ℕ) (xs ys : List ℕ) → IsBytes xs → IsBytes ys �
     → slice_index xs k ≡ slice_index ys k
 same_field place n xs ys small other same k low high =
     let moved = same_bytes n 0 (drop place xs) (drop place ys) (bytes_drop place xs small) (bytes_drop place ys other) same (k - place) (omega arith)
-        (omega (arith, low, high))
+    (omega (arith, low, high))
     in
     let back : k ≡ place + (k - place) = omega (arith, low) in
     rw back (sym (get_or-drop place xs (k - place) 0) ∙ moved ∙ get_or-drop place ys (k - place) 0)

@@ -8,6 +8,7 @@ ghost use Rattle.schedule_tables.specs.Rules.{KeepsRules};
 ghost use Rattle.storm.specs.Choosing.{hold_of, rate_of, wire_of};
 ghost use Rattle.storm.specs.Events.{IsDrawn, IsEventOf, substitute};
 ghost use Rattle.storm.specs.Known.{KnowsBroken};
+ghost use Rattle.trace_text.specs.Ranges.{IsEventInRange, IsRate, IsTime, IsWhatInRange};
 
 use crate::draw::{Choice, Draw};
 use crate::strike::{forged_send, last_master};
@@ -17,7 +18,8 @@ use tte_units::{Ppb, Units};
 
 fn rate(network: &Network, draw: Draw) -> Ppb
     requires { network.now.rho ≤ 1000000 }
-    ensures { result ≡ rate_of network.now draw }
+    ensures value { result ≡ rate_of network.now draw }
+    ensures range { IsRate result }
 {
     let above = draw.size % (2 * network.rho + 1);
     Ppb(above as i32 - network.rho as i32)
@@ -26,7 +28,8 @@ fn rate(network: &Network, draw: Draw) -> Ppb
 fn wire(link: &Link, draw: Draw) -> Units
     requires jitter { IsWithin 0 (2 ^ 40) link.now.jitter }
     requires wire { IsWithin 1 (2 ^ 40) link.now.wire }
-    ensures { result ≡ wire_of link.now draw }
+    ensures value { result ≡ wire_of link.now draw }
+    ensures range { IsTime result }
 {
     let more = u64::from(draw.size) % (link.jitter.amount() + 1);
     Units(link.wire.0 + more as i64)
@@ -34,7 +37,8 @@ fn wire(link: &Link, draw: Draw) -> Units
 
 fn hold(link: &Link, draw: Draw) -> Units
     requires { IsWithin 0 (2 ^ 40) link.now.hold }
-    ensures { result ≡ hold_of link.now draw }
+    ensures value { result ≡ hold_of link.now draw }
+    ensures range { IsTime result }
 {
     Units::from_amount(u64::from(draw.size) % (link.hold.amount() + 1))
 }
@@ -56,6 +60,7 @@ fn drawn(network: &Network, broken: Option<DeviceId>, time: Units, draw: Draw) -
     ensures value { (before : List EventValue) → KnowsBroken network.now before broken
         → MatchOption result ⊥ (IsDrawn network.now before time draw) }
     ensures of_network { IfSome result (IsOfNetwork network.now) }
+    ensures range { IfSome result IsWhatInRange }
 {
     let (device, link) = (draw.device(network), draw.link(network));
     let found = link_at(network, link);
@@ -94,6 +99,7 @@ pub(crate) fn chosen_event(network: &Network, watch: &Watch<'_>, time: Units, dr
         → IsEventOf network.now before time draw result }
     ensures time { result.time ≡ time }
     ensures of_network { IsOfNetwork network.now result.what }
+    ensures range { IsEventInRange result }
 {
     let Some(what) = drawn(network, watch.broken(), time, draw) else {
         return substitute(time);

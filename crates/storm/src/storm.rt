@@ -1,10 +1,11 @@
-ghost use Rattle.std.specs.Prelude.{◌≡◌, ◌+◌, ◌*◌, ◌<◌, ◌≤◌, ◌^◌, ◌↔◌, pos, ◌≤ℤ◌, List, IsNone, IfSome, IfNone};
+ghost use Rattle.std.specs.Prelude.{◌≡◌, ◌+◌, ◌*◌, ◌≤◌, ◌^◌, pos, ◌≤ℤ◌, List, MatchOption, IfSome, IfNone};
 ghost use Rattle.fault_hypothesis.specs.Watching.{Watches};
 ghost use Rattle.net_plan.specs.Belonging.{IsOfNetwork};
 ghost use Rattle.net_plan.specs.Ranges.{IsInRange};
 ghost use Rattle.net_plan.specs.declared.event.Event.{Event as EventValue};
 ghost use Rattle.run_law.specs.scenario.Hypothesis.{IsWithinHypothesis};
 ghost use Rattle.storm.specs.Events.{AreNoLater, IsStormEvent, time_of};
+ghost use Rattle.trace_text.specs.Ranges.{IsEventInRange};
 ghost use Rattle.tte_units.specs.Amount.{amount};
 
 use crate::chosen::chosen_event;
@@ -65,7 +66,9 @@ impl Storm {
             → IfSome result (IsWithinHypothesis accepted.now admitted) }
         ensures time { IfSome result (λ e. e.time ≡ time_of accepted.now self.old.given) }
         ensures of_network { IfSome result (λ e. IsOfNetwork accepted.now e.what) }
-        ensures end { IsNone result ↔ (8 * self.old.cycles < self.old.given) }
+        ensures range { IfSome result IsEventInRange }
+        ensures end { MatchOption result (self.old.given ≡ 8 * self.old.cycles + 1)
+            (λ _. self.old.given ≤ 8 * self.old.cycles) }
         ensures given { IfSome result (λ _. self.new ≡ record self.old { given = self.old.given + 1 }) }
         ensures still { IfNone result (self.new ≡ self.old) }
     {

@@ -6,6 +6,7 @@ ghost use Rattle.net_plan.specs.declared.ids.DeviceId.{DeviceId as DeviceIdValue
 ghost use Rattle.pcf_codec.specs.Spelling.{IsPadding, Spells};
 ghost use Rattle.schedule_tables.specs.Rules.{KeepsRules};
 ghost use Rattle.storm.specs.Striking.{IsLastMaster, IsMaster, SendsForged, forged};
+ghost use Rattle.trace_text.specs.Ranges.{IsFrame, IsWhatInRange};
 
 use crate::draw::Draw;
 use net_plan::{Device, DeviceId, Network, Octets, Role, What};
@@ -42,6 +43,7 @@ pub(crate) fn forged_send(
     ensures value { KeepsRules network.now → IsMaster network.now device
         → MatchOption result ⊥ (SendsForged network.now device time draw) }
     ensures of_network { IfSome result (IsOfNetwork network.now) }
+    ensures range { IfSome result IsWhatInRange }
 {
     let master = network.device.as_slice().get(device.0 as usize)?;
     let member = master.member?;
@@ -55,6 +57,7 @@ fn spelled(frame: &Pcf) -> Octets
     ensures spells { Spells result frame.now }
     ensures padding { (i : ℕ) → IsPadding i → slice_index result i ≡ 0 }
     ensures bytes { IsBytes result }
+    ensures frame { IsFrame result }
 {
     let mut octets = [0; PCF_LENGTH];
     encode(frame, &mut octets);

@@ -1,4 +1,4 @@
-use Rattle.std.proofs.Common.{◌≡◌, inl, inr, refl, sym, ◌∙◌}
+use Rattle.std.proofs.Common.{inl, inr, refl}
 use Rattle.net_plan.specs.declared.event.What.TheVariants as kinds
 use Rattle.storm.specs.Events.{IsDrawn}
 use Rattle.storm.specs.Striking.{SendsForged}
@@ -18,13 +18,13 @@ pub returns-in-Wire-clause-value : goal.returns-in-Wire-clause-value
 returns-in-Wire-clause-value c = λ before knows.
     drawn_by c.args.network.now before c.args.time c.args.draw Wire (kinds.Wire c.link-link.result c.way.result c.wire.result) c.in-Wire.ensures
     (wire_drawn c.args.network.now before c.args.time c.args.draw c.link-link.result c.way.result c.wire.result c.link_at-found.result.now
-    c.link-link.ensures.value c.link_at-found.ensures c.way.ensures c.wire.ensures)
+    c.link-link.ensures.value c.link_at-found.ensures c.way.ensures c.wire.ensures.value)
 
 pub returns-in-Hold-clause-value : goal.returns-in-Hold-clause-value
 returns-in-Hold-clause-value c = λ before knows.
     drawn_by c.args.network.now before c.args.time c.args.draw Hold (kinds.Hold c.link-link.result c.way-in-Hold.result c.hold.result) c.in-Hold.ensures
     (hold_drawn c.args.network.now before c.args.time c.args.draw c.link-link.result c.way-in-Hold.result c.hold.result c.link_at-found.result.now
-    c.link-link.ensures.value c.link_at-found.ensures c.way-in-Hold.ensures c.hold.ensures)
+    c.link-link.ensures.value c.link_at-found.ensures c.way-in-Hold.ensures c.hold.ensures.value)
 
 pub returns-in_err-last_master-in-None-clause-value : goal.returns-in_err-last_master-in-None-clause-value
 returns-in_err-last_master-in-None-clause-value c = λ before knows.

@@ -1,5 +1,5 @@
-use Rattle.std.proofs.Common.{rules, ℕ, List, ap, refl, subst, sym, ◌∙◌}
-use Rattle.std.specs.Prelude.{slice_get, slice_index}
+use Rattle.std.proofs.Common.{rules, List, ap, refl, subst, sym, ◌∙◌}
+use Rattle.std.specs.Prelude.{slice_get}
 use Rattle.std.proofs.lemmas.Option.{slice_get_read}
 use Rattle.net_plan.specs.Paths.{IsUplink}
 use Rattle.net_plan.specs.declared.tables.Device.{Device}
@@ -8,7 +8,6 @@ use Rattle.pcf_values.specs.declared.channel.Channel.{Channel}
 use Rattle.pcf_values.specs.declared.pcf.Pcf.{Pcf}
 use Rattle.storm.proofs.Belongings.{uplink_within}
 use Rattle.storm.proofs.Masters.{master_uplink}
-use Rattle.storm.specs.Striking.{forged}
 use Rattle.storm.proofs.strike.forged_send.Goals as goal
 
 pub returns-in_err-link-clause-value : goal.returns-in_err-link-clause-value
