@@ -85,3 +85,20 @@ more_events network seed cycles events event each next before behind other order
           subst (λ (e : Event). IsStormEvent network seed cycles before (length before) e) (sym s.same)
           (subst (λ (l : List Event). IsStormEvent network seed cycles l (length l) event) (sym s.before_is) next)
     ]
+
+-- ---- for who gives the events of a storm to a watch, one after another
+
+-- the events so far are no later than the one to come
+pub none_later : (network : Network) (seed cycles : ℕ) (events : List Event) (given : ℕ) → AreStormEvents network seed cycles events
+    → length events ≡ given → AreNoLater events (time_of network given)
+none_later network seed cycles events given each count =
+    subst (λ (n : ℕ). AreNoLater events (time_of network n)) count (no_later network seed cycles events each)
+
+-- with the one that comes they are one more
+pub one_more : (network : Network) (seed cycles : ℕ) (events : List Event) (given : ℕ) (event : Event) → AreStormEvents network seed cycles events
+    → length events ≡ given → IsStormEvent network seed cycles events given event
+    → AreStormEvents network seed cycles (events ++ event ∷ []) × (length (events ++ event ∷ []) ≡ given + 1)
+one_more network seed cycles events given event each count next = (
+  more_events network seed cycles events event each (subst (λ (n : ℕ). IsStormEvent network seed cycles events n event) (sym count) next),
+  length-append events (event ∷ []) ∙ ap (λ (n : ℕ). n + 1) count,
+)
