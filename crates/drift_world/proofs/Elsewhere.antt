@@ -107,6 +107,7 @@ timed_by_event {C} {M} reading stands network old mid new what are away timers t
         (let now = ap (λ (s : State C M). s.time) same in omega (arith, now, time))
         (kept.0 ∙ ap (λ (l : List ℕ). slice_get l device.0) timers)
         (kept.1 ∙ ap (λ (l : List ℕ). slice_get l (length network.device + device.0)) timers)
+
     each : (device : DeviceId) → device.0 < length network.device → (o : Option DeviceId) → device_in what ≡ o → IsTimed reading stands network new.timers new device
     each device there None none =
         still device there (subst (λ (o : Option DeviceId). IfSome o (λ d. d.0 ≢ device.0)) (sym none) tt)

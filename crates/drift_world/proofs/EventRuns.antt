@@ -55,7 +55,7 @@ module _ {C M : Type 0} (reading : C → ℕ → ℕ) (stands : M → Network �
   worked : (w : List ℕ) → IsSource s hs w → IsBefore w (world.now ∷ 2 ∷ []) → IsBefore w old.cursor
   unfolding hs
   worked w (IsSource.arriving t device link cause a) b = by_time t 2 (device.0 ∷ link.0 ∷ cause ∷ []) (omega arith) b
-  worked w (IsSource.ripening t device link cause point r) b = 
+  worked w (IsSource.ripening t device link cause point r) b =
       by_time t 3 (device.0 ∷ amount point ∷ r.frame.members.0 ∷ link.0 ∷ cause ∷ []) (omega arith) b
   worked w (IsSource.acting t device a) b = by_time t 4 (device.0 ∷ []) (omega arith) b
   worked w (IsSource.departing t device link cause d) b = by_time t 8 (device.0 ∷ link.0 ∷ cause ∷ []) (omega arith) b

@@ -32,6 +32,7 @@ all_within network past event all here before behind e order =
   where
     not_none : (x : Event) (xs : List Event) → x ∷ xs ≡ [] → ⊥
     not_none x xs e = cc
+
     at : (others : List Event) → e ∷ behind ≡ others ++ event ∷ [] → past ≡ before ++ others → IsWithinHypothesis network before e
     at [] last whole =
         let same : event ≡ e = cc in

@@ -228,6 +228,7 @@ begins_off s device not = from (device_at s.network device) not
     by_start : (o : Option Units) → ((IsNone o → ⊥) → ⊥) → state_at_start o ≡ Off
     by_start None not = refl
     by_start (Some u) not = absurd (not (λ none. cc))
+
     from : (o : Option Device) → (IsSomeAnd o (λ d. IsNone d.start → ⊥) → ⊥) → state_at_start (option_and_then (λ (d : Device). d.start) o) ≡ Off
     from None not = refl
     from (Some d) not = by_start d.start not

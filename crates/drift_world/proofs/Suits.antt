@@ -87,6 +87,7 @@ sends_end network past event link octets within here what there = from (link_at 
     lacks : (o : Option Link) → link_at network link ≡ o → IsSomeAnd o (λ l. is_end network l.child ≡ false) → IsSomeAnd o (λ l. IsBroken past l.child) → ⊥
     lacks None is none_such broken = absurd none_such
     lacks (Some l) is none_such broken = broken_ends network past l.child within none_such broken
+
     from : (o : Option Link) → link_at network link ≡ o → IsFromEnd network link
     from None none = let it = Rattle.drift_world.proofs.Beginnings.found network.link link.0 there in let bad : None ≡ Some it.0 = sym none ∙ it.1 in absurd cc
     from (Some l) is = elim (cases_Bool (is_end network l.child)) [

@@ -287,10 +287,10 @@ module _ {C M : Type 0} (last_step : C → ℕ) (reading : C → ℕ → ℕ) (s
       })
       (ap (λ (t : State C M). t.timers) same) (ap (λ (t : State C M). t.given) same)
       (λ s notes is.
-          subst (λ (t : State C M). Stands reading (keeps stands) s (world_of network t) notes) (sym same)
-          (subst
-          (λ (l : List Settled). Stands reading (keeps stands) s (record (world_of network old) { settled = map (settled_at network old.time) l }) notes)
-          (sym items) is))
+      subst (λ (t : State C M). Stands reading (keeps stands) s (world_of network t) notes) (sym same)
+      (subst
+      (λ (l : List Settled). Stands reading (keeps stands) s (record (world_of network old) { settled = map (settled_at network old.time) l }) notes)
+      (sym items) is))
 
   -- time passes
   pub passes : (old new : State C M) (time : ℕ) → IsWell last_step reading stands network old
@@ -303,8 +303,8 @@ module _ {C M : Type 0} (last_step : C → ℕ) (reading : C → ℕ → ℕ) (s
     sound = sound;
     running = runs_on old new well.running still;
     timed = subst (AreTimed reading stands network) (sym same)
-    (passed reading stands network old time true well.timed (omega (arith, later))
-    (timers_later reading stands network old well.running time (omega (arith, limit)) well.timed none));
+        (passed reading stands network old time true well.timed (omega (arith, later))
+        (timers_later reading stands network old well.running time (omega (arith, limit)) well.timed none));
   }
 
 -- ---- results

@@ -23,8 +23,8 @@ mod settled;
 mod source;
 mod state;
 mod stepping;
-mod timing;
 mod storing;
+mod timing;
 mod waiting;
 mod world;
 

@@ -235,9 +235,9 @@ impl<C: Clock, M: Machine + Drop> State<C, M> {
         requires short { SetsShort event.now.what }
         ensures sound { IsSound C.last_step network.now self.new }
         ensures note { IfOk result (λ note. note ≡ record {
-            number = self.old.given + 1;
-            time = event.now.time;
-            body = NoteBody.Event (self.old.lines + 1) event.now.what;
+          number = self.old.given + 1;
+          time = event.now.time;
+          body = NoteBody.Event (self.old.lines + 1) event.now.what;
         }) }
         ensures still { (self.new.time ≡ self.old.time) × (self.new.early ≡ self.old.early) }
         ensures clocks { OnOk result ((device : DeviceOf) (clock : C) → slice_get self.old.clocks.items device.0 ≡ Some clock

@@ -104,8 +104,13 @@ no_earlier : (network : Network) (events : List Event) (event : Event) → (Come
 no_earlier network events event not = elim (last_or_none events) [
   | inl none ↦ inl none
   | inr some ↦
-      inr (some.0, some.1, some.2, not_less some.1.time.0 event.time.0
-          (λ less. not (record { front = some.0; last = some.1; order = some.2; later = less })))
+      inr (
+        some.0,
+        some.1,
+        some.2,
+        not_less some.1.time.0 event.time.0
+            (λ less. not (record { front = some.0; last = some.1; order = some.2; later = less })),
+      )
 ]
 
 order_of : (network : Network) (events : List Event) (event : Event) → (ComesTooEarly events event → ⊥) → pos 0 ≤ℤ event.time.0

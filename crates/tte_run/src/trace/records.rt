@@ -12,11 +12,11 @@ use crate::Status;
 use crate::put_line::end_with;
 use device_machines::DeviceMachine;
 use drift_clock::SegmentClock;
+use drift_world::World;
 use net_plan::{Event, Network};
 use report_text::write;
 use tte_io::{LineText, Sink};
 use tte_units::Units;
-use drift_world::World;
 
 /// The world of the program, whose clocks are exact.
 pub(crate) type ExactWorld<'a> = World<'a, SegmentClock, DeviceMachine>;

@@ -11,11 +11,11 @@ use crate::trace::lines::Trace;
 use crate::trace::records::{ExactWorld, put_event, put_rest};
 use crate::trace::refusing::put_fault;
 use device_machines::machines_of;
+use drift_world::{OutOfMemory, World};
 use schedule_tables::Accepted;
 use std::alloc::Global;
 use tte_io::{LineText, Sink, Source};
 use tte_units::Units;
-use drift_world::{OutOfMemory, World};
 
 /// A run under a trace.
 #[derive(Drop)]
@@ -32,10 +32,7 @@ impl<'a> Running<'a> {
     /// The run of a network that nothing has befallen.
     ///
     /// The error is that memory ran out.
-    pub(crate) fn begin(
-        alloc: Global,
-        accepted: &'a Accepted,
-    ) -> Result<Running<'a>, OutOfMemory>
+    pub(crate) fn begin(alloc: Global, accepted: &'a Accepted) -> Result<Running<'a>, OutOfMemory>
         ensures { IfOk result (Begins accepted.now) }
     {
         let Ok(machines) = machines_of(alloc, accepted) else {

@@ -3,7 +3,6 @@ use Rattle.drift_world.specs.declared.source.Source.TheVariants.{Ripening}
 use Rattle.drift_world.specs.declared.state.State.{State}
 use Rattle.drift_world.proofs.Turning.{comes_first, is_at, rekeyed_step, runs_on}
 use Rattle.drift_world.proofs.state.State.ripen.Goals as goal
-
 use Rattle.std.specs.Prelude.{◌≤ℤ◌}
 use Rattle.std.proofs.lemmas.Option.{slice_get_within}
 use Rattle.drift_world.specs.Stepping.{ChangesOnly, IsAt}

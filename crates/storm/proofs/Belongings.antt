@@ -1,0 +1,68 @@
+-- A network that keeps the rules has devices and links.
+use Rattle.std.proofs.Common.{◌≡◌, ℕ, ◌+◌, ◌<◌, Bool, true, List, [], ◌∷◌, Option, Some, None, inl, inr, refl, ap, arith, length, cond, zero, suc}
+use Rattle.std.specs.Prelude.{IsSomeAnd, slice_get}
+use Rattle.std.specs.List.{count_by}
+use Rattle.std.proofs.lemmas.Bool.{cases_Bool}
+use Rattle.std.proofs.lemmas.List.Sums.{length-filter, sum_by-cons}
+use Rattle.std.proofs.lemmas.Option.{slice_get_within}
+use Rattle.net_plan.specs.Paths.{IsUplink}
+use Rattle.net_plan.specs.Places.{is_master, link_at}
+use Rattle.net_plan.specs.declared.ids.DeviceId.{DeviceId}
+use Rattle.net_plan.specs.declared.ids.LinkId.{LinkId}
+use Rattle.net_plan.specs.declared.network.Network.{Network}
+use Rattle.net_plan.specs.declared.tables.Device.{Device}
+use Rattle.net_plan.specs.declared.tables.Link.{Link}
+use Rattle.pcf_values.specs.declared.channel.Channel.{Channel}
+use Rattle.pcf_values.specs.declared.channel.Channel.TheVariants.{A}
+use Rattle.schedule_tables.specs.Rules.{KeepsRules}
+use Rattle.schedule_tables.specs.declared.rule.Rule.TheVariants.{Masters}
+use Rattle.storm.specs.Striking.{IsMaster}
+use Rattle.storm.proofs.Masters.{master_uplink, master_within}
+
+-- where some elements of a list pass a test, one stands at a place of it
+pub one_counted : {X : Type 0} (p : X → Bool) (xs : List X) → 0 < count_by p xs → (k : ℕ) × (x : X) × (slice_get xs k ≡ Some x) × (p x ≡ true)
+one_counted p [] some = absurd (omega (arith, some))
+one_counted {X} p (x ∷ xs) some =
+    let parts = sum_by-cons (λ x. cond (p x) 1 0) x xs in
+    elim (cases_Bool (p x)) [
+      | inl here ↦ (zero, x, refl, here)
+      | inr other ↦
+          let less = ap (λ (b : Bool). cond b 1 0 + count_by p xs) other in
+          let rest = one_counted p xs (omega (arith, some, parts, less)) in
+          (suc rest.0, rest.1, rest.2, rest.3)
+    ]
+
+-- a network that keeps the rules has a master
+pub some_master : (network : Network) → KeepsRules network → (device : DeviceId) × IsMaster network device
+some_master network rules =
+    let least = (rules Masters 0).least refl in
+    let count = length-filter (λ (d : Device). is_master d.role) network.device in
+    let one = one_counted (λ (d : Device). is_master d.role) network.device (omega (arith, least, count)) in
+    (record { 0 = one.0 }, rw one.2 one.3)
+
+-- it has devices
+pub some_device : (network : Network) → KeepsRules network → 0 < length network.device
+some_device network rules =
+    let one = some_master network rules in
+    omega (arith, master_within network one.0 one.1)
+
+some_link_found : (o : Option Link) (P : Link → Type 0) → IsSomeAnd o P → (l : Link) × (o ≡ Some l)
+some_link_found None P is = absurd is
+some_link_found (Some l) P is = (l, refl)
+
+link_within : (network : Network) (link : LinkId) (P : Link → Type 0) → IsSomeAnd (link_at network link) P → link.0 < length network.link
+link_within network link P there =
+    let found = some_link_found (link_at network link) P there in
+    slice_get_within network.link link.0 found.0 found.1
+
+-- an uplink is a link of the network
+pub uplink_within : (network : Network) (device : DeviceId) (link : LinkId) (channel : Channel) → IsUplink network channel device link
+    → link.0 < length network.link
+uplink_within network device link channel up = link_within network link _ up
+
+-- it has links
+pub some_link : (network : Network) → KeepsRules network → 0 < length network.link
+some_link network rules =
+    let one = some_master network rules in
+    let up = master_uplink network one.0 A rules one.1 in
+    omega (arith, uplink_within network one.0 up.0 A up.1)

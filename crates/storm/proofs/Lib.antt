@@ -1,0 +1,7 @@
+pub mod Masters
+pub mod Belongings
+pub mod Drawing
+pub mod Within
+pub mod SameOctets
+pub mod Storms
+pub mod OneStorm

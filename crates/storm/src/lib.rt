@@ -1,0 +1,16 @@
+//! The hostile events of a storm. They are drawn from a number, and each is within the fault
+//! hypothesis.
+#![tactic(auto)]
+
+mod chosen;
+mod draw;
+mod laws;
+mod storm;
+mod strike;
+mod words;
+
+pub use laws::{storm_is_one, storms_are_within};
+pub use storm::Storm;
+
+#[cfg(test)]
+mod tests;
