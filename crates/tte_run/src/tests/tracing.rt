@@ -85,7 +85,7 @@ fn a_trace_ends_or_is_refused_at_a_line(rt: HostRuntime) -> Result<(), Fail> {
             refused(2, TraceFault::Event(Outside::Channel)),
         ),
         (b"65535999999 end\n", (1, None)),
-        (b"65536000000 end\n", refused(0, TraceFault::Early)),
+        (b"65536000000 end\n", (1, None)),
     ];
     for (text, wanted) in &cases {
         try_trace(&rt, alloc, &accepted, text, *wanted)?;
