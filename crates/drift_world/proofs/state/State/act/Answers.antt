@@ -74,8 +74,8 @@ rekey-requires-clause-running g c =
     (still g.C.Clock.last_step g.C.Clock.reading g.M.Machine.stands c.args.network.now w c.act_first-done.new.self c.args.device
     c.act_first-done.result r.well r.room r.foremost r.first step.stands step.err)
 
-pub returns : goal.returns
-returns g c =
+pub returns-clause-step : goal.returns-clause-step
+returns-clause-step g c =
     let w = c.args.self.now in
     let r = c.requires in
     let there = r.foremost.there in

@@ -39,8 +39,8 @@ rekey-requires-clause-running g c =
     (λ s notes old. (step.stands c.args.one there.there s notes old
     (comes_first g.C.Clock.last_step g.C.Clock.reading g.M.Machine.stands c.args.network.now w (Ripening c.args.index c.args.one) s notes r.well.sound r.room r.foremost r.first tt old)).0)
 
-pub returns : goal.returns
-returns g c =
+pub returns-clause-step : goal.returns-clause-step
+returns-clause-step g c =
     let w = c.args.self.now in
     let r = c.requires in
     let there = r.foremost.there in

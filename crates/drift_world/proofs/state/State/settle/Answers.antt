@@ -6,8 +6,8 @@ use Rattle.drift_world.specs.Views.{world_of}
 use Rattle.drift_world.specs.declared.state.State.{State}
 use Rattle.world_law.specs.world.World.{Stands, World}
 
-pub returns : goal.returns
-returns g c =
+pub returns-clause-step : goal.returns-clause-step
+returns-clause-step g c =
     let w = c.args.self.now in
     let r = c.requires in
     let step = c.settle_befallen.ensures in

@@ -9,8 +9,8 @@ use Rattle.drift_world.specs.Views.{world_of}
 use Rattle.world_law.specs.world.Steps.{ComesFirst}
 use Rattle.world_law.specs.world.World.{clock_place}
 
-pub returns : goal.returns
-returns g c =
+pub returns-clause-step : goal.returns-clause-step
+returns-clause-step g c =
     let w = c.args.self.now in
     let r = c.requires in
     let step = c.show_clock.ensures in
