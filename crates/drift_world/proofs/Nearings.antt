@@ -241,6 +241,66 @@ module _ {C M : Type 0} (last_step : C → ℕ) (reading : C → ℕ → ℕ) (s
       plus : (t c d : ℕ) → t ≡ time → c ≡ d → (until - t) + c < (until - old.time) + d
       plus t c d e f = omega (arith, e, f, later, within)
 
+-- ---- each kind of source
+
+-- where timers are set then, no more is to work off
+rekeyed_less : {C M : Type 0} (network : Network) (old mid new : State C M) → burden network mid < burden network old
+    → new ≡ record mid { timers = new.timers } → IsLess network old new
+rekeyed_less network old mid new less same =
+    inl (subst (λ (n : ℕ). n < burden network old) (sym (ap (λ (t : State _ _). burden network t) same)) less)
+
+pub settled_less : {C M : Type 0} (network : Network) (old new : State C M) → old.pending ≡ true → new.pending ≡ false
+    → length new.befell.items + length new.under_way.entries ≤ length old.befell.items + length old.under_way.entries
+    → new ≡ record old {
+      under_way = new.under_way;
+      befell = new.befell;
+      settled = new.settled;
+      early = new.early;
+      pending = new.pending;
+    } → IsLess network old new
+settled_less network old new was is most same =
+    let weight : Bool → ℕ = λ b. if b then 1 else 0 in
+    let none : weight new.pending ≡ 0 = ap weight is in
+    let one : weight old.pending ≡ 1 = ap weight was in
+    let waiting : length new.waiting.items ≡ length old.waiting.items = ap (λ (t : State _ _). length t.waiting.items) same in
+    let shown : length network.device - new.shown ≡ length network.device - old.shown =
+    ap (λ (t : State _ _). length network.device - t.shown) same in
+    inl (omega (arith, none, one, waiting, shown, most))
+
+pub arrived_less : {C M : Type 0} (network : Network) (old mid new : State C M)
+    → mid ≡ record old { machines = mid.machines; under_way = mid.under_way; settled = mid.settled; early = false }
+    → length old.under_way.entries ≡ length mid.under_way.entries + 1 → new ≡ record mid { timers = new.timers } → IsLess network old new
+arrived_less network old mid new acted shorter same =
+    let sum = ap (λ (t : State _ _). burden network t) acted in
+    rekeyed_less network old mid new (omega (arith, sum, shorter)) same
+
+pub ripened_less : {C M : Type 0} (network : Network) (old mid new : State C M)
+    → mid ≡ record old { early = false; machines = mid.machines; waiting = mid.waiting; settled = mid.settled }
+    → length old.waiting.items ≡ length mid.waiting.items + 1 → new ≡ record mid { timers = new.timers } → IsLess network old new
+ripened_less network old mid new acted shorter same =
+    let sum = ap (λ (t : State _ _). burden network t) acted in
+    rekeyed_less network old mid new (omega (arith, sum, shorter)) same
+
+pub departed_less : {C M : Type 0} (network : Network) (old new : State C M)
+    → new ≡ record old { early = false; under_way = new.under_way; settled = new.settled }
+    → length old.under_way.entries ≡ length new.under_way.entries + 1 → IsLess network old new
+departed_less network old new acted shorter =
+    let sum = ap (λ (t : State _ _). burden network t) acted in inl (omega (arith, sum, shorter))
+
+pub shown_less : {C M : Type 0} (network : Network) (old new : State C M)
+    → new ≡ record old { early = false; settled = new.settled; shown = old.shown + 1 } → old.shown < length network.device → IsLess network old new
+shown_less network old new acted more =
+    let sum = ap (λ (t : State _ _). burden network t) acted in inl (omega (arith, sum, more))
+
+-- what follows from the clauses of a result that is right
+pub on_ok : {A E : Type 0} (result : Result A E) (P R : Type 0) → OnOk result P → (P → R) → OnOk result R
+on_ok (Ok a) P R p f = f p
+on_ok (Err e) P R p f = tt
+
+pub on_both : {A E : Type 0} (result : Result A E) (P Q R : Type 0) → OnOk result P → OnOk result Q → (P → Q → R) → OnOk result R
+on_both (Ok a) P Q R p q f = f p q
+on_both (Err e) P Q R p q f = tt
+
 -- ---- turns
 
 -- a record that is given asks for no more
@@ -248,3 +308,12 @@ pub gave_nears : {C M : Type 0} (network : Network) (until : ℕ) (old new : Sta
 gave_nears network until old new (Gives note) gives = tt
 gave_nears network until old new Ends gives = tt
 gave_nears network until old new GoesOn gives = absurd gives
+
+-- what nears a state with more room nears the state before it
+pub nears_then : {C M : Type 0} (E : Type 0) (network : Network) (until : ℕ) (old mid new : State C M) (result : Result Turn E)
+    → mid ≡ record old { settled = mid.settled } → IfOk result (Nears network until mid new) → IfOk result (Nears network until old new)
+nears_then E network until old mid new (Ok (Gives note)) same nears = tt
+nears_then E network until old mid new (Ok Ends) same nears = tt
+nears_then E network until old mid new (Ok GoesOn) same nears =
+    subst (λ (n : ℕ). distance network until new < n) (ap (λ (t : State _ _). distance network until t) same) nears
+nears_then E network until old mid new (Err e) same nears = tt
