@@ -45,6 +45,8 @@ impl<C: Clock, M: Machine + Drop> State<C, M> {
     ghost use Rattle.tte_units.specs.Amount.{units_of};
 
     /// The next record before a time, if one is due before it.
+    ///
+    /// Each turn that goes on comes nearer to the time: time passes, or there is less to work off at the instant.
     pub fn next(&mut self, network: &Network, until: u64) -> Result<Option<Note>, OutOfMemory>
         requires range { IsInRange network.now }
         requires well { IsWell C.last_step C.reading M.stands network.now self.old }
