@@ -1,7 +1,7 @@
 -- A world comes nearer to a time, turn by turn.
-use Rattle.std.proofs.Common.{◌≡◌, ◌⊎◌, ℕ, zero, suc, ◌+◌, ◌-◌, ◌*◌, ◌<◌, ◌≤◌, ◌^◌, pos, ◌<ℤ◌, ◌≤ℤ◌, Bool, true, false, List, [], ◌∷◌, All, drop, length, Option, Some, None, Result, Ok, Err, slice_get, inl, inr, refl, sym, ap, subst, ◌∙◌, arith}
+use Rattle.std.proofs.Common.{◌≡◌, ℕ, zero, suc, ◌+◌, ◌-◌, ◌*◌, ◌<◌, ◌≤◌, pos, ◌≤ℤ◌, Bool, true, false, List, [], ◌∷◌, drop, length, Option, Some, None, Result, Ok, Err, slice_get, inl, inr, refl, sym, ap, subst, ◌∙◌, arith}
 use Rattle.std.specs.Prelude.{IfOk, OnOk, nat_lt, if◌then◌else◌}
-use Rattle.std.proofs.lemmas.Bool.{cases_eq, cases_lt, le-ltb, lt-ltb}
+use Rattle.std.proofs.lemmas.Bool.{cases_lt, le-ltb, lt-ltb}
 use Rattle.std.proofs.lemmas.Int.{ints}
 use Rattle.std.proofs.lemmas.List.{length-drop}
 use Rattle.std.proofs.lemmas.Option.{get_or_from_slice_get, slice_get_within}
@@ -14,14 +14,13 @@ use Rattle.run_law.specs.machines.Nodes.{Node}
 use Rattle.run_law.specs.machines.Tasks.{IsPending, reading_for}
 use Rattle.drift_world.proofs.Foremost.{node_of}
 use Rattle.drift_world.proofs.Showings.{shows_of}
-use Rattle.drift_world.specs.Befalling.{AreSettledBy, entry_of, record_of}
+use Rattle.drift_world.specs.Befalling.{AreSettledBy, entry_of}
 use Rattle.drift_world.specs.Giving.{IsPutOn}
 use Rattle.drift_world.specs.Keeping.{keeps}
 use Rattle.drift_world.specs.Nearing.{IsIdleAt, IsLess, Nears, acting, burden, come, distance}
 use Rattle.drift_world.specs.Sourcing.{AreTimed}
-use Rattle.drift_world.specs.Stepping.{IsRunning, IsTimed}
-use Rattle.drift_world.specs.Turns.{GivesAt, IsActive}
-use Rattle.drift_world.specs.Views.{world_of}
+use Rattle.drift_world.specs.Stepping.{IsRunning}
+use Rattle.drift_world.specs.Turns.{IsActive}
 use Rattle.drift_world.specs.Wells.{IsWell}
 use Rattle.drift_world.specs.declared.contents.Befallen.{Befallen}
 use Rattle.drift_world.specs.declared.contents.Content.{Content}
@@ -116,7 +115,6 @@ settled_length network broken ups time (b ∷ befell) settled after entries then
 
 -- ---- steps
 
--- an act leaves as much to work off, and its device has no more to do
 module _ {C M : Type 0} (last_step : C → ℕ) (reading : C → ℕ → ℕ) (stands : M → Network → DeviceId → Node → Type 0) (network : Network) where
   -- a device that is active is due by its timer
   act_due : (device : DeviceId) (old : State C M) → IsWell last_step reading stands network old → IsActive reading stands network old device
@@ -173,6 +171,7 @@ module _ {C M : Type 0} (last_step : C → ℕ) (reading : C → ℕ → ℕ) (s
       not_past state act slot are at =
           subst (λ (n : ℕ). state.time ≤ n) (get_or_from_slice_get state.timers slot act act at) (are.later slot act (slice_get_within _ _ _ at))
 
+  -- an act leaves as much to work off, and its device has no more to do
   pub act_less : (device : DeviceId) (old mid new : State C M) → IsWell last_step reading stands network old → IsActive reading stands network old device
       → mid ≡ record old { machines = mid.machines; early = mid.early; settled = mid.settled } → IsRunning reading stands network mid
       → new ≡ record mid { timers = new.timers }
@@ -194,6 +193,7 @@ module _ {C M : Type 0} (last_step : C → ℕ) (reading : C → ℕ → ℕ) (s
 
   -- ---- the distance
 
+  -- no more devices act than there are
   acting_most : (state : State C M) → IsWell last_step reading stands network state → acting network state ≤ length network.device
   acting_most state well =
       let most = come_most state.time (drop (length network.device) state.timers) in
@@ -249,6 +249,7 @@ rekeyed_less : {C M : Type 0} (network : Network) (old mid new : State C M) → 
 rekeyed_less network old mid new less same =
     inl (subst (λ (n : ℕ). n < burden network old) (sym (ap (λ (t : State _ _). burden network t) same)) less)
 
+-- the events of the instant are settled
 pub settled_less : {C M : Type 0} (network : Network) (old new : State C M) → old.pending ≡ true → new.pending ≡ false
     → length new.befell.items + length new.under_way.entries ≤ length old.befell.items + length old.under_way.entries
     → new ≡ record old {
@@ -267,6 +268,7 @@ settled_less network old new was is most same =
     ap (λ (t : State _ _). length network.device - t.shown) same in
     inl (omega (arith, none, one, waiting, shown, most))
 
+-- what is first on a wire arrives
 pub arrived_less : {C M : Type 0} (network : Network) (old mid new : State C M)
     → mid ≡ record old { machines = mid.machines; under_way = mid.under_way; settled = mid.settled; early = false }
     → length old.under_way.entries ≡ length mid.under_way.entries + 1 → new ≡ record mid { timers = new.timers } → IsLess network old new
@@ -274,6 +276,7 @@ arrived_less network old mid new acted shorter same =
     let sum = ap (λ (t : State _ _). burden network t) acted in
     rekeyed_less network old mid new (omega (arith, sum, shorter)) same
 
+-- a frame that waits is judged
 pub ripened_less : {C M : Type 0} (network : Network) (old mid new : State C M)
     → mid ≡ record old { early = false; machines = mid.machines; waiting = mid.waiting; settled = mid.settled }
     → length old.waiting.items ≡ length mid.waiting.items + 1 → new ≡ record mid { timers = new.timers } → IsLess network old new
@@ -281,12 +284,14 @@ ripened_less network old mid new acted shorter same =
     let sum = ap (λ (t : State _ _). burden network t) acted in
     rekeyed_less network old mid new (omega (arith, sum, shorter)) same
 
+-- the frame that is first at a port leaves
 pub departed_less : {C M : Type 0} (network : Network) (old new : State C M)
     → new ≡ record old { early = false; under_way = new.under_way; settled = new.settled }
     → length old.under_way.entries ≡ length new.under_way.entries + 1 → IsLess network old new
 departed_less network old new acted shorter =
     let sum = ap (λ (t : State _ _). burden network t) acted in inl (omega (arith, sum, shorter))
 
+-- a clock is shown
 pub shown_less : {C M : Type 0} (network : Network) (old new : State C M)
     → new ≡ record old { early = false; settled = new.settled; shown = old.shown + 1 } → old.shown < length network.device → IsLess network old new
 shown_less network old new acted more =
@@ -302,12 +307,6 @@ on_both (Ok a) P Q R p q f = f p q
 on_both (Err e) P Q R p q f = tt
 
 -- ---- turns
-
--- a record that is given asks for no more
-pub gave_nears : {C M : Type 0} (network : Network) (until : ℕ) (old new : State C M) (turn : Turn) → GivesAt old new turn → Nears network until old new turn
-gave_nears network until old new (Gives note) gives = tt
-gave_nears network until old new Ends gives = tt
-gave_nears network until old new GoesOn gives = absurd gives
 
 -- what nears a state with more room nears the state before it
 pub nears_then : {C M : Type 0} (E : Type 0) (network : Network) (until : ℕ) (old mid new : State C M) (result : Result Turn E)

@@ -1,5 +1,5 @@
 use Rattle.std.proofs.Common.{◌≡◌, List, [], ◌++◌, ap, refl, subst, sym, arith}
-use Rattle.drift_world.proofs.Nearings.{gave_nears, less_nears}
+use Rattle.drift_world.proofs.Nearings.{less_nears}
 use Rattle.drift_world.proofs.Turning.{none_given, none_settled, now_so, same_records}
 use Rattle.drift_world.specs.Keeping.{keeps}
 use Rattle.drift_world.specs.Turns.{SourceFirst}
