@@ -118,7 +118,7 @@ module _ {C M : Type 0} (reading : C → ℕ → ℕ) (stands : M → Network �
       subst (λ (p : Place). state.time ≤ p.at) first.at (entries_later are first.entry first.there)
 
   -- the node of a device's machine
-  node_of : (device : DeviceId) (machine : Kept M) → device.0 < length network.device → slice_get state.machines.items device.0 ≡ Some machine
+  pub node_of : (device : DeviceId) (machine : Kept M) → device.0 < length network.device → slice_get state.machines.items device.0 ≡ Some machine
       → (node : Node) × keeps stands machine network device node
   node_of device machine of_it held =
       let s = running.s in

@@ -33,6 +33,7 @@ pub mod LeastPoints
 pub mod Made
 pub mod Mapped
 pub mod MayGive
+pub mod Nearings
 pub mod Offs
 pub mod Onwards
 pub mod PutTo

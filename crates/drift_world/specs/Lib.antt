@@ -9,6 +9,7 @@ pub mod Hearing
 pub mod Keeping
 pub mod Leaving
 pub mod Naming
+pub mod Nearing
 pub mod Places
 pub mod Ripening
 pub mod Running

@@ -11,6 +11,7 @@ ghost use Rattle.schedule_tables.specs.Entries.{IsEntry};
 ghost use Rattle.schedule_tables.specs.declared.entry.Entry.{Entry as EntryValue};
 ghost use Rattle.drift_world.specs.Acting.{AreOutcomes, HasItsRow, IsDispatched, IsDueAt, IsHand, IsHeldIn, IsIdle, SettlesFrom, act_cursor, dispatched_by};
 ghost use Rattle.drift_world.specs.Keeping.{keeps};
+ghost use Rattle.drift_world.specs.Nearing.{IsIdleAt};
 ghost use Rattle.drift_world.specs.Places.{IsSomePut};
 ghost use Rattle.drift_world.specs.Showing.{IsOf};
 ghost use Rattle.drift_world.specs.Sound.{IsSized, IsSound};
@@ -226,6 +227,7 @@ impl<C: Clock, M: Machine + Drop> State<C, M> {
             → StandsBehind C.reading (keeps M.stands) s (world_of network.now self.new) notes
             (act_cursor result self.old.time device) }
         ensures due { result ≡ true → IsDueAt C.reading M.stands network.now self.new device }
+        ensures idle { result ≡ false → IsIdleAt C.reading M.stands network.now self.new device }
         ensures acted { (s : Scenario) (notes : List Note) (machine : KeptValue M)
             → Stands C.reading (keeps M.stands) s (world_of network.now self.old) notes
             → slice_get self.old.machines.items device.0 ≡ Some machine
@@ -294,6 +296,7 @@ impl<C: Clock, M: Machine + Drop> State<C, M> {
             → ComesFirst C.reading (keeps M.stands) s (world_of network.now self.old) notes old
             (act_place self.old.time device)
             → OnErr result (Stands C.reading (keeps M.stands) s (world_of network.now self.new) notes) }
+        ensures idle { OnOk result (IsIdleAt C.reading M.stands network.now self.new device) }
     {
         let mut acts: u32 = 0;
         'acts: loop {

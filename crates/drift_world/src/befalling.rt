@@ -222,6 +222,8 @@ impl<C: Clock, M: Machine + Drop> State<C, M> {
           pending = self.new.pending;
         } }
         ensures given { self.new.given ≡ self.old.given }
+        ensures no_more { OnOk result (length self.new.befell.items + length self.new.under_way.entries
+            ≤ length self.old.befell.items + length self.old.under_way.entries) }
     {
         let more = self.befell.len();
         if more as u64 >= u64::MAX - self.given {

@@ -31,6 +31,7 @@ impl<C: Clock, M: Machine + Drop> State<C, M> {
     ghost use Rattle.drift_world.specs.Keeping.{keeps};
     ghost use Rattle.drift_world.specs.Giving.{ArrivedAt, changed_device};
     ghost use Rattle.drift_world.specs.declared.state.State.{State as StateOf};
+    ghost use Rattle.drift_world.specs.Nearing.{IsLess, Nears};
     ghost use Rattle.drift_world.specs.Sound.{IsSized};
     ghost use Rattle.drift_world.specs.Sourcing.{AreTimed, HasNothingBefore};
     ghost use Rattle.drift_world.specs.Stepping.{ChangesOnly, IsRunning};
@@ -44,6 +45,8 @@ impl<C: Clock, M: Machine + Drop> State<C, M> {
     ghost use Rattle.tte_units.specs.Amount.{units_of};
 
     /// The next record before a time, if one is due before it.
+    ///
+    /// Each turn that goes on comes nearer to the time: time passes, or there is less to work off at the instant.
     pub fn next(&mut self, network: &Network, until: u64) -> Result<Option<Note>, OutOfMemory>
         requires range { IsInRange network.now }
         requires well { IsWell C.last_step C.reading M.stands network.now self.old }
@@ -60,7 +63,7 @@ impl<C: Clock, M: Machine + Drop> State<C, M> {
         ensures before { IfOk result (λ next. IfSome next (λ note. (note.time ≡ units_of self.new.time) × (note.time.0 <ℤ pos until))) }
         ensures given { IfOk result (λ next. IfSome next (λ _. self.new.given ≡ self.old.given + 1)) }
     {
-        'turns: for _ in 0..u64::MAX {
+        'turns: loop {
             match self.turn(network, until) {
                 Ok(Turn::Gives(note)) => return Ok(Some(note)),
                 Ok(Turn::Ends) => return Ok(None),
@@ -68,7 +71,6 @@ impl<C: Clock, M: Machine + Drop> State<C, M> {
                 Err(error) => return Err(error),
             }
         }
-        Err(OutOfMemory)
     }
 
     /// One turn: what is settled first is given, or what comes first is worked off, or time passes.
@@ -85,6 +87,7 @@ impl<C: Clock, M: Machine + Drop> State<C, M> {
         ensures whole { (s : Scenario) (notes : List NoteOf) → Stands C.reading (keeps M.stands) s (world_of network.now self.old) notes
             → IfOk result (λ turn. IsWhole s notes until turn) }
         ensures says { IfOk result (λ turn. TurnSays self.old self.new until turn) }
+        ensures nears { IfOk result (λ turn. Nears network.now until self.old self.new turn) }
     {
         if let Err(error) = self.make_places() {
             return Err(error);
@@ -107,6 +110,7 @@ impl<C: Clock, M: Machine + Drop> State<C, M> {
         ensures whole { (s : Scenario) (notes : List NoteOf) → Stands C.reading (keeps M.stands) s (world_of network.now self.old) notes
             → IfOk result (λ turn. IsWhole s notes until turn) }
         ensures says { IfOk result (λ turn. TurnSays self.old self.new until turn) }
+        ensures nears { IfOk result (λ turn. Nears network.now until self.old self.new turn) }
     {
         let source = self.first_source(network, until);
         if self.has_first(&source) {
@@ -204,6 +208,7 @@ impl<C: Clock, M: Machine + Drop> State<C, M> {
         ensures whole { (s : Scenario) (notes : List NoteOf) → Stands C.reading (keeps M.stands) s (world_of network.now self.old) notes
             → IsWhole s notes until result }
         ensures says { PassSays self.old self.new until result }
+        ensures nears { Nears network.now until self.old self.new result }
     {
         if self.ended || time > LAST {
             return Turn::Ends;
@@ -224,7 +229,8 @@ impl<C: Clock, M: Machine + Drop> State<C, M> {
         requires foremost { IsForemost C.reading M.stands network.now self.old source }
         requires first { SourceFirst self.old.settled.items source }
         requires present { IsNow source }
-        ensures { IsStep C.last_step C.reading M.stands network.now self.old self.new }
+        ensures step { IsStep C.last_step C.reading M.stands network.now self.old self.new }
+        ensures less { OnOk result (IsLess network.now self.old self.new) }
     {
         match source {
             Source::Events => self.settle(network),

@@ -1,3 +1,4 @@
+ghost use Rattle.std.specs.Prelude.{OnOk};
 ghost use Rattle.net_plan.specs.Ranges.{IsInRange};
 
 use crate::OutOfMemory;
@@ -9,6 +10,7 @@ use net_plan::{DeviceId, Network};
 use run_law::Machine;
 
 impl<C: Clock, M: Machine + Drop> State<C, M> {
+    ghost use Rattle.drift_world.specs.Nearing.{IsLess};
     ghost use Rattle.drift_world.specs.Turns.{HasRoom, IsForemost, IsStep, SourceFirst};
     ghost use Rattle.drift_world.specs.Wells.{IsWell};
     ghost use Rattle.drift_world.specs.declared.source.Source.{Source};
@@ -20,7 +22,8 @@ impl<C: Clock, M: Machine + Drop> State<C, M> {
         requires room { HasRoom self.old }
         requires foremost { IsForemost C.reading M.stands network.now self.old (Source.Events) }
         requires first { SourceFirst self.old.settled.items (Source.Events) }
-        ensures { IsStep C.last_step C.reading M.stands network.now self.old self.new }
+        ensures step { IsStep C.last_step C.reading M.stands network.now self.old self.new }
+        ensures less { OnOk result (IsLess network.now self.old self.new) }
     {
         self.settle_befallen(network)
     }
@@ -32,7 +35,8 @@ impl<C: Clock, M: Machine + Drop> State<C, M> {
         requires room { HasRoom self.old }
         requires foremost { IsForemost C.reading M.stands network.now self.old (Source.Arrival place) }
         requires first { SourceFirst self.old.settled.items (Source.Arrival place) }
-        ensures { IsStep C.last_step C.reading M.stands network.now self.old self.new }
+        ensures step { IsStep C.last_step C.reading M.stands network.now self.old self.new }
+        ensures less { IsLess network.now self.old self.new }
     {
         self.hear_first(network, place);
         self.rekey(network, place.device);
@@ -45,7 +49,8 @@ impl<C: Clock, M: Machine + Drop> State<C, M> {
         requires room { HasRoom self.old }
         requires foremost { IsForemost C.reading M.stands network.now self.old (Source.Ripening index one) }
         requires first { SourceFirst self.old.settled.items (Source.Ripening index one) }
-        ensures { IsStep C.last_step C.reading M.stands network.now self.old self.new }
+        ensures step { IsStep C.last_step C.reading M.stands network.now self.old self.new }
+        ensures less { IsLess network.now self.old self.new }
     {
         self.ripen_first(network, index);
         self.rekey(network, one.device.0);
@@ -58,7 +63,8 @@ impl<C: Clock, M: Machine + Drop> State<C, M> {
         requires room { HasRoom self.old }
         requires foremost { IsForemost C.reading M.stands network.now self.old (Source.Act device) }
         requires first { SourceFirst self.old.settled.items (Source.Act device) }
-        ensures { IsStep C.last_step C.reading M.stands network.now self.old self.new }
+        ensures step { IsStep C.last_step C.reading M.stands network.now self.old self.new }
+        ensures less { OnOk result (IsLess network.now self.old self.new) }
     {
         let done = self.act_first(network, device);
         self.rekey(network, device.0);
@@ -72,7 +78,8 @@ impl<C: Clock, M: Machine + Drop> State<C, M> {
         requires room { HasRoom self.old }
         requires foremost { IsForemost C.reading M.stands network.now self.old (Source.Departure place) }
         requires first { SourceFirst self.old.settled.items (Source.Departure place) }
-        ensures { IsStep C.last_step C.reading M.stands network.now self.old self.new }
+        ensures step { IsStep C.last_step C.reading M.stands network.now self.old self.new }
+        ensures less { IsLess network.now self.old self.new }
     {
         self.leave_first(network, place);
     }
@@ -84,7 +91,8 @@ impl<C: Clock, M: Machine + Drop> State<C, M> {
         requires room { HasRoom self.old }
         requires foremost { IsForemost C.reading M.stands network.now self.old (Source.Clock device) }
         requires first { SourceFirst self.old.settled.items (Source.Clock device) }
-        ensures { IsStep C.last_step C.reading M.stands network.now self.old self.new }
+        ensures step { IsStep C.last_step C.reading M.stands network.now self.old self.new }
+        ensures less { IsLess network.now self.old self.new }
     {
         self.show_clock(network);
     }

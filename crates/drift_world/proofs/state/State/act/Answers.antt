@@ -19,6 +19,7 @@ use Rattle.drift_world.specs.declared.state.State.{State}
 use Rattle.world_law.proofs.giving.Given.{some_same}
 use Rattle.world_law.specs.world.Steps.{ComesFirst, StandsBehind}
 use Rattle.world_law.specs.world.World.{Stands, act_place}
+use Rattle.drift_world.proofs.Nearings.{act_less, on_ok}
 
 -- where one of these clauses holds for each result, what is said of all of them does
 either_way : {A E : Type 0} (result : Result A E) (P Q R : Type 0) → IfOk result (λ done. P) → OnErr result Q → (P → R) → (Q → R) → R
@@ -74,8 +75,8 @@ rekey-requires-clause-running g c =
     (still g.C.Clock.last_step g.C.Clock.reading g.M.Machine.stands c.args.network.now w c.act_first-done.new.self c.args.device
     c.act_first-done.result r.well r.room r.foremost r.first step.stands step.err)
 
-pub returns : goal.returns
-returns g c =
+pub returns-clause-step : goal.returns-clause-step
+returns-clause-step g c =
     let w = c.args.self.now in
     let r = c.requires in
     let there = r.foremost.there in
@@ -86,3 +87,16 @@ returns g c =
     (still g.C.Clock.last_step g.C.Clock.reading g.M.Machine.stands c.args.network.now w c.act_first-done.new.self c.args.device
     c.act_first-done.result r.well r.room r.foremost r.first step.stands step.err)
     keyed.same keyed.timed keyed.sized keyed.others keyed.later
+
+pub returns-clause-less : goal.returns-clause-less
+returns-clause-less g c =
+    let w = c.args.self.now in
+    let r = c.requires in
+    let step = c.act_first-done.ensures in
+    on_ok c.act_first-done.result _ _ step.idle
+    (act_less g.C.Clock.last_step g.C.Clock.reading g.M.Machine.stands c.args.network.now c.args.device w c.act_first-done.new.self
+    c.rekey.new.self r.well r.foremost.there step.same
+    (runs_on g.C.Clock.last_step g.C.Clock.reading g.M.Machine.stands c.args.network.now w c.act_first-done.new.self r.well.running
+    (still g.C.Clock.last_step g.C.Clock.reading g.M.Machine.stands c.args.network.now w c.act_first-done.new.self c.args.device
+    c.act_first-done.result r.well r.room r.foremost r.first step.stands step.err))
+    c.rekey.ensures.same c.rekey.ensures.others (returns-clause-step g c).well)

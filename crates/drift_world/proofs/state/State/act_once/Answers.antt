@@ -198,3 +198,12 @@ returns-clause-acted g c = λ s notes machine old there.
           (subst (λ (m : Moment). HasActed (keeps stands) s.network device m c.in-Some.act c.index_mut.result.now after) (c.moment_at-moment.ensures s of)
           (c.in-Some.ensures.acted s.network device)),
     )
+
+pub returns-in_default-clause-idle : goal.returns-in_default-clause-idle
+returns-in_default-clause-idle g c =
+    let w = c.args.self.now in
+    let lt = c.requires.there in
+    let many = c.requires.sound.sized.machines in
+    absurd (never_broken g.C.Clock.reading g.M.Machine.stands c.args.network.now w c.args.device c.index_mut.result.now lt
+    (slice_get_read w.machines.items (length w.machines.items) c.args.device.0 c.index_mut.result.now refl (omega (arith, lt, many)) c.index_mut.ensures.value)
+    c.requires.due c.requires.comes c.in_default.ensures.none)

@@ -3,6 +3,7 @@ use Rattle.drift_world.specs.declared.source.Source.TheVariants.{Arrival}
 use Rattle.drift_world.specs.declared.state.State.{State}
 use Rattle.drift_world.proofs.Turning.{comes_first, is_at, rekeyed_step, runs_on}
 use Rattle.drift_world.proofs.state.State.arrive.Goals as goal
+use Rattle.drift_world.proofs.Nearings.{arrived_less}
 
 pub hear_first-requires-clause-comes : goal.hear_first-requires-clause-comes
 hear_first-requires-clause-comes g c =
@@ -18,8 +19,8 @@ rekey-requires-clause-running g c =
     (λ s notes old. (step.stands s notes old
     (comes_first g.C.Clock.last_step g.C.Clock.reading g.M.Machine.stands c.args.network.now w (Arrival c.args.place) s notes r.well.sound r.room r.foremost r.first tt old)).0)
 
-pub returns : goal.returns
-returns g c =
+pub returns-clause-step : goal.returns-clause-step
+returns-clause-step g c =
     let w = c.args.self.now in
     let r = c.requires in
     let step = c.hear_first.ensures in
@@ -29,3 +30,8 @@ returns g c =
     (λ s notes old. (step.stands s notes old
     (comes_first g.C.Clock.last_step g.C.Clock.reading g.M.Machine.stands c.args.network.now w (Arrival c.args.place) s notes r.well.sound r.room r.foremost r.first tt old)).0)
     keyed.same keyed.timed keyed.sized keyed.others keyed.later
+
+pub returns-clause-less : goal.returns-clause-less
+returns-clause-less g c =
+    let step = c.hear_first.ensures in
+    arrived_less c.args.network.now c.args.self.now c.hear_first.new.self c.rekey.new.self step.same step.shorter c.rekey.ensures.same

@@ -1,7 +1,8 @@
 use Rattle.std.proofs.Common.{◌≡◌, ℕ, ◌+◌, List, [], ◌++◌, Ok, ap, append-nil, arith, refl, subst, sym, ◌∙◌}
-use Rattle.drift_world.proofs.Turning.{after_then, same_records}
+use Rattle.drift_world.proofs.Turning.{after_then}
 use Rattle.run_law.specs.declared.note.Note.{Note}
 use Rattle.drift_world.specs.Keeping.{keeps}
+use Rattle.drift_world.specs.Nearing.{Nears}
 use Rattle.drift_world.specs.Turns.{IsWhole, TurnSays, given_in}
 use Rattle.drift_world.specs.declared.memory.OutOfMemory.{OutOfMemory}
 use Rattle.drift_world.specs.declared.next.Turn.{Turn}
@@ -82,12 +83,5 @@ turns-preserved g c =
       given = says.1 ∙ before.given;
     }
 
-pub returns-clause-well : goal.returns-clause-well
-returns-clause-well g c = c.turns.invariant.well
-
-pub returns-clause-after : goal.returns-clause-after
-returns-clause-after g c = c.turns.invariant.after
-
-pub returns-clause-stands : goal.returns-clause-stands
-returns-clause-stands g c = λ s notes is.
-    same_records g.C.Clock.reading (keeps g.M.Machine.stands) s (world_of c.args.network.now c.turns.self) notes [] refl (c.turns.invariant.still s notes is)
+pub turns-smaller : goal.turns-smaller
+turns-smaller g c = subst (Nears c.args.network.now c.args.until c.turns.self c.turn.new.self) c.in-Ok-GoesOn.field-0-is c.in-Ok-GoesOn.ensures.nears

@@ -1,6 +1,7 @@
 use Rattle.std.proofs.Common.{◌≡◌, ◌⊎◌, ◌<◌, ◌≤◌, ◌+◌, ◌^◌, ℕ, List, [], ◌∷◌, arith, false, inl, inr, subst, sym, true}
 use Rattle.run_law.specs.runs.DueRecords.{IsScenarioRun}
 use Rattle.drift_world.proofs.Sources.{of_world}
+use Rattle.drift_world.proofs.Nearings.{passing_nears}
 use Rattle.drift_world.proofs.Turning.{passes, whole_run}
 use Rattle.drift_world.specs.Sourcing.{HasNothingBefore}
 use Rattle.drift_world.proofs.state.State.pass_on.Goals as goal
@@ -55,3 +56,9 @@ returns-else-time-until-clause-whole g c = λ s notes old.
     let at : c.args.time ≡ c.args.until = omega (arith, within, not_less) in
     subst (λ (t : ℕ). IsScenarioRun s (t ∷ []) notes) at
     (whole_run g.C.Clock.last_step g.C.Clock.reading g.M.Machine.stands c.args.network.now c.args.self.now s notes c.args.time r.well.sound r.nothing r.empty r.later old)
+
+pub returns-then-time-until-clause-nears : goal.returns-then-time-until-clause-nears
+returns-then-time-until-clause-nears g c =
+    let r = c.requires in
+    passing_nears g.C.Clock.last_step g.C.Clock.reading g.M.Machine.stands c.args.network.now c.args.until c.args.time _ c.args.self.now c.pass_to.new.self
+    (returns-then-time-until-clause-well g c) c.pass_to.ensures.same r.later r.within

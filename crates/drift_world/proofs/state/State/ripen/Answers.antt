@@ -10,6 +10,7 @@ use Rattle.drift_world.specs.Views.{waiting_as}
 use Rattle.drift_world.specs.declared.contents.Waits.{Waits}
 use Rattle.world_law.proofs.giving.Given.{some_same}
 use Rattle.world_law.specs.world.World.{ripe_place}
+use Rattle.drift_world.proofs.Nearings.{ripened_less}
 
 pub ripen_first-requires-clause-there : goal.ripen_first-requires-clause-there
 ripen_first-requires-clause-there g c = slice_get_within _ _ _ c.requires.foremost.there.there
@@ -39,8 +40,8 @@ rekey-requires-clause-running g c =
     (λ s notes old. (step.stands c.args.one there.there s notes old
     (comes_first g.C.Clock.last_step g.C.Clock.reading g.M.Machine.stands c.args.network.now w (Ripening c.args.index c.args.one) s notes r.well.sound r.room r.foremost r.first tt old)).0)
 
-pub returns : goal.returns
-returns g c =
+pub returns-clause-step : goal.returns-clause-step
+returns-clause-step g c =
     let w = c.args.self.now in
     let r = c.requires in
     let there = r.foremost.there in
@@ -51,3 +52,8 @@ returns g c =
     (λ s notes old. (step.stands c.args.one there.there s notes old
     (comes_first g.C.Clock.last_step g.C.Clock.reading g.M.Machine.stands c.args.network.now w (Ripening c.args.index c.args.one) s notes r.well.sound r.room r.foremost r.first tt old)).0)
     keyed.same keyed.timed keyed.sized keyed.others keyed.later
+
+pub returns-clause-less : goal.returns-clause-less
+returns-clause-less g c =
+    let step = c.ripen_first.ensures in
+    ripened_less c.args.network.now c.args.self.now c.ripen_first.new.self c.rekey.new.self step.same step.shorter c.rekey.ensures.same

@@ -5,9 +5,10 @@ use Rattle.drift_world.specs.Keeping.{keeps}
 use Rattle.drift_world.specs.Views.{world_of}
 use Rattle.drift_world.specs.declared.state.State.{State}
 use Rattle.world_law.specs.world.World.{Stands, World}
+use Rattle.drift_world.proofs.Nearings.{on_both, settled_less}
 
-pub returns : goal.returns
-returns g c =
+pub returns-clause-step : goal.returns-clause-step
+returns-clause-step g c =
     let w = c.args.self.now in
     let r = c.requires in
     let step = c.settle_befallen.ensures in
@@ -17,3 +18,10 @@ returns g c =
     (λ s notes old. either_end c.settle_befallen.result _ _ (Stands g.C.Clock.reading (keeps g.M.Machine.stands) s after notes)
     (step.stands s notes old) step.err (λ is. is.0)
     (λ same. subst (λ (v : World _ _). Stands g.C.Clock.reading (keeps g.M.Machine.stands) s v notes) (sym same) old))
+
+pub returns-clause-less : goal.returns-clause-less
+returns-clause-less g c =
+    let w = c.args.self.now in
+    let step = c.settle_befallen.ensures in
+    on_both c.settle_befallen.result _ _ _ step.done step.no_more
+    (λ done most. settled_less c.args.network.now w c.settle_befallen.new.self c.requires.foremost.there done most step.same)

@@ -1,9 +1,10 @@
-use Rattle.std.proofs.Common.{◌+◌, All, arith, subst, sym}
+use Rattle.std.proofs.Common.{◌≡◌, ◌+◌, All, ap, arith, length, subst, sym}
 use Rattle.drift_world.specs.Keeping.{keeps}
 use Rattle.drift_world.specs.Sound.{AreBelow, AreUnderWay}
 use Rattle.drift_world.proofs.BefallenLaws.{all_fresh, befallen_behind, numbers_given, octets_settled}
 use Rattle.drift_world.proofs.Befallings.{settled_with, sound_settled}
 use Rattle.drift_world.proofs.Fits.{have_octets}
+use Rattle.drift_world.proofs.Nearings.{settled_length}
 use Rattle.drift_world.proofs.state.State.settle_befallen.Goals as goal
 
 pub returns-in_err-make_room-clause-sound : goal.returns-in_err-make_room-clause-sound
@@ -87,3 +88,16 @@ returns-clause-stands g c = λ s notes old.
     let given = old.given in
     befallen_behind g.C.Clock.reading (keeps g.M.Machine.stands) s network w notes old c.requires.pending after.befell.items after.settled.items
     after.under_way.entries c.settle_all.ensures.none (omega (arith, few, len, own, given)) so
+
+pub returns-clause-no_more : goal.returns-clause-no_more
+returns-clause-no_more g c =
+    let w = c.args.self.now in
+    let network = c.args.network.now in
+    let after = c.settle_all.new in
+    let so = settled_with network c.as_slice.result.now w.broken.items c.as_slice-2.result.now w.ups.items w.time w.befell.items
+    c.make_room.new.settled.items w.settled.items after.settled.items c.make_room.new.under_way.entries w.under_way.entries after.under_way.entries
+    c.as_slice.ensures.value c.as_slice-2.ensures.value c.make_room.ensures.items c.make_room.ensures.entries c.settle_all.ensures.are in
+    let none : length after.befell.items ≡ 0 = ap length c.settle_all.ensures.none in
+    let most = settled_length network w.broken.items w.ups.items w.time w.befell.items w.settled.items after.settled.items w.under_way.entries
+    after.under_way.entries so in
+    omega (arith, none, most)

@@ -8,9 +8,11 @@ use Rattle.drift_world.specs.Keeping.{keeps}
 use Rattle.drift_world.specs.Views.{world_of}
 use Rattle.world_law.specs.world.Steps.{ComesFirst}
 use Rattle.world_law.specs.world.World.{clock_place}
+use Rattle.drift_world.proofs.Nearings.{shown_less}
+use Rattle.std.proofs.Common.{◌<◌, length}
 
-pub returns : goal.returns
-returns g c =
+pub returns-clause-step : goal.returns-clause-step
+returns-clause-step g c =
     let w = c.args.self.now in
     let r = c.requires in
     let step = c.show_clock.ensures in
@@ -20,3 +22,9 @@ returns g c =
     (subst (λ (n : ℕ). ComesFirst g.C.Clock.reading (keeps g.M.Machine.stands) s (world_of c.args.network.now w) notes old (clock_place w.time (record { 0 = n })))
     r.foremost.there.next
     (comes_first g.C.Clock.last_step g.C.Clock.reading g.M.Machine.stands c.args.network.now w (Clock c.args.device) s notes r.well.sound r.room r.foremost r.first tt old))).0)
+
+pub returns-clause-less : goal.returns-clause-less
+returns-clause-less g c =
+    let there = c.requires.foremost.there in
+    shown_less c.args.network.now c.args.self.now c.show_clock.new.self c.show_clock.ensures.same
+    (subst (λ (n : ℕ). n < length c.args.network.now.device) there.next there.more)

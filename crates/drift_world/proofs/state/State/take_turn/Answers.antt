@@ -1,4 +1,5 @@
 use Rattle.std.proofs.Common.{◌≡◌, List, [], ◌++◌, ap, refl, subst, sym, arith}
+use Rattle.drift_world.proofs.Nearings.{less_nears}
 use Rattle.drift_world.proofs.Turning.{none_given, none_settled, now_so, same_records}
 use Rattle.drift_world.specs.Keeping.{keeps}
 use Rattle.drift_world.specs.Turns.{SourceFirst}
@@ -32,7 +33,7 @@ work_off-requires g c =
 pub returns-in-Ok : goal.returns-in-Ok
 returns-in-Ok g c =
     let r = c.requires in
-    let step = c.work_off.ensures in
+    let step = c.work_off.ensures.step in
     let time = step.time in
     let early = r.open in
     record {
@@ -41,15 +42,18 @@ returns-in-Ok g c =
       stands = λ s notes old. same_records g.C.Clock.reading (keeps g.M.Machine.stands) s (world_of c.args.network.now c.work_off.new.self) notes [] refl (step.still s notes old);
       whole = λ s notes old. tt;
       says = (omega (arith, time, early), step.given);
+      nears = less_nears g.C.Clock.last_step g.C.Clock.reading g.M.Machine.stands c.args.network.now c.args.until c.args.self.now c.work_off.new.self step.well
+          step.time c.in-Ok.ensures.less;
     }
 
 pub returns-in-Err : goal.returns-in-Err
 returns-in-Err g c =
-    let step = c.work_off.ensures in
+    let step = c.work_off.ensures.step in
     record {
       well = step.well;
       after = step.after;
       stands = λ s notes old. same_records g.C.Clock.reading (keeps g.M.Machine.stands) s (world_of c.args.network.now c.work_off.new.self) notes [] refl (step.still s notes old);
       whole = λ s notes old. tt;
       says = tt;
+      nears = tt;
     }

@@ -1,4 +1,5 @@
 use Rattle.std.proofs.Common.{◌≡◌, List, [], ◌++◌, ap, arith, refl, sym, ◌∙◌}
+use Rattle.drift_world.proofs.Nearings.{nears_then}
 use Rattle.drift_world.proofs.Turning.{after_then, roomier, same_records, says_then}
 use Rattle.drift_world.specs.Keeping.{keeps}
 use Rattle.drift_world.specs.Views.{world_of}
@@ -15,6 +16,7 @@ returns-in-Err g c =
       stands = λ s notes is. same_records g.C.Clock.reading (keeps g.M.Machine.stands) s (world_of c.args.network.now c.make_places.new.self) notes [] refl (step.still s notes is);
       whole = λ s notes is. tt;
       says = tt;
+      nears = tt;
     }
 
 pub take_turn-requires : goal.take_turn-requires
@@ -45,4 +47,6 @@ returns g c =
       whole = λ s notes is. turn.whole s notes (step.still s notes is);
       says = says_then OutOfMemory c.args.self.now c.make_places.new.self c.take_turn.new.self c.args.until c.take_turn.result step.given step.after.ended
           turn.says;
+      nears = nears_then OutOfMemory c.args.network.now c.args.until c.args.self.now c.make_places.new.self c.take_turn.new.self c.take_turn.result
+          made.same turn.nears;
     }

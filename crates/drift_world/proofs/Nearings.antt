@@ -1,0 +1,318 @@
+-- A world comes nearer to a time, turn by turn.
+use Rattle.std.proofs.Common.{◌≡◌, ℕ, zero, suc, ◌+◌, ◌-◌, ◌*◌, ◌<◌, ◌≤◌, pos, ◌≤ℤ◌, Bool, true, false, List, [], ◌∷◌, drop, length, Option, Some, None, Result, Ok, Err, slice_get, inl, inr, refl, sym, ap, subst, ◌∙◌, arith}
+use Rattle.std.specs.Prelude.{IfOk, OnOk, nat_lt, if◌then◌else◌}
+use Rattle.std.proofs.lemmas.Bool.{cases_lt, le-ltb, lt-ltb}
+use Rattle.std.proofs.lemmas.Int.{ints}
+use Rattle.std.proofs.lemmas.List.{length-drop}
+use Rattle.std.proofs.lemmas.Option.{get_or_from_slice_get, slice_get_within}
+use Rattle.std.proofs.lemmas.List.Sorted.{length_permutation}
+use Rattle.std.proofs.Math.Nat.{mul-le-mul_right}
+use Rattle.due_queue.specs.declared.Entry.{Entry}
+use Rattle.net_plan.specs.declared.ids.DeviceId.{DeviceId}
+use Rattle.net_plan.specs.declared.network.Network.{Network}
+use Rattle.run_law.specs.machines.Nodes.{Node}
+use Rattle.run_law.specs.machines.Tasks.{IsPending, reading_for}
+use Rattle.drift_world.proofs.Foremost.{node_of}
+use Rattle.drift_world.proofs.Showings.{shows_of}
+use Rattle.drift_world.specs.Befalling.{AreSettledBy, entry_of}
+use Rattle.drift_world.specs.Giving.{IsPutOn}
+use Rattle.drift_world.specs.Keeping.{keeps}
+use Rattle.drift_world.specs.Nearing.{IsIdleAt, IsLess, Nears, acting, burden, come, distance}
+use Rattle.drift_world.specs.Sourcing.{AreTimed}
+use Rattle.drift_world.specs.Stepping.{IsRunning}
+use Rattle.drift_world.specs.Turns.{IsActive}
+use Rattle.drift_world.specs.Wells.{IsWell}
+use Rattle.drift_world.specs.declared.contents.Befallen.{Befallen}
+use Rattle.drift_world.specs.declared.contents.Content.{Content}
+use Rattle.drift_world.specs.declared.contents.Settled.{Settled}
+use Rattle.drift_world.specs.declared.contents.WayState.{WayState}
+use Rattle.drift_world.specs.declared.kept.Kept.{Kept}
+use Rattle.drift_world.specs.declared.next.Turn.TheVariants.{Gives, Ends, GoesOn}
+use Rattle.drift_world.specs.declared.next.Turn.{Turn}
+use Rattle.drift_world.specs.declared.state.State.{State}
+use Rattle.world_law.proofs.giving.Given.{some_same}
+
+-- ---- times that have come
+
+come_later : (now t : ℕ) (ts : List ℕ) → now < t → come now (t ∷ ts) ≡ come now ts
+come_later now t ts lt = ap (λ (b : Bool). if b then come now ts else come now ts + 1) (lt-ltb now t lt)
+
+come_now : (now t : ℕ) (ts : List ℕ) → t ≤ now → come now (t ∷ ts) ≡ come now ts + 1
+come_now now t ts le = ap (λ (b : Bool). if b then come now ts else come now ts + 1) (le-ltb now t le)
+
+-- no more than there are
+pub come_most : (now : ℕ) (ts : List ℕ) → come now ts ≤ length ts
+come_most now [] = omega arith
+come_most now (t ∷ ts) =
+    let rest = come_most now ts in
+    elim (cases_lt now t) [
+      | inl lt ↦ subst (λ (n : ℕ). n ≤ suc (length ts)) (sym (come_later now t ts lt)) (omega (arith, rest))
+      | inr le ↦ subst (λ (n : ℕ). n ≤ suc (length ts)) (sym (come_now now t ts le)) (omega (arith, rest))
+    ]
+
+-- as many, where the times are the same
+come_same : (now : ℕ) (xs ys : List ℕ) → ((j : ℕ) → slice_get ys j ≡ slice_get xs j) → come now ys ≡ come now xs
+come_same now [] [] same = refl
+come_same now [] (y ∷ ys) same = let e : Some y ≡ None = same 0 in absurd cc
+come_same now (x ∷ xs) [] same = let e : None ≡ Some x = same 0 in absurd cc
+come_same now (x ∷ xs) (y ∷ ys) same =
+    let head : y ≡ x = let e : Some y ≡ Some x = same 0 in cc in
+    ap (λ (t : ℕ). come now (t ∷ ys)) head ∙ ap (λ (n : ℕ). if nat_lt now x then n else n + 1) (come_same now xs ys (λ j. same (suc j)))
+
+-- one less, where one is later now that had come
+come_falls : (now : ℕ) (xs ys : List ℕ) (i a b : ℕ) → ((j : ℕ) → (j ≡ i → ⊥) → slice_get ys j ≡ slice_get xs j) → slice_get xs i ≡ Some a
+    → a ≤ now → slice_get ys i ≡ Some b → now < b → come now ys < come now xs
+come_falls now [] ys i a b same was le is lt = absurd cc
+come_falls now (x ∷ xs) [] i a b same was le is lt = absurd cc
+come_falls now (x ∷ xs) (y ∷ ys) zero a b same was le is lt =
+    let x_is : x ≡ a = let e : Some x ≡ Some a = was in cc in
+    let y_is : y ≡ b = let e : Some y ≡ Some b = is in cc in
+    let rest = come_same now xs ys (λ j. same (suc j) (λ e. omega (arith, e))) in
+    let before = come_now now x xs (omega (arith, x_is, le)) in
+    let after = come_later now y ys (omega (arith, y_is, lt)) in
+    subst (λ (n : ℕ). n < come now (x ∷ xs)) (sym (after ∙ rest)) (subst (λ (n : ℕ). come now xs < n) (sym before) (omega arith))
+come_falls now (x ∷ xs) (y ∷ ys) (suc i) a b same was le is lt =
+    let head : y ≡ x = let e : Some y ≡ Some x = same 0 (λ e. omega (arith, e)) in cc in
+    let rest = come_falls now xs ys i a b (λ j ne. same (suc j) (λ e. ne (omega (arith, e)))) was le is lt in
+    subst (λ (t : ℕ). come now (t ∷ ys) < come now (x ∷ xs)) (sym head) (elim (cases_lt now x) [
+      | inl later ↦
+          subst (λ (n : ℕ). n < come now (x ∷ xs)) (sym (come_later now x ys later))
+          (subst (λ (n : ℕ). come now ys < n) (sym (come_later now x xs later)) rest)
+      | inr come_so ↦
+          subst (λ (n : ℕ). n < come now (x ∷ xs)) (sym (come_now now x ys come_so))
+          (subst (λ (n : ℕ). come now ys + 1 < n) (sym (come_now now x xs come_so)) (omega (arith, rest)))
+    ])
+
+get_drop : {X : Type 0} (n : ℕ) (xs : List X) (j : ℕ) → slice_get (drop n xs) j ≡ slice_get xs (n + j)
+get_drop zero xs j = let e : j ≡ zero + j = omega arith in ap (slice_get xs) e
+get_drop (suc n) [] j = refl
+get_drop (suc n) (x ∷ xs) j = let e : suc (n + j) ≡ suc n + j = omega arith in get_drop n xs j ∙ ap (slice_get (x ∷ xs)) e
+
+-- the same, of the times behind the first so many
+pub come_falls_behind : (now n : ℕ) (xs ys : List ℕ) (i a b : ℕ) → ((slot : ℕ) → n ≤ slot → (slot ≡ n + i → ⊥) → slice_get ys slot ≡ slice_get xs slot)
+    → slice_get xs (n + i) ≡ Some a → a ≤ now → slice_get ys (n + i) ≡ Some b → now < b → come now (drop n ys) < come now (drop n xs)
+come_falls_behind now n xs ys i a b same was le is lt =
+    come_falls now (drop n xs) (drop n ys) i a b
+    (λ j ne. get_drop n ys j ∙ same (n + j) (omega arith) (λ e. ne (omega (arith, e))) ∙ sym (get_drop n xs j))
+    (get_drop n xs i ∙ was) le (get_drop n ys i ∙ is) lt
+
+-- ---- what is settled
+
+put_length : (o : Option (Entry Content)) (old new : List (Entry Content)) → IsPutOn o old new → length new ≤ length old + 1
+put_length None old new is = let e : length new ≡ length old = ap length is in omega (arith, e)
+put_length (Some e) old new is = let long : length new ≡ suc (length old) = length_permutation (e ∷ old) new is in omega (arith, long)
+
+-- each event that is settled puts at most one under way
+pub settled_length : (network : Network) (broken : List Bool) (ups : List WayState) (time : ℕ) (befell : List Befallen) (settled after : List Settled)
+    (entries then_ : List (Entry Content)) → AreSettledBy network broken ups time befell settled after entries then_
+    → length then_ ≤ length befell + length entries
+settled_length network broken ups time [] settled after entries then_ are =
+    let e : length then_ ≡ length entries = ap length are.1 in omega (arith, e)
+settled_length network broken ups time (b ∷ befell) settled after entries then_ (mid, between, one, put, rest) =
+    let more = put_length (entry_of network ups time b.number b.what) entries between put in
+    let all = settled_length network broken ups time befell mid after between then_ rest in
+    omega (arith, more, all)
+
+-- ---- steps
+
+module _ {C M : Type 0} (last_step : C → ℕ) (reading : C → ℕ → ℕ) (stands : M → Network → DeviceId → Node → Type 0) (network : Network) where
+  -- a device that is active is due by its timer
+  act_due : (device : DeviceId) (old : State C M) → IsWell last_step reading stands network old → IsActive reading stands network old device
+      → (act : ℕ) × (slice_get old.timers (length network.device + device.0) ≡ Some act) × (act ≤ old.time)
+  act_due device old well active =
+      let timed = well.timed.each device active.of in
+      let node = node_of reading stands network old well.running device active.machine active.of active.there in
+      let due = active.due node.0 node.1 in
+      let machine_is = some_same _ _ _ active.there timed.of_machine in
+      let clock_is = some_same _ _ _ active.own timed.of_clock in (
+        timed.act,
+        timed.of_act,
+        timed.acts.none node.0 due.0 (subst (λ (k : Kept M). keeps stands k network device node.0) machine_is node.1) due.1 old.time (omega arith)
+            well.sound.sized.limit
+            (subst (λ (k : C). reading_for network node.0 due.0 ≤ℤ pos (reading k old.time)) clock_is due.2),
+      )
+
+  -- one that is idle is due later
+  act_later : (device : DeviceId) (mid new : State C M) → device.0 < length network.device → IsRunning reading stands network mid
+      → new ≡ record mid { timers = new.timers } → IsWell last_step reading stands network new → IsIdleAt reading stands network mid device
+      → (act : ℕ) × (slice_get new.timers (length network.device + device.0) ≡ Some act) × (new.time < act)
+  act_later device mid new of_it running same well idle =
+      let timed = well.timed.each device of_it in
+      let s = running.s in
+      let time : new.time ≡ mid.time = ap (λ (t : State C M). t.time) same in
+      let limit = well.sound.sized.limit in
+      let held : slice_get mid.machines.items device.0 ≡ Some timed.machine =
+      sym (ap (λ (t : State C M). slice_get t.machines.items device.0) same) ∙ timed.of_machine in
+      let clocked : slice_get mid.clocks.items device.0 ≡ Some timed.clock =
+      sym (ap (λ (t : State C M). slice_get t.clocks.items device.0) same) ∙ timed.of_clock in
+      let node = node_of reading stands network mid running device timed.machine of_it held in
+      let own = running.is.clocks device (subst (λ (k : Network). device.0 < length k.device) running.is.same of_it) in
+      let clock_is = some_same _ _ _ own.1 clocked in (
+        timed.act,
+        timed.of_act,
+        elim (cases_lt new.time timed.act) [
+          | inl lt ↦ lt
+          | inr le ↦
+              let from = not_past new timed.act (length network.device + device.0) well.timed timed.of_act in
+              let task = timed.acts.one (omega (arith, le, limit)) node.0 node.1 in
+              let reads : reading timed.clock timed.act ≡ s.reading device mid.time =
+              ap (λ (n : ℕ). reading timed.clock n) (omega (arith, le, from, time)) ∙ ap (λ (k : C). reading k mid.time) (sym clock_is)
+              ∙ sym (own.2 mid.time (omega arith)) in
+              let less = idle s timed.machine (shows_of reading (keeps stands) s network mid running.notes running.is) held node.0 task.0
+              (subst (λ (k : Network). keeps stands timed.machine k device node.0) running.is.same node.1)
+              (subst (λ (k : Network). IsPending k device node.0 task.0) running.is.same task.1) in
+              let more = subst (λ (k : Network). reading_for k node.0 task.0 ≤ℤ pos (s.reading device mid.time)) running.is.same
+              (subst (λ (n : ℕ). reading_for network node.0 task.0 ≤ℤ pos n) reads task.2) in
+              absurd (omega (arith, ints, less, more))
+        ],
+      )
+    where
+      not_past : (state : State C M) (act slot : ℕ) → AreTimed reading stands network state → slice_get state.timers slot ≡ Some act → state.time ≤ act
+      not_past state act slot are at =
+          subst (λ (n : ℕ). state.time ≤ n) (get_or_from_slice_get state.timers slot act act at) (are.later slot act (slice_get_within _ _ _ at))
+
+  -- an act leaves as much to work off, and its device has no more to do
+  pub act_less : (device : DeviceId) (old mid new : State C M) → IsWell last_step reading stands network old → IsActive reading stands network old device
+      → mid ≡ record old { machines = mid.machines; early = mid.early; settled = mid.settled } → IsRunning reading stands network mid
+      → new ≡ record mid { timers = new.timers }
+      → ((slot : ℕ) → (slot ≡ device.0 → ⊥) → (slot ≡ length network.device + device.0 → ⊥) → slice_get new.timers slot ≡ slice_get mid.timers slot)
+      → IsWell last_step reading stands network new → IsIdleAt reading stands network mid device → IsLess network old new
+  act_less device old mid new well active acted running same others well_new idle =
+      let of_it = active.of in
+      let due = act_due device old well active in
+      let later = act_later device mid new of_it running same well_new idle in
+      let time : new.time ≡ old.time = ap (λ (t : State C M). t.time) same ∙ ap (λ (t : State C M). t.time) acted in
+      let timers : mid.timers ≡ old.timers = ap (λ (t : State C M). t.timers) acted in
+      inr (
+        ap (λ (t : State C M). burden network t) same ∙ ap (λ (t : State C M). burden network t) acted,
+        subst (λ (n : ℕ). come n (drop (length network.device) new.timers) < acting network old) (sym time)
+            (come_falls_behind old.time (length network.device) old.timers new.timers device.0 due.0 later.0
+            (λ slot high ne. others slot (λ e. omega (arith, e, high, of_it)) ne ∙ ap (λ (l : List ℕ). slice_get l slot) timers)
+            due.1 due.2 later.1 (subst (λ (n : ℕ). n < later.0) time later.2)),
+      )
+
+  -- ---- the distance
+
+  -- no more devices act than there are
+  acting_most : (state : State C M) → IsWell last_step reading stands network state → acting network state ≤ length network.device
+  acting_most state well =
+      let most = come_most state.time (drop (length network.device) state.timers) in
+      let long = length-drop (length network.device) state.timers in
+      let sized = well.timed.sized in
+      omega (arith, most, long, sized)
+
+  -- with less to come the distance is less
+  fewer : (a b n x y : ℕ) → a < b → x ≤ n → a * (n + 1) + x < b * (n + 1) + y
+  fewer a b n x y lt le =
+      let times = mul-le-mul_right (n + 1) (let l : a + 1 ≤ b = omega (arith, lt) in l) in
+      omega (arith, times, le)
+
+  -- a step that leaves less to work off comes nearer to any time
+  pub less_nears : (until : ℕ) (old new : State C M) → IsWell last_step reading stands network new → new.time ≡ old.time → IsLess network old new
+      → distance network until new < distance network until old
+  less_nears until old new well time (inl lt) =
+      fewer ((until - new.time) + burden network new) ((until - old.time) + burden network old) (length network.device) (acting network new)
+      (acting network old) (sum_less until old new time lt) (acting_most new well)
+    where
+      sum_less : (until : ℕ) (old new : State C M) → new.time ≡ old.time → burden network new < burden network old
+          → ((until - new.time) + burden network new) < ((until - old.time) + burden network old)
+      sum_less until old new time lt = plus (until - new.time) (until - old.time) (burden network new) (burden network old)
+          (ap (λ (t : ℕ). until - t) time) lt
+        where
+          plus : (a b c d : ℕ) → a ≡ b → c < d → a + c < b + d
+          plus a b c d e l = omega (arith, e, l)
+  less_nears until old new well time (inr same) =
+      evenly (until - new.time) (until - old.time) (burden network new) (burden network old) (length network.device) (acting network new)
+      (acting network old) (ap (λ (t : ℕ). until - t) time) same.0 same.1
+    where
+      evenly : (a b c d n x y : ℕ) → a ≡ b → c ≡ d → x < y → (a + c) * (n + 1) + x < (b + d) * (n + 1) + y
+      evenly a b c d n x y e f l =
+          subst (λ (k : ℕ). (a + c) * (n + 1) + x < k * (n + 1) + y) (let g : a + c ≡ b + d = omega (arith, e, f) in g) (omega (arith, l))
+
+  -- so does one where time passes
+  pub passing_nears : (until time : ℕ) (early : Bool) (old new : State C M) → IsWell last_step reading stands network new
+      → new ≡ record old { time = time; early = early } → old.time < time → time ≤ until → distance network until new < distance network until old
+  passing_nears until time early old new well same later within =
+      fewer ((until - new.time) + burden network new) ((until - old.time) + burden network old) (length network.device) (acting network new)
+      (acting network old)
+      (plus new.time (burden network new) (burden network old) (ap (λ (t : State C M). t.time) same) (ap (λ (t : State C M). burden network t) same))
+      (acting_most new well)
+    where
+      plus : (t c d : ℕ) → t ≡ time → c ≡ d → (until - t) + c < (until - old.time) + d
+      plus t c d e f = omega (arith, e, f, later, within)
+
+-- ---- each kind of source
+
+-- where timers are set then, no more is to work off
+rekeyed_less : {C M : Type 0} (network : Network) (old mid new : State C M) → burden network mid < burden network old
+    → new ≡ record mid { timers = new.timers } → IsLess network old new
+rekeyed_less network old mid new less same =
+    inl (subst (λ (n : ℕ). n < burden network old) (sym (ap (λ (t : State _ _). burden network t) same)) less)
+
+-- the events of the instant are settled
+pub settled_less : {C M : Type 0} (network : Network) (old new : State C M) → old.pending ≡ true → new.pending ≡ false
+    → length new.befell.items + length new.under_way.entries ≤ length old.befell.items + length old.under_way.entries
+    → new ≡ record old {
+      under_way = new.under_way;
+      befell = new.befell;
+      settled = new.settled;
+      early = new.early;
+      pending = new.pending;
+    } → IsLess network old new
+settled_less network old new was is most same =
+    let weight : Bool → ℕ = λ b. if b then 1 else 0 in
+    let none : weight new.pending ≡ 0 = ap weight is in
+    let one : weight old.pending ≡ 1 = ap weight was in
+    let waiting : length new.waiting.items ≡ length old.waiting.items = ap (λ (t : State _ _). length t.waiting.items) same in
+    let shown : length network.device - new.shown ≡ length network.device - old.shown =
+    ap (λ (t : State _ _). length network.device - t.shown) same in
+    inl (omega (arith, none, one, waiting, shown, most))
+
+-- what is first on a wire arrives
+pub arrived_less : {C M : Type 0} (network : Network) (old mid new : State C M)
+    → mid ≡ record old { machines = mid.machines; under_way = mid.under_way; settled = mid.settled; early = false }
+    → length old.under_way.entries ≡ length mid.under_way.entries + 1 → new ≡ record mid { timers = new.timers } → IsLess network old new
+arrived_less network old mid new acted shorter same =
+    let sum = ap (λ (t : State _ _). burden network t) acted in
+    rekeyed_less network old mid new (omega (arith, sum, shorter)) same
+
+-- a frame that waits is judged
+pub ripened_less : {C M : Type 0} (network : Network) (old mid new : State C M)
+    → mid ≡ record old { early = false; machines = mid.machines; waiting = mid.waiting; settled = mid.settled }
+    → length old.waiting.items ≡ length mid.waiting.items + 1 → new ≡ record mid { timers = new.timers } → IsLess network old new
+ripened_less network old mid new acted shorter same =
+    let sum = ap (λ (t : State _ _). burden network t) acted in
+    rekeyed_less network old mid new (omega (arith, sum, shorter)) same
+
+-- the frame that is first at a port leaves
+pub departed_less : {C M : Type 0} (network : Network) (old new : State C M)
+    → new ≡ record old { early = false; under_way = new.under_way; settled = new.settled }
+    → length old.under_way.entries ≡ length new.under_way.entries + 1 → IsLess network old new
+departed_less network old new acted shorter =
+    let sum = ap (λ (t : State _ _). burden network t) acted in inl (omega (arith, sum, shorter))
+
+-- a clock is shown
+pub shown_less : {C M : Type 0} (network : Network) (old new : State C M)
+    → new ≡ record old { early = false; settled = new.settled; shown = old.shown + 1 } → old.shown < length network.device → IsLess network old new
+shown_less network old new acted more =
+    let sum = ap (λ (t : State _ _). burden network t) acted in inl (omega (arith, sum, more))
+
+-- what follows from the clauses of a result that is right
+pub on_ok : {A E : Type 0} (result : Result A E) (P R : Type 0) → OnOk result P → (P → R) → OnOk result R
+on_ok (Ok a) P R p f = f p
+on_ok (Err e) P R p f = tt
+
+pub on_both : {A E : Type 0} (result : Result A E) (P Q R : Type 0) → OnOk result P → OnOk result Q → (P → Q → R) → OnOk result R
+on_both (Ok a) P Q R p q f = f p q
+on_both (Err e) P Q R p q f = tt
+
+-- ---- turns
+
+-- what nears a state with more room nears the state before it
+pub nears_then : {C M : Type 0} (E : Type 0) (network : Network) (until : ℕ) (old mid new : State C M) (result : Result Turn E)
+    → mid ≡ record old { settled = mid.settled } → IfOk result (Nears network until mid new) → IfOk result (Nears network until old new)
+nears_then E network until old mid new (Ok (Gives note)) same nears = tt
+nears_then E network until old mid new (Ok Ends) same nears = tt
+nears_then E network until old mid new (Ok GoesOn) same nears =
+    subst (λ (n : ℕ). distance network until new < n) (ap (λ (t : State _ _). distance network until t) same) nears
+nears_then E network until old mid new (Err e) same nears = tt
