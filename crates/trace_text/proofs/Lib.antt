@@ -8,3 +8,4 @@ pub mod EventsBack
 pub mod Lowering
 pub mod TextsBack
 pub mod ReadOfNetwork
+pub mod ReadTimes

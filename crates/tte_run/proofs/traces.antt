@@ -1,6 +1,5 @@
 -- A run under a trace: what is admitted, what lasts of its records under more events, the one answer, and each step.
 pub mod TakenLines
-pub mod EventTimes
 pub mod Faults
 pub mod EventOrder
 pub mod Admitted
@@ -17,3 +16,5 @@ pub mod PuttingEvents
 pub mod Steps
 pub mod Streams
 pub mod Ends
+pub mod EventRanges
+pub mod Safely

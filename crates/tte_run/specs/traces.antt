@@ -7,3 +7,4 @@ pub mod Records
 pub mod Streaming
 pub mod Steps
 pub mod Answer
+pub mod Safely

@@ -1,4 +1,5 @@
 ghost use Rattle.std.specs.Prelude.{◌≡◌, ◌≢◌, ◌≤◌, length, Err, IfErr, IfOk};
+ghost use Rattle.net_plan.specs.Ranges.{IsInRange};
 ghost use Rattle.tte_run.specs.networks.Accepting.{MeansAccepted};
 ghost use Rattle.tte_run.specs.Answering.{ForOctets, Gives};
 ghost use Rattle.tte_run.specs.networks.NoNetworks.{IsNoNetwork, no_network_answer};
@@ -38,6 +39,7 @@ pub(crate) enum NoNetwork {
 /// Reads a network from a file, and accepts it if it keeps all rules.
 pub(crate) fn accept<A: Source>(alloc: Global, source: &mut A) -> Result<Accepted, NoNetwork>
     ensures accepted { IfOk result (λ network. ForOctets (A.left source.old) (λ octets. MeansAccepted octets network)) }
+    ensures range { IfOk result IsInRange }
     ensures none { IfErr result (λ cause. ForOctets (A.left source.old) (λ octets. IsNoNetwork octets cause)) }
     ensures read { result ≡ Err NoNetwork.ReadFault → ReadFailed A.Source source.old source.new }
 {
@@ -52,6 +54,7 @@ pub(crate) fn accept<A: Source>(alloc: Global, source: &mut A) -> Result<Accepte
 fn accept_text(alloc: Global, text: &[u8]) -> Result<Accepted, NoNetwork>
     requires { length text.now ≤ file_limit }
     ensures accepted { IfOk result (MeansAccepted text.now) }
+    ensures range { IfOk result IsInRange }
     ensures none { IfErr result (IsNoNetwork text.now) }
     ensures read { result ≢ Err NoNetwork.ReadFault }
 {

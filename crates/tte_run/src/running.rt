@@ -4,6 +4,7 @@ ghost use Rattle.tte_run.specs.Answering.{ForOctets, GivesOne};
 ghost use Rattle.tte_run.specs.Faults.{HasCause, PutFailed, ReadFailed};
 ghost use Rattle.tte_run.specs.Putting.{Over};
 ghost use Rattle.tte_run.specs.traces.Answer.{IsRunAnswer, IsRunStatus};
+ghost use Rattle.tte_run.specs.traces.Safely.{WritesSafely};
 ghost use Rattle.tte_run.specs.traces.Steps.{RunEnds};
 ghost use Rattle.tte_run.specs.traces.Streaming.{RunStops, RunTakesLittle};
 
@@ -26,6 +27,7 @@ pub fn run_trace<A: Source, B: Source, K: Sink>(
     ensures general { Over K.Sink out.old out.new (λ old new.
         ForOctets (A.left first.old) (λ octets. IfSome (B.left second.old) (λ trace.
         GivesOne (IsNetworkAnswer (IsRunAnswer trace) octets) result old new))) }
+    ensures safe { Over K.Sink out.old out.new (WritesSafely (A.left first.old) (B.left second.old) result) }
     ensures statuses { IsRunStatus result }
     // Where the first source failed, nothing was written.
     ensures read { result ≡ Status.ReadFault

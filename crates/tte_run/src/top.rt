@@ -1,8 +1,9 @@
-ghost use Rattle.std.specs.Prelude.{◌≡◌, ◌⊎◌};
+ghost use Rattle.std.specs.Prelude.{◌≡◌, ◌⊎◌, Some};
 ghost use Rattle.tte_run.specs.Answering.{Gives};
 ghost use Rattle.tte_run.specs.Faults.{HasCause, IsWanted, PutFailed, ReadFailed};
 ghost use Rattle.tte_run.specs.Forms.{form_of};
 ghost use Rattle.tte_run.specs.Putting.{Over};
+ghost use Rattle.tte_run.specs.traces.Safely.{WritesSafely};
 ghost use Rattle.tte_run.specs.traces.Streaming.{RunStops, RunTakesLittle};
 ghost use Rattle.tte_run.specs.Top.{AnswerIsOne, AnswersUsage, AnswersWords, Completes, FailsToRead, TakesSecond, usage_answer};
 
@@ -28,6 +29,8 @@ pub fn tte<A: Source, B: Source, K: Sink>(
 ) -> Status
     ensures general { Over K.Sink out.old out.new
         (AnswersWords (form_of words.now) (A.left first.old) (B.left second.old) result) }
+    ensures safe { form_of words.now ≡ Some Form.Run
+        → Over K.Sink out.old out.new (WritesSafely (A.left first.old) (B.left second.old) result) }
     ensures usage { Over K.Sink out.old out.new (AnswersUsage (form_of words.now) result) }
     ensures faults { HasCause result
         (FailsToRead (form_of words.now)

@@ -17,7 +17,7 @@ use Rattle.tte_io.specs.Line.{first_line}
 use Rattle.tte_run.specs.traces.Lines.{AreAdmitted, HaveEnded, IsAdmitted, behind_lines}
 use Rattle.tte_units.specs.Amount.{amount, units_of}
 use Rattle.tte_units.specs.declared.units.Units.{Units}
-use Rattle.tte_run.proofs.traces.EventTimes.{event_time}
+use Rattle.trace_text.proofs.ReadTimes.{event_time}
 use Rattle.tte_run.proofs.traces.EventOrder.{AreInOrder, IsInOrder}
 use Rattle.tte_run.proofs.traces.Faults.{one_event}
 

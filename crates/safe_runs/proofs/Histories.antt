@@ -1,0 +1,147 @@
+-- The rates that events within the hypothesis set are a history of a clock.
+use Rattle.std.proofs.Common.{◌≡◌, ℕ, zero, suc, ◌≤◌, ◌==◌, List, [], ◌∷◌, ◌++◌, append_assoc, Option, Some, None, true, false, if◌then◌else◌, unsigned_abs, pos, ◌≤ℤ◌, inl, inr, refl, sym, subst, ◌∙◌, arith}
+use Rattle.std.specs.List.{All, cons_option}
+use Rattle.std.specs.List.Sorted.{IsNonDecreasingBy}
+use Rattle.std.proofs.lemmas.Bool.{cases_lt}
+use Rattle.std.proofs.lemmas.Int.{ints}
+use Rattle.std.proofs.lemmas.List.Elements.{All-cons, All-nil}
+use Rattle.drift_clock.specs.RateSteps.{IsHistory, RateStep}
+use Rattle.net_plan.specs.declared.event.Event.{Event}
+use Rattle.net_plan.specs.declared.event.What.{What}
+use Rattle.net_plan.specs.declared.event.What.TheVariants as events
+use Rattle.net_plan.specs.declared.ids.DeviceId.{DeviceId}
+use Rattle.net_plan.specs.declared.network.Network.{Network}
+use Rattle.run_law.proofs.runs.Places.{in_left, in_right}
+use Rattle.run_law.specs.declared.outside.Outside.TheVariants as outside
+use Rattle.run_law.specs.records.Order.{IsIn}
+use Rattle.run_law.specs.scenario.Hypothesis.{AreWithinHypothesis, IsWithinHypothesis}
+use Rattle.run_law.specs.scenario.Rates.{rate_steps, step_by}
+use Rattle.tte_units.specs.Amount.{amount}
+
+-- ---- a rate that is set is slow
+
+-- a rate that this sets is of a magnitude of at most rho
+abbrev IsSlow : ℕ → What → Type 0
+IsSlow rho (events.Rate device rate) = unsigned_abs rate.0 ≤ rho
+IsSlow rho other = Unit {0}
+
+slow_event : (network : Network) (before : List Event) (event : Event) → IsWithinHypothesis network before event → IsSlow network.rho event.what
+slow_event network before event within = of event.what refl
+  where
+    of : (what : What) → event.what ≡ what → IsSlow network.rho what
+    of (events.Rate device rate) same = elim (cases_lt network.rho (unsigned_abs rate.0)) [
+      | inl fast ↦ absurd (within outside.Rate (record { device = device; rate = rate; what = same; fast = fast }))
+      | inr slow ↦ slow
+    ]
+    of (events.Wire link way delay) same = tt
+    of (events.Hold link way delay) same = tt
+    of (events.Cut link way) same = tt
+    of (events.Heal link way) same = tt
+    of (events.On other) same = tt
+    of (events.Break other) same = tt
+    of (events.Send link octets) same = tt
+    of events.End same = tt
+
+-- ---- the events in their order
+
+-- each is not before the one before it, and each rate is slow
+abbrev AreSlowInOrder : ℕ → ℕ → List Event → Type 0
+AreSlowInOrder rho least [] = Unit {0}
+AreSlowInOrder rho least (e ∷ es) = (least ≤ amount e.time) × IsSlow rho e.what × AreSlowInOrder rho (amount e.time) es
+
+in_turn : (network : Network) (front : List Event) (last event : Event) → IsWithinHypothesis network (front ++ last ∷ []) event → pos 0 ≤ℤ last.time.0
+    → pos 0 ≤ℤ event.time.0 → amount last.time ≤ amount event.time
+in_turn network front last event within first second = elim (cases_lt (amount event.time) (amount last.time)) [
+  | inl sooner ↦ absurd (within outside.Order (record { front = front; last = last; order = refl; later = omega (arith, ints, sooner, first, second) }))
+  | inr later ↦ later
+]
+
+in_order_behind : (network : Network) (all front rest : List Event) (last : Event) → all ≡ (front ++ last ∷ []) ++ rest → AreWithinHypothesis network all
+    → ((e : Event) → IsIn e all → pos 0 ≤ℤ e.time.0) → AreSlowInOrder network.rho (amount last.time) rest
+in_order_behind network all front [] last same within begun = tt
+in_order_behind network all front (e ∷ rest) last same within begun =
+    let here = within (front ++ last ∷ []) rest e same in
+    let at_last = begun last (subst (IsIn last) (sym same) (in_left last (front ++ last ∷ []) (e ∷ rest)
+    (in_right last front (last ∷ []) (inl refl)))) in
+    let at_e = begun e (subst (IsIn e) (sym same) (in_right e (front ++ last ∷ []) (e ∷ rest) (inl refl))) in (
+      in_turn network front last e here at_last at_e,
+      slow_event network (front ++ last ∷ []) e here,
+      in_order_behind network all (front ++ last ∷ []) rest e (same ∙ sym (append_assoc (front ++ last ∷ []) (e ∷ []) rest)) within begun,
+    )
+
+in_order : (network : Network) (all : List Event) → AreWithinHypothesis network all → ((e : Event) → IsIn e all → pos 0 ≤ℤ e.time.0)
+    → AreSlowInOrder network.rho 0 all
+in_order network [] within begun = tt
+in_order network (e ∷ es) within begun = (
+  omega arith,
+  slow_event network [] e (within [] es e refl),
+  in_order_behind network (e ∷ es) [] es e refl within begun,
+)
+
+-- ---- their steps
+
+-- the step is of this time, and its rate of at most rho
+record IsStepAt (rho time : ℕ) (step : RateStep) : Type 0 where
+  pub at : step.at ≡ time
+  pub slow : unsigned_abs step.rate ≤ rho
+
+-- what holds of the value, where there is one
+abbrev Holds : {X : Type 0} → Option X → (X → Type 0) → Type 0
+Holds None P = Unit {0}
+Holds (Some x) P = P x
+
+step_is : (rho : ℕ) (device : DeviceId) (time : ℕ) (what : What) → IsSlow rho what → Holds (step_by device time what) (IsStepAt rho time)
+step_is rho device time (events.Rate other rate) slow =
+    elim (device.0 == other.0) as (λ b. Holds (if b then Some (let s : RateStep = record { at = time; rate = rate.0 } in s) else None) (IsStepAt rho time)) [
+      | true ↦ record { at = refl; slow = slow }
+      | false ↦ tt
+    ]
+step_is rho device time (events.Wire link way delay) slow = tt
+step_is rho device time (events.Hold link way delay) slow = tt
+step_is rho device time (events.Cut link way) slow = tt
+step_is rho device time (events.Heal link way) slow = tt
+step_is rho device time (events.On other) slow = tt
+step_is rho device time (events.Break other) slow = tt
+step_is rho device time (events.Send link octets) slow = tt
+step_is rho device time events.End slow = tt
+
+sorted_more : (x : RateStep) (xs : List RateStep) → All (λ y. x.at ≤ y.at) xs → IsNonDecreasingBy (λ s. s.at) xs → IsNonDecreasingBy (λ s. s.at) (x ∷ xs)
+sorted_more x xs least sorted zero zero d le lt = omega arith
+sorted_more x xs least sorted zero (suc j) d le lt = least j d (omega arith)
+sorted_more x xs least sorted (suc i) zero d le lt = absurd (omega arith)
+sorted_more x xs least sorted (suc i) (suc j) d le lt = sorted i j d (omega arith) (omega arith)
+
+-- steps from a time on
+record IsHistoryFrom (rho least : ℕ) (steps : List RateStep) : Type 0 where
+  pub sorted : IsNonDecreasingBy (λ s. s.at) steps
+  pub later : All (λ s. least ≤ s.at) steps
+  pub slow : All (λ s. unsigned_abs s.rate ≤ rho) steps
+
+no_steps : (rho least : ℕ) → IsHistoryFrom rho least []
+no_steps rho least =
+    record { sorted = λ i j d le lt. absurd (omega arith); later = All-nil (λ s. least ≤ s.at); slow = All-nil (λ s. unsigned_abs s.rate ≤ rho) }
+
+later_all : (least more : ℕ) (steps : List RateStep) → least ≤ more → All (λ s. more ≤ s.at) steps → All (λ s. least ≤ s.at) steps
+later_all least more steps le all k d lt = let here = all k d lt in omega (arith, here)
+
+more_steps : (rho least time : ℕ) (o : Option RateStep) (steps : List RateStep) → least ≤ time → Holds o (IsStepAt rho time) → IsHistoryFrom rho time steps
+    → IsHistoryFrom rho least (cons_option o steps)
+more_steps rho least time None steps le here h = record { sorted = h.sorted; later = later_all least time steps le h.later; slow = h.slow }
+more_steps rho least time (Some step) steps le here h =
+    record {
+      sorted = sorted_more step steps (later_all step.at time steps (omega (arith, here.at)) h.later) h.sorted;
+      later = All-cons (λ s. least ≤ s.at) step steps (omega (arith, here.at)) (later_all least time steps le h.later);
+      slow = All-cons (λ s. unsigned_abs s.rate ≤ rho) step steps here.slow h.slow;
+    }
+
+history_from : (rho least : ℕ) (all : List Event) (device : DeviceId) → AreSlowInOrder rho least all → IsHistoryFrom rho least (rate_steps all device)
+history_from rho least [] device order = no_steps rho least
+history_from rho least (e ∷ all) device order =
+    more_steps rho least (amount e.time) (step_by device (amount e.time) e.what) (rate_steps all device) order.0
+    (step_is rho device (amount e.time) e.what order.1) (history_from rho (amount e.time) all device order.2)
+
+-- the rates of a device's clock are a history
+pub history : (network : Network) (all : List Event) (device : DeviceId) → AreWithinHypothesis network all
+    → ((e : Event) → IsIn e all → pos 0 ≤ℤ e.time.0) → IsHistory network.rho (rate_steps all device)
+history network all device within begun =
+    let h = history_from network.rho 0 all device (in_order network all within begun) in record { in_order = h.sorted; within = h.slow }
