@@ -32,6 +32,7 @@ pub mod Launches
 pub mod LeastPoints
 pub mod Made
 pub mod Mapped
+pub mod Leading
 pub mod MayGive
 pub mod Nearings
 pub mod Offs

@@ -1,5 +1,5 @@
 -- A record that is put in at its place.
-use Rattle.std.proofs.Common.{◌≡◌, ℕ, ℤ, zero, suc, ◌<◌, Bool, true, false, Option, Some, None, List, [], ◌∷◌, ◌++◌, map, length, take, drop, get_or, inl, inr, refl, sym, ap, subst, ◌∙◌, arith}
+use Rattle.std.proofs.Common.{◌≡◌, ℕ, ℤ, zero, suc, ◌+◌, ◌≤◌, ◌<◌, Bool, true, false, Option, Some, None, List, [], ◌∷◌, ◌++◌, map, length, take, drop, get_or, inl, inr, refl, sym, ap, subst, ◌∙◌, arith}
 use Rattle.std.proofs.lemmas.List.{take-append-drop}
 use Rattle.net_plan.specs.declared.network.Network.{Network}
 use Rattle.run_law.proofs.runs.Places.{chain, either_way, in_left, in_parts, in_right, never_self}
@@ -38,28 +38,42 @@ module _ (network : Network) (now : ℕ) where
   untimed a b (inl lt) = absurd (omega (arith, lt))
   untimed a b (inr h) = h.1
 
-  all_before : (at : ℕ) (old : List Settled) (z : Settled) → ((k : ℕ) (d : Settled) → k < at → IsBefore (own_place (get_or old k d)) (own_place z))
-      → AllBefore place_of (map shown (take at old)) (place_of (shown z))
-  all_before zero old z before h there = absurd there
-  all_before (suc at) [] z before h there = absurd there
-  all_before (suc at) (x ∷ old) z before h (inl e) = subst (λ (h : Happening). IsBefore (place_of h) (place_of (shown z))) (sym e)
-      (timed x z (before 0 z (omega arith)))
-  all_before (suc at) (x ∷ old) z before h (inr rest) = all_before at old z (λ k d lt. before (suc k) d (omega (arith, lt))) h rest
+  -- what is not behind one that is before the record is before it
+  sooner_still : (x y z : Settled) → (IsBefore (place_of (shown y)) (place_of (shown x)) → ⊥) → IsBefore (place_of (shown y)) (place_of (shown z))
+      → IsBefore (place_of (shown x)) (place_of (shown z))
+  sooner_still x y z order before = elim (either_way (place_of (shown x)) (place_of (shown z))) [
+    | inl sooner ↦ sooner
+    | inr (inl same) ↦ absurd (order (subst (λ (p : List ℕ). IsBefore (place_of (shown y)) p) (sym same) before))
+    | inr (inr later) ↦ absurd (order (chain (place_of (shown y)) (place_of (shown z)) (place_of (shown x)) before later))
+  ]
 
-  none_before : (at : ℕ) (old : List Settled) (z : Settled) → InOrder (map shown old)
-      → ((d : Settled) → at < length old → IsBefore (own_place (get_or old at d)) (own_place z) → ⊥)
+  all_before : (at : ℕ) (old : List Settled) (z : Settled) → InOrder (map shown old) → at ≤ length old
+      → ((k : ℕ) (d : Settled) → at ≡ k + 1 → IsBefore (own_place (get_or old k d)) (own_place z))
+      → AllBefore place_of (map shown (take at old)) (place_of (shown z))
+  all_before zero old z order le behind h there = absurd there
+  all_before (suc at) [] z order le behind h there = absurd there
+  all_before (suc zero) (x ∷ old) z order le behind h (inl e) = subst (λ (h : Happening). IsBefore (place_of h) (place_of (shown z))) (sym e)
+      (timed x z (behind 0 z refl))
+  all_before (suc (suc at)) (x ∷ []) z order le behind h there = absurd (omega (arith, le))
+  all_before (suc (suc at)) (x ∷ (y ∷ old)) z order le behind h (inl e) =
+      subst (λ (h : Happening). IsBefore (place_of h) (place_of (shown z))) (sym e)
+      (sooner_still x y z (order.0 (shown y) (inl refl))
+      (all_before (suc at) (y ∷ old) z order.1 (omega (arith, le)) (λ k d e. behind (suc k) d (omega (arith, e))) (shown y) (inl refl)))
+  all_before (suc zero) (x ∷ old) z order le behind h (inr rest) = absurd rest
+  all_before (suc (suc at)) (x ∷ (y ∷ old)) z order le behind h (inr rest) =
+      all_before (suc at) (y ∷ old) z order.1 (omega (arith, le)) (λ k d e. behind (suc k) d (omega (arith, e))) h rest
+
+  none_before : (at : ℕ) (old : List Settled) (z : Settled)
+      → ((k : ℕ) (d : Settled) → at ≤ k → k < length old → IsBefore (own_place (get_or old k d)) (own_place z) → ⊥)
       → NoneBefore place_of (map shown (drop at old)) (place_of (shown z))
-  none_before zero [] z order stops h there before = absurd there
-  none_before zero (x ∷ old) z order stops h (inl e) before = stops z (omega arith)
+  none_before zero [] z none h there before = absurd there
+  none_before zero (x ∷ old) z none h (inl e) before = none 0 z (omega arith) (omega arith)
       (untimed x z (subst (λ (h : Happening). IsBefore (place_of h) (place_of (shown z))) e before))
-  none_before zero (x ∷ old) z order stops h (inr rest) before =
-      elim (either_way (place_of (shown x)) (place_of (shown z))) [
-        | inl sooner ↦ stops z (omega arith) (untimed x z sooner)
-        | inr (inl same) ↦ order.0 h rest (subst (λ (p : List ℕ). IsBefore (place_of h) p) (sym same) before)
-        | inr (inr later) ↦ order.0 h rest (chain (place_of h) (place_of (shown z)) (place_of (shown x)) before later)
-      ]
-  none_before (suc at) [] z order stops h there before = absurd there
-  none_before (suc at) (x ∷ old) z order stops h there before = none_before at old z order.1 (λ d lt. stops d (omega (arith, lt))) h there before
+  none_before zero (x ∷ old) z none h (inr rest) before =
+      none_before zero old z (λ k d le lt. none (suc k) d (omega arith) (omega (arith, lt))) h rest before
+  none_before (suc at) [] z none h there before = absurd there
+  none_before (suc at) (x ∷ old) z none h there before =
+      none_before at old z (λ k d le lt. none (suc k) d (omega (arith, le)) (omega (arith, lt))) h there before
 
   pub is_put_in : (z : Settled) (old new : List Settled) (at : ℕ) → IsPutAt z old new at → InOrder (map shown old)
       → IsPutIn (shown z) (map shown old) (map shown new)
@@ -69,8 +83,8 @@ module _ (network : Network) (now : ℕ) where
         back = map shown (drop at old);
         was = ap (map shown) (sym (take-append-drop at old)) ∙ map_parts shown (take at old) (drop at old);
         is = ap (map shown) put.is ∙ map_parts shown (take at old) (z ∷ drop at old);
-        before = all_before at old z put.before;
-        none = none_before at old z order put.stops;
+        before = all_before at old z order put.within put.behind;
+        none = none_before at old z put.none;
       }
 
 -- one record is put in, as the law says it

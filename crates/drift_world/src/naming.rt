@@ -1,6 +1,6 @@
-ghost use Rattle.std.specs.Prelude.{◌≡◌, map};
+ghost use Rattle.std.specs.Prelude.{◌≡◌, false, map};
 ghost use Rattle.run_law.specs.device.States.{is_joined_by};
-ghost use Rattle.drift_world.specs.Naming.{named_settled};
+ghost use Rattle.drift_world.specs.Naming.{LeadsNowhere, named_settled};
 ghost use Rattle.world_law.specs.world.Steps.{follows, named_body};
 
 use crate::contents::Settled;
@@ -26,6 +26,18 @@ fn does_join(first: &NoteBody, device: DeviceId) -> bool
             verdict: Judgement::Integrates,
             ..
         } => device.0 == other.0,
+        _ => false,
+    }
+}
+
+/// May a change of a device's state follow the record?
+fn may_lead(first: &NoteBody) -> bool
+    ensures { result ≡ false → LeadsNowhere first.now }
+{
+    match first {
+        NoteBody::Corrected { .. } => true,
+        NoteBody::Permanent { verdict, .. } => matches!(verdict, Judgement::Integrates),
+        NoteBody::Compressed { verdict, .. } => matches!(verdict, Judgement::Integrates),
         _ => false,
     }
 }
@@ -65,6 +77,9 @@ fn name(one: &mut Settled, number: u64, first: &NoteBody)
 pub fn name_followers(settled: &mut VecDeque<Settled>, number: u64, first: &NoteBody)
     ensures { settled.new.items ≡ map (named_settled number first.now) settled.old.items }
 {
+    if !may_lead(first) {
+        return;
+    }
     let mut index = 0;
     while index < settled.len() {
         name(&mut settled[index], number, first);

@@ -1,39 +1,38 @@
 -- The answer for the words.
-use Rattle.std.proofs.Common.{◌≡◌, ℕ, List, Some, None, refl, sym, ap, ◌∙◌, inl, inr, []}
-use Rattle.std.specs.Prelude.{Option}
+use Rattle.std.proofs.Common.{◌≡◌, ℕ, List, Some, None, refl, sym, ap, subst, ◌∙◌, inl, inr, []}
+use Rattle.std.specs.Prelude.{◌≢◌, Option}
 use Rattle.net_plan.specs.Bounds.{BetaIsUnique}
 use Rattle.net_plan.specs.declared.network.Network.{Network}
 use Rattle.schedule_checker.specs.Refusals.{RefusalIsOne}
 use Rattle.tte_run.specs.networks.Accepting.{MeansAccepted}
 use Rattle.tte_run.specs.Putting.{Shown}
-use Rattle.tte_run.specs.Answering.{Answer, Gives, GivesOne, Answers, AnswersOne, IsDone}
+use Rattle.tte_run.specs.Answering.{Answer, ForOctets, Gives, GivesOne, Answers, AnswersOne, IsDone}
 use Rattle.tte_run.specs.networks.Checking.{IsAcceptance, IsCheckAnswer}
 use Rattle.tte_run.specs.Forms.{form_of}
 use Rattle.tte_run.specs.frames.Answer.{show_answer}
-use Rattle.tte_run.specs.Top.{AnswerIsOne, AnswersWords, IsFormAnswer, usage_answer, Completes}
+use Rattle.tte_run.specs.Top.{AnswerIsOne, AnswersWords, ForSecond, IsFormAnswer, Completes}
 use Rattle.tte_run.specs.declared.form.Form.{Form}
 use Rattle.tte_run.specs.declared.form.Form.TheVariants.{Show, Check, Run}
 use Rattle.tte_run.specs.declared.status.Status.{Status}
-use Rattle.tte_run.specs.declared.status.Status.TheVariants.{ReadFault, WriteFault}
+use Rattle.tte_run.specs.declared.status.Status.TheVariants.{ReadFault, Usage, WriteFault}
 use Rattle.tte_run.proofs.networks.Answers.{accepted_alone, network_answer_one, acceptance_one}
-use Rattle.tte_run.proofs.Octets.{for_all, for_more}
+use Rattle.tte_run.proofs.Octets.{for_more}
 use Rattle.tte_run.proofs.OneAnswers.{one_given}
 use Rattle.tte_run.proofs.traces.Completes.{run_one, run_whole}
 use Rattle.tte_run.proofs.frames.Answers.{shown_whole}
 
--- usage is the answer whatever the sources hold
-pub usage-any : (first second : Option (List ℕ)) (status : Status) (old new : Shown) → Gives usage_answer status old new
-    → AnswersWords None first second status old new
-usage-any first second status old new g =
-    for_all first (λ octets. GivesOne (IsFormAnswer None octets []) status old new)
-    (λ octets. one_given (λ a. a ≡ usage_answer) usage_answer status old new refl (λ b e. e) g)
+-- a status of such a call is not that of usage
+pub no_usage : (Is : Status → Type 0) (status : Status) → (Is Usage → ⊥) → Is status → status ≢ Usage
+no_usage Is status none is e = none (subst Is e is)
 
 -- the answer of `show` is one for its form
-pub shown-form : (first second : Option (List ℕ)) (status : Status) (old new : Shown) → Answers show_answer first status old new
+pub shown-form : (first second : Option (List ℕ)) (status : Status) (old new : Shown) → status ≢ Usage → Answers show_answer first status old new
     → AnswersWords (Some Show) first second status old new
-shown-form first second status old new g =
-    for_more first (λ octets. Gives (show_answer octets) status old new) (λ octets. GivesOne (IsFormAnswer (Some Show) octets []) status old new)
-    (λ octets h. one_given (λ a. a ≡ show_answer octets) (show_answer octets) status old new refl (λ b e. e) h) g
+shown-form first second status old new none g = (
+  none,
+  for_more first (λ octets. Gives (show_answer octets) status old new) (λ octets. GivesOne (IsFormAnswer (Some Show) octets []) status old new)
+      (λ octets h. one_given (λ a. a ≡ show_answer octets) (show_answer octets) status old new refl (λ b e. e) h) g,
+)
 
 pub completes-show : (first second : Option (List ℕ)) (status : Status) (old new : Shown) (SourceRose SinkRose : Type 0)
     → Answers show_answer first status old new
@@ -60,7 +59,7 @@ completes-check (Some octets) second status old new SourceRose SinkRose a read w
     λ quiet calm n m. told_whole octets n status old new SourceRose SinkRose m a read write quiet calm
 
 pub completes-run : (first second : Option (List ℕ)) (status : Status) (old new : Shown) (SourceRose SinkRose : Type 0)
-    → AnswersWords (Some Run) first second status old new
+    → ForOctets first (λ octets. ForSecond Run second (λ trace. GivesOne (IsFormAnswer (Some Run) octets trace) status old new))
     → (status ≡ ReadFault → SourceRose) → (status ≡ WriteFault → SinkRose) → Completes (Some Run) first second SourceRose SinkRose status
 completes-run None second status old new SourceRose SinkRose a read write = tt
 completes-run (Some octets) None status old new SourceRose SinkRose a read write = tt

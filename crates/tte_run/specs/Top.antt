@@ -44,22 +44,19 @@ AnswerIsOne =
 
 -- the fact holds for the octets of the second file, which `run` alone reads; where its source does not tell
 -- them, nothing is claimed of a run
-abbrev pub ForSecond : Option Form → Option (List ℕ) → (List ℕ → Type 0) → Type 0
-ForSecond None left P = P []
-ForSecond (Some Show) left P = P []
-ForSecond (Some Check) left P = P []
-ForSecond (Some Run) left P = IfSome left P
+abbrev pub ForSecond : Form → Option (List ℕ) → (List ℕ → Type 0) → Type 0
+ForSecond Show left P = P []
+ForSecond Check left P = P []
+ForSecond Run left P = IfSome left P
 
--- the answer for the words was given, for the octets of both files
+-- words of no form are answered by usage, and no others are; to those of a form its answer was given, for the octets
+-- of both files
 abbrev pub AnswersWords : Option Form → Option (List ℕ) → Option (List ℕ) → Status → Shown → Shown → Type 0
-AnswersWords form first second status old new =
-    ForOctets first (λ octets.
-    ForSecond form second (λ trace. GivesOne (IsFormAnswer form octets trace) status old new))
-
--- usage is answered exactly where the words are of no form
-abbrev pub AnswersUsage : Option Form → Status → Shown → Shown → Type 0
-AnswersUsage None status old new = Gives usage_answer status old new
-AnswersUsage (Some form) status old new = status ≢ Usage
+AnswersWords None first second status old new = Gives usage_answer status old new
+AnswersWords (Some form) first second status old new =
+    (status ≢ Usage)
+    × ForOctets first (λ octets.
+    ForSecond form second (λ trace. GivesOne (IsFormAnswer (Some form) octets trace) status old new))
 
 -- a file that spells a sequence is shown to its end
 abbrev pub ShowsWhole : List ℕ → Status → Type 0

@@ -30,11 +30,11 @@ pub fn run_trace<A: Source, B: Source, K: Sink>(
     ensures safe { Over K.Sink out.old out.new (WritesSafely (A.left first.old) (B.left second.old) result) }
     ensures statuses { IsRunStatus result }
     // Where the first source failed, nothing was written.
-    ensures read { result ≡ Status.ReadFault
-        → (ReadFailed A.Source first.old first.new × (out.new ≡ out.old) × (second.new ≡ second.old))
+    ensures faults { HasCause result
+        ((ReadFailed A.Source first.old first.new × (out.new ≡ out.old) × (second.new ≡ second.old))
         ⊎ (ReadFailed B.Source second.old second.new
-        × Over K.Sink out.old out.new (RunStops (A.left first.old) (B.left second.old) (B.left second.new))) }
-    ensures write { result ≡ Status.WriteFault → PutFailed K.Sink out.old out.new }
+        × Over K.Sink out.old out.new (RunStops (A.left first.old) (B.left second.old) (B.left second.new))))
+        (PutFailed K.Sink out.old out.new) }
     ensures little { (second.new ≡ second.old)
         ⊎ Over K.Sink out.old out.new (RunTakesLittle (A.left first.old) (B.left second.old) (B.left second.new)) }
 {

@@ -5,7 +5,7 @@ ghost use Rattle.tte_run.specs.Forms.{form_of};
 ghost use Rattle.tte_run.specs.Putting.{Over};
 ghost use Rattle.tte_run.specs.traces.Safely.{WritesSafely};
 ghost use Rattle.tte_run.specs.traces.Streaming.{RunStops, RunTakesLittle};
-ghost use Rattle.tte_run.specs.Top.{AnswerIsOne, AnswersUsage, AnswersWords, Completes, FailsToRead, TakesSecond, usage_answer};
+ghost use Rattle.tte_run.specs.Top.{AnswerIsOne, AnswersWords, Completes, FailsToRead, TakesSecond, usage_answer};
 
 use crate::form::{Form, read_form};
 use crate::put_line::put_last;
@@ -31,7 +31,6 @@ pub fn tte<A: Source, B: Source, K: Sink>(
         (AnswersWords (form_of words.now) (A.left first.old) (B.left second.old) result) }
     ensures safe { form_of words.now ≡ Some Form.Run
         → Over K.Sink out.old out.new (WritesSafely (A.left first.old) (B.left second.old) result) }
-    ensures usage { Over K.Sink out.old out.new (AnswersUsage (form_of words.now) result) }
     ensures faults { HasCause result
         (FailsToRead (form_of words.now)
         (ReadFailed A.Source first.old first.new) (ReadFailed B.Source second.old second.new)

@@ -20,7 +20,7 @@ use Rattle.tte_run.specs.traces.FaultLine.{fault_lines, fault_status}
 use Rattle.tte_run.specs.traces.Lines.{AreAdmitted, HaveEnded, IsFault, behind_lines}
 use Rattle.tte_run.specs.declared.trace.fault.TraceFault.{TraceFault}
 use Rattle.tte_run.specs.declared.status.Status.TheVariants.{Done}
-use Rattle.tte_units.specs.Amount.{amount, units_of}
+use Rattle.tte_units.specs.Amount.{amount}
 use Rattle.tte_units.specs.declared.units.Units.{Units}
 use Rattle.tte_run.proofs.traces.Admitted.{IsStopped, admitted_in_order, admitted_one, ended_at, front_admitted, stopped_one}
 use Rattle.tte_run.proofs.traces.EventOrder.{last_before, last_of}

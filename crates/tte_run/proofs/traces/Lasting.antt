@@ -1,5 +1,5 @@
 -- The run up to the next event lasts under this event and those behind it.
-use Rattle.std.proofs.Common.{◌≡◌, ◌⊎◌, ℕ, suc, ◌+◌, ◌≤◌, ◌<◌, ◌==◌, Bool, true, false, List, [], ◌∷◌, ◌++◌, length, filter, filter_map, Option, Some, None, slice_get, if◌then◌else◌, inl, inr, refl, sym, ap, subst, ◌∙◌, arith}
+use Rattle.std.proofs.Common.{◌≡◌, ℕ, suc, ◌+◌, ◌≤◌, ◌<◌, ◌==◌, Bool, true, false, List, [], ◌∷◌, ◌++◌, length, filter, Option, Some, None, slice_get, if◌then◌else◌, inl, inr, refl, sym, ap, subst, ◌∙◌, arith}
 use Rattle.std.specs.Prelude.{nat_le}
 use Rattle.std.specs.List.{cons_option}
 use Rattle.std.proofs.lemmas.Bool.{cases_Bool, cases_lt, leb-true}
@@ -16,23 +16,20 @@ use Rattle.net_plan.specs.declared.ids.DeviceId.{DeviceId}
 use Rattle.net_plan.specs.declared.network.Network.{Network}
 use Rattle.run_law.proofs.runs.Places.{parted}
 use Rattle.run_law.specs.declared.note.Note.{Note}
-use Rattle.run_law.specs.records.Happenings.{Happening, happenings, time_of}
+use Rattle.run_law.specs.records.Happenings.{Happening, happenings}
 use Rattle.run_law.specs.records.Order.{IsBefore, IsIn}
-use Rattle.run_law.specs.records.Ranks.{key, members_in, place_of, rank}
-use Rattle.run_law.specs.runs.DueRecords.{IsDue}
+use Rattle.run_law.specs.records.Ranks.{place_of}
 use Rattle.run_law.specs.scenario.Rates.{rate_steps, step_by}
-use Rattle.run_law.specs.scenario.Scenarios.{events_up_to}
 use Rattle.tte_run.proofs.traces.Admitted.{admitted_in_order, have_ended}
-use Rattle.tte_run.proofs.traces.EventOrder.{AreInOrder, not_earlier}
+use Rattle.tte_run.proofs.traces.EventOrder.{not_earlier}
 use Rattle.tte_run.specs.traces.Answer.{AreRecordsBefore, AreRecordsSoFar, clock_reading}
 use Rattle.tte_run.specs.traces.Lines.{AreAdmitted}
 use Rattle.tte_units.specs.Amount.{amount}
-use Rattle.tte_units.specs.declared.units.Units.{Units}
 use Rattle.drift_world.specs.Running.{behind_events, last_time}
 use Rattle.world_law.proofs.runs.Applies.{event_cause, event_place, kinds}
 use Rattle.world_law.proofs.runs.Stays.{run_stays_under_more}
 use Rattle.world_law.specs.source.Agreeing.{Agree, scenario}
-use Rattle.world_law.specs.source.Applying.{MayFollow, place_of_event}
+use Rattle.world_law.specs.source.Applying.{place_of_event}
 
 -- ---- later events change nothing before them
 

@@ -1,8 +1,7 @@
 -- The devices, links and virtual links of a record of a run are the network's.
-use Rattle.std.proofs.Common.{◌≡◌, ◌⊎◌, ℕ, ◌==◌, ◌≤◌, ◌<◌, Bool, true, false, List, [], ◌∷◌, ◌++◌, length, slice_get, Option, Some, None, option_map, append_assoc, inl, inr, refl, sym, ap, subst, ◌∙◌, arith}
+use Rattle.std.proofs.Common.{◌≡◌, ℕ, ◌<◌, Bool, true, false, List, [], ◌∷◌, ◌++◌, length, Option, Some, None, option_map, append_assoc, inl, inr, refl, sym, ap, subst, ◌∙◌}
 use Rattle.std.proofs.lemmas.Bool.{cases_lt, eq-eqb}
 use Rattle.std.proofs.lemmas.Option.{slice_get_within}
-use Rattle.std.specs.List.{All}
 use Rattle.std.specs.Option.{IsSomeAnd, option_map_or}
 use Rattle.fault_hypothesis.specs.Watching.{AreOfNetwork as AreEventsOf}
 use Rattle.net_plan.specs.Belonging.{IsOfNetwork}
@@ -18,14 +17,12 @@ use Rattle.net_plan.specs.declared.tables.Link.{Link}
 use Rattle.net_plan.specs.declared.tables.Role.{Role}
 use Rattle.net_plan.specs.declared.tables.Way.TheVariants.{Up, Down}
 use Rattle.net_plan.specs.declared.tables.Way.{Way}
-use Rattle.net_plan.specs.Rules.{IsChildOf}
 use Rattle.report_text.specs.Ranges.{HasPassage, HasStream, IsBodyOf, IsNoteOf}
 use Rattle.run_law.proofs.law.FirstPlaces.{numbered_in}
 use Rattle.run_law.proofs.runs.NetworkRuns.{one_more}
 use Rattle.run_law.proofs.runs.Places.{in_left, in_right, parted}
 use Rattle.run_law.specs.control.Leaving.{Departs, Departure, Gives}
 use Rattle.run_law.specs.control.Wires.{Arrives, Signal}
-use Rattle.run_law.specs.declared.judgement.Why.TheVariants as whys
 use Rattle.run_law.specs.declared.note.Note.{Note}
 use Rattle.run_law.specs.declared.note.NoteBody.TheVariants as kinds
 use Rattle.run_law.specs.declared.note.NoteBody.{NoteBody}
@@ -34,7 +31,7 @@ use Rattle.run_law.specs.records.Order.{IsIn}
 use Rattle.run_law.specs.records.Ranks.{place_of}
 use Rattle.run_law.specs.runs.DueRecords.{IsArrivedRecord, IsCaused, IsDue, IsScenarioRun}
 use Rattle.run_law.specs.runs.Runs.{IsFounded}
-use Rattle.run_law.specs.scenario.Devices.{IsParentOf, has_role}
+use Rattle.run_law.specs.scenario.Devices.{has_role}
 use Rattle.run_law.specs.scenario.Scenarios.{Scenario}
 use Rattle.run_law.specs.timed.Dispatching.{Dispatches}
 use Rattle.run_law.specs.timed.Receptions.{ArrivesAs}

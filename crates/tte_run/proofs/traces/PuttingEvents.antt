@@ -1,5 +1,5 @@
 -- An event that befalls a world, whose records are put.
-use Rattle.std.proofs.Common.{◌≡◌, ◌+◌, ◌≤◌, ◌≤ℤ◌, pos, unsigned_abs, ℕ, List, [], ◌∷◌, ◌++◌, length, true, false, Ok, Err, inl, inr, refl, sym, ap, ◌∙◌, subst, append_assoc, arith}
+use Rattle.std.proofs.Common.{◌≡◌, ◌+◌, unsigned_abs, ℕ, List, [], ◌∷◌, ◌++◌, length, Ok, Err, inl, inr, refl, sym, ap, ◌∙◌, subst, append_assoc}
 use Rattle.std.specs.Io.KnownBytes.{Appends}
 use Rattle.std.proofs.lemmas.List.{append-nil}
 use Rattle.device_machines.specs.Standing.{StandsAsDevice}
@@ -12,7 +12,6 @@ use Rattle.net_plan.specs.declared.network.Network.{Network}
 use Rattle.report_text.specs.NoteLine.{note_line, report_of}
 use Rattle.run_law.proofs.runs.Places.{before_of_time}
 use Rattle.run_law.specs.declared.note.Note.{Note}
-use Rattle.run_law.specs.records.Order.{IsBefore}
 use Rattle.run_law.specs.scenario.Hypothesis.{IsWithinHypothesis}
 use Rattle.trace_text.specs.Ranges.{IsWhatInRange}
 use Rattle.tte_io.specs.Faults.{next_count}
@@ -27,9 +26,8 @@ use Rattle.tte_run.specs.Putting.{Shown, PutsLines, PutFails}
 use Rattle.tte_run.specs.declared.status.Status.{Status}
 use Rattle.tte_run.specs.declared.status.Status.TheVariants.{OutOfMemory, WriteFault}
 use Rattle.tte_run.specs.traces.Answer.{AreRecordsBefore, AreRecordsSoFar}
-use Rattle.tte_run.specs.traces.Records.{AreEarlier, ComesNext, ExactWorld, IsOnTheWay, IsUnderway, MayCome, PutsEvent, PutsUntil, StandsExact}
+use Rattle.tte_run.specs.traces.Records.{AreEarlier, ComesNext, ExactWorld, IsOnTheWay, MayCome, PutsEvent, PutsUntil, StandsExact}
 use Rattle.tte_units.specs.Amount.{amount}
-use Rattle.tte_units.specs.declared.units.Units.{Units}
 use Rattle.drift_world.specs.Running.{HasReached, HoldsATime, IsOpenTo, MayBefall, Reaches, behind_events, last_time}
 
 -- ---- the event may befall the world whose earlier records were put

@@ -15,7 +15,6 @@ use Rattle.tte_run.specs.traces.Answer.{AreRecordsBefore}
 use Rattle.tte_run.proofs.traces.Worlds.{below_amount, go_on}
 use Rattle.drift_world.specs.Running.{Reaches}
 use Rattle.run_law.proofs.runs.Places.{before_later_time}
-use Rattle.run_law.specs.records.Order.{IsBefore}
 use Rattle.tte_run.specs.Putting.{Shown, PutsLines, PutFails}
 use Rattle.tte_run.specs.declared.status.Status.{Status}
 use Rattle.tte_run.specs.declared.status.Status.TheVariants.{Done, WriteFault, OutOfMemory}

@@ -1,5 +1,5 @@
 -- The answer of `run` for its two sources.
-use Rattle.std.proofs.Common.{◌≡◌, ℕ, List, Option, Some, None, inr, refl}
+use Rattle.std.proofs.Common.{ℕ, List, Option, Some, None, inr, refl}
 use Rattle.std.specs.Prelude.{IfSome}
 use Rattle.net_plan.specs.declared.network.Network.{Network}
 use Rattle.schedule_checker.specs.Refusals.{RefusalIsOne}
@@ -11,7 +11,7 @@ use Rattle.tte_run.specs.traces.Answer.{IsRunAnswer}
 use Rattle.tte_run.specs.traces.Steps.{RunEnds}
 use Rattle.tte_run.specs.declared.accepting.NoNetwork.{NoNetwork}
 use Rattle.tte_run.specs.declared.status.Status.{Status}
-use Rattle.tte_run.specs.declared.status.Status.TheVariants.{OutOfMemory, ReadFault}
+use Rattle.tte_run.specs.declared.status.Status.TheVariants.{OutOfMemory}
 use Rattle.tte_run.proofs.networks.Answers.{accepted_network, no_network}
 use Rattle.tte_run.proofs.Octets.{for_more}
 use Rattle.tte_run.proofs.OneAnswers.{none_put}

@@ -1,4 +1,5 @@
 use Rattle.std.proofs.Common.{◌<◌, arith, length}
+use Rattle.drift_world.proofs.Leading.{none_named}
 use Rattle.drift_world.proofs.Mapped.{mapped_more, part_mapped}
 use Rattle.drift_world.specs.Naming.{named_settled}
 use Rattle.drift_world.proofs.naming.name_followers.Goals as goal
@@ -17,3 +18,7 @@ loop-index-preserved c =
       mapped_more (named_settled c.args.number c.args.first.now) old c.loop-index.settled.items i c.index_mut.result.now c.name.new.one inside
           c.loop-index.invariant.1 c.index_mut.ensures.value c.name.ensures,
     )
+
+pub returns-then-not-may_lead : goal.returns-then-not-may_lead
+returns-then-not-may_lead c =
+    none_named c.args.number c.args.first.now (c.may_lead.ensures c.if-not-may_lead.true) c.args.settled.now.items

@@ -1,11 +1,14 @@
 use Rattle.std.proofs.Common.{◌≡◌, ◌⊎◌, ℕ, List, Option, Some, None, inl, inr, subst, rules}
 use Rattle.tte_run.specs.Forms.{form_of}
+use Rattle.tte_run.specs.frames.Answer.{IsShowStatus}
+use Rattle.tte_run.specs.networks.Checking.{IsCheckStatus}
+use Rattle.tte_run.specs.traces.Answer.{IsRunStatus}
 use Rattle.tte_run.specs.Putting.{Shown, shown_by}
 use Rattle.tte_run.specs.Top.{AnswersWords, Completes}
 use Rattle.tte_run.specs.declared.form.Form.{Form}
 use Rattle.tte_run.specs.declared.form.Form.TheVariants.{Show, Check, Run}
 use Rattle.tte_run.specs.declared.status.Status.{Status}
-use Rattle.tte_run.proofs.TopAnswers.{usage-any, shown-form, completes-show, completes-check, completes-run}
+use Rattle.tte_run.proofs.TopAnswers.{no_usage, shown-form, completes-show, completes-check, completes-run}
 use Rattle.tte_run.proofs.top.tte.Goals as goal
 
 -- what is answered for the form is answered for the words
@@ -29,7 +32,8 @@ returns-in-Some-Show-clause-general g c =
     let second = g.B.Source.left c.args.second.now in
     let old = shown_by g.K.Sink c.args.out.now in
     let new = shown_by g.K.Sink c.show.new.out in
-    words_as form first second c.show.result old new (shown-form first second c.show.result old new c.show.ensures.general)
+    words_as form first second c.show.result old new (shown-form first second c.show.result old new
+    (no_usage IsShowStatus c.show.result (λ none. none) c.show.ensures.statuses) c.show.ensures.general)
 
 pub returns-in-Some-Show-clause-complete : goal.returns-in-Some-Show-clause-complete
 returns-in-Some-Show-clause-complete g c =
@@ -48,7 +52,8 @@ returns-in-Some-Check-clause-general g c =
     let second = g.B.Source.left c.args.second.now in
     let old = shown_by g.K.Sink c.args.out.now in
     let new = shown_by g.K.Sink c.check_network.new.out in
-    words_as form first second c.check_network.result old new c.check_network.ensures.general
+    words_as form first second c.check_network.result old new
+    (no_usage IsCheckStatus c.check_network.result (λ none. none) c.check_network.ensures.statuses, c.check_network.ensures.general)
 
 pub returns-in-Some-Check-clause-complete : goal.returns-in-Some-Check-clause-complete
 returns-in-Some-Check-clause-complete g c =
@@ -68,7 +73,8 @@ returns-in-Some-Run-clause-general g c =
     let second = g.B.Source.left c.args.second.now in
     let old = shown_by g.K.Sink c.args.out.now in
     let new = shown_by g.K.Sink c.run_trace.new.out in
-    words_as form first second c.run_trace.result old new c.run_trace.ensures.general
+    words_as form first second c.run_trace.result old new
+    (no_usage IsRunStatus c.run_trace.result (λ none. none) c.run_trace.ensures.statuses, c.run_trace.ensures.general)
 
 pub returns-in-Some-Run-clause-complete : goal.returns-in-Some-Run-clause-complete
 returns-in-Some-Run-clause-complete g c =
@@ -79,7 +85,7 @@ returns-in-Some-Run-clause-complete g c =
     let new = shown_by g.K.Sink c.run_trace.new.out in
     whole_as form first second c.run_trace.result _ _
     (completes-run first second c.run_trace.result old new _ _ c.run_trace.ensures.general
-    (λ e. read_rose (c.run_trace.ensures.read e)) c.run_trace.ensures.write)
+    (λ e. read_rose (c.run_trace.ensures.faults.read e)) c.run_trace.ensures.faults.write)
 
 pub returns-in-None-clause-general : goal.returns-in-None-clause-general
 returns-in-None-clause-general g c =
@@ -88,4 +94,4 @@ returns-in-None-clause-general g c =
     let second = g.B.Source.left c.args.second.now in
     let old = shown_by g.K.Sink c.args.out.now in
     let new = shown_by g.K.Sink c.put_usage.new.out in
-    words_as form first second c.put_usage.result old new (usage-any first second c.put_usage.result old new c.put_usage.ensures.gives)
+    words_as form first second c.put_usage.result old new c.put_usage.ensures.gives

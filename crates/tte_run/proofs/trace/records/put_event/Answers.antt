@@ -1,4 +1,4 @@
-use Rattle.std.proofs.Common.{◌++◌, ◌≡◌, ◌∙◌, ap, sym}
+use Rattle.std.proofs.Common.{◌++◌}
 use Rattle.tte_run.specs.Putting.{shown_by}
 use Rattle.tte_run.proofs.traces.PuttingEvents.{before_event, event_fails, event_put, holds_a_time, line_next, may_befall, no_memory_for_event, now_is, open_now}
 use Rattle.tte_run.proofs.trace.records.put_event.Goals as goal

@@ -1,4 +1,4 @@
-use Rattle.std.proofs.Common.{◌++◌, ◌≡◌, ◌+◌, ◌+ℤ◌, pos, sym, arith}
+use Rattle.std.proofs.Common.{arith}
 use Rattle.std.proofs.lemmas.Int.{ints}
 use Rattle.tte_run.specs.Putting.{shown_by}
 use Rattle.tte_run.proofs.traces.PuttingRecords.{rest_cut, rest_done}

@@ -1,4 +1,4 @@
-use Rattle.std.proofs.Common.{◌≡◌, ◌+◌, ◌<◌, pos, ◌<ℤ◌, ◌≤ℤ◌, ℕ, ◌∙◌, true, [], ◌∷◌, ◌++◌, inl, inr, refl, sym, subst, arith}
+use Rattle.std.proofs.Common.{◌<◌, pos, ◌<ℤ◌, ℕ, ◌∙◌, [], ◌∷◌, ◌++◌, inl, inr, refl, sym, subst, arith}
 use Rattle.tte_io.specs.Faults.{Rose}
 use Rattle.tte_units.specs.Amount.{amount}
 use Rattle.run_law.specs.declared.note.Note.{Note as NoteValue}
