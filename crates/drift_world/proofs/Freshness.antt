@@ -11,6 +11,7 @@ use Rattle.net_plan.specs.Ranges.{IsInRange, IsLinkInRange}
 use Rattle.net_plan.specs.declared.event.Event.{Event}
 use Rattle.net_plan.specs.declared.ids.DeviceId.{DeviceId}
 use Rattle.net_plan.specs.declared.network.Network.{Network}
+use Rattle.run_law.specs.law.FirstLaws.{IsEventInRange}
 use Rattle.run_law.specs.machines.Nodes.{Node}
 use Rattle.run_law.specs.scenario.Hypothesis.{AreWithinHypothesis}
 use Rattle.schedule_tables.proofs.EntryLemmas.{all_at}
@@ -116,5 +117,6 @@ module _ {C M : Type 0} (fresh : ℕ → C) (last_step : C → ℕ) (network : N
           (let least = range.precision.least in omega (arith, ints, least)) range rules;
       clocks = λ device lt. ap (λ cs. slice_get cs device.0) first.clocks ∙ found_in _ _ _ lt;
       of_network = All-nil (λ (e : Event). IsOfNetwork network e.what);
+      times = All-nil IsEventInRange;
       within = none_within network;
     }

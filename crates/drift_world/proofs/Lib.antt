@@ -26,7 +26,7 @@ pub mod Givings
 pub mod Hearings
 pub mod Hears
 pub mod HiddenCauses
-pub mod Histories
+pub mod Admitted
 pub mod Holdings
 pub mod Launches
 pub mod LeastPoints

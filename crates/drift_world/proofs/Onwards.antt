@@ -22,13 +22,14 @@ use Rattle.drift_world.proofs.Agreements.{clock_more, reads_same, reads_value}
 use Rattle.drift_world.proofs.EventRuns.{run_behind_events}
 use Rattle.drift_world.proofs.Fitting.{some_is}
 use Rattle.drift_world.proofs.Forwards.{forward}
-use Rattle.drift_world.proofs.Histories.{all_within}
+use Rattle.drift_world.proofs.Admitted.{all_within}
 use Rattle.drift_world.proofs.Steadiness.{steady}
 use Rattle.drift_world.proofs.Suits.{suits}
 use Rattle.drift_world.specs.Applying.{IsShown, clock_after}
 use Rattle.drift_world.specs.Following.{Follows}
+use Rattle.run_law.specs.law.FirstLaws.{IsEventInRange}
 use Rattle.drift_world.specs.Keeping.{keeps}
-use Rattle.drift_world.specs.Running.{IsOpenTo, StandsUnder, behind_events, clock_of, reading_of}
+use Rattle.drift_world.specs.Running.{HoldsATime, IsOpenTo, StandsUnder, behind_events, clock_of, reading_of}
 use Rattle.drift_world.specs.Views.{world_of}
 use Rattle.drift_world.specs.declared.kept.Kept.{Kept}
 use Rattle.drift_world.specs.declared.memory.OutOfMemory.{OutOfMemory}
@@ -39,11 +40,18 @@ use Rattle.world_law.specs.source.Applying.{note_of_event}
 use Rattle.world_law.specs.world.Steps.{FitsWorld}
 use Rattle.world_law.specs.world.World.{Stands, World}
 
+-- an event of a time from 0 on, with a hold from 0 on, is in range
+in_range : (event : Event) (time : ℕ) → event.time.0 ≡ pos time → HoldsATime event.what → IsEventInRange event
+in_range event time at hold = record {
+  time = omega (arith, ints, at);
+  hold = λ link way delay is. subst HoldsATime is hold;
+}
+
 module _ {C M : Type 0} (fresh : ℕ → C) (after_step : C → ℕ → ℤ → C) (reading : C → ℕ → ℕ) (grain : C → ℕ) (count : C → ℕ → ℕ)
     (law : IsLawful fresh after_step reading grain count) (stands : M → Network → DeviceId → Node → Type 0) (network : Network) (state : State C M)
     (events : List Event) (notes : List Note) (event : Event)
     (under : StandsUnder fresh after_step reading stands network (world_of network state) events notes)
-    (time : event.time.0 ≡ pos state.time) (within : IsWithinHypothesis network events event) where
+    (time : event.time.0 ≡ pos state.time) (hold : HoldsATime event.what) (within : IsWithinHypothesis network events event) where
   -- no event is before time 0, or later than the present
   begun_before : (e : Event) → IsIn e events → pos 0 ≤ℤ e.time.0
   begun_before e i = let at = in_get events e i in under.is.befallen.begun at.0 e at.1
@@ -98,6 +106,7 @@ module _ {C M : Type 0} (fresh : ℕ → C) (after_step : C → ℕ → ℤ → 
     clocks = λ device lt. clocks device (clock_of fresh after_step network events device) (under.clocks device lt)
         ∙ ap Some (sym (clock_more fresh after_step network events event device));
     of_network = All-push (λ (e : Event). IsOfNetwork network e.what) events event under.of_network of_network;
+    times = All-push IsEventInRange events event under.times (in_range event state.time time hold);
     within = all_within network events event under.within within;
   }
 
@@ -110,7 +119,7 @@ more_ok P Q K (Err e) step known it = it
 module _ {C M E : Type 0} (fresh : ℕ → C) (after_step : C → ℕ → ℤ → C) (reading : C → ℕ → ℕ) (grain : C → ℕ) (count : C → ℕ → ℕ)
     (law : IsLawful fresh after_step reading grain count) (stands : M → Network → DeviceId → Node → Type 0) (network : Network) (state new : State C M)
     (event : Event) (result : Result Note E) (many : length state.clocks.items ≡ length network.device) (early : state.early ≡ true)
-    (time : event.time.0 ≡ pos state.time) (of_network : IsOfNetwork network event.what)
+    (time : event.time.0 ≡ pos state.time) (hold : HoldsATime event.what) (of_network : IsOfNetwork network event.what)
     (shown : (device : DeviceId) → event.what ≡ On device
     → (is : DeviceState) × IsShown (keeps stands) network state.machines.items device is)
     (still : (new.time ≡ state.time) × (new.early ≡ state.early))
@@ -130,12 +139,12 @@ module _ {C M E : Type 0} (fresh : ℕ → C) (after_step : C → ℕ → ℤ �
       let h = reading_of fresh after_step reading network (events ++ event ∷ []) in
       let fits = suits reading (keeps stands) network f events (world_of network state) notes under.is early event within event.what refl under.within of_network
       shown in
-      let goes = followed fresh after_step reading grain count law stands network state events notes event under time within many in
+      let goes = followed fresh after_step reading grain count law stands network state events notes event under time hold within many in
       more_ok (λ (note : Note). (note ≡ note_of_event notes events event)
       × Stands reading (keeps stands) (scenario network h (events ++ event ∷ [])) (world_of network new) (notes ++ note ∷ []))
       (λ (note : Note). StandsUnder fresh after_step reading stands network (world_of network new) (events ++ event ∷ []) (notes ++ note ∷ []))
       _ result
-      (λ known note it. stands_again fresh after_step reading grain count law stands network state events notes event under time within new (notes ++ note ∷ [])
+      (λ known note it. stands_again fresh after_step reading grain count law stands network state events notes event under time hold within new (notes ++ note ∷ [])
       of_network known it.1)
       clocks (step f h events notes under.is goes fits)
 
@@ -177,7 +186,7 @@ module _ {C M E : Type 0} (fresh : ℕ → C) (after_step : C → ℕ → ℤ �
 module _ {C M : Type 0} (fresh : ℕ → C) (after_step : C → ℕ → ℤ → C) (reading : C → ℕ → ℕ) (grain : C → ℕ) (count : C → ℕ → ℕ)
     (law : IsLawful fresh after_step reading grain count) (stands : M → Network → DeviceId → Node → Type 0) (network : Network) (state new : State C M)
     (world : World C (Kept M)) (view : world_of network state ≡ world) (event : Event) (note : Note)
-    (many : length state.clocks.items ≡ length network.device) (open_to : IsOpenTo world event) (of_network : IsOfNetwork world.network event.what)
+    (many : length state.clocks.items ≡ length network.device) (open_to : IsOpenTo world event) (hold : HoldsATime event.what) (of_network : IsOfNetwork world.network event.what)
     (shown : (n : Network) (device : DeviceId) → event.what ≡ On device → (is : DeviceState) × IsShown (keeps stands) n
     state.machines.items device is)
     (still : (new.time ≡ state.time) × (new.early ≡ state.early))
@@ -202,10 +211,10 @@ module _ {C M : Type 0} (fresh : ℕ → C) (after_step : C → ℕ → ℤ → 
       let answer : Result Note OutOfMemory = Ok note in
       let shows : (device : DeviceId) → event.what ≡ On device → (is : DeviceState) × IsShown (keeps stands) network state.machines.items device is =
       λ device on. shown network device on in (
-        goes_on_there fresh after_step reading grain count law stands network state new event answer many early time own shows still clocks step n events notes
+        goes_on_there fresh after_step reading grain count law stands network state new event answer many early time hold own shows still clocks step n events notes
             here within,
         subst (λ (w : World C (Kept M)). IsRunOf n (reading_of fresh after_step reading n (events ++ event ∷ [])) (events ++ event ∷ [])
             (behind_events w.now) (notes ++ note ∷ [])) view
-            (runs_on_there fresh after_step reading grain count law stands network state new event answer many early time own shows still clocks step n events
+            (runs_on_there fresh after_step reading grain count law stands network state new event answer many early time hold own shows still clocks step n events
             notes here within),
       )

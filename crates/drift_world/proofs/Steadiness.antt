@@ -18,7 +18,7 @@ use Rattle.schedule_tables.proofs.Margins.{shape_rules}
 use Rattle.schedule_tables.specs.Rules.{KeepsRules}
 use Rattle.schedule_tables.specs.declared.rule.Rule.TheVariants.{Precision}
 use Rattle.tte_units.specs.Amount.{amount}
-use Rattle.drift_world.proofs.Histories.{history}
+use Rattle.safe_runs.proofs.Histories.{history}
 use Rattle.drift_world.specs.Running.{reading_of}
 use Rattle.world_law.proofs.devices.Leaps.{no_leap}
 use Rattle.world_law.specs.device.Ready.{IsSteady}

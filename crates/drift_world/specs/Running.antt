@@ -1,6 +1,5 @@
 -- The run that a world gives: where the events applied to it, and the records that it gave, leave it.
 use Rattle.std.specs.Prelude.{◌≡◌, ◌⊎◌, ℕ, ◌-◌, ◌^◌, ◌<◌, ◌≤◌, ℤ, pos, ◌≤ℤ◌, ◌<ℤ◌, true, false, List, [], ◌∷◌, length, fold, slice_get, Option, Some, option_to_list, Result, Ok, Err, All}
-use Rattle.drift_clock.specs.Readings.{reading_at, value_after}
 use Rattle.net_plan.specs.Belonging.{IsOfNetwork}
 use Rattle.net_plan.specs.declared.event.Event.{Event}
 use Rattle.net_plan.specs.declared.event.What.TheVariants.{Hold}
@@ -9,27 +8,17 @@ use Rattle.net_plan.specs.declared.ids.DeviceId.{DeviceId}
 use Rattle.net_plan.specs.declared.network.Network.{Network}
 use Rattle.run_law.specs.declared.note.Note.{Note}
 use Rattle.run_law.specs.declared.note.NoteBody.TheVariants.{Event as Befalls}
+use Rattle.run_law.specs.law.FirstLaws.{IsEventInRange}
 use Rattle.run_law.specs.machines.Nodes.{Node}
 use Rattle.run_law.specs.scenario.Hypothesis.{AreWithinHypothesis, IsWithinHypothesis}
-use Rattle.run_law.specs.scenario.Rates.{rate_steps}
-use Rattle.tte_units.specs.Amount.{amount, units_of}
+pub use Rattle.safe_runs.specs.Under.{clock_of, last_time, reading_of}
 use Rattle.tte_units.specs.declared.units.Units.{Units}
 use Rattle.drift_world.specs.Keeping.{keeps}
 use Rattle.drift_world.specs.declared.kept.Kept.{Kept}
 use Rattle.world_law.specs.source.Agreeing.{scenario}
 use Rattle.world_law.specs.world.World.{Stands, World}
 
--- what the rates that the events set make of a device's clock
-abbrev pub clock_of : {C : Type 0} → (ℕ → C) → (C → ℕ → ℤ → C) → Network → List Event → DeviceId → C
-clock_of fresh after_step network events device =
-    value_after after_step (fresh (amount network.grain)) (rate_steps events device)
-
--- what a device's clock reads at a time, under the rates that the events set
-abbrev pub reading_of : {C : Type 0} → (ℕ → C) → (C → ℕ → ℤ → C) → (C → ℕ → ℕ) → Network → List Event → DeviceId → ℕ → ℕ
-reading_of fresh after_step reading network events device time =
-    reading_at after_step reading (fresh (amount network.grain)) (rate_steps events device) time
-
--- the events are the network's, and each is within the fault hypothesis; the records given are those of the run under
+-- the events are the network's, their times are none below 0, and each is within the fault hypothesis; the records given are those of the run under
 -- them, and each part of the world is as these events and records leave it
 pub record StandsUnder {C M : Type 0} (fresh : ℕ → C) (after_step : C → ℕ → ℤ → C) (reading : C → ℕ → ℕ)
     (stands : M → Network → DeviceId → Node → Type 0) (network : Network) (world : World C (Kept M)) (events : List Event)
@@ -38,6 +27,7 @@ pub record StandsUnder {C M : Type 0} (fresh : ℕ → C) (after_step : C → �
   pub clocks : (device : DeviceId) → device.0 < length network.device
       → slice_get world.clocks device.0 ≡ Some (clock_of fresh after_step network events device)
   pub of_network : All (λ e. IsOfNetwork network e.what) events
+  pub times : All IsEventInRange events
   pub within : AreWithinHypothesis network events
 
 -- some events and records leave the world where it stands, and after these events this one is within the hypothesis
@@ -67,10 +57,6 @@ event_note number line event = record { number = number; time = event.time; body
 -- behind the records of the events of a time, which have the rank 1
 abbrev pub behind_events : ℕ → List ℕ
 behind_events time = time ∷ 2 ∷ []
-
--- the time of the last event, or 0
-abbrev pub last_time : List Event → Units
-last_time events = fold (λ before event. event.time) (units_of 0) events
 
 -- the record that was given, if one was
 abbrev pub given_by : {E : Type 0} → Result (Option Note) E → List Note

@@ -39,6 +39,7 @@ impl<'a, C: Clock, M: Machine + Drop> Model for World<'a, C, M> {
 }
 
 impl<'a, C: Clock, M: Machine + Drop> World<'a, C, M> {
+    ghost use Rattle.safe_runs.specs.Headline.{IsSafeFront};
     ghost use Rattle.drift_world.specs.Beginning.{AreFresh};
     ghost use Rattle.drift_world.specs.Running.{HoldsATime, IsOpenTo, MayBefall, Reaches, StandsUnder, behind_events, event_note, given_by, left_of, reading_of};
 
@@ -92,7 +93,8 @@ impl<'a, C: Clock, M: Machine + Drop> World<'a, C, M> {
         Ok(note)
     }
 
-    /// The next record before a time, which is at most 2^60 + 1. It is None exactly where none is due before it.
+    /// The next record before a time, which is at most 2^60 + 1. It is None exactly where none is due before it: then
+    /// the records given are the run up to the time, and in the first 2^20 cycles this run is safe.
     ///
     /// Where it is None, and the end has not come, the world comes to this time. After the end the time is at most the
     /// one behind it. On an error no record is lost: those to come are the same.
@@ -106,7 +108,7 @@ impl<'a, C: Clock, M: Machine + Drop> World<'a, C, M> {
             → StandsUnder C.fresh C.after_step C.reading M.stands network self.old events notes
             → pos self.old.now <ℤ until.0
             → IfOk result (λ next. IfNone next
-            (IsRunOf network (reading_of C.fresh C.after_step C.reading network events) events (amount until ∷ []) notes)) }
+            (IsSafeFront C.fresh C.after_step C.reading network events (amount until) notes)) }
         ensures reached { IfOk result (λ next. IfNone next (Reaches self.old self.new until)) }
         ensures before { IfOk result (λ next. IfSome next (λ note. (note.time ≡ units_of self.new.now) × (note.time.0 <ℤ until.0))) }
         ensures fewer { IfOk result (λ next. IfSome next (λ _. left_of self.new < left_of self.old)) }

@@ -1,14 +1,18 @@
 -- The laws, for clocks that keep the clock laws.
-use Rattle.std.proofs.Common.{ℕ, ℤ}
+use Rattle.std.proofs.Common.{ℕ, ℤ, List, [], ◌∷◌, arith}
 use Rattle.drift_clock.specs.ClockLaws.{AlwaysBeginsAtZero, AlwaysKeepsClockLaws}
+use Rattle.net_plan.specs.declared.event.Event.{Event}
+use Rattle.net_plan.specs.declared.network.Network.{Network}
+use Rattle.run_law.specs.declared.note.Note.{Note}
+use Rattle.run_law.specs.runs.DueRecords.{IsRunOf}
 use Rattle.safe_runs.proofs.Fronts.{goes_well_before, part}
 use Rattle.safe_runs.proofs.Going.{goes_well}
 use Rattle.safe_runs.proofs.Lawful.{lawful}
 use Rattle.safe_runs.proofs.Times.{end_in_time, last_in_time}
+use Rattle.safe_runs.specs.Headline.{IsSafeFront}
 use Rattle.safe_runs.specs.Laws.{EndedRunsAreSafe, FrontRunsAreSafe, OwnRunsAreSafe, RunsSoFarAreSafe}
-use Rattle.safe_runs.specs.Under.{scenario_of}
+use Rattle.safe_runs.specs.Under.{IsUnder, last_time, reading_of, scenario_of}
 use Rattle.tte_units.specs.Amount.{amount}
-use Rattle.drift_world.specs.Running.{last_time}
 
 pub own : {C : Type 0} (fresh : ℕ → C) (after_step : C → ℕ → ℤ → C) (reading : C → ℕ → ℕ) → AlwaysKeepsClockLaws fresh after_step reading
     → AlwaysBeginsAtZero fresh after_step reading → OwnRunsAreSafe fresh after_step reading
@@ -26,9 +30,22 @@ front fresh after_step reading laws zero_first network events time written under
       rest = parted.rest;
       parts = parted.parts;
       run = parted.run;
-      well = goes_well_before s parted.front time (lawful fresh after_step reading laws zero_first network events under) short parted.run;
+      well = goes_well_before s parted.front time (lawful fresh after_step reading laws zero_first network events under)
+          (omega (arith, short)) parted.run;
       only_events = parted.only_events;
     }
+
+-- a run up to before a time goes well up to there
+pub before : {C : Type 0} (fresh : ℕ → C) (after_step : C → ℕ → ℤ → C) (reading : C → ℕ → ℕ) → AlwaysKeepsClockLaws fresh after_step reading
+    → AlwaysBeginsAtZero fresh after_step reading → (network : Network) (events : List Event) (time : ℕ) (written : List Note) → IsUnder network events
+    → IsRunOf network (reading_of fresh after_step reading network events) events (time ∷ []) written
+    → IsSafeFront fresh after_step reading network events time written
+before fresh after_step reading laws zero_first network events time written under run = record {
+  run = run;
+  well = λ short.
+      goes_well_before (scenario_of fresh after_step reading network events) written time
+      (lawful fresh after_step reading laws zero_first network events under) short run;
+}
 
 pub ended : {C : Type 0} (fresh : ℕ → C) (after_step : C → ℕ → ℤ → C) (reading : C → ℕ → ℕ) → AlwaysKeepsClockLaws fresh after_step reading
     → AlwaysBeginsAtZero fresh after_step reading → EndedRunsAreSafe fresh after_step reading

@@ -17,6 +17,7 @@ use Rattle.run_law.specs.records.Order.{IsIn}
 use Rattle.run_law.specs.scenario.Hypothesis.{AreWithinHypothesis, IsWithinHypothesis}
 use Rattle.run_law.specs.scenario.Rates.{rate_steps, step_by}
 use Rattle.tte_units.specs.Amount.{amount}
+use Rattle.tte_units.specs.declared.rates.Ppb.{Ppb}
 
 -- ---- a rate that is set is slow
 
@@ -41,6 +42,10 @@ slow_event network before event within = of event.what refl
     of (events.Break other) same = tt
     of (events.Send link octets) same = tt
     of events.End same = tt
+
+pub slow_rate : (network : Network) (before : List Event) (event : Event) (device : DeviceId) (rate : Ppb) → IsWithinHypothesis network before event
+    → event.what ≡ events.Rate device rate → unsigned_abs rate.0 ≤ network.rho
+slow_rate network before event device rate within same = subst (IsSlow network.rho) same (slow_event network before event within)
 
 -- ---- the events in their order
 

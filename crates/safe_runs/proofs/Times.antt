@@ -10,10 +10,9 @@ use Rattle.run_law.specs.declared.outside.Outside.TheVariants.{Late}
 use Rattle.run_law.specs.records.Order.{IsIn}
 use Rattle.run_law.specs.runs.DueRecords.{EndsAt}
 use Rattle.safe_runs.proofs.Lawful.{begun}
-use Rattle.safe_runs.specs.Under.{IsUnder}
+use Rattle.safe_runs.specs.Under.{IsUnder, last_time}
 use Rattle.tte_units.specs.Amount.{amount, units_of}
 use Rattle.tte_units.specs.declared.units.Units.{Units}
-use Rattle.drift_world.specs.Running.{last_time}
 
 not_late : (z : ℤ) (n : ℕ) → pos 0 ≤ℤ z → (pos n <ℤ z → ⊥) → unsigned_abs z ≤ n
 not_late (pos m) n begun not = grind (arith, ints)

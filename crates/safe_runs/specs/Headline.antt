@@ -1,5 +1,5 @@
 -- What is promised of the records that are written of a run.
-use Rattle.std.specs.Prelude.{◌≡◌, ℕ, ◌+◌, ◌<◌, ◌≤◌, ℤ, true, List, [], ◌∷◌, ◌++◌}
+use Rattle.std.specs.Prelude.{◌≡◌, ℕ, ◌+◌, ◌*◌, ◌^◌, ◌<◌, ◌≤◌, ℤ, true, List, [], ◌∷◌, ◌++◌}
 use Rattle.net_plan.specs.Places.{IsSwitchOf}
 use Rattle.net_plan.specs.declared.event.Event.{Event}
 use Rattle.net_plan.specs.declared.event.What.{What}
@@ -17,11 +17,10 @@ use Rattle.run_law.specs.records.Order.{IsIn}
 use Rattle.run_law.specs.runs.DueRecords.{EndsAt, IsRunOf}
 use Rattle.run_law.specs.scenario.Devices.{is_end}
 use Rattle.run_law.specs.scenario.Scenarios.{Scenario}
-use Rattle.safe_runs.specs.Under.{scenario_of}
+use Rattle.safe_runs.specs.Under.{scenario_of, reading_of}
 use Rattle.sync_state.specs.declared.state.State.{State}
 use Rattle.tte_units.specs.Amount.{amount, units_of}
 use Rattle.tte_units.specs.declared.units.Units.{Units}
-use Rattle.drift_world.specs.Running.{reading_of}
 
 -- up to the time no end system, and no switch of a channel that is not the faulty one then, loses the common time
 abbrev pub TimeStays : Scenario → List Happening → ℕ → Type 0
@@ -43,6 +42,14 @@ pub record IsWholeRun {C : Type 0} (fresh : ℕ → C) (after_step : C → ℕ �
   pub ends : EndsAt events end
   pub run : IsRunOf network (reading_of fresh after_step reading network events) events ((amount end + 1) ∷ []) written
   pub well : GoesWell (scenario_of fresh after_step reading network events) (happenings network written) (amount end)
+
+-- the records are the run of the network under the events up to before the time; where that is in the first 2^20
+-- cycles, it goes well up to there
+pub record IsSafeFront {C : Type 0} (fresh : ℕ → C) (after_step : C → ℕ → ℤ → C) (reading : C → ℕ → ℕ)
+    (network : Network) (events : List Event) (time : ℕ) (written : List Note) : Type 0 where
+  pub run : IsRunOf network (reading_of fresh after_step reading network events) events (time ∷ []) written
+  pub well : time ≤ 2 ^ 20 * amount network.cycle + 1 → (until : ℕ) → until < time
+      → GoesWell (scenario_of fresh after_step reading network events) (happenings network written) until
 
 -- the record is that of an event of the time
 pub record IsEventOf (time : ℕ) (note : Note) : Type 0 where

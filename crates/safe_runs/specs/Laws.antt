@@ -6,10 +6,9 @@ use Rattle.run_law.specs.declared.note.Note.{Note}
 use Rattle.run_law.specs.records.Happenings.{happenings}
 use Rattle.run_law.specs.runs.DueRecords.{EndsAt, IsRunOf}
 use Rattle.safe_runs.specs.Headline.{GoesWell, IsRunBefore, IsWholeRun}
-use Rattle.safe_runs.specs.Under.{IsUnder, scenario_of}
+use Rattle.safe_runs.specs.Under.{IsUnder, scenario_of, last_time, reading_of}
 use Rattle.tte_units.specs.Amount.{amount}
 use Rattle.tte_units.specs.declared.units.Units.{Units}
-use Rattle.drift_world.specs.Running.{last_time, reading_of}
 
 -- the run that goes just as far as a time of the first 2^20 cycles goes well up to there
 abbrev pub OwnRunsAreSafe : {C : Type 0} → (ℕ → C) → (C → ℕ → ℤ → C) → (C → ℕ → ℕ) → Type 0

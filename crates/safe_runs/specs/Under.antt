@@ -1,15 +1,19 @@
 -- What the laws on runs ask of a network and of the events that befall it.
-use Rattle.std.specs.Prelude.{ℕ, ℤ, List}
+use Rattle.std.specs.Prelude.{ℕ, ℤ, List, fold}
 use Rattle.std.specs.List.{All}
+use Rattle.drift_clock.specs.Readings.{reading_at, value_after}
 use Rattle.net_plan.specs.Belonging.{IsOfNetwork}
 use Rattle.net_plan.specs.Ranges.{IsInRange}
 use Rattle.net_plan.specs.declared.event.Event.{Event}
+use Rattle.net_plan.specs.declared.ids.DeviceId.{DeviceId}
 use Rattle.net_plan.specs.declared.network.Network.{Network}
 use Rattle.run_law.specs.law.FirstLaws.{IsEventInRange}
 use Rattle.run_law.specs.scenario.Hypothesis.{AreWithinHypothesis}
+use Rattle.run_law.specs.scenario.Rates.{rate_steps}
 use Rattle.run_law.specs.scenario.Scenarios.{Scenario}
 use Rattle.schedule_tables.specs.Rules.{KeepsRules}
-use Rattle.drift_world.specs.Running.{reading_of}
+use Rattle.tte_units.specs.Amount.{amount, units_of}
+use Rattle.tte_units.specs.declared.units.Units.{Units}
 
 -- the network is accepted; each event is of its devices and links, has no negative times, and is within the fault
 -- hypothesis, given those before it
@@ -19,6 +23,20 @@ pub record IsUnder (network : Network) (events : List Event) : Type 0 where
   pub of_network : All (λ e. IsOfNetwork network e.what) events
   pub times : All IsEventInRange events
   pub within : AreWithinHypothesis network events
+
+-- what the rates that the events set make of a device's clock
+abbrev pub clock_of : {C : Type 0} → (ℕ → C) → (C → ℕ → ℤ → C) → Network → List Event → DeviceId → C
+clock_of fresh after_step network events device =
+    value_after after_step (fresh (amount network.grain)) (rate_steps events device)
+
+-- what a device's clock reads at a time, under the rates that the events set
+abbrev pub reading_of : {C : Type 0} → (ℕ → C) → (C → ℕ → ℤ → C) → (C → ℕ → ℕ) → Network → List Event → DeviceId → ℕ → ℕ
+reading_of fresh after_step reading network events device time =
+    reading_at after_step reading (fresh (amount network.grain)) (rate_steps events device) time
+
+-- the time of the last event, or 0
+abbrev pub last_time : List Event → Units
+last_time events = fold (λ before event. event.time) (units_of 0) events
 
 -- the network under the events, where each device has such a clock, at the rates that the events set
 abbrev pub scenario_of : {C : Type 0} → (ℕ → C) → (C → ℕ → ℤ → C) → (C → ℕ → ℕ) → Network → List Event → Scenario

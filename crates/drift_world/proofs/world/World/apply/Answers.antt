@@ -5,7 +5,7 @@ use Rattle.net_plan.specs.declared.network.Network.{Network}
 use Rattle.run_law.specs.declared.note.Note.{Note}
 use Rattle.run_law.specs.runs.DueRecords.{IsRunOf}
 use Rattle.run_law.specs.scenario.Hypothesis.{IsWithinHypothesis}
-use Rattle.drift_world.proofs.Histories.{slow_rate}
+use Rattle.safe_runs.proofs.Histories.{slow_rate}
 use Rattle.drift_world.proofs.Elsewhere.{timed_by_event}
 use Rattle.drift_world.proofs.Onwards.{befalls}
 use Rattle.drift_world.proofs.Shortness.{sets_short}
@@ -83,7 +83,7 @@ rekey_by-requires-clause-running g c =
       notes = may.notes ++ c.in-Ok.note ∷ [];
       is = (befalls K.fresh K.after_step K.reading K.grain_of K.count (lawful g) g.M.Machine.stands own c.self.inside.state c.apply.new.self c.args.self.now
           (ap (λ (n : Network). world_of n c.self.inside.state) c.network-network.ensures.value ∙ c.self.view_is) c.args.event.now c.in-Ok.note
-          (c.self.invariant.sound.sized.clocks ∙ ap (λ (n : Network). length n.device) (sym c.network-network.ensures.value)) c.requires.now may.of_network
+          (c.self.invariant.sound.sized.clocks ∙ ap (λ (n : Network). length n.device) (sym c.network-network.ensures.value)) c.requires.now c.requires.hold may.of_network
           (λ n device on. let it = c.turned_on-shown.ensures n device on in (it.0, it.2)) c.in-Ok.ensures.still c.in-Ok.ensures.clocks c.in-Ok.ensures.stands
           network may.events may.notes may.is may.within).0.is;
     }
@@ -101,7 +101,7 @@ befallen g c network events notes under within =
     let it = befalls K.fresh K.after_step K.reading K.grain_of K.count (lawful g) g.M.Machine.stands own c.self.inside.state c.apply.new.self c.args.self.now
     (ap (λ (n : Network). world_of n c.self.inside.state) c.network-network.ensures.value ∙ c.self.view_is) c.args.event.now c.in-Ok.note
     (c.self.invariant.sound.sized.clocks ∙ ap (λ (n : Network). length n.device) (sym c.network-network.ensures.value)) c.requires.now
-    c.requires.within.of_network (λ n device on. let it = c.turned_on-shown.ensures n device on in (it.0, it.2)) c.in-Ok.ensures.still
+    c.requires.hold c.requires.within.of_network (λ n device on. let it = c.turned_on-shown.ensures n device on in (it.0, it.2)) c.in-Ok.ensures.still
     c.in-Ok.ensures.clocks c.in-Ok.ensures.stands network events notes under within in
     let same : world_of own c.apply.new.self ≡ world_of c.self.inside.accepted.now c.rekey_by.new.self =
     ap (λ (n : Network). world_of n c.apply.new.self) c.network-network.ensures.value

@@ -7,6 +7,8 @@ use Rattle.tte_run.specs.Putting.{shown_by}
 use Rattle.tte_run.proofs.traces.OwnNotes.{note_of}
 use Rattle.tte_run.proofs.traces.PuttingRecords.{HasPut-none, HasPut-more, HasPut-fails, HasPut-still, given_none, given_some, if_none, if_some, is_before, reached_by, still_ended, underway_still, until_all, until_fails, until_no_memory}
 use Rattle.tte_run.proofs.trace.records.put_until.Goals as goal
+use Rattle.drift_clock.specs.Segment.{fresh_segment, segment_reading, stepped_segment}
+use Rattle.safe_runs.specs.Headline.{IsSafeFront}
 use Rattle.drift_world.specs.Running.{Reaches, left_of}
 use Rattle.world_law.specs.source.Agreeing.{scenario}
 
@@ -87,11 +89,12 @@ returns-in-Ok-None-clause-puts g c events notes stands =
     given_none network events (notes ++ h.more) c.next.new.self c.in-Ok-None.field-0 c.in-Ok-None.field-0-is
     (c.in-Ok-None.ensures.stands network events (notes ++ h.more) h.stands) in
     let all : pos c.args.world.now.now <ℤ c.args.until.0 → AreRecordsBefore network events (amount c.args.until ∷ []) (notes ++ h.more) =
-    λ later. if_none c.in-Ok-None.field-0 (AreRecordsBefore network events (amount c.args.until ∷ []) (notes ++ h.more)) c.in-Ok-None.field-0-is
+    λ later. (if_none c.in-Ok-None.field-0 (IsSafeFront fresh_segment stepped_segment segment_reading network events (amount c.args.until) (notes ++ h.more))
+    c.in-Ok-None.field-0-is
     (c.in-Ok-None.ensures.complete network events (notes ++ h.more) h.stands (elim c.notes.invariant.way [
       | inl same ↦ subst (λ w. pos w.now <ℤ c.args.until.0) (sym same) later
       | inr lt ↦ lt
-    ])) in
+    ]))).run in
     until_all network events notes c.args.until c.args.world.now c.notes.world c.next.new.self (shown c.args.out.now) (shown c.notes.out) h more all
 
 pub returns-in-Ok-None-clause-reached : goal.returns-in-Ok-None-clause-reached
