@@ -4,6 +4,7 @@
 
 use std::alloc::Global;
 use std::env;
+use std::io::ErrorKind;
 use std::process::ExitCode;
 use tte_io::{LazyFile, OutOfMemory, PathText, StdSink};
 use tte_run::{Status, Words, tte};
@@ -14,8 +15,10 @@ const MOST_WORDS: u32 = 8;
 /// The words of the command line without the program's name, or none where they are no text.
 fn words(rt: &HostRuntime, alloc: Global) -> Result<Words, OutOfMemory> {
     let mut words = Words::new(alloc);
-    let Ok(args) = env::args(rt) else {
-        return Ok(words);
+    let args = match env::args(rt) {
+        Ok(args) => args,
+        Err(error) if error.kind() == ErrorKind::OutOfMemory => return Err(OutOfMemory),
+        Err(_) => return Ok(words),
     };
     for word in args.skip(1) {
         if words.len() < MOST_WORDS {
