@@ -8,6 +8,7 @@ ghost use Rattle.tte_units.specs.Amount.{amount, units_of};
 
 use crate::OutOfMemory;
 use crate::begin::fresh_state;
+use crate::bodies::Given;
 use crate::state::State;
 use drift_clock::Clock;
 use net_plan::Event;
@@ -16,6 +17,17 @@ use schedule_tables::Accepted;
 use std::alloc::Global;
 use std::marker::Model;
 use tte_units::Units;
+
+/// The record that is given, if one is.
+fn noted(next: Result<Option<Given>, OutOfMemory>) -> Result<Option<Note>, OutOfMemory>
+    ensures { result ≡ next }
+{
+    match next {
+        Ok(Some(given)) => Ok(Some(given.note())),
+        Ok(None) => Ok(None),
+        Err(error) => Err(error),
+    }
+}
 
 /// A network as it runs: events are applied to it, and it gives the records of its run.
 #[derive(Drop)]
@@ -114,6 +126,6 @@ impl<'a, C: Clock, M: Machine + Drop> World<'a, C, M> {
         if until.0 <= Units::from_amount(self.state.time).0 {
             return Ok(None);
         }
-        self.state.next(self.accepted.network(), until.amount())
+        noted(self.state.next(self.accepted.network(), until.amount()))
     }
 }

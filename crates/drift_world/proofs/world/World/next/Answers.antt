@@ -1,4 +1,4 @@
-use Rattle.std.proofs.Common.{◌≡◌, ℕ, ◌++◌, ◌∷◌, [], List, sym, ap, subst, ◌∙◌, arith, pos, slice_get}
+use Rattle.std.proofs.Common.{◌≡◌, ℕ, ◌++◌, ◌∷◌, [], sym, ap, subst, ◌∙◌, arith, slice_get, Option, Result}
 use Rattle.std.specs.Prelude.{IfNone, IfOk}
 use Rattle.std.proofs.lemmas.Int.{ints}
 use Rattle.net_plan.specs.declared.network.Network.{Network}
@@ -8,13 +8,14 @@ use Rattle.drift_world.specs.Keeping.{keeps}
 use Rattle.drift_world.specs.Running.{StandsUnder, given_by, reading_of}
 use Rattle.drift_world.specs.Views.{world_of}
 use Rattle.drift_world.specs.declared.kept.Kept.{Kept}
+use Rattle.drift_world.specs.declared.memory.OutOfMemory.{OutOfMemory}
 use Rattle.world_law.specs.source.Agreeing.{scenario}
 use Rattle.world_law.specs.world.World.{Stands, World}
 use Rattle.drift_world.proofs.world.World.next.Given as given
 use Rattle.drift_world.proofs.world.World.next.Goals as goal
 
 -- the view is that of the network that is answered
-viewed : (g : given.Over) (c : goal.After-next g) → world_of c.network.result.now c.self.inside.state ≡ c.args.self.now
+viewed : (g : given.Over) (c : goal.After-noted g) → world_of c.network.result.now c.self.inside.state ≡ c.args.self.now
 viewed g c = ap (λ (n : Network). world_of n c.self.inside.state) c.network.ensures.value ∙ c.self.view_is
 
 pub returns-then-until-from_amount-clause-complete : goal.returns-then-until-from_amount-clause-complete
@@ -31,8 +32,9 @@ returns-clause-stands g c = λ network events notes under.
     let s = scenario network (reading_of K.fresh K.after_step K.reading network events) events in
     let old = subst (λ (w : World _ (Kept _)). StandsUnder K.fresh K.after_step K.reading S network w events notes) (sym (viewed g c)) under in
     record {
-      is = subst (λ (n : Network). Stands K.reading (keeps S) s (world_of n c.next.new.self) (notes ++ given_by c.next.result)) c.network.ensures.value
-          (c.next.ensures.stands s notes old.is);
+      is = subst (λ (n : Network). Stands K.reading (keeps S) s (world_of n c.next.new.self) (notes ++ given_by c.noted.result)) c.network.ensures.value
+          (subst (λ (r : Result (Option Note) OutOfMemory). Stands K.reading (keeps S) s (world_of c.network.result.now c.next.new.self) (notes ++ given_by r))
+          (sym c.noted.ensures) (c.next.ensures.stands s notes old.is));
       clocks = λ device there. ap (λ (k : _). slice_get k.items device.0) c.next.ensures.after.clocks ∙ old.clocks device there;
       of_network = old.of_network;
       within = old.within;
@@ -44,5 +46,6 @@ returns-clause-complete g c = λ network events notes under lt.
     let S = g.M.Machine.stands in
     let s = scenario network (reading_of K.fresh K.after_step K.reading network events) events in
     let old = subst (λ (w : World _ (Kept _)). StandsUnder K.fresh K.after_step K.reading S network w events notes) (sym (viewed g c)) under in
-    subst (λ (t : ℕ). IfOk c.next.result (λ next. IfNone next (IsScenarioRun s (t ∷ []) notes))) c.amount.ensures.value
-    (c.next.ensures.complete s notes old.is)
+    subst (λ (t : ℕ). IfOk c.noted.result (λ next. IfNone next (IsScenarioRun s (t ∷ []) notes))) c.amount.ensures.value
+    (subst (λ (r : Result (Option Note) OutOfMemory). IfOk r (λ next. IfNone next (IsScenarioRun s (c.amount.result ∷ []) notes))) (sym c.noted.ensures)
+    (c.next.ensures.complete s notes old.is))
