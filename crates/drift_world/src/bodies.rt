@@ -111,12 +111,12 @@ impl Model for Body {
     ghost view = { λ b. body_of b.kind };
 }
 
-/// A record that is given, seen as the record.
+/// A record that a world gives, seen as the record. It is small: the record itself has room for the octets of an event.
 #[derive(Debug, Drop)]
 pub struct Given {
-    pub number: u64,
-    pub time: Units,
-    pub body: Body,
+    pub(crate) number: u64,
+    pub(crate) time: Units,
+    pub(crate) body: Body,
 }
 
 impl Model for Given {
@@ -280,7 +280,7 @@ fn body_of(kind: Kind) -> NoteBody
 
 impl Given {
     /// What it says.
-    pub fn body(&self) -> &Body
+    pub(crate) fn body(&self) -> &Body
         ensures { result.now ≡ self.now.body }
     {
         &self.body

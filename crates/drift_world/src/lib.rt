@@ -7,6 +7,7 @@ mod befalling;
 mod begin;
 mod bodies;
 mod contents;
+mod event_notes;
 mod frames;
 mod give;
 mod giving;
@@ -30,5 +31,7 @@ mod timing;
 mod waiting;
 mod world;
 
+pub use bodies::Given;
+pub use event_notes::EventNote;
 pub use memory::OutOfMemory;
 pub use world::World;

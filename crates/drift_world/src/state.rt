@@ -9,11 +9,11 @@ ghost use Rattle.run_law.specs.scenario.Scenarios.{Scenario};
 
 use crate::OutOfMemory;
 use crate::applying::{
-    befall_machines, breaks_on, copy_of, drop_waiting, ends, keep_befallen, set_broken, set_rate,
-    set_way,
+    befall_machines, breaks_on, drop_waiting, ends, keep_befallen, set_broken, set_rate, set_way,
 };
 use crate::bodies::{Body, Kind};
 use crate::contents::{Befallen, Content, Holding, Settled, Waits, WayState};
+use crate::event_notes::EventNote;
 use crate::frames::MadeFrame;
 use crate::kept::Kept;
 use crate::leaving::{departed, is_parent, take_port};
@@ -23,7 +23,7 @@ use due_queue::{Place, UnderWay};
 use due_timers::Timers;
 use net_plan::{DeviceId, Event, LinkId, Network, Way, What};
 use pcf_values::Pcf;
-use run_law::{Machine, Note, NoteBody};
+use run_law::{Machine, NoteBody};
 use std::collections::VecDeque;
 use sync_state::State as DeviceState;
 use tte_units::Units;
@@ -231,7 +231,11 @@ impl<C: Clock, M: Machine + Drop> State<C, M> {
     /// An event befalls, before all else of the present instant. Its record is given.
     ///
     /// On an error nothing has changed.
-    pub fn apply(&mut self, network: &Network, event: &Event) -> Result<Note, OutOfMemory>
+    pub fn apply<'e>(
+        &mut self,
+        network: &Network,
+        event: &'e Event,
+    ) -> Result<EventNote<'e>, OutOfMemory>
         requires sound { IsSound C.last_step network.now self.old }
         requires time { event.now.time.0 ≡ pos self.old.time }
         requires early { self.old.early ≡ true }
@@ -279,14 +283,10 @@ impl<C: Clock, M: Machine + Drop> State<C, M> {
         self.given += 1;
         self.ended = ends(&event.what);
         self.shown = 0;
-        let what = copy_of(&event.what);
-        Ok(Note {
+        Ok(EventNote {
             number: self.given,
-            time: event.time,
-            body: NoteBody::Event {
-                line: self.lines,
-                what,
-            },
+            line: self.lines,
+            event,
         })
     }
 }

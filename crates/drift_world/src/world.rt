@@ -9,6 +9,7 @@ ghost use Rattle.tte_units.specs.Amount.{amount, units_of};
 use crate::OutOfMemory;
 use crate::begin::fresh_state;
 use crate::bodies::Given;
+use crate::event_notes::EventNote;
 use crate::state::State;
 use drift_clock::Clock;
 use net_plan::Event;
@@ -74,7 +75,13 @@ impl<'a, C: Clock, M: Machine + Drop> World<'a, C, M> {
     ///
     /// The lines count the events from 1. The event is within the fault hypothesis after those applied, and comes before
     /// the end. A hold that it sets is a time from 0 on. On an error nothing has changed.
-    pub fn apply(&mut self, line: u64, event: &Event) -> Result<Note, OutOfMemory>
+    ///
+    /// The answer is small, and seen as the record that it stands for.
+    pub fn befall<'e>(
+        &mut self,
+        line: u64,
+        event: &'e Event,
+    ) -> Result<EventNote<'e>, OutOfMemory>
         requires line { line ≡ self.old.lines + 1 }
         requires now { IsOpenTo self.old event.now }
         requires within { MayBefall C.fresh C.after_step C.reading M.stands self.old event.now }
@@ -104,6 +111,62 @@ impl<'a, C: Clock, M: Machine + Drop> World<'a, C, M> {
         Ok(note)
     }
 
+    /// The event of this line befalls the network, at the present time. Its record is answered.
+    ///
+    /// The lines count the events from 1. The event is within the fault hypothesis after those applied, and comes before
+    /// the end. A hold that it sets is a time from 0 on. On an error nothing has changed.
+    pub fn apply(&mut self, line: u64, event: &Event) -> Result<Note, OutOfMemory>
+        requires line { line ≡ self.old.lines + 1 }
+        requires now { IsOpenTo self.old event.now }
+        requires within { MayBefall C.fresh C.after_step C.reading M.stands self.old event.now }
+        requires hold { HoldsATime event.now.what }
+        ensures stands { (network : Network) (events : List EventValue) (notes : List NoteValue)
+            → StandsUnder C.fresh C.after_step C.reading M.stands network self.old events notes
+            → IsWithinHypothesis network events event.now
+            → IfOk result (λ note. StandsUnder C.fresh C.after_step C.reading M.stands network self.new (events ++ event.now ∷ [])
+            (notes ++ note ∷ [])) }
+        ensures run { (network : Network) (events : List EventValue) (notes : List NoteValue)
+            → StandsUnder C.fresh C.after_step C.reading M.stands network self.old events notes
+            → IsWithinHypothesis network events event.now
+            → IfOk result (λ note. IsRunOf network (reading_of C.fresh C.after_step C.reading network (events ++ event.now ∷ []))
+            (events ++ event.now ∷ []) (behind_events self.old.now) (notes ++ note ∷ [])) }
+        ensures note { IfOk result (λ note. note ≡ event_note (self.old.given + 1) line event.now) }
+        ensures still { (self.new.now ≡ self.old.now) × (self.new.early ≡ self.old.early) }
+        ensures err { OnErr result (self.new ≡ self.old) }
+    {
+        match self.befall(line, event) {
+            Ok(given) => Ok(given.note()),
+            Err(error) => Err(error),
+        }
+    }
+
+    /// The next record before a time, which is at most 2^60 + 1. It is None exactly where none is due before it.
+    ///
+    /// Where it is None, and the end has not come, the world comes to this time. After the end the time is at most the
+    /// one behind it. On an error no record is lost: those to come are the same.
+    ///
+    /// The answer is small, and seen as the record that it stands for.
+    pub fn next_given(&mut self, until: Units) -> Result<Option<Given>, OutOfMemory>
+        requires limit { until.0 ≤ℤ pos (2 ^ 60 + 1) }
+        requires ended { self.old.ended ≡ true → until.0 ≤ℤ pos (self.old.now + 1) }
+        ensures stands { (network : Network) (events : List EventValue) (notes : List NoteValue)
+            → StandsUnder C.fresh C.after_step C.reading M.stands network self.old events notes
+            → StandsUnder C.fresh C.after_step C.reading M.stands network self.new events (notes ++ given_by result) }
+        ensures complete { (network : Network) (events : List EventValue) (notes : List NoteValue)
+            → StandsUnder C.fresh C.after_step C.reading M.stands network self.old events notes
+            → pos self.old.now <ℤ until.0
+            → IfOk result (λ next. IfNone next
+            (IsRunOf network (reading_of C.fresh C.after_step C.reading network events) events (amount until ∷ []) notes)) }
+        ensures reached { IfOk result (λ next. IfNone next (Reaches self.old self.new until)) }
+        ensures before { IfOk result (λ next. IfSome next (λ note. (note.time ≡ units_of self.new.now) × (note.time.0 <ℤ until.0))) }
+        ensures fewer { IfOk result (λ next. IfSome next (λ _. left_of self.new < left_of self.old)) }
+    {
+        if until.0 <= Units::from_amount(self.state.time).0 {
+            return Ok(None);
+        }
+        self.state.next(self.accepted.network(), until.amount())
+    }
+
     /// The next record before a time, which is at most 2^60 + 1. It is None exactly where none is due before it.
     ///
     /// Where it is None, and the end has not come, the world comes to this time. After the end the time is at most the
@@ -123,9 +186,6 @@ impl<'a, C: Clock, M: Machine + Drop> World<'a, C, M> {
         ensures before { IfOk result (λ next. IfSome next (λ note. (note.time ≡ units_of self.new.now) × (note.time.0 <ℤ until.0))) }
         ensures fewer { IfOk result (λ next. IfSome next (λ _. left_of self.new < left_of self.old)) }
     {
-        if until.0 <= Units::from_amount(self.state.time).0 {
-            return Ok(None);
-        }
-        noted(self.state.next(self.accepted.network(), until.amount()))
+        noted(self.next_given(until))
     }
 }

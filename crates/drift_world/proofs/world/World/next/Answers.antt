@@ -1,51 +1,36 @@
-use Rattle.std.proofs.Common.{◌≡◌, ℕ, ◌++◌, ◌∷◌, [], sym, ap, subst, ◌∙◌, arith, slice_get, Option, Result}
-use Rattle.std.specs.Prelude.{IfNone, IfOk}
-use Rattle.std.proofs.lemmas.Int.{ints}
-use Rattle.net_plan.specs.declared.network.Network.{Network}
+use Rattle.std.proofs.Common.{◌++◌, ◌<◌, ◌≡◌, ◌<ℤ◌, [], ◌∷◌, Option, Result, sym, subst}
+use Rattle.std.specs.Prelude.{IfNone, IfOk, IfSome}
 use Rattle.run_law.specs.declared.note.Note.{Note}
-use Rattle.run_law.specs.runs.DueRecords.{IsScenarioRun}
-use Rattle.drift_world.specs.Keeping.{keeps}
-use Rattle.drift_world.specs.Running.{StandsUnder, given_by, reading_of}
-use Rattle.drift_world.specs.Views.{world_of}
-use Rattle.drift_world.specs.declared.kept.Kept.{Kept}
+use Rattle.run_law.specs.runs.DueRecords.{IsRunOf}
+use Rattle.tte_units.specs.Amount.{amount, units_of}
+use Rattle.drift_world.specs.Running.{Reaches, StandsUnder, given_by, left_of, reading_of}
 use Rattle.drift_world.specs.declared.memory.OutOfMemory.{OutOfMemory}
-use Rattle.world_law.specs.source.Agreeing.{scenario}
-use Rattle.world_law.specs.world.World.{Stands, World}
-use Rattle.drift_world.proofs.world.World.next.Given as given
 use Rattle.drift_world.proofs.world.World.next.Goals as goal
-
--- the view is that of the network that is answered
-viewed : (g : given.Over) (c : goal.After-noted g) → world_of c.network.result.now c.self.inside.state ≡ c.args.self.now
-viewed g c = ap (λ (n : Network). world_of n c.self.inside.state) c.network.ensures.value ∙ c.self.view_is
-
-pub returns-then-until-from_amount-clause-complete : goal.returns-then-until-from_amount-clause-complete
-returns-then-until-from_amount-clause-complete g c = λ network events notes under lt.
-    let now = ap (λ (w : World _ (Kept _)). w.now) c.self.view_is in
-    let test = c.if-until-from_amount.true in
-    let is = c.from_amount.ensures.whole in
-    absurd (omega (arith, ints, now, test, is, lt))
 
 pub returns-clause-stands : goal.returns-clause-stands
 returns-clause-stands g c = λ network events notes under.
     let K = g.C.Clock in
-    let S = g.M.Machine.stands in
-    let s = scenario network (reading_of K.fresh K.after_step K.reading network events) events in
-    let old = subst (λ (w : World _ (Kept _)). StandsUnder K.fresh K.after_step K.reading S network w events notes) (sym (viewed g c)) under in
-    record {
-      is = subst (λ (n : Network). Stands K.reading (keeps S) s (world_of n c.next.new.self) (notes ++ given_by c.noted.result)) c.network.ensures.value
-          (subst (λ (r : Result (Option Note) OutOfMemory). Stands K.reading (keeps S) s (world_of c.network.result.now c.next.new.self) (notes ++ given_by r))
-          (sym c.noted.ensures) (c.next.ensures.stands s notes old.is));
-      clocks = λ device there. ap (λ (k : _). slice_get k.items device.0) c.next.ensures.after.clocks ∙ old.clocks device there;
-      of_network = old.of_network;
-      within = old.within;
-    }
+    subst (λ (r : Result (Option Note) OutOfMemory). StandsUnder K.fresh K.after_step K.reading g.M.Machine.stands network c.next_given.new.self events
+    (notes ++ given_by r)) (sym c.noted.ensures) (c.next_given.ensures.stands network events notes under)
 
 pub returns-clause-complete : goal.returns-clause-complete
 returns-clause-complete g c = λ network events notes under lt.
     let K = g.C.Clock in
-    let S = g.M.Machine.stands in
-    let s = scenario network (reading_of K.fresh K.after_step K.reading network events) events in
-    let old = subst (λ (w : World _ (Kept _)). StandsUnder K.fresh K.after_step K.reading S network w events notes) (sym (viewed g c)) under in
-    subst (λ (t : ℕ). IfOk c.noted.result (λ next. IfNone next (IsScenarioRun s (t ∷ []) notes))) c.amount.ensures.value
-    (subst (λ (r : Result (Option Note) OutOfMemory). IfOk r (λ next. IfNone next (IsScenarioRun s (c.amount.result ∷ []) notes))) (sym c.noted.ensures)
-    (c.next.ensures.complete s notes old.is))
+    subst (λ (r : Result (Option Note) OutOfMemory). IfOk r (λ next. IfNone next
+    (IsRunOf network (reading_of K.fresh K.after_step K.reading network events) events (amount c.args.until ∷ []) notes))) (sym c.noted.ensures)
+    (c.next_given.ensures.complete network events notes under lt)
+
+pub returns-clause-reached : goal.returns-clause-reached
+returns-clause-reached g c =
+    subst (λ (r : Result (Option Note) OutOfMemory). IfOk r (λ next. IfNone next (Reaches c.args.self.now c.next_given.new.self c.args.until)))
+    (sym c.noted.ensures) c.next_given.ensures.reached
+
+pub returns-clause-before : goal.returns-clause-before
+returns-clause-before g c =
+    subst (λ (r : Result (Option Note) OutOfMemory). IfOk r (λ next. IfSome next
+    (λ note. (note.time ≡ units_of c.next_given.new.self.now) × (note.time.0 <ℤ c.args.until.0)))) (sym c.noted.ensures) c.next_given.ensures.before
+
+pub returns-clause-fewer : goal.returns-clause-fewer
+returns-clause-fewer g c =
+    subst (λ (r : Result (Option Note) OutOfMemory). IfOk r (λ next. IfSome next (λ _. left_of c.next_given.new.self < left_of c.args.self.now)))
+    (sym c.noted.ensures) c.next_given.ensures.fewer
