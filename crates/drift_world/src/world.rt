@@ -77,11 +77,7 @@ impl<'a, C: Clock, M: Machine + Drop> World<'a, C, M> {
     /// the end. A hold that it sets is a time from 0 on. On an error nothing has changed.
     ///
     /// The answer is small, and seen as the record that it stands for.
-    pub fn befall<'e>(
-        &mut self,
-        line: u64,
-        event: &'e Event,
-    ) -> Result<EventNote<'e>, OutOfMemory>
+    pub fn befall<'e>(&mut self, line: u64, event: &'e Event) -> Result<EventNote<'e>, OutOfMemory>
         requires line { line ≡ self.old.lines + 1 }
         requires now { IsOpenTo self.old event.now }
         requires within { MayBefall C.fresh C.after_step C.reading M.stands self.old event.now }
