@@ -42,7 +42,7 @@ pub record IsTurn {C M : Type 0} (last_step : C → ℕ) (reading : C → ℕ �
     (device : DeviceId) (first now : State C M) (acts : ℕ) : Type 0 where
   pub few : acts ≤ 259
   pub sound : IsSound last_step network now
-  pub same : now ≡ record first { machines = now.machines; early = now.early; settled = now.settled }
+  pub same : now ≡ record first { machines = now.machines; early = now.early; settled = now.settled; spare = now.spare }
   pub machines : (i : ℕ) → (i ≡ device.0 → ⊥) → slice_get now.machines.items i ≡ slice_get first.machines.items i
   pub due : IsDueAt reading stands network now device
   pub still : (s : Scenario) (notes : List Note) (old : Stands reading (keeps stands) s (world_of network first) notes)
@@ -57,7 +57,7 @@ pub record IsTurn {C M : Type 0} (last_step : C → ℕ) (reading : C → ℕ �
 pub record IsActed {C M : Type 0} (last_step : C → ℕ) (reading : C → ℕ → ℕ) (stands : M → Network → DeviceId → Node → Type 0) (network : Network)
     (device : DeviceId) (old new : State C M) (more : Bool) : Type 0 where
   pub sound : IsSound last_step network new
-  pub same : new ≡ record old { machines = new.machines; early = false; settled = new.settled }
+  pub same : new ≡ record old { machines = new.machines; early = false; settled = new.settled; spare = new.spare }
   pub machines : (i : ℕ) → (i ≡ device.0 → ⊥) → slice_get new.machines.items i ≡ slice_get old.machines.items i
   pub settled : SettlesFrom network device old new
   pub then_stands : (s : Scenario) (notes : List Note) (was : Stands reading (keeps stands) s (world_of network old) notes)
@@ -96,7 +96,7 @@ module _ {C M : Type 0} (last_step : C → ℕ) (reading : C → ℕ → ℕ) (s
   -- ---- more room for what is settled
 
   same_world : (now mid : State C M) → mid.settled.items ≡ now.settled.items
-      → world_of network now ≡ world_of network (record now { settled = mid.settled })
+      → world_of network now ≡ world_of network (record now { settled = mid.settled; spare = mid.spare })
   same_world now mid same =
       ap (λ (l : List Settled). let w : World C (Kept M) = record (world_of network now) { settled = map (settled_at network now.time) l } in w) (sym same)
 
@@ -108,13 +108,13 @@ module _ {C M : Type 0} (last_step : C → ℕ) (reading : C → ℕ → ℕ) (s
 
   still_with : (s : Scenario) (notes : List Note) (now mid : State C M) → mid.settled.items ≡ now.settled.items
       → IsStill reading stands network device first.time now s notes
-      → IsStill reading stands network device first.time (record now { settled = mid.settled }) s notes
+      → IsStill reading stands network device first.time (record now { settled = mid.settled; spare = mid.spare }) s notes
   still_with s notes now mid same was =
       let it = subst (IsStillIn s notes) (same_world now mid same) (was.new, was.none, was.after) in
       record { new = it.0; none = it.1; after = it.2 }
 
   sound_with : (now mid : State C M) → mid.settled.items ≡ now.settled.items → IsSound last_step network now
-      → IsSound last_step network (record now { settled = mid.settled })
+      → IsSound last_step network (record now { settled = mid.settled; spare = mid.spare })
   sound_with now mid same sound =
       let z = sound.sized in
       let fit = sound.fit in
@@ -140,14 +140,14 @@ module _ {C M : Type 0} (last_step : C → ℕ) (reading : C → ℕ → ℕ) (s
         };
       }
 
-  pub turn_with : (now mid : State C M) (acts : ℕ) → mid ≡ record now { settled = mid.settled } → mid.settled.items ≡ now.settled.items → Turn now acts
+  pub turn_with : (now mid : State C M) (acts : ℕ) → mid ≡ record now { settled = mid.settled; spare = mid.spare } → mid.settled.items ≡ now.settled.items → Turn now acts
       → Turn mid acts
   turn_with now mid acts is same turn =
       subst (λ (x : State C M). Turn x acts) (sym is)
       (record {
         few = turn.few;
         sound = sound_with now mid same turn.sound;
-        same = ap (λ (x : State C M). let y : State C M = record x { settled = mid.settled } in y) turn.same;
+        same = ap (λ (x : State C M). let y : State C M = record x { settled = mid.settled; spare = mid.spare } in y) turn.same;
         machines = turn.machines;
         due = λ s notes machine old there.
             turn.due s notes machine (subst (λ (w : World C (Kept M)). Stands reading (keeps stands) s w notes) (sym (same_world now mid same)) old) there;
@@ -192,13 +192,13 @@ module _ {C M : Type 0} (last_step : C → ℕ) (reading : C → ℕ → ℕ) (s
       (acted.then_stands s notes (turn.still s notes old f).new (comes_first now acts turn numbers s notes old f))
 
   -- and after one that is not
-  same_then : (now new : State C M) → now ≡ record first { machines = now.machines; early = now.early; settled = now.settled }
-      → new ≡ record now { machines = new.machines; early = false; settled = new.settled }
-      → new ≡ record first { machines = new.machines; early = new.early; settled = new.settled }
+  same_then : (now new : State C M) → now ≡ record first { machines = now.machines; early = now.early; settled = now.settled; spare = now.spare }
+      → new ≡ record now { machines = new.machines; early = false; settled = new.settled; spare = new.spare }
+      → new ≡ record first { machines = new.machines; early = new.early; settled = new.settled; spare = new.spare }
   same_then now new same is =
       let early : new.early ≡ false = ap (λ (x : State C M). x.early) is in
-      is ∙ ap (λ (x : State C M). let y : State C M = record x { machines = new.machines; early = false; settled = new.settled } in y) same
-      ∙ ap (λ (b : Bool). let y : State C M = record first { machines = new.machines; early = b; settled = new.settled } in y) (sym early)
+      is ∙ ap (λ (x : State C M). let y : State C M = record x { machines = new.machines; early = false; settled = new.settled; spare = new.spare } in y) same
+      ∙ ap (λ (b : Bool). let y : State C M = record first { machines = new.machines; early = b; settled = new.settled; spare = new.spare } in y) (sym early)
 
   still_then : (now new : State C M) (acts : ℕ) (turn : Turn now acts) → now.given + length now.settled.items + 2 < none_yet
       → IsActed last_step reading stands network device now new true → (s : Scenario) (notes : List Note) (old : Old s notes) → First s notes old

@@ -1,7 +1,6 @@
 -- What a device hears, as its machine asks for it.
-use Rattle.std.proofs.Common.{◌≡◌, ℕ, ◌≤◌, List, length, ◌==◌, Bool, true, sym, ap, subst, ◌∙◌, refl, arith, eq-eqb}
-use Rattle.std.specs.Prelude.{if◌then◌else◌, Ok, Result, take}
-use Rattle.std.proofs.lemmas.List.{length-take-le}
+use Rattle.std.proofs.Common.{◌≡◌, ℕ, ◌≤◌, List, length, Bool, sym, ap, subst, ◌∙◌, arith, eq-eqb}
+use Rattle.std.specs.Prelude.{if◌then◌else◌, Ok, Result}
 use Rattle.net_plan.specs.Ranges.{IsInRange}
 use Rattle.net_plan.specs.declared.ids.VlId.{VlId}
 use Rattle.drift_world.proofs.Made.{made_signal}
@@ -45,15 +44,10 @@ may_hear stands machine signal moment link octets may are =
     )
 
 -- the octets of a frame that its sender made
-pub made_are : (network : Network) (vl : VlId) (cycle : ℕ) (octets : List ℕ) (count : ℕ) → IsInRange network → take count octets ≡ octets_of network (Made vl cycle)
-    → length octets ≡ 1514 → 60 ≤ count → count ≤ 1514 → AreOctetsOf (timed (octets_of network (Made vl cycle))) (take count octets)
-made_are network vl cycle octets count range is whole least most =
-    let long : length (take count octets) ≡ count = length-take-le count octets (omega (arith, whole, most)) in
-    record {
-      is = ap signal_of is ∙ made_signal network vl cycle range;
-      least = omega (arith, long, least);
-      most = omega (arith, long, most);
-    }
+pub made_are : (network : Network) (vl : VlId) (cycle : ℕ) (octets : List ℕ) → IsInRange network → octets ≡ octets_of network (Made vl cycle)
+    → 60 ≤ length octets → length octets ≤ 1514 → AreOctetsOf (timed (octets_of network (Made vl cycle))) octets
+made_are network vl cycle octets range is least most =
+    record { is = ap signal_of is ∙ made_signal network vl cycle range; least = least; most = most }
 
 -- octets that were sent as a frame of the schedule
 pub sent_octets : (given octets : List ℕ) → signal_of given ≡ timed given → octets ≡ given → 60 ≤ length octets → length octets ≤ 1514

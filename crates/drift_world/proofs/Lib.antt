@@ -42,6 +42,7 @@ pub mod Puts
 pub mod Ripenings
 pub mod Ripes
 pub mod Sendings
+pub mod Said
 pub mod Shortness
 pub mod Showings
 pub mod Signals

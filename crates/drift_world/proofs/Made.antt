@@ -1,11 +1,11 @@
 -- The frames that senders make.
-use Rattle.std.proofs.Common.{◌≡◌, ℕ, ◌+◌, ◌-◌, ◌≤◌, ◌<◌, ◌^◌, ◌==◌, Bool, true, false, List, [], ◌++◌, length, Option, Some, None, ap, refl, replicate, subst, sym, ◌∙◌, slice_get, drop, get_or, take, length-append, append_assoc, inl, inr, arith}
+use Rattle.std.proofs.Common.{◌≡◌, ℕ, ◌+◌, ◌-◌, ◌<◌, ◌^◌, ◌==◌, Bool, false, List, [], ◌++◌, length, Option, Some, None, ap, refl, replicate, subst, sym, ◌∙◌, slice_get, drop, get_or, take, length-append, append_assoc, inl, inr, arith}
 use Rattle.std.specs.List.{All}
 use Rattle.std.specs.Option.{option_map_or}
 use Rattle.std.specs.Prelude.{if◌then◌else◌}
 use Rattle.std.proofs.Math.Seq.{drop-append_seam, take-append-add}
 use Rattle.std.proofs.lemmas.Bool.{ne_eqb}
-use Rattle.std.proofs.lemmas.List.{length-replicate, take-replicate}
+use Rattle.std.proofs.lemmas.List.{take-replicate}
 use Rattle.std.proofs.lemmas.Option.{get_or_from_slice_get, slice_get-get_or, slice_get_cases, slice_get_within}
 use Rattle.byteorder.specs.Endian.{big_bytes, big_number}
 use Rattle.byteorder.specs.Numbers.{big_number-reads_back, length-bytes_high_first}
@@ -134,6 +134,12 @@ made_found network vl cycle found octets head there range is padded_so =
     ap (take found.length) (padded_so ∙ ap (padded 1514) is)
     ∙ front_made network found cycle (in_all (IsVlInRange network) network.vl vl.0 found range.vls there)
     ∙ sym (ap (λ (o : Option VirtualLink). option_map_or (λ v. tt_frame_by network v cycle) o (replicate 60 0)) there)
+
+-- behind the head stand zeros
+pub zeros_behind : (octets head : List ℕ) → length head ≡ 18 → octets ≡ padded 1514 head → drop 18 octets ≡ replicate 1496 0
+zeros_behind octets head long padded_so =
+    ap (drop 18) padded_so ∙ ap (λ (n : ℕ). drop n (padded 1514 head)) (sym long) ∙ drop-append_seam head (replicate (1514 - length head) 0)
+    ∙ ap (λ (n : ℕ). replicate (1514 - n) 0) long
 
 pub made_none : (network : Network) (vl : VlId) (cycle : ℕ) (octets : List ℕ) → slice_get network.vl vl.0 ≡ None → octets ≡ padded 1514 []
     → take 60 octets ≡ octets_of network (Made vl cycle)

@@ -173,7 +173,7 @@ module _ {C M : Type 0} (last_step : C → ℕ) (reading : C → ℕ → ℕ) (s
 
   -- an act leaves as much to work off, and its device has no more to do
   pub act_less : (device : DeviceId) (old mid new : State C M) → IsWell last_step reading stands network old → IsActive reading stands network old device
-      → mid ≡ record old { machines = mid.machines; early = mid.early; settled = mid.settled } → IsRunning reading stands network mid
+      → mid ≡ record old { machines = mid.machines; early = mid.early; settled = mid.settled; spare = mid.spare } → IsRunning reading stands network mid
       → new ≡ record mid { timers = new.timers }
       → ((slot : ℕ) → (slot ≡ device.0 → ⊥) → (slot ≡ length network.device + device.0 → ⊥) → slice_get new.timers slot ≡ slice_get mid.timers slot)
       → IsWell last_step reading stands network new → IsIdleAt reading stands network mid device → IsLess network old new
@@ -270,7 +270,7 @@ settled_less network old new was is most same =
 
 -- what is first on a wire arrives
 pub arrived_less : {C M : Type 0} (network : Network) (old mid new : State C M)
-    → mid ≡ record old { machines = mid.machines; under_way = mid.under_way; settled = mid.settled; early = false }
+    → mid ≡ record old { machines = mid.machines; under_way = mid.under_way; settled = mid.settled; made = mid.made; early = false }
     → length old.under_way.entries ≡ length mid.under_way.entries + 1 → new ≡ record mid { timers = new.timers } → IsLess network old new
 arrived_less network old mid new acted shorter same =
     let sum = ap (λ (t : State _ _). burden network t) acted in

@@ -2,9 +2,11 @@ pub mod Acting
 pub mod Applying
 pub mod Befalling
 pub mod Beginning
+pub mod Bodies
 pub mod Following
 pub mod Frames
 pub mod Giving
+pub mod Happenings
 pub mod Hearing
 pub mod Keeping
 pub mod Leaving

@@ -1,4 +1,4 @@
-ghost use Rattle.std.specs.Prelude.{◌≡◌, ◌≤◌, ◌<◌, ◌+◌, ◌-◌, ◌^◌, ◌≤ℤ◌, ◌<ℤ◌, ℕ, List, Some, true, false, length, slice_get, IfOk, IfSome, IsSomeAnd, IsTrue, IsFalse, OnErr, OnOk};
+ghost use Rattle.std.specs.Prelude.{◌≡◌, ◌≤◌, ◌<◌, ◌+◌, ◌-◌, ◌^◌, ◌≤ℤ◌, ◌<ℤ◌, ℕ, List, Some, true, false, length, slice_get, vec_capacity, IfOk, IfSome, IsSomeAnd, IsTrue, IsFalse, OnErr, OnOk};
 ghost use Rattle.std.specs.VecDeque.{deque_capacity, deque_len};
 ghost use Rattle.net_plan.specs.Ranges.{IsInRange};
 ghost use Rattle.net_plan.specs.declared.network.Network.{Network};
@@ -25,15 +25,18 @@ ghost use Rattle.world_law.specs.world.Steps.{ComesFirst, StandsBehind};
 ghost use Rattle.world_law.specs.world.World.{Stands, act_place};
 
 use crate::OutOfMemory;
+use crate::bodies::{Body, Kind};
 use crate::contents::{Holding, Settled, Timed};
 use crate::outcomes::{Outcomes, bare, corrected, emitted, sent};
+use crate::packets::{MOST_OCTETS, Packet};
 use crate::settled::put_some;
 use crate::state::State;
 use drift_clock::Clock;
-use net_plan::{DeviceId, Network, Octets, RowId, VlId};
-use run_law::{Act, Machine, Moment, NoteBody};
+use net_plan::{DeviceId, Network, RowId, VlId};
+use run_law::{Act, Machine, Moment};
 use schedule_tables::{Entry, entry_of};
 use std::collections::VecDeque;
+use std::mem::replace;
 use sync_state::State as Standing;
 use tte_units::Units;
 
@@ -45,18 +48,20 @@ pub struct AtHand {
     pub octets: Timed,
 }
 
-/// The same octets.
-fn copied(octets: &Timed) -> Timed
+/// The same octets, in memory that was taken before.
+fn copied(octets: &Timed, room: &mut Vec<u8>) -> Timed
+    requires { 1514 ≤ vec_capacity room.old }
     ensures { result ≡ octets.now }
 {
     match octets {
         Timed::Made(vl, cycle) => Timed::Made(*vl, *cycle),
-        Timed::Sent(given) => Timed::Sent(Octets::new(given.as_slice())),
+        Timed::Sent(given) => Timed::Sent(Packet::within(room, given.as_slice())),
     }
 }
 
 /// The frame of the virtual link that the switch holds.
-fn held(stored: &[Holding], device: DeviceId, vl: VlId) -> Option<AtHand>
+fn held(stored: &[Holding], device: DeviceId, vl: VlId, room: &mut Vec<u8>) -> Option<AtHand>
+    requires { 1514 ≤ vec_capacity room.old }
     ensures { IsHeldIn stored.now device vl result }
 {
     let index = stored
@@ -65,12 +70,19 @@ fn held(stored: &[Holding], device: DeviceId, vl: VlId) -> Option<AtHand>
     let holding = &stored[index];
     Some(AtHand {
         cause: holding.number,
-        octets: copied(&holding.octets),
+        octets: copied(&holding.octets, room),
     })
 }
 
 /// The frame that the device has at hand.
-fn at_hand(stored: &[Holding], device: DeviceId, entry: &Entry, cycle: u32) -> Option<AtHand>
+fn at_hand(
+    stored: &[Holding],
+    device: DeviceId,
+    entry: &Entry,
+    cycle: u32,
+    room: &mut Vec<u8>,
+) -> Option<AtHand>
+    requires { 1514 ≤ vec_capacity room.old }
     ensures { IsHand stored.now device entry.now cycle result }
 {
     if entry.vl.sender == device {
@@ -79,7 +91,7 @@ fn at_hand(stored: &[Holding], device: DeviceId, entry: &Entry, cycle: u32) -> O
             octets: Timed::Made(entry.row.vl, cycle),
         });
     }
-    held(stored, device, entry.row.vl)
+    held(stored, device, entry.row.vl, room)
 }
 
 /// The record of its dispatch, where its way is cut or not.
@@ -87,19 +99,21 @@ fn dispatched(cut: bool, device: DeviceId, entry: &Entry, cycle: u32, hand: AtHa
     ensures { result ≡ dispatched_by cut device entry.now cycle hand }
 {
     if cut {
-        return bare(NoteBody::Lost {
+        return bare(Kind::Lost {
             device,
             link: entry.row.link,
             cause: hand.cause,
         });
     }
     Settled {
-        body: NoteBody::TtSent {
-            device,
-            link: entry.row.link,
-            cause: hand.cause,
-            vl: entry.row.vl,
-            cycle,
+        body: Body {
+            kind: Kind::TtSent {
+                device,
+                link: entry.row.link,
+                cause: hand.cause,
+                vl: entry.row.vl,
+                cycle,
+            },
         },
         frame: None,
         octets: Some(hand.octets),
@@ -115,6 +129,14 @@ fn put_both(settled: &mut VecDeque<Settled>, outcomes: Outcomes)
     let Outcomes { first, second } = outcomes;
     put_some(settled, first);
     put_some(settled, second);
+}
+
+/// Takes the memory out.
+fn taken(room: &mut Vec<u8>) -> Vec<u8>
+    ensures { vec_capacity result ≡ vec_capacity room.old }
+{
+    let alloc = *room.allocator();
+    replace(room, Vec::new(alloc))
 }
 
 /// Is the reading that is due, if there is one, reached?
@@ -149,16 +171,18 @@ impl<C: Clock, M: Machine + Drop> State<C, M> {
         device: DeviceId,
         row: RowId,
         cycle: u32,
+        room: &mut Vec<u8>,
     ) -> Option<Settled>
         requires sized { IsSized C.last_step network.now self.now }
         requires range { IsInRange network.now }
         requires row { row.0 < length network.now.row }
+        requires room { 1514 ≤ vec_capacity room.old }
         ensures { (s : Scenario) (entry : EntryValue) → IsOf C.reading s network.now self.now
             → IsEntry network.now row.0 entry → IsDispatched s self.now.stored.items self.now.time device entry cycle result }
     {
         let entry = entry_of(network, row);
         let way = self.way_from(network, device, entry.row.link);
-        let hand = at_hand(self.stored.as_slice(), device, &entry, cycle)?;
+        let hand = at_hand(self.stored.as_slice(), device, &entry, cycle, room)?;
         Some(dispatched(way.cut, device, &entry, cycle, hand))
     }
 
@@ -170,10 +194,12 @@ impl<C: Clock, M: Machine + Drop> State<C, M> {
         was: Standing,
         adjustment: Units,
         act: Act,
+        room: &mut Vec<u8>,
     ) -> Outcomes
         requires sized { IsSized C.last_step network.now self.now }
         requires range { IsInRange network.now }
         requires row { HasItsRow (length network.now.row) act }
+        requires room { 1514 ≤ vec_capacity room.old }
         ensures { (s : Scenario) → IsOf C.reading s network.now self.now
             → AreOutcomes s self.now.stored.items self.now.time device was adjustment act result }
     {
@@ -182,7 +208,7 @@ impl<C: Clock, M: Machine + Drop> State<C, M> {
             Act::Emit(frame, heard) => emitted(network, device, frame, heard),
             Act::Correct(cycle, verdict) => corrected(device, was, cycle, adjustment, verdict),
             Act::Dispatch(row, cycle) => Outcomes {
-                first: self.dispatched_at(network, device, row, cycle),
+                first: self.dispatched_at(network, device, row, cycle, room),
                 second: None,
             },
         }
@@ -209,6 +235,7 @@ impl<C: Clock, M: Machine + Drop> State<C, M> {
         requires range { IsInRange network.now }
         requires there { device.0 < length network.now.device }
         requires room { deque_len self.old.settled + 2 ≤ deque_capacity self.old.settled }
+        requires spare { 1514 ≤ vec_capacity self.old.spare }
         requires due { IsDueAt C.reading M.stands network.now self.old device }
         requires comes { IsAt C.reading M.stands network.now self.old (act_place self.old.time device) }
         ensures sound { IsSound C.last_step network.now self.new }
@@ -216,6 +243,7 @@ impl<C: Clock, M: Machine + Drop> State<C, M> {
           machines = self.new.machines;
           early = false;
           settled = self.new.settled;
+          spare = self.new.spare;
         } }
         ensures machines { (i : ℕ) → (i ≡ device.0 → ⊥)
             → slice_get self.new.machines.items i ≡ slice_get self.old.machines.items i }
@@ -241,26 +269,32 @@ impl<C: Clock, M: Machine + Drop> State<C, M> {
             return false;
         };
         let is = self.machines[index].shown();
-        let outcomes = self.outcomes_of(network, device, was.state, is.adjustment, act);
+        let mut room = taken(&mut self.spare);
+        let outcomes = self.outcomes_of(network, device, was.state, is.adjustment, act, &mut room);
+        self.spare = room;
         put_both(&mut self.settled, outcomes);
         self.early = false;
         self.is_due(network, device)
     }
 
-    /// Makes place for two more records, for which there are numbers.
+    /// Makes place for two more records, for which there are numbers, and takes memory for the octets of a frame.
     ///
     /// On an error nothing is done.
     fn reserve_two(&mut self) -> Result<(), OutOfMemory>
-        ensures same { self.new ≡ record self.old { settled = self.new.settled } }
+        ensures same { self.new ≡ record self.old { settled = self.new.settled; spare = self.new.spare } }
         ensures items { self.new.settled.items ≡ self.old.settled.items }
         ensures room { OnOk result (deque_len self.new.settled + 2 ≤ deque_capacity self.new.settled) }
         ensures numbers { OnOk result (self.old.given + length self.old.settled.items + 2 < 2 ^ 64 - 1) }
+        ensures spare { OnOk result (1514 ≤ vec_capacity self.new.spare) }
     {
         let most = u64::MAX - 2;
         if self.given >= most {
             return Err(OutOfMemory);
         }
         if self.settled.len() as u64 >= most - self.given {
+            return Err(OutOfMemory);
+        }
+        if self.spare.reserve(MOST_OCTETS).is_err() {
             return Err(OutOfMemory);
         }
         if self.settled.reserve(2).is_err() {
@@ -283,6 +317,7 @@ impl<C: Clock, M: Machine + Drop> State<C, M> {
           machines = self.new.machines;
           early = self.new.early;
           settled = self.new.settled;
+          spare = self.new.spare;
         } }
         ensures others { ChangesOnly device.0 self.old self.new }
         ensures stands { (s : Scenario) (notes : List Note)

@@ -21,9 +21,10 @@ ghost use Rattle.world_law.specs.world.Steps.{also_befell, befallen_node, ends_w
 use crate::OutOfMemory;
 use crate::contents::{Befallen, Waits, WayState};
 use crate::kept::Kept;
+use crate::packets::{Happened, Happening, Packet};
 use crate::state::State;
 use drift_clock::Clock;
-use net_plan::{DeviceId, Network, Way, What};
+use net_plan::{DeviceId, Network, Octets, Way, What};
 use run_law::Machine;
 use tte_units::Units;
 
@@ -92,11 +93,23 @@ pub fn set_broken(broken: &mut Vec<bool>, what: &What)
     }
 }
 
+/// Does it turn the device on?
+fn does_turn_on(what: &Happened, device: DeviceId) -> bool
+    ensures { result ≡ turns_on device what.now }
+{
+    match &what.happening {
+        Happening::On(other) => device.0 == other.0,
+        Happening::Send(_, _) | Happening::End => false,
+    }
+}
+
 /// Is the device turned on by what befell?
 pub fn is_turned_on(befell: &[Befallen], device: DeviceId) -> bool
     ensures { result ≡ list_any (λ b. turns_on device b.what) befell.now }
 {
-    befell.iter().any(|befallen| matches!(&befallen.what, What::On(other) if device.0 == other.0))
+    befell
+        .iter()
+        .any(|befallen| does_turn_on(&befallen.what, device))
 }
 
 /// Does it still wait, after what befalls the network?
@@ -184,12 +197,13 @@ pub fn keep_befallen(
     ensures ok { OnOk result (map befell_as befell.new.items ≡ map befell_as befell.old.items ++ also_befell number what.now) }
     ensures err { OnErr result (befell.new.items ≡ befell.old.items) }
 {
-    if !matches!(what, What::On(_) | What::Send(_, _)) {
-        return Ok(());
-    }
-    let Ok(what) = what.clone() else {
-        return Err(OutOfMemory);
+    let alloc = *befell.allocator();
+    let happening = match what {
+        What::On(device) => Happening::On(*device),
+        What::Send(link, octets) => Happening::Send(*link, Packet::new(alloc, octets.as_slice())?),
+        _ => return Ok(()),
     };
+    let what = Happened { happening };
     if befell.push(Befallen { number, what }).is_err() {
         return Err(OutOfMemory);
     }
@@ -197,10 +211,20 @@ pub fn keep_befallen(
 }
 
 /// The same happening.
-pub fn copy_of(what: &What) -> Result<What, OutOfMemory>
-    ensures { IfOk result (λ copy. copy ≡ what.now) }
+pub fn copy_of(what: &What) -> What
+    ensures { result ≡ what.now }
 {
-    Ok(what.clone()?)
+    match what {
+        What::Rate(device, rate) => What::Rate(*device, *rate),
+        What::Wire(link, way, delay) => What::Wire(*link, *way, *delay),
+        What::Hold(link, way, hold) => What::Hold(*link, *way, *hold),
+        What::Cut(link, way) => What::Cut(*link, *way),
+        What::Heal(link, way) => What::Heal(*link, *way),
+        What::On(device) => What::On(*device),
+        What::Break(device) => What::Break(*device),
+        What::Send(link, octets) => What::Send(*link, Octets::new(octets.as_slice())),
+        What::End => What::End,
+    }
 }
 
 /// Does the event end the run?

@@ -5,6 +5,7 @@ ghost use Rattle.run_law.specs.control.Wires.{signal_of, time_on_port};
 ghost use Rattle.run_law.specs.declared.note.Note.{Note};
 ghost use Rattle.run_law.specs.records.Order.{behind};
 ghost use Rattle.run_law.specs.scenario.Scenarios.{Scenario};
+ghost use Rattle.drift_world.specs.Bodies.{body_of};
 ghost use Rattle.drift_world.specs.Befalling.{AreSettledBy, bare, entry_of, lost_on, record_of, sent_up, turned_on};
 ghost use Rattle.drift_world.specs.Keeping.{keeps};
 ghost use Rattle.drift_world.specs.Sound.{IsSound};
@@ -14,15 +15,17 @@ ghost use Rattle.world_law.specs.world.Steps.{StandsBehind};
 ghost use Rattle.world_law.specs.world.World.{Stands};
 
 use crate::OutOfMemory;
+use crate::bodies::{Body, Kind};
 use crate::contents::{Befallen, Content, Settled, Signal, WayState};
+use crate::packets::{Happened, Happening, Packet};
 use crate::sending::put_on;
 use crate::settled::put_some;
 use crate::state::State;
 use drift_clock::Clock;
 use due_queue::{Entry, Place, UnderWay};
-use net_plan::{DeviceId, Link, LinkId, Network, Octets, What};
+use net_plan::{DeviceId, Link, LinkId, Network};
 use pcf_codec::is_pcf;
-use run_law::{Machine, NoteBody, Why};
+use run_law::{Machine, Why};
 use std::collections::VecDeque;
 use std::mem::replace;
 use tte_units::octets;
@@ -44,11 +47,11 @@ fn port_time(network: &Network, link: LinkId, given: &[u8]) -> u64
 }
 
 /// A record that has neither a frame nor octets.
-fn bare(body: NoteBody) -> Settled
-    ensures { result ≡ bare body }
+fn bare(kind: Kind) -> Settled
+    ensures { result ≡ bare (body_of kind) }
 {
     Settled {
-        body,
+        body: Body { kind },
         frame: None,
         octets: None,
     }
@@ -61,7 +64,7 @@ fn turned_on(number: u64, device: DeviceId, broken: bool) -> Option<Settled>
     if broken {
         return None;
     }
-    Some(bare(NoteBody::State {
+    Some(bare(Kind::State {
         device,
         state: sync_state::State::Integrating,
         cause: number,
@@ -76,7 +79,7 @@ fn lost_on(number: u64, link: LinkId, found: &Link, way: WayState) -> Option<Set
     if !way.cut {
         return None;
     }
-    Some(bare(NoteBody::Lost {
+    Some(bare(Kind::Lost {
         device: found.child,
         link,
         cause: number,
@@ -89,17 +92,17 @@ fn record_of(
     broken: &[bool],
     ups: &[WayState],
     number: u64,
-    what: &What,
+    what: &Happened,
 ) -> Option<Settled>
     ensures { result ≡ record_of network.now broken.now ups.now number what.now }
 {
-    match what {
-        What::On(device) => turned_on(number, *device, *broken.get(device.0 as usize)?),
-        What::Send(link, _) => {
+    match &what.happening {
+        Happening::On(device) => turned_on(number, *device, *broken.get(device.0 as usize)?),
+        Happening::Send(link, _) => {
             let found = network.link.as_slice().get(link.0 as usize)?;
             lost_on(number, *link, found, *ups.get(link.0 as usize)?)
         }
-        _ => None,
+        Happening::End => None,
     }
 }
 
@@ -109,7 +112,7 @@ fn sent_up(
     time: u64,
     number: u64,
     link: LinkId,
-    given: Octets,
+    given: Packet,
     found: &Link,
     way: WayState,
 ) -> Option<Entry<Content>>
@@ -139,19 +142,19 @@ fn entry_of(
     ups: &[WayState],
     time: u64,
     number: u64,
-    what: What,
+    what: Happened,
 ) -> Option<Entry<Content>>
     requires time { time ≤ 2 ^ 60 }
     requires delays { All (λ w. w.delay < 2 ^ 62) ups.now }
     ensures { result ≡ entry_of network.now ups.now time number what }
 {
-    match what {
-        What::Send(link, given) => {
+    match what.happening {
+        Happening::Send(link, given) => {
             let found = network.link.as_slice().get(link.0 as usize)?;
             let way = *ups.get(link.0 as usize)?;
             sent_up(network, time, number, link, given, found, way)
         }
-        _ => None,
+        Happening::On(_) | Happening::End => None,
     }
 }
 
@@ -175,7 +178,10 @@ fn settle_all(
 {
     for index in 0..befell.len() {
         let number = befell[index].number;
-        let what = replace(&mut befell[index].what, What::End);
+        let nothing = Happened {
+            happening: Happening::End,
+        };
+        let what = replace(&mut befell[index].what, nothing);
         put_some(settled, record_of(network, broken, ups, number, &what));
         put_on(under_way, entry_of(network, ups, time, number, what));
     }

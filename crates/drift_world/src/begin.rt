@@ -5,6 +5,7 @@ ghost use Rattle.drift_world.specs.Beginning.{IsFirstState, first_way};
 
 use crate::OutOfMemory;
 use crate::contents::WayState;
+use crate::frames::MadeFrame;
 use crate::kept::all_kept;
 use crate::state::State;
 use drift_clock::Clock;
@@ -82,6 +83,8 @@ pub fn fresh_state<C: Clock, M: Machine + Drop>(
         under_way: UnderWay::new(alloc),
         waiting: Vec::new(alloc),
         stored: Vec::new(alloc),
+        spare: Vec::new(alloc),
+        made: MadeFrame::new(),
         timers,
         early: true,
         pending: false,

@@ -1,6 +1,7 @@
-use net_plan::{DeviceId, LinkId, Octets, VlId, What};
+use crate::bodies::Body;
+use crate::packets::{Happened, Packet};
+use net_plan::{DeviceId, LinkId, VlId};
 use pcf_values::Pcf;
-use run_law::NoteBody;
 use tte_units::Units;
 
 /// How a way of a link is at present.
@@ -17,7 +18,7 @@ pub enum Timed {
     /// Those that its sender made for a cycle.
     Made(VlId, u32),
     /// Those that a broken master sent.
-    Sent(Octets),
+    Sent(Packet),
 }
 
 /// What is on a wire.
@@ -26,7 +27,7 @@ pub enum Signal {
     Control(Pcf),
     Timed(Timed),
     /// The octets that a broken master sent, whatever they are.
-    Octets(Octets),
+    Octets(Packet),
 }
 
 /// What is under way: on a wire, or at a port.
@@ -60,13 +61,13 @@ pub struct Holding {
 #[derive(Debug, Drop)]
 pub struct Befallen {
     pub number: u64,
-    pub what: What,
+    pub what: Happened,
 }
 
 /// A record of the present instant that is still to be given, and the frame that it is of.
 #[derive(Debug, Drop)]
 pub struct Settled {
-    pub body: NoteBody,
+    pub body: Body,
     pub frame: Option<Pcf>,
     pub octets: Option<Timed>,
 }

@@ -1,4 +1,4 @@
-ghost use Rattle.std.specs.Prelude.{◌≡◌, ◌≤◌, ◌<◌, ◌^◌, length, take};
+ghost use Rattle.std.specs.Prelude.{◌≡◌, ◌≤◌, ◌<◌, ◌^◌, drop, length, replicate};
 ghost use Rattle.run_law.specs.records.Frames.{mac_of};
 ghost use Rattle.net_plan.specs.Padding.{padded};
 ghost use Rattle.net_plan.specs.Ranges.{IsInRange, IsVlInRange};
@@ -6,11 +6,10 @@ ghost use Rattle.drift_world.specs.Frames.{head_of};
 ghost use Rattle.drift_world.specs.Views.{octets_of};
 
 use crate::contents::Timed;
+use crate::packets::MOST_OCTETS;
 use byteorder::{BigEndian, ByteOrder};
 use net_plan::{DeviceId, Network, VirtualLink, VlId};
-
-/// How many octets a frame has at most, without its check sequence.
-pub const MOST_OCTETS: usize = 1514;
+use std::marker::Model;
 
 /// How many octets stand before the zeros of a frame that its sender makes.
 const HEAD_OCTETS: usize = 18;
@@ -45,23 +44,67 @@ fn fill(octets: &mut [u8; MOST_OCTETS], front: &[u8])
     octets[..front.len()].copy_from_slice(front);
 }
 
-/// Writes the frame of a virtual link that its sender makes for a cycle, and answers how many octets it has.
-pub fn write_made(network: &Network, vl: VlId, cycle: u32, octets: &mut [u8; MOST_OCTETS]) -> usize
-    requires { IsInRange network.now }
-    ensures made { take result octets.new ≡ octets_of network.now (Timed.Made vl cycle) }
-    ensures least { 60 ≤ result }
-    ensures most { result ≤ 1514 }
+/// Puts the head of a frame before the zeros.
+fn put_head(octets: &mut [u8; MOST_OCTETS], head: &[u8; HEAD_OCTETS])
+    requires { drop 18 octets.old ≡ replicate 1496 0 }
+    ensures { octets.new ≡ padded 1514 head.now }
 {
-    match network.vl.as_slice().get(vl.0 as usize) {
-        Some(found) => {
-            let mut head = [0; HEAD_OCTETS];
-            write_head(network, found, cycle, &mut head);
-            fill(octets, &head);
-            found.length as usize
+    octets[..HEAD_OCTETS].copy_from_slice(head);
+}
+
+/// The frame of a virtual link as its sender makes it for a cycle: a head, and zeros behind it.
+///
+/// The octets stand in place, and all behind the head are zeros: for the next frame the head alone is written.
+#[derive(Drop)]
+pub struct MadeFrame {
+    octets: [u8; MOST_OCTETS],
+    len: usize,
+}
+
+impl Model for MadeFrame {
+    ghost use Rattle.std.specs.Prelude.{ℕ, List, ◌≡◌, ◌≤◌, take, drop, replicate};
+
+    ghost Value = { List ℕ };
+
+    ghost view = { λ f. take f.len f.octets };
+
+    ghost invariant = { λ f. (60 ≤ f.len) × (f.len ≤ 1514) × (drop 18 f.octets ≡ replicate 1496 0) };
+}
+
+impl MadeFrame {
+    /// None was made yet: zeros.
+    pub fn new() -> MadeFrame {
+        MadeFrame {
+            octets: [0; MOST_OCTETS],
+            len: 60,
         }
-        None => {
-            fill(octets, &[]);
-            60
+    }
+
+    /// Makes the frame of a virtual link for a cycle.
+    pub fn write(&mut self, network: &Network, vl: VlId, cycle: u32)
+        requires { IsInRange network.now }
+        ensures { self.new ≡ octets_of network.now (Timed.Made vl cycle) }
+    {
+        match network.vl.as_slice().get(vl.0 as usize) {
+            Some(found) => {
+                let mut head = [0; HEAD_OCTETS];
+                write_head(network, found, cycle, &mut head);
+                put_head(&mut self.octets, &head);
+                self.len = found.length as usize;
+            }
+            None => {
+                fill(&mut self.octets, &[]);
+                self.len = 60;
+            }
         }
+    }
+
+    /// Its octets.
+    pub fn as_slice(&self) -> &[u8]
+        ensures value { result.now ≡ self.now }
+        ensures least { 60 ≤ length result.now }
+        ensures most { length result.now ≤ 1514 }
+    {
+        &self.octets[..self.len]
     }
 }

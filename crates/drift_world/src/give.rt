@@ -5,6 +5,7 @@ ghost use Rattle.run_law.specs.declared.note.Note.{Note};
 ghost use Rattle.run_law.specs.scenario.Scenarios.{Scenario};
 
 use crate::OutOfMemory;
+use crate::bodies::{Body, Given, Kind};
 use crate::contents::{Settled, Timed};
 use crate::giving::{Giving, give_frame, make_room};
 use crate::naming::name_followers;
@@ -15,7 +16,7 @@ use crate::waiting::giver;
 use drift_clock::Clock;
 use net_plan::Network;
 use pcf_values::Pcf;
-use run_law::{Machine, Note, NoteBody};
+use run_law::Machine;
 use tte_units::Units;
 
 impl<C: Clock, M: Machine + Drop> State<C, M> {
@@ -39,7 +40,7 @@ impl<C: Clock, M: Machine + Drop> State<C, M> {
     fn giving_by(
         &self,
         network: &Network,
-        body: &NoteBody,
+        body: &Body,
         frame: Option<Pcf>,
         number: u64,
     ) -> Option<Giving>
@@ -68,7 +69,7 @@ impl<C: Clock, M: Machine + Drop> State<C, M> {
     fn launch_wire(
         &mut self,
         network: &Network,
-        body: &NoteBody,
+        body: &Body,
         frame: Option<Pcf>,
         octets: Option<Timed>,
         number: u64,
@@ -97,7 +98,7 @@ impl<C: Clock, M: Machine + Drop> State<C, M> {
     }
 
     /// Gives the frame of a record to ports and has it wait, as its device does.
-    fn launch_frame(&mut self, network: &Network, body: &NoteBody, frame: Option<Pcf>, number: u64)
+    fn launch_frame(&mut self, network: &Network, body: &Body, frame: Option<Pcf>, number: u64)
         requires sized { IsSized C.last_step network.now self.old }
         requires range { IsInRange network.now }
         requires by { CameBy (length network.now.link) body.now }
@@ -130,7 +131,7 @@ impl<C: Clock, M: Machine + Drop> State<C, M> {
     fn launch_octets(
         &mut self,
         network: &Network,
-        body: &NoteBody,
+        body: &Body,
         frame: Option<Pcf>,
         octets: Option<Timed>,
         number: u64,
@@ -147,7 +148,7 @@ impl<C: Clock, M: Machine + Drop> State<C, M> {
             self.old.under_way.entries self.new.under_way.entries }
         ensures stored { self.new.stored.items ≡ stored_by body.now octets number self.old.stored.items }
     {
-        if let NoteBody::Accepted { device, vl, .. } = body {
+        if let Kind::Accepted { device, vl, .. } = &body.kind {
             store(&mut self.stored, *device, *vl, octets, number);
         } else {
             self.launch_wire(network, body, frame, octets, number);
@@ -155,7 +156,7 @@ impl<C: Clock, M: Machine + Drop> State<C, M> {
     }
 
     /// Gives the first settled record, which was taken out, its number, and launches what it does.
-    fn give_first(&mut self, network: &Network, first: Settled) -> Note
+    fn give_first(&mut self, network: &Network, first: Settled) -> Given
         requires sound { IsSound C.last_step network.now self.old }
         requires range { IsInRange network.now }
         requires may { MayBeGiven network.now first.body first.frame first.octets }
@@ -196,7 +197,7 @@ impl<C: Clock, M: Machine + Drop> State<C, M> {
         } = first;
         self.launch_octets(network, &body, frame, octets, number);
         self.given = number;
-        Note {
+        Given {
             number,
             time: Units::from_amount(self.time),
             body,
@@ -206,7 +207,7 @@ impl<C: Clock, M: Machine + Drop> State<C, M> {
     /// The first record that is settled is given, with the next number: what it launches is under way, or waits.
     ///
     /// On an error nothing has changed.
-    pub fn give(&mut self, network: &Network) -> Result<Note, OutOfMemory>
+    pub fn give(&mut self, network: &Network) -> Result<Given, OutOfMemory>
         requires sound { IsSound C.last_step network.now self.old }
         requires range { IsInRange network.now }
         requires some { 0 < length self.old.settled.items }

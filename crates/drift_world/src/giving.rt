@@ -8,12 +8,12 @@ ghost use Rattle.run_law.specs.control.Leaving.{Gives, Passes};
 ghost use Rattle.run_law.specs.scenario.Devices.{IsParentOf, is_relay};
 
 use crate::OutOfMemory;
+use crate::bodies::{Body, Kind};
 use crate::contents::{Content, Holding, Waits, WayState};
 use crate::waiting::{awaited, wait_for};
 use due_queue::{Place, UnderWay};
 use net_plan::{DeviceId, LinkId, Network, Role};
 use pcf_values::Pcf;
-use run_law::NoteBody;
 
 /// Does the link lead from the device up to its parent?
 fn is_child(network: &Network, device: DeviceId, link: LinkId) -> bool
@@ -53,17 +53,17 @@ fn passes(network: &Network, device: DeviceId, by: LinkId, link: LinkId) -> bool
 }
 
 /// Does the device give the frame of the record to the link?
-pub fn gives(network: &Network, body: &NoteBody, device: DeviceId, link: LinkId) -> bool
+pub fn gives(network: &Network, body: &Body, device: DeviceId, link: LinkId) -> bool
     requires link { link.0 < length network.now.link }
     requires by { CameBy (length network.now.link) body.now }
     ensures { IsTrue result ↔ Gives network.now body.now device link }
 {
-    match body {
-        NoteBody::Sent { device: master, .. } => {
+    match &body.kind {
+        Kind::Sent { device: master, .. } => {
             device == *master && is_child(network, device, link)
         }
-        NoteBody::Compressed { device: cm, .. } => device == *cm && is_above(network, device, link),
-        NoteBody::Arrived {
+        Kind::Compressed { device: cm, .. } => device == *cm && is_above(network, device, link),
+        Kind::Arrived {
             device: relay,
             link: by,
             ..
@@ -127,7 +127,7 @@ pub fn put_ports(
     network: &Network,
     ups: &[WayState],
     downs: &[WayState],
-    body: &NoteBody,
+    body: &Body,
     giving: &Giving,
 )
     requires by { CameBy (length network.now.link) body.now }
@@ -160,7 +160,7 @@ pub fn give_frame(
     network: &Network,
     ups: &[WayState],
     downs: &[WayState],
-    body: &NoteBody,
+    body: &Body,
     giving: Option<Giving>,
 )
     requires range { IsInRange network.now }

@@ -8,6 +8,7 @@ ghost use Rattle.run_law.specs.declared.note.Note.{Note};
 ghost use Rattle.run_law.specs.machines.Calls.{StandsFor};
 ghost use Rattle.run_law.specs.records.Order.{behind};
 ghost use Rattle.run_law.specs.scenario.Scenarios.{Scenario};
+ghost use Rattle.drift_world.specs.Bodies.{body_of};
 ghost use Rattle.drift_world.specs.Hearing.{AreOctetsOf, IsAsSent, MayCome, arrived, frame_kept, octets_kept, timed_in};
 ghost use Rattle.drift_world.specs.Keeping.{keeps};
 ghost use Rattle.drift_world.specs.Sound.{AreUnderWay, IsSound, rank_of};
@@ -18,8 +19,9 @@ ghost use Rattle.world_law.specs.world.Arriving.{HasHeard, arrival_body};
 ghost use Rattle.world_law.specs.world.Steps.{ComesFirst, StandsBehind};
 ghost use Rattle.world_law.specs.world.World.{Stands};
 
+use crate::bodies::{Body, Kind};
 use crate::contents::{Content, Settled, Signal, Timed};
-use crate::frames::{MOST_OCTETS, write_made};
+use crate::frames::MadeFrame;
 use crate::kept::Kept;
 use crate::settled::put_in;
 use crate::state::State;
@@ -28,7 +30,7 @@ use due_queue::{Place, UnderWay};
 use net_plan::{DeviceId, LinkId, Network};
 use pcf_codec::{PCF_LENGTH, encode};
 use pcf_values::Pcf;
-use run_law::{Arrival, Machine, Moment, NoteBody};
+use run_law::{Arrival, Machine, Moment};
 use tte_units::Units;
 
 /// Takes out what is on a wire and the first of all that is under way.
@@ -62,6 +64,7 @@ fn hear_timed<M: Machine + Drop>(
     moment: Moment,
     link: LinkId,
     frame: &Timed,
+    made: &mut MadeFrame,
 ) -> Arrival
     requires range { IsInRange network.now }
     requires may { StandsFor (keeps M.stands) kept.old (MayCome (timed (octets_of network.now frame.now)) moment link) }
@@ -71,9 +74,8 @@ fn hear_timed<M: Machine + Drop>(
 {
     match frame {
         Timed::Made(vl, cycle) => {
-            let mut octets = [0; MOST_OCTETS];
-            let count = write_made(network, *vl, *cycle, &mut octets);
-            kept.hear(moment, link, &octets[..count])
+            made.write(network, *vl, *cycle);
+            kept.hear(moment, link, made.as_slice())
         }
         Timed::Sent(octets) => kept.hear(moment, link, octets.as_slice()),
     }
@@ -86,6 +88,7 @@ fn hear_signal<M: Machine + Drop>(
     moment: Moment,
     link: LinkId,
     signal: &Signal,
+    made: &mut MadeFrame,
 ) -> Arrival
     requires range { IsInRange network.now }
     requires may { StandsFor (keeps M.stands) kept.old (MayCome (signal_as network.now signal.now) moment link) }
@@ -99,20 +102,20 @@ fn hear_signal<M: Machine + Drop>(
             encode(frame, &mut octets);
             kept.hear(moment, link, &octets)
         }
-        Signal::Timed(frame) => hear_timed(kept, network, moment, link, frame),
+        Signal::Timed(frame) => hear_timed(kept, network, moment, link, frame, made),
         Signal::Octets(octets) => kept.hear(moment, link, octets.as_slice()),
     }
 }
 
 /// What the record of it says.
-fn body_of(place: Place, arrival: &Arrival) -> NoteBody
-    ensures { result ≡ arrival_body (record { 0 = place.device }) (record { 0 = place.link }) place.cause arrival.now }
+fn kind_of(place: Place, arrival: &Arrival) -> Kind
+    ensures { body_of result ≡ arrival_body (record { 0 = place.device }) (record { 0 = place.link }) place.cause arrival.now }
 {
     let device = DeviceId(place.device);
     let link = LinkId(place.link);
     let cause = place.cause;
     match arrival {
-        Arrival::Dropped(reason) => NoteBody::Dropped {
+        Arrival::Dropped(reason) => Kind::Dropped {
             device,
             link,
             cause,
@@ -120,20 +123,20 @@ fn body_of(place: Place, arrival: &Arrival) -> NoteBody
         },
         Arrival::Waits(frame, _)
         | Arrival::Passes(frame, _)
-        | Arrival::PassesAndWaits(frame, _, _) => NoteBody::Arrived {
+        | Arrival::PassesAndWaits(frame, _, _) => Kind::Arrived {
             device,
             link,
             cause,
             clock: frame.clock,
         },
-        Arrival::Accepted(vl, cycle) => NoteBody::Accepted {
+        Arrival::Accepted(vl, cycle) => Kind::Accepted {
             device,
             link,
             cause,
             vl: *vl,
             cycle: *cycle,
         },
-        Arrival::Delivered(vl, cycle) => NoteBody::Delivered {
+        Arrival::Delivered(vl, cycle) => Kind::Delivered {
             device,
             link,
             cause,
@@ -185,9 +188,9 @@ fn arrived(place: Place, arrival: &Arrival, signal: Signal) -> Settled
 {
     let octets = octets_for(arrival, signal);
     let frame = frame_of(arrival);
-    let body = body_of(place, arrival);
+    let kind = kind_of(place, arrival);
     Settled {
-        body,
+        body: Body { kind },
         frame,
         octets,
     }
@@ -211,7 +214,7 @@ impl<C: Clock, M: Machine + Drop> State<C, M> {
             → ComesFirst C.reading (keeps M.stands) s (world_of network.now self.old) notes old (numbers_of place)
             → StandsBehind C.reading (keeps M.stands) s (world_of network.now self.new) notes (behind (numbers_of place)) }
         ensures others { ChangesOnly place.device self.old self.new }
-        ensures same { self.new ≡ record self.old { machines = self.new.machines; under_way = self.new.under_way; settled = self.new.settled; early = false } }
+        ensures same { self.new ≡ record self.old { machines = self.new.machines; under_way = self.new.under_way; settled = self.new.settled; made = self.new.made; early = false } }
         ensures given { self.new.given ≡ self.old.given }
         ensures shorter { length self.old.under_way.entries ≡ length self.new.under_way.entries + 1 }
     {
@@ -223,7 +226,8 @@ impl<C: Clock, M: Machine + Drop> State<C, M> {
             reading: self.clocks[index].read(time),
         };
         let link = LinkId(place.link);
-        let arrival = hear_signal(&mut self.machines[index], network, moment, link, &signal);
+        let machine = &mut self.machines[index];
+        let arrival = hear_signal(machine, network, moment, link, &signal, &mut self.made);
         self.early = false;
         put_in(&mut self.settled, arrived(place, &arrival, signal));
     }

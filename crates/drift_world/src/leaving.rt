@@ -4,14 +4,16 @@ ghost use Rattle.net_plan.specs.Ranges.{IsInRange};
 ghost use Rattle.net_plan.specs.declared.network.Network.{Network as NetworkValue};
 ghost use Rattle.run_law.specs.scenario.Devices.{is_parent_of};
 ghost use Rattle.run_law.specs.records.Happenings.{with_clock};
+ghost use Rattle.drift_world.specs.Bodies.{body_of};
 ghost use Rattle.drift_world.specs.Leaving.{departed, port_entry};
 ghost use Rattle.drift_world.specs.Sound.{AreUnderWay, rank_of};
 
+use crate::bodies::{Body, Kind};
 use crate::contents::{Content, Settled, WayState};
 use due_queue::{Place, UnderWay};
 use net_plan::{DeviceId, LinkId, Network};
 use pcf_values::Pcf;
-use run_law::{NoteBody, Reason};
+use run_law::Reason;
 
 /// Takes the frame out that is at a port, and the first of all that is under way; and what its device's clock read
 /// when it gave the frame to the link.
@@ -56,7 +58,7 @@ pub fn departed(
     let cause = place.cause;
     let clock = u128::from(frame.clock) + u128::from(reading.saturating_sub(given));
     if clock > u128::from(network.dmax.amount()) {
-        return dropped(NoteBody::Dropped {
+        return dropped(Kind::Dropped {
             device,
             link,
             cause,
@@ -64,7 +66,7 @@ pub fn departed(
         });
     }
     if cut {
-        return dropped(NoteBody::Lost {
+        return dropped(Kind::Lost {
             device,
             link,
             cause,
@@ -72,22 +74,24 @@ pub fn departed(
     }
     let clock = clock as u64;
     Settled {
-        body: NoteBody::Left {
-            device,
-            link,
-            cause,
-            clock,
+        body: Body {
+            kind: Kind::Left {
+                device,
+                link,
+                cause,
+                clock,
+            },
         },
         frame: Some(with_clock(frame, clock)),
         octets: None,
     }
 }
 
-fn dropped(body: NoteBody) -> Settled
-    ensures { result ≡ record { body = body; frame = None; octets = None } }
+fn dropped(kind: Kind) -> Settled
+    ensures { result ≡ record { body = body_of kind; frame = None; octets = None } }
 {
     Settled {
-        body,
+        body: Body { kind },
         frame: None,
         octets: None,
     }

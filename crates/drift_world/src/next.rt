@@ -6,12 +6,13 @@ ghost use Rattle.run_law.specs.runs.DueRecords.{IsScenarioRun};
 ghost use Rattle.run_law.specs.scenario.Scenarios.{Scenario};
 
 use crate::OutOfMemory;
+use crate::bodies::{Body, Given, Kind};
 use crate::settled::is_before;
 use crate::source::{Source, own_numbers};
 use crate::state::State;
 use drift_clock::Clock;
 use net_plan::Network;
-use run_law::{Machine, Note, NoteBody};
+use run_law::Machine;
 
 /// The last time of a run.
 const LAST: u64 = 1 << 60;
@@ -20,7 +21,7 @@ const LAST: u64 = 1 << 60;
 #[derive(Drop)]
 pub enum Turn {
     /// A record is given.
-    Gives(Note),
+    Gives(Given),
     /// None is due before the time.
     Ends,
     /// Something is worked off, or time passes.
@@ -47,7 +48,7 @@ impl<C: Clock, M: Machine + Drop> State<C, M> {
     /// The next record before a time, if one is due before it.
     ///
     /// Each turn that goes on comes nearer to the time: time passes, or there is less to work off at the instant.
-    pub fn next(&mut self, network: &Network, until: u64) -> Result<Option<Note>, OutOfMemory>
+    pub fn next(&mut self, network: &Network, until: u64) -> Result<Option<Given>, OutOfMemory>
         requires range { IsInRange network.now }
         requires well { IsWell C.last_step C.reading M.stands network.now self.old }
         requires limit { until ≤ 2 ^ 60 + 1 }
@@ -65,7 +66,7 @@ impl<C: Clock, M: Machine + Drop> State<C, M> {
     {
         'turns: loop {
             match self.turn(network, until) {
-                Ok(Turn::Gives(note)) => return Ok(Some(note)),
+                Ok(Turn::Gives(given)) => return Ok(Some(given)),
                 Ok(Turn::Ends) => return Ok(None),
                 Ok(Turn::GoesOn) => {}
                 Err(error) => return Err(error),
@@ -167,7 +168,7 @@ impl<C: Clock, M: Machine + Drop> State<C, M> {
     {
         match self.give(network) {
             Ok(note) => {
-                self.rekey_after(network, &note.body);
+                self.rekey_after(network, note.body());
                 Ok(Turn::Gives(note))
             }
             Err(error) => Err(error),
@@ -175,7 +176,7 @@ impl<C: Clock, M: Machine + Drop> State<C, M> {
     }
 
     /// A frame that arrived may wait at its device: the timers of the device are set.
-    fn rekey_after(&mut self, network: &Network, body: &NoteBody)
+    fn rekey_after(&mut self, network: &Network, body: &Body)
         requires range { IsInRange network.now }
         requires sized { IsSized C.last_step network.now self.old }
         requires slots { length self.old.timers ≡ 2 * length network.now.device }
@@ -186,7 +187,7 @@ impl<C: Clock, M: Machine + Drop> State<C, M> {
             → ChangesOnly (changed_device body.now) before self.old → self.old.timers ≡ before.timers
             → AreTimed C.reading M.stands network.now self.new }
     {
-        if let NoteBody::Arrived { device, .. } = body {
+        if let Kind::Arrived { device, .. } = &body.kind {
             self.rekey(network, device.0);
         }
     }

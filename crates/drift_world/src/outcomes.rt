@@ -1,14 +1,16 @@
 ghost use Rattle.std.specs.Prelude.{◌≡◌};
 ghost use Rattle.run_law.specs.records.Frames.{integration_frame, mac_of};
 ghost use Rattle.drift_world.specs.Acting.{bare, clique_by, corrected_by, emitted_by, first_by, framed, joined_by, sent_by};
+ghost use Rattle.drift_world.specs.Bodies.{body_of};
 ghost use Rattle.world_law.specs.world.Acting.{judged_as};
 
+use crate::bodies::{Body, Kind};
 use crate::contents::Settled;
 use crate::naming::NONE_YET;
 use compression::Compressed;
 use net_plan::{DeviceId, Network};
 use pcf_values::{Mac, Members, Pcf, PcfKind};
-use run_law::{Judgement, NoteBody, Ripe, Why};
+use run_law::{Judgement, Ripe, Why};
 use sync_state::{State, Verdict};
 use tte_units::Units;
 
@@ -20,22 +22,22 @@ pub struct Outcomes {
 }
 
 /// A record that is of no frame.
-pub fn bare(body: NoteBody) -> Settled
-    ensures { result ≡ bare body }
+pub fn bare(kind: Kind) -> Settled
+    ensures { result ≡ bare (body_of kind) }
 {
     Settled {
-        body,
+        body: Body { kind },
         frame: None,
         octets: None,
     }
 }
 
 /// A record of a control frame.
-fn framed(body: NoteBody, frame: Pcf) -> Settled
-    ensures { result ≡ framed body frame }
+fn framed(kind: Kind, frame: Pcf) -> Settled
+    ensures { result ≡ framed (body_of kind) frame }
 {
     Settled {
-        body,
+        body: Body { kind },
         frame: Some(frame),
         octets: None,
     }
@@ -45,12 +47,12 @@ fn framed(body: NoteBody, frame: Pcf) -> Settled
 pub fn sent(device: DeviceId, frame: Pcf) -> Outcomes
     ensures { result ≡ sent_by device frame }
 {
-    let body = NoteBody::Sent {
+    let kind = Kind::Sent {
         device,
         cycle: frame.cycle,
     };
     Outcomes {
-        first: Some(framed(body, frame)),
+        first: Some(framed(kind, frame)),
         second: None,
     }
 }
@@ -101,7 +103,7 @@ fn joined(device: DeviceId, heard: Ripe) -> Option<Settled>
     ensures { result ≡ joined_by device heard }
 {
     match heard {
-        Ripe::Integrates => Some(bare(NoteBody::State {
+        Ripe::Integrates => Some(bare(Kind::State {
             device,
             state: State::Joining,
             cause: NONE_YET,
@@ -115,7 +117,7 @@ fn joined(device: DeviceId, heard: Ripe) -> Option<Settled>
 pub fn emitted(network: &Network, device: DeviceId, sent: Compressed, heard: Ripe) -> Outcomes
     ensures { result ≡ emitted_by network.now device sent heard }
 {
-    let body = NoteBody::Compressed {
+    let kind = Kind::Compressed {
         device,
         opened: sent.opened,
         at: sent.at,
@@ -125,7 +127,7 @@ pub fn emitted(network: &Network, device: DeviceId, sent: Compressed, heard: Rip
     };
     let frame = integration_frame(network, device, sent.cycle, sent.members);
     Outcomes {
-        first: Some(framed(body, frame)),
+        first: Some(framed(kind, frame)),
         second: joined(device, heard),
     }
 }
@@ -135,7 +137,7 @@ fn first_correction(device: DeviceId, was: State) -> Option<Settled>
     ensures { result ≡ first_by device was }
 {
     match was {
-        State::Joining => Some(bare(NoteBody::State {
+        State::Joining => Some(bare(Kind::State {
             device,
             state: State::Synchronised,
             cause: NONE_YET,
@@ -150,7 +152,7 @@ fn clique(device: DeviceId, why: Why) -> Outcomes
     ensures { result ≡ clique_by device why }
 {
     Outcomes {
-        first: Some(bare(NoteBody::State {
+        first: Some(bare(Kind::State {
             device,
             state: State::Integrating,
             cause: 0,
@@ -172,7 +174,7 @@ pub fn corrected(
 {
     match verdict {
         Verdict::Corrected(by) => Outcomes {
-            first: Some(bare(NoteBody::Corrected {
+            first: Some(bare(Kind::Corrected {
                 device,
                 cycle,
                 by,

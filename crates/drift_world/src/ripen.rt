@@ -14,6 +14,7 @@ ghost use Rattle.drift_world.specs.Keeping.{keeps};
 ghost use Rattle.drift_world.specs.Ripening.{AreSettledSo, joined_record, judged_so, ripe_record};
 ghost use Rattle.drift_world.specs.declared.contents.Waits.{Waits as WaitsValue};
 
+use crate::bodies::{Body, Kind};
 use crate::contents::{Settled, Waits};
 use crate::kept::Kept;
 use crate::settled::{put_in, put_some};
@@ -21,7 +22,7 @@ use crate::state::State;
 use drift_clock::Clock;
 use net_plan::{DeviceId, LinkId, Network};
 use pcf_values::Pcf;
-use run_law::{Judgement, Machine, Moment, NoteBody, Reason, Ripe, Why};
+use run_law::{Judgement, Machine, Moment, Reason, Ripe, Why};
 use std::collections::VecDeque;
 use sync_state::State as DeviceState;
 use tte_units::Units;
@@ -51,12 +52,14 @@ fn judged(waits: &Waits, verdict: Judgement) -> Settled
     ensures { result ≡ judged_so waits.now verdict }
 {
     Settled {
-        body: NoteBody::Permanent {
-            device: waits.device,
-            link: waits.link,
-            cause: waits.cause,
-            point: waits.point,
-            verdict,
+        body: Body {
+            kind: Kind::Permanent {
+                device: waits.device,
+                link: waits.link,
+                cause: waits.cause,
+                point: waits.point,
+                verdict,
+            },
         },
         frame: Some(waits.frame),
         octets: None,
@@ -68,11 +71,13 @@ fn dropped(waits: &Waits, reason: Reason) -> Settled
     ensures { result ≡ ripe_record waits.now (Ripe.Dropped reason) }
 {
     Settled {
-        body: NoteBody::Dropped {
-            device: waits.device,
-            link: waits.link,
-            cause: waits.cause,
-            reason,
+        body: Body {
+            kind: Kind::Dropped {
+                device: waits.device,
+                link: waits.link,
+                cause: waits.cause,
+                reason,
+            },
         },
         frame: None,
         octets: None,
@@ -103,11 +108,13 @@ fn joined(device: DeviceId, ripe: Ripe) -> Option<Settled>
         return None;
     }
     Some(Settled {
-        body: NoteBody::State {
-            device,
-            state: DeviceState::Joining,
-            cause: u64::MAX,
-            why: Why::Frame,
+        body: Body {
+            kind: Kind::State {
+                device,
+                state: DeviceState::Joining,
+                cause: u64::MAX,
+                why: Why::Frame,
+            },
         },
         frame: None,
         octets: None,

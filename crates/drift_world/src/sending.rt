@@ -4,12 +4,12 @@ ghost use Rattle.run_law.specs.control.Wires.{time_on_port, timed};
 ghost use Rattle.drift_world.specs.Giving.{IsPutOn, place_on_wire, wire_entry};
 ghost use Rattle.drift_world.specs.Views.{octets_of};
 
+use crate::bodies::{Body, Kind};
 use crate::contents::{Content, Signal, Timed, WayState};
 use crate::leaving::is_parent;
 use due_queue::{Entry, Place, UnderWay};
 use net_plan::{DeviceId, LinkId, Network};
 use pcf_values::Pcf;
-use run_law::NoteBody;
 use tte_units::octets;
 
 /// How many octets a frame of the schedule has.
@@ -92,7 +92,7 @@ pub fn sent_by(
     network: &Network,
     ups: &[WayState],
     downs: &[WayState],
-    body: &NoteBody,
+    body: &Body,
     frame: Option<Pcf>,
     octets: Option<Timed>,
     time: u64,
@@ -106,8 +106,8 @@ pub fn sent_by(
     requires time { time ≤ 2 ^ 60 }
     ensures { result ≡ wire_entry network.now ups.now downs.now body.now frame octets time number }
 {
-    match body {
-        NoteBody::Left { device, link, .. } => {
+    match &body.kind {
+        Kind::Left { device, link, .. } => {
             let frame = frame?;
             let sending = Sending {
                 device: *device,
@@ -122,7 +122,7 @@ pub fn sent_by(
                 content: Content::Wire(Signal::Control(frame)),
             })
         }
-        NoteBody::TtSent { device, link, .. } => {
+        Kind::TtSent { device, link, .. } => {
             let octets = octets?;
             let sending = Sending {
                 device: *device,

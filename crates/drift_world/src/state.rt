@@ -9,10 +9,12 @@ ghost use Rattle.run_law.specs.scenario.Scenarios.{Scenario};
 
 use crate::OutOfMemory;
 use crate::applying::{
-    befall_machines, breaks_on, copy_of, drop_waiting, ends, keep_befallen, set_broken, set_rate,
-    set_way,
+    befall_machines, breaks_on, drop_waiting, ends, keep_befallen, set_broken, set_rate, set_way,
 };
+use crate::bodies::{Body, Kind};
 use crate::contents::{Befallen, Content, Holding, Settled, Waits, WayState};
+use crate::event_notes::EventNote;
+use crate::frames::MadeFrame;
 use crate::kept::Kept;
 use crate::leaving::{departed, is_parent, take_port};
 use crate::settled::{put_in, put_some};
@@ -21,7 +23,7 @@ use due_queue::{Place, UnderWay};
 use due_timers::Timers;
 use net_plan::{DeviceId, Event, LinkId, Network, Way, What};
 use pcf_values::Pcf;
-use run_law::{Machine, Note, NoteBody};
+use run_law::{Machine, NoteBody};
 use std::collections::VecDeque;
 use sync_state::State as DeviceState;
 use tte_units::Units;
@@ -42,6 +44,10 @@ pub struct State<C: Clock, M: Machine + Drop> {
     pub waiting: Vec<Waits>,
     /// The frames that switches hold.
     pub stored: Vec<Holding>,
+    /// Memory for the octets of a frame that a switch sends and still holds.
+    pub spare: Vec<u8>,
+    /// The last frame that was made as its sender makes it.
+    pub made: MadeFrame,
     /// When the frames that wait at each device are permanent, and then when each device acts by itself.
     pub timers: Timers,
     /// Is nothing of the present instant but events worked off?
@@ -126,7 +132,7 @@ impl<C: Clock, M: Machine + Drop> State<C, M> {
         let index = self.shown as usize;
         let reading = self.clocks[index].read(Units::from_amount(self.time));
         let machine = &self.machines[index];
-        let body = NoteBody::Clock {
+        let kind = Kind::Clock {
             device: DeviceId(self.shown),
             reading,
             adjustment: machine.adjustment(),
@@ -135,7 +141,7 @@ impl<C: Clock, M: Machine + Drop> State<C, M> {
         put_in(
             &mut self.settled,
             Settled {
-                body,
+                body: Body { kind },
                 frame: None,
                 octets: None,
             },
@@ -225,7 +231,11 @@ impl<C: Clock, M: Machine + Drop> State<C, M> {
     /// An event befalls, before all else of the present instant. Its record is given.
     ///
     /// On an error nothing has changed.
-    pub fn apply(&mut self, network: &Network, event: &Event) -> Result<Note, OutOfMemory>
+    pub fn apply<'e>(
+        &mut self,
+        network: &Network,
+        event: &'e Event,
+    ) -> Result<EventNote<'e>, OutOfMemory>
         requires sound { IsSound C.last_step network.now self.old }
         requires time { event.now.time.0 ≡ pos self.old.time }
         requires early { self.old.early ≡ true }
@@ -260,7 +270,6 @@ impl<C: Clock, M: Machine + Drop> State<C, M> {
         if self.given >= u64::MAX - 1 || self.lines == u64::MAX {
             return Err(OutOfMemory);
         }
-        let what = copy_of(&event.what)?;
         let on = breaks_on(self.befell.as_slice(), &event.what);
         keep_befallen(&mut self.befell, self.given + 1, &event.what)?;
         befall_machines(&mut self.machines, &event.what, on);
@@ -274,13 +283,10 @@ impl<C: Clock, M: Machine + Drop> State<C, M> {
         self.given += 1;
         self.ended = ends(&event.what);
         self.shown = 0;
-        Ok(Note {
+        Ok(EventNote {
             number: self.given,
-            time: event.time,
-            body: NoteBody::Event {
-                line: self.lines,
-                what,
-            },
+            line: self.lines,
+            event,
         })
     }
 }

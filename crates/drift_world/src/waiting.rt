@@ -4,12 +4,12 @@ ghost use Rattle.tte_units.specs.Amount.{amount};
 ghost use Rattle.run_law.specs.control.Permanence.{waits_for};
 ghost use Rattle.drift_world.specs.Giving.{CameBy, IsYoung, awaited_by, giver_of, with_one};
 
+use crate::bodies::{Body, Kind};
 use crate::contents::Waits;
 use crate::giving::is_a_relay;
 use crate::leaving::is_parent;
 use net_plan::{DeviceId, LinkId, Network};
 use pcf_values::Pcf;
-use run_law::NoteBody;
 use transparent_clock::permanence;
 use tte_units::Units;
 
@@ -25,7 +25,7 @@ fn does_wait(network: &Network, device: DeviceId, link: LinkId) -> bool
 pub fn awaited(
     network: &Network,
     broken: bool,
-    body: &NoteBody,
+    body: &Body,
     frame: Option<Pcf>,
     reading: u64,
     number: u64,
@@ -36,12 +36,12 @@ pub fn awaited(
     requires low { reading ≤ 2 ^ 60 + 2 ^ 51 }
     ensures { result ≡ awaited_by network.now broken body.now frame reading number }
 {
-    let NoteBody::Arrived {
+    let Kind::Arrived {
         device,
         link,
         clock,
         ..
-    } = body
+    } = &body.kind
     else {
         return None;
     };
@@ -60,13 +60,13 @@ pub fn awaited(
 }
 
 /// The device that gives the frame of a record to links, or waits for it.
-pub fn giver(body: &NoteBody) -> Option<DeviceId>
+pub fn giver(body: &Body) -> Option<DeviceId>
     ensures { result ≡ giver_of body.now }
 {
-    match body {
-        NoteBody::Sent { device, .. }
-        | NoteBody::Compressed { device, .. }
-        | NoteBody::Arrived { device, .. } => Some(*device),
+    match &body.kind {
+        Kind::Sent { device, .. }
+        | Kind::Compressed { device, .. }
+        | Kind::Arrived { device, .. } => Some(*device),
         _ => None,
     }
 }

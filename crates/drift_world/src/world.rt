@@ -8,6 +8,8 @@ ghost use Rattle.tte_units.specs.Amount.{amount, units_of};
 
 use crate::OutOfMemory;
 use crate::begin::fresh_state;
+use crate::bodies::Given;
+use crate::event_notes::EventNote;
 use crate::state::State;
 use drift_clock::Clock;
 use net_plan::Event;
@@ -16,6 +18,17 @@ use schedule_tables::Accepted;
 use std::alloc::Global;
 use std::marker::Model;
 use tte_units::Units;
+
+/// The record that is given, if one is.
+fn noted(next: Result<Option<Given>, OutOfMemory>) -> Result<Option<Note>, OutOfMemory>
+    ensures { result ≡ next }
+{
+    match next {
+        Ok(Some(given)) => Ok(Some(given.note())),
+        Ok(None) => Ok(None),
+        Err(error) => Err(error),
+    }
+}
 
 /// A network as it runs: events are applied to it, and it gives the records of its run.
 #[derive(Drop)]
@@ -63,7 +76,9 @@ impl<'a, C: Clock, M: Machine + Drop> World<'a, C, M> {
     ///
     /// The lines count the events from 1. The event is within the fault hypothesis after those applied, and comes before
     /// the end. A hold that it sets is a time from 0 on. On an error nothing has changed.
-    pub fn apply(&mut self, line: u64, event: &Event) -> Result<Note, OutOfMemory>
+    ///
+    /// The answer is small, and seen as the record that it stands for.
+    pub fn befall<'e>(&mut self, line: u64, event: &'e Event) -> Result<EventNote<'e>, OutOfMemory>
         requires line { line ≡ self.old.lines + 1 }
         requires now { IsOpenTo self.old event.now }
         requires within { MayBefall C.fresh C.after_step C.reading M.stands self.old event.now }
@@ -93,12 +108,43 @@ impl<'a, C: Clock, M: Machine + Drop> World<'a, C, M> {
         Ok(note)
     }
 
+    /// The event of this line befalls the network, at the present time. Its record is answered.
+    ///
+    /// The lines count the events from 1. The event is within the fault hypothesis after those applied, and comes before
+    /// the end. A hold that it sets is a time from 0 on. On an error nothing has changed.
+    pub fn apply(&mut self, line: u64, event: &Event) -> Result<Note, OutOfMemory>
+        requires line { line ≡ self.old.lines + 1 }
+        requires now { IsOpenTo self.old event.now }
+        requires within { MayBefall C.fresh C.after_step C.reading M.stands self.old event.now }
+        requires hold { HoldsATime event.now.what }
+        ensures stands { (network : Network) (events : List EventValue) (notes : List NoteValue)
+            → StandsUnder C.fresh C.after_step C.reading M.stands network self.old events notes
+            → IsWithinHypothesis network events event.now
+            → IfOk result (λ note. StandsUnder C.fresh C.after_step C.reading M.stands network self.new (events ++ event.now ∷ [])
+            (notes ++ note ∷ [])) }
+        ensures run { (network : Network) (events : List EventValue) (notes : List NoteValue)
+            → StandsUnder C.fresh C.after_step C.reading M.stands network self.old events notes
+            → IsWithinHypothesis network events event.now
+            → IfOk result (λ note. IsRunOf network (reading_of C.fresh C.after_step C.reading network (events ++ event.now ∷ []))
+            (events ++ event.now ∷ []) (behind_events self.old.now) (notes ++ note ∷ [])) }
+        ensures note { IfOk result (λ note. note ≡ event_note (self.old.given + 1) line event.now) }
+        ensures still { (self.new.now ≡ self.old.now) × (self.new.early ≡ self.old.early) }
+        ensures err { OnErr result (self.new ≡ self.old) }
+    {
+        match self.befall(line, event) {
+            Ok(given) => Ok(given.note()),
+            Err(error) => Err(error),
+        }
+    }
+
     /// The next record before a time, which is at most 2^60 + 1. It is None exactly where none is due before it: then
     /// the records given are the run up to the time, and in the first 2^20 cycles this run is safe.
     ///
     /// Where it is None, and the end has not come, the world comes to this time. After the end the time is at most the
     /// one behind it. On an error no record is lost: those to come are the same.
-    pub fn next(&mut self, until: Units) -> Result<Option<Note>, OutOfMemory>
+    ///
+    /// The answer is small, and seen as the record that it stands for.
+    pub fn next_given(&mut self, until: Units) -> Result<Option<Given>, OutOfMemory>
         requires limit { until.0 ≤ℤ pos (2 ^ 60 + 1) }
         requires ended { self.old.ended ≡ true → until.0 ≤ℤ pos (self.old.now + 1) }
         ensures stands { (network : Network) (events : List EventValue) (notes : List NoteValue)
@@ -117,5 +163,27 @@ impl<'a, C: Clock, M: Machine + Drop> World<'a, C, M> {
             return Ok(None);
         }
         self.state.next(self.accepted.network(), until.amount())
+    }
+
+    /// The next record before a time, which is at most 2^60 + 1. It is None exactly where none is due before it.
+    ///
+    /// Where it is None, and the end has not come, the world comes to this time. After the end the time is at most the
+    /// one behind it. On an error no record is lost: those to come are the same.
+    pub fn next(&mut self, until: Units) -> Result<Option<Note>, OutOfMemory>
+        requires limit { until.0 ≤ℤ pos (2 ^ 60 + 1) }
+        requires ended { self.old.ended ≡ true → until.0 ≤ℤ pos (self.old.now + 1) }
+        ensures stands { (network : Network) (events : List EventValue) (notes : List NoteValue)
+            → StandsUnder C.fresh C.after_step C.reading M.stands network self.old events notes
+            → StandsUnder C.fresh C.after_step C.reading M.stands network self.new events (notes ++ given_by result) }
+        ensures complete { (network : Network) (events : List EventValue) (notes : List NoteValue)
+            → StandsUnder C.fresh C.after_step C.reading M.stands network self.old events notes
+            → pos self.old.now <ℤ until.0
+            → IfOk result (λ next. IfNone next
+            (IsSafeFront C.fresh C.after_step C.reading network events (amount until) notes)) }
+        ensures reached { IfOk result (λ next. IfNone next (Reaches self.old self.new until)) }
+        ensures before { IfOk result (λ next. IfSome next (λ note. (note.time ≡ units_of self.new.now) × (note.time.0 <ℤ until.0))) }
+        ensures fewer { IfOk result (λ next. IfSome next (λ _. left_of self.new < left_of self.old)) }
+    {
+        noted(self.next_given(until))
     }
 }

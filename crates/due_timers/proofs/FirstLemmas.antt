@@ -13,7 +13,7 @@ pub length-times : (nodes : List Due) (slots : ℕ) → length nodes ≡ 2 * slo
 length-times nodes slots whole = length-map (drop slots nodes) (λ (due : Due). due.time) ∙ omega (arith, length-drop slots nodes, whole)
 
 -- the time of a slot is that of its leaf
-time_at : (nodes : List Due) (slots k d : ℕ) → length nodes ≡ 2 * slots → k < slots → get_or (times_of nodes slots) k d ≡ (node_at nodes (slots + k)).time
+pub time_at : (nodes : List Due) (slots k d : ℕ) → length nodes ≡ 2 * slots → k < slots → get_or (times_of nodes slots) k d ≡ (node_at nodes (slots + k)).time
 time_at nodes slots k d whole few =
     get_or-map (λ (due : Due). due.time) (drop slots nodes) k (record { time = 0; slot = 0 }) d (omega (arith, length-drop slots nodes, whole, few))
     ∙ ap (λ (due : Due). due.time) (get_or-drop slots nodes k (record { time = 0; slot = 0 }))

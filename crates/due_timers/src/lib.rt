@@ -29,8 +29,8 @@ fn sooner(left: Due, right: Due) -> Due
     }
 }
 
-/// A time for each of some slots. A time is set in as many steps as the number of slots has binary digits, and the
-/// first is there in one.
+/// A time for each of some slots. A time is set in as many steps as the number of slots has binary digits, or in one
+/// where it is the same, and the first is there in one.
 ///
 /// It is a tree: the node i has the sooner of the nodes 2i and 2i + 1, and the slots are the leaves.
 #[derive(Drop)]
@@ -77,6 +77,9 @@ impl Timers {
         ensures { self.new ≡ slice_set self.old slot time }
     {
         let mut node = slot + self.slots;
+        if self.nodes[node].time == time {
+            return;
+        }
         self.nodes[node] = Due { time, slot };
         while node > 1 {
             node /= 2;

@@ -1,8 +1,13 @@
-ghost use Rattle.std.specs.Prelude.{◌≡◌, ◌+◌, ◌⊎◌, ◌^◌, pos, ◌≤ℤ◌, List, IfErr, OnOk, true};
+ghost use Rattle.std.specs.Prelude.{◌≡◌, ◌≤◌, ◌+◌, ◌⊎◌, ◌^◌, pos, ◌≤ℤ◌, List, IfErr, OnErr, OnOk, true};
+ghost use Rattle.std.specs.Io.KnownBytes.{Appends};
 ghost use Rattle.net_plan.specs.Ranges.{IsInRange};
 ghost use Rattle.net_plan.specs.declared.event.Event.{Event as EventValue};
 ghost use Rattle.run_law.specs.declared.note.Note.{Note as NoteValue};
+ghost use Rattle.report_text.specs.NoteLine.{note_line};
+ghost use Rattle.report_text.specs.Ranges.{IsNoteOf};
 ghost use Rattle.trace_text.specs.Ranges.{IsTime};
+ghost use Rattle.tte_io.specs.Faults.{Rose, next_count};
+ghost use Rattle.tte_io.specs.Told.{AppendsFront};
 ghost use Rattle.tte_run.specs.Faults.{PutFailed};
 ghost use Rattle.tte_run.specs.Putting.{Over};
 ghost use Rattle.tte_run.specs.traces.Records.{ComesNext, IsCut, IsReached, IsUnderway, MayCome, PutsEvent, PutsRest, PutsUntil, StandsExact};
@@ -12,14 +17,52 @@ use crate::Status;
 use crate::put_line::end_with;
 use device_machines::DeviceMachine;
 use drift_clock::SegmentClock;
-use drift_world::World;
+use drift_world::{EventNote, Given, World};
 use net_plan::{Event, Network};
 use report_text::write;
-use tte_io::{LineText, Sink};
+use tte_io::{LineText, Sink, SinkFailed};
 use tte_units::Units;
 
 /// The world of the program, whose clocks are exact.
 pub(crate) type ExactWorld<'a> = World<'a, SegmentClock, DeviceMachine>;
+
+/// Puts the line of a record that the world gives.
+fn put_given<K: Sink>(
+    text: &mut LineText,
+    network: &Network,
+    note: &Given,
+    out: &mut K,
+) -> Result<(), SinkFailed>
+    requires in_range { IsInRange network.now }
+    requires of_network { IsNoteOf network.now note.now }
+    ensures all { OnOk result (Appends (K.written out.old) (K.written out.new) (note_line network.now note.now)) }
+    ensures front { OnErr result (AppendsFront (K.written out.old) (K.written out.new) (note_line network.now note.now)) }
+    ensures counted { K.puts out.new ≡ next_count (K.puts out.old) }
+    ensures never_falls { K.faults out.old ≤ K.faults out.new }
+    ensures ok_unchanged { OnOk result (K.faults out.new ≡ K.faults out.old) }
+    ensures failed_rose { OnErr result (Rose (K.faults out.old) (K.faults out.new)) }
+{
+    write(text, network, &note.note(), out)
+}
+
+/// Puts the line of the record of an event.
+fn put_event_note<K: Sink>(
+    text: &mut LineText,
+    network: &Network,
+    note: &EventNote<'_>,
+    out: &mut K,
+) -> Result<(), SinkFailed>
+    requires in_range { IsInRange network.now }
+    requires of_network { IsNoteOf network.now note.now }
+    ensures all { OnOk result (Appends (K.written out.old) (K.written out.new) (note_line network.now note.now)) }
+    ensures front { OnErr result (AppendsFront (K.written out.old) (K.written out.new) (note_line network.now note.now)) }
+    ensures counted { K.puts out.new ≡ next_count (K.puts out.old) }
+    ensures never_falls { K.faults out.old ≤ K.faults out.new }
+    ensures ok_unchanged { OnOk result (K.faults out.new ≡ K.faults out.old) }
+    ensures failed_rose { OnErr result (Rose (K.faults out.old) (K.faults out.new)) }
+{
+    write(text, network, &note.note(), out)
+}
 
 /// Puts the next records that are earlier than a time. Their lines are made in `text`, one after the
 /// other.
@@ -43,8 +86,8 @@ pub(crate) fn put_until<K: Sink>(
     ensures cause { IfErr result (λ status. IsCut status (PutFailed K.Sink out.old out.new)) }
 {
     'notes: loop {
-        match world.next(until) {
-            Ok(Some(note)) => match write(text, network, &note, out) {
+        match world.next_given(until) {
+            Ok(Some(note)) => match put_given(text, network, &note, out) {
                 Ok(()) => (),
                 Err(_) => return Err(Status::WriteFault),
             },
@@ -80,11 +123,11 @@ pub(crate) fn put_event<K: Sink>(
         Ok(()) => (),
         Err(status) => return Err(status),
     }
-    let note = match world.apply(line, event) {
+    let note = match world.befall(line, event) {
         Ok(note) => note,
         Err(_) => return Err(end_with(Status::OutOfMemory, out)),
     };
-    match write(text, network, &note, out) {
+    match put_event_note(text, network, &note, out) {
         Ok(()) => Ok(()),
         Err(_) => Err(Status::WriteFault),
     }

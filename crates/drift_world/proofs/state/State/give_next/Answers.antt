@@ -1,10 +1,13 @@
-use Rattle.std.proofs.Common.{◌≡◌, List, [], ◌∷◌, ◌++◌, ap, subst, sym, ◌∙◌}
+use Rattle.std.proofs.Common.{[], ◌∷◌, ◌++◌, ap, subst, sym, ◌∙◌}
 use Rattle.run_law.specs.declared.note.Note.{Note}
+use Rattle.run_law.specs.declared.note.NoteBody.{NoteBody}
 use Rattle.tte_units.specs.Amount.{units_of}
 use Rattle.drift_world.proofs.Timings.{unchanged}
 use Rattle.drift_world.proofs.Turning.{gives_first, runs_on, sound_so}
+use Rattle.drift_world.specs.Giving.{changed_device}
 use Rattle.drift_world.specs.Keeping.{keeps}
 use Rattle.drift_world.specs.Sound.{IsSound}
+use Rattle.drift_world.specs.Stepping.{ChangesOnly}
 use Rattle.drift_world.specs.Views.{world_of}
 use Rattle.drift_world.specs.declared.state.State.{State}
 use Rattle.world_law.specs.world.World.{Stands, World}
@@ -43,7 +46,8 @@ returns-in-Ok-clause-well g c =
     record {
       sound = subst (IsSound g.C.Clock.last_step c.args.network.now) (sym c.rekey_after.ensures.same) (sound_so g.C.Clock.last_step g.C.Clock.reading g.M.Machine.stands c.args.network.now mid new.timers E.sound);
       running = record { s = run.s; notes = run.notes ++ c.in-Ok.note ∷ []; is = returns-in-Ok-clause-stands g c run.s run.notes run.is };
-      timed = c.rekey_after.ensures.timed c.args.self.now r.well.timed E.others (ap (λ (t : State _ _). t.timers) E.same);
+      timed = c.rekey_after.ensures.timed c.args.self.now r.well.timed
+          (subst (λ (b : NoteBody). ChangesOnly (changed_device b) c.args.self.now mid) (sym c.body.ensures) E.others) (ap (λ (t : State _ _). t.timers) E.same);
     }
 
 pub returns-in-Ok-clause-says : goal.returns-in-Ok-clause-says

@@ -27,10 +27,10 @@ hear_signal-arrival-requires-clause-may g c =
     let there : device.0 < length at.s.network.device = subst (λ (n : Network). device.0 < length n.device) at.is.same within in
     let own = at.is.clocks device there in
     may_come g.C.Clock.reading (keeps g.M.Machine.stands) at.s c.args.network.now w at.notes at.is c.args.place c.take_wire-signal.result
-    c.take_wire-signal.new.under_way.entries c.take_wire-signal.ensures c.requires.wire c.requires.at c.index_mut.result.now
+    c.take_wire-signal.new.under_way.entries c.take_wire-signal.ensures c.requires.wire c.requires.at c.index_mut-machine.result.now
     (record { time = c.from_amount-time.result; reading = c.read.result })
-    (slice_get_read w.machines.items w.machines.len device.0 c.index_mut.result.now w.machines.ok.0 (omega (arith, machines, within, kept))
-    c.index_mut.ensures.value)
+    (slice_get_read w.machines.items w.machines.len device.0 c.index_mut-machine.result.now w.machines.ok.0 (omega (arith, machines, within, kept))
+    c.index_mut-machine.ensures.value)
     (moment_is g.C.Clock.reading at.s w.time device own.0 c.index.result.now c.from_amount-time.result c.read.result
     (some_same _ _ _ own.1
     (slice_get_read w.clocks.items w.clocks.len device.0 c.index.result.now w.clocks.ok.0 (omega (arith, clocks, within, held)) c.index.ensures))
@@ -60,10 +60,10 @@ returns-clause-sound g c =
     let own = at.is.clocks device there in
     let heard = c.hear_signal-arrival in
     let octets = heard_octets g.C.Clock.reading (keeps g.M.Machine.stands) at.s c.args.network.now w at.notes at.is c.args.place took.result
-    took.new.under_way.entries took.ensures c.requires.wire c.requires.at c.index_mut.result.now
+    took.new.under_way.entries took.ensures c.requires.wire c.requires.at c.index_mut-machine.result.now
     (record { time = c.from_amount-time.result; reading = c.read.result })
-    (slice_get_read w.machines.items w.machines.len device.0 c.index_mut.result.now w.machines.ok.0 (omega (arith, machines, within, kept))
-    c.index_mut.ensures.value)
+    (slice_get_read w.machines.items w.machines.len device.0 c.index_mut-machine.result.now w.machines.ok.0 (omega (arith, machines, within, kept))
+    c.index_mut-machine.ensures.value)
     (moment_is g.C.Clock.reading at.s w.time device own.0 c.index.result.now c.from_amount-time.result c.read.result
     (some_same _ _ _ own.1
     (slice_get_read w.clocks.items w.clocks.len device.0 c.index.result.now w.clocks.ok.0 (omega (arith, clocks, within, held)) c.index.ensures))
@@ -107,9 +107,9 @@ returns-clause-stands g c = λ s notes old first.
     let heard = c.hear_signal-arrival in
     let put = c.put_in.ensures.is in
     heard_stands g.C.Clock.reading (keeps g.M.Machine.stands) s c.args.network.now w notes old c.args.place took.result took.new.under_way.entries took.ensures
-    c.requires.wire c.requires.at c.index_mut.result.now (record { time = c.from_amount-time.result; reading = c.read.result })
-    (slice_get_read w.machines.items w.machines.len device.0 c.index_mut.result.now w.machines.ok.0 (omega (arith, machines, within, kept))
-    c.index_mut.ensures.value)
+    c.requires.wire c.requires.at c.index_mut-machine.result.now (record { time = c.from_amount-time.result; reading = c.read.result })
+    (slice_get_read w.machines.items w.machines.len device.0 c.index_mut-machine.result.now w.machines.ok.0 (omega (arith, machines, within, kept))
+    c.index_mut-machine.ensures.value)
     (moment_is g.C.Clock.reading s w.time device own.0 c.index.result.now c.from_amount-time.result c.read.result
     (some_same _ _ _ own.1
     (slice_get_read w.clocks.items w.clocks.len device.0 c.index.result.now w.clocks.ok.0 (omega (arith, clocks, within, held)) c.index.ensures))

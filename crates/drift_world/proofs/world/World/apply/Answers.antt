@@ -1,144 +1,18 @@
-use Rattle.std.proofs.Common.{◌≡◌, ◌++◌, ◌∷◌, [], List, refl, sym, ap, subst, ◌∙◌, arith, length}
-use Rattle.drift_clock.proofs.Readings.{IsLawful}
-use Rattle.net_plan.specs.declared.event.Event.{Event}
-use Rattle.net_plan.specs.declared.network.Network.{Network}
+use Rattle.std.proofs.Common.{◌++◌, ◌∷◌, [], sym, subst}
 use Rattle.run_law.specs.declared.note.Note.{Note}
 use Rattle.run_law.specs.runs.DueRecords.{IsRunOf}
-use Rattle.run_law.specs.scenario.Hypothesis.{IsWithinHypothesis}
-use Rattle.safe_runs.proofs.Histories.{slow_rate}
-use Rattle.drift_world.proofs.Elsewhere.{timed_by_event}
-use Rattle.drift_world.proofs.Onwards.{befalls}
-use Rattle.drift_world.proofs.Shortness.{sets_short}
-use Rattle.drift_world.proofs.Timings.{unmoved}
-use Rattle.drift_world.proofs.Wells.{sound_timers}
-use Rattle.drift_world.specs.Keeping.{keeps}
 use Rattle.drift_world.specs.Running.{StandsUnder, behind_events, reading_of}
-use Rattle.drift_world.specs.Sound.{IsSound}
-use Rattle.drift_world.specs.Sourcing.{AreTimed}
-use Rattle.drift_world.specs.Views.{world_of}
-use Rattle.drift_world.specs.declared.kept.Kept.{Kept}
-use Rattle.drift_world.specs.declared.state.State.{State}
-use Rattle.world_law.specs.source.Agreeing.{scenario}
-use Rattle.world_law.specs.world.World.{Stands, World}
-use Rattle.drift_world.proofs.world.World.apply.Given as given
 use Rattle.drift_world.proofs.world.World.apply.Goals as goal
 
-pub apply-requires-clause-slow : goal.apply-requires-clause-slow
-apply-requires-clause-slow g c = λ device rate same.
-    let may = c.requires.within in
-    let most = may.is.is.range.rho in
-    let slow = slow_rate c.args.self.now.network may.events c.args.event.now device rate may.within same in
-    omega (arith, most, slow)
-
-pub apply-requires-clause-short : goal.apply-requires-clause-short
-apply-requires-clause-short g c =
-    let may = c.requires.within in
-    sets_short c.args.self.now.network may.events c.args.event.now may.is.is.range may.within c.args.event.now.what refl may.of_network c.requires.hold
-
--- the laws of the clocks
-lawful : (g : given.Over) → IsLawful g.C.Clock.fresh g.C.Clock.after_step g.C.Clock.reading g.C.Clock.grain_of g.C.Clock.count
-lawful g = record {
-  has_grain = g.met.C.Clock.has_grain;
-  keeps_grain = g.met.C.Clock.keeps_grain;
-  reads_count = g.met.C.Clock.reads_count;
-  counts_time = g.met.C.Clock.counts_time;
-  keeps_count = g.met.C.Clock.keeps_count;
-  drifts = g.met.C.Clock.drifts;
-}
-
--- ---- where there was no memory
-
-pub invariant_of-self : goal.invariant_of-self
-invariant_of-self g c =
+pub returns-in-Ok-clause-stands : goal.returns-in-Ok-clause-stands
+returns-in-Ok-clause-stands g c = λ network events notes under within.
     let K = g.C.Clock in
-    let accepted = c.self.inside.accepted.now in
-    let state = c.self.inside.state in
-    let new = c.apply.new.self in
-    let well = c.self.invariant in
-    let kept = c.in-Err.ensures.kept in
-    let view = subst (λ (n : Network). world_of n new ≡ world_of n state) c.network-network.ensures.value c.in-Err.ensures.err in
-    record {
-      sound = subst (λ (n : Network). IsSound K.last_step n new) c.network-network.ensures.value c.apply.ensures.sound;
-      running = record {
-        s = well.running.s;
-        notes = well.running.notes;
-        is = subst (λ (w : World _ (Kept _)). Stands K.reading (keeps g.M.Machine.stands) well.running.s w well.running.notes) (sym view) well.running.is;
-      };
-      timed = unmoved K.reading g.M.Machine.stands accepted state new well.timed (ap (λ (s : State _ _). s.clocks) kept)
-          (ap (λ (s : State _ _). s.machines.items) kept) (ap (λ (s : State _ _). s.waiting.items) kept) (ap (λ (s : State _ _). s.time) kept)
-          (ap (λ (s : State _ _). s.timers) kept);
-    }
+    subst (λ (note : Note). StandsUnder K.fresh K.after_step K.reading g.M.Machine.stands network c.befall.new.self (events ++ c.args.event.now ∷ [])
+    (notes ++ note ∷ [])) (sym c.note.ensures) (c.in-Ok.ensures.stands network events notes under within)
 
--- ---- where it befell
-
-pub rekey_by-requires-clause-running : goal.rekey_by-requires-clause-running
-rekey_by-requires-clause-running g c =
+pub returns-in-Ok-clause-run : goal.returns-in-Ok-clause-run
+returns-in-Ok-clause-run g c = λ network events notes under within.
     let K = g.C.Clock in
-    let may = c.requires.within in
-    let own = c.network-network.result.now in
-    let network = c.args.self.now.network in
-    let events = may.events ++ c.args.event.now ∷ [] in
-    record {
-      s = scenario network (reading_of K.fresh K.after_step K.reading network events) events;
-      notes = may.notes ++ c.in-Ok.note ∷ [];
-      is = (befalls K.fresh K.after_step K.reading K.grain_of K.count (lawful g) g.M.Machine.stands own c.self.inside.state c.apply.new.self c.args.self.now
-          (ap (λ (n : Network). world_of n c.self.inside.state) c.network-network.ensures.value ∙ c.self.view_is) c.args.event.now c.in-Ok.note
-          (c.self.invariant.sound.sized.clocks ∙ ap (λ (n : Network). length n.device) (sym c.network-network.ensures.value)) c.requires.now c.requires.hold may.of_network
-          (λ n device on. let it = c.turned_on-shown.ensures n device on in (it.0, it.2)) c.in-Ok.ensures.still c.in-Ok.ensures.clocks c.in-Ok.ensures.stands
-          network may.events may.notes may.is may.within).0.is;
-    }
-
-befallen : (g : given.Over) (c : goal.After-rekey_by g) (network : Network) (events : List Event) (notes : List Note)
-    → StandsUnder g.C.Clock.fresh g.C.Clock.after_step g.C.Clock.reading g.M.Machine.stands network c.args.self.now events notes
-    → IsWithinHypothesis network events c.args.event.now
-    → StandsUnder g.C.Clock.fresh g.C.Clock.after_step g.C.Clock.reading g.M.Machine.stands network
-    (world_of c.self.inside.accepted.now c.rekey_by.new.self) (events ++ c.args.event.now ∷ []) (notes ++ c.in-Ok.note ∷ [])
-    × IsRunOf network (reading_of g.C.Clock.fresh g.C.Clock.after_step g.C.Clock.reading network (events ++ c.args.event.now ∷ []))
-    (events ++ c.args.event.now ∷ []) (behind_events c.args.self.now.now) (notes ++ c.in-Ok.note ∷ [])
-befallen g c network events notes under within =
-    let K = g.C.Clock in
-    let own = c.network-network.result.now in
-    let it = befalls K.fresh K.after_step K.reading K.grain_of K.count (lawful g) g.M.Machine.stands own c.self.inside.state c.apply.new.self c.args.self.now
-    (ap (λ (n : Network). world_of n c.self.inside.state) c.network-network.ensures.value ∙ c.self.view_is) c.args.event.now c.in-Ok.note
-    (c.self.invariant.sound.sized.clocks ∙ ap (λ (n : Network). length n.device) (sym c.network-network.ensures.value)) c.requires.now
-    c.requires.hold c.requires.within.of_network (λ n device on. let it = c.turned_on-shown.ensures n device on in (it.0, it.2)) c.in-Ok.ensures.still
-    c.in-Ok.ensures.clocks c.in-Ok.ensures.stands network events notes under within in
-    let same : world_of own c.apply.new.self ≡ world_of c.self.inside.accepted.now c.rekey_by.new.self =
-    ap (λ (n : Network). world_of n c.apply.new.self) c.network-network.ensures.value
-    ∙ ap (λ (s : State _ _). world_of c.self.inside.accepted.now s) (sym c.rekey_by.ensures.same) in (
-      subst (λ (w : World _ (Kept _)). StandsUnder K.fresh K.after_step K.reading g.M.Machine.stands network w (events ++ c.args.event.now ∷ [])
-          (notes ++ c.in-Ok.note ∷ [])) same it.0,
-      it.1,
-    )
-
-pub invariant_of-self-2 : goal.invariant_of-self-2
-invariant_of-self-2 g c =
-    let K = g.C.Clock in
-    let may = c.requires.within in
-    let own = c.network-network.result.now in
-    let accepted = c.self.inside.accepted.now in
-    let network = c.args.self.now.network in
-    let events = may.events ++ c.args.event.now ∷ [] in
-    let state = c.self.inside.state in
-    let mid = c.apply.new.self in
-    let new = c.rekey_by.new.self in
-    let was = subst (λ (n : Network). AreTimed K.reading g.M.Machine.stands n state) (sym c.network-network.ensures.value) c.self.invariant.timed in
-    record {
-      sound = sound_timers K.last_step accepted mid new c.rekey_by.ensures.same
-          (subst (λ (n : Network). IsSound K.last_step n mid) c.network-network.ensures.value c.apply.ensures.sound);
-      running = record {
-        s = scenario network (reading_of K.fresh K.after_step K.reading network events) events;
-        notes = may.notes ++ c.in-Ok.note ∷ [];
-        is = (befallen g c network may.events may.notes may.is may.within).0.is;
-      };
-      timed = subst (λ (n : Network). AreTimed K.reading g.M.Machine.stands n new) c.network-network.ensures.value
-          (timed_by_event K.reading g.M.Machine.stands own state mid new c.args.event.now.what was c.in-Ok.ensures.others c.apply.ensures.timers
-          c.apply.ensures.still.0 c.rekey_by.ensures.same c.rekey_by.ensures.timed c.rekey_by.ensures.sized c.rekey_by.ensures.others
-          c.rekey_by.ensures.later);
-    }
-
-pub returns-clause-stands : goal.returns-clause-stands
-returns-clause-stands g c = λ network events notes under within. (befallen g c network events notes under within).0
-
-pub returns-clause-run : goal.returns-clause-run
-returns-clause-run g c = λ network events notes under within. (befallen g c network events notes under within).1
+    subst (λ (note : Note). IsRunOf network (reading_of K.fresh K.after_step K.reading network (events ++ c.args.event.now ∷ []))
+    (events ++ c.args.event.now ∷ []) (behind_events c.args.self.now.now) (notes ++ note ∷ [])) (sym c.note.ensures)
+    (c.in-Ok.ensures.run network events notes under within)

@@ -20,15 +20,15 @@ notes-init g c = record {
   quiet = refl;
 }
 
-pub write-requires-clause-of_network : goal.write-requires-clause-of_network
-write-requires-clause-of_network g c =
+pub put_given-requires-clause-of_network : goal.put_given-requires-clause-of_network
+put_given-requires-clause-of_network g c =
     let network = c.args.network.now in
     let shown = shown_by g.K.Sink in
     let u =
     underway_still network c.args.until c.args.world.now c.notes.world (shown c.args.out.now) (shown c.notes.out) c.requires.underway
     c.notes.invariant.puts in
     let stands =
-    given_some network u.events u.notes c.next.new.self c.in-Ok-Some.field-0 c.in-Ok-Some.note c.in-Ok-Some.field-0-is
+    given_some network u.events u.notes c.next_given.new.self c.in-Ok-Some.field-0 c.in-Ok-Some.note c.in-Ok-Some.field-0-is
     (c.in-Ok-Some.ensures.stands network u.events u.notes u.stands) in
     note_of (scenario network (clock_reading network u.events) u.events) stands.is.mark u.notes c.in-Ok-Some.note stands.is.coming stands.is.range
     stands.of_network stands.is.run stands.is.known
@@ -38,14 +38,14 @@ notes-smaller g c =
     omega (
       arith,
       if_some c.in-Ok-Some.field-0 c.in-Ok-Some.note
-          (λ (n : NoteValue). left_of c.next.new.self < left_of c.notes.world) c.in-Ok-Some.field-0-is c.in-Ok-Some.ensures.fewer,
+          (λ (n : NoteValue). left_of c.next_given.new.self < left_of c.notes.world) c.in-Ok-Some.field-0-is c.in-Ok-Some.ensures.fewer,
     )
 
 pub notes-preserved : goal.notes-preserved
 notes-preserved g c =
     let network = c.args.network.now in
     let shown = shown_by g.K.Sink in
-    let before = is_before c.in-Ok-Some.field-0 c.in-Ok-Some.note c.next.new.self.now c.args.until.0 c.in-Ok-Some.field-0-is c.in-Ok-Some.ensures.before in
+    let before = is_before c.in-Ok-Some.field-0 c.in-Ok-Some.note c.next_given.new.self.now c.args.until.0 c.in-Ok-Some.field-0-is c.in-Ok-Some.ensures.before in
     let u =
     underway_still network c.args.until c.args.world.now c.notes.world (shown c.args.out.now) (shown c.notes.out) c.requires.underway
     c.notes.invariant.puts in
@@ -53,32 +53,32 @@ notes-preserved g c =
       puts = λ events notes stands.
           let h = c.notes.invariant.puts events notes stands in
           let more =
-          given_some network events (notes ++ h.more) c.next.new.self c.in-Ok-Some.field-0 c.in-Ok-Some.note c.in-Ok-Some.field-0-is
+          given_some network events (notes ++ h.more) c.next_given.new.self c.in-Ok-Some.field-0 c.in-Ok-Some.note c.in-Ok-Some.field-0-is
           (c.in-Ok-Some.ensures.stands network events (notes ++ h.more) h.stands) in
-          HasPut-more network events notes c.args.until c.notes.world c.next.new.self c.in-Ok-Some.note (shown c.args.out.now) (shown c.notes.out)
-          (shown c.write.new.out) h before more c.in-Ok.ensures.all c.write.ensures.counted;
-      ended = still_ended network c.args.until c.notes.world c.next.new.self u.events u.notes _ u.stands
+          HasPut-more network events notes c.args.until c.notes.world c.next_given.new.self c.in-Ok-Some.note (shown c.args.out.now) (shown c.notes.out)
+          (shown c.put_given.new.out) h before more c.in-Ok.ensures.all c.put_given.ensures.counted;
+      ended = still_ended network c.args.until c.notes.world c.next_given.new.self u.events u.notes _ u.stands
           (c.in-Ok-Some.ensures.stands network u.events u.notes u.stands) c.notes.invariant.ended;
       way = inr before;
       quiet = c.in-Ok.ensures.ok_unchanged ∙ c.notes.invariant.quiet;
     }
 
-pub returns-in-Err-write-clause-puts : goal.returns-in-Err-write-clause-puts
-returns-in-Err-write-clause-puts g c events notes stands =
+pub returns-in-Err-put_given-clause-puts : goal.returns-in-Err-put_given-clause-puts
+returns-in-Err-put_given-clause-puts g c events notes stands =
     let network = c.args.network.now in
     let shown = shown_by g.K.Sink in
     let h = c.notes.invariant.puts events notes stands in
-    let before = is_before c.in-Ok-Some.field-0 c.in-Ok-Some.note c.next.new.self.now c.args.until.0 c.in-Ok-Some.field-0-is c.in-Ok-Some.ensures.before in
+    let before = is_before c.in-Ok-Some.field-0 c.in-Ok-Some.note c.next_given.new.self.now c.args.until.0 c.in-Ok-Some.field-0-is c.in-Ok-Some.ensures.before in
     let more =
-    given_some network events (notes ++ h.more) c.next.new.self c.in-Ok-Some.field-0 c.in-Ok-Some.note c.in-Ok-Some.field-0-is
+    given_some network events (notes ++ h.more) c.next_given.new.self c.in-Ok-Some.field-0 c.in-Ok-Some.note c.in-Ok-Some.field-0-is
     (c.in-Ok-Some.ensures.stands network events (notes ++ h.more) h.stands) in
-    until_fails network events notes c.args.until c.args.world.now c.next.new.self (shown c.args.out.now) (shown c.write.new.out)
-    (HasPut-fails network events notes c.args.until c.notes.world c.next.new.self c.in-Ok-Some.note (shown c.args.out.now) (shown c.notes.out)
-    (shown c.write.new.out) h before more c.in-Err-write.ensures.front c.write.ensures.counted)
+    until_fails network events notes c.args.until c.args.world.now c.next_given.new.self (shown c.args.out.now) (shown c.put_given.new.out)
+    (HasPut-fails network events notes c.args.until c.notes.world c.next_given.new.self c.in-Ok-Some.note (shown c.args.out.now) (shown c.notes.out)
+    (shown c.put_given.new.out) h before more c.in-Err-put_given.ensures.front c.put_given.ensures.counted)
 
-pub returns-in-Err-write-clause-cause : goal.returns-in-Err-write-clause-cause
-returns-in-Err-write-clause-cause g c =
-    inl (refl, subst (λ (n : ℕ). Rose n (g.K.Sink.faults c.write.new.out)) c.notes.invariant.quiet c.in-Err-write.ensures.failed_rose)
+pub returns-in-Err-put_given-clause-cause : goal.returns-in-Err-put_given-clause-cause
+returns-in-Err-put_given-clause-cause g c =
+    inl (refl, subst (λ (n : ℕ). Rose n (g.K.Sink.faults c.put_given.new.out)) c.notes.invariant.quiet c.in-Err-put_given.ensures.failed_rose)
 
 pub returns-in-Ok-None-clause-puts : goal.returns-in-Ok-None-clause-puts
 returns-in-Ok-None-clause-puts g c events notes stands =
@@ -86,7 +86,7 @@ returns-in-Ok-None-clause-puts g c events notes stands =
     let shown = shown_by g.K.Sink in
     let h = c.notes.invariant.puts events notes stands in
     let more =
-    given_none network events (notes ++ h.more) c.next.new.self c.in-Ok-None.field-0 c.in-Ok-None.field-0-is
+    given_none network events (notes ++ h.more) c.next_given.new.self c.in-Ok-None.field-0 c.in-Ok-None.field-0-is
     (c.in-Ok-None.ensures.stands network events (notes ++ h.more) h.stands) in
     let all : pos c.args.world.now.now <ℤ c.args.until.0 → AreRecordsBefore network events (amount c.args.until ∷ []) (notes ++ h.more) =
     λ later. (if_none c.in-Ok-None.field-0 (IsSafeFront fresh_segment stepped_segment segment_reading network events (amount c.args.until) (notes ++ h.more))
@@ -95,7 +95,7 @@ returns-in-Ok-None-clause-puts g c events notes stands =
       | inl same ↦ subst (λ w. pos w.now <ℤ c.args.until.0) (sym same) later
       | inr lt ↦ lt
     ]))).run in
-    until_all network events notes c.args.until c.args.world.now c.notes.world c.next.new.self (shown c.args.out.now) (shown c.notes.out) h more all
+    until_all network events notes c.args.until c.args.world.now c.notes.world c.next_given.new.self (shown c.args.out.now) (shown c.notes.out) h more all
 
 pub returns-in-Ok-None-clause-reached : goal.returns-in-Ok-None-clause-reached
 returns-in-Ok-None-clause-reached g c =
@@ -103,9 +103,9 @@ returns-in-Ok-None-clause-reached g c =
     let shown = shown_by g.K.Sink in
     let o = c.requires.underway in
     let h = c.notes.invariant.puts o.events o.notes o.stands in
-    reached_by network c.args.until c.args.world.now c.notes.world c.next.new.self o.events o.notes (o.notes ++ h.more) o.stands h.stands
+    reached_by network c.args.until c.args.world.now c.notes.world c.next_given.new.self o.events o.notes (o.notes ++ h.more) o.stands h.stands
     c.notes.invariant.way
-    (if_none c.in-Ok-None.field-0 (Reaches c.notes.world c.next.new.self c.args.until) c.in-Ok-None.field-0-is c.in-Ok-None.ensures.reached)
+    (if_none c.in-Ok-None.field-0 (Reaches c.notes.world c.next_given.new.self c.args.until) c.in-Ok-None.field-0-is c.in-Ok-None.ensures.reached)
 
 pub returns-in-Err-clause-puts : goal.returns-in-Err-clause-puts
 returns-in-Err-clause-puts g c events notes stands =
@@ -113,7 +113,7 @@ returns-in-Err-clause-puts g c events notes stands =
     let shown = shown_by g.K.Sink in
     let h = c.notes.invariant.puts events notes stands in
     let still =
-    HasPut-still network events notes c.args.until c.notes.world c.next.new.self (shown c.args.out.now) (shown c.notes.out) h
+    HasPut-still network events notes c.args.until c.notes.world c.next_given.new.self (shown c.args.out.now) (shown c.notes.out) h
     (c.in-Err.ensures.stands network events (notes ++ h.more) h.stands) in
-    until_no_memory network events notes c.args.until c.args.world.now c.next.new.self c.end_with.result (shown c.args.out.now) (shown c.notes.out)
+    until_no_memory network events notes c.args.until c.args.world.now c.next_given.new.self c.end_with.result (shown c.args.out.now) (shown c.notes.out)
     (shown c.end_with.new.out) still c.end_with.ensures.ends

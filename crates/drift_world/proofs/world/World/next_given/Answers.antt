@@ -1,0 +1,84 @@
+use Rattle.std.proofs.Common.{◌≡◌, ℕ, ◌++◌, ◌∷◌, [], List, sym, ap, subst, ◌∙◌, arith, pos, slice_get}
+use Rattle.std.specs.Prelude.{IfNone, IfOk, Option, Some, None, Result, Ok, Err}
+use Rattle.std.proofs.lemmas.Int.{ints}
+use Rattle.net_plan.specs.declared.network.Network.{Network}
+use Rattle.run_law.specs.declared.note.Note.{Note}
+use Rattle.run_law.specs.runs.DueRecords.{IsRunOf, IsScenarioRun}
+use Rattle.drift_clock.proofs.Readings.{IsLawful, begins_at_zero, keeps_clock_laws}
+use Rattle.safe_runs.proofs.Clocked.{before}
+use Rattle.safe_runs.specs.Headline.{IsSafeFront}
+use Rattle.safe_runs.specs.Under.{IsUnder}
+use Rattle.tte_units.specs.Amount.{amount}
+use Rattle.drift_world.specs.Keeping.{keeps}
+use Rattle.drift_world.specs.Running.{StandsUnder, given_by, reading_of}
+use Rattle.drift_world.specs.Views.{world_of}
+use Rattle.drift_world.specs.declared.kept.Kept.{Kept}
+use Rattle.world_law.specs.source.Agreeing.{scenario}
+use Rattle.world_law.specs.world.World.{Stands, World}
+use Rattle.drift_world.proofs.world.World.next_given.Given as given
+use Rattle.drift_world.proofs.world.World.next_given.Goals as goal
+
+-- the view is that of the network that is answered
+viewed : (g : given.Over) (c : goal.After-next g) → world_of c.network.result.now c.self.inside.state ≡ c.args.self.now
+viewed g c = ap (λ (n : Network). world_of n c.self.inside.state) c.network.ensures.value ∙ c.self.view_is
+
+pub returns-then-until-from_amount-clause-complete : goal.returns-then-until-from_amount-clause-complete
+returns-then-until-from_amount-clause-complete g c = λ network events notes under lt.
+    let now = ap (λ (w : World _ (Kept _)). w.now) c.self.view_is in
+    let test = c.if-until-from_amount.true in
+    let is = c.from_amount.ensures.whole in
+    absurd (omega (arith, ints, now, test, is, lt))
+
+pub returns-clause-stands : goal.returns-clause-stands
+returns-clause-stands g c = λ network events notes under.
+    let K = g.C.Clock in
+    let S = g.M.Machine.stands in
+    let s = scenario network (reading_of K.fresh K.after_step K.reading network events) events in
+    let old = subst (λ (w : World _ (Kept _)). StandsUnder K.fresh K.after_step K.reading S network w events notes) (sym (viewed g c)) under in
+    record {
+      is = subst (λ (n : Network). Stands K.reading (keeps S) s (world_of n c.next.new.self) (notes ++ given_by c.next.result)) c.network.ensures.value
+          (c.next.ensures.stands s notes old.is);
+      clocks = λ device there. ap (λ (k : _). slice_get k.items device.0) c.next.ensures.after.clocks ∙ old.clocks device there;
+      of_network = old.of_network;
+      times = old.times;
+      within = old.within;
+    }
+
+-- the laws of the clocks
+lawful : (g : given.Over) → IsLawful g.C.Clock.fresh g.C.Clock.after_step g.C.Clock.reading g.C.Clock.grain_of g.C.Clock.count
+lawful g = record {
+  has_grain = g.met.C.Clock.has_grain;
+  keeps_grain = g.met.C.Clock.keeps_grain;
+  reads_count = g.met.C.Clock.reads_count;
+  counts_time = g.met.C.Clock.counts_time;
+  keeps_count = g.met.C.Clock.keeps_count;
+  drifts = g.met.C.Clock.drifts;
+}
+
+-- what holds where there is no more
+where_none : {T E : Type 0} (P Q : Type 0) (r : Result (Option T) E) → (P → Q) → IfOk r (λ next. IfNone next P) → IfOk r (λ next. IfNone next Q)
+where_none P Q (Ok None) step it = step it
+where_none P Q (Ok (Some x)) step it = it
+where_none P Q (Err e) step it = it
+
+pub returns-clause-complete : goal.returns-clause-complete
+returns-clause-complete g c = λ network events notes under lt.
+    let K = g.C.Clock in
+    let S = g.M.Machine.stands in
+    let f = reading_of K.fresh K.after_step K.reading network events in
+    let s = scenario network f events in
+    let old = subst (λ (w : World _ (Kept _)). StandsUnder K.fresh K.after_step K.reading S network w events notes) (sym (viewed g c)) under in
+    let whole = subst (λ (t : ℕ). IfOk c.next.result (λ next. IfNone next (IsScenarioRun s (t ∷ []) notes))) c.amount.ensures.value
+    (c.next.ensures.complete s notes old.is) in
+    let admitted : IsUnder network events = record {
+      range = under.is.range;
+      rules = under.is.rules;
+      of_network = under.of_network;
+      times = under.times;
+      within = under.within;
+    } in
+    where_none (IsRunOf network f events (amount c.args.until ∷ []) notes)
+    (IsSafeFront K.fresh K.after_step K.reading network events (amount c.args.until) notes) c.next.result
+    (before K.fresh K.after_step K.reading
+    (keeps_clock_laws K.fresh K.after_step K.reading K.grain_of K.count (lawful g))
+    (begins_at_zero K.fresh K.after_step K.reading K.grain_of K.count (lawful g)) network events (amount c.args.until) notes admitted) whole
