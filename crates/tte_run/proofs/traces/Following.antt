@@ -1,6 +1,6 @@
 -- One more event of a trace that is taken line by line.
 use Rattle.std.proofs.Common.{◌≡◌, ◌≢◌, ◌⊎◌, ◌↔◌, ℕ, ◌+◌, ◌^◌, ◌<◌, ◌≤◌, suc, Bool, true, false, List, [], ◌∷◌, ◌++◌, length, Option, Some, None, Result, Ok, Err, inl, inr, refl, sym, ap, subst, ◌∙◌, arith, length-append, append-nil}
-use Rattle.std.specs.Prelude.{IfSome, ◌==◌, if◌then◌else◌}
+use Rattle.std.specs.Prelude.{IfErr, IfOk, IfSome, ◌==◌, if◌then◌else◌}
 use denote.Bor.{Bor}
 use Rattle.fault_hypothesis.proofs.Befalling.{any_last, any_none, any_parts, stands_where}
 use Rattle.fault_hypothesis.specs.Watching.{Watches}
@@ -20,7 +20,7 @@ use Rattle.tte_io.specs.Outcome.{Outcome, TellsOutcome}
 use Rattle.tte_io.specs.ReaderState.{LineReaderState, pending}
 use Rattle.tte_io.specs.declared.lines.LineTaken.{LineTaken}
 use Rattle.tte_io.specs.declared.lines.LineTaken.TheVariants as found
-use Rattle.tte_run.specs.traces.Following.{Follows, GoesOn, IsFound, Judges, Reads, ReadsOn, TakesFew}
+use Rattle.tte_run.specs.traces.Following.{Follows, GoesOn, IsFound, IsRefused, Judges, JudgesSo, Reads, ReadsOn, TakesFew}
 use Rattle.tte_run.specs.traces.Lines.{AreAdmitted, HaveEnded, IsAdmitted, IsFault, behind_lines}
 use Rattle.tte_run.specs.declared.trace.fault.TraceFault.{TraceFault}
 use Rattle.tte_run.specs.declared.trace.fault.TraceStop.{TraceStop}
@@ -176,6 +176,30 @@ reads_fault network octets events left old new reader left_before left_after t f
     let o = told_outcome (pending old.reader) left reader left_before left_after (Ok t) told outcome in
     let j = judged (pending old.reader ++ left) (found_of (pending old.reader ++ left) t reader (pending reader ++ o.0) o.2) in
     (o.0, o.1, subst (λ (coming : List ℕ). IsFault network events coming fault) (sym r.coming) j.0)
+
+-- how a trace goes on, by how it was judged
+pub goes_so : (network : Network) (events : List Event) (rest : List ℕ) (result : Result (Option Event) TraceStop) (trace : Trace)
+    → JudgesSo network events rest result trace → IfOk result (λ event. IfSome event (λ e. IsOfNetwork network e.what))
+    → IfOk result (λ event. IfSome event IsEventInRange) → GoesOn network events result trace
+goes_so network events rest (Ok event) trace j of_network range = goes_on network events rest event trace j of_network range
+goes_so network events rest (Err (stops.Fault fault)) trace j of_network range = j.1
+goes_so network events rest (Err stops.ReadFault) trace j of_network range = absurd j
+goes_so network events rest (Err stops.WriteFault) trace j of_network range = absurd j
+
+-- the same where the octets are told
+pub reads_so : (network : Network) (octets : List ℕ) (events : List Event) (left : List ℕ) (old new : Trace) (reader : LineReaderState)
+    (left_before left_after : Option (List ℕ)) (t : LineTaken) (result : Result (Option Event) TraceStop) → left_before ≡ Some left
+    → Reads network octets events old left → TellsOutcome {E = TraceStop} (pending old.reader) left_before reader left_after (Ok t)
+    → ((rest : List ℕ) → IsFound rest t reader → JudgesSo network events rest result new) → new.reader ≡ reader → IfErr result IsRefused
+    → (rest : List ℕ) × (left_after ≡ Some rest) × ReadsOn network octets events result new rest
+reads_so network octets events left old new reader left_before left_after t (Ok event) told r outcome judged same refused =
+    reads_on network octets events left old new reader left_before left_after t event told r outcome judged same
+reads_so network octets events left old new reader left_before left_after t (Err (stops.Fault fault)) told r outcome judged same refused =
+    reads_fault network octets events left old new reader left_before left_after t fault told r outcome judged
+reads_so network octets events left old new reader left_before left_after t (Err stops.ReadFault) told r outcome judged same refused =
+    let is : stops.ReadFault ≡ stops.Fault refused.0 = refused.1 in absurd cc
+reads_so network octets events left old new reader left_before left_after t (Err stops.WriteFault) told r outcome judged same refused =
+    let is : stops.WriteFault ≡ stops.Fault refused.0 = refused.1 in absurd cc
 
 -- a failed read leaves the trace where it stands, and so does failing to pass on before one
 pub reads_same : (network : Network) (octets : List ℕ) (events : List Event) (left : List ℕ) (old : Trace) (reader : LineReaderState)

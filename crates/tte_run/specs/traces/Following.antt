@@ -76,6 +76,17 @@ Judges network events rest (Ok (Some event)) trace =
 Judges network events rest (Ok None) trace = (rest ≡ []) × HaveEnded events × Follows network events trace
 Judges network events rest (Err fault) trace = IsFault network events rest fault × Follows network events trace
 
+-- the same, where a refusal is a stop
+abbrev pub JudgesSo : Network → List Event → List ℕ → Result (Option Event) TraceStop → Trace → Type 0
+JudgesSo network events rest (Ok event) trace = Judges network events rest (Ok event) trace
+JudgesSo network events rest (Err (stops.Fault fault)) trace = Judges network events rest (Err fault) trace
+JudgesSo network events rest (Err stops.ReadFault) trace = ⊥
+JudgesSo network events rest (Err stops.WriteFault) trace = ⊥
+
+-- the trace is refused
+abbrev pub IsRefused : TraceStop → Type 0
+IsRefused stop = (fault : TraceFault) × (stop ≡ stops.Fault fault)
+
 -- a call for the next event takes it from the octets that are told, and takes few more
 pub record TakesNext (trace : Trace) (left : Option (List ℕ)) (result : Result (Option Event) TraceStop) (next : Trace)
     (after : Option (List ℕ)) : Type 0 where

@@ -1,4 +1,4 @@
-ghost use Rattle.std.specs.Prelude.{◌≡◌, ◌≢◌, ◌↔◌, ◌<◌, ◌≤◌, ℕ, List, [], ◌∷◌, ◌++◌, length, Some, Ok, Err, IfOk, IfSome, IsNone, IsSome, IsTrue, MatchOption, MatchResult, OnOk};
+ghost use Rattle.std.specs.Prelude.{◌≡◌, ◌≢◌, ◌↔◌, ◌<◌, ◌≤◌, ℕ, List, [], ◌∷◌, ◌++◌, length, Some, Ok, Err, IfErr, IfOk, IfSome, IsNone, IsSome, IsTrue, MatchOption, MatchResult, OnOk};
 ghost use Rattle.net_plan.specs.Ranges.{IsInRange};
 ghost use Rattle.net_plan.specs.declared.event.Event.{Event as EventValue};
 ghost use Rattle.net_plan.specs.declared.network.Network.{Network as NetworkValue};
@@ -6,7 +6,7 @@ ghost use Rattle.net_plan.specs.Belonging.{IsOfNetwork};
 ghost use Rattle.trace_text.specs.Ranges.{IsEventInRange};
 ghost use Rattle.tte_run.specs.Faults.{PutFailed, ReadFailed};
 ghost use Rattle.tte_run.specs.Putting.{IsPassedOn, Over, PutsNone, shown_by};
-ghost use Rattle.tte_run.specs.traces.Following.{Follows, GoesOn, IsFound, Judges, Reads, TakesNext};
+ghost use Rattle.tte_run.specs.traces.Following.{Follows, GoesOn, IsFound, IsRefused, JudgesSo, Reads, TakesNext};
 ghost use Rattle.tte_run.specs.traces.Lines.{HasEvent, IsAdmitted, IsFault, IsOpen};
 
 use crate::trace::fault::{TraceFault, TraceStop};
@@ -85,35 +85,30 @@ impl<'a> Trace<'a> {
         ensures unpassed { result ≡ Err TraceStop.WriteFault → PutFailed K.Sink out.old out.new }
     {
         match next_line(&mut self.reader, source, out) {
-            Ok(found) => match self.judge(found) {
-                Ok(event) => Ok(event),
-                Err(fault) => Err(TraceStop::Fault(fault)),
-            },
+            Ok(found) => self.judge(found),
             Err(stop) => Err(stop),
         }
     }
 
     /// The event of what was found, or None at the end of a trace that has ended.
-    fn judge(&mut self, found: LineTaken) -> Result<Option<Event>, TraceFault>
+    fn judge(&mut self, found: LineTaken) -> Result<Option<Event>, TraceStop>
         requires { found ≡ LineTaken.Whole → IsSome self.old.reader.text }
         ensures judged { (network : NetworkValue) (events : List EventValue) (rest : List ℕ)
             → Follows network events self.old → IsFound rest found self.old.reader
-            → Judges network events rest result self.new }
+            → JudgesSo network events rest result self.new }
+        ensures refused { IfErr result IsRefused }
         ensures of_network { IfOk result (λ event. IfSome event (λ e. IsOfNetwork self.old.accepted.now e.what)) }
         ensures range { IfOk result (λ event. IfSome event IsEventInRange) }
         ensures reader { self.new.reader ≡ self.old.reader }
     {
         match found {
-            LineTaken::Whole => match self.take_line() {
-                Ok(event) => Ok(Some(event)),
-                Err(fault) => Err(fault),
-            },
+            LineTaken::Whole => self.take_line(),
             LineTaken::Long => match self.fault_of_line() {
-                Some(fault) => Err(fault),
-                None => Err(TraceFault::Long),
+                Some(fault) => Err(TraceStop::Fault(fault)),
+                None => Err(TraceStop::Fault(TraceFault::Long)),
             },
             LineTaken::End if self.ended => Ok(None),
-            LineTaken::End => Err(TraceFault::Missing),
+            LineTaken::End => Err(TraceStop::Fault(TraceFault::Missing)),
         }
     }
 
@@ -133,49 +128,32 @@ impl<'a> Trace<'a> {
         }
     }
 
-    /// The event of the line that was read.
-    fn event_of_line(&self) -> Result<Event, TraceFault>
-        requires { IsSome self.now.reader.text }
-        ensures judged { (network : NetworkValue) (events : List EventValue) (rest : List ℕ)
-            → Follows network events self.now → IsFound rest LineTaken.Whole self.now.reader
-            → MatchResult result (HasEvent network events rest) (IsFault network events rest) }
-        ensures of_network { IfOk result (λ event. IsOfNetwork self.now.accepted.now event.what) }
-        ensures range { IfOk result IsEventInRange }
-        ensures room { OnOk result (self.now.lines < u32.MAX) }
-    {
-        match self.fault_of_line() {
-            Some(fault) => return Err(fault),
-            None => (),
-        }
-        let network = self.accepted.network();
-        match line(network, self.reader.text()) {
-            Ok(event) => Ok(event),
-            Err(refusal) => Err(TraceFault::Line(refusal)),
-        }
-    }
-
     /// The event of the line that was read, which is admitted.
-    fn take_line(&mut self) -> Result<Event, TraceFault>
+    fn take_line(&mut self) -> Result<Option<Event>, TraceStop>
         requires { IsSome self.old.reader.text }
         ensures judged { (network : NetworkValue) (events : List EventValue) (rest : List ℕ)
             → Follows network events self.old → IsFound rest LineTaken.Whole self.old.reader
-            → MatchResult result
-            (λ event. IsAdmitted network events rest event × Follows network (events ++ event ∷ []) self.new)
-            (λ fault. IsFault network events rest fault × Follows network events self.new) }
-        ensures of_network { IfOk result (λ event. IsOfNetwork self.old.accepted.now event.what) }
-        ensures range { IfOk result IsEventInRange }
+            → JudgesSo network events rest result self.new }
+        ensures refused { IfErr result IsRefused }
+        ensures of_network { IfOk result (λ event. IfSome event (λ e. IsOfNetwork self.old.accepted.now e.what)) }
+        ensures range { IfOk result (λ event. IfSome event IsEventInRange) }
         ensures reader { self.new.reader ≡ self.old.reader }
     {
-        let event = match self.event_of_line() {
+        match self.fault_of_line() {
+            Some(fault) => return Err(TraceStop::Fault(fault)),
+            None => (),
+        }
+        let network = self.accepted.network();
+        let event = match line(network, self.reader.text()) {
             Ok(event) => event,
-            Err(fault) => return Err(fault),
+            Err(refusal) => return Err(TraceStop::Fault(TraceFault::Line(refusal))),
         };
         match self.watch.admit(&event) {
             Ok(()) => (),
-            Err(outside) => return Err(TraceFault::Event(outside)),
+            Err(outside) => return Err(TraceStop::Fault(TraceFault::Event(outside))),
         }
         self.lines += 1;
         self.ended = matches!(event.what, What::End);
-        Ok(event)
+        Ok(Some(event))
     }
 }

@@ -4,15 +4,10 @@ use Rattle.tte_run.specs.traces.Following.{IsFound}
 use Rattle.tte_run.proofs.traces.Following.{long_some}
 use Rattle.tte_run.proofs.trace.lines.Trace.judge.Goals as goal
 
-pub returns-in-Ok-clause-judged : goal.returns-in-Ok-clause-judged
-returns-in-Ok-clause-judged c network events rest f found =
+pub returns-in-Whole-clause-judged : goal.returns-in-Whole-clause-judged
+returns-in-Whole-clause-judged c network events rest f found =
     let whole = subst (λ (t : LineTaken). IsFound rest t c.args.self.now.reader) c.in-Whole.is found in
-    c.in-Ok.ensures.judged network events rest f whole
-
-pub returns-in-Err-clause-judged : goal.returns-in-Err-clause-judged
-returns-in-Err-clause-judged c network events rest f found =
-    let whole = subst (λ (t : LineTaken). IsFound rest t c.args.self.now.reader) c.in-Whole.is found in
-    c.in-Err.ensures.judged network events rest f whole
+    c.take_line.ensures.judged network events rest f whole
 
 pub returns-in-Some-clause-judged : goal.returns-in-Some-clause-judged
 returns-in-Some-clause-judged c network events rest f found =
