@@ -6,3 +6,4 @@ pub mod OneAnswers
 pub mod frames
 pub mod networks
 pub mod traces
+pub mod storms

@@ -7,6 +7,9 @@ ghost use Rattle.tte_run.specs.networks.Checking.{IsCheckStatus};
 ghost use Rattle.tte_run.specs.storms.Answer.{IsStormAnswer};
 ghost use Rattle.tte_run.specs.storms.Safely.{SummarisesSafely};
 
+mod counting;
+mod spreads;
+
 use crate::Status;
 use std::alloc::Global;
 use tte_io::{Sink, Source};
