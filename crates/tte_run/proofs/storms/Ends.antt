@@ -1,6 +1,7 @@
 -- The least and the greatest of local clocks, device by device.
-use Rattle.std.proofs.Common.{◌≡◌, ◌⊎◌, ℕ, ◌+◌, ◌<◌, ◌^◌, ℤ, pos, neg_ℤ, FitsSigned, to_z, of_z, rules, ◌-ℤ◌, ◌≤ℤ◌, List, Option, Some, None, length, inl, inr, refl, sym, ap, subst, ◌∙◌, arith}
+use Rattle.std.proofs.Common.{◌≡◌, ◌⊎◌, ℕ, ◌+◌, ◌<◌, ◌^◌, ℤ, pos, neg_ℤ, FitsSigned, to_z, of_z, rules, ◌-ℤ◌, ◌≤ℤ◌, true, false, List, Option, Some, None, length, inl, inr, refl, sym, ap, subst, ◌∙◌, arith}
 use Rattle.std.specs.Int.{w128}
+use Rattle.std.specs.Prelude.{int_lt}
 use Rattle.std.proofs.lemmas.Bool.{cases_lt}
 use Rattle.std.proofs.lemmas.Int.{ints, to_z-of_z}
 use Rattle.drift_world.specs.Locals.{IsWide}
@@ -125,3 +126,13 @@ pub apart_is : (a b : ℤ) → IsWide a → IsWide b → to_z w128 (of_z w128 (t
 apart_is a b x y =
     ap (λ (z : ℤ). to_z w128 (of_z w128 (z -ℤ to_z w128 (of_z w128 b)))) (value_is a x)
     ∙ ap (λ (z : ℤ). to_z w128 (of_z w128 (a -ℤ z))) (value_is b y) ∙ to_z-of_z w128 (a -ℤ b) (apart_fits a b x y)
+
+-- numbers that are kept compare as they are
+pub less_kept : (a b x y : ℤ) → x ≡ a → y ≡ b → int_lt x y ≡ true → a ≤ℤ y
+less_kept a b x y p q lt = omega (arith, ints, p, q, lt)
+
+pub most_kept : (a b x y : ℤ) → x ≡ a → y ≡ b → int_lt x y ≡ false → b ≤ℤ a
+most_kept a b x y p q le = omega (arith, ints, p, q, le)
+
+pub same_kept : (a b : ℤ) → a ≡ b → b ≤ℤ a
+same_kept a b p = omega (arith, ints, p)

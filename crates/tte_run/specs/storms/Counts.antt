@@ -21,7 +21,7 @@ use Rattle.tte_units.specs.declared.units.Units.{Units}
 pub record AreCounted (network : Network) (world : ExactWorld) (counts : Counts) (events : List Event)
     (notes : List Note) : Type 0 where
   pub stands : StandsExact network world events notes
-  pub counts : counts ≡ counts_of notes
+  pub tallied : counts ≡ counts_of notes
 
 -- some do
 pub record MayCount (world : ExactWorld) (counts : Counts) : Type 0 where
@@ -68,12 +68,13 @@ pub record MaySee (network : Network) (world : ExactWorld) (seen : Seen) : Type 
   pub notes : List Note
   pub is : AreSeen network world seen events notes
 
--- the world gave one more record, at its present time; the spread is that of those before it, whose corrections are
--- earlier
+-- the world gave one more record, at its present time, which is before 2^60 where the end has not come; the spread is
+-- that of the records before it, whose corrections are earlier
 pub record IsGiven (network : Network) (world : ExactWorld) (seen : Seen) (note : Note) (events : List Event)
     (notes : List Note) : Type 0 where
   pub stands : StandsExact network world events (notes ++ note ∷ [])
   pub at : note.time ≡ units_of world.now
+  pub early : world.ended ≡ false → world.now < 2 ^ 60
   pub widest : IsWidest network events notes (record { 0 = seen.spread })
   pub past : (h : Happening) → IsIn h (happenings network notes) → IsCorrection h → time_of h < world.now
 
@@ -116,7 +117,7 @@ pub record SeesOn (network : Network) (world : ExactWorld) (seen : Seen) (events
 -- the world is where it was, or it has come to the next unit of time, of which nothing but events is worked off
 abbrev pub IsNear : ExactWorld → ExactWorld → Type 0
 IsNear old new =
-    old.ended ≡ false → old.now < 2 ^ 60 → (new ≡ old) ⊎ ((new.now ≡ old.now + 1) × (new.early ≡ true))
+    old.ended ≡ false → (new ≡ old) ⊎ ((new.now ≡ old.now + 1) × (new.early ≡ true))
 
 -- the records up to a time were seen; after the end they are all of them
 pub record SeesUntil (network : Network) (events : List Event) (notes : List Note) (until : Units)

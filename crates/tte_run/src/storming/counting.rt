@@ -1,4 +1,4 @@
-ghost use Rattle.std.specs.Prelude.{◌≡◌, ◌^◌, ◌+◌, pos, ◌≤ℤ◌, List, [], ◌∷◌, ◌++◌, OnOk, true};
+ghost use Rattle.std.specs.Prelude.{◌≡◌, ◌^◌, ◌+◌, pos, ◌≤ℤ◌, List, [], ◌∷◌, ◌++◌, OnOk, true, false};
 ghost use Rattle.drift_world.specs.Running.{Reaches};
 ghost use Rattle.net_plan.specs.Ranges.{IsInRange};
 ghost use Rattle.net_plan.specs.declared.event.Event.{Event as EventValue};
@@ -33,8 +33,10 @@ pub(crate) fn see_until(
 ) -> Result<(), OutOfMemory>
     requires in_range { IsInRange network.now }
     requires seeing { MaySee network.now world.old seen.old }
+    requires order { pos world.old.now ≤ℤ until.0 }
     requires time { until.0 ≤ℤ pos (2 ^ 60 + 1) }
     requires ended { world.old.ended ≡ true → until.0 ≤ℤ pos (world.old.now + 1) }
+    requires unended { world.old.ended ≡ false → until.0 ≤ℤ pos (2 ^ 60) }
     ensures sees { OnOk result ((events : List EventValue) (notes : List NoteValue)
         → AreSeen network.now world.old seen.old events notes
         → SeesUntil network.now events notes until world.old world.new seen.new) }
