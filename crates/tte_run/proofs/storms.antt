@@ -1,0 +1,3 @@
+-- A run under a storm: what is counted and seen of its records, and the answer.
+pub mod Ends
+pub mod OneAnswer
