@@ -1,5 +1,6 @@
 pub mod Puts
 pub mod FormLemmas
+pub mod Numbers
 pub mod TopAnswers
 pub mod Octets
 pub mod OneAnswers

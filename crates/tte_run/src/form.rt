@@ -27,7 +27,8 @@ pub enum Form {
 
 /// The form of a command with one file.
 fn one_file_form(command: &str) -> Option<Form>
-    ensures { result ≡ one_file_form command.now }
+    ensures form { result ≡ one_file_form command.now }
+    ensures range { IfSome result IsFormInRange }
 {
     match command {
         "show" => Some(Form::Show),
@@ -38,7 +39,8 @@ fn one_file_form(command: &str) -> Option<Form>
 
 /// The form of a command with two files.
 fn two_files_form(command: &str) -> Option<Form>
-    ensures { result ≡ two_files_form command.now }
+    ensures form { result ≡ two_files_form command.now }
+    ensures range { IfSome result IsFormInRange }
 {
     match command {
         "run" => Some(Form::Run),
@@ -51,9 +53,14 @@ fn number_up_to(most: u64, text: &str) -> Option<u64>
     ensures value { result ≡ number_up_to most text.now }
     ensures most { IfSome result (λ n. n ≤ most) }
 {
-    let number = text.parse::<u64>().ok()?;
+    let Ok(number) = text.parse::<u64>() else {
+        return None;
+    };
+    if number > most {
+        return None;
+    }
     let mut buffer = Buffer::new();
-    if number <= most && buffer.format(number) == text {
+    if buffer.format(number) == text {
         Some(number)
     } else {
         None

@@ -2,7 +2,7 @@ use Rattle.std.proofs.Common.{◌≡◌, ◌≤ℤ◌, ◌++◌, ◌∷◌, [], 
 use Rattle.std.specs.Int.{w128}
 use Rattle.std.proofs.lemmas.Int.{ints, to_z-of_z}
 use Rattle.net_plan.specs.declared.network.Network.{Network}
-use Rattle.tte_run.proofs.storms.Ends.{less_kept, most_kept, same_kept}
+use Rattle.tte_run.proofs.storms.Locals.{less_kept, most_kept, same_kept}
 use Rattle.tte_run.proofs.storms.Settled.{IsSettled, complete_now, in_time, may_count, near_settled, seen_settled}
 use Rattle.tte_run.specs.storms.Spreads.{IsCompleteExact}
 use Rattle.tte_units.specs.Amount.{amount}

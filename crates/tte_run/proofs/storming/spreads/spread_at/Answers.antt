@@ -7,7 +7,7 @@ use Rattle.run_law.specs.records.Happenings.{happenings}
 use Rattle.tte_run.specs.declared.storming.spreads.Ends.{Ends}
 use Rattle.tte_run.specs.storms.Answer.{exact_scenario}
 use Rattle.tte_run.specs.storms.Spreads.{AreEnds, IsSpreadAt, Widens}
-use Rattle.tte_run.proofs.storms.Ends.{apart_fits, apart_is, ends_stay, ends_widen, no_spread, spread_of, value_is}
+use Rattle.tte_run.proofs.storms.Locals.{apart_fits, apart_is, ends_stay, ends_widen, no_spread, spread_of, value_is}
 use Rattle.tte_units.specs.Amount.{amount}
 use Rattle.tte_run.proofs.storming.spreads.spread_at.Goals as goal
 use Rattle.tte_run.proofs.storming.spreads.spread_at.Goals.{in-Some, in-None}
