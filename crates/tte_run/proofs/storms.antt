@@ -6,3 +6,5 @@ pub mod Locals
 pub mod Given
 pub mod Settled
 pub mod Seeing
+pub mod Storming
+pub mod Summing

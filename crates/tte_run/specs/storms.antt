@@ -3,3 +3,4 @@ pub mod Answer
 pub mod Safely
 pub mod Spreads
 pub mod Counts
+pub mod Steps

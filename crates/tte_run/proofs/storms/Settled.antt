@@ -52,7 +52,7 @@ correction_of h (kinds.Dropped d link cause reason) is c = absurd cc
 correction_of h (kinds.Clock d reading adjustment state) is c = absurd cc
 
 -- another is none
-no_correction : (h : Happening) → corrects h.note.body ≡ false → IsCorrection h → ⊥
+pub no_correction : (h : Happening) → corrects h.note.body ≡ false → IsCorrection h → ⊥
 no_correction h not c = let is : corrects h.note.body ≡ true = ap corrects c.is in cc
 
 in_slice : {X : Type 0} (x : X) (xs : List X) → IsIn x xs → (i : ℕ) × (slice_get xs i ≡ Some x)
