@@ -10,6 +10,7 @@ pub mod Happenings
 pub mod Hearing
 pub mod Keeping
 pub mod Leaving
+pub mod Locals
 pub mod Naming
 pub mod Nearing
 pub mod Places

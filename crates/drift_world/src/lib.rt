@@ -14,6 +14,7 @@ mod giving;
 mod hear;
 mod kept;
 mod leaving;
+mod local;
 mod memory;
 mod naming;
 mod next;

@@ -5,3 +5,4 @@ pub mod Within
 pub mod SameOctets
 pub mod Storms
 pub mod OneStorm
+pub mod Ends

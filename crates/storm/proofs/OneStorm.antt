@@ -179,5 +179,5 @@ same_rest network seed cycles front (x ∷ rest) (y ∷ other) rules within a b 
     ap (λ (e : Event). e ∷ rest) heads ∙ ap (λ (l : List Event). y ∷ l) tails
 
 pub one_storm : StormIsOne
-one_storm network seed cycles storm other range rules few a b =
-    same_rest network seed cycles [] storm other rules (storms_within network seed cycles storm range few a.each) a.each b.each (a.whole ∙ sym b.whole)
+one_storm network seed cycles storm other rules few a b =
+    same_rest network seed cycles [] storm other rules (storms_within network seed cycles storm few a.each) a.each b.each (a.whole ∙ sym b.whole)

@@ -66,7 +66,7 @@ event_within network seed cycles before n event few (inr end) later =
     (end_within network before _ refl later (time_in_run network n (omega (arith, few, end.0))))
 
 pub storms_within : StormsAreWithin
-storms_within network seed cycles events range few each before behind event order =
+storms_within network seed cycles events few each before behind event order =
     let front = front_of_storm network seed cycles before (event ∷ behind) (subst (AreStormEvents network seed cycles) order each) in
     event_within network seed cycles before (length before) event few (each before behind event order) (no_later network seed cycles before front)
 

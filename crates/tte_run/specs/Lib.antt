@@ -7,3 +7,4 @@ pub mod Top
 pub mod frames
 pub mod networks
 pub mod traces
+pub mod storms

@@ -9,11 +9,14 @@ use Rattle.tte_run.specs.networks.Accepting.{IsNetworkAnswer, MeansAccepted}
 use Rattle.tte_run.specs.Answering.{Answer, ForOctets, Gives, GivesOne, IsDone, line_answer}
 use Rattle.tte_run.specs.networks.Checking.{IsCheckAnswer}
 use Rattle.tte_run.specs.traces.Answer.{IsRunAnswer}
+use Rattle.tte_run.specs.traces.Safely.{WritesSafely}
+use Rattle.tte_run.specs.storms.Answer.{IsStormAnswer}
+use Rattle.tte_run.specs.storms.Safely.{SummarisesSafely}
 use Rattle.tte_run.specs.frames.Answer.{show_answer, file_limit}
 use Rattle.tte_run.specs.Forms.{form_of}
 use Rattle.tte_run.specs.traces.Lines.{AreAdmitted, HaveEnded, behind_lines}
 use Rattle.tte_run.specs.declared.form.Form.{Form}
-use Rattle.tte_run.specs.declared.form.Form.TheVariants.{Show, Check, Run}
+use Rattle.tte_run.specs.declared.form.Form.TheVariants.{Show, Check, Run, Storm}
 use Rattle.tte_run.specs.declared.status.Status.{Status}
 use Rattle.tte_run.specs.declared.status.Status.TheVariants.{Usage}
 
@@ -31,6 +34,7 @@ IsFormAnswer None octets trace a = a ≡ usage_answer
 IsFormAnswer (Some Show) octets trace a = a ≡ show_answer octets
 IsFormAnswer (Some Check) octets trace a = IsCheckAnswer octets a
 IsFormAnswer (Some Run) octets trace a = IsNetworkAnswer (IsRunAnswer trace) octets a
+IsFormAnswer (Some (Storm seed cycles)) octets trace a = IsNetworkAnswer (IsStormAnswer seed cycles) octets a
 
 -- an answer for the words and the octets of the files
 abbrev pub IsAnswer : List (List ℕ) → List ℕ → List ℕ → Answer → Type 0
@@ -48,6 +52,7 @@ abbrev pub ForSecond : Form → Option (List ℕ) → (List ℕ → Type 0) → 
 ForSecond Show left P = P []
 ForSecond Check left P = P []
 ForSecond Run left P = IfSome left P
+ForSecond (Storm seed cycles) left P = P []
 
 -- words of no form are answered by usage, and no others are; to those of a form its answer was given, for the octets
 -- of both files
@@ -71,6 +76,10 @@ abbrev pub RunsWhole : List ℕ → List ℕ → Status → Type 0
 RunsWhole octets trace status =
     (network : Network) (events : List Event) → MeansAccepted octets network → AreAdmitted network trace events → HaveEnded events → behind_lines (length events) trace ≡ [] → IsDone status
 
+-- an accepted network under a storm is run to the storm's end
+abbrev pub StormsWhole : List ℕ → Status → Type 0
+StormsWhole octets status = (network : Network) → MeansAccepted octets network → IsDone status
+
 -- valid input is answered to its end, where no count of faults rose
 abbrev pub Completes : Option Form → Option (List ℕ) → Option (List ℕ) → Type 0 → Type 0 → Status → Type 0
 Completes None first second SourceRose SinkRose status = Unit {0}
@@ -79,6 +88,8 @@ Completes (Some Show) (Some octets) second SourceRose SinkRose status =
     (SourceRose → ⊥) → (SinkRose → ⊥) → ShowsWhole octets status
 Completes (Some Check) (Some octets) second SourceRose SinkRose status =
     (SourceRose → ⊥) → (SinkRose → ⊥) → ChecksWhole octets status
+Completes (Some (Storm seed cycles)) (Some octets) second SourceRose SinkRose status =
+    (SourceRose → ⊥) → (SinkRose → ⊥) → StormsWhole octets status
 Completes (Some Run) (Some octets) None SourceRose SinkRose status = Unit {0}
 Completes (Some Run) (Some octets) (Some trace) SourceRose SinkRose status =
     (SourceRose → ⊥) → (SinkRose → ⊥) → RunsWhole octets trace status
@@ -93,3 +104,10 @@ FailsToRead form First Second Untouched Stops = First × Untouched
 abbrev pub TakesSecond : Option Form → Type 0 → Type 0 → Type 0
 TakesSecond (Some Run) Unread Little = Unread ⊎ Little
 TakesSecond form Unread Little = Unread
+
+-- what was put of a run, for `run` and `storm`, is of one that goes well
+abbrev pub AnswersSafely : Option Form → Option (List ℕ) → Option (List ℕ) → Status → Shown → Shown → Type 0
+AnswersSafely (Some Run) first second status old new = WritesSafely first second status old new
+AnswersSafely (Some (Storm seed cycles)) first second status old new =
+    SummarisesSafely seed cycles first status old new
+AnswersSafely other first second status old new = Unit {0}

@@ -8,6 +8,7 @@ mod put_line;
 mod running;
 mod showing;
 mod status;
+mod storming;
 mod top;
 mod trace;
 mod words;
@@ -16,6 +17,7 @@ pub use checking::check_network;
 pub use running::run_trace;
 pub use showing::{show, show_law};
 pub use status::Status;
+pub use storming::storm_run;
 pub use top::{answer_law, tte};
 pub use words::Words;
 

@@ -1,15 +1,14 @@
-ghost use Rattle.std.specs.Prelude.{◌≡◌, ◌⊎◌, Some};
+ghost use Rattle.std.specs.Prelude.{◌≡◌, ◌⊎◌};
 ghost use Rattle.tte_run.specs.Answering.{Gives};
 ghost use Rattle.tte_run.specs.Faults.{HasCause, IsWanted, PutFailed, ReadFailed};
 ghost use Rattle.tte_run.specs.Forms.{form_of};
 ghost use Rattle.tte_run.specs.Putting.{Over};
-ghost use Rattle.tte_run.specs.traces.Safely.{WritesSafely};
 ghost use Rattle.tte_run.specs.traces.Streaming.{RunStops, RunTakesLittle};
-ghost use Rattle.tte_run.specs.Top.{AnswerIsOne, AnswersWords, Completes, FailsToRead, TakesSecond, usage_answer};
+ghost use Rattle.tte_run.specs.Top.{AnswerIsOne, AnswersSafely, AnswersWords, Completes, FailsToRead, TakesSecond, usage_answer};
 
 use crate::form::{Form, read_form};
 use crate::put_line::put_last;
-use crate::{Status, Words, check_network, run_trace, show};
+use crate::{Status, Words, check_network, run_trace, show, storm_run};
 use net_plan::beta_is_unique;
 use schedule_checker::refusal_is_one;
 use std::alloc::Global;
@@ -29,8 +28,8 @@ pub fn tte<A: Source, B: Source, K: Sink>(
 ) -> Status
     ensures general { Over K.Sink out.old out.new
         (AnswersWords (form_of words.now) (A.left first.old) (B.left second.old) result) }
-    ensures safe { form_of words.now ≡ Some Form.Run
-        → Over K.Sink out.old out.new (WritesSafely (A.left first.old) (B.left second.old) result) }
+    ensures safe { Over K.Sink out.old out.new
+        (AnswersSafely (form_of words.now) (A.left first.old) (B.left second.old) result) }
     ensures faults { HasCause result
         (FailsToRead (form_of words.now)
         (ReadFailed A.Source first.old first.new) (ReadFailed B.Source second.old second.new)
@@ -47,6 +46,7 @@ pub fn tte<A: Source, B: Source, K: Sink>(
         Some(Form::Show) => show(alloc, first, out),
         Some(Form::Check) => check_network(alloc, first, out),
         Some(Form::Run) => run_trace(alloc, first, second, out),
+        Some(Form::Storm { seed, cycles }) => storm_run(alloc, first, seed, cycles, out),
         None => put_usage(out),
     }
 }

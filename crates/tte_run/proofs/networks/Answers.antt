@@ -109,12 +109,13 @@ acceptance_one unique n a b p q =
     p.answer ∙ ap (λ (x : ℕ). record { status = Done; lines = acceptance_line x (gamma_of n) ∷ [] }) same ∙ sym q.answer
 
 -- the octets of a network file have one answer, where an accepted network has
-pub network_answer_one : RefusalIsOne → (Then : Network → Answer → Type 0) → ((n : Network) (a b : Answer) → Then n a → Then n b → a ≡ b)
-    → (octets : List ℕ) (a b : Answer) → IsNetworkAnswer Then octets a → IsNetworkAnswer Then octets b → a ≡ b
-network_answer_one one Then then_one octets a b (inl p) q = p.1 ∙ sym (too_long_one Then octets p.0 b q)
-network_answer_one one Then then_one octets a b (inr (inl p)) q = p.2 ∙ sym (file_one Then octets p.0 p.1 b q)
-network_answer_one one Then then_one octets a b (inr (inr (inl p))) q = p.2 ∙ sym (rule_one one Then octets p.0 p.1 b q)
-network_answer_one one Then then_one octets a b (inr (inr (inr p))) q = then_one p.0 a b p.2 (accepted_alone Then octets p.0 p.1 b q)
+pub network_answer_one : RefusalIsOne → (Then : Network → Answer → Type 0) (octets : List ℕ)
+    → ((n : Network) → MeansAccepted octets n → (a b : Answer) → Then n a → Then n b → a ≡ b)
+    → (a b : Answer) → IsNetworkAnswer Then octets a → IsNetworkAnswer Then octets b → a ≡ b
+network_answer_one one Then octets then_one a b (inl p) q = p.1 ∙ sym (too_long_one Then octets p.0 b q)
+network_answer_one one Then octets then_one a b (inr (inl p)) q = p.2 ∙ sym (file_one Then octets p.0 p.1 b q)
+network_answer_one one Then octets then_one a b (inr (inr (inl p))) q = p.2 ∙ sym (rule_one one Then octets p.0 p.1 b q)
+network_answer_one one Then octets then_one a b (inr (inr (inr p))) q = then_one p.0 p.1 a b p.2 (accepted_alone Then octets p.0 p.1 b q)
 
 -- the answer of `check` for a source
 pub checked_none : RefusalIsOne → (left : Option (List ℕ)) (cause : NoNetwork) (status : Status) (old new : Shown)

@@ -85,7 +85,7 @@ in_order network octets (e ∷ es) all =
 
 -- ---- their end
 
-parted : {X : Type 0} (xs : List X) (x : X) → Contains xs x → (ps : List X) × (qs : List X) × (xs ≡ ps ++ x ∷ qs)
+pub parted : {X : Type 0} (xs : List X) (x : X) → Contains xs x → (ps : List X) × (qs : List X) × (xs ≡ ps ++ x ∷ qs)
 parted [] x i = absurd (omega (arith, i.1))
 parted (y ∷ ys) x (zero, lt, e) = ([], ys, ap (λ t. t ∷ ys) e)
 parted (y ∷ ys) x (suc k, lt, e) = let p = parted ys x (k, omega arith, e) in (y ∷ p.0, p.1, ap (λ (t : List _). y ∷ t) p.2)

@@ -16,7 +16,7 @@ use Rattle.tte_run.proofs.traces.Given.{all_done}
 -- the octets of a network file and of a trace have one answer
 pub run_one : RefusalIsOne → (octets trace : List ℕ) (a b : Answer) → IsNetworkAnswer (IsRunAnswer trace) octets a
     → IsNetworkAnswer (IsRunAnswer trace) octets b → a ≡ b
-run_one one octets trace a b p q = network_answer_one one (IsRunAnswer trace) (λ network. run_answer_one network trace) octets a b p q
+run_one one octets trace a b p q = network_answer_one one (IsRunAnswer trace) octets (λ network accepted. run_answer_one network trace) a b p q
 
 -- an accepted network under a trace that is admitted to its end is run to its end
 pub run_whole : (octets trace : List ℕ) (network : Network) (events : List Event) (status : Status) (old new : Shown) (SourceRose SinkRose : Type 0)

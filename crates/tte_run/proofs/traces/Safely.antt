@@ -55,7 +55,7 @@ admitted_under octets trace network events range accepted all = record {
   within = λ before behind e order. (all before behind e order).within;
 }
 
-exact_steps : IsLawful fresh_segment stepped_segment segment_reading (λ c. c.grain) segment_count
+pub exact_steps : IsLawful fresh_segment stepped_segment segment_reading (λ c. c.grain) segment_count
 exact_steps = record {
   has_grain = λ g. refl;
   keeps_grain = λ c t r. refl;

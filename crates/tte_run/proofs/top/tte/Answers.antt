@@ -6,9 +6,9 @@ use Rattle.tte_run.specs.traces.Answer.{IsRunStatus}
 use Rattle.tte_run.specs.Putting.{Shown, shown_by}
 use Rattle.tte_run.specs.Top.{AnswersWords, Completes}
 use Rattle.tte_run.specs.declared.form.Form.{Form}
-use Rattle.tte_run.specs.declared.form.Form.TheVariants.{Show, Check, Run}
+use Rattle.tte_run.specs.declared.form.Form.TheVariants.{Show, Check, Run, Storm}
 use Rattle.tte_run.specs.declared.status.Status.{Status}
-use Rattle.tte_run.proofs.TopAnswers.{no_usage, shown-form, completes-show, completes-check, completes-run}
+use Rattle.tte_run.proofs.TopAnswers.{no_usage, shown-form, completes-show, completes-check, completes-run, completes-storm}
 use Rattle.tte_run.proofs.top.tte.Goals as goal
 
 -- what is answered for the form is answered for the words
@@ -95,3 +95,24 @@ returns-in-None-clause-general g c =
     let old = shown_by g.K.Sink c.args.out.now in
     let new = shown_by g.K.Sink c.put_usage.new.out in
     words_as form first second c.put_usage.result old new c.put_usage.ensures.gives
+
+pub returns-in-Some-Storm-clause-general : goal.returns-in-Some-Storm-clause-general
+returns-in-Some-Storm-clause-general g c =
+    let form : Some (Storm c.in-Some-Storm.seed c.in-Some-Storm.cycles) ≡ form_of c.args.words.now = search rules in
+    let first = g.A.Source.left c.args.first.now in
+    let second = g.B.Source.left c.args.second.now in
+    let old = shown_by g.K.Sink c.args.out.now in
+    let new = shown_by g.K.Sink c.storm_run.new.out in
+    words_as form first second c.storm_run.result old new
+    (no_usage IsCheckStatus c.storm_run.result (λ none. none) c.storm_run.ensures.statuses, c.storm_run.ensures.general)
+
+pub returns-in-Some-Storm-clause-complete : goal.returns-in-Some-Storm-clause-complete
+returns-in-Some-Storm-clause-complete g c =
+    let form : Some (Storm c.in-Some-Storm.seed c.in-Some-Storm.cycles) ≡ form_of c.args.words.now = search rules in
+    let first = g.A.Source.left c.args.first.now in
+    let second = g.B.Source.left c.args.second.now in
+    let old = shown_by g.K.Sink c.args.out.now in
+    let new = shown_by g.K.Sink c.storm_run.new.out in
+    whole_as form first second c.storm_run.result _ _
+    (completes-storm c.in-Some-Storm.seed c.in-Some-Storm.cycles first second c.storm_run.result old new _ _ c.storm_run.ensures.general
+    (λ e. inl (c.storm_run.ensures.faults.read e).0) c.storm_run.ensures.faults.write)

@@ -1,0 +1,4 @@
+pub mod Counting
+pub mod Spread
+pub mod Lines
+pub mod Laws
