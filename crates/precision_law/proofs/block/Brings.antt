@@ -1,11 +1,12 @@
 -- What each instant of a block brings: by induction over the instants.
-use Rattle.precision_law.proofs.words.Std.{◌*◌, ◌+ℤ◌, ◌+◌, ◌-ℤ◌, ◌-◌, ◌<ℤ◌, ◌<◌, ◌∙◌, ◌≡◌, ◌≤ℤ◌, ◌≤◌, Bool, List, None, Option, Some, and_parts, ap, arith, by_lt_z, cases_lt, false, if◌then◌else◌, inl, inr, int_le, int_lt, ints, leb-true, mul-le-mul_right, nat_le, negsuc, option_and_then, option_map_or, pos, refl, subst, suc, sym, true, zero, ℕ, ℤ}
-use Rattle.precision_law.proofs.words.Plans.{A, B, Channel, Cleared, Corrected, DeviceId, HasVerdict, HeardFrame, Hearing, Integrating, IsAtIntegration, IsBestOf, IsMean, Joining, Masters, Standing, State, Summarizes, Summary, Units, Verdict, amount, best_on, correction_of, count_of, deviation_by, deviation_on, expected_at, mean_of, mean_of-floor, within_on}
-use Rattle.precision_law.proofs.words.Runs.{Happening, Integrates, IsCaused, IsIn, NoteBody, Within, adjustment_before, adjustment_with, changed_at, changes_adjustment, correction_value, cycle_in, earlier, expected_by, founded_at, had_come, has_cleared, heard_since, in_left, in_parts, integration_cycle, is_integration_cycle, is_joined_by, is_synchronised, is_turned_on_at, local_at_change, members_in, next_cycle, plan_of, recorded_cycle, same_some, standing_before, state_after, state_before, time_of}
-use Rattle.precision_law.proofs.words.Laws.{AreBeforeCorrections, BlockGoesSo, BlocksGoSo, ComesTo, CorrectsSo, DispatchesSo, HasTimeAt, HearsBy, Hull, IsAnchoredIn, IsDispatch, IsInBlock, IsInHull, IsNearHull, IsOldAt, IsPointOf, IsView, JoinsSo, ShowsIn, Stands, View, adjustment_left, cycle_set, epoch_time, first_correction, first_dispatch, has_time, hull_of, is_correction, last_dispatch, last_setting, next_of, setting, state_left}
-use Rattle.precision_law.proofs.words.Clocks.{IsHearingOf, adjustment_stays, before_of, best_is_heard, clocks_reach_sharply, earlier_before, hearing_of, in_hull, instants_are_in_order, int_le-is, joiner_waits, next_cycle_is_of_last, one_frame_sets, one_more, point_has_time, point_is, point_timed, reaches_whole, room, same_adjustment, same_cleared, same_device, same_next, set_clocks_show, setting_is, settings_stay, sizes_are, steady, synchronised_has_time, time_stays, two_frames_set, within_by}
-use Rattle.precision_law.proofs.words.Blocks.{FramesGoSo, HasDispatched, IsLate, IsOfBlock, IsSetInBlock, WentSo, before_narrow, block_ends, cleared_from, corrections_before, corrections_go_on, expected_is, expected_late, follows_before, has_dispatched, int_lt-is, joiner_integrates, joining_of_setting, joins, new_shows, of_block, old_number, old_shows, set_by_joining, set_shows}
+use Rattle.precision_law.proofs.words.Std.{◌*◌, ◌+ℤ◌, ◌+◌, ◌<ℤ◌, ◌<◌, ◌∙◌, ◌≡◌, ◌≤ℤ◌, ◌≤◌, Bool, List, None, Option, Some, ap, arith, by_lt_z, cases_lt, false, if◌then◌else◌, inl, inr, ints, mul-le-mul_right, negsuc, option_map_or, pos, refl, subst, suc, sym, true, zero, ℕ, ℤ}
+use Rattle.precision_law.proofs.words.Plans.{A, B, Channel, Cleared, Corrected, DeviceId, HasVerdict, Integrating, IsAtIntegration, Joining, Masters, Standing, State, Summary, Units, Verdict, amount, best_on, count_of, deviation_on}
+use Rattle.precision_law.proofs.words.Runs.{Happening, Integrates, IsCaused, IsIn, NoteBody, adjustment_with, changes_adjustment, correction_value, cycle_in, earlier, expected_by, founded_at, has_cleared, integration_cycle, is_joined_by, is_synchronised, is_turned_on_at, members_in, next_cycle, recorded_cycle, standing_before, state_after, state_before, time_of}
+use Rattle.precision_law.proofs.words.Laws.{BlockGoesSo, BlocksGoSo, ComesTo, CorrectsSo, DispatchesSo, HasTimeAt, Hull, IsAnchoredIn, IsDispatch, IsInBlock, IsInHull, IsOldAt, IsPointOf, IsView, JoinsSo, ShowsIn, View, adjustment_left, base_of, cycle_set, epoch_time, first_correction, first_dispatch, has_time, hull_of, is_correction, last_dispatch, last_setting, next_of, setting, state_left}
+use Rattle.precision_law.proofs.words.Clocks.{before_of, clocks_reach_sharply, earlier_before, in_hull, instants_are_in_order, joiner_waits, next_cycle_is_of_last, one_frame_sets, one_more, point_has_time, point_is, point_timed, reaches_whole, room, same_device, same_next, setting_is, sizes_are, synchronised_has_time}
+use Rattle.precision_law.proofs.words.Blocks.{FramesGoSo, HasDispatched, IsSetInBlock, WentSo, before_narrow, block_ends, expected_is, expected_late, follows_before, good_hearing, has_dispatched, joiner_integrates, joining_of_setting, joins, late_from, members_by, near_hull, new_shows, old_number, old_shows, set_shows}
 use Rattle.run_law.specs.declared.note.NoteBody.TheVariants as notes
+use Rattle.precision_law.proofs.block.Corrections.{corrects_by, is_by_frame}
 
 -- ---- dispatches
 
@@ -109,11 +110,14 @@ joins_so laws v n t block is went h device i joined at =
     let space = room v is in
     let join = joins v h device is i joined in
     let enough : 3 ≤ count_of (record { 0 = members_in h }) = omega (arith, (is.lawful.rules Masters 2).threshold_least refl, join.enough) in
-    let frame = of_block laws v n t block.before device join.channel join.point Integrates h is went tt join.hears enough (omega (arith, at))
-    (λ k w le is_w. (let early = corrections_before v n k block.before w is le is_w in omega (arith, ints, early, block.from, at))) in
+    let late = late_from v n (time_of h) block.before is (omega (arith, at, block.from)) in
+    let frame = good_hearing laws v n t block.before is went device join.channel join.point h (omega (arith, at)) Integrates tt join.hears late
+    (λ e cm f. laws.three v e cm _ (members_by h) is f enough) in
+    let near = near_hull laws v n t block.before is went device join.channel join.point h (omega (arith, at)) frame (inl enough) in
+    let base = base_of v.sizes (time_of frame.emission) in
     let reading = v.scenario.reading device in
     let expected = expected_by v.scenario.network device in
-    let anchored = one_frame_sets v.sizes reading frame.hull frame.base (time_of h) join.point expected (suc n) space frame.near frame.timely in
+    let anchored = one_frame_sets v.sizes reading frame.hull base (time_of h) join.point expected (suc n) space near frame.timely in
     let adjusts : (adjustment_with v.scenario device (cycle_in h) (record { 0 = pos 0 }) h.note.body).0 ≡ setting v.sizes (suc n) expected join.point =
     join.sets (record { 0 = pos 0 }) ∙ expected_is v device (cycle_in h) join.point is ∙ ap (λ (c : ℕ). setting v.sizes c expected join.point) frame.of_cycle in
     let ahead : pos (suc n * v.sizes.cycle + 2 * v.sizes.grain) <ℤ (pos (reading (time_of h)) +ℤ setting v.sizes (suc n) expected join.point) =
@@ -150,244 +154,16 @@ points_so v n t block is device cycle verdict has old comes =
     let product = ap (λ (x : ℕ). cycle * x) (sym (sizes_are v is).cycle) ∙ ap (λ (c : ℕ). c * v.sizes.cycle) number ∙ one_more n v.sizes.cycle in
     record { of_cycle = number; not_early = omega (arith, ints); not_late = omega (arith, ints) }
 
--- ---- how late an old device heard what it corrects by
-
--- a joiner's clock comes to its correction point after the first corrections of the cycle
-cleared_late : (v : View) (k t q : ℕ) (block : IsInBlock v (suc k) t) (device : DeviceId) → IsView v → HasTimeAt v device t
-    → IsOldAt v block.before.next device t → q ≤ t → (h : Happening) → last_setting (earlier t v.records) device ≡ Some h → is_correction h.note.body ≡ false
-    → has_cleared v.scenario v.records device t q ≡ true → (w : Hull) → hull_of v k ≡ Some w → first_correction v.sizes w ≤ℤ pos q
-cleared_late v k t q block device is has old le h e joined cleared w at_w =
-    let s = v.scenario in
-    let before = block.before in
-    let reading = s.reading device in
-    let space = room v is in
-    let set = before.clocks device (record { good = has.good; timed = time_stays v device before.next t is block.from old has.timed }) in
-    let last = settings_stay v device before.next t is block.from old in
-    let integrates = joiner_integrates (earlier t v.records) device h e (setting_is v device t h e).sets joined in
-    let index : cycle_in h ≡ suc k = sym (set_by_joining h h.note.body joined) ∙ ap (λ (x : Option Happening). option_map_or (λ g. cycle_set g g.note.body) x 0)
-    (sym e) ∙ ap (λ (x : Option Happening). option_map_or (λ g. cycle_set g g.note.body) x 0) (sym last) ∙ set.index in
-    let recorded : recorded_cycle (earlier t v.records) device ≡ suc k = integrates.1 ∙ index in
-    let value = correction_value s.network (recorded_cycle (earlier t v.records) device) in
-    let come = (and_parts (is_integration_cycle (earlier t v.records) device) (had_come s v.records device value t q) cleared).1 in
-    let both = and_parts (int_lt (local_at_change s v.records device t) value)
-    (int_le value (pos (reading (q - 1)) +ℤ (adjustment_before s v.records device t).0)) come in
-    let below = int_lt-is (local_at_change s v.records device t) value both.0 in
-    let above = int_le-is value (pos (reading (q - 1)) +ℤ (adjustment_before s v.records device t).0) both.1 in
-    let same_time : changed_at v.records device before.next ≡ changed_at v.records device t = ap (λ (o : Option Happening). option_map_or time_of o 0) last in
-    let same_a = ap (λ (a : Units). a.0) (adjustment_stays v device before.next t is block.from old) in
-    let behind : changed_at v.records device t < q - 1 = elim (cases_lt (changed_at v.records device t) (q - 1)) [
-      | inl lt ↦ lt
-      | inr ge ↦ (let up = (steady v is device).never_falls (q - 1) (changed_at v.records device t) ge in absurd (omega (arith, ints, up, below, above)))
-    ] in
-    let shows = set_clocks_show v.sizes reading (adjustment_left v device t) (suc k) before.hull set.set_at (q - 1) (steady v is device)
-    (omega arith) (omega (arith, ints, block_ends v (suc k) block.next _ before.is_hull block.is_over, before_narrow v _ before))
-    (subst (λ (a : ℤ). IsAnchoredIn v.sizes reading a (suc k) before.hull set.set_at) same_a set.anchored) in
-    let sizec = (sizes_are v is).correction in
-    let product = ap (λ (x : ℕ). recorded_cycle (earlier t v.records) device * x) (sym (sizes_are v is).cycle) ∙ ap (λ (c : ℕ). c * v.sizes.cycle) recorded in
-    omega (arith, ints, shows.most, above, product, sizec, (follows_before v k w before.hull is at_w before.is_hull).least, space.errors.reach_is, behind)
-
--- what an old device heard since its last correction point came behind the first corrections of the cycle before
-pub heard_late : (v : View) (n t : ℕ) (block : IsInBlock v n t) (device : DeviceId) (front : List Happening) (hearing : Hearing) → IsView v
-    → HasTimeAt v device t → IsOldAt v block.before.next device t → (split : AreBeforeCorrections v t front) → (heard : IsHearingOf v device t front hearing)
-    → IsLate v n (time_of heard.h)
-heard_late v zero t block device front hearing is has old split heard k w le at = absurd (omega (arith, le))
-heard_late v (suc c) t block device front hearing is has old split heard k w le at =
-    let before = block.before in
-    let there = before.narrow c (omega arith) in
-    let gap : k + (c - k) ≡ c = omega (arith, le) in
-    let late = by v c t block device front is has old split heard.h heard.since heard.cleared (split.only heard.h heard.there) there.0 there.1
-    (last_setting (earlier t v.records) device) refl in
-    omega (arith, ints, corrections_go_on v _ k (c - k) before w _ is (omega arith) at (subst (λ (x : ℕ). hull_of v x ≡ Some there.0) (sym gap) there.1), late)
-  where
-    by : (v : View) (c t : ℕ) (block : IsInBlock v (suc c) t) (device : DeviceId) (front : List Happening) → IsView v → HasTimeAt v device t
-        → IsOldAt v block.before.next device t → (split : AreBeforeCorrections v t front) → (h : Happening)
-        → ((x : Happening) → IsIn x front → time_of x < t → changes_adjustment device x.note.body ≡ true → time_of x ≤ time_of h)
-        → (has_cleared v.scenario front device t t ≡ true → has_cleared v.scenario front device t (time_of h) ≡ true) → time_of h ≤ t
-        → (w : Hull) → hull_of v c ≡ Some w → (o : Option Happening) → last_setting (earlier t v.records) device ≡ o
-        → first_correction v.sizes w ≤ℤ pos (time_of h)
-    by v c t block device front is has old split h since cleared le w at_w None e =
-        let set = block.before.clocks device (record { good = has.good; timed = time_stays v device block.before.next t is block.from old has.timed }) in
-        let last = settings_stay v device block.before.next t is block.from old in
-        let index : 0 ≡ suc c = ap (λ (x : Option Happening). option_map_or (λ g. cycle_set g g.note.body) x 0) (sym (last ∙ e)) ∙ set.index in
-        absurd (omega (arith, index))
-    by v c t block device front is has old split h since cleared le w at_w (Some x) e =
-        let before = block.before in
-        let had = before.points w c refl at_w device (record { good = has.good; timed = time_stays v device before.next t is block.from old has.timed }) in
-        let last = settings_stay v device before.next t is block.from old in
-        let here = setting_is v device t x e in
-        let in_front : IsIn x front = elim (in_parts x front split.rest (subst (IsIn x) split.whole here.there)) [
-          | inl f ↦ f
-          | inr r ↦ (let wrong = split.later x r in absurd (omega (arith, wrong, here.early)))
-        ] in
-        elim had.how [
-          | inl corrected ↦
-              let time = ap (λ (o : Option Happening). option_map_or (λ g. pos (time_of g)) o (negsuc 0)) (last ∙ e) in
-              omega (arith, ints, corrected.1, time, since x in_front here.early here.sets)
-          | inr joined ↦
-              let not_corrected = sym (ap (λ (o : Option Happening). option_map_or (λ g. is_correction g.note.body) o false) (last ∙ e)) ∙ joined.0 in
-              let integrates = joiner_integrates (earlier t v.records) device x e here.sets not_corrected in
-              let then_cleared = cleared
-              (same_cleared v device t t _ split ∙ cleared_from v device before.next t t is block.from block.from old integrates.0 joined.1) in
-              cleared_late v c t (time_of h) block _ is has old le x e not_corrected (sym (same_cleared v device t (time_of h) _ split) ∙ then_cleared) w at_w
-        ]
-
 -- ---- corrections of old devices
-
--- what a channel contributes to a correction: nothing, or the deviation by a frame of the block
-record HasDeviation (v : View) (n t : ℕ) (before : Stands v n) (device : DeviceId) (adjustment : ℤ) (dev : Units) : Type 0 where
-  pub h : Happening
-  pub point : ℤ
-  pub frame : IsOfBlock v n before device point h
-  pub by_then : time_of h ≤ t
-  pub is : dev.0 ≡ (setting v.sizes (suc n) (expected_by v.scenario.network device) point -ℤ adjustment)
-
-deviation_if : (b : Bool) (x dev : Units) → (if b then Some x else None) ≡ Some dev → (b ≡ true) × (x ≡ dev)
-deviation_if true x dev e = (refl, cc)
-deviation_if false x dev e = absurd cc
-
--- the deviation of a channel, where it is there: that of a frame of three members or more that was heard within
-pub record IsShown (v : View) (n t : ℕ) (device : DeviceId) (channel : Channel) (adjustment : ℤ) (dev : Units) : Type 0 where
-  pub h : Happening
-  pub point : ℤ
-  pub hears : HearsBy v device channel point Within h
-  pub enough : 3 ≤ count_of (record { 0 = members_in h })
-  pub by_then : time_of h ≤ t
-  pub late : IsLate v n (time_of h)
-  pub is : dev.0 ≡ (setting v.sizes (suc n) (expected_by v.scenario.network device) point -ℤ adjustment)
-
-pub channel_shows : (v : View) (n t : ℕ) (block : IsInBlock v n t) (device : DeviceId) (front : List Happening) (summary : Summary) (channel : Channel)
-    (dev : Units) → IsView v → HasTimeAt v device t → IsOldAt v block.before.next device t → AreBeforeCorrections v t front
-    → Summarizes summary (heard_since v.scenario front device t) → (o : Option HeardFrame) → best_on channel summary ≡ o
-    → option_and_then (λ frame. if nat_le v.scenario.network.sync_threshold (count_of frame.members)
-    then Some (deviation_by (standing_before v.scenario front device t) frame) else None) o ≡ Some dev
-    → IsShown v n t device channel (adjustment_left v device t) dev
-channel_shows v n t block device front summary channel dev is has old split sums None best e = absurd cc
-channel_shows v n t block device front summary channel dev is has old split sums (Some frame) best e =
-    let s = v.scenario in
-    let both = deviation_if (nat_le s.network.sync_threshold (count_of frame.members)) (deviation_by (standing_before s front device t) frame) dev e in
-    let is_best = subst (IsBestOf (heard_since s front device t) channel) best (sums.best channel) in
-    let heard = hearing_of v device t front (within_on channel frame) is split (best_is_heard (heard_since s front device t) channel frame is_best) in
-    let in_all : IsIn heard.h v.records = subst (IsIn heard.h) (sym split.whole) (in_left heard.h front split.rest heard.there) in
-    let hears = within_by v device channel frame heard.h heard.h.note.body in_all refl heard.shows in
-    let members : count_of frame.members ≡ count_of (record { 0 = members_in heard.h }) = ap (λ (m : ℕ). count_of (record { 0 = m })) (sym hears.members) in
-    let number : next_cycle s front device t ≡ suc n = same_next v device t front split ∙ old_number v n t device block.before is block.from has old in
-    let left : (adjustment_before s front device t).0 ≡ adjustment_left v device t = ap (λ (a : Units). a.0) (same_adjustment v device t front split) in
-    let shown = ap (λ (u : Units). u.0) (sym both.1) in
-    let moved = ap (λ (c : ℕ). expected_at (plan_of s.network device) c -ℤ frame.point.0) number ∙ expected_is v device (suc n) frame.point.0 is in
-    record {
-      h = heard.h;
-      point = frame.point.0;
-      hears = hears.hears;
-      enough = omega (arith, (is.lawful.rules Masters 2).threshold_least refl, leb-true s.network.sync_threshold (count_of frame.members) both.0, members);
-      by_then = split.only heard.h heard.there;
-      late = heard_late v n t block device front (within_on channel frame) is has old split heard;
-      is =
-          shown ∙ ap (λ (z : ℤ). z -ℤ (adjustment_before s front device t).0) moved
-          ∙ ap (λ (a : ℤ). setting v.sizes (suc n) (expected_by s.network device) frame.point.0 -ℤ a) left;
-    }
-
--- it is a frame of the block
-channel_deviates : FramesGoSo → (v : View) (n t : ℕ) (block : IsInBlock v n t) (device : DeviceId) (front : List Happening) (summary : Summary)
-    (channel : Channel) (dev : Units) → IsView v → WentSo v n block.before t → HasTimeAt v device t → IsOldAt v block.before.next device t
-    → AreBeforeCorrections v t front → Summarizes summary (heard_since v.scenario front device t) → (o : Option HeardFrame) → best_on channel summary ≡ o
-    → option_and_then (λ frame. if nat_le v.scenario.network.sync_threshold (count_of frame.members)
-    then Some (deviation_by (standing_before v.scenario front device t) frame) else None) o ≡ Some dev
-    → HasDeviation v n t block.before device (adjustment_left v device t) dev
-channel_deviates laws v n t block device front summary channel dev is went has old split sums o best e =
-    let shown = channel_shows v n t block device front summary channel dev is has old split sums o best e in
-    record {
-      h = shown.h;
-      point = shown.point;
-      frame = of_block laws v n t block.before device channel shown.point Within shown.h is went tt shown.hears shown.enough shown.by_then shown.late;
-      by_then = shown.by_then;
-      is = shown.is;
-    }
-
--- the clock that a correction by one frame sets
-one_corrects : (v : View) (n t : ℕ) (block : IsInBlock v n t) (device : DeviceId) (by : Units) → IsView v
-    → HasDeviation v n t block.before device (adjustment_left v device t) by → CorrectsSo v n t device by
-one_corrects v n t block device by is dev =
-    let f = dev.frame in
-    let reading = v.scenario.reading device in
-    let expected = expected_by v.scenario.network device in
-    let sum : setting v.sizes (suc n) expected dev.point ≡ (adjustment_left v device t +ℤ by.0) = omega (arith, ints, dev.is) in
-    record {
-      hull = f.hull;
-      is_hull = f.is_hull;
-      set_at = time_of dev.h;
-      not_before = f.not_early;
-      not_behind = dev.by_then;
-      anchored =
-          subst (λ (a : ℤ). IsAnchoredIn v.sizes reading a (suc n) f.hull (time_of dev.h)) sum
-          (one_frame_sets v.sizes reading f.hull f.base (time_of dev.h) dev.point expected (suc n) (room v is) f.near f.timely);
-    }
-
--- the mean of two deviations gives the mean of the settings
-pub mean_sum : (a x y dx dy m : ℤ) → IsMean dx dy m → IsMean x y (mean_of x y) → dx ≡ (x -ℤ a) → dy ≡ (y -ℤ a) → mean_of x y ≡ (a +ℤ m)
-mean_sum a x y dx dy m one other is_x is_y = omega (arith, ints, one, other, is_x, is_y)
-
--- the clock that a correction by two frames sets, the one heard first being given first
-two_correct : (v : View) (n t : ℕ) (block : IsInBlock v n t) (device : DeviceId) (a b by : Units) → IsView v
-    → (x : HasDeviation v n t block.before device (adjustment_left v device t) a) → (y : HasDeviation v n t block.before device (adjustment_left v device t) b)
-    → time_of x.h ≤ time_of y.h → IsMean a.0 b.0 by.0 → CorrectsSo v n t device by
-two_correct v n t block device a b by is x y le mean =
-    let f = x.frame in
-    let g = y.frame in
-    let reading = v.scenario.reading device in
-    let expected = expected_by v.scenario.network device in
-    let first = setting v.sizes (suc n) expected x.point in
-    let second = setting v.sizes (suc n) expected y.point in
-    let same : g.hull ≡ f.hull = same_some (hull_of v (suc n)) g.hull f.hull g.is_hull f.is_hull in
-    let near : IsNearHull v.sizes f.hull g.base = subst (λ (w : Hull). IsNearHull v.sizes w g.base) same g.near in
-    let space = room v is in
-    let order = instants_are_in_order v.sizes block.before.hull f.hull space (before_narrow v n block.before)
-    (follows_before v n block.before.hull f.hull is block.before.is_hull f.is_hull) in
-    let within : time_of y.h ≤ time_of x.h + 2 * v.sizes.cycle =
-    (omega (arith, ints, g.not_late, f.not_early, order, space)) in
-    let sum = mean_sum (adjustment_left v device t) first second a.0 b.0 by.0 mean (mean_of-floor first second) x.is y.is in
-    record {
-      hull = f.hull;
-      is_hull = f.is_hull;
-      set_at = time_of y.h;
-      not_before = subst (λ (w : Hull). w.least ≤ℤ pos (time_of y.h)) same g.not_early;
-      not_behind = y.by_then;
-      anchored =
-          subst (λ (z : ℤ). IsAnchoredIn v.sizes reading z (suc n) f.hull (time_of y.h)) sum
-          (two_frames_set v.sizes reading f.hull f.base g.base (time_of x.h) (time_of y.h) x.point y.point expected (suc n) space (steady v is device) le within
-          f.near near f.timely g.timely);
-    }
-
--- a mean of two is one of them turned
-pub mean_turned : (a b m : ℤ) → IsMean a b m → IsMean b a m
-mean_turned a b m mean = record { least = omega (arith, ints, mean.least); most = omega (arith, ints, mean.most) }
-
-corrects_by : (v : View) (n t : ℕ) (block : IsInBlock v n t) (device : DeviceId) (by : Units) (a b : Option Units) → IsView v
-    → ((dev : Units) → a ≡ Some dev → HasDeviation v n t block.before device (adjustment_left v device t) dev)
-    → ((dev : Units) → b ≡ Some dev → HasDeviation v n t block.before device (adjustment_left v device t) dev) → correction_of a b ≡ Some by
-    → CorrectsSo v n t device by
-corrects_by v n t block device by None None is one other e = absurd cc
-corrects_by v n t block device by (Some a) None is one other e =
-    (let same : a ≡ by = cc in one_corrects v n t block _ by is (subst (HasDeviation v n t block.before device (adjustment_left v device t)) same (one a refl)))
-corrects_by v n t block device by None (Some b) is one other e =
-    (let same : b ≡ by = cc in one_corrects v n t block device by is
-    (subst (HasDeviation v n t block.before device (adjustment_left v device t)) same (other b refl)))
-corrects_by v n t block device by (Some a) (Some b) is one other e =
-    let x = one a refl in
-    let y = other b refl in
-    let mean = subst (IsMean a.0 b.0) (ap (λ (o : Option Units). option_map_or (λ u. u.0) o (pos 0)) e) (mean_of-floor a.0 b.0) in
-    elim (cases_lt (time_of y.h) (time_of x.h)) [
-      | inr le ↦ two_correct v n t block device a b by is x y le mean
-      | inl lt ↦ two_correct v n t block device b a by is y x (omega (arith, lt)) (mean_turned a.0 b.0 by.0 mean)
-    ]
 
 corrects_so : FramesGoSo → (v : View) (n t : ℕ) (block : IsInBlock v n t) → IsView v → WentSo v n block.before t → (device : DeviceId) (cycle : ℕ) (by : Units)
     → HasTimeAt v device t → IsOldAt v block.before.next device t → ComesTo v t device cycle (Corrected by) → CorrectsSo v n t device by
 corrects_so laws v n t block is went device cycle by has old comes =
     let summary = comes.point.summary in
     let standing = standing_before v.scenario comes.front device t in
-    corrects_by v n t block device by (deviation_on standing summary A) (deviation_on standing summary B) is
-    (λ dev e. channel_deviates laws v n t block _ _ _ A dev is went has old comes.split comes.point.heard (best_on A summary) refl e)
-    (λ dev e. channel_deviates laws v n t block _ _ _ B dev is went has old comes.split comes.point.heard (best_on B summary) refl e) comes.point.comes.3
+    let frame = λ (channel : Channel). λ (dev : Units). is_by_frame laws v n t block device is went has old comes.front summary comes.split comes.point.heard channel dev
+    (best_on channel summary) refl in
+    corrects_by v n t block.before is device A B by (deviation_on standing summary A) (deviation_on standing summary B) (frame A) (frame B) comes.point.comes.3
 
 -- ---- devices whose clocks were set in the block
 

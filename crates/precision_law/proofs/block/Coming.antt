@@ -1,11 +1,12 @@
 -- Correction points come while a block lasts.
-use Rattle.precision_law.proofs.words.Std.{◌*◌, ◌++◌, ◌+ℤ◌, ◌+◌, ◌<ℤ◌, ◌<◌, ◌==◌, ◌∙◌, ◌∷◌, ◌≡◌, ◌≤ℤ◌, ◌≤◌, Bool, List, None, Option, Some, ap, arith, both_ways, by_lt_z, cases_lt, eq-eqb, filter-append, fold, fold-append, if◌then◌else◌, inl, inr, ints, lt-ltb, nat_lt, negsuc, option_map_or, pos, refl, subst, suc, sym, true, zero, ℕ, ℤ}
+use Rattle.precision_law.proofs.words.Std.{◌*◌, ◌++◌, ◌+ℤ◌, ◌+◌, ◌<ℤ◌, ◌<◌, ◌==◌, ◌∙◌, ◌∷◌, ◌≡◌, ◌≤ℤ◌, ◌≤◌, Bool, List, None, Option, Some, ap, arith, both_ways, by_lt_z, cases_lt, eq-eqb, filter-append, fold, fold-append, if◌then◌else◌, inl, inr, ints, lt-ltb, nat_lt, negsuc, option_map_or, pos, refl, subst, suc, sym, true, ℕ, ℤ}
 use Rattle.precision_law.proofs.words.Plans.{DeviceId, Integrating, State, Units, state_at_start}
-use Rattle.precision_law.proofs.words.Runs.{Happening, IsIn, Reaches, Why, changed_at, changes_adjustment, correction_value, cycle_in, earlier, founded_at, in_left, in_right, next_cycle, same_some, start_of, state_after, state_with, time_of}
-use Rattle.precision_law.proofs.words.Laws.{BlockIsOver, HasTimeAt, Hull, IsAnchoredIn, IsOldAt, IsView, PointsAreRecorded, PointsHaveCome, Stands, View, adjustment_left, epoch_time, has_time, hull_of, last_setting, start_hull, state_left}
-use Rattle.precision_law.proofs.words.Clocks.{AreSorted, adjustment_stays, clocks_have_reached, in_earlier, in_order, instants_are_in_order, joined_changes, keeps, kept_by_all, one_more, room, set_clocks_have_reached, set_clocks_show, settings_stay, sizes_are, sorted_parts, steady, time_stays}
-use Rattle.precision_law.proofs.words.Blocks.{before_narrow, block_ends, follows_before, joining_from, old_number, sets_none}
+use Rattle.precision_law.proofs.words.Runs.{Happening, IsIn, Reaches, Why, changed_at, changes_adjustment, correction_value, cycle_in, earlier, founded_at, in_left, in_right, next_cycle, start_of, state_after, state_with, time_of}
+use Rattle.precision_law.proofs.words.Laws.{BlockIsOver, HasTimeAt, IsAnchoredIn, IsOldAt, IsView, PointsAreRecorded, PointsHaveCome, View, adjustment_left, epoch_time, has_time, last_setting, state_left}
+use Rattle.precision_law.proofs.words.Clocks.{AreSorted, adjustment_stays, clocks_have_reached, in_earlier, in_order, joined_changes, keeps, kept_by_all, one_more, room, set_clocks_have_reached, set_clocks_show, settings_stay, sizes_are, sorted_parts, steady, time_stays}
+use Rattle.precision_law.proofs.words.Blocks.{before_narrow, joining_from, old_number, sets_none}
 use Rattle.run_law.specs.declared.note.NoteBody.TheVariants as notes
+use Rattle.precision_law.proofs.block.Goings.{early_show}
 use Rattle.precision_law.proofs.block.Onward.{last_of}
 
 -- ---- between the last setting and a time
@@ -38,17 +39,6 @@ not_lost v device u t h cause why is le old timed i from to body =
     both_ways (has_time (step before h)) (ap has_time lost) now
 
 -- ---- the points of a block
-
--- at the beginning of a block an old clock is not yet at its correction point
-pub early_show : (v : View) (n : ℕ) (before : Stands v n) → IsView v
-    → pos before.next ≤ℤ (before.hull.least +ℤ pos (v.sizes.correction + v.sizes.spread + 3 * v.sizes.reach + 1))
-early_show v zero before is =
-    let same : start_hull v.sizes ≡ before.hull = same_some (hull_of v zero) (start_hull v.sizes) before.hull refl before.is_hull in
-    omega (arith, ints, before.is_over, ap (λ (w : Hull). w.least) same, (room v is).errors.spread_is)
-early_show v (suc c) before is =
-    let one = before.narrow c (omega arith) in
-    let order = instants_are_in_order v.sizes one.0 before.hull (room v is) one.2 (follows_before v c one.0 before.hull is one.1 before.is_hull) in
-    omega (arith, ints, block_ends v c before.next one.0 one.1 before.is_over, order.last_not_late)
 
 -- when the clock was last set, it was before what is behind its epoch
 pub set_before : (o : Option Happening) (next : ℕ) → option_map_or (λ h. pos (time_of h)) o (negsuc 0) <ℤ pos next → option_map_or time_of o 0 ≤ next

@@ -5,10 +5,11 @@ use Rattle.precision_law.proofs.words.Runs.{BeginsOn, ChangesState, Happening, I
 use Rattle.precision_law.proofs.words.Laws.{AreBeforeCorrections, BlocksGoSo, ComesTo, HasTimeAt, IsAnchoredIn, IsClique, IsDispatch, IsFirm, IsFirstMaster, IsGood, IsInBlock, IsOldAt, IsView, MastersDispatch, Stands, View, adjustment_left, first_correction, has_time, last_dispatch, last_setting, state_left}
 use Rattle.precision_law.proofs.words.Clocks.{adjustment_stays, before_of, before_place, clocks_have_reached, earlier_before, frames_come_first, good_is_correct, in_earlier, natural_of, one_more, point_timed, reaches_front, room, same_device, set_clocks_have_reached, set_clocks_show, setting_is, sizes_are, steady}
 use Rattle.precision_law.proofs.words.Blocks.{before_narrow, clique_point, earlier_in_block, looking_by, master_is_end, not_turned_on_then, turned_at}
+use Rattle.run_law.specs.timed.Dispatching.{Sends}
 use Rattle.run_law.specs.declared.judgement.Why.TheVariants as whys
 use Rattle.run_law.specs.declared.note.NoteBody.TheVariants as notes
-use Rattle.run_law.specs.timed.Dispatching.{Sends}
-use Rattle.precision_law.proofs.block.Coming.{early_show, set_before}
+use Rattle.precision_law.proofs.block.Coming.{set_before}
+use Rattle.precision_law.proofs.block.Goings.{early_show}
 use Rattle.precision_law.proofs.block.Onward.{hull_ordered}
 
 -- ---- a device that begins on stays synchronised while it comes to no clique

@@ -1,9 +1,9 @@
 -- What each instant of a block brings, from what frames are heard.
-use Rattle.precision_law.proofs.words.Std.{◌+◌, ◌-◌, ◌<ℤ◌, ◌<◌, ◌≡◌, ◌≤ℤ◌, ◌≤◌, Some, ap, arith, cases_lt, inl, inr, ints, pos, refl, subst, suc, sym, zero, ℕ, ℤ}
+use Rattle.precision_law.proofs.words.Std.{◌*◌, ◌+ℤ◌, ◌+◌, ◌-◌, ◌<ℤ◌, ◌<◌, ◌≡◌, ◌≤ℤ◌, ◌≤◌, ◌⊎◌, Some, ap, arith, cases_lt, inl, inr, ints, pos, refl, subst, suc, sym, zero, ℕ, ℤ}
 use Rattle.precision_law.proofs.words.Plans.{Channel, DeviceId, Members, count_of}
-use Rattle.precision_law.proofs.words.Runs.{Happening, Judgement, cycle_in, expected_by, members_in, same_some, time_of}
-use Rattle.precision_law.proofs.words.Laws.{BasesAreInHulls, BlockGoesSo, EmissionsAreOfDispatches, HeardFramesAreTimely, HeardInTheirBlocks, HearingsAreOfFrames, HearsBy, Hull, IsDispatch, IsInHull, IsNarrow, IsNarrowIfThere, IsNearHull, IsOfHearer, IsTidyBefore, IsTimely, IsView, Stands, ThreeHaveGood, View, base_of, first_correction, hull_of}
-use Rattle.precision_law.proofs.words.Clocks.{instants_are_in_order, room}
+use Rattle.precision_law.proofs.words.Runs.{Happening, Judgement, channel_of, cycle_in, earlier, expected_by, members_in, same_some, time_of}
+use Rattle.precision_law.proofs.words.Laws.{AreGood, BasesAreInHulls, BlockGoesSo, EmissionsAreOfDispatches, HasGood, HasTimeAt, HeardFramesAreTimely, HeardInTheirBlocks, HearingsAreOfFrames, HearsBy, Hull, IsDispatch, IsEmission, IsInHull, IsNarrow, IsNearHull, IsOfHearer, IsTidyBefore, IsTimely, IsView, Stands, ThreeHaveGood, View, base_of, epoch_time, first_correction, first_dispatch, hull_of, start_hull}
+use Rattle.precision_law.proofs.words.Clocks.{instants_are_in_order, room, time_stays}
 use Rattle.precision_law.proofs.law.Together.{block_ends, follows_before}
 
 -- ---- laws of frames
@@ -36,6 +36,11 @@ known_dispatch v n t before went h device cycle dispatch lt =
 
 pub tidy : (v : View) (n t : ℕ) (before : Stands v n) → WentSo v n before t → IsTidyBefore v t
 tidy v n t before went h device cycle dispatch lt = (known_dispatch v n t before went h device cycle dispatch lt).1
+
+-- a device that has the time has had it since its clock was set
+pub had_time : (v : View) (device : DeviceId) (u t : ℕ) → IsView v → u ≤ t → epoch_time (earlier t v.records) device <ℤ pos u → HasTimeAt v device t
+    → HasTimeAt v device u
+had_time v device u t is le old has = record { good = has.good; timed = time_stays v device u t is le old has.timed }
 
 -- ---- corrections of earlier cycles
 
@@ -70,58 +75,98 @@ corrections_before v (suc c) k before w is le at =
     let order = instants_are_in_order v.sizes there.0 before.hull (room v is) there.2 (follows_before v c there.0 before.hull is there.1 before.is_hull) in
     omega (arith, ints, low, block_ends v c before.next there.0 there.1 before.is_over, order.corrections)
 
--- ---- a frame of the block
+-- a block begins before an old clock comes to the correction point of its cycle
+pub early_show : (v : View) (n : ℕ) (before : Stands v n) → IsView v
+    → pos before.next ≤ℤ (before.hull.least +ℤ pos (v.sizes.correction + v.sizes.spread + 3 * v.sizes.reach + 1))
+early_show v zero before is =
+    let same : start_hull v.sizes ≡ before.hull = same_some (hull_of v zero) (start_hull v.sizes) before.hull refl before.is_hull in
+    omega (arith, ints, before.is_over, ap (λ (w : Hull). w.least) same, (room v is).errors.spread_is)
+early_show v (suc c) before is =
+    let one = before.narrow c (omega arith) in
+    let order = instants_are_in_order v.sizes one.0 before.hull (room v is) one.2 (follows_before v c one.0 before.hull is one.1 before.is_hull) in
+    omega (arith, ints, block_ends v c before.next one.0 one.1 before.is_over, order.last_not_late)
 
--- the frame that the device heard by the record is of the block's cycle and comes in time
-pub record IsOfBlock (v : View) (n : ℕ) (before : Stands v n) (device : DeviceId) (point : ℤ) (h : Happening) : Type 0 where
-  pub of_cycle : cycle_in h ≡ suc n
-  pub hull : Hull
-  pub is_hull : hull_of v (suc n) ≡ Some hull
-  pub base : ℤ
-  pub near : IsNearHull v.sizes hull base
-  pub timely : IsTimely v.sizes (v.scenario.reading device) base (time_of h) point (expected_by v.scenario.network device)
-  pub not_early : hull.least ≤ℤ pos (time_of h)
-  pub not_late : pos (time_of h) <ℤ first_correction v.sizes before.hull
+-- it begins before the dispatches of its cycle
+pub next_first : (v : View) (n : ℕ) (before : Stands v n) → IsView v → pos before.next ≤ℤ first_dispatch v.sizes before.hull
+next_first v n before is = omega (arith, ints, early_show v n before is, room v is)
 
--- it comes behind the first corrections of the earlier cycles
+-- the time lies behind the first corrections of the earlier cycles
 abbrev pub IsLate : View → ℕ → ℕ → Type 0
 IsLate v n q = (k : ℕ) (w : Hull) → suc k ≤ n → hull_of v k ≡ Some w → first_correction v.sizes w ≤ℤ pos q
 
-pub of_block : FramesGoSo → (v : View) (n t : ℕ) (before : Stands v n) (device : DeviceId) (channel : Channel) (point : ℤ) (judgement : Judgement)
-    (h : Happening) → IsView v → WentSo v n before t → IsOfHearer judgement → HearsBy v device channel point judgement h
-    → 3 ≤ count_of (record { 0 = members_in h }) → time_of h ≤ t → IsLate v n (time_of h)
-    → IsOfBlock v n before device point h
-of_block laws v n t before device channel point judgement h is went hearer hears enough le late =
-    let members : Members = record { 0 = members_in h } in
-    let heard = laws.hearings v device channel point judgement h is hearer hears in
-    let emission = heard.0 in
-    let tidy_e : IsTidyBefore v (time_of emission) = λ g d c dispatch lt. (tidy v n t before went) g d c dispatch (omega (arith, lt, heard.2, le)) in
-    let good = laws.three v emission heard.1.cm (cycle_in h) members is heard.1.emission enough in
-    let sent = laws.dispatched v emission heard.1.cm (cycle_in h) members is heard.1.emission good in
-    let known = known_dispatch v n t before went sent.first sent.master (cycle_in h) sent.dispatch (omega (arith, sent.before, heard.2, le)) in
-    let narrow : (c : ℕ) → cycle_in h ≡ suc c → IsNarrowIfThere v c = λ c same hull at. narrow_at v n c before hull (omega (arith, same, known.0)) at in
-    let block = laws.in_blocks v device channel (cycle_in h) members emission (time_of h) point (expected_by v.scenario.network device) is tidy_e good narrow
-    heard.1 in
-    let base = laws.bases v emission heard.1.cm (cycle_in h) members is heard.1.emission tidy_e (inl enough) in
-    let timely = laws.timely v device channel (cycle_in h) members emission (time_of h) point (expected_by v.scenario.network device) is heard.1 in
-    let same : cycle_in h ≡ suc n =
-    elim (cases_lt block.follows n) [
-      | inl lt ↦ (let after = late block.follows block.before (omega arith) block.is_before in absurd (omega (arith, ints, after, block.not_late)))
-      | inr ge ↦ omega (arith, ge, block.is_next, known.0)
-    ] in
-    let follows : block.follows ≡ n = omega (arith, same, block.is_next) in
-    let hull_n : hull_of v n ≡ Some block.before = subst (λ (c : ℕ). hull_of v c ≡ Some block.before) follows block.is_before in
-    let one : block.before ≡ before.hull = same_some (hull_of v n) block.before before.hull hull_n before.is_hull in
-    let hull_next : hull_of v (suc n) ≡ Some block.hull = subst (λ (c : ℕ). hull_of v c ≡ Some block.hull) same block.is_hull in
-    let two : base.hull ≡ block.hull = same_some (hull_of v (cycle_in h)) base.hull block.hull base.is block.is_hull in
-    let near : IsNearHull v.sizes base.hull (base_of v.sizes (time_of emission)) = record { least = base.least; most = base.most } in
-    record {
-      of_cycle = same;
-      hull = block.hull;
-      is_hull = hull_next;
-      base = base_of v.sizes (time_of emission);
-      near = subst (λ (w : Hull). IsNearHull v.sizes w (base_of v.sizes (time_of emission))) two near;
-      timely = timely;
-      not_early = block.not_early;
-      not_late = subst (λ (w : Hull). pos (time_of h) <ℤ first_correction v.sizes w) one block.not_late;
-    }
+-- what comes behind the beginning of the block is late
+pub late_from : (v : View) (n q : ℕ) (before : Stands v n) → IsView v → before.next ≤ q → IsLate v n q
+late_from v n q before is le k w few at = (let early = corrections_before v n k before w is few at in omega (arith, ints, early, le))
+
+-- ---- a frame of the block
+
+-- the members of the frame that the record brings
+abbrev pub members_by : Happening → Members
+members_by h = record { 0 = members_in h }
+
+-- the record by which a compression master of the channel sends a frame of the cycle behind n with a good member
+pub record IsSentOn (v : View) (n : ℕ) (channel : Channel) (members : Members) (h : Happening) : Type 0 where
+  pub cm : DeviceId
+  pub emission : IsEmission v h cm (suc n) members
+  pub of_channel : channel_of v.scenario.network cm ≡ Some channel
+  pub good : HasGood v members
+
+-- what the device heard by the record is a frame of the block's cycle that was sent so, and comes in time
+pub record IsGoodHearing (v : View) (n : ℕ) (before : Stands v n) (device : DeviceId) (channel : Channel) (point : ℤ) (h : Happening) : Type 0 where
+  pub of_cycle : cycle_in h ≡ suc n
+  pub emission : Happening
+  pub sent : IsSentOn v n channel (members_by h) emission
+  pub in_order : time_of emission ≤ time_of h
+  pub timely : IsTimely v.sizes (v.scenario.reading device) (base_of v.sizes (time_of emission)) (time_of h) point (expected_by v.scenario.network device)
+  pub hull : Hull
+  pub is_hull : hull_of v (suc n) ≡ Some hull
+  pub not_early : hull.least ≤ℤ pos (time_of h)
+  pub not_late : pos (time_of h) <ℤ first_correction v.sizes before.hull
+
+module _ (laws : FramesGoSo) (v : View) (n t : ℕ) (before : Stands v n) (is : IsView v) (went : WentSo v n before t) (device : DeviceId) (channel : Channel)
+    (point : ℤ) (h : Happening) (le : time_of h ≤ t) where
+  -- what a device hears late, of a frame with a good member, is such
+  pub good_hearing : (judgement : Judgement) → IsOfHearer judgement → HearsBy v device channel point judgement h → IsLate v n (time_of h)
+      → ((e : Happening) (cm : DeviceId) → IsEmission v e cm (cycle_in h) (members_by h) → HasGood v (members_by h))
+      → IsGoodHearing v n before device channel point h
+  good_hearing judgement hearer hears late has_good =
+      let heard = laws.hearings v device channel point judgement h is hearer hears in
+      let emission = heard.0 in
+      let expected = expected_by v.scenario.network device in
+      let good = has_good emission heard.1.cm heard.1.emission in
+      let sent = laws.dispatched v emission heard.1.cm (cycle_in h) (members_by h) is heard.1.emission good in
+      let known = known_dispatch v n t before went sent.first sent.master (cycle_in h) sent.dispatch (omega (arith, sent.before, heard.2, le)) in
+      let block = laws.in_blocks v device channel (cycle_in h) (members_by h) emission (time_of h) point expected is
+      (λ g d c dispatch lt. tidy v n t before went g d c dispatch (omega (arith, lt, heard.2, le))) good
+      (λ c same hull at. narrow_at v n c before hull (omega (arith, same, known.0)) at) heard.1 in
+      let same : cycle_in h ≡ suc n = elim (cases_lt block.follows n) [
+        | inl lt ↦ (let after = late block.follows block.before (omega arith) block.is_before in absurd (omega (arith, ints, after, block.not_late)))
+        | inr ge ↦ omega (arith, ge, block.is_next, known.0)
+      ] in
+      let follows : block.follows ≡ n = omega (arith, same, block.is_next) in
+      let hull_n = subst (λ (c : ℕ). hull_of v c ≡ Some block.before) follows block.is_before in
+      record {
+        of_cycle = same;
+        emission = emission;
+        sent = record {
+          cm = heard.1.cm;
+          emission = subst (λ (c : ℕ). IsEmission v emission heard.1.cm c (members_by h)) same heard.1.emission;
+          of_channel = heard.1.of_channel;
+          good = good;
+        };
+        in_order = heard.2;
+        timely = laws.timely v device channel (cycle_in h) (members_by h) emission (time_of h) point expected is heard.1;
+        hull = block.hull;
+        is_hull = subst (λ (c : ℕ). hull_of v c ≡ Some block.hull) same block.is_hull;
+        not_early = block.not_early;
+        not_late = subst (λ (w : Hull). pos (time_of h) <ℤ first_correction v.sizes w) (same_some _ _ _ hull_n before.is_hull) block.not_late;
+      }
+
+  -- the base of one of three members, or of good ones alone, lies in the hull
+  pub near_hull : (g : IsGoodHearing v n before device channel point h) → (3 ≤ count_of (members_by h)) ⊎ AreGood v (members_by h)
+      → IsNearHull v.sizes g.hull (base_of v.sizes (time_of g.emission))
+  near_hull g enough =
+      let base = laws.bases v g.emission g.sent.cm (suc n) (members_by h) is g.sent.emission
+      (λ x d c dispatch early. tidy v n t before went x d c dispatch (omega (arith, early, g.in_order, le))) enough in
+      subst (λ (w : Hull). IsNearHull v.sizes w (base_of v.sizes (time_of g.emission))) (same_some _ _ _ base.is g.is_hull)
+      (record { least = base.least; most = base.most })

@@ -4,8 +4,8 @@ use Rattle.precision_law.proofs.words.Plans.{DeviceId, int_le-true}
 use Rattle.precision_law.proofs.words.Runs.{Happening, IsIn, NoteBody, in_filter, is_broken, same_some, time_of}
 use Rattle.precision_law.proofs.words.Laws.{Follows, Hull, IsDispatch, IsInHull, View, first_dispatch, hull_of, hull_over, is_dispatch, last_dispatch, widened}
 use Rattle.run_law.specs.declared.note.NoteBody.TheVariants as notes
-use Rattle.precision_law.proofs.records.Times.{in_kept, passes}
 use Rattle.precision_law.proofs.Plain.{never_some}
+use Rattle.precision_law.proofs.records.Times.{in_kept, passes}
 
 -- ---- widening
 

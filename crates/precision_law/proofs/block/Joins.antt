@@ -3,7 +3,7 @@ use Rattle.precision_law.proofs.words.Std.{◌*ℤ◌, ◌*◌, ◌+◌, ◌-ℤ
 use Rattle.precision_law.proofs.words.Plans.{Channel, Cm, Device, DeviceId, Integrating, IsDeviceInRange, Joints, Link, LinkId, Members, Network, Off, Opened, Pcf, Point, Role, State, SyncPlan, Taken, Units, all_at, amount, compression_time, count_of, device_at, expected_at, is_end_system, link_at, opened, target_by}
 use Rattle.precision_law.proofs.words.Runs.{Happening, Integrates, IsArrivedRecord, IsCaused, IsCollectedOrDropped, IsDue, IsFounded, IsIn, IsPermanenceOutcome, NoteBody, Reason, adjustment_with, channel_of, channel_of_link, cycle_in, expected_by, founded_at, frame_by, heard_as, heard_by_schedule, heard_enough, is_cm, is_cm_role, is_joined_by, last_cycle, members_in, numbered, numbered_in, observation_window, place_of, plan_of, ripe_by_role, same_judgement}
 use Rattle.precision_law.proofs.words.Laws.{HearsBy, IsView, View, setting}
-use Rattle.precision_law.proofs.words.Clocks.{device_of, same_device, sizes_are, some_of}
+use Rattle.precision_law.proofs.words.Clocks.{device_of, passes, same_device, sizes_are, some_of}
 use Rattle.run_law.specs.declared.note.NoteBody.TheVariants as notes
 use Rattle.run_law.specs.declared.steps.Ripe.TheVariants as ripe
 

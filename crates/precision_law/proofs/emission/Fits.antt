@@ -1,9 +1,9 @@
 -- What the clocks of a block show of the frames of its cycle: a compression master takes them, and who hears them finds
 -- them within the precision.
-use Rattle.precision_law.proofs.words.Std.{◌%◌, ◌&&◌, ◌*◌, ◌+ℤ◌, ◌+◌, ◌-ℤ◌, ◌-◌, ◌/◌, ◌<◌, ◌∙◌, ◌∷◌, ◌≡◌, ◌≤ℤ◌, ◌≤◌, Bool, None, [], ap, arith, div-mul-add, false, if◌then◌else◌, int_div_euclid, int_le, int_lt, int_rem_euclid_is, ints, le-ltb, mod-mul-add, nat_le, not, pos, refl, subst, suc, sym, true, ℕ, ℤ}
+use Rattle.precision_law.proofs.words.Std.{◌%◌, ◌&&◌, ◌*◌, ◌+ℤ◌, ◌+◌, ◌-ℤ◌, ◌-◌, ◌/◌, ◌<◌, ◌∙◌, ◌∷◌, ◌≡◌, ◌≤ℤ◌, ◌≤◌, Bool, None, [], ap, arith, div-mul-add, false, int_div_euclid, int_le, int_lt, int_rem_euclid_is, ints, le-ltb, mod-mul-add, nat_le, not, pos, refl, subst, suc, sym, true, ℕ, ℤ}
 use Rattle.precision_law.proofs.words.Plans.{Joining, Members, Network, State, SyncPlan, Synchronised, amount, expected_at, int_le-true}
-use Rattle.precision_law.proofs.words.Runs.{Cycle, Gate, Outside, Reason, Within, dispatch_value, first_reason, heard_as, is_number, is_synchronised, last_cycle, offset_in_cycle, point_fault}
-use Rattle.precision_law.proofs.words.Laws.{HaveRoom, Hull, IsNarrow, IsNearHull, IsTimely, IsView, ShowsIn, Sizes, View, first_dispatch, last_dispatch}
+use Rattle.precision_law.proofs.words.Runs.{Cycle, Gate, Reason, Within, dispatch_value, first_reason, heard_as, is_number, is_synchronised, last_cycle, offset_in_cycle, point_fault}
+use Rattle.precision_law.proofs.words.Laws.{HaveRoom, Hull, IsNarrow, IsNearHull, IsTimely, IsView, ShowsIn, Sizes, View, first_dispatch, has_time, last_dispatch}
 use Rattle.precision_law.proofs.words.Clocks.{natural, natural_of, one_more, room, sizes_are}
 
 -- ---- numbers
@@ -97,25 +97,10 @@ no_point_fault v state adjustment point cycle is within =
 
 -- ---- what is heard within the precision
 
-in_bounds : (a b : ℤ) (p : ℤ) → (a -ℤ p) ≤ℤ b → b ≤ℤ (a +ℤ p) → (int_le (a -ℤ p) b && int_le b (a +ℤ p)) ≡ true
-in_bounds a b p low high = ap (λ (x : Bool). x && int_le b (a +ℤ p)) (int_le-true (a -ℤ p) b low) ∙ int_le-true b (a +ℤ p) high
-
 -- who has a common time hears it so
-pub heard_as_within : (plan : SyncPlan) (precision : ℤ) (state : State) (adjustment point : ℤ) (cycle : ℕ) (members : Members)
-    → (nat_le cycle last_cycle ≡ true) → (expected_at plan cycle -ℤ precision) ≤ℤ (point +ℤ adjustment)
-    → (point +ℤ adjustment) ≤ℤ (expected_at plan cycle +ℤ precision)
-    → ((state ≡ Synchronised → heard_as plan precision state adjustment point cycle members ≡ Within)
-    × (state ≡ Joining → heard_as plan precision state adjustment point cycle members ≡ Within))
-heard_as_within plan precision state adjustment point cycle members few low high =
-    let fits = in_bounds (expected_at plan cycle) (point +ℤ adjustment) precision low high in (
-      λ e. ap (λ (s : State). heard_as plan precision s adjustment point cycle members) e
-          ∙ by (nat_le cycle last_cycle) (int_le (expected_at plan cycle -ℤ precision) (point +ℤ adjustment)
-          && int_le (point +ℤ adjustment) (expected_at plan cycle +ℤ precision)) few fits,
-      λ e. ap (λ (s : State). heard_as plan precision s adjustment point cycle members) e
-          ∙ by (nat_le cycle last_cycle) (int_le (expected_at plan cycle -ℤ precision) (point +ℤ adjustment)
-          && int_le (point +ℤ adjustment) (expected_at plan cycle +ℤ precision)) few fits,
-    )
-  where
-    by : (a b : Bool) → a ≡ true → b ≡ true → (if (a && b) then Within else Outside) ≡ Within
-    by true true x y = refl
-    by a b x y = absurd cc
+pub heard_as_within : (plan : SyncPlan) (precision : ℤ) (state : State) (adjustment point : ℤ) (cycle : ℕ) (members : Members) → has_time state ≡ true
+    → nat_le cycle last_cycle ≡ true → (expected_at plan cycle -ℤ precision) ≤ℤ (point +ℤ adjustment)
+    → (point +ℤ adjustment) ≤ℤ (expected_at plan cycle +ℤ precision) → heard_as plan precision state adjustment point cycle members ≡ Within
+heard_as_within plan precision Joining adjustment point cycle members timed few low high = rw (few, int_le-true _ _ low, int_le-true _ _ high) refl
+heard_as_within plan precision Synchronised adjustment point cycle members timed few low high = rw (few, int_le-true _ _ low, int_le-true _ _ high) refl
+heard_as_within plan precision state adjustment point cycle members timed few low high = absurd cc

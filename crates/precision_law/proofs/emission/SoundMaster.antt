@@ -5,12 +5,12 @@ use Rattle.precision_law.proofs.words.Runs.{Happening, IsDue, IsFounded, IsIn, I
 use Rattle.precision_law.proofs.words.Laws.{BlocksGoSo, Hull, IsEmission, IsFirstMaster, IsInBlock, IsInHull, IsView, SendsSo, SoundMasterSends, View, first_correction, hull_of, last_dispatch}
 use Rattle.precision_law.proofs.words.Clocks.{IsSentAt, all_by, contains, enough_masters, frames_come_first, in_filter_map, is_sent, natural_of, place_of_sent, room, sent_at, sound_switches_begin_on, steady, switches_are_good}
 use Rattle.precision_law.proofs.words.Blocks.{IsWitness, bases_are_in_hulls, before_narrow, cluster_was, follows_before, gives_point, is_held, later_point, read_at}
-use Rattle.precision_law.proofs.block.Coming.{early_show}
 use Rattle.precision_law.proofs.block.Dispatched.{IsCalm}
+use Rattle.precision_law.proofs.block.Goings.{early_show}
+use Rattle.precision_law.proofs.block.Onward.{hull_ordered}
 use Rattle.precision_law.proofs.emission.Clustered.{HasAll, by_then, emerges, has_all, known, ordered, points, points_all, up_to}
 use Rattle.precision_law.proofs.emission.Emerging.{sent_in_time}
 use Rattle.precision_law.proofs.emission.Senders.{cm_is, first_master, sound_cm}
-use Rattle.precision_law.proofs.block.Onward.{hull_ordered}
 
 -- ---- numbers
 

@@ -4,12 +4,12 @@ use Rattle.precision_law.proofs.words.Plans.{Channel, DeviceId, HeardFrame, Hear
 use Rattle.precision_law.proofs.words.Runs.{Happening, IsIn, Judgement, NoteBody, Outside, Scenario, Within, adjustment_after, changes_adjustment, channel_of, channel_of_link, correction_value, cycle_in, has_cleared, heard_by, heard_since, hearing_by, in_filter, in_left, in_parts, in_right, is_integration_cycle, members_in, next_cycle, recorded_cycle, time_of}
 use Rattle.precision_law.proofs.words.Laws.{AreBeforeCorrections, HearsBy, IsOfHearer, IsView, View, last_setting}
 use Rattle.run_law.specs.declared.note.NoteBody.TheVariants as notes
+use Rattle.precision_law.proofs.Plain.{mapped}
 use Rattle.precision_law.proofs.clocks.Epochs.{same_device}
 use Rattle.precision_law.proofs.records.Behind.{behind_last, in_filter_map}
 use Rattle.precision_law.proofs.records.Points.{earlier_before}
 use Rattle.precision_law.proofs.records.Times.{AreSorted, passes}
 use Rattle.precision_law.proofs.records.Views.{in_order}
-use Rattle.precision_law.proofs.Plain.{mapped}
 
 -- ---- what depends on earlier records alone
 

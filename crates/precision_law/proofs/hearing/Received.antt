@@ -7,9 +7,9 @@ use Rattle.precision_law.proofs.words.Laws.{BlocksGoSo, HearsBy, Hull, IsBrought
 use Rattle.precision_law.proofs.words.Clocks.{IsRipeArrival, before_of, before_place, child_not_parent, cm_is_no_end, device_of, device_of_place, earlier_before, emission_shows, frames_come_first, is_heard_of, place_of_ripe, receiver_down, room, switches_are_good, time_stays}
 use Rattle.precision_law.proofs.words.Blocks.{AreUpTo, EndsSo, before_narrow, cm_of, earlier_in_block, ends_so, follows_before, hears_as_at, not_turned_on_then, one_cm, sound_frames_go_down}
 use Rattle.run_law.specs.declared.note.NoteBody.TheVariants as notes
-use Rattle.precision_law.proofs.hearing.GoodFrames.{next_first}
+use Rattle.precision_law.proofs.block.Goings.{next_first}
+use Rattle.precision_law.proofs.hearing.GoodFrames.{IsAtPoint, sooner}
 use Rattle.precision_law.proofs.trips.Gates.{are_open_from}
-use Rattle.precision_law.proofs.verdict.HeardOutside.{IsAtPoint, sooner}
 
 -- ---- when it is sent
 

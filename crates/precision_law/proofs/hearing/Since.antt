@@ -3,10 +3,9 @@ use Rattle.precision_law.proofs.words.Std.{◌&&◌, ◌++◌, ◌+◌, ◌<◌,
 use Rattle.precision_law.proofs.words.Plans.{DeviceId, Hearing, IsAtIntegration}
 use Rattle.precision_law.proofs.words.Runs.{Happening, IsIn, changes_adjustment, earlier, has_cleared, heard_since, hearing_by, in_parts, in_right, integration_cycle, is_integration_cycle, recorded_cycle, standing_before, time_of}
 use Rattle.precision_law.proofs.words.Laws.{AreBeforeCorrections, HasTimeAt, IsInBlock, IsOldAt, IsView, Stands, View, cycle_set, has_time, is_correction, last_setting, next_of, state_left}
-use Rattle.precision_law.proofs.words.Clocks.{AreSorted, earlier_before, in_earlier, in_kept, in_order, made_in, next_cycle_is_of_last, same_cleared, same_next, settings_stay, sorted_parts, time_stays}
+use Rattle.precision_law.proofs.words.Clocks.{AreSorted, PartsAtLast, after_last_at, after_last_none, all_of, earlier_before, in_earlier, in_kept, in_order, made_in, next_cycle_is_of_last, none, parts_at_last, same_cleared, same_next, settings_stay, some, sorted_parts, time_stays}
 use Rattle.precision_law.proofs.words.Blocks.{cleared_from, had_cleared, joining_from, joins_none, old_number, sets_none}
-use Rattle.precision_law.proofs.hearing.Hearers.{in_after_last}
-use Rattle.precision_law.proofs.verdict.HeardOutside.{IsAtPoint}
+use Rattle.precision_law.proofs.hearing.GoodFrames.{IsAtPoint}
 
 -- ---- a joiner that has cleared
 
@@ -53,6 +52,22 @@ not_integrating v n t block is device at front split integrates =
     ]
 
 -- ---- what is heard since the last point
+
+-- an element that stands behind each of the kind stands behind the last
+in_after_last : {X : Type 0} (p : X → Bool) (xs : List X) (x : X) → IsIn x xs
+    → ((front rest : List X) (last : X) → xs ≡ front ++ last ∷ rest → p last ≡ true → IsIn x front ⊎ (x ≡ last) → ⊥) → IsIn x (after_last p xs)
+in_after_last {X} p xs x i apart = by (parts_at_last p xs)
+  where
+    behind : (front rest : List X) (last : X) → xs ≡ front ++ last ∷ rest → p last ≡ true → IsIn x front ⊎ IsIn x (last ∷ rest) → IsIn x rest
+    behind front rest last whole hit (inl f) = absurd (apart front rest last whole hit (inl f))
+    behind front rest last whole hit (inr (inl same)) = absurd (apart front rest last whole hit (inr same))
+    behind front rest last whole hit (inr (inr more)) = more
+
+    by : PartsAtLast p xs → IsIn x (after_last p xs)
+    by (none all) = subst (IsIn x) (sym (after_last_none p xs (all_of (λ (y : X). not (p y) ≡ true) xs (λ y j. ap not (all y j))))) i
+    by (some front rest last whole hit all) =
+        let at = ap (after_last p) whole ∙ after_last_at p front last rest hit (all_of (λ (y : X). not (p y) ≡ true) rest (λ y j. ap not (all y j))) in
+        subst (IsIn x) (sym at) (behind front rest last whole hit (in_parts x front (last ∷ rest) (subst (IsIn x) whole i)))
 
 -- what is of an earlier time is in the part before the corrections of a time
 pub in_part : (v : View) (t : ℕ) (front : List Happening) (h : Happening) → AreBeforeCorrections v t front → IsIn h v.records → time_of h < t → IsIn h front

@@ -5,12 +5,12 @@ use Rattle.precision_law.proofs.words.Runs.{Gives, Happening, IsCaused, IsChain,
 use Rattle.precision_law.proofs.words.Laws.{EmissionsAreSharp, HeardFramesAreTimely, IsEmission, IsFromAfar, IsHeard, IsTimely, IsTrip, IsView, Leg, View, base_of, clock_in, links_back}
 use Rattle.precision_law.proofs.words.Clocks.{frames_down_are_of_cms, natural, permanence_is_sharp, sizes_are, steady}
 use Rattle.net_plan.proofs.Amounts.{amount_within}
-use Rattle.run_law.specs.declared.note.NoteBody.TheVariants as notes
 use Rattle.run_law.specs.records.Causes.{last_from}
 use Rattle.transparent_clock.proofs.HopLaw.{permanent_in_time}
+use Rattle.run_law.specs.declared.note.NoteBody.TheVariants as notes
+use Rattle.precision_law.proofs.Plain.{device_of, mapped}
 use Rattle.precision_law.proofs.block.Joins.{cm_channel}
 use Rattle.precision_law.proofs.trips.Travels.{GivesDown, adds_up, jitter_back, jitter_of_legs, last_young, many_back, path_down}
-use Rattle.precision_law.proofs.Plain.{device_of, mapped}
 
 -- ---- chains of causes
 

@@ -1,5 +1,5 @@
 -- What is proved of blocks, and is cited further on, passed on from one place. Declares nothing.
-pub use Rattle.precision_law.proofs.block.Goings.{FramesGoSo, IsLate, IsOfBlock, WentSo, corrections_before, corrections_go_on, known_dispatch, narrow_at, of_block, tidy}
+pub use Rattle.precision_law.proofs.block.Goings.{FramesGoSo, IsGoodHearing, IsLate, IsSentOn, WentSo, corrections_go_on, good_hearing, known_dispatch, late_from, members_by, near_hull, tidy}
 pub use Rattle.precision_law.proofs.block.Halving.{HasDispatched, IsReachedBy, has_dispatched, high_by, hulls_are_narrow, in_next, low_by, master_is_end, shared_near, start_near, synchronised_is}
 pub use Rattle.precision_law.proofs.block.Joins.{expected_is, expected_late, joins}
 pub use Rattle.precision_law.proofs.block.Starts.{stands_at_start}
