@@ -1,9 +1,11 @@
 -- What each instant of a block brings, from what frames are heard.
-use Rattle.precision_law.proofs.words.Std.{◌*◌, ◌+ℤ◌, ◌+◌, ◌-◌, ◌<ℤ◌, ◌<◌, ◌≡◌, ◌≤ℤ◌, ◌≤◌, ◌⊎◌, Some, ap, arith, cases_lt, inl, inr, ints, pos, refl, subst, suc, sym, zero, ℕ, ℤ}
-use Rattle.precision_law.proofs.words.Plans.{Channel, DeviceId, Members, count_of}
-use Rattle.precision_law.proofs.words.Runs.{Happening, Judgement, channel_of, cycle_in, earlier, expected_by, members_in, same_some, time_of}
-use Rattle.precision_law.proofs.words.Laws.{AreGood, BasesAreInHulls, BlockGoesSo, EmissionsAreOfDispatches, HasGood, HasTimeAt, HeardFramesAreTimely, HeardInTheirBlocks, HearingsAreOfFrames, HearsBy, Hull, IsDispatch, IsEmission, IsInHull, IsNarrow, IsNearHull, IsOfHearer, IsTidyBefore, IsTimely, IsView, Stands, ThreeHaveGood, View, base_of, epoch_time, first_correction, first_dispatch, hull_of, start_hull}
-use Rattle.precision_law.proofs.words.Clocks.{instants_are_in_order, room, time_stays}
+use Rattle.precision_law.proofs.words.Std.{◌*◌, ◌+ℤ◌, ◌+◌, ◌-◌, ◌<ℤ◌, ◌<◌, ◌∙◌, ◌≡◌, ◌≤ℤ◌, ◌≤◌, ◌⊎◌, Some, ap, arith, cases_lt, inl, inr, ints, pos, refl, subst, suc, sym, true, zero, ℕ, ℤ}
+use Rattle.precision_law.proofs.words.Plans.{Channel, Cleared, Corrected, DeviceId, Members, State, Units, Verdict, count_of}
+use Rattle.precision_law.proofs.words.Runs.{ComesToCorrection, Happening, IsCaused, IsFoundedAt, IsIn, Judgement, NoteBody, Why, changes_adjustment, channel_of, cycle_in, earlier, expected_by, founded_at, members_in, same_some, time_of, timed}
+use Rattle.precision_law.proofs.words.Laws.{AreGood, BasesAreInHulls, BlockGoesSo, ComesTo, EmissionsAreOfDispatches, HasGood, HasTimeAt, HeardFramesAreTimely, HeardInTheirBlocks, HearingsAreOfFrames, HearsBy, Hull, IsClique, IsDispatch, IsEmission, IsGood, IsInHull, IsNarrow, IsNearHull, IsOfHearer, IsOldAt, IsPointOf, IsTidyBefore, IsTimely, IsView, Stands, ThreeHaveGood, View, adjustment_left, base_of, epoch_time, first_correction, first_dispatch, hull_of, is_correction, start_hull}
+use Rattle.precision_law.proofs.words.Clocks.{before_of, instants_are_in_order, point_timed, room, same_adjustment, same_device, time_stays}
+use Rattle.run_law.specs.declared.note.NoteBody.TheVariants as notes
+use Rattle.precision_law.proofs.law.Precision.{clique_point}
 use Rattle.precision_law.proofs.law.Together.{block_ends, follows_before}
 
 -- ---- laws of frames
@@ -41,6 +43,84 @@ tidy v n t before went h device cycle dispatch lt = (known_dispatch v n t before
 pub had_time : (v : View) (device : DeviceId) (u t : ℕ) → IsView v → u ≤ t → epoch_time (earlier t v.records) device <ℤ pos u → HasTimeAt v device t
     → HasTimeAt v device u
 had_time v device u t is le old has = record { good = has.good; timed = time_stays v device u t is le old has.timed }
+
+-- ---- the points that records show
+
+-- a point to which a good device comes, and at which it does not only clear
+pub record HasPoint (v : View) (t : ℕ) (device : DeviceId) (cycle : ℕ) (verdict : Verdict) : Type 0 where
+  pub has : HasTimeAt v device t
+  pub comes : ComesTo v t device cycle verdict
+  pub not_cleared : verdict ≡ Cleared → ⊥
+
+-- the device's clock was set before the block then, and the point is that of the block
+pub old_point : (v : View) (n next t : ℕ) (before : Hull) (device : DeviceId) (cycle : ℕ) (verdict : Verdict) → BlockGoesSo v n next t before
+    → HasPoint v t device cycle verdict → IsOldAt v next device t × IsPointOf v n t before cycle
+old_point v n next t before device cycle verdict so p =
+    let old = so.old_alone device cycle verdict p.has p.comes p.not_cleared in
+    (old, so.points device cycle verdict p.has old p.comes)
+
+-- what a record comes of is such a point
+point_of_record : (v : View) (device : DeviceId) (h : Happening) (cycle : ℕ) (verdict : Verdict) → IsView v → IsGood v device
+    → (found : IsFoundedAt v.scenario v.records h) → ComesToCorrection v.scenario found.front device (time_of h) cycle verdict → (verdict ≡ Cleared → ⊥)
+    → HasPoint v (time_of h) device cycle verdict
+point_of_record v device h cycle verdict is good found point not_cleared =
+    let split = before_of v h is found in
+    record {
+      has = record { good = good; timed = point_timed v (time_of h) device cycle verdict found.front split point };
+      comes = record { front = found.front; split = split; point = point };
+      not_cleared = not_cleared;
+    }
+
+-- a correction of the device, with its point
+pub record HasCorrected (v : View) (device : DeviceId) (h : Happening) : Type 0 where
+  pub cycle : ℕ
+  pub by : Units
+  pub adjustment : Units
+  pub is : h.note.body ≡ notes.Corrected device cycle by adjustment
+  pub point : HasPoint v (time_of h) device cycle (Corrected by)
+  pub sum : adjustment.0 ≡ (adjustment_left v device (time_of h) +ℤ by.0)
+
+pub has_corrected : (v : View) (device : DeviceId) (h : Happening) → IsView v → IsGood v device → IsIn h v.records
+    → changes_adjustment device h.note.body ≡ true → is_correction h.note.body ≡ true → HasCorrected v device h
+has_corrected v device h is good i changes corrected =
+    let found = founded_at v.scenario v.records h is.run.founded i in
+    let c = of_body h.note.body changes corrected in
+    let cause = subst (IsCaused v.scenario found.front h.note.time) c.3 found.due.cause in
+    let left = ap (λ (a : Units). a.0) (same_adjustment v device (time_of h) found.front (before_of v h is found)) in
+    record {
+      cycle = c.0;
+      by = c.1;
+      adjustment = c.2;
+      is = c.3;
+      point = point_of_record v device h c.0 (Corrected c.1) is good found cause.corrected (λ z. cc);
+      sum = cause.sum ∙ ap (λ (z : ℤ). z +ℤ c.1.0) left;
+    }
+  where
+    of_body : (body : NoteBody) → changes_adjustment device body ≡ true → is_correction body ≡ true → (cycle : ℕ) × (by : Units) × (adjustment : Units)
+        × (body ≡ notes.Corrected device cycle by adjustment)
+    of_body (notes.Corrected other cycle by adjustment) changes e =
+        (cycle, by, adjustment, ap (λ (d : DeviceId). notes.Corrected d cycle by adjustment) (same_device device other changes))
+    of_body body changes e = absurd cc
+
+-- the loss of the common time, with its point
+pub record HasLost (v : View) (device : DeviceId) (h : Happening) : Type 0 where
+  pub cycle : ℕ
+  pub verdict : Verdict
+  pub point : HasPoint v (time_of h) device cycle verdict
+  pub not_corrected : (by : Units) → verdict ≡ Corrected by → ⊥
+
+pub has_lost : (v : View) (device : DeviceId) (h : Happening) (state : State) (cause : ℕ) (why : Why) → IsView v → IsGood v device → IsIn h v.records
+    → h.note.body ≡ notes.State device state cause why → IsClique why → HasLost v device h
+has_lost v device h state cause why is good i body clique =
+    let found = founded_at v.scenario v.records h is.run.founded i in
+    let c = clique_point v.scenario found.front (time_of h) device state cause why clique (subst (IsCaused v.scenario found.front h.note.time) body
+    found.due.cause) in
+    record {
+      cycle = c.cycle;
+      verdict = c.verdict;
+      point = point_of_record v device h c.cycle c.verdict is good found c.point c.not_cleared;
+      not_corrected = c.not_corrected;
+    }
 
 -- ---- corrections of earlier cycles
 
