@@ -1,10 +1,11 @@
 -- What an old device hears in a block it has heard since its last correction point.
-use Rattle.precision_law.proofs.words.Std.{◌&&◌, ◌++◌, ◌+◌, ◌<◌, ◌||◌, ◌∙◌, ◌∷◌, ◌≡◌, ◌≤◌, ◌⊎◌, Bool, List, None, Option, Some, after_last, and_parts, ap, append_assoc, arith, both_ways, cases_lt, false, filter, if◌then◌else◌, inl, inr, ltb-true, nat_lt, not, option_map_or, refl, subst, suc, sym, true, ℕ}
+use Rattle.precision_law.proofs.words.Std.{◌&&◌, ◌++◌, ◌+◌, ◌<◌, ◌||◌, ◌∙◌, ◌∷◌, ◌≡◌, ◌≤◌, ◌⊎◌, Bool, List, None, Option, Some, after_last, and_parts, ap, append_assoc, arith, both_ways, false, filter, if◌then◌else◌, inl, inr, ltb-true, nat_lt, not, option_map_or, refl, subst, sym, true, ℕ}
 use Rattle.precision_law.proofs.words.Plans.{DeviceId, Hearing, IsAtIntegration}
 use Rattle.precision_law.proofs.words.Runs.{Happening, IsIn, changes_adjustment, earlier, has_cleared, heard_since, hearing_by, in_parts, in_right, integration_cycle, is_integration_cycle, recorded_cycle, standing_before, time_of}
 use Rattle.precision_law.proofs.words.Laws.{AreBeforeCorrections, HasTimeAt, IsInBlock, IsOldAt, IsView, Stands, View, cycle_set, has_time, is_correction, last_setting, next_of, state_left}
-use Rattle.precision_law.proofs.words.Clocks.{AreSorted, PartsAtLast, after_last_at, after_last_none, all_of, earlier_before, in_earlier, in_kept, in_order, made_in, next_cycle_is_of_last, none, parts_at_last, same_cleared, same_next, settings_stay, some, sorted_parts, time_stays}
-use Rattle.precision_law.proofs.words.Blocks.{cleared_from, had_cleared, joining_from, joins_none, old_number, sets_none}
+use Rattle.precision_law.proofs.words.Clocks.{AreSorted, PartsAtLast, after_last_at, after_last_none, all_of, earlier_before, in_kept, in_order, made_in, next_cycle_is_of_last, none, parts_at_last, same_cleared, same_next, settings_stay, some, sorted_parts, time_stays}
+use Rattle.precision_law.proofs.words.Blocks.{cleared_from, had_cleared, old_number, sets_none}
+use Rattle.precision_law.proofs.block.Coming.{never_joined}
 use Rattle.precision_law.proofs.hearing.GoodFrames.{IsAtPoint}
 
 -- ---- a joiner that has cleared
@@ -42,14 +43,9 @@ cleared_then v n q t device before is le from has old cleared =
 pub not_integrating : (v : View) (n t : ℕ) (block : IsInBlock v n t) → IsView v → (device : DeviceId) → IsAtPoint v n t block device → (front : List Happening)
     → AreBeforeCorrections v t front → IsAtIntegration (standing_before v.scenario front device t) → ⊥
 not_integrating v n t block is device at front split integrates =
-    let cycle = ap (λ (hs : List Happening). integration_cycle hs device) (sym (earlier_before v t front split)) ∙ integrates.cycle ∙ ap (λ (c : ℕ). Some c)
-    (same_next v device t front split ∙ (old_number v n t device block.before is block.from at.has at.old)) in
-    let j = joining_from (earlier t v.records) device (suc n) cycle in
-    let back = in_earlier t v.records j.h j.there in
-    elim (cases_lt (time_of j.h) block.before.next) [
-      | inl early ↦ (let low = block.before.joined j.h device back.0 j.joins at.has.good early in let same = j.of_cycle in absurd (omega (arith, low, same)))
-      | inr late ↦ both_ways _ (joins_none v device block.before.next t is block.from at.old j.h back.0 late back.1) j.joins
-    ]
+    never_joined v n t t block.before device is block.from at.has.good at.old (omega arith)
+    (ap (λ (hs : List Happening). integration_cycle hs device) (sym (earlier_before v t front split)) ∙ integrates.cycle
+    ∙ ap (λ (c : ℕ). Some c) (same_next v device t front split ∙ old_number v n t device block.before is block.from at.has at.old))
 
 -- ---- what is heard since the last point
 
