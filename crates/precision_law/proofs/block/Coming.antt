@@ -1,8 +1,8 @@
 -- Correction points come while a block lasts.
 use Rattle.precision_law.proofs.words.Std.{◌*◌, ◌++◌, ◌+ℤ◌, ◌+◌, ◌<ℤ◌, ◌<◌, ◌==◌, ◌∙◌, ◌∷◌, ◌≡◌, ◌≤ℤ◌, ◌≤◌, Bool, List, None, Option, Some, ap, arith, both_ways, by_lt_z, cases_lt, eq-eqb, filter-append, fold, fold-append, if◌then◌else◌, inl, inr, ints, lt-ltb, nat_lt, negsuc, option_map_or, pos, refl, subst, suc, sym, true, ℕ, ℤ}
 use Rattle.precision_law.proofs.words.Plans.{DeviceId, Integrating, State, Units, state_at_start}
-use Rattle.precision_law.proofs.words.Runs.{Happening, IsIn, Reaches, Why, changed_at, changes_adjustment, correction_value, earlier, founded_at, in_left, in_right, integration_cycle, next_cycle, start_of, state_after, state_with, time_of}
-use Rattle.precision_law.proofs.words.Laws.{BlockIsOver, HasTimeAt, IsAnchoredIn, IsGood, IsOldAt, IsView, PointsAreRecorded, PointsHaveCome, Stands, View, adjustment_left, epoch_time, has_time, last_setting, state_left}
+use Rattle.precision_law.proofs.words.Runs.{Happening, IsIn, Reaches, Why, changes_adjustment, correction_value, earlier, founded_at, in_left, in_right, integration_cycle, next_cycle, start_of, state_after, state_with, time_of}
+use Rattle.precision_law.proofs.words.Laws.{BlockIsOver, HasTimeAt, IsAnchoredIn, IsGood, IsOldAt, IsView, PointsAreRecorded, PointsHaveCome, Stands, View, adjustment_left, epoch_time, has_time, last_correction, last_setting, state_left}
 use Rattle.precision_law.proofs.words.Clocks.{AreSorted, adjustment_stays, clocks_have_reached, in_earlier, in_order, keeps, kept_by_all, one_more, room, set_clocks_have_reached, set_clocks_show, settings_stay, sizes_are, sorted_parts, steady}
 use Rattle.precision_law.proofs.words.Blocks.{before_narrow, joining_from, joins_none, old_number, sets_none}
 use Rattle.run_law.specs.declared.note.NoteBody.TheVariants as notes
@@ -56,6 +56,31 @@ pub set_before : (o : Option Happening) (next : ℕ) → option_map_or (λ h. po
 set_before None next early = omega arith
 set_before (Some h) next early = omega (arith, ints, early)
 
+-- an old clock comes in the block to each value of the next cycle that it shows by the last correction
+pub reaches_in_block : (v : View) (n t k : ℕ) (before : Stands v n) (device : DeviceId) → IsView v → HasTimeAt v device before.next → before.next ≤ t
+    → IsOldAt v before.next device t → v.sizes.cycle ≤ k → ((before.hull.greatest +ℤ pos k) +ℤ pos v.sizes.reach) ≤ℤ pos t
+    → pos t ≤ℤ last_correction v.sizes before.hull
+    → (u : ℕ) × (before.next < u) × (u ≤ t) × Reaches v.scenario v.records device (pos (n * v.sizes.cycle + k)) u
+reaches_in_block v n t k before device is has le old behind late most =
+    let reading = v.scenario.reading device in
+    let space = room v is in
+    let set = before.clocks device has in
+    let same = ap (λ (a : Units). a.0) (adjustment_stays v device before.next t is le old) in
+    let anchored = subst (λ (a : ℤ). IsAnchoredIn v.sizes reading a n before.hull set.set_at) same set.anchored in
+    let within : t ≤ set.set_at + 2 * v.sizes.cycle = omega (arith, ints, most, set.not_before, before_narrow v n before, space) in
+    let reached = set_clocks_have_reached v.sizes reading (adjustment_left v device t) n before.hull set.set_at k t space (steady v is device)
+    (omega (arith, set.not_behind, le)) within anchored late in
+    let shows = set_clocks_show v.sizes reading (adjustment_left v device t) n before.hull set.set_at before.next (steady v is device) set.not_behind
+    (omega (arith, within, le)) anchored in
+    let below : (pos (reading before.next) +ℤ adjustment_left v device t) <ℤ pos (n * v.sizes.cycle + k) =
+    omega (arith, ints, shows.most, early_show v n before is, space, behind) in
+    let strict : before.next < t = elim (cases_lt before.next t) [
+      | inl lt ↦ lt
+      | inr ge ↦ (let up = (steady v is device).never_falls t before.next ge in absurd (omega (arith, ints, up, below, reached)))
+    ] in
+    clocks_have_reached v device (pos (n * v.sizes.cycle + k)) before.next t is (set_before (last_setting (earlier t v.records) device) before.next old) strict
+    below reached
+
 -- the instant at which an old device comes to its point
 record ComesThere (v : View) (n : ℕ) (over : BlockIsOver v n) (device : DeviceId) (u : ℕ) : Type 0 where
   pub from : over.before.next < u
@@ -72,41 +97,25 @@ module _ (v : View) (n : ℕ) (over : BlockIsOver v n) (device : DeviceId) (is :
   comes_there =
       let s = v.scenario in
       let before = over.before in
-      let reading = s.reading device in
-      let space = room v is in
       let last = last_of v n over is in
       let t = last.last in
-      let le : before.next ≤ over.next = omega (arith, last) in
-      let set = before.clocks device (had_time v device before.next over.next is le old has) in
-      let early_t : epoch_time (earlier over.next v.records) device <ℤ pos t = omega (arith, ints, old, last.from) in
+      let early = λ (u : ℕ) (from : before.next ≤ u).
+      (let e : epoch_time (earlier over.next v.records) device <ℤ pos u = omega (arith, ints, old, from) in e) in
+      let old_at = λ (u : ℕ) (to : u ≤ over.next) (from : before.next ≤ u). subst
+      (λ (o : Option Happening). option_map_or (λ h. pos (time_of h)) o (negsuc 0) <ℤ pos before.next)
+      (sym (settings_stay v device u over.next is to (early u from))) old in
       let to_t : t ≤ over.next = omega (arith, last.is_last) in
-      let last_t = settings_stay v device t over.next is to_t early_t in
-      let a_next = ap (λ (a : Units). a.0) (adjustment_stays v device before.next over.next is le old) in
-      let a_t = ap (λ (a : Units). a.0) (adjustment_stays v device t over.next is to_t early_t) in
-      let anchored = subst (λ (a : ℤ). IsAnchoredIn v.sizes reading a n before.hull set.set_at) (a_next ∙ sym a_t) set.anchored in
-      let within : t ≤ set.set_at + 2 * v.sizes.cycle = omega (arith, ints, last.at, set.not_before, before_narrow v n before, space) in
-      let reached = set_clocks_have_reached v.sizes reading (adjustment_left v device t) n before.hull set.set_at (v.sizes.cycle + v.sizes.correction) t space
-      (steady v is device) (omega (arith, set.not_behind, last.from)) within anchored (omega (arith, ints, last.at)) in
-      let shows = set_clocks_show v.sizes reading (adjustment_left v device t) n before.hull set.set_at before.next (steady v is device) set.not_behind
-      (omega (arith, within, last.from)) anchored in
-      let value : ℤ = pos (n * v.sizes.cycle + (v.sizes.cycle + v.sizes.correction)) in
-      let below : (pos (reading before.next) +ℤ adjustment_left v device t) <ℤ value = omega (arith, ints, shows.most, early_show v n before is, space) in
-      let strict : before.next < t = elim (cases_lt before.next t) [
-        | inl lt ↦ lt
-        | inr ge ↦ (let up = (steady v is device).never_falls t before.next ge in absurd (omega (arith, ints, up, below, reached)))
-      ] in
-      let changed : changed_at v.records device t ≤ before.next = subst (λ (o : Option Happening). option_map_or time_of o 0 ≤ before.next) (sym last_t)
-      (set_before (last_setting (earlier over.next v.records) device) before.next old) in
-      let found = clocks_have_reached v device value before.next t is changed strict below reached in
+      let le : before.next ≤ over.next = omega (arith, last) in
+      let has_next = had_time v device before.next over.next is le old has in
+      let found = reaches_in_block v n t (v.sizes.cycle + v.sizes.correction) before device is has_next last.from (old_at t to_t last.from) (omega arith)
+      (omega (arith, ints, last.at)) (omega (arith, ints, last.at)) in
       let u = found.0 in
       let to_u : u ≤ over.next = omega (arith, found.2, to_t) in
-      let early_u : epoch_time (earlier over.next v.records) device <ℤ pos u = omega (arith, ints, old, found.1) in
-      let last_u = settings_stay v device u over.next is to_u early_u in
-      let old_u = subst (λ (o : Option Happening). option_map_or (λ h. pos (time_of h)) o (negsuc 0) <ℤ pos before.next) (sym last_u) old in
-      let has_u = had_time v device u over.next is to_u early_u has in
-      let number = old_number v n u device before is (omega (arith, found.1)) has_u old_u in
+      let from_u : before.next ≤ u = omega (arith, found.1) in
+      let has_u = had_time v device u over.next is to_u (early u from_u) has in
+      let number = old_number v n u device before is from_u has_u (old_at u to_u from_u) in
       let product = ap (λ (x : ℕ). next_cycle s v.records device u * x) (sym (sizes_are v is).cycle) ∙ ap (λ (c : ℕ). c * v.sizes.cycle) number in
-      let value_is : value ≡ correction_value s.network (next_cycle s v.records device u) =
+      let value_is : pos (n * v.sizes.cycle + (v.sizes.cycle + v.sizes.correction)) ≡ correction_value s.network (next_cycle s v.records device u) =
       ap pos (omega (arith, product, one_more n v.sizes.cycle, (sizes_are v is).correction)) in (
         u,
         record {

@@ -1,10 +1,11 @@
 -- What each instant of a block brings, from what frames are heard.
-use Rattle.precision_law.proofs.words.Std.{◌*◌, ◌+ℤ◌, ◌+◌, ◌-◌, ◌<ℤ◌, ◌<◌, ◌∙◌, ◌≡◌, ◌≤ℤ◌, ◌≤◌, ◌⊎◌, Some, ap, arith, cases_lt, inl, inr, ints, pos, refl, subst, suc, sym, true, zero, ℕ, ℤ}
-use Rattle.precision_law.proofs.words.Plans.{Channel, Cleared, Corrected, DeviceId, Members, State, Units, Verdict, count_of}
-use Rattle.precision_law.proofs.words.Runs.{ComesToCorrection, Happening, IsCaused, IsFoundedAt, IsIn, Judgement, NoteBody, Why, changes_adjustment, channel_of, cycle_in, earlier, expected_by, founded_at, members_in, same_some, time_of, timed}
-use Rattle.precision_law.proofs.words.Laws.{AreGood, BasesAreInHulls, BlockGoesSo, ComesTo, EmissionsAreOfDispatches, HasGood, HasTimeAt, HeardFramesAreTimely, HeardInTheirBlocks, HearingsAreOfFrames, HearsBy, Hull, IsClique, IsDispatch, IsEmission, IsGood, IsInHull, IsNarrow, IsNearHull, IsOfHearer, IsOldAt, IsPointOf, IsTidyBefore, IsTimely, IsView, Stands, ThreeHaveGood, View, adjustment_left, base_of, epoch_time, first_correction, first_dispatch, hull_of, is_correction, start_hull}
-use Rattle.precision_law.proofs.words.Clocks.{before_of, instants_are_in_order, point_timed, room, same_adjustment, same_device, time_stays}
+use Rattle.precision_law.proofs.words.Std.{◌*◌, ◌+ℤ◌, ◌+◌, ◌-◌, ◌<ℤ◌, ◌<◌, ◌∙◌, ◌∷◌, ◌≡◌, ◌≤ℤ◌, ◌≤◌, ◌⊎◌, List, Some, [], ap, arith, cases_lt, inl, inr, ints, pos, refl, subst, suc, sym, true, zero, ℕ, ℤ}
+use Rattle.precision_law.proofs.words.Plans.{Channel, Cleared, Corrected, DeviceId, LinkId, Members, Pcf, State, Units, Verdict, amount, count_of}
+use Rattle.precision_law.proofs.words.Runs.{ComesToCorrection, Happening, IsCaused, IsFoundedAt, IsIn, Judgement, NoteBody, Why, before_permanence, changes_adjustment, channel_of, cycle_in, earlier, expected_by, founded_at, in_filter, in_left, is_before, members_in, place_of, same_some, time_of, timed}
+use Rattle.precision_law.proofs.words.Laws.{AreBeforeCorrections, AreGood, BasesAreInHulls, BlockGoesSo, ComesTo, EmissionsAreOfDispatches, HasGood, HasTimeAt, HeardFramesAreTimely, HeardInTheirBlocks, HearingsAreOfFrames, HearsBy, Hull, IsClique, IsDispatch, IsEmission, IsGood, IsInHull, IsNarrow, IsNearHull, IsOfHearer, IsOldAt, IsPointOf, IsTidyBefore, IsTimely, IsView, Stands, ThreeHaveGood, View, adjustment_left, base_of, epoch_time, first_correction, first_dispatch, hull_of, is_correction, start_hull}
+use Rattle.precision_law.proofs.words.Clocks.{before_of, earlier_before, earlier_judge, instants_are_in_order, point_timed, room, same_adjustment, same_device, time_stays}
 use Rattle.run_law.specs.declared.note.NoteBody.TheVariants as notes
+use Rattle.precision_law.proofs.clocks.Unchanged.{AreUpTo}
 use Rattle.precision_law.proofs.law.Precision.{clique_point}
 use Rattle.precision_law.proofs.law.Together.{block_ends, follows_before}
 
@@ -43,6 +44,28 @@ tidy v n t before went h device cycle dispatch lt = (known_dispatch v n t before
 pub had_time : (v : View) (device : DeviceId) (u t : ℕ) → IsView v → u ≤ t → epoch_time (earlier t v.records) device <ℤ pos u → HasTimeAt v device t
     → HasTimeAt v device u
 had_time v device u t is le old has = record { good = has.good; timed = time_stays v device u t is le old has.timed }
+
+-- ---- the records before
+
+-- the records before corrections at a time are all up to it that come earlier
+pub up_to_then : (v : View) (t : ℕ) (front : List Happening) → AreBeforeCorrections v t front → AreUpTo v t front
+up_to_then v t front split = record {
+  all = earlier_before v t front split;
+  there = λ h i. subst (IsIn h) (sym split.whole) (in_left h front split.rest i);
+  to = split.only;
+}
+
+-- so are those by which a frame is judged that becomes permanent
+pub judged_up_to : (v : View) (h : Happening) → IsView v → (found : IsFoundedAt v.scenario v.records h) → (device : DeviceId) (link : LinkId) (cause : ℕ)
+    (frame : Pcf) (at : Units) → AreUpTo v (time_of h) (before_permanence found.front device (time_of h) link cause frame at)
+judged_up_to v h is found device link cause frame at =
+    let all = up_to_then v (time_of h) found.front (before_of v h is found) in
+    let keeps = λ (x : Happening). is_before (place_of x) (time_of h ∷ 3 ∷ device.0 ∷ amount at ∷ frame.members.0 ∷ link.0 ∷ cause ∷ []) in
+    record {
+      all = earlier_judge found.front (time_of h) device link cause frame at ∙ all.all;
+      there = λ x i. all.there x (in_filter keeps found.front x i);
+      to = λ x i. all.to x (in_filter keeps found.front x i);
+    }
 
 -- ---- the points that records show
 

@@ -1,15 +1,47 @@
--- A point that lies in one cluster's time with that of a frame of the block's cycle is of this cycle too.
-use Rattle.precision_law.proofs.words.Std.{◌%◌, ◌*◌, ◌+ℤ◌, ◌+◌, ◌-◌, ◌/◌, ◌∙◌, ◌∷◌, ◌≡◌, ◌≤ℤ◌, ◌≤◌, Bool, List, MatchBool-at_true, None, Option, Some, [], and_parts, ap, arith, cases_lt, div-add-mod, false, inl, inr, int_div_euclid, int_le, int_lt, int_rem_euclid_is, ints, ltb-false, not, not-false, option_and_then, option_map_or, pos, refl, subst, suc, sym, true, ℕ, ℤ}
-use Rattle.precision_law.proofs.words.Plans.{DeviceId, Network, Pcf, Point, State, Synchronised, amount}
-use Rattle.precision_law.proofs.words.Runs.{Cycle, Gate, Happening, IsCaused, IsCollectedOrDropped, IsIn, Judgement, Reason, adjustment_at_hearing, before_permanence, dispatch_value, first_reason, founded_at, frame_by, in_filter, in_left, is_before, is_cm, is_number, offset_in_cycle, place_of, point_fault, ripe_as, time_of}
-use Rattle.precision_law.proofs.words.Laws.{BlocksGoSo, HaveRoom, IsInBlock, IsView, Sizes, View, adjustment_left}
-use Rattle.precision_law.proofs.words.Clocks.{before_of, earlier_before, earlier_judge, int_le-is, natural, natural_of, room, sizes_are, steady}
-use Rattle.precision_law.proofs.words.Blocks.{GivesPoint, read_at}
+-- What the compression master of the sound channel takes in a block: a point that lies in one cluster's time with that of
+-- a frame of the block's cycle is of this cycle too.
+use Rattle.precision_law.proofs.words.Std.{◌%◌, ◌&&◌, ◌*◌, ◌+ℤ◌, ◌+◌, ◌-◌, ◌/◌, ◌<ℤ◌, ◌<◌, ◌==◌, ◌∙◌, ◌∷◌, ◌≡◌, ◌≤ℤ◌, ◌≤◌, Bool, List, MatchBool-at_true, None, Option, Some, [], and_parts, ap, arith, cases_lt, div-add-mod, false, false_from_ne_true, if◌then◌else◌, inl, inr, int_div_euclid, int_le, int_lt, int_rem_euclid_is, ints, ltb-false, mul-le-mul_right, not, not-false, option_and_then, option_map_or, pos, refl, subst, suc, sym, true, ℕ, ℤ}
+use Rattle.precision_law.proofs.words.Plans.{DeviceId, Joining, Network, Pcf, Point, Synchronised, Units, amount}
+use Rattle.precision_law.proofs.words.Runs.{Cycle, Gate, Happening, IsCaused, IsCollectedOrDropped, IsIn, Judgement, NoteBody, Reason, Why, adjustment_at_hearing, before_permanence, dispatch_value, ends_stretch, first_reason, founded_at, frame_by, has_joined_at, is_cm, is_joined_by, is_number, offset_in_cycle, point_fault, ripe_as, state_at_hearing, state_before, time_of}
+use Rattle.precision_law.proofs.words.Laws.{BlocksGoSo, HaveRoom, IsInBlock, IsSteady, IsView, Sizes, View, adjustment_left, has_time}
+use Rattle.precision_law.proofs.words.Clocks.{adjustment_stays, any_in, int_le-is, natural, natural_of, one_more, room, same_device, sizes_are, steady}
+use Rattle.precision_law.proofs.words.Blocks.{AreUpTo, GivesPoint, hears_as_at, read_at}
 use Rattle.run_law.specs.declared.judgement.Judgement.TheVariants as judgements
+use Rattle.run_law.specs.declared.judgement.Why.TheVariants as whys
+use Rattle.run_law.specs.declared.note.NoteBody.TheVariants as notes
 use Rattle.run_law.specs.declared.steps.Ripe.TheVariants as ripe
-use Rattle.precision_law.proofs.block.Dispatched.{IsCalm}
-use Rattle.precision_law.proofs.emission.Cycles.{IsTakenFor, far_below, of_one_cycle}
-use Rattle.precision_law.proofs.emission.Hearkens.{JudgeAt, hearing_adjustment, hearing_state}
+use Rattle.precision_law.proofs.block.Dispatched.{IsCalm, changes_never, joins_never, old_then, synchronised_before, synchronised_then}
+use Rattle.precision_law.proofs.block.Goings.{judged_up_to}
+
+-- ---- values of one cycle
+
+-- a value that a compression master takes for the cycle: at most four precisions behind the cycle's beginning
+pub record IsTakenFor (n : Sizes) (cycle : ℕ) (value : ℤ) : Type 0 where
+  pub least : pos (cycle * n.cycle) ≤ℤ value
+  pub most : value ≤ℤ pos (cycle * n.cycle + 4 * n.precision)
+
+never_less : (n : Sizes) (a b : ℕ) (x y : ℤ) → HaveRoom n → IsTakenFor n a x → IsTakenFor n b y → y ≤ℤ (x +ℤ pos (2 * n.precision)) → a < b → ⊥
+never_less n a b x y space of_a of_b near lt =
+    let times : suc a * n.cycle ≤ b * n.cycle = mul-le-mul_right n.cycle (omega (arith, lt)) in
+    omega (arith, ints, one_more a n.cycle, times, near, of_a.most, of_b.least, space)
+
+-- two such values, at most two precisions apart, are of one cycle
+pub of_one_cycle : (n : Sizes) (a b : ℕ) (x y : ℤ) → HaveRoom n → IsTakenFor n a x → IsTakenFor n b y → x ≤ℤ y → y ≤ℤ (x +ℤ pos (2 * n.precision)) → a ≡ b
+of_one_cycle n a b x y space of_a of_b le near = elim (cases_lt a b) [
+  | inl lt ↦ absurd (never_less n a b x y space of_a of_b near lt)
+  | inr ge ↦ elim (cases_lt b a) [
+    | inl lt ↦ absurd (never_less n b a y x space of_b of_a (omega (arith, ints, le)) lt)
+    | inr le_too ↦ omega (arith, ge, le_too)
+  ]
+]
+
+-- a point that was permanent four precisions before another lies more than two precisions below it
+pub far_below : (n : Sizes) (reading : ℕ → ℕ) (p r : ℤ) (first last q : ℕ) → HaveRoom n → IsSteady n reading → p ≤ℤ pos (reading first) → first ≤ last
+    → last + 4 * n.precision ≤ q → pos (reading q) ≤ℤ (r +ℤ pos (2 * n.grain))
+    → (p +ℤ pos (2 * n.precision)) <ℤ r
+far_below n reading p r first last q space steady low before after above =
+    let slow = steady.slow last (last + 4 * n.precision) (omega arith) (omega (arith, space.cycles)) in
+    omega (arith, ints, steady.never_falls first last before, slow, steady.never_falls (last + 4 * n.precision) q after, low, above, space)
 
 -- ---- what has no fault
 
@@ -70,6 +102,39 @@ pub record IsAimed (v : View) (n next : ℕ) (cm : DeviceId) (point : ℤ) (q : 
   pub late : next + 4 * v.sizes.precision ≤ q
   pub most : pos (v.scenario.reading cm q) ≤ℤ (point +ℤ pos (2 * v.sizes.grain))
 
+-- ---- what the compression master of the sound channel is when it takes frames
+
+module _ (goes : BlocksGoSo) (v : View) (n t : ℕ) (block : IsInBlock v n t) (cm : DeviceId) (b : ℕ) (is : IsView v) (calm : IsCalm v n t block cm b) where
+  -- it is synchronised when it hears a frame
+  pub hearing_state : (q : ℕ) (hs : List Happening) → q ≤ b → AreUpTo v q hs → state_at_hearing v.scenario hs cm q ≡ Synchronised
+  hearing_state q hs le j =
+      let none : has_joined_at hs cm q ≡ false = false_from_ne_true (has_joined_at hs cm q) (λ hit.
+      let found = any_in (λ (h : Happening). time_of h == q && is_joined_by cm h.note.body) hs hit in
+      let both = and_parts (time_of found.0 == q) (is_joined_by cm found.0.note.body) found.2 in
+      joins_never goes v n t block cm b found.0 is calm (j.there found.0 found.1) (omega (arith, j.to found.0 found.1, le)) both.1) in
+      ap (λ (x : Bool). if x then Joining else state_before v.scenario hs cm q) none ∙ synchronised_before goes v n t block cm b q hs is calm j.all le
+
+  -- with the adjustment that it had when the block began
+  pub hearing_adjustment : (q : ℕ) (hs : List Happening) → block.before.next ≤ q → q ≤ b → AreUpTo v q hs
+      → (adjustment_at_hearing v.scenario hs cm q).0 ≡ adjustment_left v cm block.before.next
+  hearing_adjustment q hs from le j =
+      let to : q + 1 ≤ b + 1 = omega (arith, le) in
+      let old = old_then goes v n t block cm b (q + 1) is calm to in
+      let timed = ap has_time (synchronised_then goes v n t block cm b (q + 1) is calm to) in
+      (hears_as_at v cm block.before.next q (q + 1) hs is j from (omega arith) old timed).adjustment
+      ∙ sym (ap (λ (a : Units). a.0) (adjustment_stays v cm block.before.next (q + 1) is (omega (arith, from)) old))
+
+  -- no record ends its stretch
+  pub never_ends : (h : Happening) (body : NoteBody) → IsIn h v.records → time_of h ≤ b → h.note.body ≡ body → ends_stretch cm body ≡ true → ⊥
+  never_ends h (notes.State other state cause why) i le same e =
+      changes_never goes v n t block cm b h state cause why is calm i le
+      (same ∙ ap (λ (d : DeviceId). notes.State d state cause why) (same_device cm other (own why e)))
+    where
+      own : (why : Why) → ends_stretch cm (notes.State other state cause why) ≡ true → (cm.0 == other.0) ≡ true
+      own whys.On e = absurd cc
+      own why e = e
+  never_ends h body i le same e = joins_never goes v n t block cm b h is calm i le (ap (is_joined_by cm) same ∙ e)
+
 module _ (goes : BlocksGoSo) (v : View) (n t : ℕ) (block : IsInBlock v n t) (cm : DeviceId) (b : ℕ) (is : IsView v) (calm : IsCalm v n t block cm b)
     (one : is_cm v.scenario.network cm ≡ true) where
   -- a point of the block had no fault
@@ -81,25 +146,12 @@ module _ (goes : BlocksGoSo) (v : View) (n t : ℕ) (block : IsInBlock v n t) (c
       let at = founded_at v.scenario v.records k is.run.founded i in
       let ripens = subst (IsCaused v.scenario at.front k.note.time) g.is at.due.cause in
       let hs : List Happening = before_permanence at.front cm q g.link g.cause ripens.frame g.point in
-      let split = before_of v k is at in
-      let in_front : (h : Happening) → IsIn h hs
-      → IsIn h at.front = λ h j. in_filter
-      (λ x. is_before (place_of x) (q ∷ 3 ∷ cm.0 ∷ amount g.point ∷ ripens.frame.members.0 ∷ g.link.0 ∷ g.cause ∷ [])) at.front h j in
-      let judge : JudgeAt v q hs = record {
-        same = earlier_judge at.front q cm g.link g.cause ripens.frame g.point ∙ earlier_before v q at.front split;
-        there = λ h j. subst (IsIn h) (sym at.whole) (in_left h at.front (k ∷ at.rest) (in_front h j));
-        by_then = λ h j. split.only h (in_front h j);
-      } in
+      let judge = judged_up_to v k is at cm g.link g.cause ripens.frame g.point in
       let framed : k.frame ≡ Some ripens.frame = ap (λ (x : Happening). x.frame) at.due.same ∙ ap (frame_by network at.front) g.is
       ∙ ap (λ (x : Option Happening). option_and_then (λ y. y.frame) x) ripens.permanent.there ∙ ripens.permanent.of_frame in
       let cycle : o.cycle ≡ ripens.frame.cycle = g.of_cycle ∙ ap (λ (x : Option Pcf). option_map_or (λ f. f.cycle) x 0) framed in
-      ap (λ (c : ℕ). point_fault network Synchronised (adjustment_left v cm block.before.next) o.reading c) cycle
-      ∙ ap (λ (z : ℤ). point_fault network Synchronised (adjustment_left v cm block.before.next) z ripens.frame.cycle) g.reads
-      ∙ ap (λ (a : ℤ). point_fault network Synchronised a g.point.0 ripens.frame.cycle)
-      (sym (hearing_adjustment goes v n t block cm b is calm q hs from to judge))
-      ∙ ap (λ (x : State). point_fault network x (adjustment_at_hearing v.scenario hs cm q).0 g.point.0 ripens.frame.cycle)
-      (sym (hearing_state goes v n t block cm b is calm q hs to judge))
-      ∙ (none_of _ _ _ g.verdict _ (MatchBool-at_true _ _ one ripens.becomes))
+      cc (cycle, g.reads, hearing_adjustment goes v n t block cm b is calm q hs from to judge, hearing_state goes v n t block cm b is calm q hs to judge,
+      none_of _ _ _ g.verdict _ (MatchBool-at_true _ _ one ripens.becomes))
 
   -- what lies at most two windows before it is of its cycle
   pub of_block_cycle : (point : ℤ) (q : ℕ) (k : Happening) (o : Point) → IsAimed v n block.before.next cm point q → IsIn k v.records → time_of k ≤ b

@@ -1,17 +1,15 @@
 -- The compression master of the sound channel takes the frames of the first masters.
-use Rattle.precision_law.proofs.words.Std.{◌*◌, ◌+ℤ◌, ◌+◌, ◌-ℤ◌, ◌==◌, ◌^◌, ◌∙◌, ◌∷◌, ◌≡◌, ◌≤ℤ◌, ◌≤◌, Bool, List, None, Option, Some, [], ap, arith, eq-eqb, eqb-false, false, if◌then◌else◌, inl, inr, int_lt, ints, last_or, option_and_then, option_map_or, pos, refl, subst, suc, sym, true, unsigned_abs, unwrap_or, ℕ, ℤ}
+use Rattle.precision_law.proofs.words.Std.{◌*◌, ◌+ℤ◌, ◌+◌, ◌==◌, ◌^◌, ◌∙◌, ◌∷◌, ◌≡◌, ◌≤ℤ◌, ◌≤◌, Bool, List, None, Option, Some, [], ap, arith, eq-eqb, eqb-false, false, if◌then◌else◌, inl, inr, int_lt, ints, last_or, option_and_then, option_map_or, pos, refl, subst, suc, sym, true, unsigned_abs, unwrap_or, ℕ, ℤ}
 use Rattle.precision_law.proofs.words.Plans.{AreClusters, Cluster, DeviceId, IsCmOf, Members, Pcf, Point, Units, Up, Way, amount, has_point_of, none, point_at, role, role_in}
-use Rattle.precision_law.proofs.words.Runs.{Happening, IsBefore, IsCaused, IsDue, IsIn, IsSplit, Judgement, NoteBody, adjustment_at_hearing, cycle_in, founded_at, frame_by, in_left, key, master_of, member_of, members_in, observation_window, place_of, point_by, points_of, rank, split, state_at_hearing, time_of}
-use Rattle.precision_law.proofs.words.Laws.{BlocksGoSo, HasTimeAt, HaveRoom, Hull, IsDispatch, IsFirstMaster, IsInBlock, IsInHull, IsInTime, IsRipe, IsTrip, IsView, Leg, ShowsIn, Sizes, View, adjustment_left, first_correction, first_dispatch, has_time, last_dispatch}
-use Rattle.precision_law.proofs.words.Clocks.{IsRipeArrival, IsRipeRecord, adjustment_stays, before_place, contains, earlier_before, has_member, is_collected, last_in, master_member, opened_by, permanence_is_sharp, place_of_ripe, room, sizes_are, steady, trip_says}
+use Rattle.precision_law.proofs.words.Runs.{Happening, IsBefore, IsCaused, IsDue, IsIn, IsSplit, Judgement, NoteBody, adjustment_at_hearing, cycle_in, founded_at, frame_by, in_left, key, master_of, member_of, members_in, observation_window, place_of, point_by, points_of, rank, split, state_at_hearing, time_of, timed}
+use Rattle.precision_law.proofs.words.Laws.{BlocksGoSo, HasTimeAt, Hull, IsDispatch, IsFirstMaster, IsInBlock, IsInHull, IsInTime, IsRipe, IsTrip, IsView, Leg, ShowsIn, View, adjustment_left, first_correction, has_time, last_dispatch}
+use Rattle.precision_law.proofs.words.Clocks.{IsRipeArrival, IsRipeRecord, adjustment_stays, before_place, contains, has_member, is_collected, last_in, master_member, opened_by, permanence_is_sharp, place_of_ripe, room, sizes_are, steady, trip_says}
 use Rattle.precision_law.proofs.words.Blocks.{IsReadAt, arrival_young, before_narrow, contained, earlier_in_block, ends_soon, later_point, master_of_bit, old_shows, place_order, point_record, points_ordered, read_at}
 use Rattle.compression.specs.declared.taken.Taken.TheVariants as taken
 use Rattle.precision_law.proofs.block.Dispatched.{IsCalm, old_then, synchronised_then}
-use Rattle.precision_law.proofs.block.Goings.{early_show}
-use Rattle.precision_law.proofs.emission.Aimed.{IsAimed, of_block_cycle}
-use Rattle.precision_law.proofs.emission.Cycles.{IsTakenFor}
+use Rattle.precision_law.proofs.block.Goings.{early_show, up_to_then}
+use Rattle.precision_law.proofs.emission.Aimed.{IsAimed, hearing_adjustment, of_block_cycle}
 use Rattle.precision_law.proofs.emission.Fits.{IsWithinOf, dispatched_within, no_point_fault}
-use Rattle.precision_law.proofs.emission.Hearkens.{JudgeAt, hearing_adjustment}
 use Rattle.precision_law.proofs.emission.Senders.{IsSender, cm_is, sends_up}
 
 -- ---- points that come
@@ -68,16 +66,6 @@ pub record IsGathered (v : View) (n next : ℕ) (before : Hull) (cm master : Dev
   pub to : time_of k ≤ by
   pub least : p.reading ≤ℤ pos (v.scenario.reading cm (time_of k))
 
--- numbers
-aimed_value : (n : Sizes) (c : ℕ) (point adjustment : ℤ) (dmax two : ℕ) → HaveRoom n → dmax ≡ n.dmax → two ≡ 2 * n.precision
-    → IsWithinOf n c n.dmax (point +ℤ adjustment) → IsTakenFor n c (((point +ℤ adjustment) -ℤ pos dmax) +ℤ pos two)
-aimed_value n c point adjustment dmax two space x y within =
-    (let l = within.least in let h = within.most in record { least = omega (arith, ints, l, x, y); most = omega (arith, ints, h, x, y) })
-
-late_by : (n : Sizes) (next w q : ℕ) (hull : Hull) → HaveRoom n → pos next ≤ℤ (hull.least +ℤ pos (n.correction + n.spread + 3 * n.reach + 1))
-    → first_dispatch n hull ≤ℤ pos w → w + n.dmax ≤ q + n.path → next + 4 * n.precision ≤ q
-late_by n next w q hull space early low late = omega (arith, ints, early, low, late, space)
-
 -- ---- what a dispatch brings
 
 -- the frame that it brings
@@ -120,50 +108,58 @@ has_frame v n before cm master s is first =
       not_negative = omega (arith, ints, p.at_point, young, size);
     }
 
-module _ (goes : BlocksGoSo) (v : View) (n t : ℕ) (block : IsInBlock v n t) (cm : DeviceId) (by : ℕ) (is : IsView v) (calm : IsCalm v n t block cm by)
-    (of_channel : IsCmOf v.scenario.network v.channel cm) (late : (first_correction v.sizes block.before.hull +ℤ pos v.sizes.reach) ≤ℤ pos t)
-    (over : (last_dispatch v.sizes block.before.hull +ℤ pos (v.sizes.dmax + v.sizes.path)) ≤ℤ pos by) where
-  -- its point lies where it should
-  aims : (master : DeviceId) (s : IsSender v n block.before.hull cm master) → HasFrame v n block.before.hull cm master s → (s.brought.q ≤ by)
-      × IsWithinOf v.sizes (suc n) v.sizes.dmax (s.brought.point +ℤ adjustment_left v cm block.before.next) × IsAimed v n block.before.next cm s.brought.point
-      s.brought.q
-  aims master s f =
+-- the compression master of the sound channel, once the correction points may come, and an instant before them by which it
+-- has the frames of the first masters and could send its own
+pub record Collects (v : View) (n t : ℕ) (block : IsInBlock v n t) (cm : DeviceId) (by : ℕ) : Type 0 where
+  pub calm : IsCalm v n t block cm by
+  pub of_channel : IsCmOf v.scenario.network v.channel cm
+  pub late : (first_correction v.sizes block.before.hull +ℤ pos v.sizes.reach) ≤ℤ pos t
+  pub over : (last_dispatch v.sizes block.before.hull +ℤ pos (v.sizes.dmax + v.sizes.compression + v.sizes.base + v.sizes.path + v.sizes.precision))
+      ≤ℤ pos by
+
+module _ (goes : BlocksGoSo) (v : View) (n t : ℕ) (block : IsInBlock v n t) (cm : DeviceId) (by : ℕ) (is : IsView v) (c : Collects v n t block cm by)
+    (master : DeviceId) (s : IsSender v n block.before.hull cm master) (f : HasFrame v n block.before.hull cm master s) where
+  -- the point of the frame lies where it should
+  aims : (s.brought.q ≤ by) × IsWithinOf v.sizes (suc n) v.sizes.dmax (s.brought.point +ℤ adjustment_left v cm block.before.next)
+      × IsAimed v n block.before.next cm s.brought.point s.brought.q
+  aims =
       let before = block.before in
       let space = room v is in
       let b = s.brought in
       let q = b.q in
       let w = time_of s.first in
-      let to : q ≤ by = omega (arith, ints, s.high, b.in_time.not_late, over) in
-      let behind = late_by v.sizes before.next w q before.hull space (early_show v n before is) s.low b.in_time.not_early in
-      let there : IsInBlock v n q = earlier_in_block _ _ _ _ block (omega (arith, behind)) (omega arith) in
-      let old = old_then goes v n t block cm by q is calm (omega (arith, to)) in
-      let has : HasTimeAt v cm q = record { good = calm.good; timed = ap has_time (synchronised_then goes v n t block cm by q is calm (omega (arith, to))) } in
+      let high = s.high in
+      let to : q ≤ by = omega (arith, ints, high, b.in_time.not_late, c.over) in
+      let behind : before.next + 4 * v.sizes.precision ≤ q = omega (arith, ints, early_show v n before is, s.low, b.in_time.not_early, space) in
+      let there : IsInBlock v n q = earlier_in_block _ _ _ _ block (omega (arith, behind)) (omega (arith, to, c.calm.to)) in
+      let old = old_then goes v n t block cm by q is c.calm (omega (arith, to)) in
+      let has : HasTimeAt v cm q = record { good = c.calm.good; timed = ap has_time (synchronised_then goes v n t block cm by q is c.calm (omega (arith, to))) } in
       let shows = old_shows v n q q cm there is (omega arith) has old in
       let same = sym (ap (λ (a : Units). a.0) (adjustment_stays v cm before.next q is (omega (arith, behind)) old)) in
       let shows_so = subst (λ (a : ℤ). ShowsIn v.sizes (pos (v.scenario.reading cm q) +ℤ a) n before.hull q) same shows in
       let within = dispatched_within v.sizes before.hull n (adjustment_left v cm before.next) b.point (v.scenario.reading cm q) q w space
       (before_narrow v n before) shows_so s.low s.high b.in_time.not_early b.in_time.not_late f.sharp.least f.sharp.most in
-      let precision : v.sizes.precision ≡ amount v.scenario.network.precision = (sizes_are v is).precision in (
+      let sizes = sizes_are v is in (
         to,
         within,
         record {
-          value =
-              aimed_value v.sizes (suc n) b.point (adjustment_left v cm before.next) (amount v.scenario.network.dmax) (2 * amount v.scenario.network.precision)
-              space (sym (sizes_are v is).dmax) (omega (arith, precision)) within;
+          value = record {
+            least = omega (arith, ints, within.least, sizes.dmax, sizes.precision, space);
+            most = omega (arith, ints, within.most, sizes.dmax, sizes.precision, space);
+          };
           late = behind;
           most = f.sharp.most;
         },
       )
 
   -- it does not come to a cluster of another cycle
-  never_other : (master : DeviceId) (s : IsSender v n block.before.hull cm master) (f : HasFrame v n block.before.hull cm master s) → s.brought.q ≤ by
-      → IsAimed v n block.before.next cm s.brought.point s.brought.q
-      → (at : IsSplit place_of v.records (place_of_ripe cm s.brought.last s.brought.permanent.link f.frame s.brought.point s.brought.q))
+  never_other : (at : IsSplit place_of v.records (place_of_ripe cm s.brought.last s.brought.permanent.link f.frame s.brought.point s.brought.q))
       (clusters : List Cluster) → AreClusters (observation_window v.scenario.network) (points_of at.front cm) clusters
       → role clusters (point_at s.brought.point (master_of f.frame.members.0) f.frame.cycle) ≡ taken.OtherCycle → ⊥
-  never_other master s f to aimed at clusters are e =
+  never_other at clusters are e =
       let ow = observation_window v.scenario.network in
       let b = s.brought in
+      let to = aims.0 in
       let meets = meets_other clusters (point_at b.point (master_of f.frame.members.0) f.frame.cycle) e in
       let opened = opened_by _ _ _ meets.cluster (points_ordered _ cm at.front at.rest is at.whole) are (contains clusters meets.cluster meets.there) in
       let o = opened.first in
@@ -185,66 +181,64 @@ module _ (goes : BlocksGoSo) (v : View) (n t : ℕ) (block : IsInBlock v n t) (c
       let size = (sizes_are v is).precision in
       let soon = ends_soon ow o (o ∷ opened.rest) (omega (arith, ints)) in
       let high : b.point ≤ℤ (o.reading +ℤ pos (2 * v.sizes.precision)) = omega (arith, ints, meets.to, soon, ap (λ (x : Cluster). x.end) opened.is, size) in
-      let cycle = of_block_cycle goes v n t block cm by is calm (cm_is v cm of_channel).one b.point b.q k o aimed i (omega (arith, early, to)) g low high in
+      let cycle = of_block_cycle goes v n t block cm by is c.calm (cm_is v cm c.of_channel).one b.point b.q k o aims.2 i (omega (arith, early, to)) g low high in
       meets.other (f.of_cycle ∙ sym cycle ∙ sym (ap (λ (x : Cluster). x.cycle) opened.is))
 
   -- so its record gives its point
-  pub gathers : (master : DeviceId) → IsFirstMaster v master → IsGathered v n block.before.next block.before.hull cm master by
-  gathers master first =
-      let s = v.scenario in
-      let network = s.network in
-      let sender = sends_up goes v n t block cm master is late of_channel first in
-      let f = has_frame v n block.before.hull cm master sender is first in
-      let b = sender.brought in
-      let a = aims master sender f in
+  recorded : (verdict : Judgement) → IsRipeRecord v cm s.brought.last s.brought.permanent.link s.brought.point s.brought.q verdict f.frame
+      → IsGathered v n block.before.next block.before.hull cm master by
+  recorded verdict r =
+      let b = s.brought in
+      let p : Point = point_at b.point (master_of (members_in r.h)) (cycle_in r.h) in
+      let members : members_in r.h ≡ 2 ^ f.member = ap (λ (o : Option Pcf). option_map_or (λ x. x.members.0) o 0) r.of_frame ∙ f.of_members in
+      record {
+        first = s.first;
+        dispatch = s.dispatch;
+        inside = s.inside;
+        k = r.h;
+        there = r.there;
+        p = p;
+        gives = ap (point_by cm r.h) r.is ∙ ap (λ (x : Bool). if x then Some p else None) (eq-eqb cm.0 cm.0 refl);
+        of_cycle = ap (λ (o : Option Pcf). option_map_or (λ x. x.cycle) o 0) r.of_frame ∙ f.of_cycle;
+        of_master =
+            f.is_member ∙ ap (λ (m : ℕ). Some m) (sym (ap master_of members ∙ master_of_bit f.member (has_member v master f.member is f.is_member).small));
+        aimed = subst (IsAimed v n block.before.next cm b.point) (sym r.time) aims.2;
+        in_time = subst (IsInTime v s.first) (sym r.time) b.in_time;
+        to = omega (arith, r.time, aims.0);
+        least = subst (λ (u : ℕ). b.point ≤ℤ pos (v.scenario.reading cm u)) (sym r.time) f.sharp.least;
+      }
+
+  gathered : IsGathered v n block.before.next block.before.hull cm master by
+  gathered =
+      let b = s.brought in
       let link = b.permanent.link in
-      let cm_so = cm_is v cm of_channel in
+      let cm_so = cm_is v cm c.of_channel in
+      let later = f.sharp.after in
       let ripe : IsRipeArrival v cm b.last link f.frame b.point b.q = record {
         there = f.there;
         of_frame = f.of_frame;
         waits = cm_so.waits link;
-        good = calm.good;
+        good = c.calm.good;
         permanent = b.permanent;
         by_link = refl;
-        later = (let after = f.sharp.after in after);
-        in_run = omega (arith, a.0, calm.to, block.in_run);
+        later = later;
+        in_run = omega (arith, aims.0, c.calm.to, block.in_run);
       } in
-      let at = split place_of (IsDue s) v.records (place_of_ripe cm b.last link f.frame b.point b.q) is.run.founded in
+      let at = split place_of (IsDue v.scenario) v.records (place_of_ripe cm b.last link f.frame b.point b.q) is.run.founded in
       let split_at = before_place v b.q (3 ∷ cm.0 ∷ unsigned_abs b.point ∷ f.frame.members.0 ∷ link.0 ∷ b.last.note.number ∷ []) at in
-      let judge : JudgeAt v b.q at.front = record {
-        same = earlier_before v b.q at.front split_at;
-        there = λ h i. subst (IsIn h) (sym at.whole) (in_left h at.front at.rest i);
-        by_then = split_at.only;
-      } in
-      let stands = hearing_adjustment goes v n t block cm by is calm b.q at.front (omega (arith, a.2.late)) a.0 judge in
-      let within = subst (λ (c : ℕ). IsWithinOf v.sizes c v.sizes.dmax (b.point +ℤ (adjustment_at_hearing s at.front cm b.q).0)) (sym f.of_cycle)
-      (subst (λ (z : ℤ). IsWithinOf v.sizes (suc n) v.sizes.dmax (b.point +ℤ z)) (sym stands) a.1) in
-      let fine = no_point_fault v (state_at_hearing s at.front cm b.q) (adjustment_at_hearing s at.front cm b.q).0 b.point f.frame.cycle is within in
+      let adjustment = (adjustment_at_hearing v.scenario at.front cm b.q).0 in
+      let stands = hearing_adjustment goes v n t block cm by is c.calm b.q at.front (omega (arith, aims.2.late)) aims.0 (up_to_then v b.q at.front split_at) in
+      let within = subst (λ (k : ℕ). IsWithinOf v.sizes k v.sizes.dmax (b.point +ℤ adjustment)) (sym f.of_cycle)
+      (subst (λ (z : ℤ). IsWithinOf v.sizes (suc n) v.sizes.dmax (b.point +ℤ z)) (sym stands) aims.1) in
+      let fine = no_point_fault v (state_at_hearing v.scenario at.front cm b.q) adjustment b.point f.frame.cycle is within in
       elim (is_collected v cm b.last link f.frame b.point b.q is cm_so.one ripe at fine) [
-        | inl meets ↦ absurd (never_other master sender f a.0 a.2 at meets.0 meets.1 meets.2)
-        | inr found ↦ recorded master sender f found.0 found.1 a.0 a.2
+        | inl meets ↦ absurd (never_other at meets.0 meets.1 meets.2)
+        | inr found ↦ recorded found.0 found.1
       ]
-    where
-      recorded : (master : DeviceId) (sender : IsSender v n block.before.hull cm master) (f : HasFrame v n block.before.hull cm master sender)
-          (verdict : Judgement) → IsRipeRecord v cm sender.brought.last sender.brought.permanent.link sender.brought.point sender.brought.q verdict f.frame
-          → sender.brought.q ≤ by → IsAimed v n block.before.next cm sender.brought.point sender.brought.q → IsGathered v n block.before.next block.before.hull
-          cm master by
-      recorded master sender f verdict r to aimed =
-          let p : Point = point_at sender.brought.point (master_of (members_in r.h)) (cycle_in r.h) in
-          let members : members_in r.h ≡ 2 ^ f.member = ap (λ (o : Option Pcf). option_map_or (λ x. x.members.0) o 0) r.of_frame ∙ f.of_members in
-          record {
-            first = sender.first;
-            dispatch = sender.dispatch;
-            inside = sender.inside;
-            k = r.h;
-            there = r.there;
-            p = p;
-            gives = ap (point_by cm r.h) r.is ∙ ap (λ (x : Bool). if x then Some p else None) (eq-eqb cm.0 cm.0 refl);
-            of_cycle = ap (λ (o : Option Pcf). option_map_or (λ x. x.cycle) o 0) r.of_frame ∙ f.of_cycle;
-            of_master =
-                f.is_member ∙ ap (λ (m : ℕ). Some m) (sym (ap master_of members ∙ master_of_bit f.member (has_member v master f.member is f.is_member).small));
-            aimed = subst (IsAimed v n block.before.next cm sender.brought.point) (sym r.time) aimed;
-            in_time = subst (IsInTime v sender.first) (sym r.time) sender.brought.in_time;
-            to = omega (arith, r.time, to);
-            least = subst (λ (u : ℕ). sender.brought.point ≤ℤ pos (v.scenario.reading cm u)) (sym r.time) f.sharp.least;
-          }
+
+-- each first master's frame is gathered
+pub gathers : BlocksGoSo → (v : View) (n t : ℕ) (block : IsInBlock v n t) (cm : DeviceId) (by : ℕ) → IsView v → Collects v n t block cm by
+    → (master : DeviceId) → IsFirstMaster v master → IsGathered v n block.before.next block.before.hull cm master by
+gathers goes v n t block cm by is c master first =
+    let sender = sends_up goes v n t block cm master is c.late c.of_channel first in
+    gathered goes v n t block cm by is c master sender (has_frame v n block.before.hull cm master sender is first)

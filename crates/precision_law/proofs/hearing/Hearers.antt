@@ -1,11 +1,11 @@
 -- The records by which a device hears, and what it has heard by them.
-use Rattle.precision_law.proofs.words.Std.{◌<◌, ◌==◌, ◌∙◌, ◌∷◌, ◌≡◌, ◌≤◌, Bool, List, MatchBool, None, Option, Some, [], ap, arith, eq-eqb, false, if◌then◌else◌, inl, inr, ints, le-leb, option_and_then, option_map, option_map_or, refl, subst, suc, sym, true, ℕ, ℤ}
-use Rattle.precision_law.proofs.words.Plans.{Channel, DeviceId, Members, Pcf, Units, amount}
-use Rattle.precision_law.proofs.words.Runs.{Happening, IsCaused, IsIn, Judgement, Within, adjustment_at_hearing, before_permanence, cycle_in, expected_by, founded_at, frame_by, heard_as, heard_by, hearing_by, in_filter, in_left, is_before, last_cycle, observation_window, place_of, plan_of, same_judgement, state_at_hearing, time_of}
+use Rattle.precision_law.proofs.words.Std.{◌<◌, ◌==◌, ◌∙◌, ◌≡◌, ◌≤◌, Bool, List, MatchBool, None, Option, Some, ap, arith, eq-eqb, false, if◌then◌else◌, inl, inr, ints, le-leb, option_and_then, option_map, option_map_or, refl, subst, suc, sym, true, ℕ, ℤ}
+use Rattle.precision_law.proofs.words.Plans.{Channel, DeviceId, Members, Pcf, Units}
+use Rattle.precision_law.proofs.words.Runs.{Happening, IsCaused, Judgement, Within, adjustment_at_hearing, before_permanence, cycle_in, expected_by, founded_at, frame_by, heard_as, heard_by, hearing_by, last_cycle, observation_window, plan_of, same_judgement, state_at_hearing, time_of}
 use Rattle.precision_law.proofs.words.Laws.{HasTimeAt, HearsBy, IsInBlock, IsNearHull, IsOfHearer, IsOldAt, IsView, View, adjustment_left, base_of}
-use Rattle.precision_law.proofs.words.Clocks.{before_of, earlier_before, earlier_judge, emission_shows, hearer_not_cm, room, sizes_are}
+use Rattle.precision_law.proofs.words.Clocks.{before_of, emission_shows, hearer_not_cm, room, sizes_are}
 use Rattle.precision_law.proofs.words.Blocks.{AreUpTo, IsGoodHearing, before_narrow, earlier_in_block, expected_is, few_cycles, follows_before, hears_as_at, old_shows}
-use Rattle.precision_law.proofs.block.Goings.{next_first}
+use Rattle.precision_law.proofs.block.Goings.{judged_up_to, next_first, up_to_then}
 use Rattle.precision_law.proofs.emission.Fits.{heard_as_within, heard_within}
 
 -- ---- judgements
@@ -29,7 +29,6 @@ judged_as v device channel point judgement h is hearer hears =
     let s = v.scenario in
     let n = s.network in
     let found = founded_at s v.records h is.run.founded hears.there in
-    let split = before_of v h is found in
     elim hears.how [
       | inl far ↦
           let at = far.2 in
@@ -37,17 +36,12 @@ judged_as v device channel point judgement h is hearer hears =
           let judged = before_permanence found.front device (time_of h) far.0 far.1 ripens.frame at in
           let said = same_judgement judgement _
           (elsewhere _ _ _ (hearer_not_cm n device _ _ _ ripens.frame at.0 judgement hearer ripens.becomes) ripens.becomes) in
-          let keeps = λ (x : Happening). is_before (place_of x) (time_of h ∷ 3 ∷ device.0 ∷ amount at ∷ ripens.frame.members.0 ∷ far.0.0 ∷ far.1 ∷ []) in
           let of_frame : h.frame ≡ Some ripens.frame = ap (λ (x : Happening). x.frame) found.due.same ∙ ap (frame_by n found.front) far.3
           ∙ ap (λ (o : Option Happening). option_and_then (λ x. x.frame) o) ripens.permanent.there ∙ ripens.permanent.of_frame in
           let cycle : ripens.frame.cycle ≡ cycle_in h = ap (λ (o : Option Pcf). option_map_or (λ f. f.cycle) o 0) (sym of_frame) in
           record {
             judged = judged;
-            up_to = record {
-              all = earlier_judge found.front (time_of h) device far.0 far.1 ripens.frame at ∙ earlier_before v (time_of h) found.front split;
-              there = λ x i. subst (IsIn x) (sym found.whole) (in_left x found.front (h ∷ found.rest) (in_filter keeps found.front x i));
-              to = λ x i. split.only x (in_filter keeps found.front x i);
-            };
+            up_to = judged_up_to v h is found device far.0 far.1 ripens.frame at;
             members = ripens.frame.members;
             is = cc (said, far.5, cycle);
           }
@@ -56,11 +50,7 @@ judged_as v device channel point judgement h is hearer hears =
           let said = (subst (IsCaused s found.front h.note.time) own.4 found.due.cause).heard in
           record {
             judged = found.front;
-            up_to = record {
-              all = earlier_before v (time_of h) found.front split;
-              there = λ x i. subst (IsIn x) (sym found.whole) (in_left x found.front (h ∷ found.rest) i);
-              to = split.only;
-            };
+            up_to = up_to_then v (time_of h) found.front (before_of v h is found);
             members = own.3;
             is = cc (said, own.6, shown.0);
           }
