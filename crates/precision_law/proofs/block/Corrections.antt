@@ -1,9 +1,9 @@
 -- How an old device corrects its clock in a block: by frames of the block's cycle, by whose bases the clock is anchored.
 use Rattle.precision_law.proofs.words.Std.{◌*◌, ◌+ℤ◌, ◌+◌, ◌-ℤ◌, ◌-◌, ◌<◌, ◌∙◌, ◌≡◌, ◌≤ℤ◌, ◌≤◌, Bool, List, None, Option, Some, and_parts, ap, arith, cases_lt, false, if◌then◌else◌, inl, inr, int_le, int_lt, ints, leb-true, nat_le, negsuc, option_and_then, option_map_or, pos, refl, subst, suc, sym, true, zero, ℕ, ℤ}
 use Rattle.precision_law.proofs.words.Plans.{Channel, DeviceId, HeardFrame, Hearing, IsBestOf, IsMean, Masters, Summarizes, Summary, Units, best_on, correction_of, count_of, deviation_by, expected_at, mean_of-floor, within_on}
-use Rattle.precision_law.proofs.words.Runs.{Happening, IsIn, Within, adjustment_before, changed_at, correction_value, earlier, expected_by, had_come, has_cleared, heard_since, in_left, in_parts, is_integration_cycle, local_at_change, next_cycle, plan_of, recorded_cycle, same_some, standing_before, time_of}
-use Rattle.precision_law.proofs.words.Laws.{AreBeforeCorrections, CorrectsSo, HasTimeAt, Hull, IsAnchored, IsAnchoredIn, IsInBlock, IsNearHull, IsOldAt, IsSetFor, IsSharedCorrection, IsView, Stands, View, adjustment_left, base_of, cycle_set, first_correction, hull_of, is_correction, last_setting, setting}
-use Rattle.precision_law.proofs.words.Clocks.{IsHearingOf, adjustment_stays, best_is_heard, hearing_of, instants_are_in_order, int_le-is, room, same_adjustment, same_cleared, same_next, set_clocks_show, setting_is, settings_stay, sizes_are, steady, two_frames_anchor, within_by}
+use Rattle.precision_law.proofs.words.Runs.{Happening, IsIn, Judgement, Within, adjustment_before, changed_at, correction_value, earlier, expected_by, had_come, has_cleared, heard_since, in_left, in_parts, is_integration_cycle, local_at_change, next_cycle, plan_of, recorded_cycle, same_some, standing_before, time_of}
+use Rattle.precision_law.proofs.words.Laws.{AreBeforeCorrections, CorrectsSo, HasTimeAt, HearsBy, Hull, IsAnchored, IsAnchoredIn, IsInBlock, IsNearHull, IsOldAt, IsSetFor, IsSharedCorrection, IsView, Stands, View, adjustment_left, base_of, cycle_set, first_correction, hull_of, is_correction, last_setting, setting}
+use Rattle.precision_law.proofs.words.Clocks.{IsHearingOf, adjustment_stays, best_is_heard, hearing_of, hears_by, instants_are_in_order, int_le-is, room, same_adjustment, same_cleared, same_next, set_clocks_show, setting_is, settings_stay, sizes_are, steady, two_frames_anchor}
 use Rattle.precision_law.proofs.words.Blocks.{FramesGoSo, IsGoodHearing, IsLate, WentSo, before_narrow, block_ends, cleared_from, corrections_go_on, expected_is, follows_before, good_hearing, high_by, int_lt-is, joiner_integrates, low_by, members_by, near_hull, old_number, set_by_joining}
 use Rattle.precision_law.proofs.block.Goings.{had_time}
 
@@ -115,8 +115,9 @@ is_by_frame laws v n t block device is went has old front summary split sums cha
     let heard = hearing_of v device t front hearing is split (best_is_heard (heard_since s front device t) channel frame is_best) in
     let h = heard.h in
     let in_all : IsIn h v.records = subst (IsIn h) (sym split.whole) (in_left h front split.rest heard.there) in
-    let hears = within_by v device channel frame h h.note.body in_all refl heard.shows in
-    let members : count_of frame.members ≡ count_of (members_by h) = ap (λ (m : ℕ). count_of (record { 0 = m })) (sym hears.members) in
+    let this = hears_by v device h hearing h.note.body in_all refl heard.shows in
+    let hears = subst (λ (j : Judgement). HearsBy v device channel frame.point.0 j h) (this.judges.inside refl) this.hears in
+    let members : count_of frame.members ≡ count_of (members_by h) = ap (λ (m : ℕ). count_of (record { 0 = m })) (sym this.members) in
     let enough : 3 ≤ count_of (members_by h) = omega (
       arith,
       (is.lawful.rules Masters 2).threshold_least refl,
@@ -124,7 +125,7 @@ is_by_frame laws v n t block device is went has old front summary split sums cha
       members,
     ) in
     let by_then = split.only h heard.there in
-    let g = good_hearing laws v n t block.before is went device channel frame.point.0 h by_then Within tt hears.hears
+    let g = good_hearing laws v n t block.before is went device channel frame.point.0 h by_then Within tt hears
     (heard_late v n t block device is has old front hearing split heard) (λ c cm f. laws.three v c cm _ (members_by h) is f enough) in
     let number : next_cycle s front device t ≡ suc n = same_next v device t front split ∙ old_number v n t device block.before is block.from has old in
     let left = ap (λ (a : Units). a.0) (same_adjustment v device t front split) in

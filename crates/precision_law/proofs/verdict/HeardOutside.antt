@@ -100,7 +100,7 @@ module _ (laws : FramesGoSo) (goes : BlocksGoSo) (v : View) (n t : ℕ) (block :
       let h = heard.h in
       let in_all : IsIn h v.records = subst (IsIn h) (sym split.whole) (in_left h front split.rest heard.there) in
       let this = hears_by v device h hearing h.note.body in_all refl heard.shows in
-      let sent = laws.hearings v device hearing.channel hearing.frame.point.0 this.judgement h is this.hearer this.hears in
+      let sent = laws.hearings v device hearing.channel hearing.frame.point.0 this.judgement h is this.judges.hearer this.hears in
       record {
         h = h;
         this = this;
@@ -108,7 +108,7 @@ module _ (laws : FramesGoSo) (goes : BlocksGoSo) (v : View) (n t : ℕ) (block :
         cm = sent.1.cm;
         is_emission = sent.1.emission;
         good = λ good. good_hearing laws v n t block.before is (went_so goes v n t block is) device hearing.channel hearing.frame.point.0 h
-            (split.only h heard.there) this.judgement this.hearer this.hears (heard_late v n t block device is at.has at.old front hearing split heard)
+            (split.only h heard.there) this.judgement this.judges.hearer this.hears (heard_late v n t block device is at.has at.old front hearing split heard)
             (λ e c f. good);
       }
 
@@ -121,8 +121,8 @@ module _ (laws : FramesGoSo) (goes : BlocksGoSo) (v : View) (n t : ℕ) (block :
       let this = hears.this in
       let lt = sooner v n t block device (time_of hears.h) at g.not_late in
       let never : (3 ≤ count_of own) ⊎ AreGood v own → ⊥ = λ enough.
-      this.outside outside (heard_within goes v n t block is laws device hearing.channel hearing.frame.point.0 this.judgement hears.h at.has at.old lt
-      this.hearer this.hears g enough) in
+      this.judges.outside outside (heard_within goes v n t block is laws device hearing.channel hearing.frame.point.0 this.judgement hears.h at.has at.old lt
+      this.judges.hearer this.hears g enough) in
       let two : count_of own ≤ 2 = elim (cases_lt 2 (count_of own)) [ inl many ↦ absurd (never (inl (omega (arith, many)))) | inr few ↦ few ] in
       let before : time_of g.emission < t = omega (arith, g.in_order, lt) in
       let other : hearing.channel ≡ other_channel v.channel = elim (either_channel v.channel hearing.channel) [
