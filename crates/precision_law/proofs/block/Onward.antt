@@ -166,7 +166,7 @@ module _ (goes : BlocksGoSo) (v : View) (n : ℕ) (over : BlockIsOver v n) (is :
 -- ---- none is lost
 
 -- a firm device is good
-firm_good : SwitchesAreGood → (v : View) (device : DeviceId) → IsView v → IsFirm v device → IsGood v device
+pub firm_good : SwitchesAreGood → (v : View) (device : DeviceId) → IsView v → IsFirm v device → IsGood v device
 firm_good switches v device is (inl end) = end.good
 firm_good switches v device is (inr switch) = switches v v.channel device is switch
 

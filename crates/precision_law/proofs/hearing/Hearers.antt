@@ -1,11 +1,11 @@
 -- The records by which a device hears, and what it has heard by them.
 use Rattle.precision_law.proofs.words.Std.{◌<◌, ◌==◌, ◌∙◌, ◌≡◌, ◌≤◌, Bool, List, MatchBool, None, Option, Some, ap, arith, eq-eqb, false, if◌then◌else◌, inl, inr, ints, le-leb, option_and_then, option_map, option_map_or, refl, subst, suc, sym, true, ℕ, ℤ}
 use Rattle.precision_law.proofs.words.Plans.{Channel, DeviceId, Members, Pcf, Units}
-use Rattle.precision_law.proofs.words.Runs.{Happening, IsCaused, Judgement, Within, adjustment_at_hearing, before_permanence, cycle_in, expected_by, founded_at, frame_by, heard_as, heard_by, hearing_by, last_cycle, observation_window, plan_of, same_judgement, state_at_hearing, time_of}
+use Rattle.precision_law.proofs.words.Runs.{Happening, IsCaused, Judgement, Within, before_permanence, cycle_in, expected_by, founded_at, frame_by, heard_by, hearing_by, last_cycle, observation_window, plan_of, same_judgement, time_of}
 use Rattle.precision_law.proofs.words.Laws.{HasTimeAt, HearsBy, IsInBlock, IsNearHull, IsOfHearer, IsOldAt, IsView, View, adjustment_left, base_of}
 use Rattle.precision_law.proofs.words.Clocks.{before_of, emission_shows, hearer_not_cm, room, sizes_are}
 use Rattle.precision_law.proofs.words.Blocks.{AreUpTo, IsGoodHearing, before_narrow, earlier_in_block, expected_is, few_cycles, follows_before, hears_as_at, old_shows}
-use Rattle.precision_law.proofs.block.Goings.{judged_up_to, next_first, up_to_then}
+use Rattle.precision_law.proofs.block.Goings.{judged_at, judged_up_to, next_first, up_to_then}
 use Rattle.precision_law.proofs.emission.Fits.{heard_as_within, heard_within}
 
 -- ---- judgements
@@ -15,8 +15,7 @@ pub record IsJudgedAs (v : View) (device : DeviceId) (h : Happening) (point : �
   pub judged : List Happening
   pub up_to : AreUpTo v (time_of h) judged
   pub members : Members
-  pub is : judgement ≡ heard_as (plan_of v.scenario.network device) (observation_window v.scenario.network)
-      (state_at_hearing v.scenario judged device (time_of h)) (adjustment_at_hearing v.scenario judged device (time_of h)).0 point (cycle_in h) members
+  pub is : judgement ≡ judged_at v.scenario device judged (time_of h) point (cycle_in h) members
 
 elsewhere : (b : Bool) (P Q : Type 0) → b ≡ false → MatchBool b P Q → Q
 elsewhere false P Q e m = m
@@ -73,8 +72,7 @@ record_within v n t block device channel point h judgement is has old lt g near 
     near g.timely in
     let expected = expected_is v device (suc n) point is in
     let precision = (sizes_are v is).precision in
-    j.is ∙ ap (λ (c : ℕ). heard_as (plan_of s.network device) (observation_window s.network) (state_at_hearing s j.judged device q)
-    (adjustment_at_hearing s j.judged device q).0 point c j.members) g.of_cycle
+    j.is ∙ ap (λ (c : ℕ). judged_at s device j.judged q point c j.members) g.of_cycle
     ∙ heard_as_within (plan_of s.network device) (observation_window s.network) _ _ point (suc n) j.members stands.state
     (le-leb (suc n) last_cycle (few_cycles v (suc n) _ is g.is_hull (omega (arith, ints, g.not_early, lt, block.in_run))))
     (omega (arith, ints, expected, precision, stands.adjustment, within.least)) (omega (arith, ints, expected, precision, stands.adjustment, within.most))

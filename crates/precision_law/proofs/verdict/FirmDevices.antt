@@ -96,7 +96,7 @@ module _ (laws : FramesGoSo) (goes : BlocksGoSo) (v : View) (n t : ℕ) (block :
   heard_sound : (frame : HeardFrame) × IsIn (within_on v.channel frame) (heard_since v.scenario front device t)
       × (count_of sends.members ≤ count_of frame.members)
   heard_sound =
-      let r = receives goes v n t block is device sends.cm firm at sends.is_cm sends.first sends.members sends.emission timed in
+      let r = receives v n t block is device sends.cm firm at sends.is_cm sends.first sends.members sends.emission timed goes in
       let h = r.h in
       let same : count_of (members_by h) ≡ count_of sends.members = ap (λ (x : ℕ). let m : Members = record { 0 = x } in count_of m) r.members_are in
       let many : 3 ≤ count_of (members_by h) = omega (arith, same, three) in
