@@ -1,11 +1,11 @@
 -- How an old device corrects its clock in a block: by frames of the block's cycle, by whose bases the clock is anchored.
 use Rattle.precision_law.proofs.words.Std.{◌*◌, ◌+ℤ◌, ◌+◌, ◌-ℤ◌, ◌-◌, ◌<◌, ◌∙◌, ◌≡◌, ◌≤ℤ◌, ◌≤◌, Bool, List, None, Option, Some, and_parts, ap, arith, cases_lt, false, if◌then◌else◌, inl, inr, int_le, int_lt, ints, leb-true, nat_le, negsuc, option_and_then, option_map_or, pos, refl, subst, suc, sym, true, zero, ℕ, ℤ}
 use Rattle.precision_law.proofs.words.Plans.{Channel, DeviceId, HeardFrame, Hearing, IsBestOf, IsMean, Masters, Summarizes, Summary, Units, best_on, correction_of, count_of, deviation_by, expected_at, mean_of-floor, within_on}
-use Rattle.precision_law.proofs.words.Runs.{Happening, IsIn, Judgement, Within, adjustment_before, changed_at, correction_value, earlier, expected_by, had_come, has_cleared, heard_since, in_left, in_parts, is_integration_cycle, local_at_change, next_cycle, plan_of, recorded_cycle, same_some, standing_before, time_of}
+use Rattle.precision_law.proofs.words.Runs.{Happening, IsIn, Judgement, Within, adjustment_before, changed_at, correction_value, earlier, expected_by, had_come, has_cleared, heard_since, in_left, is_integration_cycle, local_at_change, next_cycle, plan_of, recorded_cycle, same_some, standing_before, time_of}
 use Rattle.precision_law.proofs.words.Laws.{AreBeforeCorrections, CorrectsSo, HasTimeAt, HearsBy, Hull, IsAnchored, IsAnchoredIn, IsInBlock, IsNearHull, IsOldAt, IsSetFor, IsSharedCorrection, IsView, Stands, View, adjustment_left, base_of, cycle_set, first_correction, hull_of, is_correction, last_setting, setting}
 use Rattle.precision_law.proofs.words.Clocks.{IsHearingOf, adjustment_stays, best_is_heard, hearing_of, hears_by, instants_are_in_order, int_le-is, room, same_adjustment, same_cleared, same_next, set_clocks_show, setting_is, settings_stay, sizes_are, steady, two_frames_anchor}
 use Rattle.precision_law.proofs.words.Blocks.{FramesGoSo, IsGoodHearing, IsLate, WentSo, before_narrow, block_ends, cleared_from, corrections_go_on, expected_is, follows_before, good_hearing, high_by, int_lt-is, joiner_integrates, low_by, members_by, near_hull, old_number, set_by_joining}
-use Rattle.precision_law.proofs.block.Goings.{had_time}
+use Rattle.precision_law.proofs.block.Goings.{had_time, in_part}
 
 -- ---- how late an old device heard what it corrects by
 
@@ -56,14 +56,10 @@ module _ (v : View) (k t : ℕ) (block : IsInBlock v (suc k) t) (device : Device
   late_by front hearing split heard (Some x) e =
       let next = block.before.next in
       let here = setting_is v device t x e in
-      let in_front : IsIn x front = elim (in_parts x front split.rest (subst (IsIn x) split.whole here.there)) [
-        | inl f ↦ f
-        | inr r ↦ (let wrong = split.later x r in absurd (omega (arith, wrong, here.early)))
-      ] in
       elim (block.before.points w k refl at_w device (had_time v device next t is block.from old has)).how [
         | inl corrected ↦
             let time = ap (λ (o : Option Happening). option_map_or (λ g. pos (time_of g)) o (negsuc 0)) (last ∙ e) in
-            omega (arith, ints, corrected.1, time, heard.since x in_front here.early here.sets)
+            omega (arith, ints, corrected.1, time, heard.since x (in_part v t front x split here.there here.early) here.early here.sets)
         | inr joined ↦
             let not_corrected = sym (ap (λ (o : Option Happening). option_map_or (λ g. is_correction g.note.body) o false) (last ∙ e)) ∙ joined.0 in
             let integrates = joiner_integrates (earlier t v.records) device x e here.sets not_corrected in

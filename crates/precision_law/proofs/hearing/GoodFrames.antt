@@ -1,7 +1,7 @@
 -- The frames with a good member that a device hears in a block.
-use Rattle.precision_law.proofs.words.Std.{◌+ℤ◌, ◌<ℤ◌, ◌<◌, ◌∙◌, ◌≡◌, ◌≤ℤ◌, ◌≤◌, ◌⊎◌, ap, arith, ints, pos, subst, suc, sym, true, ℕ, ℤ}
-use Rattle.precision_law.proofs.words.Plans.{Channel, DeviceId, Members, count_of}
-use Rattle.precision_law.proofs.words.Runs.{Happening, IsCaused, Judgement, Within, founded_at, is_cm, time_of}
+use Rattle.precision_law.proofs.words.Std.{◌+ℤ◌, ◌<ℤ◌, ◌<◌, ◌∙◌, ◌≡◌, ◌≤ℤ◌, ◌≤◌, ◌⊎◌, ap, arith, ints, pos, subst, suc, sym, ℕ, ℤ}
+use Rattle.precision_law.proofs.words.Plans.{Channel, DeviceId, IsCmOf, Members, count_of}
+use Rattle.precision_law.proofs.words.Runs.{Happening, IsCaused, Judgement, Within, founded_at, time_of}
 use Rattle.precision_law.proofs.words.Laws.{AreGood, BlocksGoSo, HasTimeAt, HearsBy, IsEmission, IsInBlock, IsOfHearer, IsOldAt, IsView, View, first_correction}
 use Rattle.precision_law.proofs.words.Blocks.{FramesGoSo, IsGoodHearing, IsSentOn, WentSo, cm_of, earlier_in_block, emission_is_one, hulls_are_narrow, members_by, near_hull, one_cm, tidy}
 use Rattle.run_law.specs.declared.note.NoteBody.TheVariants as notes
@@ -20,19 +20,12 @@ sooner v n t block device q at lt = omega (arith, ints, at.late, lt)
 
 -- ---- one frame a channel
 
--- who sends is a compression master
-emission_cm : (v : View) (h : Happening) (cm : DeviceId) (cycle : ℕ) (members : Members) → IsView v → IsEmission v h cm cycle members
-    → is_cm v.scenario.network cm ≡ true
-emission_cm v h cm cycle members is e =
-    let at = founded_at v.scenario v.records h is.run.founded e.there in
-    (subst (IsCaused v.scenario at.front h.note.time) e.is at.due.cause).cm
-
--- one record sends one set of members
-one_set : (v : View) (a b : Happening) (c d : DeviceId) (cycle : ℕ) (members others : Members) → IsEmission v a c cycle members → IsEmission v b d cycle others
-    → a ≡ b → members ≡ others
-one_set v a b c d cycle members others x y same =
-    let one : notes.Compressed c x.opened x.at cycle members x.verdict ≡ notes.Compressed d y.opened y.at cycle others y.verdict = sym x.is
-    ∙ ap (λ (h : Happening). h.note.body) same ∙ y.is in cc
+-- who sends one is the compression master of the channel
+sender_is : (v : View) (n : ℕ) (channel : Channel) (members : Members) (h : Happening) → IsView v → (x : IsSentOn v n channel members h)
+    → IsCmOf v.scenario.network channel x.cm
+sender_is v n channel members h is x =
+    let at = founded_at v.scenario v.records h is.run.founded x.emission.there in
+    cm_of v x.cm channel (subst (IsCaused v.scenario at.front h.note.time) x.emission.is at.due.cause).cm x.of_channel
 
 module _ (goes : BlocksGoSo) (v : View) (n t : ℕ) (block : IsInBlock v n t) (is : IsView v) where
   -- each earlier instant of the block went as it should
@@ -43,18 +36,20 @@ module _ (goes : BlocksGoSo) (v : View) (n t : ℕ) (block : IsInBlock v n t) (i
   pub same_sent : (channel : Channel) (a b : Happening) (members others : Members) → IsSentOn v n channel members a → IsSentOn v n channel others b
       → time_of a < t → time_of b < t → (a ≡ b) × (members ≡ others)
   same_sent channel a b members others x y before_a before_b =
-      let one = one_cm v channel y.cm x.cm is (cm_of v y.cm channel (emission_cm v b y.cm (suc n) others is y.emission) y.of_channel)
-      (cm_of v x.cm channel (emission_cm v a x.cm (suc n) members is x.emission) x.of_channel) in
+      let one = one_cm v channel y.cm x.cm is (sender_is v n channel others b is y) (sender_is v n channel members a is x) in
       let e : IsEmission v b x.cm (suc n) others = subst (λ (d : DeviceId). IsEmission v b d (suc n) others) one y.emission in
+      let f = x.emission in
       let same = emission_is_one v t a b x.cm (suc n) members others is (tidy v n t block.before went_so)
-      (λ hull at. hulls_are_narrow goes v n block.before hull is at) x.emission e before_a before_b x.good y.good in
-      (same, one_set v a b x.cm y.cm (suc n) members others x.emission y.emission same)
+      (λ hull at. hulls_are_narrow goes v n block.before hull is at) f e before_a before_b x.good y.good in
+      let body : notes.Compressed x.cm f.opened f.at (suc n) members f.verdict ≡ notes.Compressed x.cm e.opened e.at (suc n) others e.verdict =
+      sym f.is ∙ ap (λ (h : Happening). h.note.body) same ∙ e.is in
+      (same, cc)
 
   -- an old device judges one of three members, or of good ones alone, to be within
-  pub heard_within : FramesGoSo → (device : DeviceId) (channel : Channel) (point : ℤ) (judgement : Judgement) (h : Happening) → HasTimeAt v device t
-      → IsOldAt v block.before.next device t → time_of h < t → IsOfHearer judgement → HearsBy v device channel point judgement h
+  pub heard_within : FramesGoSo → (device : DeviceId) (channel : Channel) (point : ℤ) (judgement : Judgement) (h : Happening)
+      → IsAtPoint v n t block device → time_of h < t → IsOfHearer judgement → HearsBy v device channel point judgement h
       → IsGoodHearing v n block.before device channel point h → (3 ≤ count_of (members_by h)) ⊎ AreGood v (members_by h) → judgement ≡ Within
-  heard_within laws device channel point judgement h has old lt hearer hears g enough =
-      record_within v n t block device channel point h judgement is has old lt g
+  heard_within laws device channel point judgement h at lt hearer hears g enough =
+      record_within v n t block device channel point h judgement is at.has at.old lt g
       (near_hull laws v n t block.before is went_so device channel point h (omega (arith, lt)) g enough)
       (judged_as v device channel point judgement h is hearer hears)

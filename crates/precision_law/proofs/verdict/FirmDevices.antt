@@ -103,7 +103,7 @@ module _ (laws : FramesGoSo) (goes : BlocksGoSo) (v : View) (n t : ℕ) (block :
       let lt = sooner v n t block device (time_of h) at r.late in
       let g = good_hearing laws v n t block.before is (went_so goes v n t block is) device v.channel r.point h (omega (arith, lt)) r.judgement r.hearer r.hears
       (late_from v n (time_of h) block.before is r.from) (λ e cm f. laws.three v e cm _ (members_by h) is f many) in
-      let within = heard_within goes v n t block is laws device v.channel r.point r.judgement h at.has at.old lt r.hearer r.hears g (inl many) in
+      let within = heard_within goes v n t block is laws device v.channel r.point r.judgement h at lt r.hearer r.hears g (inl many) in
       let hears : HearsBy v device v.channel r.point Within h = subst (λ (j : Judgement). HearsBy v device v.channel r.point j h) within r.hears in
       let shown = heard_within_by v device v.channel r.point h hears in
       let hearing : Hearing = heard_by v.channel h shown.point true in

@@ -121,7 +121,7 @@ module _ (laws : FramesGoSo) (goes : BlocksGoSo) (v : View) (n t : ℕ) (block :
       let this = hears.this in
       let lt = sooner v n t block device (time_of hears.h) at g.not_late in
       let never : (3 ≤ count_of own) ⊎ AreGood v own → ⊥ = λ enough.
-      this.judges.outside outside (heard_within goes v n t block is laws device hearing.channel hearing.frame.point.0 this.judgement hears.h at.has at.old lt
+      this.judges.outside outside (heard_within goes v n t block is laws device hearing.channel hearing.frame.point.0 this.judgement hears.h at lt
       this.judges.hearer this.hears g enough) in
       let two : count_of own ≤ 2 = elim (cases_lt 2 (count_of own)) [ inl many ↦ absurd (never (inl (omega (arith, many)))) | inr few ↦ few ] in
       let before : time_of g.emission < t = omega (arith, g.in_order, lt) in
