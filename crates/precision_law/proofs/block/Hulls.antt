@@ -1,5 +1,5 @@
 -- The hull of a cycle.
-use Rattle.precision_law.proofs.words.Std.{◌&&◌, ◌==◌, ◌∙◌, ◌∷◌, ◌≡◌, ◌≤ℤ◌, ◌≤◌, Bool, List, None, Option, Some, [], and_parts, ap, arith, clamps, eq-eqb, eqb-true, false, filter, fold, inl, inr, int_le, int_max, int_min, ints, not, not-true, not_from_false, option_and_then, pos, refl, subst, suc, sym, true, ℕ, ℤ}
+use Rattle.precision_law.proofs.words.Std.{◌&&◌, ◌==◌, ◌∙◌, ◌∷◌, ◌≡◌, ◌≤ℤ◌, ◌≤◌, List, None, Option, Some, [], and_parts, ap, arith, clamps, eq-eqb, eqb-true, false, filter, fold, inl, inr, int_le, int_max, int_min, ints, not, not-true, not_from_false, option_and_then, pos, refl, subst, suc, sym, true, ℕ, ℤ}
 use Rattle.precision_law.proofs.words.Plans.{DeviceId, int_le-true}
 use Rattle.precision_law.proofs.words.Runs.{Happening, IsIn, NoteBody, in_filter, is_broken, same_some, time_of}
 use Rattle.precision_law.proofs.words.Laws.{Follows, Hull, IsDispatch, IsInHull, View, first_dispatch, hull_of, hull_over, is_dispatch, last_dispatch, widened}
@@ -86,8 +86,7 @@ pub tested : (v : View) (before : Hull) (cycle : ℕ) (h : Happening) (body : No
 tested v before cycle h (notes.Sent device of_cycle) e =
     let low = int_le (first_dispatch v.sizes before) (pos (time_of h)) in
     let high = int_le (pos (time_of h)) (last_dispatch v.sizes before) in
-    let whole = assoc (not (is_broken v.scenario device v.until)) (of_cycle == cycle) (low && high) e in
-    let a = and_parts (not (is_broken v.scenario device v.until) && of_cycle == cycle) (low && high) whole in
+    let a = and_parts (not (is_broken v.scenario device v.until) && of_cycle == cycle) (low && high) e in
     let b = and_parts (not (is_broken v.scenario device v.until)) (of_cycle == cycle) a.0 in
     let c = and_parts low high a.1 in
     record {
@@ -97,10 +96,6 @@ tested v before cycle h (notes.Sent device of_cycle) e =
       low = int_le-is (first_dispatch v.sizes before) (pos (time_of h)) c.0;
       high = int_le-is (pos (time_of h)) (last_dispatch v.sizes before) c.1;
     }
-  where
-    assoc : (x y z : Bool) → (x && y && z) ≡ true → ((x && y) && z) ≡ true
-    assoc true y z e = e
-    assoc false y z e = e
 tested v before cycle h other e = absurd cc
 
 -- the dispatch of a good master in time passes the test

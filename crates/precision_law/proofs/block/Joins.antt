@@ -1,9 +1,9 @@
 -- How a frame tells a device the time.
-use Rattle.precision_law.proofs.words.Std.{◌*ℤ◌, ◌*◌, ◌+◌, ◌-ℤ◌, ◌∙◌, ◌≡◌, ◌≤ℤ◌, ◌≤◌, Bool, List, MatchBool-at_false, MatchBool-at_true, None, Option, Some, and_parts, ap, arith, cases_Bool, false, if◌then◌else◌, inl, inr, ints, leb-true, nat_le, negsuc, not, option_and_then, option_map, option_map_or, pos, refl, subst, sym, true, unsigned_abs, ℕ, ℤ}
-use Rattle.precision_law.proofs.words.Plans.{Channel, Cm, Device, DeviceId, Integrating, IsDeviceInRange, Joints, Link, LinkId, Members, Network, Off, Opened, Pcf, Point, Role, State, SyncPlan, Taken, Units, all_at, amount, compression_time, count_of, device_at, expected_at, is_end_system, link_at, opened, target_by}
-use Rattle.precision_law.proofs.words.Runs.{Happening, Integrates, IsArrivedRecord, IsCaused, IsCollectedOrDropped, IsDue, IsFounded, IsIn, IsPermanenceOutcome, NoteBody, Reason, adjustment_with, channel_of, channel_of_link, cycle_in, expected_by, founded_at, frame_by, heard_as, heard_by_schedule, heard_enough, is_cm, is_cm_role, is_joined_by, last_cycle, members_in, numbered, numbered_in, observation_window, place_of, plan_of, ripe_by_role, same_judgement}
+use Rattle.precision_law.proofs.words.Std.{◌*ℤ◌, ◌*◌, ◌+◌, ◌-ℤ◌, ◌∙◌, ◌≡◌, ◌≤ℤ◌, ◌≤◌, Bool, List, MatchBool-at_false, None, Option, Some, and_parts, ap, arith, false, if◌then◌else◌, inl, inr, ints, leb-true, nat_le, negsuc, not, option_and_then, option_map, option_map_or, pos, refl, subst, sym, true, unsigned_abs, ℕ, ℤ}
+use Rattle.precision_law.proofs.words.Plans.{Channel, Cm, Device, DeviceId, Integrating, IsDeviceInRange, Joints, Link, LinkId, Members, Network, Off, Pcf, Point, Role, State, SyncPlan, Units, all_at, amount, compression_time, count_of, device_at, expected_at, is_end_system, link_at, opened, target_by}
+use Rattle.precision_law.proofs.words.Runs.{Happening, Integrates, IsArrivedRecord, IsCaused, IsDue, IsFounded, IsIn, IsPermanenceOutcome, NoteBody, adjustment_with, channel_of, channel_of_link, cycle_in, expected_by, founded_at, frame_by, heard_as, heard_by_schedule, heard_enough, is_cm, is_cm_role, is_joined_by, last_cycle, members_in, numbered, numbered_in, observation_window, place_of, plan_of, same_judgement}
 use Rattle.precision_law.proofs.words.Laws.{HearsBy, IsView, View, setting}
-use Rattle.precision_law.proofs.words.Clocks.{device_of, passes, same_device, sizes_are, some_of}
+use Rattle.precision_law.proofs.words.Clocks.{device_of, hearer_not_cm, passes, same_device, sizes_are, some_of}
 use Rattle.run_law.specs.declared.note.NoteBody.TheVariants as notes
 use Rattle.run_law.specs.declared.steps.Ripe.TheVariants as ripe
 
@@ -62,25 +62,14 @@ integrates_by plan precision Integrating adjustment point cycle members e =
     record { looks = refl; enough = leb-true plan.threshold (count_of members) both.0 }
 integrates_by plan precision state adjustment point cycle members e = absurd (never_in_time _ e)
 
--- what a compression master collects does not tell it the time
-never_collected : (n : Network) (points : List Point) (point : Point) (fault : Option Reason) → IsCollectedOrDropped n points point fault ripe.Integrates → ⊥
-never_collected n points point (Some reason) e = absurd cc
-never_collected n points point None taken = no_role taken.taken taken.becomes
-  where
-    no_role : (t : Taken) → ripe.Integrates ≡ ripe_by_role t → ⊥
-    no_role Opened e = absurd cc
-    no_role t e = absurd cc
-
--- so what does is heard by another device
+-- what becomes permanent so is heard by another device than a compression master
 pub ripe_integrates : (n : Network) (device : DeviceId) (state : State) (adjustment : ℤ) (points : List Point) (frame : Pcf) (point : ℤ)
     → IsPermanenceOutcome n device state adjustment points frame point ripe.Integrates → (is_cm n device ≡ false)
     × IsEnough (plan_of n device) state frame.members
-ripe_integrates n device state adjustment points frame point so = elim (cases_Bool (is_cm n device)) [
-  | inl at ↦ absurd (never_collected n points _ _ (MatchBool-at_true _ _ at so))
-  | inr at ↦
-      let same = sym (same_judgement Integrates _ (MatchBool-at_false _ _ at so)) in
-      (at, integrates_by (plan_of n device) (observation_window n) state adjustment point frame.cycle frame.members same)
-]
+ripe_integrates n device state adjustment points frame point so =
+    let other = hearer_not_cm n device state adjustment points frame point Integrates tt so in
+    let same = sym (same_judgement Integrates _ (MatchBool-at_false _ _ other so)) in
+    (other, integrates_by (plan_of n device) (observation_window n) state adjustment point frame.cycle frame.members same)
 
 -- ---- the record of a joining
 

@@ -62,25 +62,16 @@ first_or_not v device =
       ]
     ]
 
--- among devices there is one, or none is
-some_first : (v : View) (ds : List Device) (k : ℕ) → ((device : DeviceId) × IsFirstMaster v device)
-    ⊎ ((j : ℕ) → j < length ds → IsFirstMaster v (record { 0 = k + j }) → ⊥)
-some_first v [] k = inr (λ j lt. absurd (omega (arith, lt)))
-some_first v (d ∷ ds) k = elim (first_or_not v (record { 0 = k })) [
-  | inl one ↦ inl (record { 0 = k }, one)
-  | inr none ↦ elim (some_first v ds (k + 1)) [ inl found ↦ inl found | inr all ↦ inr (at none all) ]
+-- of what may be found at a place, it is at one below this, or at none
+some_below : (P : ℕ → Type 0) → ((i : ℕ) → P i ⊎ (P i → ⊥)) → (n : ℕ) → ((i : ℕ) × P i) ⊎ ((i : ℕ) → i < n → P i → ⊥)
+some_below P decide zero = inr (λ i lt p. omega (arith, lt))
+some_below P decide (suc n) = elim (decide n) [
+  | inl here ↦ inl (n, here)
+  | inr not_here ↦ elim (some_below P decide n) [
+    | inl found ↦ inl found
+    | inr none ↦ inr (λ i lt p. elim (cases_lt i n) [ inl below ↦ none i below p | inr ge ↦ not_here (subst P (omega (arith, lt, ge)) p) ])
+  ]
 ]
-  where
-    plus_zero : (n : ℕ) → n + 0 ≡ n
-    plus_zero n = omega arith
-
-    shifted : (a b : ℕ) → a + suc b ≡ (a + 1) + b
-    shifted a b = omega arith
-
-    at : (IsFirstMaster v (record { 0 = k }) → ⊥) → ((j : ℕ) → j < length ds → IsFirstMaster v (record { 0 = (k + 1) + j }) → ⊥) → (j : ℕ) → j < length (d ∷ ds)
-        → IsFirstMaster v (record { 0 = k + j }) → ⊥
-    at none all zero lt m = none (subst (λ (i : ℕ). IsFirstMaster v (record { 0 = i })) (plus_zero k) m)
-    at none all (suc j) lt m = all j (omega (arith, lt)) (subst (λ (i : ℕ). IsFirstMaster v (record { 0 = i })) (shifted k j) m)
 
 -- what has a role is one of the devices
 within : (xs : List Device) (i : ℕ) (kind : Role → Bool) → option_map_or (λ d. kind d.role) (slice_get xs i) false ≡ true → i < length xs
@@ -91,19 +82,14 @@ within (x ∷ xs) (suc i) kind e = (let more = within xs i kind e in omega (arit
 -- the masters are enough, so there is one
 pub first_master : (v : View) → IsView v → (device : DeviceId) × IsFirstMaster v device
 first_master v is =
-    elim (some_first v v.scenario.network.device 0) [
-      | inl found ↦ found
+    elim (some_below (λ i. IsFirstMaster v (record { 0 = i })) (λ i. first_or_not v (record { 0 = i })) (length v.scenario.network.device)) [
+      | inl found ↦ (record { 0 = found.0 }, found.1)
       | inr none ↦
           let enough = enough_masters v (record { 0 = 0 }) is
-          (λ device i m e.
-          absurd (none device.0 (within v.scenario.network.device device.0 is_master m.master)
-          (subst (λ (k : ℕ). IsFirstMaster v (record { 0 = k })) (zero_plus device.0) m))) in
+          (λ device i m e. absurd (none device.0 (within v.scenario.network.device device.0 is_master m.master) m)) in
           let nothing : count_of (record { 0 = 0 }) ≤ 0 = ones_le_self 0 in
           absurd (omega (arith, enough, (is.lawful.rules Masters 2).threshold_least refl, nothing))
     ]
-  where
-    zero_plus : (n : ℕ) → n ≡ 0 + n
-    zero_plus n = omega arith
 
 -- ---- what a dispatch brings
 

@@ -1,7 +1,7 @@
 -- What a device hears is a frame that a compression master sent.
 use Rattle.precision_law.proofs.words.Std.{◌*◌, ◌+◌, ◌==◌, ◌∙◌, ◌∷◌, ◌≡◌, Bool, List, MatchBool-at_true, None, Option, Some, ap, arith, both_ways, eqb-true, false, false_from_ne_true, if◌then◌else◌, inl, inr, is_some, not-true, option_and_then, option_map_or, refl, subst, sym, true, ℕ, ℤ}
 use Rattle.precision_law.proofs.words.Plans.{Channel, Device, DeviceId, Down, IsDeviceInRange, Joints, Link, LinkId, Network, Pcf, Point, Relay, Role, Taken, Up, all_at, amount, compression_time, device_at, is_end_system, link_at, opened}
-use Rattle.precision_law.proofs.words.Runs.{Happening, Integrates, IsCaused, IsCollectedOrDropped, IsIn, IsPermanenceOutcome, Judgement, Outside, Reason, Within, cause_of, cycle_in, expected_by, founded_at, frame_by, in_left, is_cm, is_cm_role, is_parent_of, is_relay_role, members_in, numbered, numbered_front, numbered_in, ripe_as, ripe_by_role, waits_for, way_to}
+use Rattle.precision_law.proofs.words.Runs.{Happening, Integrates, IsCaused, IsCollectedOrDropped, IsIn, IsPermanenceOutcome, Judgement, Outside, Reason, Within, cause_of, chain, cycle_in, expected_by, founded_at, frame_by, in_left, is_cm, is_cm_role, is_parent_of, is_relay_role, members_in, numbered, numbered_front, numbered_in, ripe_as, ripe_by_role, waits_for, way_to}
 use Rattle.precision_law.proofs.words.Laws.{HearingsAreOfFrames, IsOfHearer, IsView, Sizes, View, expectation}
 use Rattle.compression.specs.declared.taken.Taken.TheVariants as taken
 use Rattle.run_law.specs.declared.note.NoteBody.TheVariants as notes
@@ -14,17 +14,11 @@ use Rattle.precision_law.proofs.trips.Descents.{emission_shows, frames_down_are_
 -- a judgement of one who hears is no role in a collection
 role_not_heard : (j : Judgement) (t : Taken) → IsOfHearer j → ripe_as j ≡ ripe_by_role t → ⊥
 role_not_heard Within taken.Opened h e = absurd cc
-role_not_heard Within taken.Joined h e = absurd cc
-role_not_heard Within taken.Repeat h e = absurd cc
-role_not_heard Within taken.OtherCycle h e = absurd cc
+role_not_heard Within t h e = absurd cc
 role_not_heard Outside taken.Opened h e = absurd cc
-role_not_heard Outside taken.Joined h e = absurd cc
-role_not_heard Outside taken.Repeat h e = absurd cc
-role_not_heard Outside taken.OtherCycle h e = absurd cc
+role_not_heard Outside t h e = absurd cc
 role_not_heard Integrates taken.Opened h e = absurd cc
-role_not_heard Integrates taken.Joined h e = absurd cc
-role_not_heard Integrates taken.Repeat h e = absurd cc
-role_not_heard Integrates taken.OtherCycle h e = absurd cc
+role_not_heard Integrates t h e = absurd cc
 role_not_heard other t h e = absurd h
 
 drop_not_heard : (j : Judgement) (reason : Reason) → IsOfHearer j → ripe_as j ≡ ripe.Dropped reason → ⊥
@@ -76,18 +70,12 @@ hearer_down v device link is cm waits =
 
 -- ---- what is heard
 
-expected_else : (v : View) (device : DeviceId) → IsView v → is_cm v.scenario.network device ≡ false → expected_by v.scenario.network device ≡ expectation
-    v.sizes
-expected_else v device is cm =
+expected_is : (v : View) (device : DeviceId) (b : Bool) → IsView v → is_cm v.scenario.network device ≡ b
+    → expected_by v.scenario.network device ≡ (if b then v.sizes.dmax + v.sizes.compression else expectation v.sizes)
+expected_is v device b is cm =
     let n = v.scenario.network in
-    ap (λ (b : Bool). if b then amount n.dmax + compression_time n else 2 * amount n.dmax + compression_time n) cm ∙ sym (ap expectation is.sizes)
-
-expected_cm : (v : View) (device : DeviceId) → IsView v → is_cm v.scenario.network device ≡ true
-    → expected_by v.scenario.network device ≡ v.sizes.dmax + v.sizes.compression
-expected_cm v device is cm =
-    let n = v.scenario.network in
-    let same : v.sizes.dmax + v.sizes.compression ≡ amount n.dmax + compression_time n = ap (λ (s : Sizes). s.dmax + s.compression) is.sizes in
-    ap (λ (b : Bool). if b then amount n.dmax + compression_time n else 2 * amount n.dmax + compression_time n) cm ∙ sym same
+    ap (λ (x : Bool). if x then amount n.dmax + compression_time n else 2 * amount n.dmax + compression_time n) cm
+    ∙ sym (ap (λ (s : Sizes). if b then s.dmax + s.compression else expectation s) is.sizes)
 
 pub hearings_are_of_frames : HearingsAreOfFrames
 hearings_are_of_frames v device channel point judgement h is hearer hears = elim hears.how [
@@ -135,7 +123,7 @@ hearings_are_of_frames v device channel point judgement h is hearer hears = elim
             back = record { causes = p.arrival ∷ from_cm.back.causes; chain = (there_all, from_cm.back.chain); begins = from_cm.back.begins };
             ripe_at = refl;
             reading = far.5;
-            due = expected_else v device is not_cm;
+            due = expected_is v device false is not_cm;
           });
         },
         (omega (arith, from_cm.in_order, earlier_arrival)),
@@ -157,7 +145,7 @@ hearings_are_of_frames v device channel point judgement h is hearer hears = elim
                 ∙ ap (λ (m : ℕ). notes.Compressed device own.0 own.1 (cycle_in h) (record { 0 = m }) judgement) shown.1;
           };
           of_channel = own.5;
-          hears = inl (record { same = refl; at_once = refl; reading = own.6; due = expected_cm v device is emits.cm });
+          hears = inl (record { same = refl; at_once = refl; reading = own.6; due = expected_is v device true is emits.cm });
         },
         omega arith,
       )

@@ -76,15 +76,11 @@ deviates s None q = absurd q
 deviates s (Some frame) q =
     (deviation_by s frame, ap (λ (b : Bool). if b then Some (deviation_by s frame) else None) (le-leb s.plan.threshold (count_of frame.members) q))
 
-corrects_left : (a b : Option Units) (d : Units) → a ≡ Some d → (by : Units) × (correction_of a b ≡ Some by)
-corrects_left None b d e = absurd cc
-corrects_left (Some a) None d e = (a, refl)
-corrects_left (Some a) (Some b) d e = (_, refl)
-
-corrects_right : (a b : Option Units) (d : Units) → b ≡ Some d → (by : Units) × (correction_of a b ≡ Some by)
-corrects_right a None d e = absurd cc
-corrects_right None (Some b) d e = (b, refl)
-corrects_right (Some a) (Some b) d e = (_, refl)
+corrects_some : (a b : Option Units) (d : Units) → (a ≡ Some d) ⊎ (b ≡ Some d) → (by : Units) × (correction_of a b ≡ Some by)
+corrects_some None None d e = absurd (elim e [ inl x ↦ cc | inr x ↦ cc ])
+corrects_some None (Some b) d e = (b, refl)
+corrects_some (Some a) None d e = (a, refl)
+corrects_some (Some a) (Some b) d e = (_, refl)
 
 -- a point that is not the one at which a joiner clears comes to a correction or to a clique
 pub verdict_of : (s : Standing) (heard : Summary) → (IsAtIntegration s → ⊥) → ((by : Units) × HasVerdict s heard (Corrected by))
@@ -95,8 +91,8 @@ verdict_of s heard not_at = elim (decided_or (qualifies s.plan.threshold heard.b
     | inl out ↦ inr (inr (not_at, some, out))
     | inr enough ↦
         let by = elim some as (λ _. (by : Units) × (correction_of (deviation_on s heard A) (deviation_on s heard B) ≡ Some by)) [
-          | inl a ↦ (let d = deviates s heard.best_a a in corrects_left (deviation_on s heard A) (deviation_on s heard B) d.0 d.1)
-          | inr b ↦ (let d = deviates s heard.best_b b in corrects_right (deviation_on s heard A) (deviation_on s heard B) d.0 d.1)
+          | inl a ↦ (let d = deviates s heard.best_a a in corrects_some (deviation_on s heard A) (deviation_on s heard B) d.0 (inl d.1))
+          | inr b ↦ (let d = deviates s heard.best_b b in corrects_some (deviation_on s heard A) (deviation_on s heard B) d.0 (inr d.1))
         ] in
         inl (by.0, (not_at, some, enough, by.1))
   ]
