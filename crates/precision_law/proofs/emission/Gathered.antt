@@ -3,13 +3,13 @@ use Rattle.precision_law.proofs.words.Std.{◌*◌, ◌+ℤ◌, ◌+◌, ◌==�
 use Rattle.precision_law.proofs.words.Plans.{AreClusters, Cluster, DeviceId, IsCmOf, Members, Pcf, Point, Units, Up, Way, amount, has_point_of, none, point_at, role, role_in}
 use Rattle.precision_law.proofs.words.Runs.{Happening, IsBefore, IsCaused, IsDue, IsIn, IsSplit, Judgement, NoteBody, adjustment_at_hearing, cycle_in, founded_at, frame_by, in_left, key, master_of, member_of, members_in, observation_window, place_of, point_by, points_of, rank, split, state_at_hearing, time_of, timed}
 use Rattle.precision_law.proofs.words.Laws.{BlocksGoSo, HasTimeAt, Hull, IsDispatch, IsFirstMaster, IsInBlock, IsInHull, IsInTime, IsRipe, IsTrip, IsView, Leg, ShowsIn, View, adjustment_left, first_correction, has_time, last_dispatch}
-use Rattle.precision_law.proofs.words.Clocks.{IsRipeArrival, IsRipeRecord, adjustment_stays, before_place, contains, has_member, is_collected, last_in, master_member, opened_by, permanence_is_sharp, place_of_ripe, room, sizes_are, steady, trip_says}
+use Rattle.precision_law.proofs.words.Clocks.{IsRipeArrival, IsRipeRecord, adjustment_stays, before_place, contains, has_member, is_collected, last_in, master_member, one_more, opened_by, permanence_is_sharp, place_of_ripe, room, sizes_are, steady, trip_says}
 use Rattle.precision_law.proofs.words.Blocks.{IsReadAt, arrival_young, before_narrow, contained, earlier_in_block, ends_soon, later_point, master_of_bit, old_shows, place_order, point_record, points_ordered, read_at}
 use Rattle.compression.specs.declared.taken.Taken.TheVariants as taken
 use Rattle.precision_law.proofs.block.Dispatched.{IsCalm, old_then, synchronised_then}
 use Rattle.precision_law.proofs.block.Goings.{early_show, up_to_then}
 use Rattle.precision_law.proofs.emission.Aimed.{IsAimed, hearing_adjustment, of_block_cycle}
-use Rattle.precision_law.proofs.emission.Fits.{IsWithinOf, dispatched_within, no_point_fault}
+use Rattle.precision_law.proofs.emission.Fits.{IsWithinOf, no_point_fault}
 use Rattle.precision_law.proofs.emission.Senders.{IsSender, cm_is, sends_up}
 
 -- ---- points that come
@@ -137,8 +137,12 @@ module _ (goes : BlocksGoSo) (v : View) (n t : ℕ) (block : IsInBlock v n t) (c
       let shows = old_shows v n q q cm there is (omega arith) has old in
       let same = sym (ap (λ (a : Units). a.0) (adjustment_stays v cm before.next q is (omega (arith, behind)) old)) in
       let shows_so = subst (λ (a : ℤ). ShowsIn v.sizes (pos (v.scenario.reading cm q) +ℤ a) n before.hull q) same shows in
-      let within = dispatched_within v.sizes before.hull n (adjustment_left v cm before.next) b.point (v.scenario.reading cm q) q w space
-      (before_narrow v n before) shows_so s.low s.high b.in_time.not_early b.in_time.not_late f.sharp.least f.sharp.most in
+      let narrow = before_narrow v n before in
+      let more = one_more n v.sizes.cycle in
+      let within : IsWithinOf v.sizes (suc n) v.sizes.dmax (b.point +ℤ adjustment_left v cm before.next) = record {
+        least = omega (arith, ints, s.low, f.sharp, b.in_time);
+        most = omega (arith, ints, s.low, f.sharp, b.in_time);
+      } in
       let sizes = sizes_are v is in (
         to,
         within,

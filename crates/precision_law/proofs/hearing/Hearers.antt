@@ -1,12 +1,12 @@
 -- The records by which a device hears, and what it has heard by them.
 use Rattle.precision_law.proofs.words.Std.{◌<◌, ◌==◌, ◌∙◌, ◌≡◌, ◌≤◌, Bool, List, MatchBool, None, Option, Some, ap, arith, eq-eqb, false, if◌then◌else◌, inl, inr, ints, le-leb, option_and_then, option_map, option_map_or, refl, subst, suc, sym, true, ℕ, ℤ}
 use Rattle.precision_law.proofs.words.Plans.{Channel, DeviceId, Members, Pcf, Units}
-use Rattle.precision_law.proofs.words.Runs.{Happening, IsCaused, Judgement, Within, before_permanence, cycle_in, expected_by, founded_at, frame_by, heard_by, hearing_by, last_cycle, observation_window, plan_of, same_judgement, time_of}
-use Rattle.precision_law.proofs.words.Laws.{HasTimeAt, HearsBy, IsInBlock, IsNearHull, IsOfHearer, IsOldAt, IsView, View, adjustment_left, base_of}
-use Rattle.precision_law.proofs.words.Clocks.{before_of, emission_shows, hearer_not_cm, room, sizes_are}
+use Rattle.precision_law.proofs.words.Runs.{Happening, IsCaused, Judgement, Within, before_permanence, cycle_in, founded_at, frame_by, heard_by, hearing_by, last_cycle, observation_window, plan_of, same_judgement, time_of}
+use Rattle.precision_law.proofs.words.Laws.{HasTimeAt, HearsBy, IsInBlock, IsNearHull, IsOfHearer, IsOldAt, IsView, View, base_of}
+use Rattle.precision_law.proofs.words.Clocks.{before_of, emission_shows, hearer_not_cm, one_more, room, sizes_are}
 use Rattle.precision_law.proofs.words.Blocks.{AreUpTo, IsGoodHearing, before_narrow, earlier_in_block, expected_is, few_cycles, follows_before, hears_as_at, old_shows}
 use Rattle.precision_law.proofs.block.Goings.{judged_at, judged_up_to, next_first, up_to_then}
-use Rattle.precision_law.proofs.emission.Fits.{heard_as_within, heard_within}
+use Rattle.precision_law.proofs.emission.Fits.{heard_as_within}
 
 -- ---- judgements
 
@@ -67,15 +67,16 @@ record_within v n t block device channel point h judgement is has old lt g near 
     let le : before.next ≤ q = omega (arith, ints, next_first v n before is, follows.least, g.not_early) in
     let at : IsInBlock v n q = earlier_in_block _ _ _ _ block le (omega (arith, lt)) in
     let stands = hears_as_at v device before.next q t j.judged is j.up_to le lt old has.timed in
-    let within = heard_within v.sizes before.hull g.hull n (adjustment_left v device t) point (base_of v.sizes (time_of g.emission)) (s.reading device) q
-    (expected_by s.network device) (room v is) (before_narrow v n before) (old_shows v n q t device at is (omega (arith, lt)) has old) follows.least follows.most
-    near g.timely in
+    let shows = old_shows v n q t device at is (omega (arith, lt)) has old in
+    let narrow = before_narrow v n before in
+    let space = room v is in
+    let more = one_more n v.sizes.cycle in
     let expected = expected_is v device (suc n) point is in
     let precision = (sizes_are v is).precision in
     j.is ∙ ap (λ (c : ℕ). judged_at s device j.judged q point c j.members) g.of_cycle
     ∙ heard_as_within (plan_of s.network device) (observation_window s.network) _ _ point (suc n) j.members stands.state
     (le-leb (suc n) last_cycle (few_cycles v (suc n) _ is g.is_hull (omega (arith, ints, g.not_early, lt, block.in_run))))
-    (omega (arith, ints, expected, precision, stands.adjustment, within.least)) (omega (arith, ints, expected, precision, stands.adjustment, within.most))
+    (omega (arith, ints, g.timely)) (omega (arith, ints, g.timely))
 
 -- ---- hearings
 
