@@ -2,7 +2,7 @@
 use Rattle.precision_law.proofs.words.Std.{◌*◌, ◌+ℤ◌, ◌+◌, ◌<ℤ◌, ◌<◌, ◌==◌, ◌∙◌, ◌∷◌, ◌≡◌, ◌≤◌, Bool, IsNone, IsSomeAnd, List, None, Option, Some, [], ap, arith, cases_Bool, cases_lt, false, false_from_ne_true, fold, if◌then◌else◌, inl, inr, ints, length, negsuc, option_and_then, option_map_or, pos, refl, subst, suc, sym, true, zero, ℕ, ℤ}
 use Rattle.precision_law.proofs.words.Plans.{Corrected, Device, DeviceId, Event, Integrating, Joining, State, Synchronised, Units, Verdict, amount, device_at, state_at_start, units_of}
 use Rattle.precision_law.proofs.words.Runs.{BeginsOn, ChangesState, Happening, Integrates, IsCaused, IsDue, IsFoundedAt, IsIn, NotOff, Note, NoteBody, Reaches, TurnsOn, Why, changes_adjustment, due_is_there, earlier, founded_at, happening, in_at, in_left, is_joined_by, is_turned_on_at, numbered, numbered_in, parted, place_of, split, start_of, state_after, state_before, state_with, time_of}
-use Rattle.precision_law.proofs.words.Laws.{BlocksGoSo, HasTimeAt, IsClique, IsDispatch, IsFirm, IsFirstMaster, IsGood, IsInBlock, IsOldAt, IsView, MastersDispatch, Stands, View, first_correction, has_time, is_correction, last_dispatch, last_setting, state_left}
+use Rattle.precision_law.proofs.words.Laws.{BlocksGoSo, HasTimeAt, IsClique, IsDispatch, IsFirm, IsFirstMaster, IsGood, IsInBlock, IsOldAt, IsView, MastersDispatch, View, first_correction, has_time, is_correction, last_dispatch, last_setting, state_left}
 use Rattle.precision_law.proofs.words.Clocks.{before_of, before_place, earlier_before, frames_come_first, good_is_correct, in_earlier, natural_of, one_more, reaches_front, room, same_device, setting_is, sizes_are}
 use Rattle.precision_law.proofs.words.Blocks.{before_narrow, earlier_in_block, joining_of_setting, looking_by, master_is_end, not_turned_on_then, turned_at}
 use Rattle.run_law.specs.timed.Dispatching.{Sends}
@@ -112,10 +112,6 @@ stays_synchronised v device (suc bound) t is le on none =
 
 -- ---- before the correction points of a block
 
--- the last dispatch comes before the first correction
-dispatch_first : (v : View) (n : ℕ) (stands : Stands v n) → IsView v → last_dispatch v.sizes stands.hull <ℤ first_correction v.sizes stands.hull
-dispatch_first v n stands is = omega (arith, ints, frames_come_first v.sizes stands.hull (room v is) (before_narrow v n stands))
-
 -- a good device that keeps the time and began on, and an instant of the block before its correction points
 pub record IsCalm (v : View) (n t : ℕ) (block : IsInBlock v n t) (device : DeviceId) (b : ℕ) : Type 0 where
   pub before : pos b <ℤ (first_correction v.sizes block.before.hull +ℤ pos v.sizes.reach)
@@ -219,7 +215,7 @@ masters_dispatch goes v n t block device is late master =
     let b = natural.0 in
     let from : before.next ≤ b = omega (arith, ints, natural.1, early_show v n before is, hull_ordered v n before is, room v is) in
     let calm : IsCalm v n t block device b = record {
-      before = omega (arith, ints, natural.1, dispatch_first v n before is);
+      before = omega (arith, ints, natural.1, frames_come_first v.sizes before.hull (room v is) (before_narrow v n before));
       to = omega (arith, ints, natural.1, late);
       firm = inl (record { end = master_is_end v device master.master; good = master.good });
       good = master.good;

@@ -3,7 +3,7 @@ use Rattle.precision_law.proofs.words.Std.{◌*◌, ◌+ℤ◌, ◌+◌, ◌-ℤ
 use Rattle.precision_law.proofs.words.Plans.{Device, DeviceId, State, Synchronised, Units, adjustment_at_start, amount, device_at, is_end_system, is_master}
 use Rattle.precision_law.proofs.words.Runs.{Happening, IsCaused, IsIn, earlier, founded_at, has_role, in_filter, is_end, is_synchronised, is_turned_on_at, same_some, start_of, state_after, time_of}
 use Rattle.precision_law.proofs.words.Laws.{AreShared, BlocksGoSo, Hull, HullsAreNarrow, IsAnchored, IsDispatch, IsGood, IsInBlock, IsNearHull, IsOldAt, IsOverBefore, IsReachedNear, IsView, Sizes, Stands, View, adjustment_left, epoch_time, first_dispatch, has_time, hull_of, hull_over, is_dispatch, last_correction, last_dispatch, last_setting, set_adjustment, start_hull, state_left, widened}
-use Rattle.precision_law.proofs.words.Clocks.{adjustment_is_last, adjustment_stays, anchored_clocks_reach, anchored_clocks_show, before_of, clocks_reach_sharply, corrections_come_first, earlier_before, frames_come_first, master_ends, never_some, over, passes, reaches_whole, room, shared_clocks_halve, sizes_are, starts_stay_together, state_stays, steady, synchronised_has_time, tested, time_stays, within_run}
+use Rattle.precision_law.proofs.words.Clocks.{adjustment_is_last, adjustment_stays, anchored_clocks_reach, anchored_clocks_show, before_of, clocks_reach_sharply, corrections_come_first, device_of, earlier_before, frames_come_first, master_ends, never_some, over, passes, reaches_whole, room, shared_clocks_halve, sizes_are, starts_stay_together, state_stays, steady, synchronised_has_time, tested, time_stays, within_run}
 use Rattle.precision_law.proofs.block.Starts.{has_start, none_at_start, start_is}
 use Rattle.precision_law.proofs.law.Cover.{behind_of, later_end}
 use Rattle.precision_law.proofs.law.Precision.{not_integrating}
@@ -83,12 +83,10 @@ in_next v n before w is low high in_run =
         let at = block_ends v c before.next one.0 one.1 before.is_over in
         omega (arith, ints, at, corrections_come_first v.sizes one.0 before.hull (room v is) one.2 (follows_before v c _ _ is one.1 before.is_hull), low)
 
-ends_of_role : (o : Option Device) → option_map_or (λ d. is_master d.role) o false ≡ true → option_map_or (λ d. is_end_system d.role) o false ≡ true
-ends_of_role None e = e
-ends_of_role (Some d) e = master_ends d.role e
-
 pub master_is_end : (v : View) (device : DeviceId) → has_role v.scenario.network is_master device ≡ true → is_end v.scenario.network device ≡ true
-master_is_end v device e = ends_of_role (device_at v.scenario.network device) e
+master_is_end v device e =
+    let d = device_of is_master (device_at v.scenario.network device) e in
+    ap (λ (o : Option Device). option_map_or (λ x. is_end_system x.role) o false) d.1 ∙ master_ends d.0.role d.2
 
 pub synchronised_is : (state : State) → is_synchronised state ≡ true → state ≡ Synchronised
 synchronised_is Synchronised e = refl

@@ -127,10 +127,6 @@ pub record HasBefore (v : View) (cycle : ℕ) (hull : Hull) : Type 0 where
   pub follows : Follows v.sizes before hull
   pub begun : hull.least ≤ℤ pos v.until
 
--- what is between these, where it is there
-between_some : (a b : ℤ) (o : Option Hull) (w : Hull) → o ≡ Some w → LiesBetween a b o → (a ≤ℤ w.least) × (w.greatest ≤ℤ b) × (w.least ≤ℤ w.greatest)
-between_some a b o w is at = subst (LiesBetween a b) is at
-
 pub has_before : (v : View) (cycle : ℕ) (hull : Hull) → ((h : Happening) → IsIn h v.records → time_of h ≤ v.until) → hull_of v (suc cycle) ≡ Some hull
     → HasBefore v cycle hull
 has_before v cycle hull in_run is = by (hull_of v cycle) refl is
@@ -140,18 +136,14 @@ has_before v cycle hull in_run is = by (hull_of v cycle) refl is
     by None e s = absurd (never_some hull s)
     by (Some before) e s =
         let test = λ (g : Happening). is_dispatch v before (suc cycle) g g.note.body in
-        let bounds = between_some _ _ _ _ s (over_between (first_dispatch v.sizes before) (last_dispatch v.sizes before) None (filter test v.records) (λ h i.
-        let t = tested v before (suc cycle) h h.note.body (passes test v.records h i) in (t.low, t.high)) tt) in
-        let first = some_first (filter test v.records) hull s in
+        let tests = λ (h : Happening) (i : IsIn h (filter test v.records)). tested v before (suc cycle) h h.note.body (passes test v.records h i) in
+        let bounds = subst (LiesBetween (first_dispatch v.sizes before) (last_dispatch v.sizes before)) s
+        (over_between _ _ None (filter test v.records) (λ h i. ((tests h i).low, (tests h i).high)) tt) in
+        let run = subst (LiesBetween (first_dispatch v.sizes before) (pos v.until)) s
+        (over_between _ _ None (filter test v.records) (λ h i. ((tests h i).low, omega (arith, ints, in_run h (in_filter test v.records h i)))) tt) in
         record {
           before = before;
           is_before = e;
           follows = record { least = bounds.0; most = bounds.1; ordered = bounds.2 };
-          begun = omega (arith, ints, in_run first.0 (in_filter test v.records first.0 first.1), first.2);
+          begun = omega (arith, ints, run.1, run.2);
         }
-      where
-        some_first : (hs : List Happening) (w : Hull) → hull_over hs ≡ Some w → (h : Happening) × IsIn h hs × (w.least ≤ℤ pos (time_of h))
-        some_first [] w e = absurd cc
-        some_first (h ∷ hs) w e =
-            let has = over_has None (h ∷ hs) h (inl refl) in
-            (h, inl refl, subst (λ (x : Hull). x.least ≤ℤ pos (time_of h)) (same_some (hull_over (h ∷ hs)) has.hull w has.is e) has.least)

@@ -164,14 +164,9 @@ module _ (goes : BlocksGoSo) (v : View) (n t : ℕ) (block : IsInBlock v n t) (c
             (omega (arith, early)) (omega (arith, early, aimed.late)) aimed.most in
             absurd (omega (arith, ints, far, high))
         | inr from ↦
-            let m = natural_value v.sizes n (value_of v cm block.before.next o.reading) (value_of v cm block.before.next point) (room v is) aimed.value
-            (omega (arith, ints, high)) in
+            let m = natural_of (value_of v cm block.before.next o.reading) 0
+            (omega (arith, ints, aimed.value.least, high, one_more n v.sizes.cycle, (room v is).cycles)) in
             let taken = taken_for v (adjustment_left v cm block.before.next) o.reading o.cycle m.0 is m.1 (no_fault_then k o i from to g) in
             of_one_cycle v.sizes o.cycle (suc n) (value_of v cm block.before.next o.reading) (value_of v cm block.before.next point) (room v is)
             (subst (IsTakenFor v.sizes o.cycle) (sym m.1) taken) aimed.value (omega (arith, ints, low)) (omega (arith, ints, high))
       ]
-    where
-      natural_value : (s : Sizes) (c : ℕ) (x y : ℤ) → HaveRoom s → IsTakenFor s (suc c) y → y ≤ℤ (x +ℤ pos (2 * s.precision)) → (m : ℕ) × (x ≡ pos m)
-      natural_value s c x y space taken near =
-          let more : suc c * s.cycle ≡ c * s.cycle + s.cycle = omega arith in
-          natural_of x 0 (omega (arith, ints, taken.least, near, more, space.cycles))

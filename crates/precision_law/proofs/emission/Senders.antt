@@ -1,5 +1,5 @@
 -- The compression master of the sound channel, a good master that began on, and what its dispatches bring.
-use Rattle.precision_law.proofs.words.Std.{◌*◌, ◌+ℤ◌, ◌+◌, ◌<ℤ◌, ◌<◌, ◌||◌, ◌∙◌, ◌∷◌, ◌≡◌, ◌≤ℤ◌, ◌≤◌, ◌⊎◌, Bool, IsNone, IsSomeAnd, List, None, Option, Some, [], ap, arith, both_ways, cases_Bool, cases_lt, false, inl, inr, ints, length, not, ones_le_self, option_map_or, pos, refl, slice_get, subst, suc, true, zero, ℕ, ℤ}
+use Rattle.precision_law.proofs.words.Std.{◌+ℤ◌, ◌+◌, ◌<◌, ◌||◌, ◌∙◌, ◌∷◌, ◌≡◌, ◌≤ℤ◌, ◌≤◌, ◌⊎◌, Bool, IsNone, IsSomeAnd, List, None, Option, Some, [], ap, arith, both_ways, cases_Bool, cases_lt, false, inl, inr, ints, length, not, ones_le_self, option_map_or, pos, refl, slice_get, subst, suc, true, zero, ℕ, ℤ}
 use Rattle.precision_law.proofs.words.Plans.{A, B, Channel, Cm, CompressionMasters, Device, DeviceId, IsCmOf, IsSwitchOf, LinkId, Masters, Role, Units, Up, closed, count_of, device_at, is_master, opened}
 use Rattle.precision_law.proofs.words.Runs.{Happening, has_role, is_broken, is_cm, is_cm_role, is_parent_of, is_relay_role, time_of, waits_for}
 use Rattle.precision_law.proofs.words.Laws.{BlocksGoSo, Hull, IsBrought, IsDispatch, IsFirstMaster, IsInBlock, IsInHull, IsView, View, first_correction, first_dispatch, last_dispatch}
@@ -102,34 +102,21 @@ pub record IsSender (v : View) (n : ℕ) (before : Hull) (cm master : DeviceId) 
   pub high : pos (time_of first) ≤ℤ last_dispatch v.sizes before
   pub brought : IsBrought v Up first cm
 
--- numbers
-in_time : (w t until dmax compression base path precision reach : ℕ) (last first : ℤ) → pos w ≤ℤ last
-    → ((last +ℤ pos (2 * dmax + compression + base + path + precision)) +ℤ pos (5 * precision)) <ℤ first → (first +ℤ pos reach) ≤ℤ pos t → t ≤ until
-    → (w ≤ t) × (w + dmax + path ≤ until) × (w + dmax ≤ until + path)
-in_time w t until dmax compression base path precision reach last first le lt late within =
-    (omega (arith, ints, le, lt, late), omega (arith, ints, le, lt, late, within), omega (arith, ints, le, lt, late, within))
-
--- the last dispatch comes before the correction points
-dispatches_over : (v : View) (n t : ℕ) (block : IsInBlock v n t) → IsView v → (first_correction v.sizes block.before.hull +ℤ pos v.sizes.reach) ≤ℤ pos t
-    → last_dispatch v.sizes block.before.hull ≤ℤ pos t
-dispatches_over v n t block is late = omega (arith, ints, frames_come_first v.sizes block.before.hull (room v is) (before_narrow v n block.before), late)
-
 -- each first master has one
 pub sends_up : BlocksGoSo → (v : View) (n t : ℕ) (block : IsInBlock v n t) (cm master : DeviceId) → IsView v
     → (first_correction v.sizes block.before.hull +ℤ pos v.sizes.reach) ≤ℤ pos t → IsCmOf v.scenario.network v.channel cm → IsFirstMaster v master
     → IsSender v n block.before.hull cm master
 sends_up goes v n t block cm master is late one first =
     let before = block.before in
-    let sent = masters_dispatch goes v n t block master is (dispatches_over v n t block is late) first in
-    let w = time_of sent.0 in
     let space = frames_come_first v.sizes before.hull (room v is) (before_narrow v n before) in
-    let times = in_time w t v.until v.sizes.dmax v.sizes.compression v.sizes.base v.sizes.path v.sizes.precision v.sizes.reach
-    (last_dispatch v.sizes before.hull) (first_correction v.sizes before.hull) sent.2 space late block.in_run in
+    let sent = masters_dispatch goes v n t block master is (omega (arith, ints, space, late)) first in
+    let w = time_of sent.0 in
+    let soon : w + v.sizes.dmax + v.sizes.path ≤ v.until = omega (arith, ints, sent.2, space, late, block.in_run) in
     let from : before.next ≤ w = elim (cases_lt w before.next) [
       | inr ge ↦ ge
       | inl early ↦ (let wrong = (before.dispatches sent.0 master (suc n) sent.1 early).0 in absurd (omega (arith, wrong)))
     ] in
-    let there : IsInBlock v n w = earlier_in_block _ _ _ _ block from (omega arith) in
+    let there : IsInBlock v n w = earlier_in_block _ _ _ _ block from (omega (arith, ints, sent.2, space, late)) in
     let so = (goes v n w there is).dispatches sent.0 master (suc n) sent.1 refl in
     let hull = so.inside in
     let low : first_dispatch v.sizes before.hull ≤ℤ pos w = omega (arith, ints, (follows_before v n _ _ is before.is_hull hull.is).least, hull.least) in
@@ -139,5 +126,5 @@ sends_up goes v n t block cm master is late one first =
       inside = hull;
       low = low;
       high = sent.2;
-      brought = sound_frames_go_up v sent.0 master cm (suc n) is sent.1 one (dispatches_pass goes v n w there is low sent.2 times.2) times.1;
+      brought = sound_frames_go_up v sent.0 master cm (suc n) is sent.1 one (dispatches_pass goes v n w there is low sent.2 (omega (arith, soon))) soon;
     }
