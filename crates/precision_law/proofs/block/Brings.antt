@@ -1,10 +1,10 @@
 -- What each instant of a block brings: by induction over the instants.
 use Rattle.precision_law.proofs.words.Std.{◌*◌, ◌+ℤ◌, ◌+◌, ◌<ℤ◌, ◌<◌, ◌∙◌, ◌≡◌, ◌≤ℤ◌, ◌≤◌, Bool, List, None, Option, Some, ap, arith, by_lt_z, cases_lt, false, if◌then◌else◌, inl, inr, ints, mul-le-mul_right, negsuc, option_map_or, pos, refl, subst, suc, sym, true, zero, ℕ, ℤ}
 use Rattle.precision_law.proofs.words.Plans.{A, B, Channel, Cleared, Corrected, DeviceId, HasVerdict, Integrating, IsAtIntegration, Joining, Masters, Standing, State, Summary, Units, Verdict, amount, best_on, count_of, deviation_on}
-use Rattle.precision_law.proofs.words.Runs.{Happening, Integrates, IsIn, adjustment_with, correction_value, cycle_in, earlier, expected_by, has_cleared, integration_cycle, is_joined_by, is_synchronised, is_turned_on_at, next_cycle, recorded_cycle, standing_before, state_after, state_before, time_of}
+use Rattle.precision_law.proofs.words.Runs.{Happening, Integrates, IsIn, adjustment_with, correction_value, cycle_in, earlier, expected_by, has_cleared, integration_cycle, is_joined_by, is_synchronised, next_cycle, recorded_cycle, standing_before, state_after, state_before, time_of}
 use Rattle.precision_law.proofs.words.Laws.{BlockGoesSo, BlocksGoSo, ComesTo, CorrectsSo, DispatchesSo, HasTimeAt, Hull, IsDispatch, IsInBlock, IsInHull, IsOldAt, IsPointOf, IsView, JoinsSo, ShowsIn, View, adjustment_left, base_of, cycle_set, epoch_time, first_correction, has_time, hull_of, is_correction, last_setting, next_of, setting, state_left}
-use Rattle.precision_law.proofs.words.Clocks.{IsSetting, clocks_reach_sharply, earlier_before, in_hull, instants_are_in_order, joiner_waits, next_cycle_is_of_last, one_frame_sets, one_more, point_has_time, point_is, reaches_whole, room, same_next, setting_is, sizes_are, synchronised_has_time}
-use Rattle.precision_law.proofs.words.Blocks.{FramesGoSo, HasDispatched, IsSetInBlock, WentSo, before_narrow, block_ends, earlier_in_block, expected_is, expected_late, follows_before, good_hearing, has_dispatched, joiner_integrates, joining_of_setting, joins, late_from, members_by, near_hull, new_shows, old_number, old_shows, set_shows}
+use Rattle.precision_law.proofs.words.Clocks.{IsSetting, clocks_reach_sharply, earlier_before, in_hull, instants_are_in_order, joiner_waits, next_cycle_is_of_last, one_frame_sets, one_more, point_is, reaches_whole, room, same_next, setting_is, sizes_are, synchronised_has_time}
+use Rattle.precision_law.proofs.words.Blocks.{FramesGoSo, HasDispatched, IsSetInBlock, WentSo, before_narrow, block_ends, earlier_in_block, expected_is, expected_late, follows_before, good_hearing, has_dispatched, joiner_integrates, joining_of_setting, joins, late_from, members_by, near_hull, new_shows, not_turned_on_then, old_number, old_shows, set_shows}
 use Rattle.precision_law.proofs.block.Corrections.{corrects_by, is_by_frame}
 use Rattle.precision_law.proofs.block.Goings.{HasPoint, has_corrected, old_point}
 
@@ -168,11 +168,6 @@ joining_is : (state : State) → has_time state ≡ true → is_synchronised sta
 joining_is Joining e other = refl
 joining_is state e other = absurd cc
 
--- a device with the time was not just turned on
-turned_on_not : (b : Bool) (state : State) → has_time (if b then Integrating else state) ≡ true → (if b then Integrating else state) ≡ state
-turned_on_not true state e = absurd cc
-turned_on_not false state e = refl
-
 module _ (v : View) (n t : ℕ) (block : IsInBlock v n t) (is : IsView v) (went : WentSo v n block.before t) (device : DeviceId) (cycle : ℕ)
     (verdict : Verdict) (p : HasPoint v t device cycle verdict) where
   -- the correction number of one whose clock a record of the block corrected, or told the time
@@ -220,9 +215,9 @@ module _ (v : View) (n t : ℕ) (block : IsInBlock v n t) (is : IsView v) (went 
               let s = v.scenario in
               let front = p.comes.front in
               let es = earlier_before v t front p.comes.split in
-              let timed = point_has_time (state_before s front device t) (next_cycle s front device t) cycle p.comes.point.next in
-              let same_state : state_before s front device t ≡ state_left v device t = turned_on_not (is_turned_on_at s device t)
-              (state_after s (earlier t front) device) timed ∙ ap (λ (hs : List Happening). state_after s hs device) es in
+              let same_state : state_before s front device t ≡ state_left v device t =
+              ap (λ (b : Bool). if b then Integrating else state_after s (earlier t front) device) (not_turned_on_then v device t is p.has.timed)
+              ∙ ap (λ (hs : List Happening). state_after s hs device) es in
               let joining : state_left v device t ≡ Joining = joining_is (state_left v device t) p.has.timed (joiner_waits v device t h is e joins_it) in
               let number : integration_cycle (earlier t front) device ≡ Some (next_cycle s front device t) =
               ap (λ (hs : List Happening). integration_cycle hs device) es ∙ integrates

@@ -50,16 +50,8 @@ no_faults : (a b : Bool) (p q : Reason) → first_reason ((a, p) ∷ (b, q) ∷ 
 no_faults false false p q e = (refl, refl)
 no_faults a b p q e = absurd cc
 
--- of a value, its place in the cycle and the number of the cycle
-taken_numbers : (n : Sizes) (m length four cycle : ℕ) → length ≡ n.cycle → four ≡ 4 * n.precision → m / length ≡ cycle → m % length ≤ four
-    → IsTakenFor n cycle (pos m)
-taken_numbers n m length four cycle same size is small =
-    let parts = div-add-mod m length in
-    let product : cycle * n.cycle ≡ length * (m / length) = product_is cycle n.cycle length (m / length) same is in
-    record { least = omega (arith, ints, parts, product); most = omega (arith, ints, parts, product, small, size) }
-  where
-    product_is : (c l k d : ℕ) → k ≡ l → d ≡ c → c * l ≡ k * d
-    product_is c l k d a b = rw a (rw b (omega arith))
+product_is : (c l k d : ℕ) → k ≡ l → d ≡ c → c * l ≡ k * d
+product_is c l k d a b = rw a (rw b (omega arith))
 
 -- a synchronised compression master finds no fault only where the dispatch lies near the beginning of the frame's cycle
 taken_for : (v : View) (adjustment point : ℤ) (cycle m : ℕ) → IsView v → dispatch_value v.scenario.network adjustment point ≡ pos m
@@ -76,8 +68,11 @@ taken_for v adjustment point cycle m is value fine =
     let both = and_parts (int_le (pos (m / amount n.cycle)) (pos cycle)) (int_le (pos cycle) (pos (m / amount n.cycle))) same in
     let up = int_le-is (pos (m / amount n.cycle)) (pos cycle) both.0 in
     let down = int_le-is (pos cycle) (pos (m / amount n.cycle)) both.1 in
-    taken_numbers v.sizes m _ (4 * amount n.precision) cycle (sym (sizes_are v is).cycle) (omega (arith, sizes_are v is)) (omega (arith, ints, up, down))
-    (ltb-false (4 * amount n.precision) (m % amount n.cycle) (ap (int_lt (pos (4 * amount n.precision))) (sym place) ∙ none.0))
+    let small = ltb-false (4 * amount n.precision) (m % amount n.cycle) (ap (int_lt (pos (4 * amount n.precision))) (sym place) ∙ none.0) in
+    let sizes = sizes_are v is in
+    let parts = div-add-mod m (amount n.cycle) in
+    let product = product_is cycle v.sizes.cycle (amount n.cycle) (m / amount n.cycle) (sym sizes.cycle) (omega (arith, ints, up, down)) in
+    record { least = omega (arith, ints, parts, product); most = omega (arith, ints, parts, product, small, sizes) }
 
 -- ---- what was taken
 

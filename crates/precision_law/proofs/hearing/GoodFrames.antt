@@ -1,11 +1,108 @@
--- The frames with a good member that a device hears in a block.
-use Rattle.precision_law.proofs.words.Std.{◌+ℤ◌, ◌<ℤ◌, ◌<◌, ◌∙◌, ◌≡◌, ◌≤ℤ◌, ◌≤◌, ◌⊎◌, ap, arith, ints, pos, subst, suc, sym, ℕ, ℤ}
-use Rattle.precision_law.proofs.words.Plans.{Channel, DeviceId, IsCmOf, Members, count_of}
-use Rattle.precision_law.proofs.words.Runs.{Happening, IsCaused, Judgement, Within, founded_at, time_of}
-use Rattle.precision_law.proofs.words.Laws.{AreGood, BlocksGoSo, HasTimeAt, HearsBy, IsEmission, IsInBlock, IsOfHearer, IsOldAt, IsView, View, first_correction}
-use Rattle.precision_law.proofs.words.Blocks.{FramesGoSo, IsGoodHearing, IsSentOn, WentSo, cm_of, earlier_in_block, emission_is_one, hulls_are_narrow, members_by, near_hull, one_cm, tidy}
+-- How a device judges what it hears, and the frames with a good member that it hears in a block.
+use Rattle.precision_law.proofs.words.Std.{◌+ℤ◌, ◌<ℤ◌, ◌<◌, ◌==◌, ◌∙◌, ◌≡◌, ◌≤ℤ◌, ◌≤◌, ◌⊎◌, Bool, List, MatchBool, None, Option, Some, ap, arith, eq-eqb, false, if◌then◌else◌, inl, inr, ints, le-leb, option_and_then, option_map, option_map_or, pos, refl, subst, suc, sym, true, ℕ, ℤ}
+use Rattle.precision_law.proofs.words.Plans.{Channel, DeviceId, IsCmOf, Members, Pcf, Units, count_of}
+use Rattle.precision_law.proofs.words.Runs.{Happening, IsCaused, Judgement, Within, before_permanence, cycle_in, founded_at, frame_by, heard_by, hearing_by, last_cycle, observation_window, plan_of, same_judgement, time_of}
+use Rattle.precision_law.proofs.words.Laws.{AreGood, BlocksGoSo, HasTimeAt, HearsBy, IsEmission, IsInBlock, IsNearHull, IsOfHearer, IsOldAt, IsView, View, base_of, first_correction}
+use Rattle.precision_law.proofs.words.Clocks.{before_of, emission_shows, hearer_not_cm, one_more, room, sizes_are}
+use Rattle.precision_law.proofs.words.Blocks.{AreUpTo, FramesGoSo, IsGoodHearing, IsSentOn, WentSo, before_narrow, cm_of, earlier_in_block, emission_is_one, expected_is, few_cycles, follows_before, hears_as_at, hulls_are_narrow, members_by, near_hull, old_shows, one_cm, tidy}
 use Rattle.run_law.specs.declared.note.NoteBody.TheVariants as notes
-use Rattle.precision_law.proofs.hearing.Hearers.{judged_as, record_within}
+use Rattle.precision_law.proofs.block.Goings.{judged_at, judged_up_to, next_first, up_to_then}
+use Rattle.precision_law.proofs.emission.Fits.{heard_as_within}
+
+-- ---- judgements
+
+-- the record has this judgement by records up to its time
+pub record IsJudgedAs (v : View) (device : DeviceId) (h : Happening) (point : ℤ) (judgement : Judgement) : Type 0 where
+  pub judged : List Happening
+  pub up_to : AreUpTo v (time_of h) judged
+  pub members : Members
+  pub is : judgement ≡ judged_at v.scenario device judged (time_of h) point (cycle_in h) members
+
+elsewhere : (b : Bool) (P Q : Type 0) → b ≡ false → MatchBool b P Q → Q
+elsewhere false P Q e m = m
+elsewhere true P Q e m = absurd cc
+
+-- a device judges what it hears by the records before
+pub judged_as : (v : View) (device : DeviceId) (channel : Channel) (point : ℤ) (judgement : Judgement) (h : Happening) → IsView v → IsOfHearer judgement
+    → HearsBy v device channel point judgement h → IsJudgedAs v device h point judgement
+judged_as v device channel point judgement h is hearer hears =
+    let s = v.scenario in
+    let n = s.network in
+    let found = founded_at s v.records h is.run.founded hears.there in
+    elim hears.how [
+      | inl far ↦
+          let at = far.2 in
+          let ripens = subst (IsCaused s found.front h.note.time) far.3 found.due.cause in
+          let judged = before_permanence found.front device (time_of h) far.0 far.1 ripens.frame at in
+          let said = same_judgement judgement _
+          (elsewhere _ _ _ (hearer_not_cm n device _ _ _ ripens.frame at.0 judgement hearer ripens.becomes) ripens.becomes) in
+          let of_frame : h.frame ≡ Some ripens.frame = ap (λ (x : Happening). x.frame) found.due.same ∙ ap (frame_by n found.front) far.3
+          ∙ ap (λ (o : Option Happening). option_and_then (λ x. x.frame) o) ripens.permanent.there ∙ ripens.permanent.of_frame in
+          let cycle : ripens.frame.cycle ≡ cycle_in h = ap (λ (o : Option Pcf). option_map_or (λ f. f.cycle) o 0) (sym of_frame) in
+          record {
+            judged = judged;
+            up_to = judged_up_to v h is found device far.0 far.1 ripens.frame at;
+            members = ripens.frame.members;
+            is = cc (said, far.5, cycle);
+          }
+      | inr own ↦
+          let shown = emission_shows v h device own.0 own.1 own.2 own.3 judgement is hears.there own.4 in
+          let said = (subst (IsCaused s found.front h.note.time) own.4 found.due.cause).heard in
+          record {
+            judged = found.front;
+            up_to = up_to_then v (time_of h) found.front (before_of v h is found);
+            members = own.3;
+            is = cc (said, own.6, shown.0);
+          }
+    ]
+
+-- an old device judges a frame of the block's cycle whose base lies in the hull to be within
+pub record_within : (v : View) (n t : ℕ) (block : IsInBlock v n t) (device : DeviceId) (channel : Channel) (point : ℤ) (h : Happening) (judgement : Judgement)
+    → IsView v → HasTimeAt v device t → IsOldAt v block.before.next device t → time_of h < t → (g : IsGoodHearing v n block.before device channel point h)
+    → IsNearHull v.sizes g.hull (base_of v.sizes (time_of g.emission)) → IsJudgedAs v device h point judgement → judgement ≡ Within
+record_within v n t block device channel point h judgement is has old lt g near j =
+    let s = v.scenario in
+    let before = block.before in
+    let q = time_of h in
+    let follows = follows_before v n before.hull g.hull is before.is_hull g.is_hull in
+    let le : before.next ≤ q = omega (arith, ints, next_first v n before is, follows.least, g.not_early) in
+    let at : IsInBlock v n q = earlier_in_block _ _ _ _ block le (omega (arith, lt)) in
+    let stands = hears_as_at v device before.next q t j.judged is j.up_to le lt old has.timed in
+    let shows = old_shows v n q t device at is (omega (arith, lt)) has old in
+    let narrow = before_narrow v n before in
+    let space = room v is in
+    let more = one_more n v.sizes.cycle in
+    let expected = expected_is v device (suc n) point is in
+    let precision = (sizes_are v is).precision in
+    j.is ∙ ap (λ (c : ℕ). judged_at s device j.judged q point c j.members) g.of_cycle
+    ∙ heard_as_within (plan_of s.network device) (observation_window s.network) _ _ point (suc n) j.members stands.state
+    (le-leb (suc n) last_cycle (few_cycles v (suc n) _ is g.is_hull (omega (arith, ints, g.not_early, lt, block.in_run))))
+    (omega (arith, ints, g.timely)) (omega (arith, ints, g.timely))
+
+-- ---- hearings
+
+-- a frame that was heard within its time is a hearing
+pub record IsHeardBy (v : View) (device : DeviceId) (channel : Channel) (h : Happening) : Type 0 where
+  pub point : Units
+  pub shows : hearing_by v.scenario.network device h h.note.body ≡ Some (heard_by channel h point true)
+
+if_same : {X : Type 0} (n : ℕ) (x y : X) → (if n == n then x else y) ≡ x
+if_same n x y = ap (λ (b : Bool). if b then x else y) (eq-eqb n n refl)
+
+pub heard_within_by : (v : View) (device : DeviceId) (channel : Channel) (point : ℤ) (h : Happening) → HearsBy v device channel point Within h
+    → IsHeardBy v device channel h
+heard_within_by v device channel point h hears = elim hears.how [
+  | inl far ↦ record {
+    point = far.2;
+    shows = ap (hearing_by v.scenario.network device h) far.3 ∙ if_same device.0 _ None ∙ ap (option_map (λ c. heard_by c h far.2 true)) far.4;
+  }
+  | inr own ↦ record {
+    point = own.1;
+    shows = ap (hearing_by v.scenario.network device h) own.4 ∙ if_same device.0 _ None ∙ ap (option_map (λ c. heard_by c h own.1 true)) own.5;
+  }
+]
+
+-- ---- old devices at their points
 
 -- a device whose clock was set before the block comes to the instants of the block's corrections
 pub record IsAtPoint (v : View) (n t : ℕ) (block : IsInBlock v n t) (device : DeviceId) : Type 0 where

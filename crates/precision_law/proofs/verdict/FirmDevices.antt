@@ -5,8 +5,7 @@ use Rattle.precision_law.proofs.words.Runs.{Happening, IsIn, Judgement, Within, 
 use Rattle.precision_law.proofs.words.Laws.{AreBeforeCorrections, BlocksGoSo, FirmDevicesCorrect, HearsBy, Hull, IsFirm, IsGoodEnd, IsInBlock, IsSharedCorrection, IsView, SendsSo, SoundMasterSends, View, base_of, hull_of}
 use Rattle.precision_law.proofs.words.Blocks.{FramesGoSo, good_hearing, late_from, members_by}
 use Rattle.precision_law.proofs.block.Corrections.{IsByFrame, is_by_frame, shared_by, turned}
-use Rattle.precision_law.proofs.hearing.GoodFrames.{IsAtPoint, heard_within, same_sent, sooner, went_so}
-use Rattle.precision_law.proofs.hearing.Hearers.{heard_within_by}
+use Rattle.precision_law.proofs.hearing.GoodFrames.{IsAtPoint, heard_within, heard_within_by, same_sent, sooner, went_so}
 use Rattle.precision_law.proofs.hearing.Received.{IsSentInTime, cm_of_channel, receives, sent_in_time}
 use Rattle.precision_law.proofs.hearing.Since.{is_since, not_integrating}
 use Rattle.precision_law.proofs.verdict.HeardOutside.{SoundIsSent, few_heard_outside}
@@ -56,14 +55,6 @@ pub record HasBest (standing : Standing) (summary : Summary) (channel : Channel)
 some_qualifies : (standing : Standing) (summary : Summary) (channel : Channel) → HasBest standing summary channel → SomeQualifies standing summary
 some_qualifies standing summary A b = inl (let e = b.is in rw e b.enough)
 some_qualifies standing summary B b = inr (let e = b.is in rw e b.enough)
-
--- the deviation of that channel is there
-deviates_on : (standing : Standing) (summary : Summary) (channel : Channel) → (b : HasBest standing summary channel)
-    → deviation_on standing summary channel ≡ Some (deviation_by standing b.best)
-deviates_on standing summary channel b =
-    ap (λ (o : Option HeardFrame). option_and_then (λ frame. if nat_le standing.plan.threshold (count_of frame.members) then Some (deviation_by standing frame)
-    else None) o) b.is
-    ∙ ap (λ (t : Bool). if t then Some (deviation_by standing b.best) else None) (le-leb standing.plan.threshold (count_of b.best.members) b.enough)
 
 module _ (laws : FramesGoSo) (goes : BlocksGoSo) (v : View) (n t : ℕ) (block : IsInBlock v n t) (is : IsView v) (device : DeviceId) (firm : IsFirm v device)
     (at : IsAtPoint v n t block device) (hull : Hull) (is_hull : hull_of v (suc n) ≡ Some hull) (sends : SendsSo v n hull) (front : List Happening)
@@ -124,7 +115,9 @@ module _ (laws : FramesGoSo) (goes : BlocksGoSo) (v : View) (n t : ℕ) (block :
   shared : (by : Units) → correction_of (deviation A) (deviation B) ≡ Some by → IsSharedCorrection v n t hull (base_of v.sizes (time_of sends.first)) device by
   shared by e =
       let dev = deviation_by standing has_best.best in
-      let is_dev = deviates_on standing summary v.channel has_best in
+      let is_dev = ap (λ (o : Option HeardFrame). option_and_then (λ frame. if nat_le standing.plan.threshold (count_of frame.members)
+      then Some (deviation_by standing frame) else None) o) has_best.is
+      ∙ ap (λ (t : Bool). if t then Some dev else None) (le-leb standing.plan.threshold (count_of has_best.best.members) has_best.enough) in
       let f = by_frame v.channel dev is_dev in
       let o = opposite v.channel in
       let in_order = f.heard.in_order in

@@ -22,10 +22,6 @@ one_or_all {X} P Q (x ∷ xs) each = by (each x (inl refl)) (one_or_all P Q xs (
 
 -- ---- members
 
--- there is one broken member at most
-one_bad_member : (v : View) (i j : ℕ) → IsView v → IsBadMember v i → IsBadMember v j → i ≡ j
-one_bad_member v i j is a b = same_some (Some j) i j (sym b.1 ∙ ap (member_of v.scenario.network) (one_bad v a.0 b.0 is a.2 b.2) ∙ a.1) refl
-
 -- the members of what is sent are good, or a broken one is among them
 good_or_bad : (v : View) (h : Happening) (cm : DeviceId) (cycle : ℕ) (members : Members) → IsView v → IsEmission v h cm cycle members
     → ((b : ℕ) × IsMember b members × IsBadMember v b) ⊎ AreGood v members
@@ -193,7 +189,9 @@ module _ (laws : FramesGoSo) (goes : BlocksGoSo) (v : View) (n t : ℕ) (block :
           (let found = any_is (λ h. IsOutside h × IsMember i h.frame.members) heard ((are i).0 set) in each found.0 found.1 found.2.0 i found.2.1))
 
       alike : (i j : ℕ) (members : Members) → IsMember i members → IsBadMember v i → IsBadMember v j → IsMember j members
-      alike i j members set a b = subst (λ (k : ℕ). IsMember k members) (one_bad_member v i j is a b) set
+      alike i j members set a b =
+          subst (λ (k : ℕ). IsMember k members)
+          (same_some (Some j) i j (sym b.1 ∙ ap (member_of v.scenario.network) (one_bad v a.0 b.0 is a.2 b.2) ∙ a.1) refl) set
 
       lone_bad : (h : Hearing) (i : ℕ) → IsOutside h → IsMember i h.frame.members → (IsOutside h × IsLone v h.frame.members) ⊎ (IsOutside h → ⊥)
           → IsBadMember v i
