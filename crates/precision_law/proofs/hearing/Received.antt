@@ -1,7 +1,7 @@
 -- The frame that the compression master of the sound channel sends in a block is heard by each old device that is to keep
 -- the time.
-use Rattle.precision_law.proofs.words.Std.{◌+◌, ◌<ℤ◌, ◌<◌, ◌||◌, ◌∙◌, ◌∷◌, ◌≡◌, ◌≤ℤ◌, ◌≤◌, ◌⊎◌, Bool, List, None, Option, Some, [], ap, arith, cases_eq, false, false_from_ne_true, if◌then◌else◌, inl, inr, ints, not, option_and_then, option_map_or, pos, refl, subst, suc, sym, true, unsigned_abs, ℕ, ℤ}
-use Rattle.precision_law.proofs.words.Plans.{Cm, Device, DeviceId, Down, Integrating, IsCmOf, IsDeviceOf, Joining, LinkId, Members, Off, Pcf, State, SyncPlan, Synchronised, closed, device_at, is_end_system, opened}
+use Rattle.precision_law.proofs.words.Std.{◌+◌, ◌<ℤ◌, ◌<◌, ◌||◌, ◌∙◌, ◌∷◌, ◌≡◌, ◌≤ℤ◌, ◌≤◌, Bool, List, None, Option, Some, [], ap, arith, cases_eq, false, false_from_ne_true, if◌then◌else◌, inl, inr, ints, not, option_and_then, option_map_or, pos, refl, subst, suc, sym, true, unsigned_abs, ℕ, ℤ}
+use Rattle.precision_law.proofs.words.Plans.{Cm, Device, DeviceId, Down, Integrating, IsCmOf, IsDeviceOf, Joining, LinkId, Members, Off, Pcf, State, SyncPlan, Synchronised, device_at, is_end_system, opened}
 use Rattle.precision_law.proofs.words.Runs.{Gives, Happening, IsCaused, IsDue, IsIn, Judgement, NoteBody, adjustment_at_hearing, channel_of, channel_of_link, cycle_in, earlier, founded_at, heard_as, heard_by_schedule, is_cm, is_cm_role, is_off, is_parent_of, is_relay, members_in, observation_window, place_of, plan_of, receiver_of, split, state_at_hearing, state_before, time_of}
 use Rattle.precision_law.proofs.words.Laws.{BlocksGoSo, HearsBy, Hull, IsBrought, IsEmission, IsFirm, IsInBlock, IsNearHull, IsOfHearer, IsSoundSwitch, IsTrip, IsView, Leg, Stands, View, base_of, epoch_time, first_correction, first_dispatch, has_time, hull_of, state_left}
 use Rattle.precision_law.proofs.words.Clocks.{IsRipeArrival, before_of, before_place, child_not_parent, cm_is_no_end, device_of, device_of_place, emission_shows, frames_come_first, is_heard_of, place_of_ripe, receiver_down, room, switches_are_good, time_stays}
@@ -10,6 +10,7 @@ use Rattle.run_law.specs.declared.note.NoteBody.TheVariants as notes
 use Rattle.precision_law.proofs.block.Goings.{judged_at, next_first, up_to_then}
 use Rattle.precision_law.proofs.block.Onward.{firm_good}
 use Rattle.precision_law.proofs.hearing.GoodFrames.{IsAtPoint, sooner}
+use Rattle.precision_law.proofs.hearing.Timely.{of_channel_is}
 use Rattle.precision_law.proofs.trips.Gates.{are_open_from}
 
 -- ---- when it is sent
@@ -55,11 +56,10 @@ no_end_cm (Some d) a b = cm_is_no_end d.role a b
 -- a device that is to keep the time is of the channel
 firm_member : (v : View) (device : DeviceId) → IsFirm v device → IsDeviceOf v.scenario.network v.channel device
 firm_member v device (inl end) =
-    (let d = device_of is_end_system (device_at v.scenario.network device) end.end in closed (λ (x : Device). (is_end_system x.role ≡ true)
-    ⊎ (x.channel ≡ Some v.channel)) (device_at v.scenario.network device) d.0 d.1 (inl d.2))
+    (let d = device_of is_end_system (device_at v.scenario.network device) end.end in of_channel_is v v.channel device d.0 d.1 (inl d.2))
 firm_member v device (inr switch) =
-    (let d = opened (λ (x : Device). x.channel ≡ Some v.channel) (device_at v.scenario.network device) switch in closed
-    (λ (x : Device). (is_end_system x.role ≡ true) ⊎ (x.channel ≡ Some v.channel)) (device_at v.scenario.network device) d.0 d.1 (inr d.2))
+    (let d = opened (λ (x : Device). x.channel ≡ Some v.channel) (device_at v.scenario.network device) switch in of_channel_is v v.channel device d.0 d.1
+    (inr d.2))
 
 switch_channel : (v : View) (device : DeviceId) → IsSoundSwitch v device → channel_of v.scenario.network device ≡ Some v.channel
 switch_channel v device switch =
