@@ -4,8 +4,7 @@ use Rattle.precision_law.proofs.words.Plans.{Channel, DeviceId, HeardFrame, Hear
 use Rattle.precision_law.proofs.words.Runs.{Happening, IsIn, Judgement, Within, adjustment_before, changed_at, correction_value, earlier, expected_by, had_come, has_cleared, heard_since, in_left, is_integration_cycle, local_at_change, next_cycle, plan_of, recorded_cycle, same_some, standing_before, time_of}
 use Rattle.precision_law.proofs.words.Laws.{AreBeforeCorrections, CorrectsSo, HasTimeAt, HearsBy, Hull, IsAnchored, IsAnchoredIn, IsInBlock, IsNearHull, IsOldAt, IsSetFor, IsSharedCorrection, IsView, Stands, View, adjustment_left, base_of, cycle_set, first_correction, hull_of, is_correction, last_setting, setting}
 use Rattle.precision_law.proofs.words.Clocks.{IsHearingOf, adjustment_stays, best_is_heard, hearing_of, hears_by, instants_are_in_order, int_le-is, room, same_adjustment, same_cleared, same_next, set_clocks_show, setting_is, settings_stay, sizes_are, steady, two_frames_anchor}
-use Rattle.precision_law.proofs.words.Blocks.{FramesGoSo, IsGoodHearing, IsLate, WentSo, before_narrow, block_ends, cleared_from, corrections_go_on, expected_is, follows_before, good_hearing, high_by, int_lt-is, joiner_integrates, low_by, members_by, near_hull, old_number, set_by_joining}
-use Rattle.precision_law.proofs.block.Goings.{had_time, in_part}
+use Rattle.precision_law.proofs.words.Blocks.{FramesGoSo, IsGoodHearing, IsLate, WentSo, before_narrow, block_ends, cleared_from, corrections_go_on, expected_is, follows_before, good_hearing, had_time, high_by, in_part, int_lt-is, joiner_integrates, low_by, members_by, near_hull, old_number, set_by_joining}
 
 -- ---- how late an old device heard what it corrects by
 

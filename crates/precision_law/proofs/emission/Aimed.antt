@@ -5,13 +5,12 @@ use Rattle.precision_law.proofs.words.Plans.{DeviceId, Joining, Network, Pcf, Po
 use Rattle.precision_law.proofs.words.Runs.{Cycle, Gate, Happening, IsCaused, IsCollectedOrDropped, IsIn, Judgement, NoteBody, Reason, Why, adjustment_at_hearing, before_permanence, dispatch_value, ends_stretch, first_reason, founded_at, frame_by, has_joined_at, is_cm, is_joined_by, is_number, offset_in_cycle, point_fault, ripe_as, state_at_hearing, state_before, time_of}
 use Rattle.precision_law.proofs.words.Laws.{BlocksGoSo, HaveRoom, IsInBlock, IsSteady, IsView, Sizes, View, adjustment_left, has_time}
 use Rattle.precision_law.proofs.words.Clocks.{adjustment_stays, any_in, int_le-is, natural, natural_of, one_more, room, same_device, sizes_are, steady}
-use Rattle.precision_law.proofs.words.Blocks.{AreUpTo, GivesPoint, hears_as_at, read_at}
+use Rattle.precision_law.proofs.words.Blocks.{AreUpTo, GivesPoint, hears_as_at, judged_up_to, read_at}
 use Rattle.run_law.specs.declared.judgement.Judgement.TheVariants as judgements
 use Rattle.run_law.specs.declared.judgement.Why.TheVariants as whys
 use Rattle.run_law.specs.declared.note.NoteBody.TheVariants as notes
 use Rattle.run_law.specs.declared.steps.Ripe.TheVariants as ripe
 use Rattle.precision_law.proofs.block.Dispatched.{IsCalm, changes_never, joins_never, old_then, synchronised_before, synchronised_then}
-use Rattle.precision_law.proofs.block.Goings.{judged_up_to}
 
 -- ---- values of one cycle
 

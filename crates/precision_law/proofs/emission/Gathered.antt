@@ -4,10 +4,9 @@ use Rattle.precision_law.proofs.words.Plans.{AreClusters, Cluster, DeviceId, IsC
 use Rattle.precision_law.proofs.words.Runs.{Happening, IsBefore, IsCaused, IsDue, IsIn, IsSplit, Judgement, NoteBody, adjustment_at_hearing, cycle_in, founded_at, frame_by, in_left, key, master_of, member_of, members_in, observation_window, place_of, point_by, points_of, rank, split, state_at_hearing, time_of, timed}
 use Rattle.precision_law.proofs.words.Laws.{BlocksGoSo, HasTimeAt, Hull, IsDispatch, IsFirstMaster, IsInBlock, IsInHull, IsInTime, IsRipe, IsTrip, IsView, Leg, ShowsIn, View, adjustment_left, first_correction, has_time, last_dispatch}
 use Rattle.precision_law.proofs.words.Clocks.{IsRipeArrival, IsRipeRecord, adjustment_stays, before_place, contains, has_member, is_collected, last_in, master_member, one_more, opened_by, permanence_is_sharp, place_of_ripe, room, sizes_are, steady, trip_says}
-use Rattle.precision_law.proofs.words.Blocks.{IsReadAt, arrival_young, before_narrow, contained, earlier_in_block, ends_soon, later_point, master_of_bit, old_shows, place_order, point_record, points_ordered, read_at}
+use Rattle.precision_law.proofs.words.Blocks.{IsReadAt, arrival_young, before_narrow, contained, earlier_in_block, early_show, ends_soon, later_point, master_of_bit, old_shows, place_order, point_record, points_ordered, read_at, up_to_then}
 use Rattle.compression.specs.declared.taken.Taken.TheVariants as taken
 use Rattle.precision_law.proofs.block.Dispatched.{IsCalm, old_then, synchronised_then}
-use Rattle.precision_law.proofs.block.Goings.{early_show, up_to_then}
 use Rattle.precision_law.proofs.emission.Aimed.{IsAimed, hearing_adjustment, of_block_cycle}
 use Rattle.precision_law.proofs.emission.Fits.{IsWithinOf, no_point_fault}
 use Rattle.precision_law.proofs.emission.Senders.{IsSender, cm_is, sends_up}

@@ -4,8 +4,7 @@ use Rattle.precision_law.proofs.words.Plans.{AreClusters, Cluster, DeviceId, Hol
 use Rattle.precision_law.proofs.words.Runs.{Happening, IsDue, IsFounded, IsIn, IsSplit, before_later_time, before_next_time, earlier_time, ends_stretch, front_founded, in_front_of, in_left, in_parts, in_right, is_cm, key, member_of, members_in, observation_window, place_of, point_by, points_of, rank, same_some, sign, split, time_of}
 use Rattle.precision_law.proofs.words.Laws.{BlocksGoSo, Hull, IsEmission, IsFirstMaster, IsInBlock, IsInHull, IsView, SendsSo, SoundMasterSends, View, hull_of, last_dispatch}
 use Rattle.precision_law.proofs.words.Clocks.{IsSentAt, after_last_none, all_by, all_of, ascending_from, contains, enough_masters, frames_come_first, in_filter_map, is_sent, made_in, natural_of, one_member, opened_by, place_of_sent, reach_is_there, room, sent_at, sizes_are, sound_switches_begin_on, steady, switches_are_good}
-use Rattle.precision_law.proofs.words.Blocks.{IsBadPoint, IsGoodPoint, IsKnown, IsWitness, bad_number, bases_are_in_hulls, before_narrow, cluster_was, contained, earlier_in_block, ends_soon, follows_before, front_point, front_witness, gives_point, good_near, hulls_are_narrow, is_held, later_point, not_both, point_record, points_ordered, read_at, tidy}
-use Rattle.precision_law.proofs.block.Goings.{early_show}
+use Rattle.precision_law.proofs.words.Blocks.{IsBadPoint, IsGoodPoint, IsKnown, IsWitness, bad_number, bases_are_in_hulls, before_narrow, cluster_was, contained, earlier_in_block, early_show, ends_soon, follows_before, front_point, front_witness, gives_point, good_near, hulls_are_narrow, is_held, later_point, not_both, point_record, points_ordered, read_at, tidy}
 use Rattle.precision_law.proofs.block.Onward.{hull_ordered}
 use Rattle.precision_law.proofs.emission.Aimed.{never_ends, of_block_cycle}
 use Rattle.precision_law.proofs.emission.Gathered.{Collects, IsGathered, gathers}

@@ -4,9 +4,8 @@ use Rattle.precision_law.proofs.words.Plans.{Channel, DeviceId, IsCmOf, Members,
 use Rattle.precision_law.proofs.words.Runs.{Happening, IsCaused, Judgement, Within, before_permanence, cycle_in, founded_at, frame_by, heard_by, hearing_by, last_cycle, observation_window, plan_of, same_judgement, time_of}
 use Rattle.precision_law.proofs.words.Laws.{AreGood, BlocksGoSo, HasTimeAt, HearsBy, IsEmission, IsInBlock, IsNearHull, IsOfHearer, IsOldAt, IsView, View, base_of, first_correction}
 use Rattle.precision_law.proofs.words.Clocks.{before_of, emission_shows, hearer_not_cm, one_more, room, sizes_are}
-use Rattle.precision_law.proofs.words.Blocks.{AreUpTo, FramesGoSo, IsGoodHearing, IsSentOn, WentSo, before_narrow, cm_of, earlier_in_block, emission_is_one, expected_is, few_cycles, follows_before, hears_as_at, hulls_are_narrow, members_by, near_hull, old_shows, one_cm, tidy}
+use Rattle.precision_law.proofs.words.Blocks.{AreUpTo, FramesGoSo, IsGoodHearing, IsSentOn, WentSo, before_narrow, cm_of, earlier_in_block, emission_is_one, expected_is, few_cycles, follows_before, hears_as_at, hulls_are_narrow, judged_at, judged_up_to, members_by, near_hull, next_first, old_shows, one_cm, tidy, up_to_then}
 use Rattle.run_law.specs.declared.note.NoteBody.TheVariants as notes
-use Rattle.precision_law.proofs.block.Goings.{judged_at, judged_up_to, next_first, up_to_then}
 use Rattle.precision_law.proofs.emission.Fits.{heard_as_within}
 
 -- ---- judgements
