@@ -44,6 +44,9 @@ module _ (goes : BlocksGoSo) (v : View) (n t : ℕ) (block : IsInBlock v n t) (c
   abbrev points : List Point
   points = points_of by_then.front cm
 
+  abbrev ow : ℤ
+  ow = observation_window v.scenario.network
+
   -- it is a compression master
   one : is_cm v.scenario.network cm ≡ true
   one = (cm_is v cm coll.of_channel).one
@@ -55,6 +58,13 @@ module _ (goes : BlocksGoSo) (v : View) (n t : ℕ) (block : IsInBlock v n t) (c
   -- they are in order
   ordered : Ordered points
   ordered = points_ordered v cm by_then.front by_then.rest is by_then.whole
+
+  -- the clusters that they make
+  found : (cs : List Cluster) × AreClusters ow points cs
+  found = (let z = one_list_of_clusters ow points in (z.0, z.1))
+
+  gather : (master : DeviceId) → IsFirstMaster v master → IsGathered v n block.before.next block.before.hull cm master by
+  gather = gathers goes v n t block cm by is coll
 
   -- a first master's point is among them
   is_point : (master : DeviceId) (g : IsGathered v n block.before.next block.before.hull cm master by) → IsIn g.p points
@@ -71,11 +81,9 @@ module _ (goes : BlocksGoSo) (v : View) (n t : ℕ) (block : IsInBlock v n t) (c
   ]
 
   -- and it is in the time of no cluster of another cycle
-  never_dropped : (master : DeviceId) (g : IsGathered v n block.before.next block.before.hull cm master by) (cs : List Cluster)
-      → AreClusters (observation_window v.scenario.network) points cs → IsDropped cs g.p → ⊥
-  never_dropped master g cs are dropped =
-      let ow = observation_window v.scenario.network in
-      let opened = opened_by ow points cs dropped.0 ordered are dropped.1 in
+  never_dropped : (master : DeviceId) (g : IsGathered v n block.before.next block.before.hull cm master by) → IsDropped found.0 g.p → ⊥
+  never_dropped master g dropped =
+      let opened = opened_by ow points found.0 dropped.0 ordered found.1 dropped.1 in
       let o = opened.first in
       let given = point_record cm by_then.front o (contained points o opened.there) in
       let there = up_to given.0 given.1 in
@@ -89,56 +97,70 @@ module _ (goes : BlocksGoSo) (v : View) (n t : ℕ) (block : IsInBlock v n t) (c
   -- ---- the cluster
 
   -- a cluster that has the points of all first masters
-  record HasAll (cs : List Cluster) : Type 0 where
+  record HasAll : Type 0 where
     pub cluster : Cluster
-    pub there : Contains cs cluster
+    pub there : Contains found.0 cluster
     pub holds : (master : DeviceId) → IsFirstMaster v master → (p : Point) × (member_of v.scenario.network master ≡ Some p.master) × IsIn p points
         × Holds cluster p × (p.cycle ≡ suc n)
 
   -- there is one
-  has_all : (master : DeviceId) → IsFirstMaster v master → (cs : List Cluster) → AreClusters (observation_window v.scenario.network) points cs → HasAll cs
-  has_all master first cs are =
-      let ow = observation_window v.scenario.network in
+  all : HasAll
+  all =
       let bad = bad_number v cm by points is each_is in
       let sizes = sizes_are v is in
-      let gather : (m : DeviceId) → IsFirstMaster v m → IsGathered v n block.before.next block.before.hull cm m by = λ m f. gathers goes v n t block cm by is coll m f in
-      let kept : (m : DeviceId) → (f : IsFirstMaster v m) → IsKept points cs bad.0 (suc n) (gather m f).p = λ m f.
+      let kept : (m : DeviceId) → (f : IsFirstMaster v m) → IsKept points found.0 bad.0 (suc n) (gather m f).p = λ m f.
       let g = gather m f in
       let i = is_point m g in
-      record { there = contains points g.p i; other = bad.1.of_good g.p i (good_by m g.p f g.of_master i); same = g.of_cycle; kept = never_dropped m g cs are }
+      record { there = contains points g.p i; other = bad.1.of_good g.p i (good_by m g.p f g.of_master i); same = g.of_cycle; kept = never_dropped m g }
       in
-      let good : (q : Point) → IsKept points cs bad.0 (suc n) q → IsGoodPoint v cm by q = λ q k. elim (each_is q (contained points q k.there))
+      let good : (q : Point) → IsKept points found.0 bad.0 (suc n) q → IsGoodPoint v cm by q = λ q k. elim (each_is q (contained points q k.there))
       [ inl fine ↦ fine | inr wrong ↦ absurd (k.other (bad.1.of_bad q (contained points q k.there) wrong)) ] in
-      let near : (p q : Point) → IsKept points cs bad.0 (suc n) p → IsKept points cs bad.0 (suc n) q → p.reading ≤ℤ (q.reading +ℤ ow) = λ p q k l.
+      let near : (p q : Point) → IsKept points found.0 bad.0 (suc n) p → IsKept points found.0 bad.0 (suc n) q → p.reading ≤ℤ (q.reading +ℤ ow) = λ p q k l.
       (let r = good_near v (by + 1) (suc n) cm by by p q known (omega arith) (omega arith) k.same l.same (good p k) (good q l) in omega (arith, ints)) in
-      let z = one_cluster ow points cs bad.0 (suc n) (omega (arith, ints)) (ascending_from points ordered) are near (gather master first).p (kept master first)
+      let m = first_master v is in
+      let z = one_cluster ow points found.0 bad.0 (suc n) (omega (arith, ints)) (ascending_from points ordered) found.1 near (gather m.0 m.1).p (kept m.0 m.1)
       in
       record { cluster = z.0; there = z.1; holds = λ m f. (let g = gather m f in (g.p, g.of_master, is_point m g, z.2 g.p (kept m f), g.of_cycle)) }
 
+  -- the number of a first master is one of its members
+  is_member : (device : DeviceId) (i : ℕ) → IsFirstMaster v device → member_of v.scenario.network device ≡ Some i
+      → IsMember i (record { 0 = all.cluster.members })
+  is_member device i first e =
+      let p = all.holds device first in
+      let bit = is_held ow points found.0 all.cluster p.0 (omega (arith, ints)) ordered found.1 all.there (contains points p.0 p.2) p.3 in
+      subst (λ (j : ℕ). bit_at all.cluster.members j ≡ 1) (same_some (member_of v.scenario.network device) p.0.master i p.1 e) bit
+
+  -- it is of the block's cycle
+  of_cycle : all.cluster.cycle ≡ suc n
+  of_cycle = (let m = first_master v is in let p = all.holds m.0 m.1 in sym p.3.0 ∙ p.4)
+
   -- ---- what it sends
 
+  abbrev sent_reading : ℤ
+  sent_reading = sent_at v all.cluster
+
   -- a good point of the cycle witnesses the emission reading of the cluster
-  emerges : (cs : List Cluster) → AreClusters (observation_window v.scenario.network) points cs → (all : HasAll cs) → (master : DeviceId)
-      → IsFirstMaster v master
-      → (x : Point) × IsWitness v cm by (suc n) (sent_at v all.cluster) points all.cluster x
-  emerges cs are all master first =
-      let p = all.holds master first in
-      front_witness v (by + 1) (suc n) cm by by_then.front by_then.rest cs all.cluster
+  emerges : (x : Point) × IsWitness v cm by (suc n) sent_reading points all.cluster x
+  emerges =
+      let m = first_master v is in
+      let p = all.holds m.0 m.1 in
+      front_witness v (by + 1) (suc n) cm by by_then.front by_then.rest found.0 all.cluster
       (record {
         known = known;
         whole = by_then.whole;
         only = λ h i. (up_to h i).1;
         early = omega arith;
         one = one;
-        are = are;
+        are = found.1;
         there = all.there;
-        cycle_is = sym p.3.0 ∙ p.4;
-      }) p.0.master (is_held _ _ _ all.cluster p.0 (omega (arith, ints)) ordered are all.there (contains points p.0 p.2) p.3) (master, p.1, first.good)
+        cycle_is = of_cycle;
+      }) p.0.master (is_member m.0 p.0.master m.1 p.1) (m.0, p.1, m.1.good)
 
   -- the emission reading, which is at most a precision and the time of a compression above a good point, is first reached by then
-  comes_to : (c : Cluster) (x : Point) → IsWitness v cm by (suc n) (sent_at v c) points c x → (u : ℕ)
-      × (u ≤ by) × IsReach (v.scenario.reading cm) (pos 0) (sent_at v c) (pos u)
-  comes_to c near e =
+  comes_to : (u : ℕ) × (u ≤ by) × IsReach (v.scenario.reading cm) (pos 0) sent_reading (pos u)
+  comes_to =
+      let near = emerges.0 in
+      let e = emerges.1 in
       let reading = v.scenario.reading cm in
       let space = room v is in
       let clock = steady v is cm in
@@ -150,46 +172,44 @@ module _ (goes : BlocksGoSo) (v : View) (n t : ℕ) (block : IsInBlock v n t) (c
       let x = last.0 in
       let after : q ≤ x = omega (arith, ints, last.1, high, g.in_time.not_late, space.errors.base_is) in
       let within : x ≤ q + 2 * v.sizes.cycle = omega (arith, ints, last.1, known.narrow w.hull w.is, w.least, g.in_time.not_early, space) in
-      let reached : sent_at v c ≤ℤ pos (reading x) =
+      let reached : sent_reading ≤ℤ pos (reading x) =
       omega (arith, ints, clock.slow q x after within, last.1, high, g.in_time.not_late, space.errors.base_is, g.least, e.soon) in
-      let found = reach_is_there v.sizes reading 0 0 (sent_at v c) x clock (omega arith) (omega (arith, ints, last.1, high, space.compression_least))
+      let there = reach_is_there v.sizes reading 0 0 sent_reading x clock (omega arith) (omega (arith, ints, last.1, high, space.compression_least))
       (omega (arith, ints, clock.begins, e.begun)) reached in
       let follows = follows_before v n block.before.hull w.hull is block.before.is_hull w.is in
-      (found.0, omega (arith, ints, found.2, last.1, follows.most, coll.over), found.3)
+      (there.0, omega (arith, ints, there.2, last.1, follows.most, coll.over), there.3)
+
+  abbrev u : ℕ
+  u = comes_to.0
 
   -- the records before the place of the frame
-  before_sent : (c : Cluster) (u : ℕ) → IsSplit place_of (by_then).front (place_of_sent v cm c u)
-  before_sent c u =
-      split place_of (IsDue v.scenario) by_then.front (place_of_sent v cm c u)
+  first : IsSplit place_of by_then.front (place_of_sent v cm all.cluster u)
+  first =
+      split place_of (IsDue v.scenario) by_then.front (place_of_sent v cm all.cluster u)
       (front_founded place_of (IsDue v.scenario) by_then.front by_then.rest (subst (IsFounded place_of (IsDue v.scenario)) by_then.whole is.run.founded))
 
   -- the same among all records
-  all_before : (c : Cluster) (u : ℕ) → u ≤ by → IsSplit place_of v.records (place_of_sent v cm c u)
-  all_before c u le =
-      let first = before_sent c u in
-      record {
-        front = first.front;
-        rest = first.rest ++ by_then.rest;
-        whole = by_then.whole ∙ ap (λ (hs : List Happening). hs ++ by_then.rest) first.whole ∙ append_assoc first.front first.rest by_then.rest;
-        before = first.before;
-        none = λ h i lt. elim (in_parts h first.rest by_then.rest i) [
-          | inl j ↦ first.none h j lt
-          | inr j ↦ by_then.none h j (before_later_time (place_of h) (u + 1) (by + 1) (omega arith)
-              (before_next_time (place_of h) u (4 ∷ cm.0 ∷ unsigned_abs c.opened ∷ unsigned_abs (sent_at v c) ∷ c.cycle ∷ c.members ∷ sign c.opened
-              ∷ sign (sent_at v c) ∷ []) lt))
-        ];
-      }
+  abbrev all_before : IsSplit place_of v.records (place_of_sent v cm all.cluster u)
+  all_before = record {
+    front = first.front;
+    rest = first.rest ++ by_then.rest;
+    whole = by_then.whole ∙ ap (λ (hs : List Happening). hs ++ by_then.rest) first.whole ∙ append_assoc first.front first.rest by_then.rest;
+    before = first.before;
+    none = λ h i lt. elim (in_parts h first.rest by_then.rest i) [
+      | inl j ↦ first.none h j lt
+      | inr j ↦ by_then.none h j (before_later_time (place_of h) (u + 1) (by + 1) (omega (arith, comes_to.1))
+          (before_next_time (place_of h) u (4 ∷ cm.0 ∷ unsigned_abs all.cluster.opened ∷ unsigned_abs sent_reading ∷ all.cluster.cycle
+          ∷ all.cluster.members ∷ sign all.cluster.opened ∷ sign sent_reading ∷ []) lt))
+    ];
+  }
 
   -- the points that come later lie behind the emission reading
-  past_sent : (c : Cluster) (u : ℕ) → IsReach (v.scenario.reading cm) (pos 0) (sent_at v c) (pos u) → (q : Point)
-      → IsIn q (filter_map (λ h. point_by cm h h.note.body) (before_sent c u).rest) → sent_at v c ≤ℤ q.reading
-  past_sent c u reach q i =
-      let first = before_sent c u in
+  past_sent : (q : Point) → IsIn q (filter_map (λ h. point_by cm h h.note.body) first.rest) → sent_reading ≤ℤ q.reading
+  past_sent q i =
       let made = in_filter_map (λ (h : Happening). point_by cm h h.note.body) first.rest q i in
       let k = made.0 in
       let g = gives_point cm k q made.2 in
-      let there : IsIn k by_then.front = subst (IsIn k) (sym first.whole) (in_right k first.front first.rest made.1) in
-      let in_all = (up_to k there).0 in
+      let in_all = (up_to k (subst (IsIn k) (sym first.whole) (in_right k first.front first.rest made.1))).0 in
       let behind : u < time_of k = elim (cases_lt u (time_of k)) [
         | inl lt ↦ lt
         | inr le ↦ elim (cases_lt (time_of k) u) [
@@ -197,62 +217,39 @@ module _ (goes : BlocksGoSo) (v : View) (n t : ℕ) (block : IsInBlock v n t) (c
           | inr ge ↦ absurd (first.none k made.1 (inr (omega (arith, le, ge), inl (omega (arith, ap rank g.is)))))
         ]
       ] in
-      omega (arith, ints, later_point v cm q.reading u (time_of k) is (read_at v cm k q is in_all g) behind, reach.reached)
+      omega (arith, ints, later_point v cm q.reading u (time_of k) is (read_at v cm k q is in_all g) behind, comes_to.2.reached)
 
   -- so the frame is sent
-  sends : (cs : List Cluster) (c : Cluster) (u : ℕ) → AreClusters (observation_window v.scenario.network)
-      (points) cs
-      → Contains cs c → c.end <ℤ sent_at v c → u ≤ by → IsReach (v.scenario.reading cm) (pos 0) (sent_at v c) (pos u) → IsSentAt v cm c u
-  unfolding all_before before_sent
-  sends cs c u are there ends le reach =
-      let ow = observation_window v.scenario.network in
-      let all = up_to in
-      let first = before_sent c u in
+  sends : IsSentAt v cm all.cluster u
+  sends =
       let point = λ (h : Happening). point_by cm h h.note.body in
       let more = filter_map point first.rest in
       let in_front : (h : Happening) → IsIn h first.front → IsIn h v.records
-      × (time_of h ≤ by) = λ h i. all h (subst (IsIn h) (sym first.whole) (in_left h first.front first.rest i)) in
-      let whole = points_all by_then.front all ∙ ap (filter_map point) first.whole
-      ∙ filter_map-append point first.front first.rest ∙ ap (λ (ps : List Point). ps ++ more)
-      (sym (points_all first.front in_front)) in
-      let past = all_by (λ (q : Point). c.end <ℤ q.reading) more (λ q i. (let above = past_sent c u reach q i in omega (arith, ints, above, ends))) in
-      let found = one_list_of_clusters ow (points_of first.front cm) in
-      let was = cluster_was ow (points_of first.front cm) more found.0 cs c (omega (arith, ints)) found.1
-      (subst (λ (ps : List Point). AreClusters ow ps cs) whole are) there past in
-      is_sent v cm u c found.0 is (cm_is v cm coll.of_channel).one coll.calm.good (omega arith) (all_before c u le) found.1 was reach
+      × (time_of h ≤ by) = λ h i. up_to h (subst (IsIn h) (sym first.whole) (in_left h first.front first.rest i)) in
+      let whole = points_all by_then.front up_to ∙ ap (filter_map point) first.whole ∙ filter_map-append point first.front first.rest
+      ∙ ap (λ (ps : List Point). ps ++ more) (sym (points_all first.front in_front)) in
+      let ends = emerges.1.ends in
+      let past = all_by (λ (q : Point). all.cluster.end <ℤ q.reading) more (λ q i. (let above = past_sent q i in omega (arith, ints, above, ends))) in
+      let before = one_list_of_clusters ow (points_of first.front cm) in
+      let was = cluster_was ow (points_of first.front cm) more before.0 found.0 all.cluster (omega (arith, ints)) before.1
+      (subst (λ (ps : List Point). AreClusters ow ps found.0) whole found.1) all.there past in
+      is_sent v cm u all.cluster before.0 is one coll.calm.good (omega (arith, comes_to.1, coll.calm.to, block.in_run)) all_before before.1 was comes_to.2
 
-  -- the number of a first master is one of its members
-  is_in : (cs : List Cluster) (all : HasAll cs)
-      → AreClusters (observation_window v.scenario.network) (points) cs → (device : DeviceId) (i : ℕ)
-      → IsFirstMaster v device → member_of v.scenario.network device ≡ Some i → IsMember i (record { 0 = all.cluster.members })
-  is_in cs all are device i first e =
-      let p = all.holds device first in
-      let bit = is_held (observation_window v.scenario.network) (points) cs all.cluster p.0
-      (omega (arith, ints)) (ordered) are all.there
-      (contains (points) p.0 p.2) p.3 in
-      subst (λ (j : ℕ). bit_at all.cluster.members j ≡ 1) (same_some (member_of v.scenario.network device) p.0.master i p.1 e) bit
-
-  -- so the master sends one, and its base lies in the hull
+  -- and its base lies in the hull
   pub emits : (hull : Hull) × (hull_of v (suc n) ≡ Some hull) × SendsSo v n hull
   emits =
-      let master = first_master v is in
-      let found = one_list_of_clusters (observation_window v.scenario.network) (points) in
-      let all = has_all master.0 master.1 found.0 found.1 in
-      let p = all.holds master.0 master.1 in
-      let e = emerges found.0 found.1 all master.0 master.1 in
-      let u = comes_to all.cluster e.0 e.1 in
-      let sent = sends found.0 all.cluster u.0 found.1 all.there e.1.ends u.1 u.2 in
       let members : Members = record { 0 = all.cluster.members } in
-      let emission : IsEmission v sent.h cm (suc n) members = subst (λ (k : ℕ). IsEmission v sent.h cm k members) (sym p.3.0 ∙ p.4) sent.emission in
-      let enough = enough_masters v members is (is_in found.0 all found.1) in
-      let base = bases_are_in_hulls v sent.h cm (suc n) members is emission (λ h d m dispatch lt. known.tidy h d m dispatch (omega (arith, lt, sent.time, u.1)))
+      let emission : IsEmission v sends.h cm (suc n) members = subst (λ (k : ℕ). IsEmission v sends.h cm k members) of_cycle sends.emission in
+      let enough = enough_masters v members is is_member in
+      let base = bases_are_in_hulls v sends.h cm (suc n) members is emission
+      (λ h d m dispatch lt. known.tidy h d m dispatch (omega (arith, lt, sends.time, comes_to.1)))
       (inl (omega (arith, (is.lawful.rules Masters 2).threshold_least refl, enough))) in (
         base.hull,
         base.is,
         record {
           cm = cm;
           is_cm = coll.of_channel;
-          first = sent.h;
+          first = sends.h;
           members = members;
           emission = emission;
           enough = enough;
