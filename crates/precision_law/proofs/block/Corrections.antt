@@ -162,28 +162,15 @@ module _ (v : View) (n t : ℕ) (before : Stands v n) (is : IsView v) (device : 
       (omega (arith, ints, y.heard.not_late, x.heard.not_early, order, space)) x.heard.timely y.heard.timely in
       record { least = omega (arith, ints, both.least, floor, mean, x.is, y.is); most = omega (arith, ints, both.most, floor, mean, x.is, y.is) }
 
-  -- what the deviations of both channels correct
-  pub shared_by : (c d : Channel) (a by : Units) (o : Option Units) → (x : IsByFrame v n t before device c a)
-      → ((b : Units) → o ≡ Some b → IsByFrame v n t before device d b) → correction_of (Some a) o ≡ Some by
+  -- what two deviations correct, which need not be of two frames
+  shared_two : (c d : Channel) (a b by : Units) → (x : IsByFrame v n t before device c a) → IsByFrame v n t before device d b → IsMean a.0 b.0 by.0
       → IsSharedCorrection v n t x.heard.hull (base_of v.sizes (time_of x.heard.emission)) device by
-  shared_by c d a by None x other e =
-      let same : a.0 ≡ by.0 = ap (λ (o : Option Units). option_map_or (λ u. u.0) o (pos 0)) e in
-      let timely = x.heard.timely in
-      record {
-        other = base_of v.sizes (time_of x.heard.emission);
-        near = x.near;
-        set_at = time_of x.h;
-        not_before = x.heard.not_early;
-        not_behind = x.by_then;
-        anchored = record { least = omega (arith, ints, timely, x.is, same); most = omega (arith, ints, timely, x.is, same) };
-      }
-  shared_by c d a by (Some b) x other e =
-      let y = other b refl in
-      let mean = subst (IsMean a.0 b.0) (ap (λ (o : Option Units). option_map_or (λ u. u.0) o (pos 0)) e) (mean_of-floor a.0 b.0) in
-      let near = subst (λ (w : Hull). IsNearHull v.sizes w (base_of v.sizes (time_of y.heard.emission))) (same_some _ _ _ y.heard.is_hull x.heard.is_hull) y.near in
+  shared_two c d a b by x y mean =
+      let other = base_of v.sizes (time_of y.heard.emission) in
+      let near = subst (λ (w : Hull). IsNearHull v.sizes w other) (same_some _ _ _ y.heard.is_hull x.heard.is_hull) y.near in
       elim (cases_lt (time_of y.h) (time_of x.h)) [
         | inr le ↦ record {
-          other = base_of v.sizes (time_of y.heard.emission);
+          other = other;
           near = near;
           set_at = time_of y.h;
           not_before = omega (arith, ints, x.heard.not_early, le);
@@ -193,7 +180,7 @@ module _ (v : View) (n t : ℕ) (before : Stands v n) (is : IsView v) (device : 
         | inl lt ↦
             let z = two_anchor d c b a by y x (omega (arith, lt)) (record { least = omega (arith, ints, mean.least); most = omega (arith, ints, mean.most) }) in
             record {
-              other = base_of v.sizes (time_of y.heard.emission);
+              other = other;
               near = near;
               set_at = time_of x.h;
               not_before = x.heard.not_early;
@@ -201,6 +188,17 @@ module _ (v : View) (n t : ℕ) (before : Stands v n) (is : IsView v) (device : 
               anchored = record { least = omega (arith, ints, z.least); most = omega (arith, ints, z.most) };
             }
       ]
+
+  -- what the deviations of the channels correct
+  pub shared_by : (c d : Channel) (a by : Units) (o : Option Units) → (x : IsByFrame v n t before device c a)
+      → ((b : Units) → o ≡ Some b → IsByFrame v n t before device d b) → correction_of (Some a) o ≡ Some by
+      → IsSharedCorrection v n t x.heard.hull (base_of v.sizes (time_of x.heard.emission)) device by
+  shared_by c d a by None x other e =
+      let same : a.0 ≡ by.0 = ap (λ (o : Option Units). option_map_or (λ u. u.0) o (pos 0)) e in
+      shared_two c c a a by x x (record { least = omega (arith, ints, same); most = omega (arith, ints, same) })
+  shared_by c d a by (Some b) x other e =
+      shared_two c d a b by x (other b refl)
+      (subst (IsMean a.0 b.0) (ap (λ (o : Option Units). option_map_or (λ u. u.0) o (pos 0)) e) (mean_of-floor a.0 b.0))
 
   -- so the correction sets the clock in the hull
   corrects_first : (c d : Channel) (a by : Units) (o : Option Units) → IsByFrame v n t before device c a

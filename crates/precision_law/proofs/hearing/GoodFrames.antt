@@ -80,25 +80,15 @@ record_within v n t block device channel point h judgement is has old lt g near 
 
 -- ---- hearings
 
--- a frame that was heard within its time is a hearing
-pub record IsHeardBy (v : View) (device : DeviceId) (channel : Channel) (h : Happening) : Type 0 where
-  pub point : Units
-  pub shows : hearing_by v.scenario.network device h h.note.body ≡ Some (heard_by channel h point true)
-
 if_same : {X : Type 0} (n : ℕ) (x y : X) → (if n == n then x else y) ≡ x
 if_same n x y = ap (λ (b : Bool). if b then x else y) (eq-eqb n n refl)
 
+-- a frame that was heard within its time is a hearing
 pub heard_within_by : (v : View) (device : DeviceId) (channel : Channel) (point : ℤ) (h : Happening) → HearsBy v device channel point Within h
-    → IsHeardBy v device channel h
+    → (at : Units) × (hearing_by v.scenario.network device h h.note.body ≡ Some (heard_by channel h at true))
 heard_within_by v device channel point h hears = elim hears.how [
-  | inl far ↦ record {
-    point = far.2;
-    shows = ap (hearing_by v.scenario.network device h) far.3 ∙ if_same device.0 _ None ∙ ap (option_map (λ c. heard_by c h far.2 true)) far.4;
-  }
-  | inr own ↦ record {
-    point = own.1;
-    shows = ap (hearing_by v.scenario.network device h) own.4 ∙ if_same device.0 _ None ∙ ap (option_map (λ c. heard_by c h own.1 true)) own.5;
-  }
+  | inl far ↦ (far.2, ap (hearing_by v.scenario.network device h) far.3 ∙ if_same device.0 _ None ∙ ap (option_map (λ c. heard_by c h far.2 true)) far.4)
+  | inr own ↦ (own.1, ap (hearing_by v.scenario.network device h) own.4 ∙ if_same device.0 _ None ∙ ap (option_map (λ c. heard_by c h own.1 true)) own.5)
 ]
 
 -- ---- old devices at their points

@@ -1,7 +1,7 @@
 -- What a device hears is a frame that a compression master sent.
 use Rattle.precision_law.proofs.words.Std.{◌*◌, ◌+◌, ◌==◌, ◌∙◌, ◌∷◌, ◌≡◌, Bool, List, MatchBool-at_true, None, Option, Some, ap, arith, both_ways, eqb-true, false, false_from_ne_true, if◌then◌else◌, inl, inr, is_some, not-true, option_and_then, option_map_or, refl, subst, sym, true, ℕ, ℤ}
 use Rattle.precision_law.proofs.words.Plans.{Channel, Device, DeviceId, Down, IsDeviceInRange, Joints, Link, LinkId, Network, Pcf, Point, Relay, Role, Taken, Up, all_at, amount, compression_time, device_at, is_end_system, link_at, opened}
-use Rattle.precision_law.proofs.words.Runs.{Happening, Integrates, IsCaused, IsCollectedOrDropped, IsIn, IsPermanenceOutcome, Judgement, Outside, Reason, Within, cause_of, chain, cycle_in, expected_by, founded_at, frame_by, in_left, is_cm, is_cm_role, is_parent_of, is_relay_role, members_in, numbered, numbered_front, numbered_in, ripe_as, ripe_by_role, waits_for, way_to}
+use Rattle.precision_law.proofs.words.Runs.{Happening, Integrates, IsCaused, IsCollectedOrDropped, IsIn, IsPermanenceOutcome, Judgement, Outside, Reason, Within, cause_of, chain, cycle_in, expected_by, founded_at, frame_by, in_left, is_cm, is_cm_role, is_parent_of, is_relay_role, numbered, numbered_front, numbered_in, ripe_as, ripe_by_role, waits_for, way_to}
 use Rattle.precision_law.proofs.words.Laws.{HearingsAreOfFrames, IsEmission, IsOfHearer, IsView, Sizes, View, expectation}
 use Rattle.compression.specs.declared.taken.Taken.TheVariants as taken
 use Rattle.run_law.specs.declared.note.NoteBody.TheVariants as notes
@@ -91,8 +91,6 @@ hearings_are_of_frames v device channel point judgement h is hearer hears = elim
       let from_cm = frames_down_are_of_cms v p.arrival device far.0 p.from p.clock is in_all p.arrived down in
       let framed : h.frame ≡ p.arrival.frame = ap (λ (x : Happening). x.frame) found.due.same ∙ ap (frame_by v.scenario.network found.front) far.3
       ∙ ap (λ (o : Option Happening). option_and_then (λ x. x.frame) o) p.there in
-      let cycle : cycle_in p.arrival ≡ cycle_in h = ap (λ (o : Option Pcf). option_map_or (λ f. f.cycle) o 0) (sym framed) in
-      let members : members_in p.arrival ≡ members_in h = ap (λ (o : Option Pcf). option_map_or (λ f. f.members.0) o 0) (sym framed) in
       let by_h : cause_of h.note.body ≡ cause = ap cause_of far.3 in
       let there_all : numbered v.records (cause_of h.note.body) ≡ Some p.arrival = subst (λ (n : ℕ). numbered v.records n ≡ Some p.arrival) (sym by_h)
       (subst (λ (hs : List Happening). numbered hs cause ≡ Some p.arrival) (sym found.whole) (numbered_front found.front (h ∷ found.rest) cause _ p.there)) in
@@ -100,8 +98,8 @@ hearings_are_of_frames v device channel point judgement h is hearer hears = elim
         from_cm.first,
         record {
           cm = from_cm.cm;
-          emission = subst (λ (m : ℕ). IsEmission v from_cm.first from_cm.cm (cycle_in h) (record { 0 = m })) members
-              (subst (λ (c : ℕ). IsEmission v from_cm.first from_cm.cm c (record { 0 = members_in p.arrival })) cycle from_cm.emission);
+          emission = subst (λ (o : Option Pcf). IsEmission v from_cm.first from_cm.cm (option_map_or (λ f. f.cycle) o 0)
+              (record { 0 = option_map_or (λ f. f.members.0) o 0 })) (sym framed) from_cm.emission;
           of_channel = sym (from_cm.same_channel device far.0 p.from p.clock p.arrived) ∙ far.4;
           hears = inr (record {
             ripe = h;

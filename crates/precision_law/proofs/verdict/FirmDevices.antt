@@ -97,8 +97,8 @@ module _ (laws : FramesGoSo) (goes : BlocksGoSo) (v : View) (n t : ℕ) (block :
       let within = heard_within goes v n t block is laws device v.channel r.point r.judgement h at lt r.hearer r.hears g (inl many) in
       let hears : HearsBy v device v.channel r.point Within h = subst (λ (j : Judgement). HearsBy v device v.channel r.point j h) within r.hears in
       let shown = heard_within_by v device v.channel r.point h hears in
-      let hearing : Hearing = heard_by v.channel h shown.point true in
-      (hearing.frame, is_since v n t block is device at front split h hearing hears.there r.from lt shown.shows, omega (arith, same))
+      let hearing : Hearing = heard_by v.channel h shown.0 true in
+      (hearing.frame, is_since v n t block is device at front split h hearing hears.there r.from lt shown.1, omega (arith, same))
 
   has_best : HasBest standing summary v.channel
   has_best =
