@@ -3,11 +3,12 @@ use Rattle.precision_law.proofs.words.Std.{◌*◌, ◌+ℤ◌, ◌+◌, ◌-ℤ
 use Rattle.precision_law.proofs.words.Plans.{Device, DeviceId, State, Synchronised, Units, adjustment_at_start, amount, device_at, is_end_system, is_master}
 use Rattle.precision_law.proofs.words.Runs.{Happening, IsCaused, IsIn, earlier, founded_at, has_role, in_filter, is_end, is_synchronised, is_turned_on_at, same_some, start_of, state_after, time_of}
 use Rattle.precision_law.proofs.words.Laws.{AreShared, BlocksGoSo, Hull, HullsAreNarrow, IsAnchored, IsDispatch, IsGood, IsInBlock, IsNearHull, IsOldAt, IsOverBefore, IsReachedNear, IsView, Sizes, Stands, View, adjustment_left, epoch_time, first_dispatch, has_time, hull_of, hull_over, is_dispatch, last_correction, last_dispatch, last_setting, set_adjustment, start_hull, state_left, widened}
-use Rattle.precision_law.proofs.words.Clocks.{adjustment_is_last, adjustment_stays, anchored_clocks_reach, anchored_clocks_show, before_of, clocks_reach_sharply, corrections_come_first, device_of, earlier_before, frames_come_first, master_ends, never_some, over, passes, reaches_whole, room, shared_clocks_halve, sizes_are, starts_stay_together, state_stays, steady, synchronised_has_time, tested, time_stays, within_run}
+use Rattle.precision_law.proofs.words.Clocks.{adjustment_is_last, adjustment_stays, anchored_clocks_reach, anchored_clocks_show, before_of, clocks_reach_sharply, device_of, earlier_before, frames_come_first, master_ends, never_some, over, passes, reaches_whole, room, shared_clocks_halve, sizes_are, starts_stay_together, state_stays, steady, synchronised_has_time, tested, time_stays, within_run}
+use Rattle.precision_law.proofs.block.Goings.{next_first}
 use Rattle.precision_law.proofs.block.Starts.{has_start, none_at_start, start_is}
 use Rattle.precision_law.proofs.law.Cover.{behind_of, later_end}
 use Rattle.precision_law.proofs.law.Precision.{not_integrating}
-use Rattle.precision_law.proofs.law.Together.{before_narrow, block_ends, follows_before}
+use Rattle.precision_law.proofs.law.Together.{before_narrow}
 
 -- ---- the ends of a hull
 
@@ -71,17 +72,10 @@ in_next v n before w is low high in_run =
     record {
       next = next.0;
       is_over = (before.hull, before.is_hull, next.1.behind);
-      from = from_next v n before w is low;
+      from = omega (arith, ints, next_first v n before is, low);
       to = omega (arith, ints, high, next.1.behind, frames_come_first v.sizes before.hull (room v is) (before_narrow v n before), before_narrow v n before);
       in_run = in_run;
     }
-  where
-    from_next : (v : View) (n : ℕ) (before : Stands v n) (w : ℕ) → IsView v → first_dispatch v.sizes before.hull ≤ℤ pos w → before.next ≤ w
-    from_next v zero before w is low = (let zero_next : before.next ≡ 0 = before.is_over in omega (arith, zero_next))
-    from_next v (suc c) before w is low =
-        let one = before.narrow c (omega arith) in
-        let at = block_ends v c before.next one.0 one.1 before.is_over in
-        omega (arith, ints, at, corrections_come_first v.sizes one.0 before.hull (room v is) one.2 (follows_before v c _ _ is one.1 before.is_hull), low)
 
 pub master_is_end : (v : View) (device : DeviceId) → has_role v.scenario.network is_master device ≡ true → is_end v.scenario.network device ≡ true
 master_is_end v device e =
