@@ -43,30 +43,27 @@ switch_is_relay : (role : Role) → is_cm_role role ≡ false → is_end_system 
 switch_is_relay Relay a b = refl
 switch_is_relay role a b = absurd cc
 
+there_where : {X : Type 0} (f : X → Bool) (o : Option X) → option_map_or f o false ≡ true → (x : X) × (o ≡ Some x) × (f x ≡ true)
+there_where f None e = absurd cc
+there_where f (Some x) e = (x, refl, e)
+
 -- so it receives on a way down
 hearer_down : (v : View) (device : DeviceId) (link : LinkId) → IsView v → is_cm v.scenario.network device ≡ false
     → waits_for v.scenario.network device link ≡ true → way_to v.scenario.network device link ≡ Down
 hearer_down v device link is cm waits =
-    ap (λ (b : Bool). if b then Up else Down)
-    (false_from_ne_true (is_parent_of v.scenario.network device link) (λ parent. contradiction parent (link_at v.scenario.network link) refl))
-  where
-    contradiction : is_parent_of v.scenario.network device link ≡ true → (o : Option Link) → link_at v.scenario.network link ≡ o → ⊥
-    contradiction parent None at =
-        (let wrong : is_parent_of v.scenario.network device link ≡ false = ap (λ (o : Option Link). option_map_or (λ k. k.parent.0 == device.0) o false)
-        at in both_ways _ wrong parent)
-    contradiction parent (Some l) at =
-        let n = v.scenario.network in
-        let shown : (l.parent.0 == device.0) ≡ true = sym (ap (λ (o : Option Link). option_map_or (λ k. k.parent.0 == device.0) o false) at) ∙ parent in
-        let same : l.parent ≡ device = ap (λ (i : ℕ). let d : DeviceId = record { 0 = i } in d) (eqb-true l.parent.0 device.0 shown) in
-        let joint = is.lawful.rules Joints link.0 l at in
-        let p = opened (λ (d : Device). d.channel ≡ Some joint.0) (device_at n l.parent) joint.1 in
-        let known : IsDeviceInRange p.0 = all_at IsDeviceInRange n.device l.parent.0 p.0 is.lawful.range.devices p.1 in
-        let dev : device_at n device ≡ Some p.0 = ap (device_at n) (sym same) ∙ p.1 in
-        let cm_p : is_cm_role p.0.role ≡ false = sym (ap (λ (o : Option Device). option_map_or (λ d. is_cm_role d.role) o false) dev) ∙ cm in
-        let not_end : is_end_system p.0.role ≡ false = not-true (is_end_system p.0.role) (sym known.switches ∙ (ap (λ (c : Option Channel). is_some c) p.2)) in
-        let relay = ap (λ (o : Option Device). option_map_or (λ d. is_relay_role d.role) o false) dev ∙ switch_is_relay p.0.role cm_p not_end in
-        let wrong : waits_for n device link ≡ false = rw (relay, parent) refl in
-        both_ways (waits_for n device link) wrong waits
+    ap (λ (b : Bool). if b then Up else Down) (false_from_ne_true (is_parent_of v.scenario.network device link) (λ parent.
+    let n = v.scenario.network in
+    let l = there_where (λ (k : Link). k.parent.0 == device.0) (link_at n link) parent in
+    let same : l.0.parent ≡ device = ap (λ (i : ℕ). let d : DeviceId = record { 0 = i } in d) (eqb-true l.0.parent.0 device.0 l.2) in
+    let joint = is.lawful.rules Joints link.0 l.0 l.1 in
+    let p = opened (λ (d : Device). d.channel ≡ Some joint.0) (device_at n l.0.parent) joint.1 in
+    let known : IsDeviceInRange p.0 = all_at IsDeviceInRange n.device l.0.parent.0 p.0 is.lawful.range.devices p.1 in
+    let dev : device_at n device ≡ Some p.0 = ap (device_at n) (sym same) ∙ p.1 in
+    let cm_p : is_cm_role p.0.role ≡ false = sym (ap (λ (o : Option Device). option_map_or (λ d. is_cm_role d.role) o false) dev) ∙ cm in
+    let not_end : is_end_system p.0.role ≡ false = not-true (is_end_system p.0.role) (sym known.switches ∙ (ap (λ (c : Option Channel). is_some c) p.2)) in
+    let relay = ap (λ (o : Option Device). option_map_or (λ d. is_relay_role d.role) o false) dev ∙ switch_is_relay p.0.role cm_p not_end in
+    let wrong : waits_for n device link ≡ false = rw (relay, parent) refl in
+    both_ways (waits_for n device link) wrong waits))
 
 -- ---- what is heard
 

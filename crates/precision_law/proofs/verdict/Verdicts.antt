@@ -2,7 +2,7 @@
 use Rattle.precision_law.proofs.words.Std.{◌++◌, ◌∙◌, ◌∷◌, ◌≡◌, ◌≤◌, ◌⊎◌, Bool, IfSome, List, None, Option, Some, [], ap, append-nil, append_assoc, arith, cases_lt, false, if◌then◌else◌, inl, inr, le-leb, nat_le, option_and_then, refl, subst, sym, true, ℕ}
 use Rattle.precision_law.proofs.words.Plans.{A, AsyncClique, B, Channel, Corrected, HasVerdict, HeardFrame, Hearing, IsAtIntegration, IsBetterOf, IsOutnumbered, Qualifies, Standing, Summarizes, Summary, SyncClique, Units, correction_of, count_of, deviation_by, deviation_on, silence, union, within_on}
 use Rattle.precision_law.proofs.words.Runs.{IsDecided, decided_and, decided_less, decided_less_int, decided_or, decided_same, decided_some}
-use Rattle.membership.proofs.SummaryLemmas.{hears_on_a, hears_on_b, hears_outside, silence_summarizes}
+use Rattle.membership.proofs.SummaryLemmas.{hears_on_a, hears_on_b, hears_outside, same_hearing, silence_summarizes}
 
 -- ---- summaries
 
@@ -13,11 +13,6 @@ better (Some best) later =
     (decided_and (decided_same (count_of later.members) (count_of best.members)) (decided_less_int later.point.0 best.point.0))) as
     (λ _. (frame : HeardFrame) × IsBetterOf (Some best) later frame) [ inl behind ↦ (best, inl (behind, refl)) | inr other ↦ (later, inr (other, refl)) ]
 
-hearing_is : (h : Hearing) (channel : Channel) → h.channel ≡ channel → h.within ≡ true → within_on channel h.frame ≡ h
-hearing_is h channel a b =
-    ap (λ (c : Channel). let x : Hearing = record { channel = c; frame = h.frame; within = true } in x) (sym a)
-    ∙ ap (λ (w : Bool). let x : Hearing = record { channel = h.channel; frame = h.frame; within = w } in x) (sym b)
-
 one_more : (s : Summary) (acc : List Hearing) (h : Hearing) → Summarizes s acc → (t : Summary) × Summarizes t (acc ++ h ∷ [])
 one_more s acc h is = by h.within refl h.channel refl
   where
@@ -26,13 +21,13 @@ one_more s acc h is = by h.within refl h.channel refl
     by true e A f =
         let b = better s.best_a h.frame in (
           record { best_a = Some b.0; best_b = s.best_b; outside = s.outside },
-          subst (λ (x : Hearing). Summarizes (record { best_a = Some b.0; best_b = s.best_b; outside = s.outside }) (acc ++ x ∷ [])) (hearing_is h A f e)
+          subst (λ (x : Hearing). Summarizes (record { best_a = Some b.0; best_b = s.best_b; outside = s.outside }) (acc ++ x ∷ [])) (same_hearing h.channel A h.frame h.within f e)
               (hears_on_a s acc h.frame b.0 b.1 is),
         )
     by true e B f =
         let b = better s.best_b h.frame in (
           record { best_a = s.best_a; best_b = Some b.0; outside = s.outside },
-          subst (λ (x : Hearing). Summarizes (record { best_a = s.best_a; best_b = Some b.0; outside = s.outside }) (acc ++ x ∷ [])) (hearing_is h B f e)
+          subst (λ (x : Hearing). Summarizes (record { best_a = s.best_a; best_b = Some b.0; outside = s.outside }) (acc ++ x ∷ [])) (same_hearing h.channel B h.frame h.within f e)
               (hears_on_b s acc h.frame b.0 b.1 is),
         )
 
