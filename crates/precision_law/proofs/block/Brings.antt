@@ -150,10 +150,10 @@ module _ (v : View) (n t : ℕ) (block : IsInBlock v n t) (is : IsView v) (went 
       → ComesTo v t device cycle (Corrected by) → CorrectsSo v n t device by
   corrects_so laws device cycle by has old comes =
       let summary = comes.point.summary in
-      let standing = standing_before v.scenario comes.front device t in
+      let stand = standing_before v.scenario comes.front device t in
       let frame = λ (channel : Channel) (dev : Units). is_by_frame laws v n t block device is went has old comes.front summary comes.split comes.point.heard
       channel dev (best_on channel summary) refl in
-      corrects_by v n t block.before is device A B by (deviation_on standing summary A) (deviation_on standing summary B) (frame A) (frame B) comes.point.comes.3
+      corrects_by v n t block.before is device A B by (deviation_on stand summary A) (deviation_on stand summary B) (frame A) (frame B) comes.point.comes.3
 
 -- ---- devices whose clocks were set in the block
 

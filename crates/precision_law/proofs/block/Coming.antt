@@ -58,8 +58,7 @@ set_before (Some h) next early = omega (arith, ints, early)
 -- an old clock comes in the block to each value of the next cycle that it shows by the last correction
 pub reaches_in_block : (v : View) (n t k : ℕ) (before : Stands v n) (device : DeviceId) → IsView v → HasTimeAt v device before.next → before.next ≤ t
     → IsOldAt v before.next device t → v.sizes.cycle ≤ k → ((before.hull.greatest +ℤ pos k) +ℤ pos v.sizes.reach) ≤ℤ pos t
-    → pos t ≤ℤ last_correction v.sizes before.hull
-    → (u : ℕ) × (before.next < u) × (u ≤ t) × Reaches v.scenario v.records device (pos (n * v.sizes.cycle + k)) u
+    → pos t ≤ℤ last_correction v.sizes before.hull → (u : ℕ) × (before.next < u) × (u ≤ t) × Reaches v.scenario v.records device (pos (n * v.sizes.cycle + k)) u
 reaches_in_block v n t k before device is has le old behind late most =
     let reading = v.scenario.reading device in
     let space = room v is in

@@ -41,10 +41,12 @@ module _ (v : View) (k t : ℕ) (block : IsInBlock v (suc k) t) (device : Device
         | inr ge ↦ (let up = (steady v is device).never_falls (q - 1) (changed_at v.records device t) ge in absurd (omega (arith, ints, up, below, above)))
       ] in
       let shows = set_clocks_show v.sizes reading (adjustment_left v device t) (suc k) before.hull set.set_at (q - 1) (steady v is device)
-      (omega (arith, set.since, same_time)) (omega (arith, ints, block_ends v (suc k) block.next _ before.is_hull block.is_over, before_narrow v _ before, set.not_before, block.to, space))
+      (omega (arith, set.since, same_time))
+      (omega (arith, ints, block_ends v (suc k) block.next _ before.is_hull block.is_over, before_narrow v _ before, set.not_before, block.to, space))
       (subst (λ (a : ℤ). IsAnchoredIn v.sizes reading a (suc k) before.hull set.set_at) same_a set.anchored) in
       let product = ap (λ (x : ℕ). recorded_cycle (earlier t v.records) device * x) (sym (sizes_are v is).cycle) ∙ ap (λ (c : ℕ). c * v.sizes.cycle) recorded in
-      omega (arith, ints, shows.most, above, product, (sizes_are v is).correction, (follows_before v k w before.hull is at_w before.is_hull).least, space.errors.reach_is, behind)
+      let follows = follows_before v k w before.hull is at_w before.is_hull in
+      omega (arith, ints, shows.most, above, product, (sizes_are v is).correction, follows.least, space.errors.reach_is, behind)
 
   -- what it heard since its last correction point came behind the first corrections of the cycle before
   late_by : (front : List Happening) (hearing : Hearing) → (split : AreBeforeCorrections v t front) → (heard : IsHearingOf v device t front hearing)
@@ -77,7 +79,8 @@ heard_late v (suc c) t block device is has old front hearing split heard k w le 
     let there = block.before.narrow c (omega arith) in
     let gap : k + (c - k) ≡ c = omega (arith, le) in
     let late = late_by v c t block device is has old there.0 there.1 front hearing split heard (last_setting (earlier t v.records) device) refl in
-    omega (arith, ints, corrections_go_on v _ k (c - k) block.before w _ is (omega arith) at (subst (λ (x : ℕ). hull_of v x ≡ Some there.0) (sym gap) there.1), late)
+    let on = corrections_go_on v _ k (c - k) block.before w _ is (omega arith) at (subst (λ (x : ℕ). hull_of v x ≡ Some there.0) (sym gap) there.1) in
+    omega (arith, ints, on, late)
 
 -- ---- the deviation of a channel
 
@@ -212,7 +215,7 @@ module _ (v : View) (n t : ℕ) (before : Stands v n) (is : IsView v) (device : 
         set_at = z.set_at;
         not_before = z.not_before;
         not_behind = z.not_behind;
-        anchored = record { least = omega (arith, ints, z.anchored.least, z.near, x.near, errors); most = omega (arith, ints, z.anchored.most, z.near, x.near, errors) };
+        anchored = record { least = omega (arith, ints, z.anchored, z.near, x.near); most = omega (arith, ints, z.anchored, z.near, x.near) };
       }
 
   pub corrects_by : (c d : Channel) (by : Units) (a b : Option Units) → ((dev : Units) → a ≡ Some dev → IsByFrame v n t before device c dev)

@@ -153,8 +153,8 @@ module _ (goes : BlocksGoSo) (v : View) (n t : ℕ) (block : IsInBlock v n t) (d
   pub changes_never : (h : Happening) (state : State) (cause : ℕ) (why : Why) → IsView v → IsCalm v n t block device b → IsIn h v.records → time_of h ≤ b
       → h.note.body ≡ notes.State device state cause why → ⊥
   changes_never h state cause why is at i le body =
-      never_changes v device (b + 1) is at.on (no_clique (b + 1) is at (omega arith)) (λ w lt. synchronised_then w is at (omega (arith, lt))) h state cause why i
-      (omega (arith, le)) body
+      never_changes v device (b + 1) is at.on (no_clique (b + 1) is at (omega arith)) (λ w lt. synchronised_then w is at (omega (arith, lt))) h state cause why
+      i (omega (arith, le)) body
 
   -- nothing sets its clock in the block by then
   never_set : (h : Happening) → IsView v → IsCalm v n t block device b → IsIn h v.records → block.before.next ≤ time_of h → time_of h ≤ b

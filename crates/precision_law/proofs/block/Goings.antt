@@ -77,7 +77,8 @@ judged_up_to v h is found device link cause frame at =
 -- how a device judges a frame that is at this point at q, given records
 abbrev pub judged_at : Scenario → DeviceId → List Happening → ℕ → ℤ → ℕ → Members → Judgement
 judged_at s device hs q point cycle members =
-    heard_as (plan_of s.network device) (observation_window s.network) (state_at_hearing s hs device q) (adjustment_at_hearing s hs device q).0 point cycle members
+    heard_as (plan_of s.network device) (observation_window s.network) (state_at_hearing s hs device q) (adjustment_at_hearing s hs device q).0 point
+    cycle members
 
 -- ---- the points that records show
 

@@ -36,8 +36,7 @@ of_one_cycle n a b x y space of_a of_b le near = elim (cases_lt a b) [
 
 -- a point that was permanent four precisions before another lies more than two precisions below it
 pub far_below : (n : Sizes) (reading : ℕ → ℕ) (p r : ℤ) (first last q : ℕ) → HaveRoom n → IsSteady n reading → p ≤ℤ pos (reading first) → first ≤ last
-    → last + 4 * n.precision ≤ q → pos (reading q) ≤ℤ (r +ℤ pos (2 * n.grain))
-    → (p +ℤ pos (2 * n.precision)) <ℤ r
+    → last + 4 * n.precision ≤ q → pos (reading q) ≤ℤ (r +ℤ pos (2 * n.grain)) → (p +ℤ pos (2 * n.precision)) <ℤ r
 far_below n reading p r first last q space steady low before after above =
     let slow = steady.slow last (last + 4 * n.precision) (omega arith) (omega (arith, space.cycles)) in
     omega (arith, ints, steady.never_falls first last before, slow, steady.never_falls (last + 4 * n.precision) q after, low, above, space)

@@ -113,8 +113,7 @@ pub record Collects (v : View) (n t : ℕ) (block : IsInBlock v n t) (cm : Devic
   pub calm : IsCalm v n t block cm by
   pub of_channel : IsCmOf v.scenario.network v.channel cm
   pub late : (first_correction v.sizes block.before.hull +ℤ pos v.sizes.reach) ≤ℤ pos t
-  pub over : (last_dispatch v.sizes block.before.hull +ℤ pos (v.sizes.dmax + v.sizes.compression + v.sizes.base + v.sizes.path + v.sizes.precision))
-      ≤ℤ pos by
+  pub over : (last_dispatch v.sizes block.before.hull +ℤ pos (v.sizes.dmax + v.sizes.compression + v.sizes.base + v.sizes.path + v.sizes.precision)) ≤ℤ pos by
 
 module _ (goes : BlocksGoSo) (v : View) (n t : ℕ) (block : IsInBlock v n t) (cm : DeviceId) (by : ℕ) (is : IsView v) (c : Collects v n t block cm by)
     (master : DeviceId) (s : IsSender v n block.before.hull cm master) (f : HasFrame v n block.before.hull cm master s) where
@@ -132,7 +131,8 @@ module _ (goes : BlocksGoSo) (v : View) (n t : ℕ) (block : IsInBlock v n t) (c
       let behind : before.next + 4 * v.sizes.precision ≤ q = omega (arith, ints, early_show v n before is, s.low, b.in_time.not_early, space) in
       let there : IsInBlock v n q = earlier_in_block _ _ _ _ block (omega (arith, behind)) (omega (arith, to, c.calm.to)) in
       let old = old_then goes v n t block cm by q is c.calm (omega (arith, to)) in
-      let has : HasTimeAt v cm q = record { good = c.calm.good; timed = ap has_time (synchronised_then goes v n t block cm by q is c.calm (omega (arith, to))) } in
+      let timed = ap has_time (synchronised_then goes v n t block cm by q is c.calm (omega (arith, to))) in
+      let has : HasTimeAt v cm q = record { good = c.calm.good; timed = timed } in
       let shows = old_shows v n q q cm there is (omega arith) has old in
       let same = sym (ap (λ (a : Units). a.0) (adjustment_stays v cm before.next q is (omega (arith, behind)) old)) in
       let shows_so = subst (λ (a : ℤ). ShowsIn v.sizes (pos (v.scenario.reading cm q) +ℤ a) n before.hull q) same shows in
@@ -184,8 +184,8 @@ module _ (goes : BlocksGoSo) (v : View) (n t : ℕ) (block : IsInBlock v n t) (c
       let size = (sizes_are v is).precision in
       let soon = ends_soon ow o (o ∷ opened.rest) (omega (arith, ints)) in
       let high : b.point ≤ℤ (o.reading +ℤ pos (2 * v.sizes.precision)) = omega (arith, ints, meets.to, soon, ap (λ (x : Cluster). x.end) opened.is, size) in
-      let cycle = of_block_cycle goes v n t block cm by is c.calm (cm_is v cm c.of_channel).one b.point b.q k o aims.2 i (omega (arith, early, to)) g low high in
-      meets.other (f.of_cycle ∙ sym cycle ∙ sym (ap (λ (x : Cluster). x.cycle) opened.is))
+      let same = of_block_cycle goes v n t block cm by is c.calm (cm_is v cm c.of_channel).one b.point b.q k o aims.2 i (omega (arith, early, to)) g low high in
+      meets.other (f.of_cycle ∙ sym same ∙ sym (ap (λ (x : Cluster). x.cycle) opened.is))
 
   -- so its record gives its point
   recorded : (verdict : Judgement) → IsRipeRecord v cm s.brought.last s.brought.permanent.link s.brought.point s.brought.q verdict f.frame

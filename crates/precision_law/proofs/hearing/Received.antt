@@ -106,8 +106,8 @@ module _ (v : View) (n t : ℕ) (block : IsInBlock v n t) (is : IsView v) (devic
   hears : (q : ℕ) (hs : List Happening) (point : ℤ) (cycle : ℕ) (others : Members) → AreUpTo v q hs → block.before.next ≤ q → q < t
       → IsOfHearer (judged_at v.scenario device hs q point cycle others)
   hears q hs point cycle others up from lt =
-      hearer_of (plan_of v.scenario.network device) (observation_window v.scenario.network) (state_at_hearing v.scenario hs device q)
-      (adjustment_at_hearing v.scenario hs device q).0 point cycle others (hears_as_at v device block.before.next q t hs is up from lt at.old at.has.timed).state
+      hearer_of (plan_of v.scenario.network device) (observation_window v.scenario.network) _ (adjustment_at_hearing v.scenario hs device q).0 point cycle
+      others (hears_as_at v device block.before.next q t hs is up from lt at.old at.has.timed).state
 
   shows : (suc n ≡ cycle_in first) × (members.0 ≡ members_in first)
   shows = emission_shows v first cm e.opened e.at (suc n) members e.verdict is e.there e.is
@@ -165,7 +165,8 @@ module _ (v : View) (n t : ℕ) (block : IsInBlock v n t) (is : IsView v) (devic
       let timed_u = time_stays v device u t is (omega (arith, le, lt)) old_u at.has.timed in
       ap (λ (b : Bool). is_off (if b then Integrating else state_left v device u)) (not_turned_on_then v device u is timed_u)
       ∙ timed_on (state_left v device u) timed_u) in
-      let b = sound_frames_go_down v first device cm (suc n) members is e one (firm_member v device firm) good other opens (omega (arith, lt, block.in_run)) on in
+      let b = sound_frames_go_down v first device cm (suc n) members is e one (firm_member v device firm) good other opens (omega (arith, lt, block.in_run))
+      on in
       let p = b.permanent in
       let q = b.q in
       let ends = brought_by_leg b in

@@ -34,8 +34,7 @@ module _ (v : View) (n t : ℕ) (block : IsInBlock v n t) (is : IsView v) (devic
   -- ---- a joiner that has cleared
 
   -- where an old device has cleared, it joined, and had cleared when the block began
-  cleared_before : has_cleared v.scenario v.records device t t ≡ true
-      → has_cleared v.scenario v.records device block.before.next block.before.next ≡ true
+  cleared_before : has_cleared v.scenario v.records device t t ≡ true → has_cleared v.scenario v.records device block.before.next block.before.next ≡ true
   cleared_before cleared = by (last_setting (earlier t v.records) device) refl
     where
       had : HasTimeAt v device block.before.next
@@ -48,7 +47,8 @@ module _ (v : View) (n t : ℕ) (block : IsInBlock v n t) (is : IsView v) (devic
       number : (o : Option Happening) → last_setting (earlier t v.records) device ≡ o → next_of o ≡ n
       number o e =
           let shown = ap (λ (b : Bool). if b then recorded_cycle (earlier t v.records) device + 1 else recorded_cycle (earlier t v.records) device) cleared in
-          omega (arith, next_cycle_is_of_last (earlier t v.records) device ∙ ap next_of e, shown, old_number v n t device block.before is block.from at.has at.old)
+          let own = old_number v n t device block.before is block.from at.has at.old in
+          omega (arith, next_cycle_is_of_last (earlier t v.records) device ∙ ap next_of e, shown, own)
 
       by : (o : Option Happening) → last_setting (earlier t v.records) device ≡ o
           → has_cleared v.scenario v.records device block.before.next block.before.next ≡ true

@@ -102,9 +102,9 @@ module _ (laws : FramesGoSo) (goes : BlocksGoSo) (v : View) (n t : ℕ) (block :
 
   has_best : HasBest standing summary v.channel
   has_best =
-      let best = best_has (heard_since v.scenario front device t) v.channel heard_sound.0 (best_on v.channel summary) (sums.best v.channel) heard_sound.1 in
+      let b = best_has (heard_since v.scenario front device t) v.channel heard_sound.0 (best_on v.channel summary) (sums.best v.channel) heard_sound.1 in
       let few = few_heard_outside laws goes v n t block is device at sends.first sends.members sound front split summary.outside sums.outside in
-      record { best = best.0; is = best.1; enough = omega (arith, sends.enough, heard_sound.2, best.2); more = omega (arith, few, three, heard_sound.2, best.2) }
+      record { best = b.0; is = b.1; enough = omega (arith, sends.enough, heard_sound.2, b.2); more = omega (arith, few, three, heard_sound.2, b.2) }
 
   -- the deviation of a channel is by a frame
   by_frame : (channel : Channel) (dev : Units) → deviation channel ≡ Some dev → IsByFrame v n t block.before device channel dev

@@ -124,7 +124,8 @@ module _ (laws : FramesGoSo) (goes : BlocksGoSo) (v : View) (n t : ℕ) (block :
       let other : hearing.channel ≡ other_channel v.channel = elim (either_channel v.channel hearing.channel) [
         | inr yes_other ↦ yes_other
         | inl same ↦
-            let both = same_sent goes v n t block is _ _ _ _ own sound.sent (subst (λ (c : Channel). IsSentOn v n c own g.emission) same g.sent) sound.before before in
+            let both = same_sent goes v n t block is _ _ _ _ own sound.sent
+            (subst (λ (c : Channel). IsSentOn v n c own g.emission) same g.sent) sound.before before in
             absurd (omega (arith, ap (λ (m : Members). count_of m) both.1, sound.three, two))
       ] in
       elim (good_or_bad v hears.emission hears.cm (cycle_in hears.h) own is hears.is_emission) [
@@ -201,5 +202,5 @@ module _ (laws : FramesGoSo) (goes : BlocksGoSo) (v : View) (n t : ℕ) (block :
       in_pair : (members : Members) → IsPair v n t members → (h : Hearing) (i : ℕ) → IsOutside h → IsMember i h.frame.members
           → (IsOutside h × IsPair v n t h.frame.members) ⊎ ((IsOutside h × IsLone v h.frame.members) ⊎ (IsOutside h → ⊥)) → IsMember i members
       in_pair members p h i out set (inl both) =
-          subst (IsMember i) (same_sent goes v n t block is (other_channel v.channel) both.1.emission p.emission h.frame.members members both.1.sent p.sent both.1.before p.before).1 set
+          subst (IsMember i) (same_sent goes v n t block is _ _ _ _ members both.1.sent p.sent both.1.before p.before).1 set
       in_pair members p h i out set (inr rest) = alike p.member i members p.is_member p.bad (lone_bad h i out set rest)

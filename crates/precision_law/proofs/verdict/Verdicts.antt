@@ -21,13 +21,15 @@ one_more s acc h is = by h.within refl h.channel refl
     by true e A f =
         let b = better s.best_a h.frame in (
           record { best_a = Some b.0; best_b = s.best_b; outside = s.outside },
-          subst (λ (x : Hearing). Summarizes (record { best_a = Some b.0; best_b = s.best_b; outside = s.outside }) (acc ++ x ∷ [])) (same_hearing h.channel A h.frame h.within f e)
+          subst (λ (x : Hearing). Summarizes (record { best_a = Some b.0; best_b = s.best_b; outside = s.outside }) (acc ++ x ∷ []))
+              (same_hearing h.channel A h.frame h.within f e)
               (hears_on_a s acc h.frame b.0 b.1 is),
         )
     by true e B f =
         let b = better s.best_b h.frame in (
           record { best_a = s.best_a; best_b = Some b.0; outside = s.outside },
-          subst (λ (x : Hearing). Summarizes (record { best_a = s.best_a; best_b = Some b.0; outside = s.outside }) (acc ++ x ∷ [])) (same_hearing h.channel B h.frame h.within f e)
+          subst (λ (x : Hearing). Summarizes (record { best_a = s.best_a; best_b = Some b.0; outside = s.outside }) (acc ++ x ∷ []))
+              (same_hearing h.channel B h.frame h.within f e)
               (hears_on_b s acc h.frame b.0 b.1 is),
         )
 
