@@ -1,5 +1,5 @@
 -- How a device judges what it hears, and the frames with a good member that it hears in a block.
-use Rattle.precision_law.proofs.words.Std.{◌+ℤ◌, ◌<ℤ◌, ◌<◌, ◌==◌, ◌∙◌, ◌≡◌, ◌≤ℤ◌, ◌≤◌, ◌⊎◌, Bool, List, MatchBool, None, Option, Some, ap, arith, eq-eqb, false, if◌then◌else◌, inl, inr, ints, le-leb, option_and_then, option_map, option_map_or, pos, refl, subst, suc, sym, true, ℕ, ℤ}
+use Rattle.precision_law.proofs.words.Std.{◌+ℤ◌, ◌<ℤ◌, ◌<◌, ◌==◌, ◌∙◌, ◌≡◌, ◌≤ℤ◌, ◌≤◌, ◌⊎◌, Bool, List, MatchBool, MatchBool-at_false, None, Option, Some, ap, arith, eq-eqb, if◌then◌else◌, inl, inr, ints, le-leb, option_and_then, option_map, option_map_or, pos, refl, subst, suc, sym, true, ℕ, ℤ}
 use Rattle.precision_law.proofs.words.Plans.{Channel, DeviceId, IsCmOf, Members, Pcf, Units, count_of}
 use Rattle.precision_law.proofs.words.Runs.{Happening, IsCaused, Judgement, Within, before_permanence, cycle_in, founded_at, frame_by, heard_by, hearing_by, last_cycle, observation_window, plan_of, same_judgement, time_of}
 use Rattle.precision_law.proofs.words.Laws.{AreGood, BlocksGoSo, HasTimeAt, HearsBy, IsEmission, IsInBlock, IsNearHull, IsOfHearer, IsOldAt, IsView, View, base_of, first_correction}
@@ -17,10 +17,6 @@ pub record IsJudgedAs (v : View) (device : DeviceId) (h : Happening) (point : �
   pub members : Members
   pub is : judgement ≡ judged_at v.scenario device judged (time_of h) point (cycle_in h) members
 
-elsewhere : (b : Bool) (P Q : Type 0) → b ≡ false → MatchBool b P Q → Q
-elsewhere false P Q e m = m
-elsewhere true P Q e m = absurd cc
-
 -- a device judges what it hears by the records before
 pub judged_as : (v : View) (device : DeviceId) (channel : Channel) (point : ℤ) (judgement : Judgement) (h : Happening) → IsView v → IsOfHearer judgement
     → HearsBy v device channel point judgement h → IsJudgedAs v device h point judgement
@@ -33,8 +29,8 @@ judged_as v device channel point judgement h is hearer hears =
           let at = far.2 in
           let ripens = subst (IsCaused s found.front h.note.time) far.3 found.due.cause in
           let judged = before_permanence found.front device (time_of h) far.0 far.1 ripens.frame at in
-          let said = same_judgement judgement _
-          (elsewhere _ _ _ (hearer_not_cm n device _ _ _ ripens.frame at.0 judgement hearer ripens.becomes) ripens.becomes) in
+          let other = hearer_not_cm n device _ _ _ ripens.frame at.0 judgement hearer ripens.becomes in
+          let said = same_judgement judgement _ (MatchBool-at_false _ _ other ripens.becomes) in
           let of_frame : h.frame ≡ Some ripens.frame = ap (λ (x : Happening). x.frame) found.due.same ∙ ap (frame_by n found.front) far.3
           ∙ ap (λ (o : Option Happening). option_and_then (λ x. x.frame) o) ripens.permanent.there ∙ ripens.permanent.of_frame in
           let cycle : ripens.frame.cycle ≡ cycle_in h = ap (λ (o : Option Pcf). option_map_or (λ f. f.cycle) o 0) (sym of_frame) in

@@ -1,6 +1,6 @@
 -- Each correction point comes to a verdict.
 use Rattle.precision_law.proofs.words.Std.{◌++◌, ◌∙◌, ◌∷◌, ◌≡◌, ◌≤◌, ◌⊎◌, Bool, IfSome, List, None, Option, Some, [], ap, append-nil, append_assoc, arith, cases_lt, false, if◌then◌else◌, inl, inr, le-leb, nat_le, option_and_then, refl, subst, sym, true, ℕ}
-use Rattle.precision_law.proofs.words.Plans.{A, AsyncClique, B, Channel, Corrected, HasVerdict, HeardFrame, Hearing, IsAtIntegration, IsBetterOf, IsOutnumbered, Qualifies, Standing, Summarizes, Summary, SyncClique, Units, correction_of, count_of, deviation_by, deviation_on, silence, union, within_on}
+use Rattle.precision_law.proofs.words.Plans.{A, AsyncClique, B, Channel, Corrected, HasVerdict, HeardFrame, Hearing, IsAtIntegration, IsBetterOf, IsOutnumbered, Qualifies, Standing, Summarizes, Summary, SyncClique, Units, best_on, correction_of, count_of, deviation_by, deviation_on, silence, union, within_on}
 use Rattle.precision_law.proofs.words.Runs.{IsDecided, decided_and, decided_less, decided_less_int, decided_or, decided_same, decided_some}
 use Rattle.membership.proofs.SummaryLemmas.{hears_on_a, hears_on_b, hears_outside, same_hearing, silence_summarizes}
 
@@ -19,19 +19,13 @@ one_more s acc h is = by h.within refl h.channel refl
     by : (b : Bool) → h.within ≡ b → (c : Channel) → h.channel ≡ c → (t : Summary) × Summarizes t (acc ++ h ∷ [])
     by false e c f = (record { best_a = s.best_a; best_b = s.best_b; outside = union s.outside h.frame.members }, hears_outside s acc h e is)
     by true e A f =
-        let b = better s.best_a h.frame in (
-          record { best_a = Some b.0; best_b = s.best_b; outside = s.outside },
-          subst (λ (x : Hearing). Summarizes (record { best_a = Some b.0; best_b = s.best_b; outside = s.outside }) (acc ++ x ∷ []))
-              (same_hearing h.channel A h.frame h.within f e)
-              (hears_on_a s acc h.frame b.0 b.1 is),
-        )
+        let b = better s.best_a h.frame in
+        let t : Summary = record { best_a = Some b.0; best_b = s.best_b; outside = s.outside } in
+        (t, subst (λ (x : Hearing). Summarizes t (acc ++ x ∷ [])) (same_hearing h.channel A h.frame h.within f e) (hears_on_a s acc h.frame b.0 b.1 is))
     by true e B f =
-        let b = better s.best_b h.frame in (
-          record { best_a = s.best_a; best_b = Some b.0; outside = s.outside },
-          subst (λ (x : Hearing). Summarizes (record { best_a = s.best_a; best_b = Some b.0; outside = s.outside }) (acc ++ x ∷ []))
-              (same_hearing h.channel B h.frame h.within f e)
-              (hears_on_b s acc h.frame b.0 b.1 is),
-        )
+        let b = better s.best_b h.frame in
+        let t : Summary = record { best_a = s.best_a; best_b = Some b.0; outside = s.outside } in
+        (t, subst (λ (x : Hearing). Summarizes t (acc ++ x ∷ [])) (same_hearing h.channel B h.frame h.within f e) (hears_on_b s acc h.frame b.0 b.1 is))
 
 summary_from : (rest acc : List Hearing) (s : Summary) → Summarizes s acc → (t : Summary) × Summarizes t (acc ++ rest)
 summary_from [] acc s is = (s, subst (Summarizes s) (sym (append-nil acc)) is)
@@ -59,13 +53,11 @@ few (Some frame) n = decided_le (count_of frame.members) n
 outnumbered : (heard : Summary) → IsDecided (IsOutnumbered heard)
 outnumbered heard = elim (few heard.best_a (count_of heard.outside)) [
   | inr no_a ↦ inr (λ all. no_a (all A))
-  | inl a ↦ elim (few heard.best_b (count_of heard.outside)) [ inr no_b ↦ inr (λ all. no_b (all B)) | inl b ↦ inl (both a b) ]
+  | inl a ↦ elim (few heard.best_b (count_of heard.outside)) [
+    | inr no_b ↦ inr (λ all. no_b (all B))
+    | inl b ↦ inl (λ channel. elim channel as (λ c. IfSome (best_on c heard) (λ frame. count_of frame.members ≤ count_of heard.outside)) [ A ↦ a | B ↦ b ])
+  ]
 ]
-  where
-    both : IfSome heard.best_a (λ frame. count_of frame.members ≤ count_of heard.outside)
-        → IfSome heard.best_b (λ frame. count_of frame.members ≤ count_of heard.outside) → IsOutnumbered heard
-    both a b A = a
-    both a b B = b
 
 deviates : (s : Standing) (o : Option HeardFrame) → Qualifies s.plan.threshold o → (d : Units)
     × (option_and_then (λ frame. if nat_le s.plan.threshold (count_of frame.members) then Some (deviation_by s frame) else None) o ≡ Some d)
