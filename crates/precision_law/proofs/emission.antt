@@ -1,6 +1,5 @@
 -- The compression master of the sound channel sends one frame of the cycle, with all first masters.
 pub mod Senders
 pub mod Aimed
-pub mod Fits
 pub mod Gathered
 pub mod SoundMaster

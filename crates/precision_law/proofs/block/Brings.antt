@@ -109,8 +109,7 @@ module _ (v : View) (n t : ℕ) (block : IsInBlock v n t) (is : IsView v) (went 
       record { of_cycle = same; old = old; inside = subst (IsInHull v (suc n)) at inside })
       (λ late. absurd (new_dispatches_none v n t block is cycle device has (set_within device timed late)))
 
-  -- ---- joinings
-
+  -- a good device joins by a frame of the block's cycle
   joins_so : FramesGoSo → (h : Happening) (device : DeviceId) → IsIn h v.records → is_joined_by device h.note.body ≡ true → time_of h ≡ t
       → JoinsSo v n t block.before.hull device h
   joins_so laws h device i joined at =
@@ -144,8 +143,7 @@ module _ (v : View) (n t : ℕ) (block : IsInBlock v n t) (is : IsView v) (went 
         ahead = omega (arith, ints, frame.timely.least, expected_late v device is, space, adjusts, read);
       }
 
-  -- ---- corrections of old devices
-
+  -- the frames of the block correct an old device
   corrects_so : FramesGoSo → (device : DeviceId) (cycle : ℕ) (by : Units) → HasTimeAt v device t → IsOldAt v block.before.next device t
       → ComesTo v t device cycle (Corrected by) → CorrectsSo v n t device by
   corrects_so laws device cycle by has old comes =

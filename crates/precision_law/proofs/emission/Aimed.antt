@@ -1,8 +1,8 @@
 -- What the compression master of the sound channel takes in a block: a point that lies in one cluster's time with that of
 -- a frame of the block's cycle is of this cycle too.
-use Rattle.precision_law.proofs.words.Std.{◌%◌, ◌&&◌, ◌*◌, ◌+ℤ◌, ◌+◌, ◌-◌, ◌/◌, ◌<ℤ◌, ◌<◌, ◌==◌, ◌∙◌, ◌∷◌, ◌≡◌, ◌≤ℤ◌, ◌≤◌, Bool, List, MatchBool-at_true, None, Option, Some, [], and_parts, ap, arith, cases_lt, div-add-mod, false, false_from_ne_true, if◌then◌else◌, inl, inr, int_div_euclid, int_le, int_lt, int_rem_euclid_is, ints, ltb-false, mul-le-mul_right, not, not-false, option_and_then, option_map_or, pos, refl, subst, suc, sym, true, ℕ, ℤ}
-use Rattle.precision_law.proofs.words.Plans.{DeviceId, Joining, Network, Pcf, Point, Synchronised, Units, amount}
-use Rattle.precision_law.proofs.words.Runs.{Cycle, Gate, Happening, IsCaused, IsCollectedOrDropped, IsIn, Judgement, NoteBody, Reason, Why, adjustment_at_hearing, before_permanence, dispatch_value, ends_stretch, first_reason, founded_at, frame_by, has_joined_at, is_cm, is_joined_by, is_number, offset_in_cycle, point_fault, ripe_as, state_at_hearing, state_before, time_of}
+use Rattle.precision_law.proofs.words.Std.{◌%◌, ◌&&◌, ◌*◌, ◌+ℤ◌, ◌+◌, ◌-◌, ◌/◌, ◌<ℤ◌, ◌<◌, ◌==◌, ◌∙◌, ◌∷◌, ◌≡◌, ◌≤ℤ◌, ◌≤◌, Bool, List, MatchBool-at_true, None, Option, Some, [], and_parts, ap, arith, cases_lt, div-add-mod, div-mul-add, false, false_from_ne_true, if◌then◌else◌, inl, inr, int_div_euclid, int_le, int_lt, int_rem_euclid_is, ints, le-ltb, ltb-false, mod-mul-add, mul-le-mul_right, not, not-false, option_and_then, option_map_or, pos, refl, subst, suc, sym, true, ℕ, ℤ}
+use Rattle.precision_law.proofs.words.Plans.{DeviceId, Joining, Network, Pcf, Point, State, Synchronised, Units, amount, int_le-true}
+use Rattle.precision_law.proofs.words.Runs.{Cycle, Gate, Happening, IsCaused, IsCollectedOrDropped, IsIn, Judgement, NoteBody, Reason, Why, adjustment_at_hearing, before_permanence, dispatch_value, ends_stretch, first_reason, founded_at, frame_by, has_joined_at, is_cm, is_joined_by, is_number, is_synchronised, offset_in_cycle, point_fault, ripe_as, state_at_hearing, state_before, time_of}
 use Rattle.precision_law.proofs.words.Laws.{BlocksGoSo, HaveRoom, IsInBlock, IsSteady, IsView, Sizes, View, adjustment_left, has_time}
 use Rattle.precision_law.proofs.words.Clocks.{adjustment_stays, any_in, int_le-is, natural, natural_of, one_more, room, same_device, sizes_are, steady}
 use Rattle.precision_law.proofs.words.Blocks.{AreUpTo, GivesPoint, hears_as_at, judged_up_to, read_at}
@@ -40,6 +40,50 @@ pub far_below : (n : Sizes) (reading : ℕ → ℕ) (p r : ℤ) (first last q : 
 far_below n reading p r first last q space steady low before after above =
     let slow = steady.slow last (last + 4 * n.precision) (omega arith) (omega (arith, space.cycles)) in
     omega (arith, ints, steady.never_falls first last before, slow, steady.never_falls (last + 4 * n.precision) q after, low, above, space)
+
+-- ---- what a compression master takes
+
+-- the value lies at most a precision from a place of the cycle
+pub record IsWithinOf (n : Sizes) (cycle place : ℕ) (value : ℤ) : Type 0 where
+  pub least : pos (cycle * n.cycle + place) ≤ℤ (value +ℤ pos n.precision)
+  pub most : value ≤ℤ (pos (cycle * n.cycle + place) +ℤ pos n.precision)
+
+-- a natural number in its cycle
+in_cycle : (n : Network) (c r m : ℕ) (z : ℤ) → pos 0 ≤ℤ n.cycle.0 → r < amount n.cycle → m ≡ c * amount n.cycle + r → z ≡ pos m → (offset_in_cycle n z ≡ pos r)
+    × (int_div_euclid z n.cycle.0 ≡ pos c)
+in_cycle n c r m z begun small is same =
+    let whole : n.cycle.0 ≡ pos (amount n.cycle) = natural n.cycle.0 begun in (
+      int_rem_euclid_is z n.cycle.0 (amount n.cycle) 0 m (omega (arith, small)) whole (omega (arith, ints, same))
+          ∙ ap pos (ap (λ (x : ℕ). x % amount n.cycle) is ∙ mod-mul-add c (amount n.cycle) r small),
+      ap (λ (x : ℤ). int_div_euclid x n.cycle.0) same ∙ ap (int_div_euclid (pos m)) whole
+          ∙ ap pos (ap (λ (x : ℕ). x / amount n.cycle) is ∙ div-mul-add c (amount n.cycle) r small),
+    )
+
+no_reason : (s a b : Bool) (p q : Reason) → a ≡ false → b ≡ true → first_reason ((s && a, p) ∷ (s && not b, q) ∷ []) ≡ None
+no_reason true false true p q x y = refl
+no_reason false a b p q x y = refl
+no_reason s a b p q x y = absurd cc
+
+is_itself : (c : ℕ) → is_number (pos c) c ≡ true
+is_itself c =
+    ap (λ (b : Bool). b && int_le (pos c) (pos c)) (int_le-true (pos c) (pos c) (omega (arith, ints))) ∙ int_le-true (pos c) (pos c) (omega (arith, ints))
+
+-- a frame whose dispatch seems to lie so near to the beginning of its cycle has no fault
+pub no_point_fault : (v : View) (state : State) (adjustment point : ℤ) (cycle : ℕ) → IsView v → IsWithinOf v.sizes cycle v.sizes.dmax (point +ℤ adjustment)
+    → point_fault v.scenario.network state adjustment point cycle ≡ None
+no_point_fault v state adjustment point cycle is within =
+    let n = v.scenario.network in
+    let sizes = sizes_are v is in
+    let value = dispatch_value n adjustment point in
+    let product : cycle * amount n.cycle ≡ cycle * v.sizes.cycle = ap (λ (x : ℕ). cycle * x) (sym sizes.cycle) in
+    let m = natural_of value (cycle * amount n.cycle) (omega (arith, ints, within.least, product, sizes.dmax, sizes.precision)) in
+    let r : ℕ = m.0 - cycle * amount n.cycle in
+    let is_r : m.0 ≡ cycle * amount n.cycle + r = omega (arith, ints, within.least, m.1, product, sizes.dmax, sizes.precision) in
+    let small : r ≤ 4 * amount n.precision = omega (arith, ints, is_r, within.most, m.1, product, sizes.dmax, sizes.precision) in
+    let place = in_cycle n cycle r m.0 value (omega (arith, ints, is.lawful.range.cycle.least)) (omega (arith, small, sizes.cycle, sizes.precision, room v is))
+    is_r m.1 in
+    no_reason (is_synchronised state) _ _ Gate Cycle (ap (int_lt (pos (4 * amount n.precision))) place.0 ∙ le-ltb (4 * amount n.precision) r small)
+    (ap (λ (z : ℤ). is_number z cycle) place.1 ∙ is_itself cycle)
 
 -- ---- what has no fault
 

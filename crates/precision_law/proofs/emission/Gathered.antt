@@ -7,8 +7,7 @@ use Rattle.precision_law.proofs.words.Clocks.{IsRipeArrival, IsRipeRecord, adjus
 use Rattle.precision_law.proofs.words.Blocks.{IsReadAt, arrival_young, before_narrow, contained, earlier_in_block, early_show, ends_soon, later_point, master_of_bit, old_shows, place_order, point_record, points_ordered, read_at, up_to_then}
 use Rattle.compression.specs.declared.taken.Taken.TheVariants as taken
 use Rattle.precision_law.proofs.block.Dispatched.{IsCalm, old_then, synchronised_then}
-use Rattle.precision_law.proofs.emission.Aimed.{IsAimed, hearing_adjustment, of_block_cycle}
-use Rattle.precision_law.proofs.emission.Fits.{IsWithinOf, no_point_fault}
+use Rattle.precision_law.proofs.emission.Aimed.{IsAimed, IsWithinOf, hearing_adjustment, no_point_fault, of_block_cycle}
 use Rattle.precision_law.proofs.emission.Senders.{IsSender, cm_is, sends_up}
 
 -- ---- points that come

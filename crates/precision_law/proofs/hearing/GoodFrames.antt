@@ -1,12 +1,11 @@
 -- How a device judges what it hears, and the frames with a good member that it hears in a block.
-use Rattle.precision_law.proofs.words.Std.{◌+ℤ◌, ◌<ℤ◌, ◌<◌, ◌==◌, ◌∙◌, ◌≡◌, ◌≤ℤ◌, ◌≤◌, ◌⊎◌, Bool, List, MatchBool, MatchBool-at_false, None, Option, Some, ap, arith, eq-eqb, if◌then◌else◌, inl, inr, ints, le-leb, option_and_then, option_map, option_map_or, pos, refl, subst, suc, sym, true, ℕ, ℤ}
-use Rattle.precision_law.proofs.words.Plans.{Channel, DeviceId, IsCmOf, Members, Pcf, Units, count_of}
-use Rattle.precision_law.proofs.words.Runs.{Happening, IsCaused, Judgement, Within, before_permanence, cycle_in, founded_at, frame_by, heard_by, hearing_by, last_cycle, observation_window, plan_of, same_judgement, time_of}
-use Rattle.precision_law.proofs.words.Laws.{AreGood, BlocksGoSo, HasTimeAt, HearsBy, IsEmission, IsInBlock, IsNearHull, IsOfHearer, IsOldAt, IsView, View, base_of, first_correction}
+use Rattle.precision_law.proofs.words.Std.{◌+ℤ◌, ◌-ℤ◌, ◌<ℤ◌, ◌<◌, ◌==◌, ◌∙◌, ◌≡◌, ◌≤ℤ◌, ◌≤◌, ◌⊎◌, Bool, List, MatchBool, MatchBool-at_false, None, Option, Some, ap, arith, eq-eqb, if◌then◌else◌, inl, inr, ints, le-leb, nat_le, option_and_then, option_map, option_map_or, pos, refl, subst, suc, sym, true, ℕ, ℤ}
+use Rattle.precision_law.proofs.words.Plans.{Channel, DeviceId, IsCmOf, Joining, Members, Pcf, State, SyncPlan, Synchronised, Units, count_of, expected_at, int_le-true}
+use Rattle.precision_law.proofs.words.Runs.{Happening, IsCaused, Judgement, Within, before_permanence, cycle_in, founded_at, frame_by, heard_as, heard_by, hearing_by, last_cycle, observation_window, plan_of, same_judgement, time_of}
+use Rattle.precision_law.proofs.words.Laws.{AreGood, BlocksGoSo, HasTimeAt, HearsBy, IsEmission, IsInBlock, IsNearHull, IsOfHearer, IsOldAt, IsView, View, base_of, first_correction, has_time}
 use Rattle.precision_law.proofs.words.Clocks.{before_of, emission_shows, hearer_not_cm, one_more, room, sizes_are}
 use Rattle.precision_law.proofs.words.Blocks.{AreUpTo, FramesGoSo, IsGoodHearing, IsSentOn, WentSo, before_narrow, cm_of, earlier_in_block, emission_is_one, expected_is, few_cycles, follows_before, hears_as_at, hulls_are_narrow, judged_at, judged_up_to, members_by, near_hull, next_first, old_shows, one_cm, tidy, up_to_then}
 use Rattle.run_law.specs.declared.note.NoteBody.TheVariants as notes
-use Rattle.precision_law.proofs.emission.Fits.{heard_as_within}
 
 -- ---- judgements
 
@@ -50,6 +49,14 @@ judged_as v device channel point judgement h is hearer hears =
             is = cc (said, own.6, shown.0);
           }
     ]
+
+-- who has a common time hears it so
+heard_as_within : (plan : SyncPlan) (precision : ℤ) (state : State) (adjustment point : ℤ) (cycle : ℕ) (members : Members) → has_time state ≡ true
+    → nat_le cycle last_cycle ≡ true → (expected_at plan cycle -ℤ precision) ≤ℤ (point +ℤ adjustment)
+    → (point +ℤ adjustment) ≤ℤ (expected_at plan cycle +ℤ precision) → heard_as plan precision state adjustment point cycle members ≡ Within
+heard_as_within plan precision Joining adjustment point cycle members timed few low high = rw (few, int_le-true _ _ low, int_le-true _ _ high) refl
+heard_as_within plan precision Synchronised adjustment point cycle members timed few low high = rw (few, int_le-true _ _ low, int_le-true _ _ high) refl
+heard_as_within plan precision state adjustment point cycle members timed few low high = absurd cc
 
 -- an old device judges a frame of the block's cycle whose base lies in the hull to be within
 pub record_within : (v : View) (n t : ℕ) (block : IsInBlock v n t) (device : DeviceId) (channel : Channel) (point : ℤ) (h : Happening) (judgement : Judgement)
