@@ -43,11 +43,6 @@ far_below n reading p r first last q space steady low before after above =
 
 -- ---- what a compression master takes
 
--- the value lies at most a precision from a place of the cycle
-pub record IsWithinOf (n : Sizes) (cycle place : ℕ) (value : ℤ) : Type 0 where
-  pub least : pos (cycle * n.cycle + place) ≤ℤ (value +ℤ pos n.precision)
-  pub most : value ≤ℤ (pos (cycle * n.cycle + place) +ℤ pos n.precision)
-
 -- a natural number in its cycle
 in_cycle : (n : Network) (c r m : ℕ) (z : ℤ) → pos 0 ≤ℤ n.cycle.0 → r < amount n.cycle → m ≡ c * amount n.cycle + r → z ≡ pos m → (offset_in_cycle n z ≡ pos r)
     × (int_div_euclid z n.cycle.0 ≡ pos c)
@@ -69,17 +64,17 @@ is_itself c =
     ap (λ (b : Bool). b && int_le (pos c) (pos c)) (int_le-true (pos c) (pos c) (omega (arith, ints))) ∙ int_le-true (pos c) (pos c) (omega (arith, ints))
 
 -- a frame whose dispatch seems to lie so near to the beginning of its cycle has no fault
-pub no_point_fault : (v : View) (state : State) (adjustment point : ℤ) (cycle : ℕ) → IsView v → IsWithinOf v.sizes cycle v.sizes.dmax (point +ℤ adjustment)
-    → point_fault v.scenario.network state adjustment point cycle ≡ None
-no_point_fault v state adjustment point cycle is within =
+pub no_point_fault : (v : View) (state : State) (adjustment point : ℤ) (cycle : ℕ) → IsView v
+    → IsTakenFor v.sizes cycle (dispatch_value v.scenario.network adjustment point) → point_fault v.scenario.network state adjustment point cycle ≡ None
+no_point_fault v state adjustment point cycle is near =
     let n = v.scenario.network in
     let sizes = sizes_are v is in
     let value = dispatch_value n adjustment point in
     let product : cycle * amount n.cycle ≡ cycle * v.sizes.cycle = ap (λ (x : ℕ). cycle * x) (sym sizes.cycle) in
-    let m = natural_of value (cycle * amount n.cycle) (omega (arith, ints, within.least, product, sizes.dmax, sizes.precision)) in
+    let m = natural_of value (cycle * amount n.cycle) (omega (arith, ints, near.least, product)) in
     let r : ℕ = m.0 - cycle * amount n.cycle in
-    let is_r : m.0 ≡ cycle * amount n.cycle + r = omega (arith, ints, within.least, m.1, product, sizes.dmax, sizes.precision) in
-    let small : r ≤ 4 * amount n.precision = omega (arith, ints, is_r, within.most, m.1, product, sizes.dmax, sizes.precision) in
+    let is_r : m.0 ≡ cycle * amount n.cycle + r = omega (arith, ints, near.least, m.1, product) in
+    let small : r ≤ 4 * amount n.precision = omega (arith, ints, is_r, near.most, m.1, product, sizes.precision) in
     let place = in_cycle n cycle r m.0 value (omega (arith, ints, is.lawful.range.cycle.least)) (omega (arith, small, sizes.cycle, sizes.precision, room v is))
     is_r m.1 in
     no_reason (is_synchronised state) _ _ Gate Cycle (ap (int_lt (pos (4 * amount n.precision))) place.0 ∙ le-ltb (4 * amount n.precision) r small)

@@ -1,13 +1,13 @@
 -- The compression master of the sound channel takes the frames of the first masters.
 use Rattle.precision_law.proofs.words.Std.{◌*◌, ◌+ℤ◌, ◌+◌, ◌==◌, ◌^◌, ◌∙◌, ◌∷◌, ◌≡◌, ◌≤ℤ◌, ◌≤◌, Bool, List, None, Option, Some, [], ap, arith, eq-eqb, eqb-false, false, if◌then◌else◌, inl, inr, int_lt, ints, last_or, option_and_then, option_map_or, pos, refl, subst, suc, sym, true, unsigned_abs, unwrap_or, ℕ, ℤ}
 use Rattle.precision_law.proofs.words.Plans.{AreClusters, Cluster, DeviceId, IsCmOf, Members, Pcf, Point, Units, Up, Way, amount, has_point_of, none, point_at, role, role_in}
-use Rattle.precision_law.proofs.words.Runs.{Happening, IsBefore, IsCaused, IsDue, IsIn, IsSplit, Judgement, NoteBody, adjustment_at_hearing, cycle_in, founded_at, frame_by, in_left, key, master_of, member_of, members_in, observation_window, place_of, point_by, points_of, rank, split, state_at_hearing, time_of, timed}
-use Rattle.precision_law.proofs.words.Laws.{BlocksGoSo, HasTimeAt, Hull, IsDispatch, IsFirstMaster, IsInBlock, IsInHull, IsInTime, IsRipe, IsTrip, IsView, Leg, ShowsIn, View, adjustment_left, first_correction, has_time, last_dispatch}
+use Rattle.precision_law.proofs.words.Runs.{Happening, IsBefore, IsCaused, IsDue, IsIn, IsSplit, Judgement, NoteBody, adjustment_at_hearing, cycle_in, dispatch_value, founded_at, frame_by, in_left, key, master_of, member_of, members_in, observation_window, place_of, point_by, points_of, rank, split, state_at_hearing, time_of, timed}
+use Rattle.precision_law.proofs.words.Laws.{BlocksGoSo, HasTimeAt, Hull, IsDispatch, IsFirstMaster, IsInBlock, IsInHull, IsInTime, IsRipe, IsTrip, IsView, Leg, ShowsIn, View, first_correction, has_time, last_dispatch}
 use Rattle.precision_law.proofs.words.Clocks.{IsRipeArrival, IsRipeRecord, adjustment_stays, before_place, contains, has_member, is_collected, last_in, master_member, one_more, opened_by, permanence_is_sharp, place_of_ripe, room, sizes_are, steady, trip_says}
 use Rattle.precision_law.proofs.words.Blocks.{IsReadAt, arrival_young, before_narrow, contained, earlier_in_block, early_show, ends_soon, later_point, master_of_bit, old_shows, place_order, point_record, points_ordered, read_at, up_to_then}
 use Rattle.compression.specs.declared.taken.Taken.TheVariants as taken
 use Rattle.precision_law.proofs.block.Dispatched.{IsCalm, old_then, synchronised_then}
-use Rattle.precision_law.proofs.emission.Aimed.{IsAimed, IsWithinOf, hearing_adjustment, no_point_fault, of_block_cycle}
+use Rattle.precision_law.proofs.emission.Aimed.{IsAimed, IsTakenFor, hearing_adjustment, no_point_fault, of_block_cycle}
 use Rattle.precision_law.proofs.emission.Senders.{IsSender, cm_is, sends_up}
 
 -- ---- points that come
@@ -117,8 +117,7 @@ pub record Collects (v : View) (n t : ℕ) (block : IsInBlock v n t) (cm : Devic
 module _ (goes : BlocksGoSo) (v : View) (n t : ℕ) (block : IsInBlock v n t) (cm : DeviceId) (by : ℕ) (is : IsView v) (c : Collects v n t block cm by)
     (master : DeviceId) (s : IsSender v n block.before.hull cm master) (f : HasFrame v n block.before.hull cm master s) where
   -- the point of the frame lies where it should
-  aims : (s.brought.q ≤ by) × IsWithinOf v.sizes (suc n) v.sizes.dmax (s.brought.point +ℤ adjustment_left v cm block.before.next)
-      × IsAimed v n block.before.next cm s.brought.point s.brought.q
+  aims : (s.brought.q ≤ by) × IsAimed v n block.before.next cm s.brought.point s.brought.q
   aims =
       let before = block.before in
       let space = room v is in
@@ -137,17 +136,12 @@ module _ (goes : BlocksGoSo) (v : View) (n t : ℕ) (block : IsInBlock v n t) (c
       let shows_so = subst (λ (a : ℤ). ShowsIn v.sizes (pos (v.scenario.reading cm q) +ℤ a) n before.hull q) same shows in
       let narrow = before_narrow v n before in
       let more = one_more n v.sizes.cycle in
-      let within : IsWithinOf v.sizes (suc n) v.sizes.dmax (b.point +ℤ adjustment_left v cm before.next) = record {
-        least = omega (arith, ints, s.low, f.sharp, b.in_time);
-        most = omega (arith, ints, s.low, f.sharp, b.in_time);
-      } in
       let sizes = sizes_are v is in (
         to,
-        within,
         record {
           value = record {
-            least = omega (arith, ints, within.least, sizes.dmax, sizes.precision, space);
-            most = omega (arith, ints, within.most, sizes.dmax, sizes.precision, space);
+            least = omega (arith, ints, s.low, f.sharp, b.in_time, sizes.dmax, sizes.precision);
+            most = omega (arith, ints, s.low, f.sharp, b.in_time, sizes.dmax, sizes.precision);
           };
           late = behind;
           most = f.sharp.most;
@@ -183,7 +177,7 @@ module _ (goes : BlocksGoSo) (v : View) (n t : ℕ) (block : IsInBlock v n t) (c
       let size = (sizes_are v is).precision in
       let soon = ends_soon ow o (o ∷ opened.rest) (omega (arith, ints)) in
       let high : b.point ≤ℤ (o.reading +ℤ pos (2 * v.sizes.precision)) = omega (arith, ints, meets.to, soon, ap (λ (x : Cluster). x.end) opened.is, size) in
-      let same = of_block_cycle goes v n t block cm by is c.calm (cm_is v cm c.of_channel).one b.point b.q k o aims.2 i (omega (arith, early, to)) g low high in
+      let same = of_block_cycle goes v n t block cm by is c.calm (cm_is v cm c.of_channel).one b.point b.q k o aims.1 i (omega (arith, early, to)) g low high in
       meets.other (f.of_cycle ∙ sym same ∙ sym (ap (λ (x : Cluster). x.cycle) opened.is))
 
   -- so its record gives its point
@@ -204,7 +198,7 @@ module _ (goes : BlocksGoSo) (v : View) (n t : ℕ) (block : IsInBlock v n t) (c
         of_cycle = ap (λ (o : Option Pcf). option_map_or (λ x. x.cycle) o 0) r.of_frame ∙ f.of_cycle;
         of_master =
             f.is_member ∙ ap (λ (m : ℕ). Some m) (sym (ap master_of members ∙ master_of_bit f.member (has_member v master f.member is f.is_member).small));
-        aimed = subst (IsAimed v n block.before.next cm b.point) (sym r.time) aims.2;
+        aimed = subst (IsAimed v n block.before.next cm b.point) (sym r.time) aims.1;
         in_time = subst (IsInTime v s.first) (sym r.time) b.in_time;
         to = omega (arith, r.time, aims.0);
         least = subst (λ (u : ℕ). b.point ≤ℤ pos (v.scenario.reading cm u)) (sym r.time) f.sharp.least;
@@ -229,10 +223,10 @@ module _ (goes : BlocksGoSo) (v : View) (n t : ℕ) (block : IsInBlock v n t) (c
       let at = split place_of (IsDue v.scenario) v.records (place_of_ripe cm b.last link f.frame b.point b.q) is.run.founded in
       let split_at = before_place v b.q (3 ∷ cm.0 ∷ unsigned_abs b.point ∷ f.frame.members.0 ∷ link.0 ∷ b.last.note.number ∷ []) at in
       let adjustment = (adjustment_at_hearing v.scenario at.front cm b.q).0 in
-      let stands = hearing_adjustment goes v n t block cm by is c.calm b.q at.front (omega (arith, aims.2.late)) aims.0 (up_to_then v b.q at.front split_at) in
-      let within = subst (λ (k : ℕ). IsWithinOf v.sizes k v.sizes.dmax (b.point +ℤ adjustment)) (sym f.of_cycle)
-      (subst (λ (z : ℤ). IsWithinOf v.sizes (suc n) v.sizes.dmax (b.point +ℤ z)) (sym stands) aims.1) in
-      let fine = no_point_fault v (state_at_hearing v.scenario at.front cm b.q) adjustment b.point f.frame.cycle is within in
+      let stands = hearing_adjustment goes v n t block cm by is c.calm b.q at.front (omega (arith, aims.1.late)) aims.0 (up_to_then v b.q at.front split_at) in
+      let taken_so = subst (λ (k : ℕ). IsTakenFor v.sizes k (dispatch_value v.scenario.network adjustment b.point)) (sym f.of_cycle)
+      (subst (λ (z : ℤ). IsTakenFor v.sizes (suc n) (dispatch_value v.scenario.network z b.point)) (sym stands) aims.1.value) in
+      let fine = no_point_fault v (state_at_hearing v.scenario at.front cm b.q) adjustment b.point f.frame.cycle is taken_so in
       elim (is_collected v cm b.last link f.frame b.point b.q is cm_so.one ripe at fine) [
         | inl meets ↦ absurd (never_other at meets.0 meets.1 meets.2)
         | inr found ↦ recorded found.0 found.1
