@@ -2,7 +2,7 @@
 use Rattle.precision_law.proofs.words.Std.{◌*◌, ◌+ℤ◌, ◌+◌, ◌==◌, ◌^◌, ◌∙◌, ◌∷◌, ◌≡◌, ◌≤ℤ◌, ◌≤◌, Bool, List, None, Option, Some, [], ap, arith, eq-eqb, eqb-false, false, if◌then◌else◌, inl, inr, int_lt, ints, last_or, option_and_then, option_map_or, pos, refl, subst, suc, sym, true, unsigned_abs, unwrap_or, ℕ, ℤ}
 use Rattle.precision_law.proofs.words.Plans.{AreClusters, Cluster, DeviceId, IsCmOf, Members, Pcf, Point, Units, Up, Way, amount, has_point_of, none, point_at, role, role_in}
 use Rattle.precision_law.proofs.words.Runs.{Happening, IsBefore, IsCaused, IsDue, IsIn, IsSplit, Judgement, NoteBody, adjustment_at_hearing, cycle_in, dispatch_value, founded_at, frame_by, in_left, key, master_of, member_of, members_in, observation_window, place_of, point_by, points_of, rank, split, state_at_hearing, time_of, timed}
-use Rattle.precision_law.proofs.words.Laws.{BlocksGoSo, HasTimeAt, Hull, IsDispatch, IsFirstMaster, IsInBlock, IsInHull, IsInTime, IsRipe, IsTrip, IsView, Leg, ShowsIn, View, first_correction, has_time, last_dispatch}
+use Rattle.precision_law.proofs.words.Laws.{BlocksGoSo, HasTimeAt, Hull, IsFirstMaster, IsInBlock, IsRipe, IsTrip, IsView, Leg, ShowsIn, View, first_correction, has_time, last_dispatch}
 use Rattle.precision_law.proofs.words.Clocks.{IsRipeArrival, IsRipeRecord, adjustment_stays, before_place, contains, has_member, is_collected, last_in, master_member, one_more, opened_by, permanence_is_sharp, place_of_ripe, room, sizes_are, steady, trip_says}
 use Rattle.precision_law.proofs.words.Blocks.{IsReadAt, arrival_young, before_narrow, contained, earlier_in_block, early_show, ends_soon, later_point, master_of_bit, old_shows, place_order, point_record, points_ordered, read_at, up_to_then}
 use Rattle.compression.specs.declared.taken.Taken.TheVariants as taken
@@ -49,10 +49,7 @@ last_there v way first last [] trip i = subst (λ (h : Happening). IsIn h v.reco
 last_there v way first last (leg ∷ legs) trip i = last_there v way leg.arriving last legs trip.2 trip.1.arrived
 
 -- the point of a first master's frame at the compression master
-pub record IsGathered (v : View) (n next : ℕ) (before : Hull) (cm master : DeviceId) (by : ℕ) : Type 0 where
-  pub first : Happening
-  pub dispatch : IsDispatch v first master (suc n)
-  pub inside : IsInHull v (suc n) (time_of first)
+pub record IsGathered (v : View) (n next : ℕ) (cm master : DeviceId) (by : ℕ) : Type 0 where
   pub k : Happening
   pub there : IsIn k v.records
   pub p : Point
@@ -60,9 +57,7 @@ pub record IsGathered (v : View) (n next : ℕ) (before : Hull) (cm master : Dev
   pub of_cycle : p.cycle ≡ suc n
   pub of_master : member_of v.scenario.network master ≡ Some p.master
   pub aimed : IsAimed v n next cm p.reading (time_of k)
-  pub in_time : IsInTime v first (time_of k)
   pub to : time_of k ≤ by
-  pub least : p.reading ≤ℤ pos (v.scenario.reading cm (time_of k))
 
 -- ---- what a dispatch brings
 
@@ -182,15 +177,12 @@ module _ (goes : BlocksGoSo) (v : View) (n t : ℕ) (block : IsInBlock v n t) (c
 
   -- so its record gives its point
   recorded : (verdict : Judgement) → IsRipeRecord v cm s.brought.last s.brought.permanent.link s.brought.point s.brought.q verdict f.frame
-      → IsGathered v n block.before.next block.before.hull cm master by
+      → IsGathered v n block.before.next cm master by
   recorded verdict r =
       let b = s.brought in
       let p : Point = point_at b.point (master_of (members_in r.h)) (cycle_in r.h) in
       let members : members_in r.h ≡ 2 ^ f.member = ap (λ (o : Option Pcf). option_map_or (λ x. x.members.0) o 0) r.of_frame ∙ f.of_members in
       record {
-        first = s.first;
-        dispatch = s.dispatch;
-        inside = s.inside;
         k = r.h;
         there = r.there;
         p = p;
@@ -199,12 +191,10 @@ module _ (goes : BlocksGoSo) (v : View) (n t : ℕ) (block : IsInBlock v n t) (c
         of_master =
             f.is_member ∙ ap (λ (m : ℕ). Some m) (sym (ap master_of members ∙ master_of_bit f.member (has_member v master f.member is f.is_member).small));
         aimed = subst (IsAimed v n block.before.next cm b.point) (sym r.time) aims.1;
-        in_time = subst (IsInTime v s.first) (sym r.time) b.in_time;
         to = omega (arith, r.time, aims.0);
-        least = subst (λ (u : ℕ). b.point ≤ℤ pos (v.scenario.reading cm u)) (sym r.time) f.sharp.least;
       }
 
-  gathered : IsGathered v n block.before.next block.before.hull cm master by
+  gathered : IsGathered v n block.before.next cm master by
   gathered =
       let b = s.brought in
       let link = b.permanent.link in
@@ -234,7 +224,7 @@ module _ (goes : BlocksGoSo) (v : View) (n t : ℕ) (block : IsInBlock v n t) (c
 
 -- each first master's frame is gathered
 pub gathers : BlocksGoSo → (v : View) (n t : ℕ) (block : IsInBlock v n t) (cm : DeviceId) (by : ℕ) → IsView v → Collects v n t block cm by
-    → (master : DeviceId) → IsFirstMaster v master → IsGathered v n block.before.next block.before.hull cm master by
+    → (master : DeviceId) → IsFirstMaster v master → IsGathered v n block.before.next cm master by
 gathers goes v n t block cm by is c master first =
     let sender = sends_up goes v n t block cm master is c.late c.of_channel first in
     gathered goes v n t block cm by is c master sender (has_frame v n block.before.hull cm master sender is first)

@@ -2,7 +2,7 @@
 use Rattle.precision_law.proofs.words.Std.{◌+ℤ◌, ◌+◌, ◌<◌, ◌||◌, ◌∙◌, ◌∷◌, ◌≡◌, ◌≤ℤ◌, ◌≤◌, ◌⊎◌, Bool, IsNone, IsSomeAnd, List, None, Option, Some, [], ap, arith, both_ways, cases_Bool, cases_lt, false, inl, inr, ints, length, not, ones_le_self, option_map_or, pos, refl, slice_get, subst, suc, true, zero, ℕ, ℤ}
 use Rattle.precision_law.proofs.words.Plans.{A, B, Channel, Cm, CompressionMasters, Device, DeviceId, IsCmOf, IsSwitchOf, LinkId, Masters, Role, Units, Up, closed, count_of, device_at, is_master, opened}
 use Rattle.precision_law.proofs.words.Runs.{Happening, has_role, is_broken, is_cm, is_cm_role, is_parent_of, is_relay_role, time_of, waits_for}
-use Rattle.precision_law.proofs.words.Laws.{BlocksGoSo, Hull, IsBrought, IsDispatch, IsFirstMaster, IsInBlock, IsInHull, IsView, View, first_correction, first_dispatch, last_dispatch}
+use Rattle.precision_law.proofs.words.Laws.{BlocksGoSo, Hull, IsBrought, IsDispatch, IsFirstMaster, IsInBlock, IsView, View, first_correction, first_dispatch, last_dispatch}
 use Rattle.precision_law.proofs.words.Clocks.{enough_masters, frames_come_first, room}
 use Rattle.precision_law.proofs.words.Blocks.{before_narrow, earlier_in_block, follows_before, sound_frames_go_up}
 use Rattle.precision_law.proofs.block.Dispatched.{masters_dispatch}
@@ -97,7 +97,6 @@ first_master v is =
 pub record IsSender (v : View) (n : ℕ) (before : Hull) (cm master : DeviceId) : Type 0 where
   pub first : Happening
   pub dispatch : IsDispatch v first master (suc n)
-  pub inside : IsInHull v (suc n) (time_of first)
   pub low : first_dispatch v.sizes before ≤ℤ pos (time_of first)
   pub high : pos (time_of first) ≤ℤ last_dispatch v.sizes before
   pub brought : IsBrought v Up first cm
@@ -123,7 +122,6 @@ sends_up goes v n t block cm master is late one first =
     record {
       first = sent.0;
       dispatch = sent.1;
-      inside = hull;
       low = low;
       high = sent.2;
       brought = sound_frames_go_up v sent.0 master cm (suc n) is sent.1 one (dispatches_pass goes v n w there is low sent.2 (omega (arith, soon))) soon;

@@ -63,11 +63,11 @@ module _ (goes : BlocksGoSo) (v : View) (n t : ℕ) (block : IsInBlock v n t) (c
   found : (cs : List Cluster) × AreClusters ow points cs
   found = (let z = one_list_of_clusters ow points in (z.0, z.1))
 
-  gather : (master : DeviceId) → IsFirstMaster v master → IsGathered v n block.before.next block.before.hull cm master by
+  gather : (master : DeviceId) → IsFirstMaster v master → IsGathered v n block.before.next cm master by
   gather = gathers goes v n t block cm by is coll
 
   -- a first master's point is among them
-  is_point : (master : DeviceId) (g : IsGathered v n block.before.next block.before.hull cm master by) → IsIn g.p points
+  is_point : (master : DeviceId) (g : IsGathered v n block.before.next cm master by) → IsIn g.p points
   is_point master g =
       let front : IsIn g.k by_then.front = in_front_of place_of v.records ((by + 1) ∷ []) by_then g.k g.there (inl (omega (arith, g.to))) in
       subst (IsIn g.p) (sym (points_all by_then.front up_to)) (made_in (λ (h : Happening). point_by cm h h.note.body) by_then.front g.k g.p front g.gives)
@@ -81,7 +81,7 @@ module _ (goes : BlocksGoSo) (v : View) (n t : ℕ) (block : IsInBlock v n t) (c
   ]
 
   -- and it is in the time of no cluster of another cycle
-  never_dropped : (master : DeviceId) (g : IsGathered v n block.before.next block.before.hull cm master by) → IsDropped found.0 g.p → ⊥
+  never_dropped : (master : DeviceId) (g : IsGathered v n block.before.next cm master by) → IsDropped found.0 g.p → ⊥
   never_dropped master g dropped =
       let opened = opened_by ow points found.0 dropped.0 ordered found.1 dropped.1 in
       let o = opened.first in
