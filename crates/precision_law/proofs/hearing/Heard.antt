@@ -97,7 +97,6 @@ pub record HearsThis (v : View) (device : DeviceId) (h : Happening) (hearing : H
   pub judgement : Judgement
   pub judges : Judges judgement hearing.within
   pub hears : HearsBy v device hearing.channel hearing.frame.point.0 judgement h
-  pub cycle : cycle_in h ≡ hearing.frame.cycle
   pub members : members_in h ≡ hearing.frame.members.0
 
 -- a record by which a device hears a frame at a point, on the channel that is there
@@ -106,7 +105,7 @@ hears_on : (v : View) (device : DeviceId) (h : Happening) (hearing : Hearing) (j
     → option_map (λ channel. heard_by channel h point within) o ≡ Some hearing → HearsThis v device h hearing
 hears_on v device h hearing judgement within point o judges how e =
     let at = mapped (λ (c : Channel). heard_by c h point within) o hearing e in
-    subst (HearsThis v device h) at.2 (record { judgement = judgement; judges = judges; hears = how at.0 at.1; cycle = refl; members = refl })
+    subst (HearsThis v device h) at.2 (record { judgement = judgement; judges = judges; hears = how at.0 at.1; members = refl })
 
 module _ (v : View) (device : DeviceId) (h : Happening) (hearing : Hearing) where
   -- what the record of a frame that came says

@@ -89,7 +89,6 @@ pub record Receives (v : View) (n : ℕ) (before : Stands v n) (device : DeviceI
   pub judgement : Judgement
   pub hearer : IsOfHearer judgement
   pub hears : HearsBy v device v.channel point judgement h
-  pub of_cycle : cycle_in h ≡ suc n
   pub members_are : members_in h ≡ members.0
   pub from : before.next ≤ time_of h
   pub late : pos (time_of h) <ℤ first_correction v.sizes before.hull
@@ -109,8 +108,8 @@ module _ (v : View) (n t : ℕ) (block : IsInBlock v n t) (is : IsView v) (devic
       hearer_of (plan_of v.scenario.network device) (observation_window v.scenario.network) _ (adjustment_at_hearing v.scenario hs device q).0 point cycle
       others (hears_as_at v device block.before.next q t hs is up from lt at.old at.has.timed).state
 
-  shows : (suc n ≡ cycle_in first) × (members.0 ≡ members_in first)
-  shows = emission_shows v first cm e.opened e.at (suc n) members e.verdict is e.there e.is
+  shows : members.0 ≡ members_in first
+  shows = (emission_shows v first cm e.opened e.at (suc n) members e.verdict is e.there e.is).1
 
   -- the compression master's own frame
   own_frame : cm ≡ device → Receives v n block.before device members
@@ -130,8 +129,7 @@ module _ (v : View) (n t : ℕ) (block : IsInBlock v n t) (is : IsView v) (devic
         judgement = e.verdict;
         hearer = subst IsOfHearer (sym emits.heard) hearer;
         hears = record { there = e.there; how = inr (e.opened, e.at, suc n, members, body, of_channel, refl) };
-        of_cycle = sym shows.0;
-        members_are = sym shows.1;
+        members_are = sym shows;
         from = timed.from;
         late = late;
       }
@@ -202,8 +200,7 @@ module _ (v : View) (n t : ℕ) (block : IsInBlock v n t) (is : IsView v) (devic
           there = ripe.there;
           how = inl (p.link, b.last.note.number, record { 0 = b.point }, ripe.is, ap (channel_of_link network) (sym link) ∙ ends.of_channel, refl);
         };
-        of_cycle = ap (λ (o : Option Pcf). option_map_or (λ f. f.cycle) o 0) framed ∙ sym ends.keeps.cycle ∙ sym shows.0;
-        members_are = ap (λ (o : Option Pcf). option_map_or (λ f. f.members.0) o 0) framed ∙ sym ends.keeps.members ∙ sym shows.1;
+        members_are = ap (λ (o : Option Pcf). option_map_or (λ f. f.members.0) o 0) framed ∙ sym ends.keeps.members ∙ sym shows;
         from = omega (arith, ripe.time, from);
         late = omega (arith, ints, ripe.time, b.in_time.not_late, soon);
       }

@@ -78,6 +78,14 @@ record IsPair (v : View) (n t : ℕ) (members : Members) : Type 0 where
   pub is_member : IsMember member members
   pub bad : IsBadMember v member
 
+-- what is heard outside is a broken master alone, if it is heard so
+abbrev IsLoneIfOutside : View → Hearing → Type 0
+IsLoneIfOutside v h = (IsOutside h × IsLone v h.frame.members) ⊎ (IsOutside h → ⊥)
+
+-- or such a pair
+abbrev IsOfKind : View → ℕ → ℕ → Hearing → Type 0
+IsOfKind v n t h = (IsOutside h × IsPair v n t h.frame.members) ⊎ IsLoneIfOutside v h
+
 -- a hearing with its record
 record HearsSo (v : View) (n t : ℕ) (block : IsInBlock v n t) (device : DeviceId) (hearing : Hearing) : Type 0 where
   pub h : Happening
@@ -142,12 +150,10 @@ module _ (laws : FramesGoSo) (goes : BlocksGoSo) (v : View) (n t : ℕ) (block :
       ]
 
   -- what is heard outside is such a pair or a broken master alone
-  kinds : (hearing : Hearing) → IsIn hearing (heard_since v.scenario front device t)
-      → (IsOutside hearing × IsPair v n t hearing.frame.members) ⊎ ((IsOutside hearing × IsLone v hearing.frame.members) ⊎ (IsOutside hearing → ⊥))
+  kinds : (hearing : Hearing) → IsIn hearing (heard_since v.scenario front device t) → IsOfKind v n t hearing
   kinds hearing i = by hearing.within refl
     where
-      by : (b : Bool) → hearing.within ≡ b
-          → (IsOutside hearing × IsPair v n t hearing.frame.members) ⊎ ((IsOutside hearing × IsLone v hearing.frame.members) ⊎ (IsOutside hearing → ⊥))
+      by : (b : Bool) → hearing.within ≡ b → IsOfKind v n t hearing
       by true e = inr (inr (λ out. both_ways hearing.within out e))
       by false out =
           let hears = hears_so hearing i in
@@ -164,18 +170,14 @@ module _ (laws : FramesGoSo) (goes : BlocksGoSo) (v : View) (n t : ℕ) (block :
   -- so two masters at most were heard outside
   pub few_heard_outside : (outside : Members) → AreOutside (heard_since v.scenario front device t) outside → count_of outside ≤ 2
   few_heard_outside outside are =
-      elim (one_or_all (λ h. IsOutside h × IsPair v n t h.frame.members)
-      (λ h. (IsOutside h × IsLone v h.frame.members) ⊎ (IsOutside h → ⊥)) heard kinds) [
+      elim (one_or_all (λ h. IsOutside h × IsPair v n t h.frame.members) (IsLoneIfOutside v) heard kinds) [
         | inl pair ↦ omega (arith, within pair.0.frame.members (λ h j out i set. in_pair pair.0.frame.members pair.2.1 h i out set (kinds h j)), pair.2.1.two)
         | inr rest ↦ elim (one_or_all (λ h. IsOutside h × IsLone v h.frame.members) (λ h. IsOutside h → ⊥) heard rest) [
           | inl lone ↦
               let l = lone.2.1 in
-              omega (
-                arith,
-                within lone.0.frame.members (λ h j out i set. alike l.member i lone.0.frame.members l.is_member
-                    (l.bad l.member l.is_member) (lone_bad h i out set (rest h j))),
-                l.one,
-              )
+              let few = within lone.0.frame.members (λ h j out i set.
+              alike l.member i lone.0.frame.members l.is_member (l.bad l.member l.is_member) (lone_bad h i out set (rest h j))) in
+              omega (arith, few, l.one)
           | inr all ↦ omega (arith, within none (λ h j out i set. absurd (all h j out)), ones_le_self 0)
         ]
       ]
@@ -194,13 +196,12 @@ module _ (laws : FramesGoSo) (goes : BlocksGoSo) (v : View) (n t : ℕ) (block :
           subst (λ (k : ℕ). IsMember k members)
           (same_some (Some j) i j (sym b.1 ∙ ap (member_of v.scenario.network) (one_bad v a.0 b.0 is a.2 b.2) ∙ a.1) refl) set
 
-      lone_bad : (h : Hearing) (i : ℕ) → IsOutside h → IsMember i h.frame.members → (IsOutside h × IsLone v h.frame.members) ⊎ (IsOutside h → ⊥)
-          → IsBadMember v i
+      lone_bad : (h : Hearing) (i : ℕ) → IsOutside h → IsMember i h.frame.members → IsLoneIfOutside v h → IsBadMember v i
       lone_bad h i out set (inl lone) = lone.1.bad i set
       lone_bad h i out set (inr not_out) = absurd (not_out out)
 
-      in_pair : (members : Members) → IsPair v n t members → (h : Hearing) (i : ℕ) → IsOutside h → IsMember i h.frame.members
-          → (IsOutside h × IsPair v n t h.frame.members) ⊎ ((IsOutside h × IsLone v h.frame.members) ⊎ (IsOutside h → ⊥)) → IsMember i members
+      in_pair : (members : Members) → IsPair v n t members → (h : Hearing) (i : ℕ) → IsOutside h → IsMember i h.frame.members → IsOfKind v n t h
+          → IsMember i members
       in_pair members p h i out set (inl both) =
           subst (IsMember i) (same_sent goes v n t block is _ _ _ _ members both.1.sent p.sent both.1.before p.before).1 set
       in_pair members p h i out set (inr rest) = alike p.member i members p.is_member p.bad (lone_bad h i out set rest)
