@@ -116,12 +116,8 @@ is_by_frame laws v n t block device is went has old front summary split sums cha
     let this = hears_by v device h hearing h.note.body in_all refl heard.shows in
     let hears = subst (λ (j : Judgement). HearsBy v device channel frame.point.0 j h) (this.judges.inside refl) this.hears in
     let members : count_of frame.members ≡ count_of (members_by h) = ap (λ (m : ℕ). count_of (record { 0 = m })) (sym this.members) in
-    let enough : 3 ≤ count_of (members_by h) = omega (
-      arith,
-      (is.lawful.rules Masters 2).threshold_least refl,
-      leb-true s.network.sync_threshold (count_of frame.members) both.0,
-      members,
-    ) in
+    let many = leb-true s.network.sync_threshold (count_of frame.members) both.0 in
+    let enough : 3 ≤ count_of (members_by h) = omega (arith, (is.lawful.rules Masters 2).threshold_least refl, many, members) in
     let by_then = split.only h heard.there in
     let g = good_hearing laws v n t block.before is went device channel frame.point.0 h by_then Within tt hears
     (heard_late v n t block device is has old front hearing split heard) (λ c cm f. laws.three v c cm _ (members_by h) is f enough) in

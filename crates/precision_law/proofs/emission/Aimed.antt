@@ -182,13 +182,9 @@ module _ (goes : BlocksGoSo) (v : View) (n t : ℕ) (block : IsInBlock v n t) (c
       let framed : k.frame ≡ Some ripens.frame = ap (λ (x : Happening). x.frame) at.due.same ∙ ap (frame_by network at.front) g.is
       ∙ ap (λ (x : Option Happening). option_and_then (λ y. y.frame) x) ripens.permanent.there ∙ ripens.permanent.of_frame in
       let cycle : o.cycle ≡ ripens.frame.cycle = g.of_cycle ∙ ap (λ (x : Option Pcf). option_map_or (λ f. f.cycle) x 0) framed in
-      cc (
-        cycle,
-        g.reads,
-        hearing_adjustment goes v n t block cm b is calm q hs from to judge,
-        hearing_state goes v n t block cm b is calm q hs to judge,
-        none_of _ _ _ g.verdict _ (MatchBool-at_true _ _ one ripens.becomes),
-      )
+      let adjustment = hearing_adjustment goes v n t block cm b is calm q hs from to judge in
+      let state = hearing_state goes v n t block cm b is calm q hs to judge in
+      cc (cycle, g.reads, adjustment, state, none_of _ _ _ g.verdict _ (MatchBool-at_true _ _ one ripens.becomes))
 
   -- what lies at most two windows before it is of its cycle
   pub of_block_cycle : (point : ℤ) (q : ℕ) (k : Happening) (o : Point) → IsAimed v n block.before.next cm point q → IsIn k v.records → time_of k ≤ b

@@ -55,12 +55,9 @@ module _ (v : View) (n t : ℕ) (block : IsInBlock v n t) (is : IsView v) (devic
       by None e = absurd (omega (arith, index None e, number None e))
       by (Some h) e = elim (cases_Bool (is_correction h.note.body)) [
         | inr joined ↦ had_cleared v n t device block.before is block.from had at.old h e joined
-        | inl corrected ↦ absurd (omega (
-          arith,
-          index (Some h) e,
-          number (Some h) e,
-          ap (λ (b : Bool). if b then cycle_set h h.note.body + 1 else cycle_set h h.note.body) corrected,
-        ))
+        | inl corrected ↦
+            let behind = ap (λ (b : Bool). if b then cycle_set h h.note.body + 1 else cycle_set h h.note.body) corrected in
+            absurd (omega (arith, index (Some h) e, number (Some h) e, behind))
       ]
 
   -- so it has before each instant of the block
