@@ -1,5 +1,5 @@
 -- How a device judges what it hears, and the frames with a good member that it hears in a block.
-use Rattle.precision_law.proofs.words.Std.{◌+ℤ◌, ◌-ℤ◌, ◌<ℤ◌, ◌<◌, ◌==◌, ◌∙◌, ◌≡◌, ◌≤ℤ◌, ◌≤◌, ◌⊎◌, Bool, List, MatchBool, MatchBool-at_false, None, Option, Some, ap, arith, eq-eqb, if◌then◌else◌, inl, inr, ints, le-leb, nat_le, option_and_then, option_map, option_map_or, pos, refl, subst, suc, sym, true, ℕ, ℤ}
+use Rattle.precision_law.proofs.words.Std.{◌+ℤ◌, ◌-ℤ◌, ◌<ℤ◌, ◌<◌, ◌==◌, ◌∙◌, ◌≡◌, ◌≤ℤ◌, ◌≤◌, ◌⊎◌, Bool, List, MatchBool-at_false, None, Option, Some, ap, arith, eq-eqb, if◌then◌else◌, inl, inr, ints, le-leb, nat_le, option_and_then, option_map, option_map_or, pos, refl, subst, suc, sym, true, ℕ, ℤ}
 use Rattle.precision_law.proofs.words.Plans.{Channel, DeviceId, IsCmOf, Joining, Members, Pcf, State, SyncPlan, Synchronised, Units, count_of, expected_at, int_le-true}
 use Rattle.precision_law.proofs.words.Runs.{Happening, IsCaused, Judgement, Within, before_permanence, cycle_in, founded_at, frame_by, heard_as, heard_by, hearing_by, last_cycle, observation_window, plan_of, same_judgement, time_of}
 use Rattle.precision_law.proofs.words.Laws.{AreGood, BlocksGoSo, HasTimeAt, HearsBy, IsEmission, IsInBlock, IsNearHull, IsOfHearer, IsOldAt, IsView, View, base_of, first_correction, has_time}

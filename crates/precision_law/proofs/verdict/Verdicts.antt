@@ -1,6 +1,6 @@
 -- Each correction point comes to a verdict.
-use Rattle.precision_law.proofs.words.Std.{◌++◌, ◌∙◌, ◌∷◌, ◌≡◌, ◌≤◌, ◌⊎◌, Bool, IfSome, List, None, Option, Some, [], ap, append-nil, append_assoc, arith, cases_lt, false, if◌then◌else◌, inl, inr, le-leb, nat_le, option_and_then, refl, subst, sym, true, ℕ}
-use Rattle.precision_law.proofs.words.Plans.{A, AsyncClique, B, Channel, Corrected, HasVerdict, HeardFrame, Hearing, IsAtIntegration, IsBetterOf, IsOutnumbered, Qualifies, Standing, Summarizes, Summary, SyncClique, Units, best_on, correction_of, count_of, deviation_by, deviation_on, silence, union, within_on}
+use Rattle.precision_law.proofs.words.Std.{◌++◌, ◌∷◌, ◌≡◌, ◌≤◌, ◌⊎◌, Bool, IfSome, List, None, Option, Some, [], ap, append-nil, append_assoc, arith, cases_lt, false, if◌then◌else◌, inl, inr, le-leb, nat_le, option_and_then, refl, subst, sym, true, ℕ}
+use Rattle.precision_law.proofs.words.Plans.{A, AsyncClique, B, Channel, Corrected, HasVerdict, HeardFrame, Hearing, IsAtIntegration, IsBetterOf, IsOutnumbered, Qualifies, Standing, Summarizes, Summary, SyncClique, Units, best_on, correction_of, count_of, deviation_by, deviation_on, silence, union}
 use Rattle.precision_law.proofs.words.Runs.{IsDecided, decided_and, decided_less, decided_less_int, decided_or, decided_same, decided_some}
 use Rattle.membership.proofs.SummaryLemmas.{hears_on_a, hears_on_b, hears_outside, same_hearing, silence_summarizes}
 
