@@ -1,5 +1,5 @@
 -- At the beginning the network stands as it should.
-use Rattle.precision_law.proofs.words.Std.{◌^◌, ◌∙◌, ◌≡◌, ◌≤ℤ◌, ◌≤◌, IfSome, List, None, Option, Some, [], ap, arith, ints, le-ltb, nat_lt, pos, refl, subst, suc, sym, true, zero, ℕ}
+use Rattle.precision_law.proofs.words.Std.{◌^◌, ◌∙◌, ◌≡◌, ◌≤ℤ◌, IfSome, List, None, Option, Some, [], ap, arith, ints, le-ltb, nat_lt, pos, refl, subst, sym, true, ℕ}
 use Rattle.precision_law.proofs.words.Plans.{Device, DeviceId, IsDeviceInRange, IsWithin, Masters, Units, adjustment_at_start, all_at, device_at, state_at_start}
 use Rattle.precision_law.proofs.words.Runs.{Happening, adjustment_after, earlier, none_kept, start_of, state_after, time_of}
 use Rattle.precision_law.proofs.words.Laws.{HasTimeAt, Hull, IsAnchoredIn, IsNarrow, IsSetFor, IsView, StandsAtStart, View, epoch_cycle, has_time, hull_of, start_hull}
@@ -63,7 +63,8 @@ stands_at_start v is =
       in_run = omega arith;
       hull = start_hull v.sizes;
       is_hull = refl;
-      narrow = λ c le. first_narrow v is c le;
+      narrow = λ c le. subst (λ (x : ℕ). (hull : Hull) × (hull_of v x ≡ Some hull) × IsNarrow v.sizes hull) (let e : 0 ≡ c = omega (arith, le) in e)
+          (start_hull v.sizes, refl, omega (arith, ints, space.errors.spread_is));
       dispatches = λ h device cycle dispatch lt. absurd (omega (arith, lt));
       clocks = λ device has. set_at_start v device is has;
       points = λ before c e. absurd (omega (arith, e));
@@ -71,7 +72,3 @@ stands_at_start v is =
       joined = λ h device i joined good lt. absurd (omega (arith, lt));
       kept = λ h device state cause why i lt. absurd (omega (arith, lt));
     }
-  where
-    first_narrow : (v : View) → IsView v → (c : ℕ) → c ≤ 0 → (hull : Hull) × (hull_of v c ≡ Some hull) × IsNarrow v.sizes hull
-    first_narrow v is zero le = (start_hull v.sizes, refl, (let space = room v is in omega (arith, ints, space.errors.spread_is)))
-    first_narrow v is (suc c) le = absurd (omega (arith, le))

@@ -167,12 +167,10 @@ module _ (goes : BlocksGoSo) (v : View) (n t : ℕ) (block : IsInBlock v n t) (c
       own why e = e
   never_ends h body i le same e = joins_never goes v n t block cm b h is calm i le (ap (is_joined_by cm) same ∙ e)
 
-module _ (goes : BlocksGoSo) (v : View) (n t : ℕ) (block : IsInBlock v n t) (cm : DeviceId) (b : ℕ) (is : IsView v) (calm : IsCalm v n t block cm b)
-    (one : is_cm v.scenario.network cm ≡ true) where
   -- a point of the block had no fault
-  no_fault_then : (k : Happening) (o : Point) → IsIn k v.records → block.before.next ≤ time_of k → time_of k ≤ b → GivesPoint cm k o
-      → point_fault v.scenario.network Synchronised (adjustment_left v cm block.before.next) o.reading o.cycle ≡ None
-  no_fault_then k o i from to g =
+  no_fault_then : is_cm v.scenario.network cm ≡ true → (k : Happening) (o : Point) → IsIn k v.records → block.before.next ≤ time_of k → time_of k ≤ b
+      → GivesPoint cm k o → point_fault v.scenario.network Synchronised (adjustment_left v cm block.before.next) o.reading o.cycle ≡ None
+  no_fault_then one k o i from to g =
       let network = v.scenario.network in
       let q = time_of k in
       let at = founded_at v.scenario v.records k is.run.founded i in
@@ -182,14 +180,13 @@ module _ (goes : BlocksGoSo) (v : View) (n t : ℕ) (block : IsInBlock v n t) (c
       let framed : k.frame ≡ Some ripens.frame = ap (λ (x : Happening). x.frame) at.due.same ∙ ap (frame_by network at.front) g.is
       ∙ ap (λ (x : Option Happening). option_and_then (λ y. y.frame) x) ripens.permanent.there ∙ ripens.permanent.of_frame in
       let cycle : o.cycle ≡ ripens.frame.cycle = g.of_cycle ∙ ap (λ (x : Option Pcf). option_map_or (λ f. f.cycle) x 0) framed in
-      let adjustment = hearing_adjustment goes v n t block cm b is calm q hs from to judge in
-      let state = hearing_state goes v n t block cm b is calm q hs to judge in
-      cc (cycle, g.reads, adjustment, state, none_of _ _ _ g.verdict _ (MatchBool-at_true _ _ one ripens.becomes))
+      let fine = none_of _ _ _ g.verdict _ (MatchBool-at_true _ _ one ripens.becomes) in
+      cc (cycle, g.reads, hearing_adjustment q hs from to judge, hearing_state q hs to judge, fine)
 
   -- what lies at most two windows before it is of its cycle
-  pub of_block_cycle : (point : ℤ) (q : ℕ) (k : Happening) (o : Point) → IsAimed v n block.before.next cm point q → IsIn k v.records → time_of k ≤ b
-      → GivesPoint cm k o → o.reading ≤ℤ point → point ≤ℤ (o.reading +ℤ pos (2 * v.sizes.precision)) → o.cycle ≡ suc n
-  of_block_cycle point q k o aimed i to g low high =
+  pub of_block_cycle : is_cm v.scenario.network cm ≡ true → (point : ℤ) (q : ℕ) (k : Happening) (o : Point) → IsAimed v n block.before.next cm point q
+      → IsIn k v.records → time_of k ≤ b → GivesPoint cm k o → o.reading ≤ℤ point → point ≤ℤ (o.reading +ℤ pos (2 * v.sizes.precision)) → o.cycle ≡ suc n
+  of_block_cycle one point q k o aimed i to g low high =
       elim (cases_lt (time_of k) block.before.next) [
         | inl early ↦
             let r = (read_at v cm k o is i g).ripe in
@@ -199,7 +196,7 @@ module _ (goes : BlocksGoSo) (v : View) (n t : ℕ) (block : IsInBlock v n t) (c
         | inr from ↦
             let m = natural_of (value_of v cm block.before.next o.reading) 0
             (omega (arith, ints, aimed.value.least, high, one_more n v.sizes.cycle, (room v is).cycles)) in
-            let taken = taken_for v (adjustment_left v cm block.before.next) o.reading o.cycle m.0 is m.1 (no_fault_then k o i from to g) in
+            let taken = taken_for v (adjustment_left v cm block.before.next) o.reading o.cycle m.0 is m.1 (no_fault_then one k o i from to g) in
             of_one_cycle v.sizes o.cycle (suc n) (value_of v cm block.before.next o.reading) (value_of v cm block.before.next point) (room v is)
             (subst (IsTakenFor v.sizes o.cycle) (sym m.1) taken) aimed.value (omega (arith, ints, low)) (omega (arith, ints, high))
       ]
