@@ -1,5 +1,5 @@
 -- The compression master of the sound channel takes the frames of the first masters.
-use Rattle.precision_law.proofs.words.Std.{◌*◌, ◌+ℤ◌, ◌+◌, ◌==◌, ◌^◌, ◌∙◌, ◌∷◌, ◌≡◌, ◌≤ℤ◌, ◌≤◌, Bool, List, None, Option, Some, [], ap, arith, eq-eqb, eqb-false, false, if◌then◌else◌, inl, inr, int_lt, ints, last_or, option_and_then, option_map_or, pos, refl, subst, suc, sym, true, unsigned_abs, unwrap_or, ℕ, ℤ}
+use Rattle.precision_law.proofs.words.Std.{◌*◌, ◌+ℤ◌, ◌+◌, ◌^◌, ◌∙◌, ◌∷◌, ◌≡◌, ◌≤ℤ◌, ◌≤◌, Bool, List, None, Option, Some, [], ap, arith, eq-eqb, false, if◌then◌else◌, inl, inr, int_lt, ints, last_or, option_and_then, option_map_or, pos, refl, subst, suc, sym, true, unsigned_abs, unwrap_or, ℕ, ℤ}
 use Rattle.precision_law.proofs.words.Plans.{AreClusters, Cluster, DeviceId, IsCmOf, Members, Pcf, Point, Units, Up, Way, amount, has_point_of, none, point_at, role, role_in}
 use Rattle.precision_law.proofs.words.Runs.{Happening, IsBefore, IsCaused, IsDue, IsIn, IsSplit, Judgement, NoteBody, adjustment_at_hearing, cycle_in, dispatch_value, founded_at, frame_by, in_left, key, master_of, member_of, members_in, observation_window, place_of, point_by, points_of, rank, split, state_at_hearing, time_of}
 use Rattle.precision_law.proofs.words.Laws.{BlocksGoSo, HasTimeAt, Hull, IsFirstMaster, IsInBlock, IsRipe, IsTrip, IsView, Leg, ShowsIn, View, first_correction, has_time, last_dispatch}
@@ -19,22 +19,19 @@ pub record MeetsOther (cs : List Cluster) (p : Point) : Type 0 where
   pub to : p.reading ≤ℤ cluster.end
   pub other : p.cycle ≡ cluster.cycle → ⊥
 
+kinds : (b : Bool) → (if b then taken.Repeat else taken.Joined) ≡ taken.OtherCycle → ⊥
+kinds true e = cc
+kinds false e = cc
+
 -- a point that is not taken because of its cycle does
 meets_other : (cs : List Cluster) (p : Point) → role cs p ≡ taken.OtherCycle → MeetsOther cs p
 meets_other cs p e = by (last_or None cs) refl e
   where
     within : (c : Cluster) → IsIn c cs → (b : Bool) → int_lt c.end p.reading ≡ b → role_in (if b then None else Some c) p ≡ taken.OtherCycle → MeetsOther cs p
     within c i true past e = absurd cc
-    within c i false past e = inside (p.cycle == c.cycle) refl e
-      where
-        kinds : (b : Bool) → (if b then taken.Repeat else taken.Joined) ≡ taken.OtherCycle → ⊥
-        kinds true e = cc
-        kinds false e = cc
-
-        inside : (b : Bool) → (p.cycle == c.cycle) ≡ b
-            → (if b then (if has_point_of c p.master then taken.Repeat else taken.Joined) else taken.OtherCycle) ≡ taken.OtherCycle → MeetsOther cs p
-        inside true same e = absurd (kinds (has_point_of c p.master) e)
-        inside false same e = record { cluster = c; there = i; to = grind (arith, ints, past); other = eqb-false p.cycle c.cycle same }
+    within c i false past e =
+        let other = λ (same : p.cycle ≡ c.cycle). kinds (has_point_of c p.master) (rw (eq-eqb p.cycle c.cycle same) at e) in
+        record { cluster = c; there = i; to = grind (arith, ints, past); other = other }
 
     by : (o : Option Cluster) → last_or None cs ≡ o → role_in (option_and_then (λ c. if int_lt c.end p.reading then None else Some c) o) p ≡ taken.OtherCycle
         → MeetsOther cs p
