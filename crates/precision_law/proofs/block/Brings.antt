@@ -136,10 +136,7 @@ module _ (v : View) (n t : ℕ) (block : IsInBlock v n t) (is : IsView v) (went 
         is_hull = frame.is_hull;
         not_early = subst (λ (u : ℕ). frame.hull.least ≤ℤ pos u) at frame.not_early;
         not_late = subst (λ (u : ℕ). pos u <ℤ first_correction v.sizes block.before.hull) at frame.not_late;
-        anchored = record {
-          least = omega (arith, ints, anchored.least, adjusts, read, at);
-          most = omega (arith, ints, anchored.most, adjusts, read, at);
-        };
+        anchored = record { least = omega (arith, ints, anchored.least, adjusts, read, at); most = omega (arith, ints, anchored.most, adjusts, read, at) };
         ahead = omega (arith, ints, frame.timely.least, expected_late v device is, space, adjusts, read);
       }
 

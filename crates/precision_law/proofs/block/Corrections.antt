@@ -141,8 +141,7 @@ pub turned : (a b : Option Units) → correction_of a b ≡ correction_of b a
 turned None None = refl
 turned None (Some b) = refl
 turned (Some a) None = refl
-turned (Some a) (Some b) =
-    ap (λ (z : ℤ). let u : Units = record { 0 = z } in Some u) (omega (arith, ints, mean_of-floor a.0 b.0, mean_of-floor b.0 a.0))
+turned (Some a) (Some b) = ap (λ (z : ℤ). let u : Units = record { 0 = z } in Some u) (omega (arith, ints, mean_of-floor a.0 b.0, mean_of-floor b.0 a.0))
 
 module _ (v : View) (n t : ℕ) (before : Stands v n) (is : IsView v) (device : DeviceId) where
   -- a clock that two frames set, the one heard first being given first, is anchored by both

@@ -2,7 +2,7 @@
 use Rattle.precision_law.proofs.words.Std.{◌+ℤ◌, ◌-ℤ◌, ◌<ℤ◌, ◌<◌, ◌==◌, ◌∙◌, ◌≡◌, ◌≤ℤ◌, ◌≤◌, ◌⊎◌, Bool, List, MatchBool-at_false, None, Option, Some, ap, arith, eq-eqb, if◌then◌else◌, inl, inr, ints, le-leb, nat_le, option_and_then, option_map, option_map_or, pos, refl, subst, suc, sym, true, ℕ, ℤ}
 use Rattle.precision_law.proofs.words.Plans.{Channel, DeviceId, IsCmOf, Joining, Members, Pcf, State, SyncPlan, Synchronised, Units, count_of, expected_at, int_le-true}
 use Rattle.precision_law.proofs.words.Runs.{Happening, IsCaused, Judgement, Within, before_permanence, cycle_in, founded_at, frame_by, heard_as, heard_by, hearing_by, last_cycle, observation_window, plan_of, same_judgement, time_of}
-use Rattle.precision_law.proofs.words.Laws.{AreGood, BlocksGoSo, HasTimeAt, HearsBy, IsEmission, IsInBlock, IsNearHull, IsOfHearer, IsOldAt, IsView, View, base_of, first_correction, has_time}
+use Rattle.precision_law.proofs.words.Laws.{AreGood, BlocksGoSo, HasTimeAt, HearsBy, IsEmission, IsInBlock, IsOfHearer, IsOldAt, IsView, View, first_correction, has_time}
 use Rattle.precision_law.proofs.words.Clocks.{before_of, emission_shows, hearer_not_cm, one_more, room, sizes_are}
 use Rattle.precision_law.proofs.words.Blocks.{AreUpTo, FramesGoSo, IsGoodHearing, IsSentOn, WentSo, before_narrow, cm_of, earlier_in_block, emission_is_one, expected_is, few_cycles, follows_before, hears_as_at, hulls_are_narrow, judged_at, judged_up_to, members_by, near_hull, next_first, old_shows, one_cm, tidy, up_to_then}
 use Rattle.run_law.specs.declared.note.NoteBody.TheVariants as notes
@@ -10,14 +10,14 @@ use Rattle.run_law.specs.declared.note.NoteBody.TheVariants as notes
 -- ---- judgements
 
 -- the record has this judgement by records up to its time
-pub record IsJudgedAs (v : View) (device : DeviceId) (h : Happening) (point : ℤ) (judgement : Judgement) : Type 0 where
+record IsJudgedAs (v : View) (device : DeviceId) (h : Happening) (point : ℤ) (judgement : Judgement) : Type 0 where
   pub judged : List Happening
   pub up_to : AreUpTo v (time_of h) judged
   pub members : Members
   pub is : judgement ≡ judged_at v.scenario device judged (time_of h) point (cycle_in h) members
 
 -- a device judges what it hears by the records before
-pub judged_as : (v : View) (device : DeviceId) (channel : Channel) (point : ℤ) (judgement : Judgement) (h : Happening) → IsView v → IsOfHearer judgement
+judged_as : (v : View) (device : DeviceId) (channel : Channel) (point : ℤ) (judgement : Judgement) (h : Happening) → IsView v → IsOfHearer judgement
     → HearsBy v device channel point judgement h → IsJudgedAs v device h point judgement
 judged_as v device channel point judgement h is hearer hears =
     let s = v.scenario in
@@ -57,29 +57,6 @@ heard_as_within : (plan : SyncPlan) (precision : ℤ) (state : State) (adjustmen
 heard_as_within plan precision Joining adjustment point cycle members timed few low high = rw (few, int_le-true _ _ low, int_le-true _ _ high) refl
 heard_as_within plan precision Synchronised adjustment point cycle members timed few low high = rw (few, int_le-true _ _ low, int_le-true _ _ high) refl
 heard_as_within plan precision state adjustment point cycle members timed few low high = absurd cc
-
--- an old device judges a frame of the block's cycle whose base lies in the hull to be within
-pub record_within : (v : View) (n t : ℕ) (block : IsInBlock v n t) (device : DeviceId) (channel : Channel) (point : ℤ) (h : Happening) (judgement : Judgement)
-    → IsView v → HasTimeAt v device t → IsOldAt v block.before.next device t → time_of h < t → (g : IsGoodHearing v n block.before device channel point h)
-    → IsNearHull v.sizes g.hull (base_of v.sizes (time_of g.emission)) → IsJudgedAs v device h point judgement → judgement ≡ Within
-record_within v n t block device channel point h judgement is has old lt g near j =
-    let s = v.scenario in
-    let before = block.before in
-    let q = time_of h in
-    let follows = follows_before v n before.hull g.hull is before.is_hull g.is_hull in
-    let le : before.next ≤ q = omega (arith, ints, next_first v n before is, follows.least, g.not_early) in
-    let at : IsInBlock v n q = earlier_in_block _ _ _ _ block le (omega (arith, lt)) in
-    let stands = hears_as_at v device before.next q t j.judged is j.up_to le lt old has.timed in
-    let shows = old_shows v n q t device at is (omega (arith, lt)) has old in
-    let narrow = before_narrow v n before in
-    let space = room v is in
-    let more = one_more n v.sizes.cycle in
-    let expected = expected_is v device (suc n) point is in
-    let precision = (sizes_are v is).precision in
-    j.is ∙ ap (λ (c : ℕ). judged_at s device j.judged q point c j.members) g.of_cycle
-    ∙ heard_as_within (plan_of s.network device) (observation_window s.network) _ _ point (suc n) j.members stands.state
-    (le-leb (suc n) last_cycle (few_cycles v (suc n) _ is g.is_hull (omega (arith, ints, g.not_early, lt, block.in_run))))
-    (omega (arith, ints, g.timely)) (omega (arith, ints, g.timely))
 
 -- ---- hearings
 
@@ -139,6 +116,22 @@ module _ (goes : BlocksGoSo) (v : View) (n t : ℕ) (block : IsInBlock v n t) (i
       → IsAtPoint v n t block device → time_of h < t → IsOfHearer judgement → HearsBy v device channel point judgement h
       → IsGoodHearing v n block.before device channel point h → (3 ≤ count_of (members_by h)) ⊎ AreGood v (members_by h) → judgement ≡ Within
   heard_within laws device channel point judgement h at lt hearer hears g enough =
-      record_within v n t block device channel point h judgement is at.has at.old lt g
-      (near_hull laws v n t block.before is went_so device channel point h (omega (arith, lt)) g enough)
-      (judged_as v device channel point judgement h is hearer hears)
+      let s = v.scenario in
+      let before = block.before in
+      let q = time_of h in
+      let near = near_hull laws v n t before is went_so device channel point h (omega (arith, lt)) g enough in
+      let j = judged_as v device channel point judgement h is hearer hears in
+      let follows = follows_before v n before.hull g.hull is before.is_hull g.is_hull in
+      let le : before.next ≤ q = omega (arith, ints, next_first v n before is, follows.least, g.not_early) in
+      let here : IsInBlock v n q = earlier_in_block _ _ _ _ block le (omega (arith, lt)) in
+      let stands = hears_as_at v device before.next q t j.judged is j.up_to le lt at.old at.has.timed in
+      let shows = old_shows v n q t device here is (omega (arith, lt)) at.has at.old in
+      let narrow = before_narrow v n before in
+      let space = room v is in
+      let more = one_more n v.sizes.cycle in
+      let expected = expected_is v device (suc n) point is in
+      let precision = (sizes_are v is).precision in
+      j.is ∙ ap (λ (c : ℕ). judged_at s device j.judged q point c j.members) g.of_cycle
+      ∙ heard_as_within (plan_of s.network device) (observation_window s.network) _ _ point (suc n) j.members stands.state
+      (le-leb (suc n) last_cycle (few_cycles v (suc n) _ is g.is_hull (omega (arith, ints, g.not_early, lt, block.in_run))))
+      (omega (arith, ints, g.timely)) (omega (arith, ints, g.timely))
