@@ -1,9 +1,9 @@
 -- What the compression master of the sound channel takes in a block: a point that lies in one cluster's time with that of
 -- a frame of the block's cycle is of this cycle too.
-use Rattle.precision_law.proofs.words.Std.{◌%◌, ◌&&◌, ◌*◌, ◌+ℤ◌, ◌+◌, ◌-◌, ◌/◌, ◌<ℤ◌, ◌<◌, ◌==◌, ◌∙◌, ◌∷◌, ◌≡◌, ◌≤ℤ◌, ◌≤◌, Bool, List, MatchBool-at_true, None, Option, Some, [], and_parts, ap, arith, cases_lt, div-add-mod, div-mul-add, false, false_from_ne_true, if◌then◌else◌, inl, inr, int_div_euclid, int_le, int_lt, int_rem_euclid_is, ints, le-ltb, ltb-false, mod-mul-add, mul-le-mul_right, not, not-false, option_and_then, option_map_or, pos, refl, subst, suc, sym, true, ℕ, ℤ}
+use Rattle.precision_law.proofs.words.Std.{◌%◌, ◌&&◌, ◌*◌, ◌+ℤ◌, ◌+◌, ◌-◌, ◌/◌, ◌<◌, ◌==◌, ◌∙◌, ◌∷◌, ◌≡◌, ◌≤ℤ◌, ◌≤◌, Bool, List, MatchBool-at_true, None, Option, Some, [], and_parts, ap, arith, cases_lt, div-add-mod, div-mul-add, false, false_from_ne_true, if◌then◌else◌, inl, inr, int_div_euclid, int_le, int_lt, int_rem_euclid_is, ints, le-ltb, ltb-false, mod-mul-add, mul-le-mul_right, not, not-false, option_and_then, option_map_or, pos, refl, subst, suc, sym, true, ℕ, ℤ}
 use Rattle.precision_law.proofs.words.Plans.{DeviceId, Joining, Network, Pcf, Point, State, Synchronised, Units, amount, int_le-true}
 use Rattle.precision_law.proofs.words.Runs.{Cycle, Gate, Happening, IsCaused, IsCollectedOrDropped, IsIn, Judgement, NoteBody, Reason, Why, adjustment_at_hearing, before_permanence, dispatch_value, ends_stretch, first_reason, founded_at, frame_by, has_joined_at, is_cm, is_joined_by, is_number, is_synchronised, offset_in_cycle, point_fault, ripe_as, state_at_hearing, state_before, time_of}
-use Rattle.precision_law.proofs.words.Laws.{BlocksGoSo, HaveRoom, IsInBlock, IsSteady, IsView, Sizes, View, adjustment_left, has_time}
+use Rattle.precision_law.proofs.words.Laws.{BlocksGoSo, HaveRoom, IsInBlock, IsView, Sizes, View, adjustment_left, has_time}
 use Rattle.precision_law.proofs.words.Clocks.{adjustment_stays, any_in, int_le-is, natural, natural_of, one_more, room, same_device, sizes_are, steady}
 use Rattle.precision_law.proofs.words.Blocks.{AreUpTo, GivesPoint, hears_as_at, judged_up_to, read_at}
 use Rattle.run_law.specs.declared.judgement.Judgement.TheVariants as judgements
@@ -33,13 +33,6 @@ of_one_cycle n a b x y space of_a of_b le near = elim (cases_lt a b) [
     | inr le_too ↦ omega (arith, ge, le_too)
   ]
 ]
-
--- a point that was permanent four precisions before another lies more than two precisions below it
-pub far_below : (n : Sizes) (reading : ℕ → ℕ) (p r : ℤ) (first last q : ℕ) → HaveRoom n → IsSteady n reading → p ≤ℤ pos (reading first) → first ≤ last
-    → last + 4 * n.precision ≤ q → pos (reading q) ≤ℤ (r +ℤ pos (2 * n.grain)) → (p +ℤ pos (2 * n.precision)) <ℤ r
-far_below n reading p r first last q space steady low before after above =
-    let slow = steady.slow last (last + 4 * n.precision) (omega arith) (omega (arith, space.cycles)) in
-    omega (arith, ints, steady.never_falls first last before, slow, steady.never_falls (last + 4 * n.precision) q after, low, above, space)
 
 -- ---- what a compression master takes
 
@@ -190,9 +183,12 @@ module _ (goes : BlocksGoSo) (v : View) (n t : ℕ) (block : IsInBlock v n t) (c
       elim (cases_lt (time_of k) block.before.next) [
         | inl early ↦
             let r = (read_at v cm k o is i g).ripe in
-            let far = far_below v.sizes (v.scenario.reading cm) o.reading point (time_of k) (block.before.next - 1) q (room v is) (steady v is cm) r.least
-            (omega (arith, early)) (omega (arith, early, aimed.late)) aimed.most in
-            absurd (omega (arith, ints, far, high))
+            let clock = steady v is cm in
+            let last = block.before.next - 1 in
+            let slow = clock.slow last (last + 4 * v.sizes.precision) (omega arith) (omega (arith, (room v is).cycles)) in
+            let rises = clock.never_falls (time_of k) last (omega (arith, early)) in
+            let more = clock.never_falls (last + 4 * v.sizes.precision) q (omega (arith, early, aimed.late)) in
+            absurd (omega (arith, ints, rises, slow, more, r.least, aimed.most, high, room v is))
         | inr from ↦
             let m = natural_of (value_of v cm block.before.next o.reading) 0
             (omega (arith, ints, aimed.value.least, high, one_more n v.sizes.cycle, (room v is).cycles)) in

@@ -8,7 +8,7 @@ use Rattle.precision_law.proofs.words.Blocks.{IsReadAt, arrival_young, before_na
 use Rattle.compression.specs.declared.taken.Taken.TheVariants as taken
 use Rattle.precision_law.proofs.block.Dispatched.{IsCalm, old_then, synchronised_then}
 use Rattle.precision_law.proofs.emission.Aimed.{IsAimed, IsTakenFor, hearing_adjustment, no_point_fault, of_block_cycle}
-use Rattle.precision_law.proofs.emission.Senders.{IsSender, cm_is, sends_up}
+use Rattle.precision_law.proofs.emission.Senders.{IsSender, cm_is}
 
 -- ---- points that come
 
@@ -59,7 +59,7 @@ pub record IsGathered (v : View) (n next : ℕ) (cm master : DeviceId) (by : ℕ
 -- ---- what a dispatch brings
 
 -- the frame that it brings
-record HasFrame (v : View) (n : ℕ) (before : Hull) (cm master : DeviceId) (s : IsSender v n before cm master) : Type 0 where
+pub record HasFrame (v : View) (n : ℕ) (before : Hull) (cm master : DeviceId) (s : IsSender v n before cm master) : Type 0 where
   pub member : ℕ
   pub is_member : member_of v.scenario.network master ≡ Some member
   pub frame : Pcf
@@ -71,7 +71,7 @@ record HasFrame (v : View) (n : ℕ) (before : Hull) (cm master : DeviceId) (s :
   pub not_negative : pos 0 ≤ℤ s.brought.point
 
 -- it brings one
-has_frame : (v : View) (n : ℕ) (before : Hull) (cm master : DeviceId) (s : IsSender v n before cm master) → IsView v → IsFirstMaster v master
+pub has_frame : (v : View) (n : ℕ) (before : Hull) (cm master : DeviceId) (s : IsSender v n before cm master) → IsView v → IsFirstMaster v master
     → HasFrame v n before cm master s
 has_frame v n before cm master s is first =
     let network = v.scenario.network in
@@ -191,7 +191,7 @@ module _ (goes : BlocksGoSo) (v : View) (n t : ℕ) (block : IsInBlock v n t) (c
         to = omega (arith, r.time, aims.0);
       }
 
-  gathered : IsGathered v n block.before.next cm master by
+  pub gathered : IsGathered v n block.before.next cm master by
   gathered =
       let b = s.brought in
       let link = b.permanent.link in
@@ -218,10 +218,3 @@ module _ (goes : BlocksGoSo) (v : View) (n t : ℕ) (block : IsInBlock v n t) (c
         | inl meets ↦ absurd (never_other at meets.0 meets.1 meets.2)
         | inr found ↦ recorded found.0 found.1
       ]
-
--- each first master's frame is gathered
-pub gathers : BlocksGoSo → (v : View) (n t : ℕ) (block : IsInBlock v n t) (cm : DeviceId) (by : ℕ) → IsView v → Collects v n t block cm by
-    → (master : DeviceId) → IsFirstMaster v master → IsGathered v n block.before.next cm master by
-gathers goes v n t block cm by is c master first =
-    let sender = sends_up goes v n t block cm master is c.late c.of_channel first in
-    gathered goes v n t block cm by is c master sender (has_frame v n block.before.hull cm master sender is first)

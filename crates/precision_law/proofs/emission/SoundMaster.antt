@@ -7,8 +7,8 @@ use Rattle.precision_law.proofs.words.Clocks.{IsSentAt, after_last_none, all_by,
 use Rattle.precision_law.proofs.words.Blocks.{IsBadPoint, IsGoodPoint, IsKnown, IsWitness, bad_number, bases_are_in_hulls, before_narrow, cluster_was, contained, earlier_in_block, early_show, ends_soon, follows_before, front_point, front_witness, gives_point, good_near, hulls_are_narrow, is_held, later_point, not_both, point_record, points_ordered, read_at, tidy}
 use Rattle.precision_law.proofs.block.Onward.{hull_ordered}
 use Rattle.precision_law.proofs.emission.Aimed.{never_ends, of_block_cycle}
-use Rattle.precision_law.proofs.emission.Gathered.{Collects, IsGathered, gathers}
-use Rattle.precision_law.proofs.emission.Senders.{cm_is, first_master, sound_cm}
+use Rattle.precision_law.proofs.emission.Gathered.{Collects, IsGathered, gathered, has_frame}
+use Rattle.precision_law.proofs.emission.Senders.{cm_is, first_master, sends_up, sound_cm}
 
 -- ---- the points by then
 
@@ -64,7 +64,9 @@ module _ (goes : BlocksGoSo) (v : View) (n t : ℕ) (block : IsInBlock v n t) (c
   found = (let z = one_list_of_clusters ow points in (z.0, z.1))
 
   gather : (master : DeviceId) → IsFirstMaster v master → IsGathered v n block.before.next cm master by
-  gather = gathers goes v n t block cm by is coll
+  gather m first =
+      let sender = sends_up goes v n t block cm m is coll.late coll.of_channel first in
+      gathered goes v n t block cm by is coll m sender (has_frame v n block.before.hull cm m sender is first)
 
   -- a first master's point is among them
   is_point : (master : DeviceId) (g : IsGathered v n block.before.next cm master by) → IsIn g.p points

@@ -40,10 +40,6 @@ pub record IsHearingOf (v : View) (device : DeviceId) (t : ℕ) (front : List Ha
   pub since : (x : Happening) → IsIn x front → time_of x < t → changes_adjustment device x.note.body ≡ true → time_of x ≤ time_of h
   pub cleared : has_cleared v.scenario front device t t ≡ true → has_cleared v.scenario front device t (time_of h) ≡ true
 
-kept_cleared : (a b : Bool) → (not a || b) ≡ true → a ≡ true → b ≡ true
-kept_cleared true b e is = e
-kept_cleared false b e is = absurd cc
-
 -- of sorted records those of a front are not later than those behind it
 front_first : (ps qs : List Happening) (x h : Happening) → AreSorted (ps ++ qs) → IsIn x ps → IsIn h qs → time_of x ≤ time_of h
 front_first [] qs x h order a b = absurd a
@@ -70,7 +66,7 @@ hearing_of v device t front hearing is split i =
             (and_from (nat_lt (time_of x) t) (changes_adjustment device x.note.body) (lt-ltb (time_of x) t lt) changes))
         | inl ahead ↦ front_first cut.front (since ++ split.rest) x h (subst AreSorted all (in_order v is)) ahead (in_left h since split.rest in_since)
       ];
-      cleared = λ c. kept_cleared (has_cleared v.scenario front device t t) (has_cleared v.scenario front device t (time_of h)) (passes late since h made.1) c;
+      cleared = λ c. subst (λ (b : Bool). (not b || has_cleared v.scenario front device t (time_of h)) ≡ true) c (passes late since h made.1);
     }
 
 -- ---- what is heard
