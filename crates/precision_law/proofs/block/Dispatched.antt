@@ -1,7 +1,7 @@
 -- Good masters dispatch the frames of each cycle.
 use Rattle.precision_law.proofs.words.Std.{◌*◌, ◌+ℤ◌, ◌+◌, ◌<ℤ◌, ◌<◌, ◌==◌, ◌∙◌, ◌∷◌, ◌≡◌, ◌≤◌, Bool, IsNone, IsSomeAnd, List, None, Option, Some, [], ap, arith, cases_Bool, cases_lt, false, false_from_ne_true, fold, if◌then◌else◌, inl, inr, ints, length, negsuc, option_and_then, option_map_or, pos, refl, subst, suc, sym, true, zero, ℕ, ℤ}
 use Rattle.precision_law.proofs.words.Plans.{Corrected, Device, DeviceId, Event, Integrating, Joining, State, Synchronised, Units, Verdict, amount, device_at, state_at_start, units_of}
-use Rattle.precision_law.proofs.words.Runs.{BeginsOn, ChangesState, Happening, Integrates, IsCaused, IsDue, IsFoundedAt, IsIn, NotOff, Note, NoteBody, Reaches, TurnsOn, Why, changes_adjustment, due_is_there, earlier, founded_at, happening, in_at, in_left, is_joined_by, is_turned_on_at, numbered, numbered_in, parted, place_of, split, start_of, state_after, state_before, state_with, time_of}
+use Rattle.precision_law.proofs.words.Runs.{BeginsOn, ChangesState, Happening, Integrates, IsCaused, IsDue, IsFoundedAt, IsIn, NotOff, Note, NoteBody, Reaches, TurnsOn, Why, due_is_there, earlier, founded_at, happening, in_at, in_left, is_joined_by, is_turned_on_at, numbered, numbered_in, parted, place_of, split, start_of, state_after, state_before, state_with, time_of}
 use Rattle.precision_law.proofs.words.Laws.{BlocksGoSo, HasTimeAt, IsClique, IsDispatch, IsFirm, IsFirstMaster, IsGood, IsInBlock, IsOldAt, IsView, MastersDispatch, View, first_correction, has_time, is_correction, last_dispatch, last_setting, state_left}
 use Rattle.precision_law.proofs.words.Clocks.{before_of, before_place, earlier_before, frames_come_first, good_is_correct, in_earlier, natural_of, one_more, reaches_front, room, same_device, setting_is, sizes_are}
 use Rattle.precision_law.proofs.words.Blocks.{HasPoint, before_narrow, earlier_in_block, early_show, has_corrected, has_lost, joining_of_setting, looking_by, master_is_end, not_turned_on_then, old_point, turned_at}
@@ -157,23 +157,20 @@ module _ (goes : BlocksGoSo) (v : View) (n t : ℕ) (block : IsInBlock v n t) (d
       i (omega (arith, le)) body
 
   -- nothing sets its clock in the block by then
-  never_set : (h : Happening) → IsView v → IsCalm v n t block device b → IsIn h v.records → block.before.next ≤ time_of h → time_of h ≤ b
-      → changes_adjustment device h.note.body ≡ true → ⊥
-  never_set h is at i from to sets = elim (cases_Bool (is_correction h.note.body)) [
-    | inl corrected ↦
-        let c = has_corrected v device h is at.good i sets corrected in
-        no_point (time_of h) c.cycle (Corrected c.by) is at from to c.point
-    | inr joined ↦ joins_never h is at i to (joining_of_setting device h.note.body sets joined)
-  ]
-
   old_by : (w : ℕ) → IsView v → IsCalm v n t block device b → w ≤ b + 1 → (o : Option Happening) → last_setting (earlier w v.records) device ≡ o
       → option_map_or (λ h. pos (time_of h)) o (negsuc 0) <ℤ pos block.before.next
   old_by w is at le None e = omega (arith, ints)
   old_by w is at le (Some h) e =
       let set = setting_is v device w h e in
+      let to : time_of h ≤ b = omega (arith, set.early, le) in
       elim (cases_lt (time_of h) block.before.next) [
         | inl lt ↦ omega (arith, ints, lt)
-        | inr from ↦ absurd (never_set h is at set.there from (omega (arith, set.early, le)) set.sets)
+        | inr from ↦ elim (cases_Bool (is_correction h.note.body)) [
+          | inr joined ↦ absurd (joins_never h is at set.there to (joining_of_setting device h.note.body set.sets joined))
+          | inl corrected ↦
+              let c = has_corrected v device h is at.good set.there set.sets corrected in
+              absurd (no_point (time_of h) c.cycle (Corrected c.by) is at from to c.point)
+        ]
       ]
 
   -- so its clock was set before the block

@@ -1,7 +1,7 @@
 -- What each instant of a block brings, from what frames are heard.
 use Rattle.precision_law.proofs.words.Std.{◌*◌, ◌+ℤ◌, ◌+◌, ◌-◌, ◌<ℤ◌, ◌<◌, ◌∙◌, ◌∷◌, ◌≡◌, ◌≤ℤ◌, ◌≤◌, ◌⊎◌, List, Some, [], ap, arith, cases_lt, inl, inr, ints, pos, refl, subst, suc, sym, true, zero, ℕ, ℤ}
 use Rattle.precision_law.proofs.words.Plans.{Channel, Cleared, Corrected, DeviceId, LinkId, Members, Pcf, State, Units, Verdict, amount, count_of}
-use Rattle.precision_law.proofs.words.Runs.{ComesToCorrection, Happening, IsCaused, IsFoundedAt, IsIn, Judgement, NoteBody, Scenario, Why, adjustment_at_hearing, before_permanence, changes_adjustment, channel_of, cycle_in, earlier, expected_by, founded_at, heard_as, in_filter, in_left, in_parts, is_before, members_in, observation_window, place_of, plan_of, same_some, state_at_hearing, time_of}
+use Rattle.precision_law.proofs.words.Runs.{ComesToCorrection, Happening, IsCaused, IsFoundedAt, IsIn, Judgement, NoteBody, Scenario, Why, adjustment_at_hearing, before_permanence, changes_adjustment, channel_of, cycle_in, earlier, expected_by, founded_at, heard_as, in_filter, in_left, in_parts, is_before, members_in, observation_window, place_of, plan_of, same_some, state_at_hearing, time_of, timed}
 use Rattle.precision_law.proofs.words.Laws.{AreBeforeCorrections, AreGood, BasesAreInHulls, BlockGoesSo, ComesTo, EmissionsAreOfDispatches, HasGood, HasTimeAt, HeardFramesAreTimely, HeardInTheirBlocks, HearingsAreOfFrames, HearsBy, Hull, IsClique, IsDispatch, IsEmission, IsGood, IsInHull, IsNarrow, IsNearHull, IsOfHearer, IsOldAt, IsPointOf, IsTidyBefore, IsTimely, IsView, Stands, ThreeHaveGood, View, adjustment_left, base_of, epoch_time, first_correction, first_dispatch, hull_of, is_correction, start_hull}
 use Rattle.precision_law.proofs.words.Clocks.{before_of, earlier_before, earlier_judge, instants_are_in_order, point_timed, room, same_adjustment, same_device, time_stays}
 use Rattle.run_law.specs.declared.note.NoteBody.TheVariants as notes
@@ -180,17 +180,6 @@ corrections_go_on v n k (suc more) before w x is le at_w at_x =
     let order = instants_are_in_order v.sizes there.0 x (room v is) there.2 (follows_before v (k + more) there.0 x is there.1 at) in
     omega (arith, ints, corrections_go_on v n k more before w there.0 is (omega (arith, le)) at_w there.1, order.next_later)
 
--- the first correction of an earlier cycle comes before the block
-pub corrections_before : (v : View) (n k : ℕ) (before : Stands v n) (w : Hull) → IsView v → suc k ≤ n → hull_of v k ≡ Some w
-    → first_correction v.sizes w <ℤ pos before.next
-corrections_before v zero k before w is le at = absurd (omega (arith, le))
-corrections_before v (suc c) k before w is le at =
-    let there = before.narrow c (omega arith) in
-    let gap : k + (c - k) ≡ c = omega (arith, le) in
-    let low = corrections_go_on v _ k (c - k) before w _ is (omega (arith, le)) at (subst (λ (x : ℕ). hull_of v x ≡ Some there.0) (sym gap) there.1) in
-    let order = instants_are_in_order v.sizes there.0 before.hull (room v is) there.2 (follows_before v c there.0 before.hull is there.1 before.is_hull) in
-    omega (arith, ints, low, block_ends v c before.next there.0 there.1 before.is_over, order.corrections)
-
 -- a block begins before an old clock comes to the correction point of its cycle
 pub early_show : (v : View) (n : ℕ) (before : Stands v n) → IsView v
     → pos before.next ≤ℤ (before.hull.least +ℤ pos (v.sizes.correction + v.sizes.spread + 3 * v.sizes.reach + 1))
@@ -212,7 +201,13 @@ IsLate v n q = (k : ℕ) (w : Hull) → suc k ≤ n → hull_of v k ≡ Some w �
 
 -- what comes behind the beginning of the block is late
 pub late_from : (v : View) (n q : ℕ) (before : Stands v n) → IsView v → before.next ≤ q → IsLate v n q
-late_from v n q before is le k w few at = (let early = corrections_before v n k before w is few at in omega (arith, ints, early, le))
+late_from v zero q before is le k w few at = absurd (omega (arith, few))
+late_from v (suc c) q before is le k w few at =
+    let there = before.narrow c (omega arith) in
+    let gap : k + (c - k) ≡ c = omega (arith, few) in
+    let low = corrections_go_on v _ k (c - k) before w _ is (omega (arith, few)) at (subst (λ (x : ℕ). hull_of v x ≡ Some there.0) (sym gap) there.1) in
+    let order = instants_are_in_order v.sizes there.0 before.hull (room v is) there.2 (follows_before v c there.0 before.hull is there.1 before.is_hull) in
+    omega (arith, ints, low, block_ends v c before.next there.0 there.1 before.is_over, order.corrections, le)
 
 -- ---- a frame of the block
 
