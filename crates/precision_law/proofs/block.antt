@@ -3,6 +3,7 @@ pub mod Hulls
 pub mod Starts
 pub mod Goings
 pub mod Joins
+pub mod Corrections
 pub mod Brings
 pub mod Dispatched
 pub mod Coming

@@ -1,10 +1,5 @@
 -- The compression master of the sound channel sends one frame of the cycle, with all first masters.
 pub mod Senders
-pub mod Hearkens
 pub mod Aimed
-pub mod Fits
-pub mod Cycles
 pub mod Gathered
-pub mod Clustered
-pub mod Emerging
 pub mod SoundMaster

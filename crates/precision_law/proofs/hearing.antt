@@ -3,7 +3,6 @@ pub mod Hearings
 pub mod Timely
 pub mod InBlocks
 pub mod Heard
-pub mod Hearers
 pub mod GoodFrames
 pub mod Received
 pub mod Since

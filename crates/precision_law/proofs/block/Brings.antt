@@ -1,13 +1,11 @@
 -- What each instant of a block brings: by induction over the instants.
-use Rattle.precision_law.proofs.words.Std.{◌*◌, ◌+ℤ◌, ◌+◌, ◌-ℤ◌, ◌-◌, ◌<ℤ◌, ◌<◌, ◌∙◌, ◌≡◌, ◌≤ℤ◌, ◌≤◌, Bool, List, None, Option, Some, and_parts, ap, arith, by_lt_z, cases_lt, false, if◌then◌else◌, inl, inr, int_le, int_lt, ints, leb-true, mul-le-mul_right, nat_le, negsuc, option_and_then, option_map_or, pos, refl, subst, suc, sym, true, zero, ℕ, ℤ}
-use Rattle.precision_law.proofs.words.Plans.{A, B, Channel, Cleared, Corrected, DeviceId, HasVerdict, HeardFrame, Hearing, Integrating, IsAtIntegration, IsBestOf, IsMean, Joining, Masters, Standing, State, Summarizes, Summary, Units, Verdict, amount, best_on, correction_of, count_of, deviation_by, deviation_on, expected_at, mean_of, mean_of-floor, within_on}
-use Rattle.precision_law.proofs.words.Runs.{Happening, Integrates, IsCaused, IsIn, NoteBody, Within, adjustment_before, adjustment_with, changed_at, changes_adjustment, correction_value, cycle_in, earlier, expected_by, founded_at, had_come, has_cleared, heard_since, in_left, in_parts, integration_cycle, is_integration_cycle, is_joined_by, is_synchronised, is_turned_on_at, local_at_change, members_in, next_cycle, plan_of, recorded_cycle, same_some, standing_before, state_after, state_before, time_of}
-use Rattle.precision_law.proofs.words.Laws.{AreBeforeCorrections, BlockGoesSo, BlocksGoSo, ComesTo, CorrectsSo, DispatchesSo, HasTimeAt, HearsBy, Hull, IsAnchoredIn, IsDispatch, IsInBlock, IsInHull, IsNearHull, IsOldAt, IsPointOf, IsView, JoinsSo, ShowsIn, Stands, View, adjustment_left, cycle_set, epoch_time, first_correction, first_dispatch, has_time, hull_of, is_correction, last_dispatch, last_setting, next_of, setting, state_left}
-use Rattle.precision_law.proofs.words.Clocks.{IsHearingOf, adjustment_stays, before_of, best_is_heard, clocks_reach_sharply, earlier_before, hearing_of, in_hull, instants_are_in_order, int_le-is, joiner_waits, next_cycle_is_of_last, one_frame_sets, one_more, point_has_time, point_is, point_timed, reaches_whole, room, same_adjustment, same_cleared, same_device, same_next, set_clocks_show, setting_is, settings_stay, sizes_are, steady, synchronised_has_time, time_stays, two_frames_set, within_by}
-use Rattle.precision_law.proofs.words.Blocks.{FramesGoSo, HasDispatched, IsLate, IsOfBlock, IsSetInBlock, WentSo, before_narrow, block_ends, cleared_from, corrections_before, corrections_go_on, expected_is, expected_late, follows_before, has_dispatched, int_lt-is, joiner_integrates, joining_of_setting, joins, new_shows, of_block, old_number, old_shows, set_by_joining, set_shows}
-use Rattle.run_law.specs.declared.note.NoteBody.TheVariants as notes
-
--- ---- dispatches
+use Rattle.precision_law.proofs.words.Std.{◌*◌, ◌+ℤ◌, ◌+◌, ◌<ℤ◌, ◌<◌, ◌∙◌, ◌≡◌, ◌≤ℤ◌, ◌≤◌, Bool, List, None, Option, Some, ap, arith, by_lt_z, cases_lt, false, if◌then◌else◌, inl, inr, ints, mul-le-mul_right, negsuc, option_map_or, pos, refl, subst, suc, sym, true, zero, ℕ, ℤ}
+use Rattle.precision_law.proofs.words.Plans.{A, B, Channel, Cleared, Corrected, DeviceId, HasVerdict, Integrating, IsAtIntegration, Joining, Masters, Standing, State, Summary, Units, Verdict, amount, best_on, count_of, deviation_on}
+use Rattle.precision_law.proofs.words.Runs.{Happening, Integrates, IsIn, adjustment_with, correction_value, cycle_in, earlier, expected_by, has_cleared, integration_cycle, is_joined_by, is_synchronised, next_cycle, recorded_cycle, standing_before, state_after, state_before, time_of}
+use Rattle.precision_law.proofs.words.Laws.{BlockGoesSo, BlocksGoSo, ComesTo, CorrectsSo, DispatchesSo, HasTimeAt, Hull, IsDispatch, IsInBlock, IsInHull, IsOldAt, IsPointOf, IsView, JoinsSo, ShowsIn, View, adjustment_left, base_of, cycle_set, epoch_time, first_correction, has_time, hull_of, is_correction, last_setting, next_of, setting, state_left}
+use Rattle.precision_law.proofs.words.Clocks.{IsSetting, clocks_reach_sharply, earlier_before, in_hull, instants_are_in_order, joiner_waits, next_cycle_is_of_last, one_frame_sets, one_more, point_is, reaches_whole, room, same_next, setting_is, sizes_are, synchronised_has_time}
+use Rattle.precision_law.proofs.words.Blocks.{FramesGoSo, HasDispatched, HasPoint, IsSetInBlock, WentSo, before_narrow, block_ends, earlier_in_block, expected_is, expected_late, follows_before, good_hearing, has_corrected, has_dispatched, joiner_integrates, joining_of_setting, joins, late_from, members_by, near_hull, new_shows, not_turned_on_then, old_number, old_point, old_shows, set_shows}
+use Rattle.precision_law.proofs.block.Corrections.{corrects_by, is_by_frame}
 
 -- more cycles are longer
 longer : (c d length : ℕ) → c ≤ d → c * length ≤ d * length
@@ -24,370 +22,133 @@ past_correction v (suc c) t block shown is shows some =
     let order = instants_are_in_order v.sizes one.0 before.hull space one.2 (follows_before v c one.0 before.hull is one.1 before.is_hull) in
     omega (arith, ints, block_ends v c before.next one.0 one.1 before.is_over, order.last_not_early, block.from, shows.least, space.errors.reach_is)
 
--- it is not yet at the cycle behind the block's
-before_next_cycle : (v : View) (n t : ℕ) (block : IsInBlock v n t) (shown : ℤ) → IsView v → ShowsIn v.sizes shown n block.before.hull t
-    → shown <ℤ pos (suc (suc n) * v.sizes.cycle)
-before_next_cycle v n t block shown is shows =
-    let before = block.before in
-    let product : suc (suc n) * v.sizes.cycle ≡ n * v.sizes.cycle + 2 * v.sizes.cycle = omega arith in
-    omega (arith, ints, block_ends v n block.next before.hull before.is_hull block.is_over, block.to, shows.most, before_narrow v n before, product, room v is)
+module _ (v : View) (n t : ℕ) (block : IsInBlock v n t) (is : IsView v) where
+  -- ---- dispatches
 
--- nor is one that was set in the block
-new_before_next : (v : View) (n t : ℕ) (block : IsInBlock v n t) (hull : Hull) (shown : ℤ) → IsView v → hull_of v (suc n) ≡ Some hull
-    → ShowsIn v.sizes shown (suc n) hull t → shown <ℤ pos (suc (suc n) * v.sizes.cycle)
-new_before_next v n t block hull shown is is_hull shows =
-    let before = block.before in
-    let space = room v is in
-    let order = instants_are_in_order v.sizes before.hull hull space (before_narrow v n before) (follows_before v n _ _ is before.is_hull is_hull) in
-    let product : suc (suc n) * v.sizes.cycle ≡ suc n * v.sizes.cycle + v.sizes.cycle = omega arith in
-    omega (arith, ints, block_ends v n block.next before.hull before.is_hull block.is_over, block.to, order.last_not_late, shows.most, product, space)
+  -- it is not yet at the cycle behind the block's
+  before_next_cycle : (shown : ℤ) → ShowsIn v.sizes shown n block.before.hull t → shown <ℤ pos (suc (suc n) * v.sizes.cycle)
+  before_next_cycle shown shows =
+      let before = block.before in
+      let ends = block_ends v n block.next before.hull before.is_hull block.is_over in
+      let product : suc (suc n) * v.sizes.cycle ≡ n * v.sizes.cycle + 2 * v.sizes.cycle = omega arith in
+      omega (arith, ints, ends, block.to, shows.most, before_narrow v n before, product, room v is)
 
--- the cycle of a dispatch by an old clock
-old_cycle : (v : View) (n t cycle : ℕ) (block : IsInBlock v n t) (shown : ℤ) → IsView v → ShowsIn v.sizes shown n block.before.hull t → 1 ≤ cycle
-    → pos (cycle * v.sizes.cycle) ≤ℤ shown → shown ≤ℤ (pos (cycle * v.sizes.cycle) +ℤ pos (2 * v.sizes.grain)) → cycle ≡ suc n
-old_cycle v n t cycle block shown is shows begun least most =
-    let space = room v is in
-    let top = before_next_cycle v n t block shown is shows in
-    let at_most : cycle ≤ suc n = elim (cases_lt (suc n) cycle) [
-      | inr le ↦ le
-      | inl lt ↦ (let more = longer (suc (suc n)) cycle v.sizes.cycle (omega (arith, lt)) in absurd (omega (arith, ints, more, top, least)))
-    ] in
-    let at_least : suc n ≤ cycle = elim (cases_lt cycle (suc n)) [
-      | inr ge ↦ ge
-      | inl lt ↦
-          let past = past_correction v n t block shown is shows (omega (arith, lt, begun)) in
-          absurd (omega (arith, ints, past, longer cycle n v.sizes.cycle (omega (arith, lt)), most, space))
-    ] in
-    omega (arith, at_most, at_least)
+  -- nor is one that was set in the block
+  new_before_next : (hull : Hull) (shown : ℤ) → hull_of v (suc n) ≡ Some hull → ShowsIn v.sizes shown (suc n) hull t
+      → shown <ℤ pos (suc (suc n) * v.sizes.cycle)
+  new_before_next hull shown is_hull shows =
+      let before = block.before in
+      let space = room v is in
+      let order = instants_are_in_order v.sizes before.hull hull space (before_narrow v n before) (follows_before v n _ _ is before.is_hull is_hull) in
+      let product : suc (suc n) * v.sizes.cycle ≡ suc n * v.sizes.cycle + v.sizes.cycle = omega arith in
+      omega (arith, ints, block_ends v n block.next before.hull before.is_hull block.is_over, block.to, order.last_not_late, shows.most, product, space)
 
--- an old clock's dispatch lies where those of the block's cycle do
-old_dispatch : (v : View) (n t : ℕ) (block : IsInBlock v n t) (shown : ℤ) → IsView v → ShowsIn v.sizes shown n block.before.hull t
-    → pos (suc n * v.sizes.cycle) ≤ℤ shown → shown ≤ℤ (pos (suc n * v.sizes.cycle) +ℤ pos (2 * v.sizes.grain))
-    → (first_dispatch v.sizes block.before.hull ≤ℤ pos t) × (pos t ≤ℤ last_dispatch v.sizes block.before.hull)
-old_dispatch v n t block shown is shows least most =
-    let space = room v is in
-    let product : suc n * v.sizes.cycle ≡ n * v.sizes.cycle + v.sizes.cycle = omega arith in
-    (omega (arith, ints, shows.most, least, product, space.errors.reach_is), omega (arith, ints, shows.least, most, product, space.errors.reach_is))
+  -- the cycle of a dispatch by an old clock
+  old_cycle : (cycle : ℕ) (shown : ℤ) → ShowsIn v.sizes shown n block.before.hull t → 1 ≤ cycle → pos (cycle * v.sizes.cycle) ≤ℤ shown
+      → shown ≤ℤ (pos (cycle * v.sizes.cycle) +ℤ pos (2 * v.sizes.grain)) → cycle ≡ suc n
+  old_cycle cycle shown shows begun least most =
+      let top = before_next_cycle shown shows in
+      let at_most : cycle ≤ suc n = elim (cases_lt (suc n) cycle) [
+        | inr le ↦ le
+        | inl lt ↦ (let more = longer (suc (suc n)) cycle v.sizes.cycle (omega (arith, lt)) in absurd (omega (arith, ints, more, top, least)))
+      ] in
+      let at_least : suc n ≤ cycle = elim (cases_lt cycle (suc n)) [
+        | inr ge ↦ ge
+        | inl lt ↦
+            let past = past_correction v n t block shown is shows (omega (arith, lt, begun)) in
+            absurd (omega (arith, ints, past, longer cycle n v.sizes.cycle (omega (arith, lt)), most, room v is))
+      ] in
+      omega (arith, at_most, at_least)
 
--- a clock that was set in the block dispatches nothing
-new_dispatches_none : (v : View) (n t cycle : ℕ) (device : DeviceId) (block : IsInBlock v n t) → IsView v
-    → (set : IsSetInBlock v n t device (adjustment_left v device t))
-    → pos (cycle * v.sizes.cycle) ≤ℤ (pos (v.scenario.reading device t) +ℤ adjustment_left v device t)
-    → (pos (v.scenario.reading device t) +ℤ adjustment_left v device t) ≤ℤ (pos (cycle * v.sizes.cycle) +ℤ pos (2 * v.sizes.grain)) → ⊥
-new_dispatches_none v n t cycle device block is set least most =
-    let top = new_before_next v n t block _ _ is set.is_hull (set_shows v n t _ _ block is set) in
-    elim (cases_lt (suc n) cycle) [
-      | inl lt ↦ (let more = longer (suc (suc n)) cycle v.sizes.cycle (omega (arith, lt)) in omega (arith, ints, more, top, least))
-      | inr le ↦ (let less = longer cycle (suc n) v.sizes.cycle le in omega (arith, ints, less, set.ahead, most))
-    ]
+  -- a clock that was set in the block dispatches nothing
+  new_dispatches_none : (cycle : ℕ) (device : DeviceId) → HasDispatched v device cycle t → IsSetInBlock v n t device (adjustment_left v device t) → ⊥
+  new_dispatches_none cycle device has set =
+      let top = new_before_next _ _ set.is_hull (set_shows v n t _ _ block is set) in
+      elim (cases_lt (suc n) cycle) [
+        | inl lt ↦ (let more = longer (suc (suc n)) cycle v.sizes.cycle (omega (arith, lt)) in omega (arith, ints, more, top, has.least))
+        | inr le ↦ (let less = longer cycle (suc n) v.sizes.cycle le in omega (arith, ints, less, set.ahead, has.most))
+      ]
 
-dispatches_so : (v : View) (n t : ℕ) (block : IsInBlock v n t) → IsView v → WentSo v n block.before t → (h : Happening) (device : DeviceId) (cycle : ℕ)
-    → IsDispatch v h device cycle → time_of h ≡ t → DispatchesSo v n block.before.next t device cycle
-dispatches_so v n t block is went h device cycle dispatch at =
-    let before = block.before in
-    let shown = pos (v.scenario.reading device t) +ℤ adjustment_left v device t in
-    let has = subst (HasDispatched v device cycle) at (has_dispatched v h device cycle is dispatch) in
-    let timed : HasTimeAt v device t = record { good = dispatch.good; timed = synchronised_has_time (state_left v device t) has.synchronised } in
-    by_lt_z {P = DispatchesSo v n before.next t device cycle} (epoch_time (earlier t v.records) device) (pos before.next)
-    (λ old.
-    let shows = old_shows v n t t device block is (omega arith) timed old in
-    let same = old_cycle v n t cycle block shown is shows has.begun has.least has.most in
-    let least : pos (suc n * v.sizes.cycle) ≤ℤ shown = subst (λ (c : ℕ). pos (c * v.sizes.cycle) ≤ℤ shown) same has.least in
-    let where_is = old_dispatch v n t block _ is shows least (subst (λ (c : ℕ). shown ≤ℤ (pos (c * v.sizes.cycle) +ℤ pos (2 * v.sizes.grain))) same has.most) in
-    let inside = in_hull v n before.hull h device before.is_hull (subst (IsDispatch v h device) same dispatch)
-    (subst (λ (u : ℕ). first_dispatch v.sizes before.hull ≤ℤ pos u) (sym at) where_is.0)
-    (subst (λ (u : ℕ). pos u ≤ℤ last_dispatch v.sizes before.hull) (sym at) where_is.1) in
-    record { of_cycle = same; old = old; inside = subst (IsInHull v (suc n)) at inside })
-    (λ late. absurd (new_dispatches_none v n t cycle device block is (new_shows v n t t device block (λ w from lt. went w from lt) is (omega arith) timed
-    (last_setting (earlier t v.records) device) refl late) has.least has.most))
+  -- ---- correction points of old devices
 
--- ---- joinings
+  points_so : (device : DeviceId) (cycle : ℕ) (verdict : Verdict) → HasTimeAt v device t → IsOldAt v block.before.next device t
+      → ComesTo v t device cycle verdict → IsPointOf v n t block.before.hull cycle
+  points_so device cycle verdict has old comes =
+      let space = room v is in
+      let number = point_is (state_before v.scenario comes.front device t) (next_cycle v.scenario comes.front device t) cycle comes.point.next
+      ∙ same_next v device t comes.front comes.split ∙ old_number v n t device block.before is block.from has old in
+      let value = correction_value v.scenario.network cycle in
+      let sharp = clocks_reach_sharply v device value t is (reaches_whole v device value t comes.front comes.split comes.point.reached) in
+      let shows = old_shows v n t t device block is (omega arith) has old in
+      let sizes = sizes_are v is in
+      let product = ap (λ (x : ℕ). cycle * x) (sym (sizes_are v is).cycle) ∙ ap (λ (c : ℕ). c * v.sizes.cycle) number ∙ one_more n v.sizes.cycle in
+      record { of_cycle = number; not_early = omega (arith, ints); not_late = omega (arith, ints) }
 
-joins_so : FramesGoSo → (v : View) (n t : ℕ) (block : IsInBlock v n t) → IsView v → WentSo v n block.before t → (h : Happening) (device : DeviceId)
-    → IsIn h v.records → is_joined_by device h.note.body ≡ true → time_of h ≡ t → JoinsSo v n t block.before.hull device h
-joins_so laws v n t block is went h device i joined at =
-    let space = room v is in
-    let join = joins v h device is i joined in
-    let enough : 3 ≤ count_of (record { 0 = members_in h }) = omega (arith, (is.lawful.rules Masters 2).threshold_least refl, join.enough) in
-    let frame = of_block laws v n t block.before device join.channel join.point Integrates h is went tt join.hears enough (omega (arith, at))
-    (λ k w le is_w. (let early = corrections_before v n k block.before w is le is_w in omega (arith, ints, early, block.from, at))) in
-    let reading = v.scenario.reading device in
-    let expected = expected_by v.scenario.network device in
-    let anchored = one_frame_sets v.sizes reading frame.hull frame.base (time_of h) join.point expected (suc n) space frame.near frame.timely in
-    let adjusts : (adjustment_with v.scenario device (cycle_in h) (record { 0 = pos 0 }) h.note.body).0 ≡ setting v.sizes (suc n) expected join.point =
-    join.sets (record { 0 = pos 0 }) ∙ expected_is v device (cycle_in h) join.point is ∙ ap (λ (c : ℕ). setting v.sizes c expected join.point) frame.of_cycle in
-    let ahead : pos (suc n * v.sizes.cycle + 2 * v.sizes.grain) <ℤ (pos (reading (time_of h)) +ℤ setting v.sizes (suc n) expected join.point) =
-    omega (arith, ints, frame.timely.least, expected_late v device is, space) in
-    record {
-      of_cycle = frame.of_cycle;
-      enough = enough;
-      hull = frame.hull;
-      is_hull = frame.is_hull;
-      not_early = subst (λ (u : ℕ). frame.hull.least ≤ℤ pos u) at frame.not_early;
-      not_late = subst (λ (u : ℕ). pos u <ℤ first_correction v.sizes block.before.hull) at frame.not_late;
-      anchored =
-          subst (λ (u : ℕ). IsAnchoredIn v.sizes reading (adjustment_with v.scenario device (cycle_in h) (record { 0 = pos 0 }) h.note.body).0 (suc n)
-          frame.hull u) at (subst (λ (a : ℤ). IsAnchoredIn v.sizes reading a (suc n) frame.hull (time_of h)) (sym adjusts) anchored);
-      ahead =
-          subst (λ (u : ℕ).
-          pos (suc n * v.sizes.cycle + 2 * v.sizes.grain) <ℤ (pos (reading u)
-          +ℤ (adjustment_with v.scenario device (cycle_in h) (record { 0 = pos 0 }) h.note.body).0)) at
-          (subst (λ (a : ℤ). pos (suc n * v.sizes.cycle + 2 * v.sizes.grain) <ℤ (pos (reading (time_of h)) +ℤ a)) (sym adjusts) ahead);
-    }
+module _ (v : View) (n t : ℕ) (block : IsInBlock v n t) (is : IsView v) (went : WentSo v n block.before t) where
+  -- a clock that was not set before the block was set in it
+  set_within : (device : DeviceId) → HasTimeAt v device t → pos block.before.next ≤ℤ epoch_time (earlier t v.records) device
+      → IsSetInBlock v n t device (adjustment_left v device t)
+  set_within device has late =
+      new_shows v n t t device block (λ w from lt. went w from lt) is (omega arith) has (last_setting (earlier t v.records) device) refl late
 
--- ---- correction points of old devices
+  dispatches_so : (h : Happening) (device : DeviceId) (cycle : ℕ) → IsDispatch v h device cycle → time_of h ≡ t
+      → DispatchesSo v n block.before.next t device cycle
+  dispatches_so h device cycle dispatch at =
+      let before = block.before in
+      let shown = pos (v.scenario.reading device t) +ℤ adjustment_left v device t in
+      let has = subst (HasDispatched v device cycle) at (has_dispatched v h device cycle is dispatch) in
+      let timed : HasTimeAt v device t = record { good = dispatch.good; timed = synchronised_has_time (state_left v device t) has.synchronised } in
+      by_lt_z {P = DispatchesSo v n before.next t device cycle} (epoch_time (earlier t v.records) device) (pos before.next)
+      (λ old.
+      let shows = old_shows v n t t device block is (omega arith) timed old in
+      let same = old_cycle v n t block is cycle shown shows has.begun has.least has.most in
+      let product = ap (λ (c : ℕ). c * v.sizes.cycle) same ∙ one_more n v.sizes.cycle in
+      let errors = (room v is).errors in
+      let inside = in_hull v n before.hull h device before.is_hull (subst (IsDispatch v h device) same dispatch)
+      (omega (arith, ints, shows.most, has.least, product, errors.reach_is, at)) (omega (arith, ints, shows.least, has.most, product, errors.reach_is, at)) in
+      record { of_cycle = same; old = old; inside = subst (IsInHull v (suc n)) at inside })
+      (λ late. absurd (new_dispatches_none v n t block is cycle device has (set_within device timed late)))
 
-points_so : (v : View) (n t : ℕ) (block : IsInBlock v n t) → IsView v → (device : DeviceId) (cycle : ℕ) (verdict : Verdict) → HasTimeAt v device t
-    → IsOldAt v block.before.next device t → ComesTo v t device cycle verdict → IsPointOf v n t block.before.hull cycle
-points_so v n t block is device cycle verdict has old comes =
-    let space = room v is in
-    let number = point_is (state_before v.scenario comes.front device t) (next_cycle v.scenario comes.front device t) cycle comes.point.next
-    ∙ same_next v device t comes.front comes.split ∙ old_number v n t device block.before is block.from has old in
-    let value = correction_value v.scenario.network cycle in
-    let sharp = clocks_reach_sharply v device value t is (reaches_whole v device value t comes.front comes.split comes.point.reached) in
-    let shows = old_shows v n t t device block is (omega arith) has old in
-    let sizes = sizes_are v is in
-    let product = ap (λ (x : ℕ). cycle * x) (sym (sizes_are v is).cycle) ∙ ap (λ (c : ℕ). c * v.sizes.cycle) number ∙ one_more n v.sizes.cycle in
-    record { of_cycle = number; not_early = omega (arith, ints); not_late = omega (arith, ints) }
+  -- a good device joins by a frame of the block's cycle
+  joins_so : FramesGoSo → (h : Happening) (device : DeviceId) → IsIn h v.records → is_joined_by device h.note.body ≡ true → time_of h ≡ t
+      → JoinsSo v n t block.before.hull device h
+  joins_so laws h device i joined at =
+      let space = room v is in
+      let join = joins v h device is i joined in
+      let enough : 3 ≤ count_of (members_by h) = omega (arith, (is.lawful.rules Masters 2).threshold_least refl, join.enough) in
+      let to : time_of h ≤ t = omega (arith, at) in
+      let late = late_from v n (time_of h) block.before is (omega (arith, at, block.from)) in
+      let frame = good_hearing laws v n t block.before is went device join.channel join.point h to Integrates tt join.hears late
+      (λ e cm f. laws.three v e cm _ (members_by h) is f enough) in
+      let near = near_hull laws v n t block.before is went device join.channel join.point h to frame (inl enough) in
+      let reading = v.scenario.reading device in
+      let expected = expected_by v.scenario.network device in
+      let anchored = one_frame_sets v.sizes reading frame.hull (base_of v.sizes (time_of frame.emission)) (time_of h) join.point expected (suc n) space near
+      frame.timely in
+      let adjusts : (adjustment_with v.scenario device (cycle_in h) (record { 0 = pos 0 }) h.note.body).0 ≡ setting v.sizes (suc n) expected join.point =
+      join.sets (record { 0 = pos 0 }) ∙ expected_is v device (cycle_in h) join.point is
+      ∙ ap (λ (c : ℕ). setting v.sizes c expected join.point) frame.of_cycle in
+      let read : reading (time_of h) ≡ reading t = ap reading at in
+      record {
+        of_cycle = frame.of_cycle;
+        enough = enough;
+        hull = frame.hull;
+        is_hull = frame.is_hull;
+        not_early = subst (λ (u : ℕ). frame.hull.least ≤ℤ pos u) at frame.not_early;
+        not_late = subst (λ (u : ℕ). pos u <ℤ first_correction v.sizes block.before.hull) at frame.not_late;
+        anchored = record { least = omega (arith, ints, anchored.least, adjusts, read, at); most = omega (arith, ints, anchored.most, adjusts, read, at) };
+        ahead = omega (arith, ints, frame.timely.least, expected_late v device is, space, adjusts, read);
+      }
 
--- ---- how late an old device heard what it corrects by
-
--- a joiner's clock comes to its correction point after the first corrections of the cycle
-cleared_late : (v : View) (k t q : ℕ) (block : IsInBlock v (suc k) t) (device : DeviceId) → IsView v → HasTimeAt v device t
-    → IsOldAt v block.before.next device t → q ≤ t → (h : Happening) → last_setting (earlier t v.records) device ≡ Some h → is_correction h.note.body ≡ false
-    → has_cleared v.scenario v.records device t q ≡ true → (w : Hull) → hull_of v k ≡ Some w → first_correction v.sizes w ≤ℤ pos q
-cleared_late v k t q block device is has old le h e joined cleared w at_w =
-    let s = v.scenario in
-    let before = block.before in
-    let reading = s.reading device in
-    let space = room v is in
-    let set = before.clocks device (record { good = has.good; timed = time_stays v device before.next t is block.from old has.timed }) in
-    let last = settings_stay v device before.next t is block.from old in
-    let integrates = joiner_integrates (earlier t v.records) device h e (setting_is v device t h e).sets joined in
-    let index : cycle_in h ≡ suc k = sym (set_by_joining h h.note.body joined) ∙ ap (λ (x : Option Happening). option_map_or (λ g. cycle_set g g.note.body) x 0)
-    (sym e) ∙ ap (λ (x : Option Happening). option_map_or (λ g. cycle_set g g.note.body) x 0) (sym last) ∙ set.index in
-    let recorded : recorded_cycle (earlier t v.records) device ≡ suc k = integrates.1 ∙ index in
-    let value = correction_value s.network (recorded_cycle (earlier t v.records) device) in
-    let come = (and_parts (is_integration_cycle (earlier t v.records) device) (had_come s v.records device value t q) cleared).1 in
-    let both = and_parts (int_lt (local_at_change s v.records device t) value)
-    (int_le value (pos (reading (q - 1)) +ℤ (adjustment_before s v.records device t).0)) come in
-    let below = int_lt-is (local_at_change s v.records device t) value both.0 in
-    let above = int_le-is value (pos (reading (q - 1)) +ℤ (adjustment_before s v.records device t).0) both.1 in
-    let same_time : changed_at v.records device before.next ≡ changed_at v.records device t = ap (λ (o : Option Happening). option_map_or time_of o 0) last in
-    let same_a = ap (λ (a : Units). a.0) (adjustment_stays v device before.next t is block.from old) in
-    let behind : changed_at v.records device t < q - 1 = elim (cases_lt (changed_at v.records device t) (q - 1)) [
-      | inl lt ↦ lt
-      | inr ge ↦ (let up = (steady v is device).never_falls (q - 1) (changed_at v.records device t) ge in absurd (omega (arith, ints, up, below, above)))
-    ] in
-    let shows = set_clocks_show v.sizes reading (adjustment_left v device t) (suc k) before.hull set.set_at (q - 1) (steady v is device)
-    (omega arith) (omega (arith, ints, block_ends v (suc k) block.next _ before.is_hull block.is_over, before_narrow v _ before))
-    (subst (λ (a : ℤ). IsAnchoredIn v.sizes reading a (suc k) before.hull set.set_at) same_a set.anchored) in
-    let sizec = (sizes_are v is).correction in
-    let product = ap (λ (x : ℕ). recorded_cycle (earlier t v.records) device * x) (sym (sizes_are v is).cycle) ∙ ap (λ (c : ℕ). c * v.sizes.cycle) recorded in
-    omega (arith, ints, shows.most, above, product, sizec, (follows_before v k w before.hull is at_w before.is_hull).least, space.errors.reach_is, behind)
-
--- what an old device heard since its last correction point came behind the first corrections of the cycle before
-pub heard_late : (v : View) (n t : ℕ) (block : IsInBlock v n t) (device : DeviceId) (front : List Happening) (hearing : Hearing) → IsView v
-    → HasTimeAt v device t → IsOldAt v block.before.next device t → (split : AreBeforeCorrections v t front) → (heard : IsHearingOf v device t front hearing)
-    → IsLate v n (time_of heard.h)
-heard_late v zero t block device front hearing is has old split heard k w le at = absurd (omega (arith, le))
-heard_late v (suc c) t block device front hearing is has old split heard k w le at =
-    let before = block.before in
-    let there = before.narrow c (omega arith) in
-    let gap : k + (c - k) ≡ c = omega (arith, le) in
-    let late = by v c t block device front is has old split heard.h heard.since heard.cleared (split.only heard.h heard.there) there.0 there.1
-    (last_setting (earlier t v.records) device) refl in
-    omega (arith, ints, corrections_go_on v _ k (c - k) before w _ is (omega arith) at (subst (λ (x : ℕ). hull_of v x ≡ Some there.0) (sym gap) there.1), late)
-  where
-    by : (v : View) (c t : ℕ) (block : IsInBlock v (suc c) t) (device : DeviceId) (front : List Happening) → IsView v → HasTimeAt v device t
-        → IsOldAt v block.before.next device t → (split : AreBeforeCorrections v t front) → (h : Happening)
-        → ((x : Happening) → IsIn x front → time_of x < t → changes_adjustment device x.note.body ≡ true → time_of x ≤ time_of h)
-        → (has_cleared v.scenario front device t t ≡ true → has_cleared v.scenario front device t (time_of h) ≡ true) → time_of h ≤ t
-        → (w : Hull) → hull_of v c ≡ Some w → (o : Option Happening) → last_setting (earlier t v.records) device ≡ o
-        → first_correction v.sizes w ≤ℤ pos (time_of h)
-    by v c t block device front is has old split h since cleared le w at_w None e =
-        let set = block.before.clocks device (record { good = has.good; timed = time_stays v device block.before.next t is block.from old has.timed }) in
-        let last = settings_stay v device block.before.next t is block.from old in
-        let index : 0 ≡ suc c = ap (λ (x : Option Happening). option_map_or (λ g. cycle_set g g.note.body) x 0) (sym (last ∙ e)) ∙ set.index in
-        absurd (omega (arith, index))
-    by v c t block device front is has old split h since cleared le w at_w (Some x) e =
-        let before = block.before in
-        let had = before.points w c refl at_w device (record { good = has.good; timed = time_stays v device before.next t is block.from old has.timed }) in
-        let last = settings_stay v device before.next t is block.from old in
-        let here = setting_is v device t x e in
-        let in_front : IsIn x front = elim (in_parts x front split.rest (subst (IsIn x) split.whole here.there)) [
-          | inl f ↦ f
-          | inr r ↦ (let wrong = split.later x r in absurd (omega (arith, wrong, here.early)))
-        ] in
-        elim had.how [
-          | inl corrected ↦
-              let time = ap (λ (o : Option Happening). option_map_or (λ g. pos (time_of g)) o (negsuc 0)) (last ∙ e) in
-              omega (arith, ints, corrected.1, time, since x in_front here.early here.sets)
-          | inr joined ↦
-              let not_corrected = sym (ap (λ (o : Option Happening). option_map_or (λ g. is_correction g.note.body) o false) (last ∙ e)) ∙ joined.0 in
-              let integrates = joiner_integrates (earlier t v.records) device x e here.sets not_corrected in
-              let then_cleared = cleared
-              (same_cleared v device t t _ split ∙ cleared_from v device before.next t t is block.from block.from old integrates.0 joined.1) in
-              cleared_late v c t (time_of h) block _ is has old le x e not_corrected (sym (same_cleared v device t (time_of h) _ split) ∙ then_cleared) w at_w
-        ]
-
--- ---- corrections of old devices
-
--- what a channel contributes to a correction: nothing, or the deviation by a frame of the block
-record HasDeviation (v : View) (n t : ℕ) (before : Stands v n) (device : DeviceId) (adjustment : ℤ) (dev : Units) : Type 0 where
-  pub h : Happening
-  pub point : ℤ
-  pub frame : IsOfBlock v n before device point h
-  pub by_then : time_of h ≤ t
-  pub is : dev.0 ≡ (setting v.sizes (suc n) (expected_by v.scenario.network device) point -ℤ adjustment)
-
-deviation_if : (b : Bool) (x dev : Units) → (if b then Some x else None) ≡ Some dev → (b ≡ true) × (x ≡ dev)
-deviation_if true x dev e = (refl, cc)
-deviation_if false x dev e = absurd cc
-
--- the deviation of a channel, where it is there: that of a frame of three members or more that was heard within
-pub record IsShown (v : View) (n t : ℕ) (device : DeviceId) (channel : Channel) (adjustment : ℤ) (dev : Units) : Type 0 where
-  pub h : Happening
-  pub point : ℤ
-  pub hears : HearsBy v device channel point Within h
-  pub enough : 3 ≤ count_of (record { 0 = members_in h })
-  pub by_then : time_of h ≤ t
-  pub late : IsLate v n (time_of h)
-  pub is : dev.0 ≡ (setting v.sizes (suc n) (expected_by v.scenario.network device) point -ℤ adjustment)
-
-pub channel_shows : (v : View) (n t : ℕ) (block : IsInBlock v n t) (device : DeviceId) (front : List Happening) (summary : Summary) (channel : Channel)
-    (dev : Units) → IsView v → HasTimeAt v device t → IsOldAt v block.before.next device t → AreBeforeCorrections v t front
-    → Summarizes summary (heard_since v.scenario front device t) → (o : Option HeardFrame) → best_on channel summary ≡ o
-    → option_and_then (λ frame. if nat_le v.scenario.network.sync_threshold (count_of frame.members)
-    then Some (deviation_by (standing_before v.scenario front device t) frame) else None) o ≡ Some dev
-    → IsShown v n t device channel (adjustment_left v device t) dev
-channel_shows v n t block device front summary channel dev is has old split sums None best e = absurd cc
-channel_shows v n t block device front summary channel dev is has old split sums (Some frame) best e =
-    let s = v.scenario in
-    let both = deviation_if (nat_le s.network.sync_threshold (count_of frame.members)) (deviation_by (standing_before s front device t) frame) dev e in
-    let is_best = subst (IsBestOf (heard_since s front device t) channel) best (sums.best channel) in
-    let heard = hearing_of v device t front (within_on channel frame) is split (best_is_heard (heard_since s front device t) channel frame is_best) in
-    let in_all : IsIn heard.h v.records = subst (IsIn heard.h) (sym split.whole) (in_left heard.h front split.rest heard.there) in
-    let hears = within_by v device channel frame heard.h heard.h.note.body in_all refl heard.shows in
-    let members : count_of frame.members ≡ count_of (record { 0 = members_in heard.h }) = ap (λ (m : ℕ). count_of (record { 0 = m })) (sym hears.members) in
-    let number : next_cycle s front device t ≡ suc n = same_next v device t front split ∙ old_number v n t device block.before is block.from has old in
-    let left : (adjustment_before s front device t).0 ≡ adjustment_left v device t = ap (λ (a : Units). a.0) (same_adjustment v device t front split) in
-    let shown = ap (λ (u : Units). u.0) (sym both.1) in
-    let moved = ap (λ (c : ℕ). expected_at (plan_of s.network device) c -ℤ frame.point.0) number ∙ expected_is v device (suc n) frame.point.0 is in
-    record {
-      h = heard.h;
-      point = frame.point.0;
-      hears = hears.hears;
-      enough = omega (arith, (is.lawful.rules Masters 2).threshold_least refl, leb-true s.network.sync_threshold (count_of frame.members) both.0, members);
-      by_then = split.only heard.h heard.there;
-      late = heard_late v n t block device front (within_on channel frame) is has old split heard;
-      is =
-          shown ∙ ap (λ (z : ℤ). z -ℤ (adjustment_before s front device t).0) moved
-          ∙ ap (λ (a : ℤ). setting v.sizes (suc n) (expected_by s.network device) frame.point.0 -ℤ a) left;
-    }
-
--- it is a frame of the block
-channel_deviates : FramesGoSo → (v : View) (n t : ℕ) (block : IsInBlock v n t) (device : DeviceId) (front : List Happening) (summary : Summary)
-    (channel : Channel) (dev : Units) → IsView v → WentSo v n block.before t → HasTimeAt v device t → IsOldAt v block.before.next device t
-    → AreBeforeCorrections v t front → Summarizes summary (heard_since v.scenario front device t) → (o : Option HeardFrame) → best_on channel summary ≡ o
-    → option_and_then (λ frame. if nat_le v.scenario.network.sync_threshold (count_of frame.members)
-    then Some (deviation_by (standing_before v.scenario front device t) frame) else None) o ≡ Some dev
-    → HasDeviation v n t block.before device (adjustment_left v device t) dev
-channel_deviates laws v n t block device front summary channel dev is went has old split sums o best e =
-    let shown = channel_shows v n t block device front summary channel dev is has old split sums o best e in
-    record {
-      h = shown.h;
-      point = shown.point;
-      frame = of_block laws v n t block.before device channel shown.point Within shown.h is went tt shown.hears shown.enough shown.by_then shown.late;
-      by_then = shown.by_then;
-      is = shown.is;
-    }
-
--- the clock that a correction by one frame sets
-one_corrects : (v : View) (n t : ℕ) (block : IsInBlock v n t) (device : DeviceId) (by : Units) → IsView v
-    → HasDeviation v n t block.before device (adjustment_left v device t) by → CorrectsSo v n t device by
-one_corrects v n t block device by is dev =
-    let f = dev.frame in
-    let reading = v.scenario.reading device in
-    let expected = expected_by v.scenario.network device in
-    let sum : setting v.sizes (suc n) expected dev.point ≡ (adjustment_left v device t +ℤ by.0) = omega (arith, ints, dev.is) in
-    record {
-      hull = f.hull;
-      is_hull = f.is_hull;
-      set_at = time_of dev.h;
-      not_before = f.not_early;
-      not_behind = dev.by_then;
-      anchored =
-          subst (λ (a : ℤ). IsAnchoredIn v.sizes reading a (suc n) f.hull (time_of dev.h)) sum
-          (one_frame_sets v.sizes reading f.hull f.base (time_of dev.h) dev.point expected (suc n) (room v is) f.near f.timely);
-    }
-
--- the mean of two deviations gives the mean of the settings
-pub mean_sum : (a x y dx dy m : ℤ) → IsMean dx dy m → IsMean x y (mean_of x y) → dx ≡ (x -ℤ a) → dy ≡ (y -ℤ a) → mean_of x y ≡ (a +ℤ m)
-mean_sum a x y dx dy m one other is_x is_y = omega (arith, ints, one, other, is_x, is_y)
-
--- the clock that a correction by two frames sets, the one heard first being given first
-two_correct : (v : View) (n t : ℕ) (block : IsInBlock v n t) (device : DeviceId) (a b by : Units) → IsView v
-    → (x : HasDeviation v n t block.before device (adjustment_left v device t) a) → (y : HasDeviation v n t block.before device (adjustment_left v device t) b)
-    → time_of x.h ≤ time_of y.h → IsMean a.0 b.0 by.0 → CorrectsSo v n t device by
-two_correct v n t block device a b by is x y le mean =
-    let f = x.frame in
-    let g = y.frame in
-    let reading = v.scenario.reading device in
-    let expected = expected_by v.scenario.network device in
-    let first = setting v.sizes (suc n) expected x.point in
-    let second = setting v.sizes (suc n) expected y.point in
-    let same : g.hull ≡ f.hull = same_some (hull_of v (suc n)) g.hull f.hull g.is_hull f.is_hull in
-    let near : IsNearHull v.sizes f.hull g.base = subst (λ (w : Hull). IsNearHull v.sizes w g.base) same g.near in
-    let space = room v is in
-    let order = instants_are_in_order v.sizes block.before.hull f.hull space (before_narrow v n block.before)
-    (follows_before v n block.before.hull f.hull is block.before.is_hull f.is_hull) in
-    let within : time_of y.h ≤ time_of x.h + 2 * v.sizes.cycle =
-    (omega (arith, ints, g.not_late, f.not_early, order, space)) in
-    let sum = mean_sum (adjustment_left v device t) first second a.0 b.0 by.0 mean (mean_of-floor first second) x.is y.is in
-    record {
-      hull = f.hull;
-      is_hull = f.is_hull;
-      set_at = time_of y.h;
-      not_before = subst (λ (w : Hull). w.least ≤ℤ pos (time_of y.h)) same g.not_early;
-      not_behind = y.by_then;
-      anchored =
-          subst (λ (z : ℤ). IsAnchoredIn v.sizes reading z (suc n) f.hull (time_of y.h)) sum
-          (two_frames_set v.sizes reading f.hull f.base g.base (time_of x.h) (time_of y.h) x.point y.point expected (suc n) space (steady v is device) le within
-          f.near near f.timely g.timely);
-    }
-
--- a mean of two is one of them turned
-pub mean_turned : (a b m : ℤ) → IsMean a b m → IsMean b a m
-mean_turned a b m mean = record { least = omega (arith, ints, mean.least); most = omega (arith, ints, mean.most) }
-
-corrects_by : (v : View) (n t : ℕ) (block : IsInBlock v n t) (device : DeviceId) (by : Units) (a b : Option Units) → IsView v
-    → ((dev : Units) → a ≡ Some dev → HasDeviation v n t block.before device (adjustment_left v device t) dev)
-    → ((dev : Units) → b ≡ Some dev → HasDeviation v n t block.before device (adjustment_left v device t) dev) → correction_of a b ≡ Some by
-    → CorrectsSo v n t device by
-corrects_by v n t block device by None None is one other e = absurd cc
-corrects_by v n t block device by (Some a) None is one other e =
-    (let same : a ≡ by = cc in one_corrects v n t block _ by is (subst (HasDeviation v n t block.before device (adjustment_left v device t)) same (one a refl)))
-corrects_by v n t block device by None (Some b) is one other e =
-    (let same : b ≡ by = cc in one_corrects v n t block device by is
-    (subst (HasDeviation v n t block.before device (adjustment_left v device t)) same (other b refl)))
-corrects_by v n t block device by (Some a) (Some b) is one other e =
-    let x = one a refl in
-    let y = other b refl in
-    let mean = subst (IsMean a.0 b.0) (ap (λ (o : Option Units). option_map_or (λ u. u.0) o (pos 0)) e) (mean_of-floor a.0 b.0) in
-    elim (cases_lt (time_of y.h) (time_of x.h)) [
-      | inr le ↦ two_correct v n t block device a b by is x y le mean
-      | inl lt ↦ two_correct v n t block device b a by is y x (omega (arith, lt)) (mean_turned a.0 b.0 by.0 mean)
-    ]
-
-corrects_so : FramesGoSo → (v : View) (n t : ℕ) (block : IsInBlock v n t) → IsView v → WentSo v n block.before t → (device : DeviceId) (cycle : ℕ) (by : Units)
-    → HasTimeAt v device t → IsOldAt v block.before.next device t → ComesTo v t device cycle (Corrected by) → CorrectsSo v n t device by
-corrects_so laws v n t block is went device cycle by has old comes =
-    let summary = comes.point.summary in
-    let standing = standing_before v.scenario comes.front device t in
-    corrects_by v n t block device by (deviation_on standing summary A) (deviation_on standing summary B) is
-    (λ dev e. channel_deviates laws v n t block _ _ _ A dev is went has old comes.split comes.point.heard (best_on A summary) refl e)
-    (λ dev e. channel_deviates laws v n t block _ _ _ B dev is went has old comes.split comes.point.heard (best_on B summary) refl e) comes.point.comes.3
+  -- the frames of the block correct an old device
+  corrects_so : FramesGoSo → (device : DeviceId) (cycle : ℕ) (by : Units) → HasTimeAt v device t → IsOldAt v block.before.next device t
+      → ComesTo v t device cycle (Corrected by) → CorrectsSo v n t device by
+  corrects_so laws device cycle by has old comes =
+      let summary = comes.point.summary in
+      let stand = standing_before v.scenario comes.front device t in
+      let frame = λ (channel : Channel) (dev : Units). is_by_frame laws v n t block device is went has old comes.front summary comes.split comes.point.heard
+      channel dev (best_on channel summary) refl in
+      corrects_by v n t block.before is device A B by (deviation_on stand summary A) (deviation_on stand summary B) (frame A) (frame B) comes.point.comes.3
 
 -- ---- devices whose clocks were set in the block
 
@@ -401,97 +162,76 @@ joining_is : (state : State) → has_time state ≡ true → is_synchronised sta
 joining_is Joining e other = refl
 joining_is state e other = absurd cc
 
--- a device with the time was not just turned on
-turned_on_not : (b : Bool) (state : State) → has_time (if b then Integrating else state) ≡ true → (if b then Integrating else state) ≡ state
-turned_on_not true state e = absurd cc
-turned_on_not false state e = refl
+module _ (v : View) (n t : ℕ) (block : IsInBlock v n t) (is : IsView v) (went : WentSo v n block.before t) (device : DeviceId) (cycle : ℕ)
+    (verdict : Verdict) (p : HasPoint v t device cycle verdict) where
+  -- the correction number of one whose clock a record of the block corrected, or told the time
+  number_late : (o : Option Happening) → last_setting (earlier t v.records) device ≡ o
+      → pos block.before.next ≤ℤ option_map_or (λ h. pos (time_of h)) o (negsuc 0) → suc (suc n) ≤ next_cycle v.scenario p.comes.front device t
+  number_late None e late = absurd (omega (arith, ints, late))
+  number_late (Some h) e late = by (is_correction h.note.body) refl (has_cleared v.scenario v.records device t t) refl
+    where
+      recorded : ℕ
+      recorded = recorded_cycle (earlier t v.records) device
 
--- the correction number of a device whose clock a record of the block corrected, or told the time
-record NumberIsLate (v : View) (n t : ℕ) (device : DeviceId) (front : List Happening) (verdict : Verdict) : Type 0 where
-  pub late : suc (suc n) ≤ next_cycle v.scenario front device t
+      set : IsSetting v device t h
+      set = setting_is v device t h e
 
-number_late : FramesGoSo → (v : View) (n t : ℕ) (block : IsInBlock v n t) (device : DeviceId) (cycle : ℕ) (verdict : Verdict) → IsView v
-    → WentSo v n block.before t → HasTimeAt v device t → (comes : ComesTo v t device cycle verdict) → (verdict ≡ Cleared → ⊥) → (o : Option Happening)
-    → last_setting (earlier t v.records) device ≡ o → pos block.before.next ≤ℤ option_map_or (λ h. pos (time_of h)) o (negsuc 0)
-    → NumberIsLate v n t device comes.front verdict
-number_late laws v n t block device cycle verdict is went has comes not_cleared None e late = absurd (omega (arith, ints, late))
-number_late laws v n t block device cycle verdict is went has comes not_cleared (Some h) e late =
-    by (is_correction h.note.body) refl
-  where
-    by : (b : Bool) → is_correction h.note.body ≡ b → NumberIsLate v n t device comes.front verdict
-    by true corrected =
-        let setting_h = setting_is v device t h e in
-        let found = founded_at v.scenario v.records h is.run.founded setting_h.there in
-        let c = correction_body v device h.note.body setting_h.sets corrected in
-        let cause = subst (IsCaused v.scenario found.front h.note.time) c.3 found.due.cause in
-        let split = before_of v h is found in
-        let then_has : HasTimeAt v device (time_of h) = record {
-          good = has.good;
-          timed = point_timed v (time_of h) device c.0 (Corrected c.1) found.front split cause.corrected;
-        } in
-        let then_comes : ComesTo v (time_of h) device c.0 (Corrected c.1) = record { front = found.front; split = split; point = cause.corrected } in
-        let so = went (time_of h) (omega (arith, ints, late)) setting_h.early in
-        let old = so.old_alone device c.0 (Corrected c.1) then_has then_comes (λ z. cc) in
-        let of_cycle = (so.points device c.0 (Corrected c.1) then_has old then_comes).of_cycle in
-        let shown : recorded_cycle (earlier t v.records) device ≡ cycle_set h h.note.body + 1 = next_cycle_is_of_last (earlier t v.records) device
-        ∙ ap next_of e ∙ ap (λ (b : Bool). if b then cycle_set h h.note.body + 1 else cycle_set h h.note.body) corrected in
-        record {
-          late = at_least (has_cleared v.scenario v.records device t t) (recorded_cycle (earlier t v.records) device) (suc (suc n))
-              (next_cycle v.scenario comes.front device t) (omega (arith, shown, ap (cycle_set h) c.3, of_cycle)) (same_next v device t _ comes.split);
-        }
-      where
-        at_least : (b : Bool) (recorded least next : ℕ) → least ≤ recorded → next ≡ (if b then recorded + 1 else recorded) → least ≤ next
-        at_least true recorded least next le same = omega (arith, le, same)
-        at_least false recorded least next le same = omega (arith, le, same)
+      so : BlockGoesSo v n block.before.next (time_of h) block.before.hull
+      so = went (time_of h) (omega (arith, ints, late)) set.early
 
-        correction_body : (v : View) (device : DeviceId) (body : NoteBody) → changes_adjustment device body ≡ true → is_correction body ≡ true → (cycle : ℕ)
-            × (by : Units) × (adjustment : Units) × (body ≡ notes.Corrected device cycle by adjustment)
-        correction_body v device (notes.Corrected other cycle by adjustment) changes e =
-            (cycle, by, adjustment, ap (λ (d : DeviceId). notes.Corrected d cycle by adjustment) (same_device device other changes))
-        correction_body v device body changes e = absurd cc
-    by false joined =
-        let setting_h = setting_is v device t h e in
-        let integrates = joiner_integrates (earlier t v.records) device h e setting_h.sets joined in
-        let joins_it = joining_of_setting device h.note.body setting_h.sets joined in
-        let so = (went (time_of h) (omega (arith, ints, late)) setting_h.early).joins h device setting_h.there joins_it has.good refl in
-        record { late = waits (has_cleared v.scenario v.records device t t) refl (integrates.1 ∙ so.of_cycle) (same_next v device t comes.front comes.split) }
-      where
-        waits : (b : Bool) → has_cleared v.scenario v.records device t t ≡ b → recorded_cycle (earlier t v.records) device ≡ suc n
-            → next_cycle v.scenario comes.front device t ≡ next_cycle v.scenario v.records device t → suc (suc n) ≤ next_cycle v.scenario comes.front device t
-        waits true c recorded same =
-            let shown = ap (λ (b : Bool). if b then recorded_cycle (earlier t v.records) device + 1 else recorded_cycle (earlier t v.records) device) c in
-            omega (arith, same, shown, recorded)
-        waits false c recorded same =
-            let s = v.scenario in
-            let setting_h = setting_is v device t h e in
-            let integrates = joiner_integrates (earlier t v.records) device h e setting_h.sets joined in
-            let joins_it = joining_of_setting device h.note.body setting_h.sets joined in
-            let shown = ap (λ (b : Bool). if b then recorded_cycle (earlier t v.records) device + 1 else recorded_cycle (earlier t v.records) device) c in
-            let es = earlier_before v t comes.front comes.split in
-            let timed = point_has_time (state_before s comes.front device t) (next_cycle s comes.front device t) cycle comes.point.next in
-            let same_state : state_before s comes.front device t ≡ state_left v device t = turned_on_not (is_turned_on_at s device t)
-            (state_after s (earlier t comes.front) device) timed ∙ ap (λ (hs : List Happening). state_after s hs device) es in
-            let joining : state_left v device t ≡ Joining = joining_is (state_left v device t) has.timed (joiner_waits v device t h is e joins_it) in
-            let number : integration_cycle (earlier t comes.front) device ≡ Some (next_cycle s comes.front device t) =
-            ap (λ (hs : List Happening). integration_cycle hs device) es ∙ integrates.2 ∙ ap (λ (x : ℕ). Some x) (sym integrates.1 ∙ sym shown ∙ sym same) in
-            absurd (verdict_regular _ _ _ comes.point.comes not_cleared (record { joining = same_state ∙ joining; cycle = number }))
+      next : (c : Bool) → has_cleared v.scenario v.records device t t ≡ c
+          → next_cycle v.scenario p.comes.front device t ≡ (if c then recorded + 1 else recorded)
+      next c clears = same_next v device t p.comes.front p.comes.split ∙ ap (λ (x : Bool). if x then recorded + 1 else recorded) clears
 
--- such a device comes to no correction point in the block
-old_alone_so : FramesGoSo → (v : View) (n t : ℕ) (block : IsInBlock v n t) → IsView v → WentSo v n block.before t
-    → (device : DeviceId) (cycle : ℕ) (verdict : Verdict) → HasTimeAt v device t → ComesTo v t device cycle verdict → (verdict ≡ Cleared → ⊥)
-    → IsOldAt v block.before.next device t
-old_alone_so laws v n t block is went device cycle verdict has comes not_cleared =
-    let s = v.scenario in
-    by_lt_z {P = IsOldAt v block.before.next device t} (epoch_time (earlier t v.records) device) (pos block.before.next) (λ old. old) (λ late.
-    let set = new_shows v n t t device block (λ w from lt. went w from lt) is (omega arith) has (last_setting (earlier t v.records) device) refl late in
-    let shows = set_shows v n t device (adjustment_left v device t) block is set in
-    let top = new_before_next v n t block set.hull (pos (s.reading device t) +ℤ adjustment_left v device t) is set.is_hull shows in
-    let number = number_late laws v n t block device cycle verdict is went has comes not_cleared (last_setting (earlier t v.records) device) refl late in
-    let same = point_is (state_before s comes.front device t) (next_cycle s comes.front device t) cycle comes.point.next in
-    let value = correction_value s.network cycle in
-    let sharp = clocks_reach_sharply v device value t is (reaches_whole v device value t comes.front comes.split comes.point.reached) in
-    let product : cycle * amount s.network.cycle ≡ cycle * v.sizes.cycle = ap (λ (x : ℕ). cycle * x) (sym (sizes_are v is).cycle) in
-    absurd (omega (arith, ints, top, sharp.least, product, longer (suc (suc n)) cycle v.sizes.cycle (omega (arith, same, number.late)))))
+      at_least : (c : Bool) (r : ℕ) → r ≤ (if c then r + 1 else r)
+      at_least true r = omega arith
+      at_least false r = omega arith
+
+      by : (b : Bool) → is_correction h.note.body ≡ b → (c : Bool) → has_cleared v.scenario v.records device t t ≡ c
+          → suc (suc n) ≤ next_cycle v.scenario p.comes.front device t
+      by true corrected c clears =
+          let here = has_corrected v device h is p.has.good set.there set.sets corrected in
+          let of_cycle = (old_point v n _ _ _ device here.cycle (Corrected here.by) so here.point).1.of_cycle in
+          let shown = next_cycle_is_of_last (earlier t v.records) device ∙ ap next_of e
+          ∙ ap (λ (b : Bool). if b then cycle_set h h.note.body + 1 else cycle_set h h.note.body) corrected in
+          omega (arith, next c clears, at_least c recorded, shown, ap (cycle_set h) here.is, of_cycle)
+      by false joined c clears =
+          let integrates = joiner_integrates (earlier t v.records) device h e set.sets joined in
+          let joins_it = joining_of_setting device h.note.body set.sets joined in
+          let of_cycle = (so.joins h device set.there joins_it p.has.good refl).of_cycle in
+          waits c clears joins_it integrates.1 integrates.2 of_cycle
+        where
+          waits : (c : Bool) → has_cleared v.scenario v.records device t t ≡ c → is_joined_by device h.note.body ≡ true → recorded ≡ cycle_in h
+              → integration_cycle (earlier t v.records) device ≡ Some (cycle_in h) → cycle_in h ≡ suc n
+              → suc (suc n) ≤ next_cycle v.scenario p.comes.front device t
+          waits true clears joins_it recorded_is integrates of_cycle = omega (arith, next true clears, recorded_is, of_cycle)
+          waits false clears joins_it recorded_is integrates of_cycle =
+              let s = v.scenario in
+              let front = p.comes.front in
+              let es = earlier_before v t front p.comes.split in
+              let same_state : state_before s front device t ≡ state_left v device t =
+              ap (λ (b : Bool). if b then Integrating else state_after s (earlier t front) device) (not_turned_on_then v device t is p.has.timed)
+              ∙ ap (λ (hs : List Happening). state_after s hs device) es in
+              let joining : state_left v device t ≡ Joining = joining_is (state_left v device t) p.has.timed (joiner_waits v device t h is e joins_it) in
+              let number : integration_cycle (earlier t front) device ≡ Some (next_cycle s front device t) =
+              ap (λ (hs : List Happening). integration_cycle hs device) es ∙ integrates
+              ∙ ap (λ (x : ℕ). Some x) (sym recorded_is ∙ sym (next false clears)) in
+              absurd (verdict_regular _ _ _ p.comes.point.comes p.not_cleared (record { joining = same_state ∙ joining; cycle = number }))
+
+  -- such a device comes to no correction point in the block
+  old_alone_so : IsOldAt v block.before.next device t
+  old_alone_so =
+      by_lt_z {P = IsOldAt v block.before.next device t} (epoch_time (earlier t v.records) device) (pos block.before.next) (λ old. old) (λ late.
+      let s = v.scenario in
+      let front = p.comes.front in
+      let set = set_within v n t block is went device p.has late in
+      let top = new_before_next v n t block is set.hull _ set.is_hull (set_shows v n t device (adjustment_left v device t) block is set) in
+      let number = number_late (last_setting (earlier t v.records) device) refl late in
+      let same = point_is (state_before s front device t) (next_cycle s front device t) cycle p.comes.point.next in
+      let value = correction_value s.network cycle in
+      let sharp = clocks_reach_sharply v device value t is (reaches_whole v device value t front p.comes.split p.comes.point.reached) in
+      let product : cycle * amount s.network.cycle ≡ cycle * v.sizes.cycle = ap (λ (x : ℕ). cycle * x) (sym (sizes_are v is).cycle) in
+      absurd (omega (arith, ints, top, sharp.least, product, longer (suc (suc n)) cycle v.sizes.cycle (omega (arith, same, number)))))
 
 -- ---- the induction
 
@@ -499,14 +239,14 @@ goes_by : FramesGoSo → (v : View) (n : ℕ) (fuel t : ℕ) (block : IsInBlock 
     → BlockGoesSo v n block.before.next t block.before.hull
 goes_by laws v n zero t block is short = absurd (omega (arith, short, block.from))
 goes_by laws v n (suc fuel) t block is short =
-    let went : WentSo v n block.before t = λ u from lt. goes_by laws _ n fuel u
-    (record { before = block.before; next = block.next; is_over = block.is_over; from = from; to = omega arith; in_run = omega arith }) is (omega arith) in
+    let went : WentSo v n block.before t = λ u from lt. goes_by laws _ n fuel u (earlier_in_block _ _ _ _ block from (omega arith)) is (omega arith) in
     record {
       dispatches = dispatches_so v n t block is went;
-      joins = λ h device i joined good at. joins_so laws v n t block is went h device i joined at;
+      joins = λ h device i joined good at. joins_so v n t block is went laws h device i joined at;
       points = points_so v n t block is;
-      corrects = corrects_so laws v n t block is went;
-      old_alone = old_alone_so laws v n t block is went;
+      corrects = corrects_so v n t block is went laws;
+      old_alone = λ device cycle verdict has comes not_cleared.
+          old_alone_so v n t block is went device cycle verdict (record { has = has; comes = comes; not_cleared = not_cleared });
     }
 
 pub blocks_go_so : FramesGoSo → BlocksGoSo

@@ -1,10 +1,10 @@
 -- Correction points come while a block lasts.
-use Rattle.precision_law.proofs.words.Std.{◌*◌, ◌++◌, ◌+ℤ◌, ◌+◌, ◌<ℤ◌, ◌<◌, ◌==◌, ◌∙◌, ◌∷◌, ◌≡◌, ◌≤ℤ◌, ◌≤◌, Bool, List, None, Option, Some, ap, arith, both_ways, by_lt_z, cases_lt, eq-eqb, filter-append, fold, fold-append, if◌then◌else◌, inl, inr, ints, lt-ltb, nat_lt, negsuc, option_map_or, pos, refl, subst, suc, sym, true, zero, ℕ, ℤ}
+use Rattle.precision_law.proofs.words.Std.{◌*◌, ◌++◌, ◌+ℤ◌, ◌+◌, ◌<ℤ◌, ◌<◌, ◌==◌, ◌∙◌, ◌∷◌, ◌≡◌, ◌≤ℤ◌, ◌≤◌, Bool, List, None, Option, Some, ap, arith, both_ways, by_lt_z, cases_lt, eq-eqb, filter-append, fold, fold-append, if◌then◌else◌, inl, inr, ints, lt-ltb, nat_lt, negsuc, option_map_or, pos, refl, subst, suc, sym, true, ℕ, ℤ}
 use Rattle.precision_law.proofs.words.Plans.{DeviceId, Integrating, State, Units, state_at_start}
-use Rattle.precision_law.proofs.words.Runs.{Happening, IsIn, Reaches, Why, changed_at, changes_adjustment, correction_value, cycle_in, earlier, founded_at, in_left, in_right, next_cycle, same_some, start_of, state_after, state_with, time_of}
-use Rattle.precision_law.proofs.words.Laws.{BlockIsOver, HasTimeAt, Hull, IsAnchoredIn, IsOldAt, IsView, PointsAreRecorded, PointsHaveCome, Stands, View, adjustment_left, epoch_time, has_time, hull_of, last_setting, start_hull, state_left}
-use Rattle.precision_law.proofs.words.Clocks.{AreSorted, adjustment_stays, clocks_have_reached, in_earlier, in_order, instants_are_in_order, joined_changes, keeps, kept_by_all, one_more, room, set_clocks_have_reached, set_clocks_show, settings_stay, sizes_are, sorted_parts, steady, time_stays}
-use Rattle.precision_law.proofs.words.Blocks.{before_narrow, block_ends, follows_before, joining_from, old_number, sets_none}
+use Rattle.precision_law.proofs.words.Runs.{Happening, IsIn, Reaches, Why, changes_adjustment, correction_value, earlier, founded_at, in_left, in_right, integration_cycle, next_cycle, start_of, state_after, state_with, time_of}
+use Rattle.precision_law.proofs.words.Laws.{BlockIsOver, HasTimeAt, IsAnchoredIn, IsGood, IsOldAt, IsView, PointsAreRecorded, PointsHaveCome, Stands, View, adjustment_left, epoch_time, has_time, last_correction, last_setting, state_left}
+use Rattle.precision_law.proofs.words.Clocks.{AreSorted, adjustment_stays, clocks_have_reached, in_earlier, in_order, keeps, kept_by_all, one_more, room, set_clocks_have_reached, set_clocks_show, settings_stay, sizes_are, sorted_parts, steady}
+use Rattle.precision_law.proofs.words.Blocks.{before_narrow, early_show, had_time, joining_from, joins_none, old_number, sets_none}
 use Rattle.run_law.specs.declared.note.NoteBody.TheVariants as notes
 use Rattle.precision_law.proofs.block.Onward.{last_of}
 
@@ -37,32 +37,47 @@ not_lost v device u t h cause why is le old timed i from to body =
     let lost : step before h ≡ Integrating = ap (state_with device before) body ∙ ap (λ (b : Bool). if b then Integrating else before) self in
     both_ways (has_time (step before h)) (ap has_time lost) now
 
--- ---- the points of a block
+-- an old device did not join by a frame of the block's cycle
+pub never_joined : (v : View) (n u t : ℕ) (before : Stands v n) (device : DeviceId) → IsView v → before.next ≤ t → IsGood v device
+    → IsOldAt v before.next device t → u ≤ t → integration_cycle (earlier u v.records) device ≡ Some (suc n) → ⊥
+never_joined v n u t before device is from good old to e =
+    let j = joining_from (earlier u v.records) device (suc n) e in
+    let back = in_earlier u v.records j.h j.there in
+    elim (cases_lt (time_of j.h) before.next) [
+      | inl early ↦ (let low = before.joined j.h device back.0 j.joins good early in let same = j.of_cycle in omega (arith, low, same))
+      | inr late ↦ both_ways _ (joins_none v device before.next t is from old j.h back.0 late (omega (arith, back.1, to))) j.joins
+    ]
 
--- at the beginning of a block an old clock is not yet at its correction point
-pub early_show : (v : View) (n : ℕ) (before : Stands v n) → IsView v
-    → pos before.next ≤ℤ (before.hull.least +ℤ pos (v.sizes.correction + v.sizes.spread + 3 * v.sizes.reach + 1))
-early_show v zero before is =
-    let same : start_hull v.sizes ≡ before.hull = same_some (hull_of v zero) (start_hull v.sizes) before.hull refl before.is_hull in
-    omega (arith, ints, before.is_over, ap (λ (w : Hull). w.least) same, (room v is).errors.spread_is)
-early_show v (suc c) before is =
-    let one = before.narrow c (omega arith) in
-    let order = instants_are_in_order v.sizes one.0 before.hull (room v is) one.2 (follows_before v c one.0 before.hull is one.1 before.is_hull) in
-    omega (arith, ints, block_ends v c before.next one.0 one.1 before.is_over, order.last_not_late)
+-- ---- the points of a block
 
 -- when the clock was last set, it was before what is behind its epoch
 pub set_before : (o : Option Happening) (next : ℕ) → option_map_or (λ h. pos (time_of h)) o (negsuc 0) <ℤ pos next → option_map_or time_of o 0 ≤ next
 set_before None next early = omega arith
 set_before (Some h) next early = omega (arith, ints, early)
 
--- the time of a record of an instant lies where the instant does
-from_then : (a u t : ℕ) → t ≡ u → a < u → a ≤ t
-from_then a u t same lt = omega (arith, same)
-
--- one value in two forms
-same_value : (product whole part cycle correction other : ℕ) → product ≡ whole → whole ≡ part + cycle → correction ≡ other
-    → pos (part + (cycle + correction)) ≡ pos (product + other)
-same_value product whole part cycle correction other a b c = ap pos (omega (arith, a, b, c))
+-- an old clock comes in the block to each value of the next cycle that it shows by the last correction
+pub reaches_in_block : (v : View) (n t k : ℕ) (before : Stands v n) (device : DeviceId) → IsView v → HasTimeAt v device before.next → before.next ≤ t
+    → IsOldAt v before.next device t → v.sizes.cycle ≤ k → ((before.hull.greatest +ℤ pos k) +ℤ pos v.sizes.reach) ≤ℤ pos t
+    → pos t ≤ℤ last_correction v.sizes before.hull → (u : ℕ) × (before.next < u) × (u ≤ t) × Reaches v.scenario v.records device (pos (n * v.sizes.cycle + k)) u
+reaches_in_block v n t k before device is has le old behind late most =
+    let reading = v.scenario.reading device in
+    let space = room v is in
+    let set = before.clocks device has in
+    let same = ap (λ (a : Units). a.0) (adjustment_stays v device before.next t is le old) in
+    let anchored = subst (λ (a : ℤ). IsAnchoredIn v.sizes reading a n before.hull set.set_at) same set.anchored in
+    let within : t ≤ set.set_at + 2 * v.sizes.cycle = omega (arith, ints, most, set.not_before, before_narrow v n before, space) in
+    let reached = set_clocks_have_reached v.sizes reading (adjustment_left v device t) n before.hull set.set_at k t space (steady v is device)
+    (omega (arith, set.not_behind, le)) within anchored late in
+    let shows = set_clocks_show v.sizes reading (adjustment_left v device t) n before.hull set.set_at before.next (steady v is device) set.not_behind
+    (omega (arith, within, le)) anchored in
+    let below : (pos (reading before.next) +ℤ adjustment_left v device t) <ℤ pos (n * v.sizes.cycle + k) =
+    omega (arith, ints, shows.most, early_show v n before is, space, behind) in
+    let strict : before.next < t = elim (cases_lt before.next t) [
+      | inl lt ↦ lt
+      | inr ge ↦ (let up = (steady v is device).never_falls t before.next ge in absurd (omega (arith, ints, up, below, reached)))
+    ] in
+    clocks_have_reached v device (pos (n * v.sizes.cycle + k)) before.next t is (set_before (last_setting (earlier t v.records) device) before.next old) strict
+    below reached
 
 -- the instant at which an old device comes to its point
 record ComesThere (v : View) (n : ℕ) (over : BlockIsOver v n) (device : DeviceId) (u : ℕ) : Type 0 where
@@ -73,104 +88,63 @@ record ComesThere (v : View) (n : ℕ) (over : BlockIsOver v n) (device : Device
   pub number : next_cycle v.scenario v.records device u ≡ suc n
   pub reaches : Reaches v.scenario v.records device (correction_value v.scenario.network (next_cycle v.scenario v.records device u)) u
 
--- an old device comes to its point in the block
-comes_there : (v : View) (n : ℕ) (over : BlockIsOver v n) (device : DeviceId) → IsView v → HasTimeAt v device over.next
-    → IsOldAt v over.before.next device over.next → (u : ℕ) × ComesThere v n over device u
-comes_there v n over device is has old =
-    let s = v.scenario in
-    let before = over.before in
-    let reading = s.reading device in
-    let space = room v is in
-    let last = last_of v n over is in
-    let t = last.last in
-    let le : before.next ≤ over.next = omega (arith, last) in
-    let set = before.clocks device (record { good = has.good; timed = time_stays v device before.next over.next is le old has.timed }) in
-    let early_t : epoch_time (earlier over.next v.records) device <ℤ pos t = omega (arith, ints, old, last.from) in
-    let to_t : t ≤ over.next = omega (arith, last.is_last) in
-    let last_t = settings_stay v device t over.next is to_t early_t in
-    let a_next = ap (λ (a : Units). a.0) (adjustment_stays v device before.next over.next is le old) in
-    let a_t = ap (λ (a : Units). a.0) (adjustment_stays v device t over.next is to_t early_t) in
-    let anchored = subst (λ (a : ℤ). IsAnchoredIn v.sizes reading a n before.hull set.set_at) (a_next ∙ sym a_t) set.anchored in
-    let within : t ≤ set.set_at + 2 * v.sizes.cycle = omega (arith, ints, last.at, set.not_before, before_narrow v n before, space) in
-    let reached = set_clocks_have_reached v.sizes reading (adjustment_left v device t) n before.hull set.set_at (v.sizes.cycle + v.sizes.correction) t space
-    (steady v is device) (omega (arith, set.not_behind, last.from)) within anchored (omega (arith, ints, last.at)) in
-    let shows = set_clocks_show v.sizes reading (adjustment_left v device t) n before.hull set.set_at before.next (steady v is device) set.not_behind
-    (omega (arith, within, last.from)) anchored in
-    let value : ℤ = pos (n * v.sizes.cycle + (v.sizes.cycle + v.sizes.correction)) in
-    let below : (pos (reading before.next) +ℤ adjustment_left v device t) <ℤ value = omega (arith, ints, shows.most, early_show v n before is, space) in
-    let strict : before.next < t = elim (cases_lt before.next t) [
-      | inl lt ↦ lt
-      | inr ge ↦ (let up = (steady v is device).never_falls t before.next ge in absurd (omega (arith, ints, up, below, reached)))
-    ] in
-    let changed : changed_at v.records device t ≤ before.next = subst (λ (o : Option Happening). option_map_or time_of o 0 ≤ before.next) (sym last_t)
-    (set_before (last_setting (earlier over.next v.records) device) before.next old) in
-    let found = clocks_have_reached v device value before.next t is changed strict below reached in
-    let u = found.0 in
-    let to_u : u ≤ over.next = omega (arith, found.2, to_t) in
-    let early_u : epoch_time (earlier over.next v.records) device <ℤ pos u = omega (arith, ints, old, found.1) in
-    let last_u = settings_stay v device u over.next is to_u early_u in
-    let old_u = subst (λ (o : Option Happening). option_map_or (λ h. pos (time_of h)) o (negsuc 0) <ℤ pos before.next) (sym last_u) old in
-    let has_u : HasTimeAt v device u = record { good = has.good; timed = time_stays v device u over.next is to_u early_u has.timed } in
-    let number = old_number v n u device before is (omega (arith, found.1)) has_u old_u in
-    let product = ap (λ (x : ℕ). next_cycle s v.records device u * x) (sym (sizes_are v is).cycle) ∙ ap (λ (c : ℕ). c * v.sizes.cycle) number in
-    let value_is : value ≡ correction_value s.network (next_cycle s v.records device u) =
-    same_value _ _ (n * v.sizes.cycle) v.sizes.cycle _ _ product (one_more n v.sizes.cycle) (sizes_are v is).correction in (
-      u,
-      record {
-        from = found.1;
-        to = omega (arith, found.2, last.is_last);
-        in_run = omega (arith, found.2, last.is_last, over.in_run);
-        has = has_u;
-        number = number;
-        reaches = subst (λ (z : ℤ). Reaches s v.records device z u) value_is found.3;
-      },
-    )
+module _ (v : View) (n : ℕ) (over : BlockIsOver v n) (device : DeviceId) (is : IsView v) (has : HasTimeAt v device over.next)
+    (old : IsOldAt v over.before.next device over.next) where
+  -- an old device comes to its point in the block
+  comes_there : (u : ℕ) × ComesThere v n over device u
+  comes_there =
+      let s = v.scenario in
+      let before = over.before in
+      let last = last_of v n over is in
+      let t = last.last in
+      let early = λ (u : ℕ) (from : before.next ≤ u).
+      (let e : epoch_time (earlier over.next v.records) device <ℤ pos u = omega (arith, ints, old, from) in e) in
+      let old_at = λ (u : ℕ) (to : u ≤ over.next) (from : before.next ≤ u). subst
+      (λ (o : Option Happening). option_map_or (λ h. pos (time_of h)) o (negsuc 0) <ℤ pos before.next)
+      (sym (settings_stay v device u over.next is to (early u from))) old in
+      let to_t : t ≤ over.next = omega (arith, last.is_last) in
+      let le : before.next ≤ over.next = omega (arith, last) in
+      let has_next = had_time v device before.next over.next is le old has in
+      let found = reaches_in_block v n t (v.sizes.cycle + v.sizes.correction) before device is has_next last.from (old_at t to_t last.from) (omega arith)
+      (omega (arith, ints, last.at)) (omega (arith, ints, last.at)) in
+      let u = found.0 in
+      let to_u : u ≤ over.next = omega (arith, found.2, to_t) in
+      let from_u : before.next ≤ u = omega (arith, found.1) in
+      let has_u = had_time v device u over.next is to_u (early u from_u) has in
+      let number = old_number v n u device before is from_u has_u (old_at u to_u from_u) in
+      let product = ap (λ (x : ℕ). next_cycle s v.records device u * x) (sym (sizes_are v is).cycle) ∙ ap (λ (c : ℕ). c * v.sizes.cycle) number in
+      let value_is : pos (n * v.sizes.cycle + (v.sizes.cycle + v.sizes.correction)) ≡ correction_value s.network (next_cycle s v.records device u) =
+      ap pos (omega (arith, product, one_more n v.sizes.cycle, (sizes_are v is).correction)) in (
+        u,
+        record {
+          from = found.1;
+          to = omega (arith, found.2, last.is_last);
+          in_run = omega (arith, found.2, last.is_last, over.in_run);
+          has = has_u;
+          number = number;
+          reaches = subst (λ (z : ℤ). Reaches s v.records device z u) value_is found.3;
+        },
+      )
 
--- but its point would leave a record
-never_at : PointsAreRecorded → (v : View) (n : ℕ) (over : BlockIsOver v n) (device : DeviceId) (u : ℕ) → IsView v → over.before.next ≤ over.next
-    → HasTimeAt v device over.next → IsOldAt v over.before.next device over.next → ComesThere v n over device u → ⊥
-never_at recorded v n over device u is le has old there =
-    let point = recorded v device u is there.in_run there.has there.reaches (λ joined.
-    let j = joining_from (earlier u v.records) device (next_cycle v.scenario v.records device u) joined in
-    let back = in_earlier u v.records j.h j.there in
-    elim (cases_lt (time_of j.h) over.before.next) [
-      | inl early ↦ too_early (cycle_in j.h) n (next_cycle v.scenario v.records device u) (over.before.joined j.h device back.0 j.joins has.good early)
-          j.of_cycle there.number
-      | inr from ↦ both_ways (changes_adjustment device j.h.note.body)
-          (sets_none v device over.before.next over.next is le old j.h back.0 from (sooner_than (time_of j.h) u over.next back.1 there.to))
-          (joined_changes device j.h.note.body j.joins)
-    ]) in
-    let from_h = from_then over.before.next u (time_of point.0) point.1.at there.from in
-    let to_h = sooner_same (time_of point.0) u over.next point.1.at there.to in
-    elim point.1.says [
-      | inl c ↦ corrected_not v device over.before.next over.next is le old point.0 point.1.there from_h to_h c.0 c.1 c.2 c.3
-      | inr l ↦ not_lost v device over.before.next over.next point.0 l.0 l.1 is le old has.timed point.1.there from_h to_h l.2
-    ]
-  where
-    too_early : (c n k : ℕ) → c ≤ n → c ≡ k → k ≡ suc n → ⊥
-    too_early c n k low a b = omega (arith, low, a, b)
-
-    sooner_than : (t u n : ℕ) → t < u → u < n → t < n
-    sooner_than t u n a b = omega (arith, a, b)
-
-    sooner_same : (t u n : ℕ) → t ≡ u → u < n → t < n
-    sooner_same t u n a b = omega (arith, a, b)
-
-    corrected_not : (v : View) (device : DeviceId) (from to : ℕ) → IsView v → from ≤ to → epoch_time (earlier to v.records) device <ℤ pos from → (h : Happening)
-        → IsIn h v.records → from ≤ time_of h → time_of h < to → (cycle : ℕ) (by adjustment : Units) → h.note.body ≡ notes.Corrected device cycle by adjustment
-        → ⊥
-    corrected_not v device from to is le old h i a b cycle by adjustment body =
-        let self : changes_adjustment device (notes.Corrected device cycle by adjustment) ≡ true = eq-eqb device.0 device.0 refl in
-        both_ways (changes_adjustment device h.note.body) (sets_none v device from to is le old h i a b) (ap (changes_adjustment device) body ∙ self)
-
--- so no device stays old
-never_old : PointsAreRecorded → (v : View) (n : ℕ) (over : BlockIsOver v n) (device : DeviceId) → IsView v → HasTimeAt v device over.next
-    → IsOldAt v over.before.next device over.next → ⊥
-never_old recorded v n over device is has old =
-    let there = comes_there v n over device is has old in
-    never_at recorded v n over device there.0 is (omega (arith, last_of v n over is)) has old there.1
+  -- but its point would leave a record, so it does not stay old
+  never_old : PointsAreRecorded → ⊥
+  never_old recorded =
+      let u = comes_there.0 in
+      let there = comes_there.1 in
+      let next = over.before.next in
+      let le : next ≤ over.next = omega (arith, there.from, there.to) in
+      let point = recorded v device u is there.in_run there.has there.reaches (λ joined.
+      never_joined v n u over.next over.before device is le has.good old (omega (arith, there.to)) (joined ∙ ap (λ (c : ℕ). Some c) there.number)) in
+      let h = point.0 in
+      let from_h : next ≤ time_of h = omega (arith, point.1.at, there.from) in
+      let to_h : time_of h < over.next = omega (arith, point.1.at, there.to) in
+      elim point.1.says [
+        | inl c ↦ both_ways (changes_adjustment device h.note.body) (sets_none v device next over.next is le old h point.1.there from_h to_h)
+            (ap (changes_adjustment device) c.3 ∙ eq-eqb device.0 device.0 refl)
+        | inr l ↦ not_lost v device next over.next h l.0 l.1 is le old has.timed point.1.there from_h to_h l.2
+      ]
 
 pub points_have_come : PointsAreRecorded → PointsHaveCome
 points_have_come recorded v n over device is has =
     by_lt_z {P = pos over.before.next ≤ℤ epoch_time (earlier over.next v.records) device} (epoch_time (earlier over.next v.records) device)
-    (pos over.before.next) (λ old. absurd (never_old recorded v n over _ is has old)) (λ late. late)
+    (pos over.before.next) (λ old. absurd (never_old v n over device is has old recorded)) (λ late. late)

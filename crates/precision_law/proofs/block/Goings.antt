@@ -1,9 +1,12 @@
 -- What each instant of a block brings, from what frames are heard.
-use Rattle.precision_law.proofs.words.Std.{◌+◌, ◌-◌, ◌<ℤ◌, ◌<◌, ◌≡◌, ◌≤ℤ◌, ◌≤◌, Some, ap, arith, cases_lt, inl, inr, ints, pos, refl, subst, suc, sym, zero, ℕ, ℤ}
-use Rattle.precision_law.proofs.words.Plans.{Channel, DeviceId, Members, count_of}
-use Rattle.precision_law.proofs.words.Runs.{Happening, Judgement, cycle_in, expected_by, members_in, same_some, time_of}
-use Rattle.precision_law.proofs.words.Laws.{BasesAreInHulls, BlockGoesSo, EmissionsAreOfDispatches, HeardFramesAreTimely, HeardInTheirBlocks, HearingsAreOfFrames, HearsBy, Hull, IsDispatch, IsInHull, IsNarrow, IsNarrowIfThere, IsNearHull, IsOfHearer, IsTidyBefore, IsTimely, IsView, Stands, ThreeHaveGood, View, base_of, first_correction, hull_of}
-use Rattle.precision_law.proofs.words.Clocks.{instants_are_in_order, room}
+use Rattle.precision_law.proofs.words.Std.{◌*◌, ◌+ℤ◌, ◌+◌, ◌-◌, ◌<ℤ◌, ◌<◌, ◌∙◌, ◌∷◌, ◌≡◌, ◌≤ℤ◌, ◌≤◌, ◌⊎◌, List, Some, [], ap, arith, cases_lt, inl, inr, ints, pos, refl, subst, suc, sym, true, zero, ℕ, ℤ}
+use Rattle.precision_law.proofs.words.Plans.{Channel, Cleared, Corrected, DeviceId, LinkId, Members, Pcf, State, Units, Verdict, amount, count_of}
+use Rattle.precision_law.proofs.words.Runs.{ComesToCorrection, Happening, IsCaused, IsFoundedAt, IsIn, Judgement, NoteBody, Scenario, Why, adjustment_at_hearing, before_permanence, changes_adjustment, channel_of, cycle_in, earlier, expected_by, founded_at, heard_as, in_filter, in_left, in_parts, is_before, members_in, observation_window, place_of, plan_of, same_some, state_at_hearing, time_of, timed}
+use Rattle.precision_law.proofs.words.Laws.{AreBeforeCorrections, AreGood, BasesAreInHulls, BlockGoesSo, ComesTo, EmissionsAreOfDispatches, HasGood, HasTimeAt, HeardFramesAreTimely, HeardInTheirBlocks, HearingsAreOfFrames, HearsBy, Hull, IsClique, IsDispatch, IsEmission, IsGood, IsInHull, IsNarrow, IsNearHull, IsOfHearer, IsOldAt, IsPointOf, IsTidyBefore, IsTimely, IsView, Stands, ThreeHaveGood, View, adjustment_left, base_of, epoch_time, first_correction, first_dispatch, hull_of, is_correction, start_hull}
+use Rattle.precision_law.proofs.words.Clocks.{before_of, earlier_before, earlier_judge, instants_are_in_order, point_timed, room, same_adjustment, same_device, time_stays}
+use Rattle.run_law.specs.declared.note.NoteBody.TheVariants as notes
+use Rattle.precision_law.proofs.clocks.Unchanged.{AreUpTo}
+use Rattle.precision_law.proofs.law.Precision.{clique_point}
 use Rattle.precision_law.proofs.law.Together.{block_ends, follows_before}
 
 -- ---- laws of frames
@@ -37,6 +40,124 @@ known_dispatch v n t before went h device cycle dispatch lt =
 pub tidy : (v : View) (n t : ℕ) (before : Stands v n) → WentSo v n before t → IsTidyBefore v t
 tidy v n t before went h device cycle dispatch lt = (known_dispatch v n t before went h device cycle dispatch lt).1
 
+-- a device that has the time has had it since its clock was set
+pub had_time : (v : View) (device : DeviceId) (u t : ℕ) → IsView v → u ≤ t → epoch_time (earlier t v.records) device <ℤ pos u → HasTimeAt v device t
+    → HasTimeAt v device u
+had_time v device u t is le old has = record { good = has.good; timed = time_stays v device u t is le old has.timed }
+
+-- ---- the records before
+
+-- the records before corrections at a time are all up to it that come earlier
+pub up_to_then : (v : View) (t : ℕ) (front : List Happening) → AreBeforeCorrections v t front → AreUpTo v t front
+up_to_then v t front split = record {
+  all = earlier_before v t front split;
+  there = λ h i. subst (IsIn h) (sym split.whole) (in_left h front split.rest i);
+  to = split.only;
+}
+
+-- what comes earlier is among them
+pub in_part : (v : View) (t : ℕ) (front : List Happening) (h : Happening) → AreBeforeCorrections v t front → IsIn h v.records → time_of h < t → IsIn h front
+in_part v t front h split i lt = elim (in_parts h front split.rest (subst (IsIn h) split.whole i)) [
+  | inl f ↦ f
+  | inr r ↦ (let wrong = split.later h r in absurd (omega (arith, wrong, lt)))
+]
+
+-- so are those by which a frame is judged that becomes permanent
+pub judged_up_to : (v : View) (h : Happening) → IsView v → (found : IsFoundedAt v.scenario v.records h) → (device : DeviceId) (link : LinkId) (cause : ℕ)
+    (frame : Pcf) (at : Units) → AreUpTo v (time_of h) (before_permanence found.front device (time_of h) link cause frame at)
+judged_up_to v h is found device link cause frame at =
+    let all = up_to_then v (time_of h) found.front (before_of v h is found) in
+    let keeps = λ (x : Happening). is_before (place_of x) (time_of h ∷ 3 ∷ device.0 ∷ amount at ∷ frame.members.0 ∷ link.0 ∷ cause ∷ []) in
+    record {
+      all = earlier_judge found.front (time_of h) device link cause frame at ∙ all.all;
+      there = λ x i. all.there x (in_filter keeps found.front x i);
+      to = λ x i. all.to x (in_filter keeps found.front x i);
+    }
+
+-- how a device judges a frame that is at this point at q, given records
+abbrev pub judged_at : Scenario → DeviceId → List Happening → ℕ → ℤ → ℕ → Members → Judgement
+judged_at s device hs q point cycle members =
+    heard_as (plan_of s.network device) (observation_window s.network) (state_at_hearing s hs device q) (adjustment_at_hearing s hs device q).0 point
+    cycle members
+
+-- ---- the points that records show
+
+-- a point to which a good device comes, and at which it does not only clear
+pub record HasPoint (v : View) (t : ℕ) (device : DeviceId) (cycle : ℕ) (verdict : Verdict) : Type 0 where
+  pub has : HasTimeAt v device t
+  pub comes : ComesTo v t device cycle verdict
+  pub not_cleared : verdict ≡ Cleared → ⊥
+
+-- the device's clock was set before the block then, and the point is that of the block
+pub old_point : (v : View) (n next t : ℕ) (before : Hull) (device : DeviceId) (cycle : ℕ) (verdict : Verdict) → BlockGoesSo v n next t before
+    → HasPoint v t device cycle verdict → IsOldAt v next device t × IsPointOf v n t before cycle
+old_point v n next t before device cycle verdict so p =
+    let old = so.old_alone device cycle verdict p.has p.comes p.not_cleared in
+    (old, so.points device cycle verdict p.has old p.comes)
+
+-- what a record comes of is such a point
+point_of_record : (v : View) (device : DeviceId) (h : Happening) (cycle : ℕ) (verdict : Verdict) → IsView v → IsGood v device
+    → (found : IsFoundedAt v.scenario v.records h) → ComesToCorrection v.scenario found.front device (time_of h) cycle verdict → (verdict ≡ Cleared → ⊥)
+    → HasPoint v (time_of h) device cycle verdict
+point_of_record v device h cycle verdict is good found point not_cleared =
+    let split = before_of v h is found in
+    record {
+      has = record { good = good; timed = point_timed v (time_of h) device cycle verdict found.front split point };
+      comes = record { front = found.front; split = split; point = point };
+      not_cleared = not_cleared;
+    }
+
+-- a correction of the device, with its point
+pub record HasCorrected (v : View) (device : DeviceId) (h : Happening) : Type 0 where
+  pub cycle : ℕ
+  pub by : Units
+  pub adjustment : Units
+  pub is : h.note.body ≡ notes.Corrected device cycle by adjustment
+  pub point : HasPoint v (time_of h) device cycle (Corrected by)
+  pub sum : adjustment.0 ≡ (adjustment_left v device (time_of h) +ℤ by.0)
+
+pub has_corrected : (v : View) (device : DeviceId) (h : Happening) → IsView v → IsGood v device → IsIn h v.records
+    → changes_adjustment device h.note.body ≡ true → is_correction h.note.body ≡ true → HasCorrected v device h
+has_corrected v device h is good i changes corrected =
+    let found = founded_at v.scenario v.records h is.run.founded i in
+    let c = of_body h.note.body changes corrected in
+    let cause = subst (IsCaused v.scenario found.front h.note.time) c.3 found.due.cause in
+    let left = ap (λ (a : Units). a.0) (same_adjustment v device (time_of h) found.front (before_of v h is found)) in
+    record {
+      cycle = c.0;
+      by = c.1;
+      adjustment = c.2;
+      is = c.3;
+      point = point_of_record v device h c.0 (Corrected c.1) is good found cause.corrected (λ z. cc);
+      sum = cause.sum ∙ ap (λ (z : ℤ). z +ℤ c.1.0) left;
+    }
+  where
+    of_body : (body : NoteBody) → changes_adjustment device body ≡ true → is_correction body ≡ true → (cycle : ℕ) × (by : Units) × (adjustment : Units)
+        × (body ≡ notes.Corrected device cycle by adjustment)
+    of_body (notes.Corrected other cycle by adjustment) changes e =
+        (cycle, by, adjustment, ap (λ (d : DeviceId). notes.Corrected d cycle by adjustment) (same_device device other changes))
+    of_body body changes e = absurd cc
+
+-- the loss of the common time, with its point
+pub record HasLost (v : View) (device : DeviceId) (h : Happening) : Type 0 where
+  pub cycle : ℕ
+  pub verdict : Verdict
+  pub point : HasPoint v (time_of h) device cycle verdict
+  pub not_corrected : (by : Units) → verdict ≡ Corrected by → ⊥
+
+pub has_lost : (v : View) (device : DeviceId) (h : Happening) (state : State) (cause : ℕ) (why : Why) → IsView v → IsGood v device → IsIn h v.records
+    → h.note.body ≡ notes.State device state cause why → IsClique why → HasLost v device h
+has_lost v device h state cause why is good i body clique =
+    let found = founded_at v.scenario v.records h is.run.founded i in
+    let c = clique_point v.scenario found.front (time_of h) device state cause why clique (subst (IsCaused v.scenario found.front h.note.time) body
+    found.due.cause) in
+    record {
+      cycle = c.cycle;
+      verdict = c.verdict;
+      point = point_of_record v device h c.cycle c.verdict is good found c.point c.not_cleared;
+      not_corrected = c.not_corrected;
+    }
+
 -- ---- corrections of earlier cycles
 
 -- the hull of a cycle up to the standing one is narrow
@@ -59,69 +180,104 @@ corrections_go_on v n k (suc more) before w x is le at_w at_x =
     let order = instants_are_in_order v.sizes there.0 x (room v is) there.2 (follows_before v (k + more) there.0 x is there.1 at) in
     omega (arith, ints, corrections_go_on v n k more before w there.0 is (omega (arith, le)) at_w there.1, order.next_later)
 
--- the first correction of an earlier cycle comes before the block
-pub corrections_before : (v : View) (n k : ℕ) (before : Stands v n) (w : Hull) → IsView v → suc k ≤ n → hull_of v k ≡ Some w
-    → first_correction v.sizes w <ℤ pos before.next
-corrections_before v zero k before w is le at = absurd (omega (arith, le))
-corrections_before v (suc c) k before w is le at =
-    let there = before.narrow c (omega arith) in
-    let gap : k + (c - k) ≡ c = omega (arith, le) in
-    let low = corrections_go_on v _ k (c - k) before w _ is (omega (arith, le)) at (subst (λ (x : ℕ). hull_of v x ≡ Some there.0) (sym gap) there.1) in
-    let order = instants_are_in_order v.sizes there.0 before.hull (room v is) there.2 (follows_before v c there.0 before.hull is there.1 before.is_hull) in
-    omega (arith, ints, low, block_ends v c before.next there.0 there.1 before.is_over, order.corrections)
+-- a block begins before an old clock comes to the correction point of its cycle
+pub early_show : (v : View) (n : ℕ) (before : Stands v n) → IsView v
+    → pos before.next ≤ℤ (before.hull.least +ℤ pos (v.sizes.correction + v.sizes.spread + 3 * v.sizes.reach + 1))
+early_show v zero before is =
+    let same : start_hull v.sizes ≡ before.hull = same_some (hull_of v zero) (start_hull v.sizes) before.hull refl before.is_hull in
+    omega (arith, ints, before.is_over, ap (λ (w : Hull). w.least) same, (room v is).errors.spread_is)
+early_show v (suc c) before is =
+    let one = before.narrow c (omega arith) in
+    let order = instants_are_in_order v.sizes one.0 before.hull (room v is) one.2 (follows_before v c one.0 before.hull is one.1 before.is_hull) in
+    omega (arith, ints, block_ends v c before.next one.0 one.1 before.is_over, order.last_not_late)
 
--- ---- a frame of the block
+-- it begins before the dispatches of its cycle
+pub next_first : (v : View) (n : ℕ) (before : Stands v n) → IsView v → pos before.next ≤ℤ first_dispatch v.sizes before.hull
+next_first v n before is = omega (arith, ints, early_show v n before is, room v is)
 
--- the frame that the device heard by the record is of the block's cycle and comes in time
-pub record IsOfBlock (v : View) (n : ℕ) (before : Stands v n) (device : DeviceId) (point : ℤ) (h : Happening) : Type 0 where
-  pub of_cycle : cycle_in h ≡ suc n
-  pub hull : Hull
-  pub is_hull : hull_of v (suc n) ≡ Some hull
-  pub base : ℤ
-  pub near : IsNearHull v.sizes hull base
-  pub timely : IsTimely v.sizes (v.scenario.reading device) base (time_of h) point (expected_by v.scenario.network device)
-  pub not_early : hull.least ≤ℤ pos (time_of h)
-  pub not_late : pos (time_of h) <ℤ first_correction v.sizes before.hull
-
--- it comes behind the first corrections of the earlier cycles
+-- the time lies behind the first corrections of the earlier cycles
 abbrev pub IsLate : View → ℕ → ℕ → Type 0
 IsLate v n q = (k : ℕ) (w : Hull) → suc k ≤ n → hull_of v k ≡ Some w → first_correction v.sizes w ≤ℤ pos q
 
-pub of_block : FramesGoSo → (v : View) (n t : ℕ) (before : Stands v n) (device : DeviceId) (channel : Channel) (point : ℤ) (judgement : Judgement)
-    (h : Happening) → IsView v → WentSo v n before t → IsOfHearer judgement → HearsBy v device channel point judgement h
-    → 3 ≤ count_of (record { 0 = members_in h }) → time_of h ≤ t → IsLate v n (time_of h)
-    → IsOfBlock v n before device point h
-of_block laws v n t before device channel point judgement h is went hearer hears enough le late =
-    let members : Members = record { 0 = members_in h } in
-    let heard = laws.hearings v device channel point judgement h is hearer hears in
-    let emission = heard.0 in
-    let tidy_e : IsTidyBefore v (time_of emission) = λ g d c dispatch lt. (tidy v n t before went) g d c dispatch (omega (arith, lt, heard.2, le)) in
-    let good = laws.three v emission heard.1.cm (cycle_in h) members is heard.1.emission enough in
-    let sent = laws.dispatched v emission heard.1.cm (cycle_in h) members is heard.1.emission good in
-    let known = known_dispatch v n t before went sent.first sent.master (cycle_in h) sent.dispatch (omega (arith, sent.before, heard.2, le)) in
-    let narrow : (c : ℕ) → cycle_in h ≡ suc c → IsNarrowIfThere v c = λ c same hull at. narrow_at v n c before hull (omega (arith, same, known.0)) at in
-    let block = laws.in_blocks v device channel (cycle_in h) members emission (time_of h) point (expected_by v.scenario.network device) is tidy_e good narrow
-    heard.1 in
-    let base = laws.bases v emission heard.1.cm (cycle_in h) members is heard.1.emission tidy_e (inl enough) in
-    let timely = laws.timely v device channel (cycle_in h) members emission (time_of h) point (expected_by v.scenario.network device) is heard.1 in
-    let same : cycle_in h ≡ suc n =
-    elim (cases_lt block.follows n) [
-      | inl lt ↦ (let after = late block.follows block.before (omega arith) block.is_before in absurd (omega (arith, ints, after, block.not_late)))
-      | inr ge ↦ omega (arith, ge, block.is_next, known.0)
-    ] in
-    let follows : block.follows ≡ n = omega (arith, same, block.is_next) in
-    let hull_n : hull_of v n ≡ Some block.before = subst (λ (c : ℕ). hull_of v c ≡ Some block.before) follows block.is_before in
-    let one : block.before ≡ before.hull = same_some (hull_of v n) block.before before.hull hull_n before.is_hull in
-    let hull_next : hull_of v (suc n) ≡ Some block.hull = subst (λ (c : ℕ). hull_of v c ≡ Some block.hull) same block.is_hull in
-    let two : base.hull ≡ block.hull = same_some (hull_of v (cycle_in h)) base.hull block.hull base.is block.is_hull in
-    let near : IsNearHull v.sizes base.hull (base_of v.sizes (time_of emission)) = record { least = base.least; most = base.most } in
-    record {
-      of_cycle = same;
-      hull = block.hull;
-      is_hull = hull_next;
-      base = base_of v.sizes (time_of emission);
-      near = subst (λ (w : Hull). IsNearHull v.sizes w (base_of v.sizes (time_of emission))) two near;
-      timely = timely;
-      not_early = block.not_early;
-      not_late = subst (λ (w : Hull). pos (time_of h) <ℤ first_correction v.sizes w) one block.not_late;
-    }
+-- what comes behind the beginning of the block is late
+pub late_from : (v : View) (n q : ℕ) (before : Stands v n) → IsView v → before.next ≤ q → IsLate v n q
+late_from v zero q before is le k w few at = absurd (omega (arith, few))
+late_from v (suc c) q before is le k w few at =
+    let there = before.narrow c (omega arith) in
+    let gap : k + (c - k) ≡ c = omega (arith, few) in
+    let low = corrections_go_on v _ k (c - k) before w _ is (omega (arith, few)) at (subst (λ (x : ℕ). hull_of v x ≡ Some there.0) (sym gap) there.1) in
+    let order = instants_are_in_order v.sizes there.0 before.hull (room v is) there.2 (follows_before v c there.0 before.hull is there.1 before.is_hull) in
+    omega (arith, ints, low, block_ends v c before.next there.0 there.1 before.is_over, order.corrections, le)
+
+-- ---- a frame of the block
+
+-- the members of the frame that the record brings
+abbrev pub members_by : Happening → Members
+members_by h = record { 0 = members_in h }
+
+-- the record by which a compression master of the channel sends a frame of the cycle behind n with a good member
+pub record IsSentOn (v : View) (n : ℕ) (channel : Channel) (members : Members) (h : Happening) : Type 0 where
+  pub cm : DeviceId
+  pub emission : IsEmission v h cm (suc n) members
+  pub of_channel : channel_of v.scenario.network cm ≡ Some channel
+  pub good : HasGood v members
+
+-- what the device heard by the record is a frame of the block's cycle that was sent so, and comes in time
+pub record IsGoodHearing (v : View) (n : ℕ) (before : Stands v n) (device : DeviceId) (channel : Channel) (point : ℤ) (h : Happening) : Type 0 where
+  pub of_cycle : cycle_in h ≡ suc n
+  pub emission : Happening
+  pub sent : IsSentOn v n channel (members_by h) emission
+  pub in_order : time_of emission ≤ time_of h
+  pub timely : IsTimely v.sizes (v.scenario.reading device) (base_of v.sizes (time_of emission)) (time_of h) point (expected_by v.scenario.network device)
+  pub hull : Hull
+  pub is_hull : hull_of v (suc n) ≡ Some hull
+  pub not_early : hull.least ≤ℤ pos (time_of h)
+  pub not_late : pos (time_of h) <ℤ first_correction v.sizes before.hull
+
+module _ (laws : FramesGoSo) (v : View) (n t : ℕ) (before : Stands v n) (is : IsView v) (went : WentSo v n before t) (device : DeviceId) (channel : Channel)
+    (point : ℤ) (h : Happening) (le : time_of h ≤ t) where
+  -- what a device hears late, of a frame with a good member, is such
+  pub good_hearing : (judgement : Judgement) → IsOfHearer judgement → HearsBy v device channel point judgement h → IsLate v n (time_of h)
+      → ((e : Happening) (cm : DeviceId) → IsEmission v e cm (cycle_in h) (members_by h) → HasGood v (members_by h))
+      → IsGoodHearing v n before device channel point h
+  good_hearing judgement hearer hears late has_good =
+      let heard = laws.hearings v device channel point judgement h is hearer hears in
+      let emission = heard.0 in
+      let expected = expected_by v.scenario.network device in
+      let good = has_good emission heard.1.cm heard.1.emission in
+      let sent = laws.dispatched v emission heard.1.cm (cycle_in h) (members_by h) is heard.1.emission good in
+      let known = known_dispatch v n t before went sent.first sent.master (cycle_in h) sent.dispatch (omega (arith, sent.before, heard.2, le)) in
+      let block = laws.in_blocks v device channel (cycle_in h) (members_by h) emission (time_of h) point expected is
+      (λ g d c dispatch lt. tidy v n t before went g d c dispatch (omega (arith, lt, heard.2, le))) good
+      (λ c same hull at. narrow_at v n c before hull (omega (arith, same, known.0)) at) heard.1 in
+      let same : cycle_in h ≡ suc n = elim (cases_lt block.follows n) [
+        | inl lt ↦ (let after = late block.follows block.before (omega arith) block.is_before in absurd (omega (arith, ints, after, block.not_late)))
+        | inr ge ↦ omega (arith, ge, block.is_next, known.0)
+      ] in
+      let follows : block.follows ≡ n = omega (arith, same, block.is_next) in
+      let hull_n = subst (λ (c : ℕ). hull_of v c ≡ Some block.before) follows block.is_before in
+      record {
+        of_cycle = same;
+        emission = emission;
+        sent = record {
+          cm = heard.1.cm;
+          emission = subst (λ (c : ℕ). IsEmission v emission heard.1.cm c (members_by h)) same heard.1.emission;
+          of_channel = heard.1.of_channel;
+          good = good;
+        };
+        in_order = heard.2;
+        timely = laws.timely v device channel (cycle_in h) (members_by h) emission (time_of h) point expected is heard.1;
+        hull = block.hull;
+        is_hull = subst (λ (c : ℕ). hull_of v c ≡ Some block.hull) same block.is_hull;
+        not_early = block.not_early;
+        not_late = subst (λ (w : Hull). pos (time_of h) <ℤ first_correction v.sizes w) (same_some _ _ _ hull_n before.is_hull) block.not_late;
+      }
+
+  -- the base of one of three members, or of good ones alone, lies in the hull
+  pub near_hull : (g : IsGoodHearing v n before device channel point h) → (3 ≤ count_of (members_by h)) ⊎ AreGood v (members_by h)
+      → IsNearHull v.sizes g.hull (base_of v.sizes (time_of g.emission))
+  near_hull g enough =
+      let base = laws.bases v g.emission g.sent.cm (suc n) (members_by h) is g.sent.emission
+      (λ x d c dispatch early. tidy v n t before went x d c dispatch (omega (arith, early, g.in_order, le))) enough in
+      subst (λ (w : Hull). IsNearHull v.sizes w (base_of v.sizes (time_of g.emission))) (same_some _ _ _ base.is g.is_hull)
+      (record { least = base.least; most = base.most })

@@ -1,61 +1,54 @@
 -- The dispatches of a cycle come half as far apart as those of the cycle before, but for the starts.
-use Rattle.precision_law.proofs.words.Std.{◌*◌, ◌+ℤ◌, ◌+◌, ◌-ℤ◌, ◌<ℤ◌, ◌<◌, ◌∙◌, ◌∷◌, ◌≡◌, ◌≤ℤ◌, ◌≤◌, ◌⊎◌, List, None, Option, Some, [], ap, arith, by_lt_z, clamps, false, filter, inl, inr, int_max, int_min, ints, negsuc, option_and_then, option_map_or, pos, refl, subst, suc, sym, true, zero, ℕ, ℤ}
+use Rattle.precision_law.proofs.words.Std.{◌*◌, ◌+ℤ◌, ◌+◌, ◌-ℤ◌, ◌<ℤ◌, ◌<◌, ◌∙◌, ◌∷◌, ◌≡◌, ◌≤ℤ◌, ◌≤◌, ◌⊎◌, List, None, Option, Some, [], ap, arith, by_lt_z, clamps, false, filter, inl, inr, ints, negsuc, option_and_then, option_map_or, pos, refl, subst, suc, true, zero, ℕ, ℤ}
 use Rattle.precision_law.proofs.words.Plans.{Device, DeviceId, State, Synchronised, Units, adjustment_at_start, amount, device_at, is_end_system, is_master}
 use Rattle.precision_law.proofs.words.Runs.{Happening, IsCaused, IsIn, earlier, founded_at, has_role, in_filter, is_end, is_synchronised, is_turned_on_at, same_some, start_of, state_after, time_of}
 use Rattle.precision_law.proofs.words.Laws.{AreShared, BlocksGoSo, Hull, HullsAreNarrow, IsAnchored, IsDispatch, IsGood, IsInBlock, IsNearHull, IsOldAt, IsOverBefore, IsReachedNear, IsView, Sizes, Stands, View, adjustment_left, epoch_time, first_dispatch, has_time, hull_of, hull_over, is_dispatch, last_correction, last_dispatch, last_setting, set_adjustment, start_hull, state_left, widened}
-use Rattle.precision_law.proofs.words.Clocks.{adjustment_is_last, adjustment_stays, anchored_clocks_reach, anchored_clocks_show, before_of, clocks_reach_sharply, corrections_come_first, earlier_before, frames_come_first, master_ends, never_some, over, passes, reaches_whole, room, shared_clocks_halve, sizes_are, starts_stay_together, state_stays, steady, synchronised_has_time, tested, time_stays, within_run}
+use Rattle.precision_law.proofs.words.Clocks.{adjustment_is_last, adjustment_stays, anchored_clocks_reach, anchored_clocks_show, before_of, clocks_reach_sharply, device_of, earlier_before, frames_come_first, master_ends, never_some, over, passes, reaches_whole, room, shared_clocks_halve, sizes_are, starts_stay_together, state_stays, steady, synchronised_has_time, tested, time_stays, within_run}
+use Rattle.precision_law.proofs.block.Goings.{next_first}
 use Rattle.precision_law.proofs.block.Starts.{has_start, none_at_start, start_is}
 use Rattle.precision_law.proofs.law.Cover.{behind_of, later_end}
 use Rattle.precision_law.proofs.law.Precision.{not_integrating}
-use Rattle.precision_law.proofs.law.Together.{before_narrow, block_ends, follows_before}
+use Rattle.precision_law.proofs.law.Together.{before_narrow}
 
 -- ---- the ends of a hull
 
--- the ends of a hull are those of the one that was given, or times of the records
-pub record HasEnds (o : Option Hull) (hs : List Happening) (w : Hull) : Type 0 where
-  pub least : ((h : Happening) × IsIn h hs × (w.least ≡ pos (time_of h))) ⊎ ((old : Hull) × (o ≡ Some old) × (w.least ≡ old.least))
-  pub greatest : ((h : Happening) × IsIn h hs × (w.greatest ≡ pos (time_of h))) ⊎ ((old : Hull) × (o ≡ Some old) × (w.greatest ≡ old.greatest))
+-- an end of the hull is the time of one of the records, or the end of the hull that was given
+abbrev pub IsEndOf : (Hull → ℤ) → Option Hull → List Happening → Hull → Type 0
+IsEndOf end o hs w = ((h : Happening) × IsIn h hs × (end w ≡ pos (time_of h))) ⊎ ((old : Hull) × (o ≡ Some old) × (end w ≡ end old))
 
--- of the hull widened by a record
-widened_ends : (o : Option Hull) (g : Happening) (hs : List Happening) (w : Hull) → HasEnds (widened o (pos (time_of g))) hs w → HasEnds o (g ∷ hs) w
-widened_ends None g hs w ends = record {
-  least = elim ends.least [
-    | inl at ↦ inl (at.0, inr at.1, at.2)
-    | inr old ↦ (let same : pos (time_of g) ≡ old.0.least = ap (λ (x : Hull). x.least)
-        (same_some (widened None (pos (time_of g))) (record { least = pos (time_of g); greatest = pos (time_of g) }) old.0 refl old.1) in inl
-        (g, inl refl, old.2 ∙ sym same))
-  ];
-  greatest = elim ends.greatest [
-    | inl at ↦ inl (at.0, inr at.1, at.2)
-    | inr old ↦ (let same : pos (time_of g) ≡ old.0.greatest = ap (λ (x : Hull). x.greatest)
-        (same_some (widened None (pos (time_of g))) (record { least = pos (time_of g); greatest = pos (time_of g) }) old.0 refl old.1) in inl
-        (g, inl refl, old.2 ∙ sym same))
-  ];
-}
-widened_ends (Some x) g hs w ends = record {
-  least = elim ends.least [
-    | inl at ↦ inl (at.0, inr at.1, at.2)
-    | inr old ↦
-        let same : int_min x.least (pos (time_of g)) ≡ old.0.least = ap (λ (y : Hull). y.least)
-        (same_some _ (record { least = int_min x.least (pos (time_of g)); greatest = int_max x.greatest (pos (time_of g)) }) _ refl old.1) in
-        by_lt_z {P = _} x.least (pos (time_of g))
-        (λ lt. inr (x, refl, (let e : int_min x.least (pos (time_of g)) ≡ x.least = omega (arith, ints, clamps, lt) in old.2 ∙ sym same ∙ e)))
-        (λ ge. inl (g, inl refl, (let e : int_min x.least (pos (time_of g)) ≡ pos (time_of g) = omega (arith, ints, clamps, ge) in old.2 ∙ sym same ∙ e)))
-  ];
-  greatest = elim ends.greatest [
-    | inl at ↦ inl (at.0, inr at.1, at.2)
-    | inr old ↦
-        let same : int_max x.greatest (pos (time_of g)) ≡ old.0.greatest = ap (λ (y : Hull). y.greatest)
-        (same_some _ (record { least = int_min x.least (pos (time_of g)); greatest = int_max x.greatest (pos (time_of g)) }) _ refl old.1) in
-        by_lt_z {P = _} x.greatest (pos (time_of g))
-        (λ lt. inl (g, inl refl, (let e : int_max x.greatest (pos (time_of g)) ≡ pos (time_of g) = omega (arith, ints, clamps, lt) in old.2 ∙ sym same ∙ e)))
-        (λ ge. inr (x, refl, (let e : int_max x.greatest (pos (time_of g)) ≡ x.greatest = omega (arith, ints, clamps, ge) in old.2 ∙ sym same ∙ e)))
-  ];
-}
+-- so it is where one record widens the hull
+abbrev Widens : (Hull → ℤ) → Type 0
+Widens end = (o : Option Hull) (t : ℤ) (w : Hull) → widened o t ≡ Some w → (end w ≡ t) ⊎ ((old : Hull) × (o ≡ Some old) × (end w ≡ end old))
+
+least_widens : Widens (λ w. w.least)
+least_widens None t w e = inl (ap (λ (x : Hull). x.least) (same_some _ w _ e refl))
+least_widens (Some x) t w e =
+    let same = ap (λ (y : Hull). y.least) (same_some _ w _ e refl) in
+    by_lt_z {P = _} x.least t (λ lt. inr (x, refl, omega (arith, ints, clamps, lt, same))) (λ ge. inl (omega (arith, ints, clamps, ge, same)))
+
+greatest_widens : Widens (λ w. w.greatest)
+greatest_widens None t w e = inl (ap (λ (x : Hull). x.greatest) (same_some _ w _ e refl))
+greatest_widens (Some x) t w e =
+    let same = ap (λ (y : Hull). y.greatest) (same_some _ w _ e refl) in
+    by_lt_z {P = _} x.greatest t (λ lt. inl (omega (arith, ints, clamps, lt, same))) (λ ge. inr (x, refl, omega (arith, ints, clamps, ge, same)))
+
+end_of : (end : Hull → ℤ) → Widens end → (o : Option Hull) (hs : List Happening) (w : Hull) → over o hs ≡ Some w → IsEndOf end o hs w
+end_of end widens o [] w e = inr (w, e, refl)
+end_of end widens o (g ∷ hs) w e = elim (end_of end widens (widened o (pos (time_of g))) hs w e) [
+  | inl at ↦ inl (at.0, inr at.1, at.2)
+  | inr old ↦ elim (widens o (pos (time_of g)) old.0 old.1) [
+    | inl here ↦ inl (g, inl refl, old.2 ∙ here)
+    | inr before ↦ inr (before.0, before.1, old.2 ∙ before.2)
+  ]
+]
+
+-- both ends are
+pub record HasEnds (o : Option Hull) (hs : List Happening) (w : Hull) : Type 0 where
+  pub least : IsEndOf (λ x. x.least) o hs w
+  pub greatest : IsEndOf (λ x. x.greatest) o hs w
 
 pub ends_of : (o : Option Hull) (hs : List Happening) (w : Hull) → over o hs ≡ Some w → HasEnds o hs w
-ends_of o [] w e = record { least = inr (w, e, refl); greatest = inr (w, e, refl) }
-ends_of o (g ∷ hs) w e = widened_ends o g hs w (ends_of (widened o (pos (time_of g))) hs w e)
+ends_of o hs w e = record { least = end_of (λ x. x.least) least_widens o hs w e; greatest = end_of (λ x. x.greatest) greatest_widens o hs w e }
 
 -- ---- the clocks of masters at a dispatch
 
@@ -79,24 +72,15 @@ in_next v n before w is low high in_run =
     record {
       next = next.0;
       is_over = (before.hull, before.is_hull, next.1.behind);
-      from = from_next v n before w is low;
+      from = omega (arith, ints, next_first v n before is, low);
       to = omega (arith, ints, high, next.1.behind, frames_come_first v.sizes before.hull (room v is) (before_narrow v n before), before_narrow v n before);
       in_run = in_run;
     }
-  where
-    from_next : (v : View) (n : ℕ) (before : Stands v n) (w : ℕ) → IsView v → first_dispatch v.sizes before.hull ≤ℤ pos w → before.next ≤ w
-    from_next v zero before w is low = (let zero_next : before.next ≡ 0 = before.is_over in omega (arith, zero_next))
-    from_next v (suc c) before w is low =
-        let one = before.narrow c (omega arith) in
-        let at = block_ends v c before.next one.0 one.1 before.is_over in
-        omega (arith, ints, at, corrections_come_first v.sizes one.0 before.hull (room v is) one.2 (follows_before v c _ _ is one.1 before.is_hull), low)
-
-ends_of_role : (o : Option Device) → option_map_or (λ d. is_master d.role) o false ≡ true → option_map_or (λ d. is_end_system d.role) o false ≡ true
-ends_of_role None e = e
-ends_of_role (Some d) e = master_ends d.role e
 
 pub master_is_end : (v : View) (device : DeviceId) → has_role v.scenario.network is_master device ≡ true → is_end v.scenario.network device ≡ true
-master_is_end v device e = ends_of_role (device_at v.scenario.network device) e
+master_is_end v device e =
+    let d = device_of is_master (device_at v.scenario.network device) e in
+    ap (λ (o : Option Device). option_map_or (λ x. is_end_system x.role) o false) d.1 ∙ master_ends d.0.role d.2
 
 pub synchronised_is : (state : State) → is_synchronised state ≡ true → state ≡ Synchronised
 synchronised_is Synchronised e = refl
@@ -208,34 +192,37 @@ end_is v n before h i =
     let t = tested v before.hull (suc n) h h.note.body (passes test v.records h i) in
     record { device = t.device; dispatch = record { there = in_filter test v.records h i; is = t.is; good = t.good }; low = t.low; high = t.high }
 
+-- its master's clock was set before the block
+end_old : BlocksGoSo → (v : View) (n : ℕ) (before : Stands v n) (h : Happening) → IsView v → (e : IsEnd v n before h)
+    → (before.next ≤ time_of h) × IsOldAt v before.next e.device (time_of h)
+end_old goes v n before h is e =
+    let at = in_next v n before (time_of h) is e.low e.high (within_run v is h e.dispatch.there) in
+    (at.from, ((goes v n (time_of h) (block_of v n before (time_of h) at) is).dispatches h e.device (suc n) e.dispatch refl).old)
+
 -- the two ends of the hull come near
 ends_near : BlocksGoSo → (v : View) (n : ℕ) (before : Stands v n) (g h : Happening) → IsView v → IsEnd v n before g → IsEnd v n before h
     → time_of g ≤ time_of h + v.sizes.spread
-ends_near goes v zero before g h is one other =
-    let at_g = in_next v zero before (time_of g) is one.low one.high (within_run v is g one.dispatch.there) in
-    let at_h = in_next v zero before (time_of h) is other.low other.high (within_run v is h other.dispatch.there) in
-    let so_g = (goes v zero (time_of g) (block_of v zero before (time_of g) at_g) is).dispatches g one.device 1 one.dispatch refl in
-    let so_h = (goes v zero (time_of h) (block_of v zero before (time_of h) at_h) is).dispatches h other.device 1 other.dispatch refl in
-    let zero_next : before.next ≡ 0 = before.is_over in
-    let same : before.hull ≡ start_hull v.sizes = same_some (hull_of v zero) before.hull (start_hull v.sizes) before.is_hull refl in
-    let old_g = subst (λ (x : ℕ). epoch_time (earlier (time_of g) v.records) one.device <ℤ pos x) zero_next so_g.old in
-    let old_h = subst (λ (x : ℕ). epoch_time (earlier (time_of h) v.records) other.device <ℤ pos x) zero_next so_h.old in
-    let late_g = subst (λ (w : Hull). pos (time_of g) ≤ℤ last_dispatch v.sizes w) same one.high in
-    let late_h = subst (λ (w : Hull). pos (time_of h) ≤ℤ last_dispatch v.sizes w) same other.high in
-    starts_stay_together v.sizes (time_of g) (time_of h) (room v is)
-    (start_near v one.device (time_of g) is one.dispatch.good (has_dispatched v g one.device 1 is one.dispatch) old_g late_g)
-    (start_near v other.device (time_of h) is other.dispatch.good (has_dispatched v h other.device 1 is other.dispatch) old_h late_h)
+ends_near goes v zero before g h is one other = starts_stay_together v.sizes (time_of g) (time_of h) (room v is) (near g one) (near h other)
+  where
+    near : (h : Happening) → IsEnd v zero before h → IsReachedNear v.sizes (pos 0 -ℤ pos (2 * v.sizes.settled)) (pos 0) v.sizes.cycle (time_of h)
+    near h e =
+        let same : before.hull ≡ start_hull v.sizes = same_some (hull_of v zero) before.hull (start_hull v.sizes) before.is_hull refl in
+        let old = subst (λ (x : ℕ). epoch_time (earlier (time_of h) v.records) e.device <ℤ pos x) before.is_over (end_old goes v zero before h is e).1 in
+        start_near v e.device (time_of h) is e.dispatch.good (has_dispatched v h e.device 1 is e.dispatch) old
+        (subst (λ (w : Hull). pos (time_of h) ≤ℤ last_dispatch v.sizes w) same e.high)
 ends_near goes v (suc c) before g h is one other =
-    let n = suc c in
-    let at_g = in_next v n before (time_of g) is one.low one.high (within_run v is g one.dispatch.there) in
-    let at_h = in_next v n before (time_of h) is other.low other.high (within_run v is h other.dispatch.there) in
-    let so_g = (goes v n (time_of g) (block_of v n before (time_of g) at_g) is).dispatches g one.device (suc n) one.dispatch refl in
-    let so_h = (goes v n (time_of h) (block_of v n before (time_of h) at_h) is).dispatches h other.device (suc n) other.dispatch refl in
-    let share = before.shared (omega arith) in
-    let x = shared_near v n _ before _ share is one.dispatch.good (has_dispatched v g _ _ is one.dispatch) at_g.from so_g.old one.high in
-    let y = shared_near v n _ before _ share is other.dispatch.good (has_dispatched v h _ _ is other.dispatch) at_h.from so_h.old other.high in
+    let x = near g one in
+    let y = near h other in
     let half = shared_clocks_halve v.sizes before.hull share.shared x.other y.other (time_of g) (time_of h) (room v is) x.near y.near x.reached y.reached in
-    omega (arith, ints, half, before_narrow v n before, (room v is).errors.spread_is)
+    omega (arith, ints, half, before_narrow v (suc c) before, (room v is).errors.spread_is)
+  where
+    share : AreShared v (suc c) before.hull before.next
+    share = before.shared (omega arith)
+
+    near : (h : Happening) → IsEnd v (suc c) before h → IsReachedBy v (suc c) (time_of h) before.hull share.shared
+    near h e =
+        let at = end_old goes v (suc c) before h is e in
+        shared_near v (suc c) _ before _ share is e.dispatch.good (has_dispatched v h _ _ is e.dispatch) at.0 at.1 e.high
 
 pub hulls_are_narrow : BlocksGoSo → HullsAreNarrow
 hulls_are_narrow goes v n before hull is is_hull =

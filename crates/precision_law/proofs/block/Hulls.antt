@@ -1,54 +1,40 @@
 -- The hull of a cycle.
-use Rattle.precision_law.proofs.words.Std.{◌&&◌, ◌==◌, ◌∙◌, ◌∷◌, ◌≡◌, ◌≤ℤ◌, ◌≤◌, Bool, List, None, Option, Some, [], and_parts, ap, arith, clamps, eq-eqb, eqb-true, false, filter, fold, inl, inr, int_le, int_max, int_min, ints, not, not-true, not_from_false, option_and_then, pos, refl, subst, suc, sym, true, ℕ, ℤ}
+use Rattle.precision_law.proofs.words.Std.{◌&&◌, ◌==◌, ◌∷◌, ◌≡◌, ◌≤ℤ◌, ◌≤◌, List, None, Option, Some, [], and_parts, ap, arith, clamps, eq-eqb, eqb-true, false, filter, fold, inl, inr, int_le, ints, not, not-true, not_from_false, option_and_then, pos, refl, subst, suc, sym, true, ℕ, ℤ}
 use Rattle.precision_law.proofs.words.Plans.{DeviceId, int_le-true}
-use Rattle.precision_law.proofs.words.Runs.{Happening, IsIn, NoteBody, in_filter, is_broken, same_some, time_of}
+use Rattle.precision_law.proofs.words.Runs.{Happening, IsIn, NoteBody, in_filter, is_broken, time_of}
 use Rattle.precision_law.proofs.words.Laws.{Follows, Hull, IsDispatch, IsInHull, View, first_dispatch, hull_of, hull_over, is_dispatch, last_dispatch, widened}
 use Rattle.run_law.specs.declared.note.NoteBody.TheVariants as notes
-use Rattle.precision_law.proofs.records.Times.{in_kept, passes}
 use Rattle.precision_law.proofs.Plain.{never_some}
+use Rattle.precision_law.proofs.records.Times.{in_kept, passes}
 
 -- ---- widening
 
 -- the hull is there, and the instant lies in it
-record HasIn (o : Option Hull) (t : ℤ) : Type 0 where
-  pub hull : Hull
-  pub is : o ≡ Some hull
-  pub least : hull.least ≤ℤ t
-  pub most : t ≤ℤ hull.greatest
+abbrev HasIn : ℤ → Option Hull → Type 0
+HasIn t None = ⊥
+HasIn t (Some w) = (w.least ≤ℤ t) × (t ≤ℤ w.greatest)
 
 -- a widened hull has the instant by which it is, and those that it had
-widened_has : (o : Option Hull) (t : ℤ) → HasIn (widened o t) t
-widened_has None t = record { hull = record { least = t; greatest = t }; is = refl; least = omega (arith, ints); most = omega (arith, ints) }
-widened_has (Some w) t = record {
-  hull = record { least = int_min w.least t; greatest = int_max w.greatest t };
-  is = refl;
-  least = omega (arith, ints, clamps);
-  most = omega (arith, ints, clamps);
-}
+widened_has : (o : Option Hull) (t : ℤ) → HasIn t (widened o t)
+widened_has None t = (omega (arith, ints), omega (arith, ints))
+widened_has (Some w) t = (omega (arith, ints, clamps), omega (arith, ints, clamps))
 
-widened_keeps : (o : Option Hull) (t u : ℤ) → HasIn o u → HasIn (widened o t) u
-widened_keeps None t u has = absurd (never_some has.hull has.is)
-widened_keeps (Some w) t u has =
-    let same : w ≡ has.hull = same_some (Some w) w has.hull refl has.is in
-    record {
-      hull = record { least = int_min w.least t; greatest = int_max w.greatest t };
-      is = refl;
-      least = omega (arith, ints, clamps, ap (λ (x : Hull). x.least) same, has.least);
-      most = omega (arith, ints, clamps, ap (λ (x : Hull). x.greatest) same, has.most);
-    }
+widened_keeps : (o : Option Hull) (t u : ℤ) → HasIn u o → HasIn u (widened o t)
+widened_keeps None t u has = absurd has
+widened_keeps (Some w) t u has = (omega (arith, ints, clamps, has.0), omega (arith, ints, clamps, has.1))
 
 abbrev pub over : Option Hull → List Happening → Option Hull
 over o hs = fold (λ hull h. widened hull (pos (time_of h))) o hs
 
-over_keeps : (o : Option Hull) (hs : List Happening) (u : ℤ) → HasIn o u → HasIn (over o hs) u
+over_keeps : (o : Option Hull) (hs : List Happening) (u : ℤ) → HasIn u o → HasIn u (over o hs)
 over_keeps o [] u has = has
 over_keeps o (h ∷ hs) u has = over_keeps (widened o (pos (time_of h))) hs u (widened_keeps o (pos (time_of h)) u has)
 
 -- the hull of records has the time of each
-over_has : (o : Option Hull) (hs : List Happening) (h : Happening) → IsIn h hs → HasIn (over o hs) (pos (time_of h))
+over_has : (o : Option Hull) (hs : List Happening) (h : Happening) → IsIn h hs → HasIn (pos (time_of h)) (over o hs)
 over_has o [] h i = absurd i
 over_has o (g ∷ hs) h (inl same) =
-    subst (λ (x : Happening). HasIn (over o (g ∷ hs)) (pos (time_of x))) (sym same) (over_keeps _ hs _ (widened_has o (pos (time_of g))))
+    subst (λ (x : Happening). HasIn (pos (time_of x)) (over o (g ∷ hs))) (sym same) (over_keeps _ hs _ (widened_has o (pos (time_of g))))
 over_has o (g ∷ hs) h (inr more) = over_has (widened o (pos (time_of g))) hs h more
 
 -- the hull, if it is there, lies between these
@@ -86,8 +72,7 @@ pub tested : (v : View) (before : Hull) (cycle : ℕ) (h : Happening) (body : No
 tested v before cycle h (notes.Sent device of_cycle) e =
     let low = int_le (first_dispatch v.sizes before) (pos (time_of h)) in
     let high = int_le (pos (time_of h)) (last_dispatch v.sizes before) in
-    let whole = assoc (not (is_broken v.scenario device v.until)) (of_cycle == cycle) (low && high) e in
-    let a = and_parts (not (is_broken v.scenario device v.until) && of_cycle == cycle) (low && high) whole in
+    let a = and_parts (not (is_broken v.scenario device v.until) && of_cycle == cycle) (low && high) e in
     let b = and_parts (not (is_broken v.scenario device v.until)) (of_cycle == cycle) a.0 in
     let c = and_parts low high a.1 in
     record {
@@ -97,10 +82,6 @@ tested v before cycle h (notes.Sent device of_cycle) e =
       low = int_le-is (first_dispatch v.sizes before) (pos (time_of h)) c.0;
       high = int_le-is (pos (time_of h)) (last_dispatch v.sizes before) c.1;
     }
-  where
-    assoc : (x y z : Bool) → (x && y && z) ≡ true → ((x && y) && z) ≡ true
-    assoc true y z e = e
-    assoc false y z e = e
 tested v before cycle h other e = absurd cc
 
 -- the dispatch of a good master in time passes the test
@@ -120,10 +101,14 @@ pub in_hull : (v : View) (cycle : ℕ) (before : Hull) (h : Happening) (device :
     → first_dispatch v.sizes before ≤ℤ pos (time_of h) → pos (time_of h) ≤ℤ last_dispatch v.sizes before → IsInHull v (suc cycle) (time_of h)
 in_hull v cycle before h device is_before dispatch low high =
     let test = λ (g : Happening). is_dispatch v before (suc cycle) g g.note.body in
-    let has = over_has None (filter test v.records) h (in_kept test v.records h dispatch.there (passes_test v before (suc cycle) h device dispatch low high)) in
+    let i = in_kept test v.records h dispatch.there (passes_test v before (suc cycle) h device dispatch low high) in
     let same = ap (λ (o : Option Hull). option_and_then (λ before. hull_over (filter (λ h. is_dispatch v before
     (suc cycle) h h.note.body) v.records)) o) is_before in
-    record { hull = has.hull; is = same ∙ has.is; least = has.least; most = has.most }
+    of_hull (hull_over (filter test v.records)) same (over_has None (filter test v.records) h i)
+  where
+    of_hull : (o : Option Hull) → hull_of v (suc cycle) ≡ o → HasIn (pos (time_of h)) o → IsInHull v (suc cycle) (time_of h)
+    of_hull None same has = absurd has
+    of_hull (Some w) same has = record { hull = w; is = same; least = has.0; most = has.1 }
 
 -- the hull of a cycle follows one of the cycle before
 pub record HasBefore (v : View) (cycle : ℕ) (hull : Hull) : Type 0 where
@@ -131,10 +116,6 @@ pub record HasBefore (v : View) (cycle : ℕ) (hull : Hull) : Type 0 where
   pub is_before : hull_of v cycle ≡ Some before
   pub follows : Follows v.sizes before hull
   pub begun : hull.least ≤ℤ pos v.until
-
--- what is between these, where it is there
-between_some : (a b : ℤ) (o : Option Hull) (w : Hull) → o ≡ Some w → LiesBetween a b o → (a ≤ℤ w.least) × (w.greatest ≤ℤ b) × (w.least ≤ℤ w.greatest)
-between_some a b o w is at = subst (LiesBetween a b) is at
 
 pub has_before : (v : View) (cycle : ℕ) (hull : Hull) → ((h : Happening) → IsIn h v.records → time_of h ≤ v.until) → hull_of v (suc cycle) ≡ Some hull
     → HasBefore v cycle hull
@@ -145,18 +126,14 @@ has_before v cycle hull in_run is = by (hull_of v cycle) refl is
     by None e s = absurd (never_some hull s)
     by (Some before) e s =
         let test = λ (g : Happening). is_dispatch v before (suc cycle) g g.note.body in
-        let bounds = between_some _ _ _ _ s (over_between (first_dispatch v.sizes before) (last_dispatch v.sizes before) None (filter test v.records) (λ h i.
-        let t = tested v before (suc cycle) h h.note.body (passes test v.records h i) in (t.low, t.high)) tt) in
-        let first = some_first (filter test v.records) hull s in
+        let tests = λ (h : Happening) (i : IsIn h (filter test v.records)). tested v before (suc cycle) h h.note.body (passes test v.records h i) in
+        let bounds = subst (LiesBetween (first_dispatch v.sizes before) (last_dispatch v.sizes before)) s
+        (over_between _ _ None (filter test v.records) (λ h i. ((tests h i).low, (tests h i).high)) tt) in
+        let run = subst (LiesBetween (first_dispatch v.sizes before) (pos v.until)) s
+        (over_between _ _ None (filter test v.records) (λ h i. ((tests h i).low, omega (arith, ints, in_run h (in_filter test v.records h i)))) tt) in
         record {
           before = before;
           is_before = e;
           follows = record { least = bounds.0; most = bounds.1; ordered = bounds.2 };
-          begun = omega (arith, ints, in_run first.0 (in_filter test v.records first.0 first.1), first.2);
+          begun = omega (arith, ints, run.1, run.2);
         }
-      where
-        some_first : (hs : List Happening) (w : Hull) → hull_over hs ≡ Some w → (h : Happening) × IsIn h hs × (w.least ≤ℤ pos (time_of h))
-        some_first [] w e = absurd cc
-        some_first (h ∷ hs) w e =
-            let has = over_has None (h ∷ hs) h (inl refl) in
-            (h, inl refl, subst (λ (x : Hull). x.least ≤ℤ pos (time_of h)) (same_some (hull_over (h ∷ hs)) has.hull w has.is e) has.least)

@@ -1,9 +1,9 @@
 -- How a frame tells a device the time.
-use Rattle.precision_law.proofs.words.Std.{◌*ℤ◌, ◌*◌, ◌+◌, ◌-ℤ◌, ◌∙◌, ◌≡◌, ◌≤ℤ◌, ◌≤◌, Bool, List, MatchBool-at_false, MatchBool-at_true, None, Option, Some, and_parts, ap, arith, cases_Bool, false, if◌then◌else◌, inl, inr, ints, leb-true, nat_le, negsuc, not, option_and_then, option_map, option_map_or, pos, refl, subst, sym, true, unsigned_abs, ℕ, ℤ}
-use Rattle.precision_law.proofs.words.Plans.{Channel, Cm, Device, DeviceId, Integrating, IsDeviceInRange, Joints, Link, LinkId, Members, Network, Off, Opened, Pcf, Point, Role, State, SyncPlan, Taken, Units, all_at, amount, compression_time, count_of, device_at, expected_at, is_end_system, link_at, opened, target_by}
-use Rattle.precision_law.proofs.words.Runs.{Happening, Integrates, IsArrivedRecord, IsCaused, IsCollectedOrDropped, IsDue, IsFounded, IsIn, IsPermanenceOutcome, NoteBody, Reason, adjustment_with, channel_of, channel_of_link, cycle_in, expected_by, founded_at, frame_by, heard_as, heard_by_schedule, heard_enough, is_cm, is_cm_role, is_joined_by, last_cycle, members_in, numbered, numbered_in, observation_window, place_of, plan_of, ripe_by_role, same_judgement}
+use Rattle.precision_law.proofs.words.Std.{◌*ℤ◌, ◌*◌, ◌+◌, ◌-ℤ◌, ◌∙◌, ◌≡◌, ◌≤ℤ◌, ◌≤◌, Bool, List, MatchBool-at_false, None, Option, Some, and_parts, ap, arith, false, if◌then◌else◌, inl, inr, ints, leb-true, nat_le, negsuc, not, option_and_then, option_map, option_map_or, pos, refl, subst, sym, true, unsigned_abs, ℕ, ℤ}
+use Rattle.precision_law.proofs.words.Plans.{Channel, Cm, Device, DeviceId, Integrating, IsDeviceInRange, Joints, Link, LinkId, Members, Network, Off, Pcf, Point, Role, State, SyncPlan, Units, all_at, amount, compression_time, count_of, device_at, expected_at, is_end_system, link_at, opened, target_by}
+use Rattle.precision_law.proofs.words.Runs.{Happening, Integrates, IsArrivedRecord, IsCaused, IsFoundedAt, IsIn, IsPermanenceOutcome, NoteBody, adjustment_with, channel_of, channel_of_link, cycle_in, expected_by, founded_at, frame_by, heard_as, heard_by_schedule, heard_enough, is_cm, is_cm_role, is_joined_by, last_cycle, members_in, numbered_in, observation_window, plan_of, same_judgement}
 use Rattle.precision_law.proofs.words.Laws.{HearsBy, IsView, View, setting}
-use Rattle.precision_law.proofs.words.Clocks.{device_of, same_device, sizes_are, some_of}
+use Rattle.precision_law.proofs.words.Clocks.{device_of, hearer_not_cm, passes, same_device, sizes_are, some_of}
 use Rattle.run_law.specs.declared.note.NoteBody.TheVariants as notes
 use Rattle.run_law.specs.declared.steps.Ripe.TheVariants as ripe
 
@@ -62,25 +62,14 @@ integrates_by plan precision Integrating adjustment point cycle members e =
     record { looks = refl; enough = leb-true plan.threshold (count_of members) both.0 }
 integrates_by plan precision state adjustment point cycle members e = absurd (never_in_time _ e)
 
--- what a compression master collects does not tell it the time
-never_collected : (n : Network) (points : List Point) (point : Point) (fault : Option Reason) → IsCollectedOrDropped n points point fault ripe.Integrates → ⊥
-never_collected n points point (Some reason) e = absurd cc
-never_collected n points point None taken = no_role taken.taken taken.becomes
-  where
-    no_role : (t : Taken) → ripe.Integrates ≡ ripe_by_role t → ⊥
-    no_role Opened e = absurd cc
-    no_role t e = absurd cc
-
--- so what does is heard by another device
+-- what becomes permanent so is heard by another device than a compression master
 pub ripe_integrates : (n : Network) (device : DeviceId) (state : State) (adjustment : ℤ) (points : List Point) (frame : Pcf) (point : ℤ)
     → IsPermanenceOutcome n device state adjustment points frame point ripe.Integrates → (is_cm n device ≡ false)
     × IsEnough (plan_of n device) state frame.members
-ripe_integrates n device state adjustment points frame point so = elim (cases_Bool (is_cm n device)) [
-  | inl at ↦ absurd (never_collected n points _ _ (MatchBool-at_true _ _ at so))
-  | inr at ↦
-      let same = sym (same_judgement Integrates _ (MatchBool-at_false _ _ at so)) in
-      (at, integrates_by (plan_of n device) (observation_window n) state adjustment point frame.cycle frame.members same)
-]
+ripe_integrates n device state adjustment points frame point so =
+    let other = hearer_not_cm n device state adjustment points frame point Integrates tt so in
+    let same = sym (same_judgement Integrates _ (MatchBool-at_false _ _ other so)) in
+    (other, integrates_by (plan_of n device) (observation_window n) state adjustment point frame.cycle frame.members same)
 
 -- ---- the record of a joining
 
@@ -102,58 +91,52 @@ arrival_link v hs t device link cause clock a = elim a.taken [
   | inr (inr both) ↦ link_of_receiver v.scenario.network (link_at v.scenario.network link) (target_by both.arrives.way) device both.arrives.receiver
 ]
 
--- the link of an arrival that is among some records is there
-arrived_link : (v : View) (ps : List Happening) (device : DeviceId) (link : LinkId) (cause from clock : ℕ) (arrival : Happening)
-    → IsFounded place_of (IsDue v.scenario) ps → numbered ps cause ≡ Some arrival → arrival.note.body ≡ notes.Arrived device link from clock → (l : Link)
-    × (link_at v.scenario.network link ≡ Some l)
-arrived_link v ps device link cause from clock arrival founded there is =
-    let at = founded_at v.scenario ps arrival founded (numbered_in ps cause arrival there) in
-    arrival_link v at.front (amount arrival.note.time) device link from clock (subst (IsCaused v.scenario at.front arrival.note.time) is at.due.cause)
-
-joins_by : (v : View) (h : Happening) (device : DeviceId) (body : NoteBody) (ps : List Happening) → IsView v → IsIn h v.records
-    → IsFounded place_of (IsDue v.scenario) ps → h.note.body ≡ body → h.frame ≡ frame_by v.scenario.network ps body → IsCaused v.scenario ps h.note.time body
-    → is_joined_by device body ≡ true → Joins v h device
-joins_by v h device (notes.Permanent other link cause point Integrates) ps is i founded same framed caused joined =
-    let p = caused.permanent in
-    let l = arrived_link v ps other link cause p.from p.clock p.arrival founded p.there p.arrived in
-    let channel = link_channel v link l.0 is l.1 in
-    let of_frame : h.frame ≡ Some caused.frame = framed ∙ ap (λ (o : Option Happening). option_and_then (λ x. x.frame) o) p.there ∙ p.of_frame in
-    let ripe_so = ripe_integrates v.scenario.network other _ _ _ caused.frame point.0 caused.becomes in
-    let members : caused.frame.members.0 ≡ members_in h = ap (λ (o : Option Pcf). option_map_or (λ f. f.members.0) o 0) (sym of_frame) in
-    let body_is = same ∙ ap (λ (d : DeviceId). notes.Permanent d link cause point Integrates) (same_device device other joined) in
-    record {
-      channel = channel.0;
-      point = point.0;
-      hears = record { there = i; how = inl (link, cause, point, body_is, channel.1, refl) };
-      enough = subst (λ (m : ℕ). v.scenario.network.sync_threshold ≤ count_of (record { 0 = m })) members ripe_so.1.enough;
-      sets = λ old. ap (λ (b : NoteBody). (adjustment_with v.scenario device (cycle_in h) old b).0) same ∙ rw joined refl;
-    }
-joins_by v h device (notes.Compressed other opened at cycle members Integrates) ps is i founded same framed caused joined =
-    let n = v.scenario.network in
-    let one : other ≡ device = same_device device other joined in
-    let channel = cm_channel v other is caused.cm in
-    let enough = integrates_by (plan_of n other) (observation_window n) _ _ at.0 cycle members (sym caused.heard) in
-    let of_members : members.0 ≡ members_in h = ap (λ (o : Option Pcf). option_map_or (λ f. f.members.0) o 0) (sym framed) in
-    let of_cycle : cycle ≡ cycle_in h = ap (λ (o : Option Pcf). option_map_or (λ f. f.cycle) o 0) (sym framed) in
-    let body_is = same ∙ ap (λ (d : DeviceId). notes.Compressed d opened at cycle members Integrates) one in
-    record {
-      channel = channel.0;
-      point = at.0;
-      hears = record {
-        there = i;
-        how = inr (opened, at, cycle, members, body_is, subst (λ (d : DeviceId). channel_of n d ≡ Some channel.0) one channel.1, refl);
-      };
-      enough = subst (λ (m : ℕ). n.sync_threshold ≤ count_of (record { 0 = m })) of_members enough.enough;
-      sets =
-          λ old. ap (λ (b : NoteBody). (adjustment_with v.scenario device (cycle_in h) old b).0) same
-          ∙ rw joined (ap (λ (c : ℕ). expected_at (plan_of n device) c -ℤ at.0) of_cycle);
-    }
-joins_by v h device body ps is i founded same framed caused joined = absurd cc
-
 pub joins : (v : View) (h : Happening) (device : DeviceId) → IsView v → IsIn h v.records → is_joined_by device h.note.body ≡ true → Joins v h device
-joins v h device is i joined =
-    let at = founded_at v.scenario v.records h is.run.founded i in
-    joins_by v h device h.note.body at.front is i at.founded refl (ap (λ (x : Happening). x.frame) at.due.same) at.due.cause joined
+joins v h device is i joins_it = by h.note.body refl (ap (λ (x : Happening). x.frame) at.due.same) at.due.cause joins_it
+  where
+    at : IsFoundedAt v.scenario v.records h
+    at = founded_at v.scenario v.records h is.run.founded i
+
+    by : (body : NoteBody) → h.note.body ≡ body → h.frame ≡ frame_by v.scenario.network at.front body → IsCaused v.scenario at.front h.note.time body
+        → is_joined_by device body ≡ true → Joins v h device
+    by (notes.Permanent other link cause point Integrates) same framed caused joined =
+        let p = caused.permanent in
+        let came = founded_at v.scenario at.front p.arrival at.founded (numbered_in at.front cause p.arrival p.there) in
+        let l = arrival_link v came.front (amount p.arrival.note.time) other link p.from p.clock
+        (subst (IsCaused v.scenario came.front p.arrival.note.time) p.arrived came.due.cause) in
+        let channel = link_channel v link l.0 is l.1 in
+        let of_frame : h.frame ≡ Some caused.frame = framed ∙ ap (λ (o : Option Happening). option_and_then (λ x. x.frame) o) p.there ∙ p.of_frame in
+        let ripe_so = ripe_integrates v.scenario.network other _ _ _ caused.frame point.0 caused.becomes in
+        let members : caused.frame.members.0 ≡ members_in h = ap (λ (o : Option Pcf). option_map_or (λ f. f.members.0) o 0) (sym of_frame) in
+        let body_is = same ∙ ap (λ (d : DeviceId). notes.Permanent d link cause point Integrates) (same_device device other joined) in
+        record {
+          channel = channel.0;
+          point = point.0;
+          hears = record { there = i; how = inl (link, cause, point, body_is, channel.1, refl) };
+          enough = subst (λ (m : ℕ). v.scenario.network.sync_threshold ≤ count_of (record { 0 = m })) members ripe_so.1.enough;
+          sets = λ old. ap (λ (b : NoteBody). (adjustment_with v.scenario device (cycle_in h) old b).0) same ∙ rw joined refl;
+        }
+    by (notes.Compressed other opened point cycle members Integrates) same framed caused joined =
+        let n = v.scenario.network in
+        let one : other ≡ device = same_device device other joined in
+        let channel = cm_channel v other is caused.cm in
+        let enough = integrates_by (plan_of n other) (observation_window n) _ _ point.0 cycle members (sym caused.heard) in
+        let of_members : members.0 ≡ members_in h = ap (λ (o : Option Pcf). option_map_or (λ f. f.members.0) o 0) (sym framed) in
+        let of_cycle : cycle ≡ cycle_in h = ap (λ (o : Option Pcf). option_map_or (λ f. f.cycle) o 0) (sym framed) in
+        let body_is = same ∙ ap (λ (d : DeviceId). notes.Compressed d opened point cycle members Integrates) one in
+        record {
+          channel = channel.0;
+          point = point.0;
+          hears = record {
+            there = i;
+            how = inr (opened, point, cycle, members, body_is, subst (λ (d : DeviceId). channel_of n d ≡ Some channel.0) one channel.1, refl);
+          };
+          enough = subst (λ (m : ℕ). n.sync_threshold ≤ count_of (record { 0 = m })) of_members enough.enough;
+          sets =
+              λ old. ap (λ (b : NoteBody). (adjustment_with v.scenario device (cycle_in h) old b).0) same
+              ∙ rw joined (ap (λ (c : ℕ). expected_at (plan_of n device) c -ℤ point.0) of_cycle);
+        }
+    by body same framed caused joined = absurd cc
 
 -- ---- what is expected
 

@@ -1,9 +1,10 @@
 -- At the beginning the network stands as it should.
-use Rattle.precision_law.proofs.words.Std.{◌^◌, ◌∙◌, ◌≡◌, ◌≤ℤ◌, ◌≤◌, IfSome, List, None, Option, Some, [], ap, arith, ints, le-ltb, nat_lt, option_and_then, pos, refl, subst, suc, sym, true, zero, ℕ}
+use Rattle.precision_law.proofs.words.Std.{◌^◌, ◌∙◌, ◌≡◌, ◌≤ℤ◌, IfSome, List, None, Option, Some, [], ap, arith, ints, le-ltb, nat_lt, pos, refl, subst, sym, true, ℕ}
 use Rattle.precision_law.proofs.words.Plans.{Device, DeviceId, IsDeviceInRange, IsWithin, Masters, Units, adjustment_at_start, all_at, device_at, state_at_start}
 use Rattle.precision_law.proofs.words.Runs.{Happening, adjustment_after, earlier, none_kept, start_of, state_after, time_of}
 use Rattle.precision_law.proofs.words.Laws.{HasTimeAt, Hull, IsAnchoredIn, IsNarrow, IsSetFor, IsView, StandsAtStart, View, epoch_cycle, has_time, hull_of, start_hull}
 use Rattle.precision_law.proofs.words.Clocks.{room, sizes_are, starts_are_set, steady}
+use Rattle.precision_law.proofs.Plain.{reached}
 
 -- before time 0 there is no record
 pub none_at_start : (hs : List Happening) → earlier 0 hs ≡ []
@@ -16,11 +17,6 @@ pub has_start : (start : Option Units) → has_time (state_at_start start) ≡ t
 has_start None e = absurd cc
 has_start (Some u) e = (u, refl)
 
--- what a start is of
-start_from : (o : Option Device) (u : Units) → option_and_then (λ d. d.start) o ≡ Some u → (d : Device) × (o ≡ Some d) × (d.start ≡ Some u)
-start_from None u e = absurd cc
-start_from (Some d) u e = (d, refl, e)
-
 if_some : {X : Type 0} (P : X → Type 0) (o : Option X) (x : X) → o ≡ Some x → IfSome o P → P x
 if_some {X} P o x e h = subst (λ (s : Option X). IfSome s P) e h
 
@@ -32,7 +28,7 @@ pub record IsStart (v : View) (u : Units) : Type 0 where
 pub start_is : (v : View) (device : DeviceId) (u : Units) → IsView v → start_of v.scenario.network device ≡ Some u → IsStart v u
 start_is v device u is e =
     let n = v.scenario.network in
-    let from = start_from (device_at n device) u e in
+    let from = reached (λ (d : Device). d.start) (device_at n device) u e in
     let known : IsDeviceInRange from.0 = all_at IsDeviceInRange n.device device.0 from.0 is.lawful.range.devices from.1 in
     let within : IsWithin 0 (2 ^ 40) u = if_some (IsWithin 0 (2 ^ 40)) from.0.start u from.2 known.start in
     let settled = all_at (λ d. IfSome d.start (λ start. start.0 ≤ℤ n.settled.0)) n.device device.0 from.0 ((is.lawful.rules Masters 4).starts refl) from.1 in
@@ -67,7 +63,8 @@ stands_at_start v is =
       in_run = omega arith;
       hull = start_hull v.sizes;
       is_hull = refl;
-      narrow = λ c le. first_narrow v is c le;
+      narrow = λ c le. subst (λ (x : ℕ). (hull : Hull) × (hull_of v x ≡ Some hull) × IsNarrow v.sizes hull) (let e : 0 ≡ c = omega (arith, le) in e)
+          (start_hull v.sizes, refl, omega (arith, ints, space.errors.spread_is));
       dispatches = λ h device cycle dispatch lt. absurd (omega (arith, lt));
       clocks = λ device has. set_at_start v device is has;
       points = λ before c e. absurd (omega (arith, e));
@@ -75,7 +72,3 @@ stands_at_start v is =
       joined = λ h device i joined good lt. absurd (omega (arith, lt));
       kept = λ h device state cause why i lt. absurd (omega (arith, lt));
     }
-  where
-    first_narrow : (v : View) → IsView v → (c : ℕ) → c ≤ 0 → (hull : Hull) × (hull_of v c ≡ Some hull) × IsNarrow v.sizes hull
-    first_narrow v is zero le = (start_hull v.sizes, refl, (let space = room v is in omega (arith, ints, space.errors.spread_is)))
-    first_narrow v is (suc c) le = absurd (omega (arith, le))

@@ -1,15 +1,77 @@
--- A point that lies in one cluster's time with that of a frame of the block's cycle is of this cycle too.
-use Rattle.precision_law.proofs.words.Std.{◌%◌, ◌*◌, ◌+ℤ◌, ◌+◌, ◌-◌, ◌/◌, ◌∙◌, ◌∷◌, ◌≡◌, ◌≤ℤ◌, ◌≤◌, Bool, List, MatchBool-at_true, None, Option, Some, [], and_parts, ap, arith, cases_lt, div-add-mod, false, inl, inr, int_div_euclid, int_le, int_lt, int_rem_euclid_is, ints, ltb-false, not, not-false, option_and_then, option_map_or, pos, refl, subst, suc, sym, true, ℕ, ℤ}
-use Rattle.precision_law.proofs.words.Plans.{DeviceId, Network, Pcf, Point, State, Synchronised, amount}
-use Rattle.precision_law.proofs.words.Runs.{Cycle, Gate, Happening, IsCaused, IsCollectedOrDropped, IsIn, Judgement, Reason, adjustment_at_hearing, before_permanence, dispatch_value, first_reason, founded_at, frame_by, in_filter, in_left, is_before, is_cm, is_number, offset_in_cycle, place_of, point_fault, ripe_as, time_of}
-use Rattle.precision_law.proofs.words.Laws.{BlocksGoSo, HaveRoom, IsInBlock, IsView, Sizes, View, adjustment_left}
-use Rattle.precision_law.proofs.words.Clocks.{before_of, earlier_before, earlier_judge, int_le-is, natural, natural_of, room, sizes_are, steady}
-use Rattle.precision_law.proofs.words.Blocks.{GivesPoint, read_at}
+-- What the compression master of the sound channel takes in a block: a point that lies in one cluster's time with that of
+-- a frame of the block's cycle is of this cycle too.
+use Rattle.precision_law.proofs.words.Std.{◌%◌, ◌&&◌, ◌*◌, ◌+ℤ◌, ◌+◌, ◌-◌, ◌/◌, ◌<◌, ◌==◌, ◌∙◌, ◌∷◌, ◌≡◌, ◌≤ℤ◌, ◌≤◌, Bool, List, MatchBool-at_true, None, Option, Some, [], and_parts, ap, arith, cases_lt, div-add-mod, div-mul-add, false, false_from_ne_true, if◌then◌else◌, inl, inr, int_div_euclid, int_le, int_lt, int_rem_euclid_is, ints, le-ltb, ltb-false, mod-mul-add, mul-le-mul_right, not, not-false, option_and_then, option_map_or, pos, refl, subst, suc, sym, true, ℕ, ℤ}
+use Rattle.precision_law.proofs.words.Plans.{DeviceId, Joining, Network, Pcf, Point, State, Synchronised, Units, amount, int_le-true}
+use Rattle.precision_law.proofs.words.Runs.{Cycle, Gate, Happening, IsCaused, IsCollectedOrDropped, IsIn, Judgement, NoteBody, Reason, Why, adjustment_at_hearing, before_permanence, dispatch_value, ends_stretch, first_reason, founded_at, frame_by, has_joined_at, is_cm, is_joined_by, is_number, is_synchronised, offset_in_cycle, point_fault, ripe_as, state_at_hearing, state_before, time_of}
+use Rattle.precision_law.proofs.words.Laws.{BlocksGoSo, HaveRoom, IsInBlock, IsView, Sizes, View, adjustment_left, has_time}
+use Rattle.precision_law.proofs.words.Clocks.{adjustment_stays, any_in, int_le-is, natural, natural_of, one_more, room, same_device, sizes_are, steady}
+use Rattle.precision_law.proofs.words.Blocks.{AreUpTo, GivesPoint, hears_as_at, judged_up_to, read_at}
 use Rattle.run_law.specs.declared.judgement.Judgement.TheVariants as judgements
+use Rattle.run_law.specs.declared.judgement.Why.TheVariants as whys
+use Rattle.run_law.specs.declared.note.NoteBody.TheVariants as notes
 use Rattle.run_law.specs.declared.steps.Ripe.TheVariants as ripe
-use Rattle.precision_law.proofs.block.Dispatched.{IsCalm}
-use Rattle.precision_law.proofs.emission.Cycles.{IsTakenFor, far_below, of_one_cycle}
-use Rattle.precision_law.proofs.emission.Hearkens.{JudgeAt, hearing_adjustment, hearing_state}
+use Rattle.precision_law.proofs.block.Dispatched.{IsCalm, changes_never, joins_never, old_then, synchronised_before, synchronised_then}
+
+-- ---- values of one cycle
+
+-- a value that a compression master takes for the cycle: at most four precisions behind the cycle's beginning
+pub record IsTakenFor (n : Sizes) (cycle : ℕ) (value : ℤ) : Type 0 where
+  pub least : pos (cycle * n.cycle) ≤ℤ value
+  pub most : value ≤ℤ pos (cycle * n.cycle + 4 * n.precision)
+
+never_less : (n : Sizes) (a b : ℕ) (x y : ℤ) → HaveRoom n → IsTakenFor n a x → IsTakenFor n b y → y ≤ℤ (x +ℤ pos (2 * n.precision)) → a < b → ⊥
+never_less n a b x y space of_a of_b near lt =
+    let times : suc a * n.cycle ≤ b * n.cycle = mul-le-mul_right n.cycle (omega (arith, lt)) in
+    omega (arith, ints, one_more a n.cycle, times, near, of_a.most, of_b.least, space)
+
+-- two such values, at most two precisions apart, are of one cycle
+pub of_one_cycle : (n : Sizes) (a b : ℕ) (x y : ℤ) → HaveRoom n → IsTakenFor n a x → IsTakenFor n b y → x ≤ℤ y → y ≤ℤ (x +ℤ pos (2 * n.precision)) → a ≡ b
+of_one_cycle n a b x y space of_a of_b le near = elim (cases_lt a b) [
+  | inl lt ↦ absurd (never_less n a b x y space of_a of_b near lt)
+  | inr ge ↦ elim (cases_lt b a) [
+    | inl lt ↦ absurd (never_less n b a y x space of_b of_a (omega (arith, ints, le)) lt)
+    | inr le_too ↦ omega (arith, ge, le_too)
+  ]
+]
+
+-- ---- what a compression master takes
+
+-- a natural number in its cycle
+in_cycle : (n : Network) (c r m : ℕ) (z : ℤ) → pos 0 ≤ℤ n.cycle.0 → r < amount n.cycle → m ≡ c * amount n.cycle + r → z ≡ pos m → (offset_in_cycle n z ≡ pos r)
+    × (int_div_euclid z n.cycle.0 ≡ pos c)
+in_cycle n c r m z begun small is same =
+    let whole : n.cycle.0 ≡ pos (amount n.cycle) = natural n.cycle.0 begun in (
+      int_rem_euclid_is z n.cycle.0 (amount n.cycle) 0 m (omega (arith, small)) whole (omega (arith, ints, same))
+          ∙ ap pos (ap (λ (x : ℕ). x % amount n.cycle) is ∙ mod-mul-add c (amount n.cycle) r small),
+      ap (λ (x : ℤ). int_div_euclid x n.cycle.0) same ∙ ap (int_div_euclid (pos m)) whole
+          ∙ ap pos (ap (λ (x : ℕ). x / amount n.cycle) is ∙ div-mul-add c (amount n.cycle) r small),
+    )
+
+no_reason : (s a b : Bool) (p q : Reason) → a ≡ false → b ≡ true → first_reason ((s && a, p) ∷ (s && not b, q) ∷ []) ≡ None
+no_reason true false true p q x y = refl
+no_reason false a b p q x y = refl
+no_reason s a b p q x y = absurd cc
+
+is_itself : (c : ℕ) → is_number (pos c) c ≡ true
+is_itself c =
+    ap (λ (b : Bool). b && int_le (pos c) (pos c)) (int_le-true (pos c) (pos c) (omega (arith, ints))) ∙ int_le-true (pos c) (pos c) (omega (arith, ints))
+
+-- a frame whose dispatch seems to lie so near to the beginning of its cycle has no fault
+pub no_point_fault : (v : View) (state : State) (adjustment point : ℤ) (cycle : ℕ) → IsView v
+    → IsTakenFor v.sizes cycle (dispatch_value v.scenario.network adjustment point) → point_fault v.scenario.network state adjustment point cycle ≡ None
+no_point_fault v state adjustment point cycle is near =
+    let n = v.scenario.network in
+    let sizes = sizes_are v is in
+    let value = dispatch_value n adjustment point in
+    let product : cycle * amount n.cycle ≡ cycle * v.sizes.cycle = ap (λ (x : ℕ). cycle * x) (sym sizes.cycle) in
+    let m = natural_of value (cycle * amount n.cycle) (omega (arith, ints, near.least, product)) in
+    let r : ℕ = m.0 - cycle * amount n.cycle in
+    let is_r : m.0 ≡ cycle * amount n.cycle + r = omega (arith, ints, near.least, m.1, product) in
+    let small : r ≤ 4 * amount n.precision = omega (arith, ints, is_r, near.most, m.1, product, sizes.precision) in
+    let place = in_cycle n cycle r m.0 value (omega (arith, ints, is.lawful.range.cycle.least)) (omega (arith, small, sizes.cycle, sizes.precision, room v is))
+    is_r m.1 in
+    no_reason (is_synchronised state) _ _ Gate Cycle (ap (int_lt (pos (4 * amount n.precision))) place.0 ∙ le-ltb (4 * amount n.precision) r small)
+    (ap (λ (z : ℤ). is_number z cycle) place.1 ∙ is_itself cycle)
 
 -- ---- what has no fault
 
@@ -18,16 +80,8 @@ no_faults : (a b : Bool) (p q : Reason) → first_reason ((a, p) ∷ (b, q) ∷ 
 no_faults false false p q e = (refl, refl)
 no_faults a b p q e = absurd cc
 
--- of a value, its place in the cycle and the number of the cycle
-taken_numbers : (n : Sizes) (m length four cycle : ℕ) → length ≡ n.cycle → four ≡ 4 * n.precision → m / length ≡ cycle → m % length ≤ four
-    → IsTakenFor n cycle (pos m)
-taken_numbers n m length four cycle same size is small =
-    let parts = div-add-mod m length in
-    let product : cycle * n.cycle ≡ length * (m / length) = product_is cycle n.cycle length (m / length) same is in
-    record { least = omega (arith, ints, parts, product); most = omega (arith, ints, parts, product, small, size) }
-  where
-    product_is : (c l k d : ℕ) → k ≡ l → d ≡ c → c * l ≡ k * d
-    product_is c l k d a b = rw a (rw b (omega arith))
+product_is : (c l k d : ℕ) → k ≡ l → d ≡ c → c * l ≡ k * d
+product_is c l k d a b = rw a (rw b (omega arith))
 
 -- a synchronised compression master finds no fault only where the dispatch lies near the beginning of the frame's cycle
 taken_for : (v : View) (adjustment point : ℤ) (cycle m : ℕ) → IsView v → dispatch_value v.scenario.network adjustment point ≡ pos m
@@ -44,8 +98,11 @@ taken_for v adjustment point cycle m is value fine =
     let both = and_parts (int_le (pos (m / amount n.cycle)) (pos cycle)) (int_le (pos cycle) (pos (m / amount n.cycle))) same in
     let up = int_le-is (pos (m / amount n.cycle)) (pos cycle) both.0 in
     let down = int_le-is (pos cycle) (pos (m / amount n.cycle)) both.1 in
-    taken_numbers v.sizes m _ (4 * amount n.precision) cycle (sym (sizes_are v is).cycle) (omega (arith, sizes_are v is)) (omega (arith, ints, up, down))
-    (ltb-false (4 * amount n.precision) (m % amount n.cycle) (ap (int_lt (pos (4 * amount n.precision))) (sym place) ∙ none.0))
+    let small = ltb-false (4 * amount n.precision) (m % amount n.cycle) (ap (int_lt (pos (4 * amount n.precision))) (sym place) ∙ none.0) in
+    let sizes = sizes_are v is in
+    let parts = div-add-mod m (amount n.cycle) in
+    let product = product_is cycle v.sizes.cycle (amount n.cycle) (m / amount n.cycle) (sym sizes.cycle) (omega (arith, ints, up, down)) in
+    record { least = omega (arith, ints, parts, product); most = omega (arith, ints, parts, product, small, sizes) }
 
 -- ---- what was taken
 
@@ -70,56 +127,72 @@ pub record IsAimed (v : View) (n next : ℕ) (cm : DeviceId) (point : ℤ) (q : 
   pub late : next + 4 * v.sizes.precision ≤ q
   pub most : pos (v.scenario.reading cm q) ≤ℤ (point +ℤ pos (2 * v.sizes.grain))
 
-module _ (goes : BlocksGoSo) (v : View) (n t : ℕ) (block : IsInBlock v n t) (cm : DeviceId) (b : ℕ) (is : IsView v) (calm : IsCalm v n t block cm b)
-    (one : is_cm v.scenario.network cm ≡ true) where
+-- ---- what the compression master of the sound channel is when it takes frames
+
+module _ (goes : BlocksGoSo) (v : View) (n t : ℕ) (block : IsInBlock v n t) (cm : DeviceId) (b : ℕ) (is : IsView v) (calm : IsCalm v n t block cm b) where
+  -- it is synchronised when it hears a frame
+  pub hearing_state : (q : ℕ) (hs : List Happening) → q ≤ b → AreUpTo v q hs → state_at_hearing v.scenario hs cm q ≡ Synchronised
+  hearing_state q hs le j =
+      let none : has_joined_at hs cm q ≡ false = false_from_ne_true (has_joined_at hs cm q) (λ hit.
+      let found = any_in (λ (h : Happening). time_of h == q && is_joined_by cm h.note.body) hs hit in
+      let both = and_parts (time_of found.0 == q) (is_joined_by cm found.0.note.body) found.2 in
+      joins_never goes v n t block cm b found.0 is calm (j.there found.0 found.1) (omega (arith, j.to found.0 found.1, le)) both.1) in
+      ap (λ (x : Bool). if x then Joining else state_before v.scenario hs cm q) none ∙ synchronised_before goes v n t block cm b q hs is calm j.all le
+
+  -- with the adjustment that it had when the block began
+  pub hearing_adjustment : (q : ℕ) (hs : List Happening) → block.before.next ≤ q → q ≤ b → AreUpTo v q hs
+      → (adjustment_at_hearing v.scenario hs cm q).0 ≡ adjustment_left v cm block.before.next
+  hearing_adjustment q hs from le j =
+      let to : q + 1 ≤ b + 1 = omega (arith, le) in
+      let old = old_then goes v n t block cm b (q + 1) is calm to in
+      let timed = ap has_time (synchronised_then goes v n t block cm b (q + 1) is calm to) in
+      (hears_as_at v cm block.before.next q (q + 1) hs is j from (omega arith) old timed).adjustment
+      ∙ sym (ap (λ (a : Units). a.0) (adjustment_stays v cm block.before.next (q + 1) is (omega (arith, from)) old))
+
+  -- no record ends its stretch
+  pub never_ends : (h : Happening) (body : NoteBody) → IsIn h v.records → time_of h ≤ b → h.note.body ≡ body → ends_stretch cm body ≡ true → ⊥
+  never_ends h (notes.State other state cause why) i le same e =
+      changes_never goes v n t block cm b h state cause why is calm i le
+      (same ∙ ap (λ (d : DeviceId). notes.State d state cause why) (same_device cm other (own why e)))
+    where
+      own : (why : Why) → ends_stretch cm (notes.State other state cause why) ≡ true → (cm.0 == other.0) ≡ true
+      own whys.On e = absurd cc
+      own why e = e
+  never_ends h body i le same e = joins_never goes v n t block cm b h is calm i le (ap (is_joined_by cm) same ∙ e)
+
   -- a point of the block had no fault
-  no_fault_then : (k : Happening) (o : Point) → IsIn k v.records → block.before.next ≤ time_of k → time_of k ≤ b → GivesPoint cm k o
-      → point_fault v.scenario.network Synchronised (adjustment_left v cm block.before.next) o.reading o.cycle ≡ None
-  no_fault_then k o i from to g =
+  no_fault_then : is_cm v.scenario.network cm ≡ true → (k : Happening) (o : Point) → IsIn k v.records → block.before.next ≤ time_of k → time_of k ≤ b
+      → GivesPoint cm k o → point_fault v.scenario.network Synchronised (adjustment_left v cm block.before.next) o.reading o.cycle ≡ None
+  no_fault_then one k o i from to g =
       let network = v.scenario.network in
       let q = time_of k in
       let at = founded_at v.scenario v.records k is.run.founded i in
       let ripens = subst (IsCaused v.scenario at.front k.note.time) g.is at.due.cause in
       let hs : List Happening = before_permanence at.front cm q g.link g.cause ripens.frame g.point in
-      let split = before_of v k is at in
-      let in_front : (h : Happening) → IsIn h hs
-      → IsIn h at.front = λ h j. in_filter
-      (λ x. is_before (place_of x) (q ∷ 3 ∷ cm.0 ∷ amount g.point ∷ ripens.frame.members.0 ∷ g.link.0 ∷ g.cause ∷ [])) at.front h j in
-      let judge : JudgeAt v q hs = record {
-        same = earlier_judge at.front q cm g.link g.cause ripens.frame g.point ∙ earlier_before v q at.front split;
-        there = λ h j. subst (IsIn h) (sym at.whole) (in_left h at.front (k ∷ at.rest) (in_front h j));
-        by_then = λ h j. split.only h (in_front h j);
-      } in
+      let judge = judged_up_to v k is at cm g.link g.cause ripens.frame g.point in
       let framed : k.frame ≡ Some ripens.frame = ap (λ (x : Happening). x.frame) at.due.same ∙ ap (frame_by network at.front) g.is
       ∙ ap (λ (x : Option Happening). option_and_then (λ y. y.frame) x) ripens.permanent.there ∙ ripens.permanent.of_frame in
       let cycle : o.cycle ≡ ripens.frame.cycle = g.of_cycle ∙ ap (λ (x : Option Pcf). option_map_or (λ f. f.cycle) x 0) framed in
-      ap (λ (c : ℕ). point_fault network Synchronised (adjustment_left v cm block.before.next) o.reading c) cycle
-      ∙ ap (λ (z : ℤ). point_fault network Synchronised (adjustment_left v cm block.before.next) z ripens.frame.cycle) g.reads
-      ∙ ap (λ (a : ℤ). point_fault network Synchronised a g.point.0 ripens.frame.cycle)
-      (sym (hearing_adjustment goes v n t block cm b is calm q hs from to judge))
-      ∙ ap (λ (x : State). point_fault network x (adjustment_at_hearing v.scenario hs cm q).0 g.point.0 ripens.frame.cycle)
-      (sym (hearing_state goes v n t block cm b is calm q hs to judge))
-      ∙ (none_of _ _ _ g.verdict _ (MatchBool-at_true _ _ one ripens.becomes))
+      let fine = none_of _ _ _ g.verdict _ (MatchBool-at_true _ _ one ripens.becomes) in
+      cc (cycle, g.reads, hearing_adjustment q hs from to judge, hearing_state q hs to judge, fine)
 
   -- what lies at most two windows before it is of its cycle
-  pub of_block_cycle : (point : ℤ) (q : ℕ) (k : Happening) (o : Point) → IsAimed v n block.before.next cm point q → IsIn k v.records → time_of k ≤ b
-      → GivesPoint cm k o → o.reading ≤ℤ point → point ≤ℤ (o.reading +ℤ pos (2 * v.sizes.precision)) → o.cycle ≡ suc n
-  of_block_cycle point q k o aimed i to g low high =
+  pub of_block_cycle : is_cm v.scenario.network cm ≡ true → (point : ℤ) (q : ℕ) (k : Happening) (o : Point) → IsAimed v n block.before.next cm point q
+      → IsIn k v.records → time_of k ≤ b → GivesPoint cm k o → o.reading ≤ℤ point → point ≤ℤ (o.reading +ℤ pos (2 * v.sizes.precision)) → o.cycle ≡ suc n
+  of_block_cycle one point q k o aimed i to g low high =
       elim (cases_lt (time_of k) block.before.next) [
         | inl early ↦
             let r = (read_at v cm k o is i g).ripe in
-            let far = far_below v.sizes (v.scenario.reading cm) o.reading point (time_of k) (block.before.next - 1) q (room v is) (steady v is cm) r.least
-            (omega (arith, early)) (omega (arith, early, aimed.late)) aimed.most in
-            absurd (omega (arith, ints, far, high))
+            let clock = steady v is cm in
+            let last = block.before.next - 1 in
+            let slow = clock.slow last (last + 4 * v.sizes.precision) (omega arith) (omega (arith, (room v is).cycles)) in
+            let rises = clock.never_falls (time_of k) last (omega (arith, early)) in
+            let more = clock.never_falls (last + 4 * v.sizes.precision) q (omega (arith, early, aimed.late)) in
+            absurd (omega (arith, ints, rises, slow, more, r.least, aimed.most, high, room v is))
         | inr from ↦
-            let m = natural_value v.sizes n (value_of v cm block.before.next o.reading) (value_of v cm block.before.next point) (room v is) aimed.value
-            (omega (arith, ints, high)) in
-            let taken = taken_for v (adjustment_left v cm block.before.next) o.reading o.cycle m.0 is m.1 (no_fault_then k o i from to g) in
+            let m = natural_of (value_of v cm block.before.next o.reading) 0
+            (omega (arith, ints, aimed.value.least, high, one_more n v.sizes.cycle, (room v is).cycles)) in
+            let taken = taken_for v (adjustment_left v cm block.before.next) o.reading o.cycle m.0 is m.1 (no_fault_then one k o i from to g) in
             of_one_cycle v.sizes o.cycle (suc n) (value_of v cm block.before.next o.reading) (value_of v cm block.before.next point) (room v is)
             (subst (IsTakenFor v.sizes o.cycle) (sym m.1) taken) aimed.value (omega (arith, ints, low)) (omega (arith, ints, high))
       ]
-    where
-      natural_value : (s : Sizes) (c : ℕ) (x y : ℤ) → HaveRoom s → IsTakenFor s (suc c) y → y ≤ℤ (x +ℤ pos (2 * s.precision)) → (m : ℕ) × (x ≡ pos m)
-      natural_value s c x y space taken near =
-          let more : suc c * s.cycle ≡ c * s.cycle + s.cycle = omega arith in
-          natural_of x 0 (omega (arith, ints, taken.least, near, more, space.cycles))

@@ -1,18 +1,14 @@
 -- The compression master of the sound channel takes the frames of the first masters.
-use Rattle.precision_law.proofs.words.Std.{◌*◌, ◌+ℤ◌, ◌+◌, ◌-ℤ◌, ◌==◌, ◌^◌, ◌∙◌, ◌∷◌, ◌≡◌, ◌≤ℤ◌, ◌≤◌, Bool, List, None, Option, Some, [], ap, arith, eq-eqb, eqb-false, false, if◌then◌else◌, inl, inr, int_lt, ints, last_or, option_and_then, option_map_or, pos, refl, subst, suc, sym, true, unsigned_abs, unwrap_or, ℕ, ℤ}
-use Rattle.precision_law.proofs.words.Plans.{AreClusters, Cluster, DeviceId, IsCmOf, Members, Pcf, Point, Units, Up, Way, amount, has_point_of, point_at, role, role_in}
-use Rattle.precision_law.proofs.words.Runs.{Happening, IsBefore, IsCaused, IsDue, IsIn, IsSplit, Judgement, NoteBody, adjustment_at_hearing, cycle_in, founded_at, frame_by, in_left, key, master_of, member_of, members_in, observation_window, place_of, point_by, points_of, rank, split, state_at_hearing, time_of}
-use Rattle.precision_law.proofs.words.Laws.{BlocksGoSo, HasTimeAt, HaveRoom, Hull, IsDispatch, IsFirstMaster, IsInBlock, IsInHull, IsInTime, IsRipe, IsTrip, IsView, Leg, ShowsIn, Sizes, View, adjustment_left, first_correction, first_dispatch, has_time, last_dispatch}
-use Rattle.precision_law.proofs.words.Clocks.{IsRipeArrival, IsRipeRecord, adjustment_stays, before_place, contains, earlier_before, has_member, is_collected, last_in, master_member, opened_by, permanence_is_sharp, place_of_ripe, room, sizes_are, steady, trip_says}
-use Rattle.precision_law.proofs.words.Blocks.{IsReadAt, arrival_young, before_narrow, contained, earlier_in_block, ends_soon, later_point, master_of_bit, old_shows, place_order, point_record, points_ordered, read_at}
+use Rattle.precision_law.proofs.words.Std.{◌*◌, ◌+ℤ◌, ◌+◌, ◌^◌, ◌∙◌, ◌∷◌, ◌≡◌, ◌≤ℤ◌, ◌≤◌, Bool, List, None, Option, Some, [], ap, arith, eq-eqb, false, if◌then◌else◌, inl, inr, int_lt, ints, last_or, option_and_then, option_map_or, pos, refl, subst, suc, sym, true, unsigned_abs, unwrap_or, ℕ, ℤ}
+use Rattle.precision_law.proofs.words.Plans.{AreClusters, Cluster, DeviceId, IsCmOf, Members, Pcf, Point, Units, Up, Way, amount, has_point_of, none, point_at, role, role_in}
+use Rattle.precision_law.proofs.words.Runs.{Happening, IsBefore, IsCaused, IsDue, IsIn, IsSplit, Judgement, NoteBody, adjustment_at_hearing, cycle_in, dispatch_value, founded_at, frame_by, in_left, key, master_of, member_of, members_in, observation_window, place_of, point_by, points_of, rank, split, state_at_hearing, time_of}
+use Rattle.precision_law.proofs.words.Laws.{BlocksGoSo, HasTimeAt, Hull, IsFirstMaster, IsInBlock, IsRipe, IsTrip, IsView, Leg, ShowsIn, View, first_correction, has_time, last_dispatch}
+use Rattle.precision_law.proofs.words.Clocks.{IsRipeArrival, IsRipeRecord, adjustment_stays, before_place, contains, has_member, is_collected, last_in, master_member, one_more, opened_by, permanence_is_sharp, place_of_ripe, room, sizes_are, steady, trip_says}
+use Rattle.precision_law.proofs.words.Blocks.{IsReadAt, arrival_young, before_narrow, contained, earlier_in_block, early_show, ends_soon, later_point, master_of_bit, old_shows, place_order, point_record, points_ordered, read_at, up_to_then}
 use Rattle.compression.specs.declared.taken.Taken.TheVariants as taken
-use Rattle.precision_law.proofs.block.Coming.{early_show}
 use Rattle.precision_law.proofs.block.Dispatched.{IsCalm, old_then, synchronised_then}
-use Rattle.precision_law.proofs.emission.Aimed.{IsAimed, of_block_cycle}
-use Rattle.precision_law.proofs.emission.Cycles.{IsTakenFor}
-use Rattle.precision_law.proofs.emission.Fits.{IsWithinOf, dispatched_within, no_point_fault}
-use Rattle.precision_law.proofs.emission.Hearkens.{JudgeAt, hearing_adjustment}
-use Rattle.precision_law.proofs.emission.Senders.{IsSender, cm_is, sends_up}
+use Rattle.precision_law.proofs.emission.Aimed.{IsAimed, IsTakenFor, hearing_adjustment, no_point_fault, of_block_cycle}
+use Rattle.precision_law.proofs.emission.Senders.{IsSender, cm_is}
 
 -- ---- points that come
 
@@ -23,22 +19,19 @@ pub record MeetsOther (cs : List Cluster) (p : Point) : Type 0 where
   pub to : p.reading ≤ℤ cluster.end
   pub other : p.cycle ≡ cluster.cycle → ⊥
 
+kinds : (b : Bool) → (if b then taken.Repeat else taken.Joined) ≡ taken.OtherCycle → ⊥
+kinds true e = cc
+kinds false e = cc
+
 -- a point that is not taken because of its cycle does
 meets_other : (cs : List Cluster) (p : Point) → role cs p ≡ taken.OtherCycle → MeetsOther cs p
 meets_other cs p e = by (last_or None cs) refl e
   where
     within : (c : Cluster) → IsIn c cs → (b : Bool) → int_lt c.end p.reading ≡ b → role_in (if b then None else Some c) p ≡ taken.OtherCycle → MeetsOther cs p
     within c i true past e = absurd cc
-    within c i false past e = inside (p.cycle == c.cycle) refl e
-      where
-        kinds : (b : Bool) → (if b then taken.Repeat else taken.Joined) ≡ taken.OtherCycle → ⊥
-        kinds true e = cc
-        kinds false e = cc
-
-        inside : (b : Bool) → (p.cycle == c.cycle) ≡ b
-            → (if b then (if has_point_of c p.master then taken.Repeat else taken.Joined) else taken.OtherCycle) ≡ taken.OtherCycle → MeetsOther cs p
-        inside true same e = absurd (kinds (has_point_of c p.master) e)
-        inside false same e = record { cluster = c; there = i; to = grind (arith, ints, past); other = eqb-false p.cycle c.cycle same }
+    within c i false past e =
+        let other = λ (same : p.cycle ≡ c.cycle). kinds (has_point_of c p.master) (rw (eq-eqb p.cycle c.cycle same) at e) in
+        record { cluster = c; there = i; to = grind (arith, ints, past); other = other }
 
     by : (o : Option Cluster) → last_or None cs ≡ o → role_in (option_and_then (λ c. if int_lt c.end p.reading then None else Some c) o) p ≡ taken.OtherCycle
         → MeetsOther cs p
@@ -53,10 +46,7 @@ last_there v way first last [] trip i = subst (λ (h : Happening). IsIn h v.reco
 last_there v way first last (leg ∷ legs) trip i = last_there v way leg.arriving last legs trip.2 trip.1.arrived
 
 -- the point of a first master's frame at the compression master
-pub record IsGathered (v : View) (n next : ℕ) (before : Hull) (cm master : DeviceId) (by : ℕ) : Type 0 where
-  pub first : Happening
-  pub dispatch : IsDispatch v first master (suc n)
-  pub inside : IsInHull v (suc n) (time_of first)
+pub record IsGathered (v : View) (n next : ℕ) (cm master : DeviceId) (by : ℕ) : Type 0 where
   pub k : Happening
   pub there : IsIn k v.records
   pub p : Point
@@ -64,24 +54,12 @@ pub record IsGathered (v : View) (n next : ℕ) (before : Hull) (cm master : Dev
   pub of_cycle : p.cycle ≡ suc n
   pub of_master : member_of v.scenario.network master ≡ Some p.master
   pub aimed : IsAimed v n next cm p.reading (time_of k)
-  pub in_time : IsInTime v first (time_of k)
   pub to : time_of k ≤ by
-  pub least : p.reading ≤ℤ pos (v.scenario.reading cm (time_of k))
-
--- numbers
-aimed_value : (n : Sizes) (c : ℕ) (point adjustment : ℤ) (dmax two : ℕ) → HaveRoom n → dmax ≡ n.dmax → two ≡ 2 * n.precision
-    → IsWithinOf n c n.dmax (point +ℤ adjustment) → IsTakenFor n c (((point +ℤ adjustment) -ℤ pos dmax) +ℤ pos two)
-aimed_value n c point adjustment dmax two space x y within =
-    (let l = within.least in let h = within.most in record { least = omega (arith, ints, l, x, y); most = omega (arith, ints, h, x, y) })
-
-late_by : (n : Sizes) (next w q : ℕ) (hull : Hull) → HaveRoom n → pos next ≤ℤ (hull.least +ℤ pos (n.correction + n.spread + 3 * n.reach + 1))
-    → first_dispatch n hull ≤ℤ pos w → w + n.dmax ≤ q + n.path → next + 4 * n.precision ≤ q
-late_by n next w q hull space early low late = omega (arith, ints, early, low, late, space)
 
 -- ---- what a dispatch brings
 
 -- the frame that it brings
-record HasFrame (v : View) (n : ℕ) (before : Hull) (cm master : DeviceId) (s : IsSender v n before cm master) : Type 0 where
+pub record HasFrame (v : View) (n : ℕ) (before : Hull) (cm master : DeviceId) (s : IsSender v n before cm master) : Type 0 where
   pub member : ℕ
   pub is_member : member_of v.scenario.network master ≡ Some member
   pub frame : Pcf
@@ -93,7 +71,7 @@ record HasFrame (v : View) (n : ℕ) (before : Hull) (cm master : DeviceId) (s :
   pub not_negative : pos 0 ≤ℤ s.brought.point
 
 -- it brings one
-has_frame : (v : View) (n : ℕ) (before : Hull) (cm master : DeviceId) (s : IsSender v n before cm master) → IsView v → IsFirstMaster v master
+pub has_frame : (v : View) (n : ℕ) (before : Hull) (cm master : DeviceId) (s : IsSender v n before cm master) → IsView v → IsFirstMaster v master
     → HasFrame v n before cm master s
 has_frame v n before cm master s is first =
     let network = v.scenario.network in
@@ -120,50 +98,56 @@ has_frame v n before cm master s is first =
       not_negative = omega (arith, ints, p.at_point, young, size);
     }
 
-module _ (goes : BlocksGoSo) (v : View) (n t : ℕ) (block : IsInBlock v n t) (cm : DeviceId) (by : ℕ) (is : IsView v) (calm : IsCalm v n t block cm by)
-    (of_channel : IsCmOf v.scenario.network v.channel cm) (late : (first_correction v.sizes block.before.hull +ℤ pos v.sizes.reach) ≤ℤ pos t)
-    (over : (last_dispatch v.sizes block.before.hull +ℤ pos (v.sizes.dmax + v.sizes.path)) ≤ℤ pos by) where
-  -- its point lies where it should
-  aims : (master : DeviceId) (s : IsSender v n block.before.hull cm master) → HasFrame v n block.before.hull cm master s → (s.brought.q ≤ by)
-      × IsWithinOf v.sizes (suc n) v.sizes.dmax (s.brought.point +ℤ adjustment_left v cm block.before.next) × IsAimed v n block.before.next cm s.brought.point
-      s.brought.q
-  aims master s f =
+-- the compression master of the sound channel, once the correction points may come, and an instant before them by which it
+-- has the frames of the first masters and could send its own
+pub record Collects (v : View) (n t : ℕ) (block : IsInBlock v n t) (cm : DeviceId) (by : ℕ) : Type 0 where
+  pub calm : IsCalm v n t block cm by
+  pub of_channel : IsCmOf v.scenario.network v.channel cm
+  pub late : (first_correction v.sizes block.before.hull +ℤ pos v.sizes.reach) ≤ℤ pos t
+  pub over : (last_dispatch v.sizes block.before.hull +ℤ pos (v.sizes.dmax + v.sizes.compression + v.sizes.base + v.sizes.path + v.sizes.precision)) ≤ℤ pos by
+
+module _ (goes : BlocksGoSo) (v : View) (n t : ℕ) (block : IsInBlock v n t) (cm : DeviceId) (by : ℕ) (is : IsView v) (c : Collects v n t block cm by)
+    (master : DeviceId) (s : IsSender v n block.before.hull cm master) (f : HasFrame v n block.before.hull cm master s) where
+  -- the point of the frame lies where it should
+  aims : (s.brought.q ≤ by) × IsAimed v n block.before.next cm s.brought.point s.brought.q
+  aims =
       let before = block.before in
       let space = room v is in
       let b = s.brought in
       let q = b.q in
       let w = time_of s.first in
-      let to : q ≤ by = omega (arith, ints, s.high, b.in_time.not_late, over) in
-      let behind = late_by v.sizes before.next w q before.hull space (early_show v n before is) s.low b.in_time.not_early in
-      let there : IsInBlock v n q = earlier_in_block _ _ _ _ block (omega (arith, behind)) (omega arith) in
-      let old = old_then goes v n t block cm by q is calm (omega (arith, to)) in
-      let has : HasTimeAt v cm q = record { good = calm.good; timed = ap has_time (synchronised_then goes v n t block cm by q is calm (omega (arith, to))) } in
+      let high = s.high in
+      let to : q ≤ by = omega (arith, ints, high, b.in_time.not_late, c.over) in
+      let behind : before.next + 4 * v.sizes.precision ≤ q = omega (arith, ints, early_show v n before is, s.low, b.in_time.not_early, space) in
+      let there : IsInBlock v n q = earlier_in_block _ _ _ _ block (omega (arith, behind)) (omega (arith, to, c.calm.to)) in
+      let old = old_then goes v n t block cm by q is c.calm (omega (arith, to)) in
+      let timed = ap has_time (synchronised_then goes v n t block cm by q is c.calm (omega (arith, to))) in
+      let has : HasTimeAt v cm q = record { good = c.calm.good; timed = timed } in
       let shows = old_shows v n q q cm there is (omega arith) has old in
       let same = sym (ap (λ (a : Units). a.0) (adjustment_stays v cm before.next q is (omega (arith, behind)) old)) in
       let shows_so = subst (λ (a : ℤ). ShowsIn v.sizes (pos (v.scenario.reading cm q) +ℤ a) n before.hull q) same shows in
-      let within = dispatched_within v.sizes before.hull n (adjustment_left v cm before.next) b.point (v.scenario.reading cm q) q w space
-      (before_narrow v n before) shows_so s.low s.high b.in_time.not_early b.in_time.not_late f.sharp.least f.sharp.most in
-      let precision : v.sizes.precision ≡ amount v.scenario.network.precision = (sizes_are v is).precision in (
+      let narrow = before_narrow v n before in
+      let more = one_more n v.sizes.cycle in
+      let sizes = sizes_are v is in (
         to,
-        within,
         record {
-          value =
-              aimed_value v.sizes (suc n) b.point (adjustment_left v cm before.next) (amount v.scenario.network.dmax) (2 * amount v.scenario.network.precision)
-              space (sym (sizes_are v is).dmax) (omega (arith, precision)) within;
+          value = record {
+            least = omega (arith, ints, s.low, f.sharp, b.in_time, sizes.dmax, sizes.precision);
+            most = omega (arith, ints, s.low, f.sharp, b.in_time, sizes.dmax, sizes.precision);
+          };
           late = behind;
           most = f.sharp.most;
         },
       )
 
   -- it does not come to a cluster of another cycle
-  never_other : (master : DeviceId) (s : IsSender v n block.before.hull cm master) (f : HasFrame v n block.before.hull cm master s) → s.brought.q ≤ by
-      → IsAimed v n block.before.next cm s.brought.point s.brought.q
-      → (at : IsSplit place_of v.records (place_of_ripe cm s.brought.last s.brought.permanent.link f.frame s.brought.point s.brought.q))
+  never_other : (at : IsSplit place_of v.records (place_of_ripe cm s.brought.last s.brought.permanent.link f.frame s.brought.point s.brought.q))
       (clusters : List Cluster) → AreClusters (observation_window v.scenario.network) (points_of at.front cm) clusters
       → role clusters (point_at s.brought.point (master_of f.frame.members.0) f.frame.cycle) ≡ taken.OtherCycle → ⊥
-  never_other master s f to aimed at clusters are e =
+  never_other at clusters are e =
       let ow = observation_window v.scenario.network in
       let b = s.brought in
+      let to = aims.0 in
       let meets = meets_other clusters (point_at b.point (master_of f.frame.members.0) f.frame.cycle) e in
       let opened = opened_by _ _ _ meets.cluster (points_ordered _ cm at.front at.rest is at.whole) are (contains clusters meets.cluster meets.there) in
       let o = opened.first in
@@ -185,66 +169,52 @@ module _ (goes : BlocksGoSo) (v : View) (n t : ℕ) (block : IsInBlock v n t) (c
       let size = (sizes_are v is).precision in
       let soon = ends_soon ow o (o ∷ opened.rest) (omega (arith, ints)) in
       let high : b.point ≤ℤ (o.reading +ℤ pos (2 * v.sizes.precision)) = omega (arith, ints, meets.to, soon, ap (λ (x : Cluster). x.end) opened.is, size) in
-      let cycle = of_block_cycle goes v n t block cm by is calm (cm_is v cm of_channel).one b.point b.q k o aimed i (omega (arith, early, to)) g low high in
-      meets.other (f.of_cycle ∙ sym cycle ∙ sym (ap (λ (x : Cluster). x.cycle) opened.is))
+      let same = of_block_cycle goes v n t block cm by is c.calm (cm_is v cm c.of_channel).one b.point b.q k o aims.1 i (omega (arith, early, to)) g low high in
+      meets.other (f.of_cycle ∙ sym same ∙ sym (ap (λ (x : Cluster). x.cycle) opened.is))
 
   -- so its record gives its point
-  pub gathers : (master : DeviceId) → IsFirstMaster v master → IsGathered v n block.before.next block.before.hull cm master by
-  gathers master first =
-      let s = v.scenario in
-      let network = s.network in
-      let sender = sends_up goes v n t block cm master is late of_channel first in
-      let f = has_frame v n block.before.hull cm master sender is first in
-      let b = sender.brought in
-      let a = aims master sender f in
+  recorded : (verdict : Judgement) → IsRipeRecord v cm s.brought.last s.brought.permanent.link s.brought.point s.brought.q verdict f.frame
+      → IsGathered v n block.before.next cm master by
+  recorded verdict r =
+      let b = s.brought in
+      let p : Point = point_at b.point (master_of (members_in r.h)) (cycle_in r.h) in
+      let members : members_in r.h ≡ 2 ^ f.member = ap (λ (o : Option Pcf). option_map_or (λ x. x.members.0) o 0) r.of_frame ∙ f.of_members in
+      record {
+        k = r.h;
+        there = r.there;
+        p = p;
+        gives = ap (point_by cm r.h) r.is ∙ ap (λ (x : Bool). if x then Some p else None) (eq-eqb cm.0 cm.0 refl);
+        of_cycle = ap (λ (o : Option Pcf). option_map_or (λ x. x.cycle) o 0) r.of_frame ∙ f.of_cycle;
+        of_master =
+            f.is_member ∙ ap (λ (m : ℕ). Some m) (sym (ap master_of members ∙ master_of_bit f.member (has_member v master f.member is f.is_member).small));
+        aimed = subst (IsAimed v n block.before.next cm b.point) (sym r.time) aims.1;
+        to = omega (arith, r.time, aims.0);
+      }
+
+  pub gathered : IsGathered v n block.before.next cm master by
+  gathered =
+      let b = s.brought in
       let link = b.permanent.link in
-      let cm_so = cm_is v cm of_channel in
+      let cm_so = cm_is v cm c.of_channel in
+      let later = f.sharp.after in
       let ripe : IsRipeArrival v cm b.last link f.frame b.point b.q = record {
         there = f.there;
         of_frame = f.of_frame;
         waits = cm_so.waits link;
-        good = calm.good;
+        good = c.calm.good;
         permanent = b.permanent;
         by_link = refl;
-        later = (let after = f.sharp.after in after);
-        in_run = omega (arith, a.0, calm.to, block.in_run);
+        later = later;
+        in_run = omega (arith, aims.0, c.calm.to, block.in_run);
       } in
-      let at = split place_of (IsDue s) v.records (place_of_ripe cm b.last link f.frame b.point b.q) is.run.founded in
+      let at = split place_of (IsDue v.scenario) v.records (place_of_ripe cm b.last link f.frame b.point b.q) is.run.founded in
       let split_at = before_place v b.q (3 ∷ cm.0 ∷ unsigned_abs b.point ∷ f.frame.members.0 ∷ link.0 ∷ b.last.note.number ∷ []) at in
-      let judge : JudgeAt v b.q at.front = record {
-        same = earlier_before v b.q at.front split_at;
-        there = λ h i. subst (IsIn h) (sym at.whole) (in_left h at.front at.rest i);
-        by_then = split_at.only;
-      } in
-      let stands = hearing_adjustment goes v n t block cm by is calm b.q at.front (omega (arith, a.2.late)) a.0 judge in
-      let within = subst (λ (c : ℕ). IsWithinOf v.sizes c v.sizes.dmax (b.point +ℤ (adjustment_at_hearing s at.front cm b.q).0)) (sym f.of_cycle)
-      (subst (λ (z : ℤ). IsWithinOf v.sizes (suc n) v.sizes.dmax (b.point +ℤ z)) (sym stands) a.1) in
-      let fine = no_point_fault v (state_at_hearing s at.front cm b.q) (adjustment_at_hearing s at.front cm b.q).0 b.point f.frame.cycle is within in
+      let adjustment = (adjustment_at_hearing v.scenario at.front cm b.q).0 in
+      let stands = hearing_adjustment goes v n t block cm by is c.calm b.q at.front (omega (arith, aims.1.late)) aims.0 (up_to_then v b.q at.front split_at) in
+      let taken_so = subst (λ (k : ℕ). IsTakenFor v.sizes k (dispatch_value v.scenario.network adjustment b.point)) (sym f.of_cycle)
+      (subst (λ (z : ℤ). IsTakenFor v.sizes (suc n) (dispatch_value v.scenario.network z b.point)) (sym stands) aims.1.value) in
+      let fine = no_point_fault v (state_at_hearing v.scenario at.front cm b.q) adjustment b.point f.frame.cycle is taken_so in
       elim (is_collected v cm b.last link f.frame b.point b.q is cm_so.one ripe at fine) [
-        | inl meets ↦ absurd (never_other master sender f a.0 a.2 at meets.0 meets.1 meets.2)
-        | inr found ↦ recorded master sender f found.0 found.1 a.0 a.2
+        | inl meets ↦ absurd (never_other at meets.0 meets.1 meets.2)
+        | inr found ↦ recorded found.0 found.1
       ]
-    where
-      recorded : (master : DeviceId) (sender : IsSender v n block.before.hull cm master) (f : HasFrame v n block.before.hull cm master sender)
-          (verdict : Judgement) → IsRipeRecord v cm sender.brought.last sender.brought.permanent.link sender.brought.point sender.brought.q verdict f.frame
-          → sender.brought.q ≤ by → IsAimed v n block.before.next cm sender.brought.point sender.brought.q → IsGathered v n block.before.next block.before.hull
-          cm master by
-      recorded master sender f verdict r to aimed =
-          let p : Point = point_at sender.brought.point (master_of (members_in r.h)) (cycle_in r.h) in
-          let members : members_in r.h ≡ 2 ^ f.member = ap (λ (o : Option Pcf). option_map_or (λ x. x.members.0) o 0) r.of_frame ∙ f.of_members in
-          record {
-            first = sender.first;
-            dispatch = sender.dispatch;
-            inside = sender.inside;
-            k = r.h;
-            there = r.there;
-            p = p;
-            gives = ap (point_by cm r.h) r.is ∙ ap (λ (x : Bool). if x then Some p else None) (eq-eqb cm.0 cm.0 refl);
-            of_cycle = ap (λ (o : Option Pcf). option_map_or (λ x. x.cycle) o 0) r.of_frame ∙ f.of_cycle;
-            of_master =
-                f.is_member ∙ ap (λ (m : ℕ). Some m) (sym (ap master_of members ∙ master_of_bit f.member (has_member v master f.member is f.is_member).small));
-            aimed = subst (IsAimed v n block.before.next cm sender.brought.point) (sym r.time) aimed;
-            in_time = subst (IsInTime v sender.first) (sym r.time) sender.brought.in_time;
-            to = omega (arith, r.time, to);
-            least = subst (λ (u : ℕ). sender.brought.point ≤ℤ pos (v.scenario.reading cm u)) (sym r.time) f.sharp.least;
-          }

@@ -1,8 +1,8 @@
 -- The compression master of the sound channel, a good master that began on, and what its dispatches bring.
-use Rattle.precision_law.proofs.words.Std.{◌*◌, ◌+ℤ◌, ◌+◌, ◌<ℤ◌, ◌<◌, ◌||◌, ◌∙◌, ◌∷◌, ◌≡◌, ◌≤ℤ◌, ◌≤◌, ◌⊎◌, Bool, IsNone, IsSomeAnd, List, None, Option, Some, [], ap, arith, both_ways, cases_Bool, cases_lt, false, inl, inr, ints, length, not, ones_le_self, option_map_or, pos, refl, slice_get, subst, suc, true, zero, ℕ, ℤ}
+use Rattle.precision_law.proofs.words.Std.{◌+ℤ◌, ◌+◌, ◌<◌, ◌||◌, ◌∙◌, ◌∷◌, ◌≡◌, ◌≤ℤ◌, ◌≤◌, ◌⊎◌, Bool, IsNone, IsSomeAnd, List, None, Option, Some, [], ap, arith, both_ways, cases_Bool, cases_lt, false, inl, inr, ints, length, not, ones_le_self, option_map_or, pos, refl, slice_get, subst, suc, true, zero, ℕ}
 use Rattle.precision_law.proofs.words.Plans.{A, B, Channel, Cm, CompressionMasters, Device, DeviceId, IsCmOf, IsSwitchOf, LinkId, Masters, Role, Units, Up, closed, count_of, device_at, is_master, opened}
 use Rattle.precision_law.proofs.words.Runs.{Happening, has_role, is_broken, is_cm, is_cm_role, is_parent_of, is_relay_role, time_of, waits_for}
-use Rattle.precision_law.proofs.words.Laws.{BlocksGoSo, Hull, IsBrought, IsDispatch, IsFirstMaster, IsInBlock, IsInHull, IsView, View, first_correction, first_dispatch, last_dispatch}
+use Rattle.precision_law.proofs.words.Laws.{BlocksGoSo, Hull, IsBrought, IsDispatch, IsFirstMaster, IsInBlock, IsView, View, first_correction, first_dispatch, last_dispatch}
 use Rattle.precision_law.proofs.words.Clocks.{enough_masters, frames_come_first, room}
 use Rattle.precision_law.proofs.words.Blocks.{before_narrow, earlier_in_block, follows_before, sound_frames_go_up}
 use Rattle.precision_law.proofs.block.Dispatched.{masters_dispatch}
@@ -62,25 +62,16 @@ first_or_not v device =
       ]
     ]
 
--- among devices there is one, or none is
-some_first : (v : View) (ds : List Device) (k : ℕ) → ((device : DeviceId) × IsFirstMaster v device)
-    ⊎ ((j : ℕ) → j < length ds → IsFirstMaster v (record { 0 = k + j }) → ⊥)
-some_first v [] k = inr (λ j lt. absurd (omega (arith, lt)))
-some_first v (d ∷ ds) k = elim (first_or_not v (record { 0 = k })) [
-  | inl one ↦ inl (record { 0 = k }, one)
-  | inr none ↦ elim (some_first v ds (k + 1)) [ inl found ↦ inl found | inr all ↦ inr (at none all) ]
+-- of what may be found at a place, it is at one below this, or at none
+some_below : (P : ℕ → Type 0) → ((i : ℕ) → P i ⊎ (P i → ⊥)) → (n : ℕ) → ((i : ℕ) × P i) ⊎ ((i : ℕ) → i < n → P i → ⊥)
+some_below P decide zero = inr (λ i lt p. omega (arith, lt))
+some_below P decide (suc n) = elim (decide n) [
+  | inl here ↦ inl (n, here)
+  | inr not_here ↦ elim (some_below P decide n) [
+    | inl found ↦ inl found
+    | inr none ↦ inr (λ i lt p. elim (cases_lt i n) [ inl below ↦ none i below p | inr ge ↦ not_here (subst P (omega (arith, lt, ge)) p) ])
+  ]
 ]
-  where
-    plus_zero : (n : ℕ) → n + 0 ≡ n
-    plus_zero n = omega arith
-
-    shifted : (a b : ℕ) → a + suc b ≡ (a + 1) + b
-    shifted a b = omega arith
-
-    at : (IsFirstMaster v (record { 0 = k }) → ⊥) → ((j : ℕ) → j < length ds → IsFirstMaster v (record { 0 = (k + 1) + j }) → ⊥) → (j : ℕ) → j < length (d ∷ ds)
-        → IsFirstMaster v (record { 0 = k + j }) → ⊥
-    at none all zero lt m = none (subst (λ (i : ℕ). IsFirstMaster v (record { 0 = i })) (plus_zero k) m)
-    at none all (suc j) lt m = all j (omega (arith, lt)) (subst (λ (i : ℕ). IsFirstMaster v (record { 0 = i })) (shifted k j) m)
 
 -- what has a role is one of the devices
 within : (xs : List Device) (i : ℕ) (kind : Role → Bool) → option_map_or (λ d. kind d.role) (slice_get xs i) false ≡ true → i < length xs
@@ -91,19 +82,14 @@ within (x ∷ xs) (suc i) kind e = (let more = within xs i kind e in omega (arit
 -- the masters are enough, so there is one
 pub first_master : (v : View) → IsView v → (device : DeviceId) × IsFirstMaster v device
 first_master v is =
-    elim (some_first v v.scenario.network.device 0) [
-      | inl found ↦ found
+    elim (some_below (λ i. IsFirstMaster v (record { 0 = i })) (λ i. first_or_not v (record { 0 = i })) (length v.scenario.network.device)) [
+      | inl found ↦ (record { 0 = found.0 }, found.1)
       | inr none ↦
           let enough = enough_masters v (record { 0 = 0 }) is
-          (λ device i m e.
-          absurd (none device.0 (within v.scenario.network.device device.0 is_master m.master)
-          (subst (λ (k : ℕ). IsFirstMaster v (record { 0 = k })) (zero_plus device.0) m))) in
+          (λ device i m e. absurd (none device.0 (within v.scenario.network.device device.0 is_master m.master) m)) in
           let nothing : count_of (record { 0 = 0 }) ≤ 0 = ones_le_self 0 in
           absurd (omega (arith, enough, (is.lawful.rules Masters 2).threshold_least refl, nothing))
     ]
-  where
-    zero_plus : (n : ℕ) → n ≡ 0 + n
-    zero_plus n = omega arith
 
 -- ---- what a dispatch brings
 
@@ -111,22 +97,9 @@ first_master v is =
 pub record IsSender (v : View) (n : ℕ) (before : Hull) (cm master : DeviceId) : Type 0 where
   pub first : Happening
   pub dispatch : IsDispatch v first master (suc n)
-  pub inside : IsInHull v (suc n) (time_of first)
   pub low : first_dispatch v.sizes before ≤ℤ pos (time_of first)
   pub high : pos (time_of first) ≤ℤ last_dispatch v.sizes before
   pub brought : IsBrought v Up first cm
-
--- numbers
-in_time : (w t until dmax compression base path precision reach : ℕ) (last first : ℤ) → pos w ≤ℤ last
-    → ((last +ℤ pos (2 * dmax + compression + base + path + precision)) +ℤ pos (5 * precision)) <ℤ first → (first +ℤ pos reach) ≤ℤ pos t → t ≤ until
-    → (w ≤ t) × (w + dmax + path ≤ until) × (w + dmax ≤ until + path)
-in_time w t until dmax compression base path precision reach last first le lt late within =
-    (omega (arith, ints, le, lt, late), omega (arith, ints, le, lt, late, within), omega (arith, ints, le, lt, late, within))
-
--- the last dispatch comes before the correction points
-dispatches_over : (v : View) (n t : ℕ) (block : IsInBlock v n t) → IsView v → (first_correction v.sizes block.before.hull +ℤ pos v.sizes.reach) ≤ℤ pos t
-    → last_dispatch v.sizes block.before.hull ≤ℤ pos t
-dispatches_over v n t block is late = omega (arith, ints, frames_come_first v.sizes block.before.hull (room v is) (before_narrow v n block.before), late)
 
 -- each first master has one
 pub sends_up : BlocksGoSo → (v : View) (n t : ℕ) (block : IsInBlock v n t) (cm master : DeviceId) → IsView v
@@ -134,24 +107,22 @@ pub sends_up : BlocksGoSo → (v : View) (n t : ℕ) (block : IsInBlock v n t) (
     → IsSender v n block.before.hull cm master
 sends_up goes v n t block cm master is late one first =
     let before = block.before in
-    let sent = masters_dispatch goes v n t block master is (dispatches_over v n t block is late) first in
-    let w = time_of sent.0 in
     let space = frames_come_first v.sizes before.hull (room v is) (before_narrow v n before) in
-    let times = in_time w t v.until v.sizes.dmax v.sizes.compression v.sizes.base v.sizes.path v.sizes.precision v.sizes.reach
-    (last_dispatch v.sizes before.hull) (first_correction v.sizes before.hull) sent.2 space late block.in_run in
+    let sent = masters_dispatch goes v n t block master is (omega (arith, ints, space, late)) first in
+    let w = time_of sent.0 in
+    let soon : w + v.sizes.dmax + v.sizes.path ≤ v.until = omega (arith, ints, sent.2, space, late, block.in_run) in
     let from : before.next ≤ w = elim (cases_lt w before.next) [
       | inr ge ↦ ge
       | inl early ↦ (let wrong = (before.dispatches sent.0 master (suc n) sent.1 early).0 in absurd (omega (arith, wrong)))
     ] in
-    let there : IsInBlock v n w = earlier_in_block _ _ _ _ block from (omega arith) in
+    let there : IsInBlock v n w = earlier_in_block _ _ _ _ block from (omega (arith, ints, sent.2, space, late)) in
     let so = (goes v n w there is).dispatches sent.0 master (suc n) sent.1 refl in
     let hull = so.inside in
     let low : first_dispatch v.sizes before.hull ≤ℤ pos w = omega (arith, ints, (follows_before v n _ _ is before.is_hull hull.is).least, hull.least) in
     record {
       first = sent.0;
       dispatch = sent.1;
-      inside = hull;
       low = low;
       high = sent.2;
-      brought = sound_frames_go_up v sent.0 master cm (suc n) is sent.1 one (dispatches_pass goes v n w there is low sent.2 times.2) times.1;
+      brought = sound_frames_go_up v sent.0 master cm (suc n) is sent.1 one (dispatches_pass goes v n w there is low sent.2 (omega (arith, soon))) soon;
     }

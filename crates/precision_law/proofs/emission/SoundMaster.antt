@@ -1,159 +1,263 @@
 -- The compression master of the sound channel sends one frame of the block's cycle, of enough masters.
-use Rattle.precision_law.proofs.words.Std.{◌*◌, ◌++◌, ◌+ℤ◌, ◌+◌, ◌<ℤ◌, ◌<◌, ◌∙◌, ◌∷◌, ◌≡◌, ◌≤ℤ◌, ◌≤◌, Contains, List, Some, [], ap, append_assoc, arith, bit_at, cases_lt, filter_map, filter_map-append, inl, inr, ints, pos, refl, subst, suc, sym, unsigned_abs, ℕ, ℤ}
-use Rattle.precision_law.proofs.words.Plans.{AreClusters, Cluster, DeviceId, IsCmOf, IsMember, IsReach, Masters, Members, Point, one_list_of_clusters}
-use Rattle.precision_law.proofs.words.Runs.{Happening, IsDue, IsFounded, IsIn, IsSplit, before_later_time, before_next_time, front_founded, in_left, in_parts, in_right, member_of, observation_window, place_of, point_by, points_of, rank, same_some, sign, split, time_of}
-use Rattle.precision_law.proofs.words.Laws.{BlocksGoSo, Hull, IsEmission, IsFirstMaster, IsInBlock, IsInHull, IsView, SendsSo, SoundMasterSends, View, first_correction, hull_of, last_dispatch}
-use Rattle.precision_law.proofs.words.Clocks.{IsSentAt, all_by, contains, enough_masters, frames_come_first, in_filter_map, is_sent, natural_of, place_of_sent, room, sent_at, sound_switches_begin_on, steady, switches_are_good}
-use Rattle.precision_law.proofs.words.Blocks.{IsWitness, bases_are_in_hulls, before_narrow, cluster_was, follows_before, gives_point, is_held, later_point, read_at}
-use Rattle.precision_law.proofs.block.Coming.{early_show}
-use Rattle.precision_law.proofs.block.Dispatched.{IsCalm}
-use Rattle.precision_law.proofs.emission.Clustered.{HasAll, by_then, emerges, has_all, known, ordered, points, points_all, up_to}
-use Rattle.precision_law.proofs.emission.Emerging.{sent_in_time}
-use Rattle.precision_law.proofs.emission.Senders.{cm_is, first_master, sound_cm}
+use Rattle.precision_law.proofs.words.Std.{◌*◌, ◌++◌, ◌+ℤ◌, ◌+◌, ◌<ℤ◌, ◌<◌, ◌∙◌, ◌∷◌, ◌≡◌, ◌≤ℤ◌, ◌≤◌, ◌⊎◌, Contains, List, Some, [], ap, append_assoc, arith, bit_at, cases_lt, false_from_ne_true, filter_map, filter_map-append, inl, inr, ints, not, not_from_false, pos, refl, subst, suc, sym, true, unsigned_abs, ℕ, ℤ}
+use Rattle.precision_law.proofs.words.Plans.{AreClusters, Cluster, DeviceId, Holds, IsDropped, IsKept, IsMember, IsReach, Masters, Members, Ordered, Point, end_of, one_cluster, one_list_of_clusters}
+use Rattle.precision_law.proofs.words.Runs.{Happening, IsDue, IsFounded, IsIn, IsSplit, before_later_time, before_next_time, earlier_time, ends_stretch, front_founded, in_front_of, in_left, in_parts, in_right, is_cm, key, member_of, members_in, observation_window, place_of, point_by, points_of, rank, same_some, sign, split, time_of}
+use Rattle.precision_law.proofs.words.Laws.{BlocksGoSo, Hull, IsEmission, IsFirstMaster, IsInBlock, IsInHull, IsView, SendsSo, SoundMasterSends, View, hull_of, last_dispatch}
+use Rattle.precision_law.proofs.words.Clocks.{IsSentAt, after_last_none, all_by, all_of, ascending_from, contains, enough_masters, frames_come_first, in_filter_map, is_sent, made_in, natural_of, one_member, opened_by, place_of_sent, reach_is_there, room, sent_at, sizes_are, sound_switches_begin_on, steady, switches_are_good}
+use Rattle.precision_law.proofs.words.Blocks.{IsBadPoint, IsGoodPoint, IsKnown, IsWitness, bad_number, bases_are_in_hulls, before_narrow, cluster_was, contained, earlier_in_block, early_show, ends_soon, follows_before, front_point, front_witness, gives_point, good_near, hulls_are_narrow, is_held, later_point, not_both, point_record, points_ordered, read_at, tidy}
 use Rattle.precision_law.proofs.block.Onward.{hull_ordered}
+use Rattle.precision_law.proofs.emission.Aimed.{never_ends, of_block_cycle}
+use Rattle.precision_law.proofs.emission.Gathered.{Collects, IsGathered, gathered, has_frame}
+use Rattle.precision_law.proofs.emission.Senders.{cm_is, first_master, sends_up, sound_cm}
 
--- ---- numbers
+-- ---- the points by then
 
--- the instant by which the frame is sent
-by_from : (greatest last : ℤ) (w x by dmax compression base path precision : ℕ) → pos x ≡ (greatest +ℤ pos (dmax + compression + base + precision))
-    → greatest ≤ℤ last → (last +ℤ pos (dmax + compression + base + path + precision)) ≤ℤ pos by → x ≤ by
-by_from greatest last w x by dmax compression base path precision at le to = omega (arith, ints, at, le, to)
+module _ (goes : BlocksGoSo) (v : View) (n t : ℕ) (block : IsInBlock v n t) (cm : DeviceId) (by : ℕ) (is : IsView v) (coll : Collects v n t block cm by) where
+  -- the compression master has been in one stretch
+  points_all : (hs : List Happening) → ((h : Happening) → IsIn h hs → IsIn h v.records × (time_of h ≤ by))
+      → points_of hs cm ≡ filter_map (λ h. point_by cm h h.note.body) hs
+  points_all hs each =
+      ap (filter_map (λ (h : Happening). point_by cm h h.note.body))
+      (after_last_none (λ (h : Happening). ends_stretch cm h.note.body) hs
+      (all_of (λ (h : Happening). not (ends_stretch cm h.note.body) ≡ true) hs (λ h i. not_from_false (ends_stretch cm h.note.body)
+      (false_from_ne_true (ends_stretch cm h.note.body)
+      (λ hit. (let e = each h i in never_ends goes v n t block cm by is coll.calm h h.note.body e.0 e.1 refl hit))))))
 
--- it lies before the correction points
-by_then_early : (last first : ℤ) (by t dmax compression base path precision reach : ℕ) → pos by ≡ (last +ℤ pos (dmax + compression + base + path + precision))
-    → ((last +ℤ pos (2 * dmax + compression + base + path + precision)) +ℤ pos (5 * precision)) <ℤ first → (first +ℤ pos reach) ≤ℤ pos t
-    → (pos by <ℤ (first +ℤ pos reach)) × (by ≤ t) × ((last +ℤ pos (dmax + path)) ≤ℤ pos by)
-by_then_early last first by t dmax compression base path precision reach at lt late = (omega (arith, ints), omega (arith, ints), omega (arith, ints))
+  -- what is known of the cycle
+  known : IsKnown v (by + 1) (suc n)
+  known = record {
+    is = is;
+    tidy = tidy _ _ (by + 1) block.before (λ u from lt. goes v n u (earlier_in_block _ _ _ _ block from (omega arith)) is);
+    narrow = λ hull e. hulls_are_narrow goes v n block.before hull is e;
+  }
 
--- ---- the emission
+  -- the records up to then
+  by_then : IsSplit place_of v.records ((by + 1) ∷ [])
+  by_then = split place_of (IsDue v.scenario) v.records ((by + 1) ∷ []) is.run.founded
 
-module _ (goes : BlocksGoSo) (v : View) (n t : ℕ) (block : IsInBlock v n t) (cm : DeviceId) (by : ℕ) (is : IsView v) (calm : IsCalm v n t block cm by)
-    (of_channel : IsCmOf v.scenario.network v.channel cm) (late : (first_correction v.sizes block.before.hull +ℤ pos v.sizes.reach) ≤ℤ pos t)
-    (over : (last_dispatch v.sizes block.before.hull +ℤ pos (v.sizes.dmax + v.sizes.path)) ≤ℤ pos by)
-    (lasts : (last_dispatch v.sizes block.before.hull +ℤ pos (v.sizes.dmax + v.sizes.compression + v.sizes.base + v.sizes.path + v.sizes.precision)) ≤ℤ pos by)
-  where
-    -- the reading of the compression master comes to the emission reading in time
-    comes_to : (c : Cluster) (x : Point) → IsWitness v cm by (suc n) (sent_at v c) (points goes v n t block cm by is calm of_channel late over) c x → (u : ℕ)
-        × (u ≤ by) × IsReach (v.scenario.reading cm) (pos 0) (sent_at v c) (pos u)
-    comes_to c near e =
-        let k = known goes v n t block cm by is calm of_channel late over in
-        let g = e.good in
-        let w = subst (λ (m : ℕ). IsInHull v m (time_of g.first)) e.of_cycle (k.tidy g.first g.master near.cycle g.dispatch (omega (arith, g.before))) in
-        let high = w.most in
-        let last = natural_of (w.hull.greatest +ℤ pos (v.sizes.dmax + v.sizes.compression + v.sizes.base + v.sizes.precision)) 0 (omega (arith, ints, high)) in
-        let to = by_from w.hull.greatest (last_dispatch v.sizes block.before.hull) (time_of g.first) last.0 by v.sizes.dmax v.sizes.compression v.sizes.base
-        v.sizes.path v.sizes.precision (sym last.1) (follows_before v n block.before.hull w.hull is block.before.is_hull w.is).most lasts in
-        let found = sent_in_time v.sizes (v.scenario.reading cm) w.hull.least w.hull.greatest (sent_at v c) near.reading (time_of g.first) g.ripe last.0
-        (room v is) (steady v is cm) (k.narrow w.hull w.is) w.least high g.in_time.not_early g.in_time.not_late g.least e.soon e.begun (sym last.1) in
-        (found.0, omega (arith, found.2, to), found.3)
+  up_to : (h : Happening) → IsIn h by_then.front → IsIn h v.records × (time_of h ≤ by)
+  up_to h i = (
+    subst (IsIn h) (sym by_then.whole) (in_left h by_then.front by_then.rest i),
+    (let lt = earlier_time (time_of h) (by + 1) (rank h.note.body ∷ key (members_in h) h.note.body) (by_then.before h i) in omega (arith, lt)),
+  )
 
-    -- the records before the place of the frame
-    before_sent : (c : Cluster) (u : ℕ) → IsSplit place_of (by_then goes v n t block cm by is calm of_channel late over).front (place_of_sent v cm c u)
-    before_sent c u =
-        let at = by_then goes v n t block cm by is calm of_channel late over in
-        split place_of (IsDue v.scenario) at.front (place_of_sent v cm c u)
-        (front_founded place_of (IsDue v.scenario) at.front at.rest (subst (IsFounded place_of (IsDue v.scenario)) at.whole is.run.founded))
+  abbrev points : List Point
+  points = points_of by_then.front cm
 
-    -- the same among all records
-    all_before : (c : Cluster) (u : ℕ) → u ≤ by → IsSplit place_of v.records (place_of_sent v cm c u)
-    all_before c u le =
-        let at = by_then goes v n t block cm by is calm of_channel late over in
-        let first = before_sent c u in
+  abbrev ow : ℤ
+  ow = observation_window v.scenario.network
+
+  -- it is a compression master
+  one : is_cm v.scenario.network cm ≡ true
+  one = (cm_is v cm coll.of_channel).one
+
+  -- each is a good one or a bad one
+  each_is : (q : Point) → IsIn q points → IsGoodPoint v cm by q ⊎ IsBadPoint v q
+  each_is q i = front_point v cm q by by_then.front by_then.rest is by_then.whole (λ h j. (up_to h j).1) one i
+
+  -- they are in order
+  ordered : Ordered points
+  ordered = points_ordered v cm by_then.front by_then.rest is by_then.whole
+
+  -- the clusters that they make
+  found : (cs : List Cluster) × AreClusters ow points cs
+  found = (let z = one_list_of_clusters ow points in (z.0, z.1))
+
+  gather : (master : DeviceId) → IsFirstMaster v master → IsGathered v n block.before.next cm master by
+  gather m first =
+      let sender = sends_up goes v n t block cm m is coll.late coll.of_channel first in
+      gathered goes v n t block cm by is coll m sender (has_frame v n block.before.hull cm m sender is first)
+
+  -- a first master's point is among them
+  is_point : (master : DeviceId) (g : IsGathered v n block.before.next cm master by) → IsIn g.p points
+  is_point master g =
+      let front : IsIn g.k by_then.front = in_front_of place_of v.records ((by + 1) ∷ []) by_then g.k g.there (inl (omega (arith, g.to))) in
+      subst (IsIn g.p) (sym (points_all by_then.front up_to)) (made_in (λ (h : Happening). point_by cm h h.note.body) by_then.front g.k g.p front g.gives)
+
+  -- a point of a good master's number is good
+  good_by : (master : DeviceId) (q : Point) → IsFirstMaster v master → member_of v.scenario.network master ≡ Some q.master → IsIn q points
+      → IsGoodPoint v cm by q
+  good_by master q first member i = elim (each_is q i) [
+    | inl good ↦ good
+    | inr bad ↦ absurd (not_both v master bad.master first.good bad.bad (one_member v master bad.master q.master is member bad.is_member))
+  ]
+
+  -- and it is in the time of no cluster of another cycle
+  never_dropped : (master : DeviceId) (g : IsGathered v n block.before.next cm master by) → IsDropped found.0 g.p → ⊥
+  never_dropped master g dropped =
+      let opened = opened_by ow points found.0 dropped.0 ordered found.1 dropped.1 in
+      let o = opened.first in
+      let given = point_record cm by_then.front o (contained points o opened.there) in
+      let there = up_to given.0 given.1 in
+      let lies = dropped.3 in
+      let ends : dropped.0.end ≡ end_of ow o (o ∷ opened.rest) = ap (λ (x : Cluster). x.end) opened.is in
+      let opens : dropped.0.opened ≡ o.reading = ap (λ (x : Cluster). x.opened) opened.is in
+      let cycle = of_block_cycle goes v n t block cm by is coll.calm one g.p.reading (time_of g.k) given.0 o g.aimed there.0 there.1 given.2
+      (omega (arith, ints, lies.low, opens)) (omega (arith, ints, lies.high, ends, ends_soon ow o (o ∷ opened.rest) (omega (arith, ints)), sizes_are v is)) in
+      dropped.2 (g.of_cycle ∙ sym cycle ∙ sym (ap (λ (x : Cluster). x.cycle) opened.is))
+
+  -- ---- the cluster
+
+  -- a cluster that has the points of all first masters
+  record HasAll : Type 0 where
+    pub cluster : Cluster
+    pub there : Contains found.0 cluster
+    pub holds : (master : DeviceId) → IsFirstMaster v master → (p : Point) × (member_of v.scenario.network master ≡ Some p.master) × IsIn p points
+        × Holds cluster p × (p.cycle ≡ suc n)
+
+  -- there is one
+  all : HasAll
+  all =
+      let bad = bad_number v cm by points is each_is in
+      let sizes = sizes_are v is in
+      let kept : (m : DeviceId) → (f : IsFirstMaster v m) → IsKept points found.0 bad.0 (suc n) (gather m f).p = λ m f.
+      let g = gather m f in
+      let i = is_point m g in
+      record { there = contains points g.p i; other = bad.1.of_good g.p i (good_by m g.p f g.of_master i); same = g.of_cycle; kept = never_dropped m g }
+      in
+      let good : (q : Point) → IsKept points found.0 bad.0 (suc n) q → IsGoodPoint v cm by q = λ q k. elim (each_is q (contained points q k.there))
+      [ inl fine ↦ fine | inr wrong ↦ absurd (k.other (bad.1.of_bad q (contained points q k.there) wrong)) ] in
+      let near : (p q : Point) → IsKept points found.0 bad.0 (suc n) p → IsKept points found.0 bad.0 (suc n) q → p.reading ≤ℤ (q.reading +ℤ ow) = λ p q k l.
+      (let r = good_near v (by + 1) (suc n) cm by by p q known (omega arith) (omega arith) k.same l.same (good p k) (good q l) in omega (arith, ints)) in
+      let m = first_master v is in
+      let z = one_cluster ow points found.0 bad.0 (suc n) (omega (arith, ints)) (ascending_from points ordered) found.1 near (gather m.0 m.1).p (kept m.0 m.1)
+      in
+      record { cluster = z.0; there = z.1; holds = λ m f. (let g = gather m f in (g.p, g.of_master, is_point m g, z.2 g.p (kept m f), g.of_cycle)) }
+
+  -- the number of a first master is one of its members
+  is_member : (device : DeviceId) (i : ℕ) → IsFirstMaster v device → member_of v.scenario.network device ≡ Some i
+      → IsMember i (record { 0 = all.cluster.members })
+  is_member device i first e =
+      let p = all.holds device first in
+      let bit = is_held ow points found.0 all.cluster p.0 (omega (arith, ints)) ordered found.1 all.there (contains points p.0 p.2) p.3 in
+      subst (λ (j : ℕ). bit_at all.cluster.members j ≡ 1) (same_some (member_of v.scenario.network device) p.0.master i p.1 e) bit
+
+  -- it is of the block's cycle
+  of_cycle : all.cluster.cycle ≡ suc n
+  of_cycle = (let m = first_master v is in let p = all.holds m.0 m.1 in sym p.3.0 ∙ p.4)
+
+  -- ---- what it sends
+
+  abbrev sent_reading : ℤ
+  sent_reading = sent_at v all.cluster
+
+  -- a good point of the cycle witnesses the emission reading of the cluster
+  emerges : (x : Point) × IsWitness v cm by (suc n) sent_reading points all.cluster x
+  emerges =
+      let m = first_master v is in
+      let p = all.holds m.0 m.1 in
+      front_witness v (by + 1) (suc n) cm by by_then.front by_then.rest found.0 all.cluster
+      (record {
+        known = known;
+        whole = by_then.whole;
+        only = λ h i. (up_to h i).1;
+        early = omega arith;
+        one = one;
+        are = found.1;
+        there = all.there;
+        cycle_is = of_cycle;
+      }) p.0.master (is_member m.0 p.0.master m.1 p.1) (m.0, p.1, m.1.good)
+
+  -- the emission reading, which is at most a precision and the time of a compression above a good point, is first reached by then
+  comes_to : (u : ℕ) × (u ≤ by) × IsReach (v.scenario.reading cm) (pos 0) sent_reading (pos u)
+  comes_to =
+      let near = emerges.0 in
+      let e = emerges.1 in
+      let reading = v.scenario.reading cm in
+      let space = room v is in
+      let clock = steady v is cm in
+      let g = e.good in
+      let q = g.ripe in
+      let w = subst (λ (m : ℕ). IsInHull v m (time_of g.first)) e.of_cycle (known.tidy g.first g.master near.cycle g.dispatch (omega (arith, g.before))) in
+      let high = w.most in
+      let last = natural_of (w.hull.greatest +ℤ pos (v.sizes.dmax + v.sizes.compression + v.sizes.base + v.sizes.precision)) 0 (omega (arith, ints, high)) in
+      let x = last.0 in
+      let after : q ≤ x = omega (arith, ints, last.1, high, g.in_time.not_late, space.errors.base_is) in
+      let within : x ≤ q + 2 * v.sizes.cycle = omega (arith, ints, last.1, known.narrow w.hull w.is, w.least, g.in_time.not_early, space) in
+      let reached : sent_reading ≤ℤ pos (reading x) =
+      omega (arith, ints, clock.slow q x after within, last.1, high, g.in_time.not_late, space.errors.base_is, g.least, e.soon) in
+      let there = reach_is_there v.sizes reading 0 0 sent_reading x clock (omega arith) (omega (arith, ints, last.1, high, space.compression_least))
+      (omega (arith, ints, clock.begins, e.begun)) reached in
+      let follows = follows_before v n block.before.hull w.hull is block.before.is_hull w.is in
+      (there.0, omega (arith, ints, there.2, last.1, follows.most, coll.over), there.3)
+
+  abbrev u : ℕ
+  u = comes_to.0
+
+  -- the records before the place of the frame
+  first : IsSplit place_of by_then.front (place_of_sent v cm all.cluster u)
+  first =
+      split place_of (IsDue v.scenario) by_then.front (place_of_sent v cm all.cluster u)
+      (front_founded place_of (IsDue v.scenario) by_then.front by_then.rest (subst (IsFounded place_of (IsDue v.scenario)) by_then.whole is.run.founded))
+
+  -- the same among all records
+  abbrev all_before : IsSplit place_of v.records (place_of_sent v cm all.cluster u)
+  all_before = record {
+    front = first.front;
+    rest = first.rest ++ by_then.rest;
+    whole = by_then.whole ∙ ap (λ (hs : List Happening). hs ++ by_then.rest) first.whole ∙ append_assoc first.front first.rest by_then.rest;
+    before = first.before;
+    none = λ h i lt. elim (in_parts h first.rest by_then.rest i) [
+      | inl j ↦ first.none h j lt
+      | inr j ↦ by_then.none h j (before_later_time (place_of h) (u + 1) (by + 1) (omega (arith, comes_to.1))
+          (before_next_time (place_of h) u (4 ∷ cm.0 ∷ unsigned_abs all.cluster.opened ∷ unsigned_abs sent_reading ∷ all.cluster.cycle
+          ∷ all.cluster.members ∷ sign all.cluster.opened ∷ sign sent_reading ∷ []) lt))
+    ];
+  }
+
+  -- the points that come later lie behind the emission reading
+  past_sent : (q : Point) → IsIn q (filter_map (λ h. point_by cm h h.note.body) first.rest) → sent_reading ≤ℤ q.reading
+  past_sent q i =
+      let made = in_filter_map (λ (h : Happening). point_by cm h h.note.body) first.rest q i in
+      let k = made.0 in
+      let g = gives_point cm k q made.2 in
+      let in_all = (up_to k (subst (IsIn k) (sym first.whole) (in_right k first.front first.rest made.1))).0 in
+      let behind : u < time_of k = elim (cases_lt u (time_of k)) [
+        | inl lt ↦ lt
+        | inr le ↦ elim (cases_lt (time_of k) u) [
+          | inl lt ↦ absurd (first.none k made.1 (inl lt))
+          | inr ge ↦ absurd (first.none k made.1 (inr (omega (arith, le, ge), inl (omega (arith, ap rank g.is)))))
+        ]
+      ] in
+      omega (arith, ints, later_point v cm q.reading u (time_of k) is (read_at v cm k q is in_all g) behind, comes_to.2.reached)
+
+  -- so the frame is sent
+  sends : IsSentAt v cm all.cluster u
+  sends =
+      let point = λ (h : Happening). point_by cm h h.note.body in
+      let more = filter_map point first.rest in
+      let in_front : (h : Happening) → IsIn h first.front → IsIn h v.records
+      × (time_of h ≤ by) = λ h i. up_to h (subst (IsIn h) (sym first.whole) (in_left h first.front first.rest i)) in
+      let whole = points_all by_then.front up_to ∙ ap (filter_map point) first.whole ∙ filter_map-append point first.front first.rest
+      ∙ ap (λ (ps : List Point). ps ++ more) (sym (points_all first.front in_front)) in
+      let ends = emerges.1.ends in
+      let past = all_by (λ (q : Point). all.cluster.end <ℤ q.reading) more (λ q i. (let above = past_sent q i in omega (arith, ints, above, ends))) in
+      let before = one_list_of_clusters ow (points_of first.front cm) in
+      let was = cluster_was ow (points_of first.front cm) more before.0 found.0 all.cluster (omega (arith, ints)) before.1
+      (subst (λ (ps : List Point). AreClusters ow ps found.0) whole found.1) all.there past in
+      is_sent v cm u all.cluster before.0 is one coll.calm.good (omega (arith, comes_to.1, coll.calm.to, block.in_run)) all_before before.1 was comes_to.2
+
+  -- and its base lies in the hull
+  pub emits : (hull : Hull) × (hull_of v (suc n) ≡ Some hull) × SendsSo v n hull
+  emits =
+      let members : Members = record { 0 = all.cluster.members } in
+      let emission : IsEmission v sends.h cm (suc n) members = subst (λ (k : ℕ). IsEmission v sends.h cm k members) of_cycle sends.emission in
+      let enough = enough_masters v members is is_member in
+      let base = bases_are_in_hulls v sends.h cm (suc n) members is emission
+      (λ h d m dispatch lt. known.tidy h d m dispatch (omega (arith, lt, sends.time, comes_to.1)))
+      (inl (omega (arith, (is.lawful.rules Masters 2).threshold_least refl, enough))) in (
+        base.hull,
+        base.is,
         record {
-          front = first.front;
-          rest = first.rest ++ at.rest;
-          whole = at.whole ∙ ap (λ (hs : List Happening). hs ++ at.rest) first.whole ∙ append_assoc first.front first.rest at.rest;
-          before = first.before;
-          none = λ h i lt. elim (in_parts h first.rest at.rest i) [
-            | inl j ↦ first.none h j lt
-            | inr j ↦ at.none h j (before_later_time (place_of h) (u + 1) (by + 1) (omega arith)
-                (before_next_time (place_of h) u (4 ∷ cm.0 ∷ unsigned_abs c.opened ∷ unsigned_abs (sent_at v c) ∷ c.cycle ∷ c.members ∷ sign c.opened
-                ∷ sign (sent_at v c) ∷ []) lt))
-          ];
-        }
-
-    -- the points that come later lie behind the emission reading
-    past_sent : (c : Cluster) (u : ℕ) → IsReach (v.scenario.reading cm) (pos 0) (sent_at v c) (pos u) → (q : Point)
-        → IsIn q (filter_map (λ h. point_by cm h h.note.body) (before_sent c u).rest) → sent_at v c ≤ℤ q.reading
-    past_sent c u reach q i =
-        let at = by_then goes v n t block cm by is calm of_channel late over in
-        let first = before_sent c u in
-        let made = in_filter_map (λ (h : Happening). point_by cm h h.note.body) first.rest q i in
-        let k = made.0 in
-        let g = gives_point cm k q made.2 in
-        let there : IsIn k at.front = subst (IsIn k) (sym first.whole) (in_right k first.front first.rest made.1) in
-        let in_all = (up_to goes v n t block cm by is calm of_channel late over k there).0 in
-        let behind : u < time_of k = elim (cases_lt u (time_of k)) [
-          | inl lt ↦ lt
-          | inr le ↦ elim (cases_lt (time_of k) u) [
-            | inl lt ↦ absurd (first.none k made.1 (inl lt))
-            | inr ge ↦ absurd (first.none k made.1 (inr (omega (arith, le, ge), inl (omega (arith, ap rank g.is)))))
-          ]
-        ] in
-        omega (arith, ints, later_point v cm q.reading u (time_of k) is (read_at v cm k q is in_all g) behind, reach.reached)
-
-    -- so the frame is sent
-    sends : (cs : List Cluster) (c : Cluster) (u : ℕ) → AreClusters (observation_window v.scenario.network)
-        (points goes v n t block cm by is calm of_channel late over) cs
-        → Contains cs c → c.end <ℤ sent_at v c → u ≤ by → IsReach (v.scenario.reading cm) (pos 0) (sent_at v c) (pos u) → IsSentAt v cm c u
-    unfolding all_before before_sent
-    sends cs c u are there ends le reach =
-        let ow = observation_window v.scenario.network in
-        let at = by_then goes v n t block cm by is calm of_channel late over in
-        let all = up_to goes v n t block cm by is calm of_channel late over in
-        let first = before_sent c u in
-        let point = λ (h : Happening). point_by cm h h.note.body in
-        let more = filter_map point first.rest in
-        let in_front : (h : Happening) → IsIn h first.front → IsIn h v.records
-        × (time_of h ≤ by) = λ h i. all h (subst (IsIn h) (sym first.whole) (in_left h first.front first.rest i)) in
-        let whole = points_all goes v n t block cm by is calm of_channel late over at.front all ∙ ap (filter_map point) first.whole
-        ∙ filter_map-append point first.front first.rest ∙ ap (λ (ps : List Point). ps ++ more)
-        (sym (points_all goes v n t block cm by is calm of_channel late over first.front in_front)) in
-        let past = all_by (λ (q : Point). c.end <ℤ q.reading) more (λ q i. (let above = past_sent c u reach q i in omega (arith, ints, above, ends))) in
-        let found = one_list_of_clusters ow (points_of first.front cm) in
-        let was = cluster_was ow (points_of first.front cm) more found.0 cs c (omega (arith, ints)) found.1
-        (subst (λ (ps : List Point). AreClusters ow ps cs) whole are) there past in
-        is_sent v cm u c found.0 is (cm_is v cm of_channel).one calm.good (omega arith) (all_before c u le) found.1 was reach
-
-    -- the number of a first master is one of its members
-    is_in : (cs : List Cluster) (all : HasAll goes v n t block cm by is calm of_channel late over cs)
-        → AreClusters (observation_window v.scenario.network) (points goes v n t block cm by is calm of_channel late over) cs → (device : DeviceId) (i : ℕ)
-        → IsFirstMaster v device → member_of v.scenario.network device ≡ Some i → IsMember i (record { 0 = all.cluster.members })
-    is_in cs all are device i first e =
-        let p = all.holds device first in
-        let bit = is_held (observation_window v.scenario.network) (points goes v n t block cm by is calm of_channel late over) cs all.cluster p.0
-        (omega (arith, ints)) (ordered goes v n t block cm by is calm of_channel late over) are all.there
-        (contains (points goes v n t block cm by is calm of_channel late over) p.0 p.2) p.3 in
-        subst (λ (j : ℕ). bit_at all.cluster.members j ≡ 1) (same_some (member_of v.scenario.network device) p.0.master i p.1 e) bit
-
-    -- so the master sends one, and its base lies in the hull
-    pub emits : (hull : Hull) × (hull_of v (suc n) ≡ Some hull) × SendsSo v n hull
-    emits =
-        let master = first_master v is in
-        let found = one_list_of_clusters (observation_window v.scenario.network) (points goes v n t block cm by is calm of_channel late over) in
-        let all = has_all goes v n t block cm by is calm of_channel late over master.0 master.1 found.0 found.1 in
-        let p = all.holds master.0 master.1 in
-        let e = emerges goes v n t block cm by is calm of_channel late over found.0 found.1 all master.0 master.1 in
-        let u = comes_to all.cluster e.0 e.1 in
-        let sent = sends found.0 all.cluster u.0 found.1 all.there e.1.ends u.1 u.2 in
-        let members : Members = record { 0 = all.cluster.members } in
-        let emission : IsEmission v sent.h cm (suc n) members = subst (λ (k : ℕ). IsEmission v sent.h cm k members) (sym p.3.0 ∙ p.4) sent.emission in
-        let enough = enough_masters v members is (is_in found.0 all found.1) in
-        let k = known goes v n t block cm by is calm of_channel late over in
-        let base = bases_are_in_hulls v sent.h cm (suc n) members is emission (λ h d m dispatch lt. k.tidy h d m dispatch (omega (arith, lt, sent.time, u.1)))
-        (inl (omega (arith, (is.lawful.rules Masters 2).threshold_least refl, enough))) in (
-          base.hull,
-          base.is,
-          record {
-            cm = cm;
-            is_cm = of_channel;
-            first = sent.h;
-            members = members;
-            emission = emission;
-            enough = enough;
-            near = record { least = base.least; most = base.most };
-          },
-        )
+          cm = cm;
+          is_cm = coll.of_channel;
+          first = sends.h;
+          members = members;
+          emission = emission;
+          enough = enough;
+          near = record { least = base.least; most = base.most };
+        },
+      )
 
 -- ---- the law
 
@@ -163,16 +267,18 @@ sound_master_sends goes v n t block is late =
     let space = room v is in
     let natural = natural_of (last_dispatch v.sizes before.hull +ℤ pos (v.sizes.dmax + v.sizes.compression + v.sizes.base + v.sizes.path + v.sizes.precision)) 0
     (omega (arith, ints, early_show v n before is, hull_ordered v n before is, space)) in
-    let by = natural.0 in
-    let times = by_then_early (last_dispatch v.sizes before.hull) (first_correction v.sizes before.hull) by t v.sizes.dmax v.sizes.compression v.sizes.base
-    v.sizes.path v.sizes.precision v.sizes.reach (sym natural.1) (frames_come_first v.sizes before.hull space (before_narrow v n before)) late in
+    let early = frames_come_first v.sizes before.hull space (before_narrow v n before) in
     let cm = sound_cm v is in
     let switch = (cm_is v cm.0 cm.1).switch in
-    let calm : IsCalm v n t block cm.0 by = record {
-      before = times.0;
-      to = times.1;
-      firm = inr switch;
-      good = switches_are_good v v.channel cm.0 is switch;
-      on = sound_switches_begin_on v cm.0 is switch;
-    } in
-    emits goes v n t block cm.0 by is calm cm.1 late times.2 (omega (arith, ints, (sym natural.1)))
+    emits goes v n t block cm.0 natural.0 is (record {
+      calm = record {
+        before = omega (arith, ints, natural.1, early);
+        to = omega (arith, ints, natural.1, early, late);
+        firm = inr switch;
+        good = switches_are_good v v.channel cm.0 is switch;
+        on = sound_switches_begin_on v cm.0 is switch;
+      };
+      of_channel = cm.1;
+      late = late;
+      over = omega (arith, ints, natural.1);
+    })

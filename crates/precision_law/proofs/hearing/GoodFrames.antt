@@ -1,148 +1,137 @@
--- The frames with a good member that a device hears in a block.
-use Rattle.precision_law.proofs.words.Std.{◌+◌, ◌<ℤ◌, ◌<◌, ◌∙◌, ◌≡◌, ◌≤ℤ◌, ◌≤◌, ◌⊎◌, Some, ap, arith, cases_lt, inl, inr, ints, pos, subst, suc, sym, true, ℕ, ℤ}
-use Rattle.precision_law.proofs.words.Plans.{Channel, DeviceId, Members, count_of}
-use Rattle.precision_law.proofs.words.Runs.{Happening, IsCaused, Judgement, Within, channel_of, cycle_in, expected_by, founded_at, is_cm, members_in, same_some, time_of}
-use Rattle.precision_law.proofs.words.Laws.{AreGood, BlocksGoSo, HasGood, HasTimeAt, HearsBy, Hull, IsEmission, IsInBlock, IsNarrowIfThere, IsNearHull, IsOfHearer, IsOldAt, IsTidyBefore, IsTimely, IsView, Stands, View, base_of, first_correction, first_dispatch, hull_of}
-use Rattle.precision_law.proofs.words.Clocks.{room}
-use Rattle.precision_law.proofs.words.Blocks.{FramesGoSo, IsLate, WentSo, cm_of, corrections_before, earlier_in_block, emission_is_one, follows_before, hulls_are_narrow, known_dispatch, narrow_at, one_cm, tidy}
+-- How a device judges what it hears, and the frames with a good member that it hears in a block.
+use Rattle.precision_law.proofs.words.Std.{◌+ℤ◌, ◌-ℤ◌, ◌<ℤ◌, ◌<◌, ◌==◌, ◌∙◌, ◌≡◌, ◌≤ℤ◌, ◌≤◌, ◌⊎◌, Bool, List, MatchBool-at_false, None, Option, Some, ap, arith, eq-eqb, if◌then◌else◌, inl, inr, ints, le-leb, nat_le, option_and_then, option_map, option_map_or, pos, refl, subst, suc, sym, true, ℕ, ℤ}
+use Rattle.precision_law.proofs.words.Plans.{Channel, DeviceId, IsCmOf, Joining, Members, Pcf, State, SyncPlan, Synchronised, Units, count_of, expected_at, int_le-true}
+use Rattle.precision_law.proofs.words.Runs.{Happening, IsCaused, Judgement, Within, before_permanence, cycle_in, founded_at, frame_by, heard_as, heard_by, hearing_by, last_cycle, observation_window, plan_of, same_judgement, time_of}
+use Rattle.precision_law.proofs.words.Laws.{AreGood, BlocksGoSo, HasTimeAt, HearsBy, IsEmission, IsInBlock, IsOfHearer, IsOldAt, IsView, View, first_correction, has_time}
+use Rattle.precision_law.proofs.words.Clocks.{before_of, emission_shows, hearer_not_cm, one_more, room, sizes_are}
+use Rattle.precision_law.proofs.words.Blocks.{AreUpTo, FramesGoSo, IsGoodHearing, IsSentOn, WentSo, before_narrow, cm_of, earlier_in_block, emission_is_one, expected_is, few_cycles, follows_before, hears_as_at, hulls_are_narrow, judged_at, judged_up_to, members_by, near_hull, next_first, old_shows, one_cm, tidy, up_to_then}
 use Rattle.run_law.specs.declared.note.NoteBody.TheVariants as notes
-use Rattle.precision_law.proofs.block.Coming.{early_show}
-use Rattle.precision_law.proofs.hearing.Hearers.{judged_as}
-use Rattle.precision_law.proofs.verdict.Judging.{IsInTimeOf, record_within}
 
--- ---- what a block has had so far
+-- ---- judgements
 
--- each earlier instant of the block went as it should
-pub went_so : BlocksGoSo → (v : View) (n t : ℕ) (block : IsInBlock v n t) → IsView v → WentSo v n block.before t
-went_so goes v n t block is u from lt = goes v n u (earlier_in_block _ _ _ _ block from (omega arith)) is
+-- the record has this judgement by records up to its time
+record IsJudgedAs (v : View) (device : DeviceId) (h : Happening) (point : ℤ) (judgement : Judgement) : Type 0 where
+  pub judged : List Happening
+  pub up_to : AreUpTo v (time_of h) judged
+  pub members : Members
+  pub is : judgement ≡ judged_at v.scenario device judged (time_of h) point (cycle_in h) members
 
--- the block begins before the dispatches of its cycle
-pub next_first : (v : View) (n : ℕ) (before : Stands v n) → IsView v → pos before.next ≤ℤ first_dispatch v.sizes before.hull
-next_first v n before is = omega (arith, ints, early_show v n before is, room v is)
+-- a device judges what it hears by the records before
+judged_as : (v : View) (device : DeviceId) (channel : Channel) (point : ℤ) (judgement : Judgement) (h : Happening) → IsView v → IsOfHearer judgement
+    → HearsBy v device channel point judgement h → IsJudgedAs v device h point judgement
+judged_as v device channel point judgement h is hearer hears =
+    let s = v.scenario in
+    let n = s.network in
+    let found = founded_at s v.records h is.run.founded hears.there in
+    elim hears.how [
+      | inl far ↦
+          let at = far.2 in
+          let ripens = subst (IsCaused s found.front h.note.time) far.3 found.due.cause in
+          let judged = before_permanence found.front device (time_of h) far.0 far.1 ripens.frame at in
+          let other = hearer_not_cm n device _ _ _ ripens.frame at.0 judgement hearer ripens.becomes in
+          let said = same_judgement judgement _ (MatchBool-at_false _ _ other ripens.becomes) in
+          let of_frame : h.frame ≡ Some ripens.frame = ap (λ (x : Happening). x.frame) found.due.same ∙ ap (frame_by n found.front) far.3
+          ∙ ap (λ (o : Option Happening). option_and_then (λ x. x.frame) o) ripens.permanent.there ∙ ripens.permanent.of_frame in
+          let cycle : ripens.frame.cycle ≡ cycle_in h = ap (λ (o : Option Pcf). option_map_or (λ f. f.cycle) o 0) (sym of_frame) in
+          record {
+            judged = judged;
+            up_to = judged_up_to v h is found device far.0 far.1 ripens.frame at;
+            members = ripens.frame.members;
+            is = cc (said, far.5, cycle);
+          }
+      | inr own ↦
+          let shown = emission_shows v h device own.0 own.1 own.2 own.3 judgement is hears.there own.4 in
+          let said = (subst (IsCaused s found.front h.note.time) own.4 found.due.cause).heard in
+          record {
+            judged = found.front;
+            up_to = up_to_then v (time_of h) found.front (before_of v h is found);
+            members = own.3;
+            is = cc (said, own.6, shown.0);
+          }
+    ]
+
+-- who has a common time hears it so
+heard_as_within : (plan : SyncPlan) (precision : ℤ) (state : State) (adjustment point : ℤ) (cycle : ℕ) (members : Members) → has_time state ≡ true
+    → nat_le cycle last_cycle ≡ true → (expected_at plan cycle -ℤ precision) ≤ℤ (point +ℤ adjustment)
+    → (point +ℤ adjustment) ≤ℤ (expected_at plan cycle +ℤ precision) → heard_as plan precision state adjustment point cycle members ≡ Within
+heard_as_within plan precision Joining adjustment point cycle members timed few low high = rw (few, int_le-true _ _ low, int_le-true _ _ high) refl
+heard_as_within plan precision Synchronised adjustment point cycle members timed few low high = rw (few, int_le-true _ _ low, int_le-true _ _ high) refl
+heard_as_within plan precision state adjustment point cycle members timed few low high = absurd cc
+
+-- ---- hearings
+
+if_same : {X : Type 0} (n : ℕ) (x y : X) → (if n == n then x else y) ≡ x
+if_same n x y = ap (λ (b : Bool). if b then x else y) (eq-eqb n n refl)
+
+-- a frame that was heard within its time is a hearing
+pub heard_within_by : (v : View) (device : DeviceId) (channel : Channel) (point : ℤ) (h : Happening) → HearsBy v device channel point Within h
+    → (at : Units) × (hearing_by v.scenario.network device h h.note.body ≡ Some (heard_by channel h at true))
+heard_within_by v device channel point h hears = elim hears.how [
+  | inl far ↦ (far.2, ap (hearing_by v.scenario.network device h) far.3 ∙ if_same device.0 _ None ∙ ap (option_map (λ c. heard_by c h far.2 true)) far.4)
+  | inr own ↦ (own.1, ap (hearing_by v.scenario.network device h) own.4 ∙ if_same device.0 _ None ∙ ap (option_map (λ c. heard_by c h own.1 true)) own.5)
+]
+
+-- ---- old devices at their points
+
+-- a device whose clock was set before the block comes to the instants of the block's corrections
+pub record IsAtPoint (v : View) (n t : ℕ) (block : IsInBlock v n t) (device : DeviceId) : Type 0 where
+  pub has : HasTimeAt v device t
+  pub old : IsOldAt v block.before.next device t
+  pub late : (first_correction v.sizes block.before.hull +ℤ pos v.sizes.reach) ≤ℤ pos t
+
+-- what is heard before the first correction is heard before the point
+pub sooner : (v : View) (n t : ℕ) (block : IsInBlock v n t) (device : DeviceId) (q : ℕ) → IsAtPoint v n t block device
+    → pos q <ℤ first_correction v.sizes block.before.hull → q < t
+sooner v n t block device q at lt = omega (arith, ints, at.late, lt)
 
 -- ---- one frame a channel
 
--- the record by which a compression master of the channel sends a frame of the cycle behind n with a good member
-pub record IsSentOn (v : View) (n t : ℕ) (channel : Channel) (members : Members) (h : Happening) : Type 0 where
-  pub cm : DeviceId
-  pub emission : IsEmission v h cm (suc n) members
-  pub of_channel : channel_of v.scenario.network cm ≡ Some channel
-  pub good : HasGood v members
-  pub before : time_of h < t
+-- who sends one is the compression master of the channel
+sender_is : (v : View) (n : ℕ) (channel : Channel) (members : Members) (h : Happening) → IsView v → (x : IsSentOn v n channel members h)
+    → IsCmOf v.scenario.network channel x.cm
+sender_is v n channel members h is x =
+    let at = founded_at v.scenario v.records h is.run.founded x.emission.there in
+    cm_of v x.cm channel (subst (IsCaused v.scenario at.front h.note.time) x.emission.is at.due.cause).cm x.of_channel
 
--- who sends is a compression master
-pub emission_cm : (v : View) (h : Happening) (cm : DeviceId) (cycle : ℕ) (members : Members) → IsView v → IsEmission v h cm cycle members
-    → is_cm v.scenario.network cm ≡ true
-emission_cm v h cm cycle members is e =
-    let at = founded_at v.scenario v.records h is.run.founded e.there in
-    (subst (IsCaused v.scenario at.front h.note.time) e.is at.due.cause).cm
+module _ (goes : BlocksGoSo) (v : View) (n t : ℕ) (block : IsInBlock v n t) (is : IsView v) where
+  -- each earlier instant of the block went as it should
+  pub went_so : WentSo v n block.before t
+  went_so u from lt = goes v n u (earlier_in_block _ _ _ _ block from (omega arith)) is
 
--- one record sends one set of members
-one_set : (v : View) (a b : Happening) (c d : DeviceId) (cycle : ℕ) (members others : Members) → IsEmission v a c cycle members → IsEmission v b d cycle others
-    → a ≡ b → members ≡ others
-one_set v a b c d cycle members others x y same =
-    let one : notes.Compressed c x.opened x.at cycle members x.verdict ≡ notes.Compressed d y.opened y.at cycle others y.verdict = sym x.is
-    ∙ ap (λ (h : Happening). h.note.body) same ∙ y.is in cc
+  -- of each channel one frame is sent
+  pub same_sent : (channel : Channel) (a b : Happening) (members others : Members) → IsSentOn v n channel members a → IsSentOn v n channel others b
+      → time_of a < t → time_of b < t → (a ≡ b) × (members ≡ others)
+  same_sent channel a b members others x y before_a before_b =
+      let one = one_cm v channel y.cm x.cm is (sender_is v n channel others b is y) (sender_is v n channel members a is x) in
+      let e : IsEmission v b x.cm (suc n) others = subst (λ (d : DeviceId). IsEmission v b d (suc n) others) one y.emission in
+      let f = x.emission in
+      let same = emission_is_one v t a b x.cm (suc n) members others is (tidy v n t block.before went_so)
+      (λ hull at. hulls_are_narrow goes v n block.before hull is at) f e before_a before_b x.good y.good in
+      let body : notes.Compressed x.cm f.opened f.at (suc n) members f.verdict ≡ notes.Compressed x.cm e.opened e.at (suc n) others e.verdict =
+      sym f.is ∙ ap (λ (h : Happening). h.note.body) same ∙ e.is in
+      (same, cc)
 
--- of each channel there is one
-pub same_sent : BlocksGoSo → (v : View) (n t : ℕ) (block : IsInBlock v n t) → IsView v → (channel : Channel) (a b : Happening) (members others : Members)
-    → IsSentOn v n t channel members a → IsSentOn v n t channel others b → (a ≡ b) × (members ≡ others)
-same_sent goes v n t block is channel a b members others x y =
-    let one = one_cm v channel y.cm x.cm is (cm_of v y.cm channel (emission_cm v b y.cm (suc n) others is y.emission) y.of_channel)
-    (cm_of v x.cm channel (emission_cm v a x.cm (suc n) members is x.emission) x.of_channel) in
-    let e : IsEmission v b x.cm (suc n) others = subst (λ (d : DeviceId). IsEmission v b d (suc n) others) one y.emission in
-    let narrow : IsNarrowIfThere v (suc n) = λ hull at. hulls_are_narrow goes v n block.before hull is at in
-    let same = emission_is_one v t a b x.cm (suc n) members others is (tidy v n t block.before (went_so goes v n t block is)) narrow x.emission e x.before
-    y.before x.good y.good in
-    (same, one_set v a b x.cm y.cm (suc n) members others x.emission y.emission same)
-
--- ---- who hears one
-
--- what the device heard by the record is a frame of the block's cycle, and was sent so
-pub record IsGoodHearing (v : View) (n : ℕ) (before : Stands v n) (device : DeviceId) (channel : Channel) (point : ℤ) (h : Happening) : Type 0 where
-  pub of_cycle : cycle_in h ≡ suc n
-  pub emission : Happening
-  pub sent : IsSentOn v n (time_of h + 1) channel (record { 0 = members_in h }) emission
-  pub timely : IsTimely v.sizes (v.scenario.reading device) (base_of v.sizes (time_of emission)) (time_of h) point (expected_by v.scenario.network device)
-  pub hull : Hull
-  pub is_hull : hull_of v (suc n) ≡ Some hull
-  pub not_early : hull.least ≤ℤ pos (time_of h)
-  pub not_late : pos (time_of h) <ℤ first_correction v.sizes before.hull
-  pub from : before.next ≤ time_of h
-
-pub good_hearing : FramesGoSo → (v : View) (n t : ℕ) (before : Stands v n) (device : DeviceId) (channel : Channel) (point : ℤ) (judgement : Judgement)
-    (h : Happening) → IsView v → WentSo v n before t → IsOfHearer judgement → HearsBy v device channel point judgement h → time_of h ≤ t
-    → IsLate v n (time_of h)
-    → ((emission : Happening) (cm : DeviceId) → IsEmission v emission cm (cycle_in h) (record { 0 = members_in h }) → HasGood v (record { 0 = members_in h }))
-    → IsGoodHearing v n before device channel point h
-good_hearing laws v n t before device channel point judgement h is went hearer hears le late has_good =
-    let members : Members = record { 0 = members_in h } in
-    let heard = laws.hearings v device channel point judgement h is hearer hears in
-    let emission = heard.0 in
-    let tidy_e : IsTidyBefore v (time_of emission) = λ g d c dispatch lt. (tidy v n t before went) g d c dispatch (omega (arith, lt, heard.2, le)) in
-    let good = has_good emission heard.1.cm heard.1.emission in
-    let sent = laws.dispatched v emission heard.1.cm (cycle_in h) members is heard.1.emission good in
-    let known = known_dispatch v n t before went sent.first sent.master (cycle_in h) sent.dispatch (omega (arith, sent.before, heard.2, le)) in
-    let narrow : (c : ℕ) → cycle_in h ≡ suc c → IsNarrowIfThere v c = λ c same hull at. narrow_at v n c before hull (omega (arith, same, known.0)) at in
-    let block = laws.in_blocks v device channel (cycle_in h) members emission (time_of h) point (expected_by v.scenario.network device) is tidy_e good narrow
-    heard.1 in
-    let timely = laws.timely v device channel (cycle_in h) members emission (time_of h) point (expected_by v.scenario.network device) is heard.1 in
-    let same : cycle_in h ≡ suc n =
-    elim (cases_lt block.follows n) [
-      | inl lt ↦ (let after = late block.follows block.before (omega arith) block.is_before in absurd (omega (arith, ints, after, block.not_late)))
-      | inr ge ↦ omega (arith, ge, block.is_next, known.0)
-    ] in
-    let follows : block.follows ≡ n = omega (arith, same, block.is_next) in
-    let hull_n : hull_of v n ≡ Some block.before = subst (λ (c : ℕ). hull_of v c ≡ Some block.before) follows block.is_before in
-    let one : block.before ≡ before.hull = same_some (hull_of v n) block.before before.hull hull_n before.is_hull in
-    let hull_next : hull_of v (suc n) ≡ Some block.hull = subst (λ (c : ℕ). hull_of v c ≡ Some block.hull) same block.is_hull in
-    let after = follows_before v n before.hull block.hull is before.is_hull hull_next in
-    record {
-      of_cycle = same;
-      emission = emission;
-      sent = record {
-        cm = heard.1.cm;
-        emission = subst (λ (c : ℕ). IsEmission v emission heard.1.cm c members) same heard.1.emission;
-        of_channel = heard.1.of_channel;
-        good = good;
-        before = omega (arith, heard.2);
-      };
-      timely = timely;
-      hull = block.hull;
-      is_hull = hull_next;
-      not_early = block.not_early;
-      not_late = subst (λ (w : Hull). pos (time_of h) <ℤ first_correction v.sizes w) one block.not_late;
-      from = omega (arith, ints, next_first v n before is, after.least, block.not_early);
-    }
-
--- what comes behind the beginning of the block comes behind the first corrections of earlier cycles
-pub late_from : (v : View) (n q : ℕ) (before : Stands v n) → IsView v → before.next ≤ q → IsLate v n q
-late_from v n q before is le k w few at = (let early = corrections_before v n k before w is few at in omega (arith, ints, early, le))
-
--- the base of a frame of three members, or of good ones alone, lies in the hull
-pub in_time_of : FramesGoSo → BlocksGoSo → (v : View) (n t : ℕ) (block : IsInBlock v n t) (device : DeviceId) (channel : Channel) (point : ℤ) (h : Happening)
-    → IsView v → time_of h < t → (g : IsGoodHearing v n block.before device channel point h) → (3 ≤ count_of (record { 0 = members_in h }))
-    ⊎ AreGood v (record { 0 = members_in h })
-    → IsInTimeOf v n device (base_of v.sizes (time_of g.emission)) point (time_of h)
-in_time_of laws goes v n t block device channel point h is lt g enough =
-    let members : Members = record { 0 = members_in h } in
-    let base = laws.bases v g.emission g.sent.cm (suc n) members is g.sent.emission
-    (λ x d c dispatch early. (tidy v n t block.before (went_so goes v n t block is)) x d c dispatch (omega (arith, early, g.sent.before, lt))) enough in
-    let near : IsNearHull v.sizes base.hull (base_of v.sizes (time_of g.emission)) = record { least = base.least; most = base.most } in
-    record {
-      hull = g.hull;
-      is_hull = g.is_hull;
-      near = subst (λ (w : Hull). IsNearHull v.sizes w (base_of v.sizes (time_of g.emission))) (same_some _ _ _ base.is g.is_hull) near;
-      timely = g.timely;
-      begun = g.not_early;
-    }
-
--- so an old device judges it to be within
-pub heard_within : FramesGoSo → BlocksGoSo → (v : View) (n t : ℕ) (block : IsInBlock v n t) (device : DeviceId) (channel : Channel) (point : ℤ)
-    (judgement : Judgement) (h : Happening) → IsView v → HasTimeAt v device t → IsOldAt v block.before.next device t → time_of h < t → IsOfHearer judgement
-    → HearsBy v device channel point judgement h
-    → IsGoodHearing v n block.before device channel point h → (3 ≤ count_of (record { 0 = members_in h })) ⊎ AreGood v (record { 0 = members_in h })
-    → judgement ≡ Within
-heard_within laws goes v n t block device channel point judgement h is has old lt hearer hears g enough =
-    record_within v n t block device (base_of v.sizes (time_of g.emission)) point h judgement is has old g.from lt g.of_cycle
-    (in_time_of laws goes v n t block device channel point h is lt g enough) (judged_as v device channel point judgement h is hearer hears)
+  -- an old device judges one of three members, or of good ones alone, to be within
+  pub heard_within : FramesGoSo → (device : DeviceId) (channel : Channel) (point : ℤ) (judgement : Judgement) (h : Happening)
+      → IsAtPoint v n t block device → time_of h < t → IsOfHearer judgement → HearsBy v device channel point judgement h
+      → IsGoodHearing v n block.before device channel point h → (3 ≤ count_of (members_by h)) ⊎ AreGood v (members_by h) → judgement ≡ Within
+  heard_within laws device channel point judgement h at lt hearer hears g enough =
+      let s = v.scenario in
+      let before = block.before in
+      let q = time_of h in
+      let near = near_hull laws v n t before is went_so device channel point h (omega (arith, lt)) g enough in
+      let j = judged_as v device channel point judgement h is hearer hears in
+      let follows = follows_before v n before.hull g.hull is before.is_hull g.is_hull in
+      let le : before.next ≤ q = omega (arith, ints, next_first v n before is, follows.least, g.not_early) in
+      let here : IsInBlock v n q = earlier_in_block _ _ _ _ block le (omega (arith, lt)) in
+      let stands = hears_as_at v device before.next q t j.judged is j.up_to le lt at.old at.has.timed in
+      let shows = old_shows v n q t device here is (omega (arith, lt)) at.has at.old in
+      let narrow = before_narrow v n before in
+      let space = room v is in
+      let more = one_more n v.sizes.cycle in
+      let expected = expected_is v device (suc n) point is in
+      let precision = (sizes_are v is).precision in
+      j.is ∙ ap (λ (c : ℕ). judged_at s device j.judged q point c j.members) g.of_cycle
+      ∙ heard_as_within (plan_of s.network device) (observation_window s.network) _ _ point (suc n) j.members stands.state
+      (le-leb (suc n) last_cycle (few_cycles v (suc n) _ is g.is_hull (omega (arith, ints, g.not_early, lt, block.in_run))))
+      (omega (arith, ints, g.timely)) (omega (arith, ints, g.timely))

@@ -1,15 +1,15 @@
 -- What a device has heard since its last correction point.
-use Rattle.precision_law.proofs.words.Std.{◌&&◌, ◌++◌, ◌+ℤ◌, ◌+◌, ◌-◌, ◌<◌, ◌==◌, ◌||◌, ◌∙◌, ◌∷◌, ◌≡◌, ◌≤◌, Bool, List, None, Option, Some, [], after_last, and_from, ap, both_ways, false, filter, if◌then◌else◌, inl, inr, int_le, int_lt, lt-ltb, nat_lt, not, option_map, option_map_or, pos, refl, subst, sym, true, ℕ}
+use Rattle.precision_law.proofs.words.Std.{◌&&◌, ◌++◌, ◌+ℤ◌, ◌+◌, ◌-◌, ◌<◌, ◌==◌, ◌||◌, ◌∙◌, ◌∷◌, ◌≡◌, ◌≤◌, Bool, List, None, Option, Some, [], after_last, and_from, ap, append_assoc, both_ways, false, filter, if◌then◌else◌, inl, inr, int_le, int_lt, lt-ltb, nat_lt, not, option_map, option_map_or, pos, refl, subst, sym, true, ℕ}
 use Rattle.precision_law.proofs.words.Plans.{Channel, DeviceId, HeardFrame, Hearing, IsBest, LinkId, Members, Units, within_on}
-use Rattle.precision_law.proofs.words.Runs.{Happening, IsIn, Judgement, NoteBody, Outside, Scenario, Within, adjustment_after, changes_adjustment, channel_of, channel_of_link, correction_value, cycle_in, has_cleared, heard_by, heard_since, hearing_by, in_filter, in_left, in_parts, in_right, is_integration_cycle, members_in, next_cycle, recorded_cycle, time_of}
+use Rattle.precision_law.proofs.words.Runs.{Happening, IsIn, Judgement, NoteBody, Outside, Scenario, Within, adjustment_after, changes_adjustment, channel_of, channel_of_link, correction_value, has_cleared, heard_by, heard_since, hearing_by, in_filter, in_left, in_parts, in_right, is_integration_cycle, members_in, next_cycle, recorded_cycle, time_of}
 use Rattle.precision_law.proofs.words.Laws.{AreBeforeCorrections, HearsBy, IsOfHearer, IsView, View, last_setting}
 use Rattle.run_law.specs.declared.note.NoteBody.TheVariants as notes
+use Rattle.precision_law.proofs.Plain.{mapped}
 use Rattle.precision_law.proofs.clocks.Epochs.{same_device}
 use Rattle.precision_law.proofs.records.Behind.{behind_last, in_filter_map}
 use Rattle.precision_law.proofs.records.Points.{earlier_before}
 use Rattle.precision_law.proofs.records.Times.{AreSorted, passes}
 use Rattle.precision_law.proofs.records.Views.{in_order}
-use Rattle.precision_law.proofs.Plain.{mapped}
 
 -- ---- what depends on earlier records alone
 
@@ -40,9 +40,11 @@ pub record IsHearingOf (v : View) (device : DeviceId) (t : ℕ) (front : List Ha
   pub since : (x : Happening) → IsIn x front → time_of x < t → changes_adjustment device x.note.body ≡ true → time_of x ≤ time_of h
   pub cleared : has_cleared v.scenario front device t t ≡ true → has_cleared v.scenario front device t (time_of h) ≡ true
 
-kept_cleared : (a b : Bool) → (not a || b) ≡ true → a ≡ true → b ≡ true
-kept_cleared true b e is = e
-kept_cleared false b e is = absurd cc
+-- of sorted records those of a front are not later than those behind it
+front_first : (ps qs : List Happening) (x h : Happening) → AreSorted (ps ++ qs) → IsIn x ps → IsIn h qs → time_of x ≤ time_of h
+front_first [] qs x h order a b = absurd a
+front_first (p ∷ ps) qs x h order (inl same) b = (let up = order.0 h (in_right h ps qs b) in rw same up)
+front_first (p ∷ ps) qs x h order (inr more) b = front_first ps qs x h order.1 more b
 
 pub hearing_of : (v : View) (device : DeviceId) (t : ℕ) (front : List Happening) (hearing : Hearing) → IsView v → AreBeforeCorrections v t front
     → IsIn hearing (heard_since v.scenario front device t) → IsHearingOf v device t front hearing
@@ -54,141 +56,83 @@ hearing_of v device t front hearing is split i =
     let h = made.0 in
     let in_since = in_filter late since h made.1 in
     let cut = behind_last set front in
-    let in_front : IsIn h front = subst (IsIn h) (sym cut.whole) (in_right h cut.front since in_since) in
+    let all = split.whole ∙ ap (λ (hs : List Happening). hs ++ split.rest) cut.whole ∙ append_assoc cut.front since split.rest in
     record {
       h = h;
-      there = in_front;
+      there = subst (IsIn h) (sym cut.whole) (in_right h cut.front since in_since);
       shows = made.2;
-      since = λ x j lt changes. later v t front x h is split set cut.front since cut.whole cut.others j in_since
-          (and_from (nat_lt (time_of x) t) (changes_adjustment device x.note.body) (lt-ltb (time_of x) t lt) changes);
-      cleared = λ c. kept_cleared (has_cleared v.scenario front device t t) (has_cleared v.scenario front device t (time_of h)) (passes late since h made.1) c;
+      since = λ x j lt changes. elim (in_parts x cut.front since (subst (IsIn x) cut.whole j)) [
+        | inr behind ↦ absurd (both_ways (set x) (cut.others x behind)
+            (and_from (nat_lt (time_of x) t) (changes_adjustment device x.note.body) (lt-ltb (time_of x) t lt) changes))
+        | inl ahead ↦ front_first cut.front (since ++ split.rest) x h (subst AreSorted all (in_order v is)) ahead (in_left h since split.rest in_since)
+      ];
+      cleared = λ c. subst (λ (b : Bool). (not b || has_cleared v.scenario front device t (time_of h)) ≡ true) c (passes late since h made.1);
     }
-  where
-    later : (v : View) (t : ℕ) (front : List Happening) (x h : Happening) → IsView v → AreBeforeCorrections v t front
-        → (set : Happening → Bool) (before since : List Happening) → front ≡ before ++ since → ((y : Happening) → IsIn y since → set y ≡ false) → IsIn x front
-        → IsIn h since → set x ≡ true → time_of x ≤ time_of h
-    later v t front x h is split set before since whole others j k hit =
-        elim (in_parts x before since (subst (IsIn x) whole j)) [
-          | inr behind ↦ absurd (both_ways (set x) (others x behind) hit)
-          | inl ahead ↦ in_order_of before since x h (sorted_front v t front is split before since whole) ahead k
-        ]
-      where
-        -- a front of sorted records is sorted
-        sorted_left : (ps qs : List Happening) → AreSorted (ps ++ qs) → AreSorted ps
-        sorted_left [] qs order = tt
-        sorted_left (p ∷ ps) qs order = (λ g i. order.0 g (in_left g ps qs i), sorted_left ps qs order.1)
 
-        sorted_front : (v : View) (t : ℕ) (front : List Happening) → IsView v → AreBeforeCorrections v t front → (before since : List Happening)
-            → front ≡ before ++ since → AreSorted (before ++ since)
-        sorted_front v t front is split before since whole = subst AreSorted whole (sorted_left front split.rest (subst AreSorted split.whole (in_order v is)))
-
-        in_order_of : (ps qs : List Happening) (x h : Happening) → AreSorted (ps ++ qs) → IsIn x ps → IsIn h qs → time_of x ≤ time_of h
-        in_order_of [] qs x h order a b = absurd a
-        in_order_of (p ∷ ps) qs x h order (inl same) b = (let up = order.0 h (in_right h ps qs b) in rw same up)
-        in_order_of (p ∷ ps) qs x h order (inr more) b = in_order_of ps qs x h order.1 more b
-
--- ---- frames heard within their time
-
--- the record by which the device heard the frame by the channel within its time
-pub record HearsFrame (v : View) (device : DeviceId) (channel : Channel) (frame : HeardFrame) (h : Happening) : Type 0 where
-  pub hears : HearsBy v device channel frame.point.0 Within h
-  pub cycle : cycle_in h ≡ frame.cycle
-  pub members : members_in h ≡ frame.members.0
+-- ---- what is heard
 
 -- what is chosen by a test is there where the test holds
-pub if_some : {X : Type 0} (b : Bool) (o : Option X) (x : X) → (if b then o else None) ≡ Some x → (b ≡ true) × (o ≡ Some x)
+if_some : {X : Type 0} (b : Bool) (o : Option X) (x : X) → (if b then o else None) ≡ Some x → (b ≡ true) × (o ≡ Some x)
 if_some true o x e = (refl, e)
 if_some false o x e = absurd cc
+
+-- who hears judges so of what is within its time, and of what is not
+pub record Judges (judgement : Judgement) (within : Bool) : Type 0 where
+  pub hearer : IsOfHearer judgement
+  pub outside : within ≡ false → judgement ≡ Within → ⊥
+  pub inside : within ≡ true → judgement ≡ Within
+
+within_says : Judges Within true
+within_says = record { hearer = tt; outside = λ e w. cc; inside = λ e. refl }
+
+outside_says : Judges Outside false
+outside_says = record { hearer = tt; outside = λ e w. cc; inside = λ e. cc }
 
 -- the record by which a device heard this, and its judgement
 pub record HearsThis (v : View) (device : DeviceId) (h : Happening) (hearing : Hearing) : Type 0 where
   pub judgement : Judgement
-  pub hearer : IsOfHearer judgement
+  pub judges : Judges judgement hearing.within
   pub hears : HearsBy v device hearing.channel hearing.frame.point.0 judgement h
-  pub cycle : cycle_in h ≡ hearing.frame.cycle
   pub members : members_in h ≡ hearing.frame.members.0
-  pub outside : hearing.within ≡ false → judgement ≡ Within → ⊥
-  pub inside : hearing.within ≡ true → judgement ≡ Within
 
--- what the record of a frame that came says
-from_afar : (v : View) (device other : DeviceId) (h : Happening) (hearing : Hearing) (link : LinkId) (cause : ℕ) (point : Units) (verdict : Judgement)
-    (within : Bool) → IsIn h v.records → h.note.body ≡ notes.Permanent other link cause point verdict → IsOfHearer verdict
-    → (within ≡ false → verdict ≡ Within → ⊥) → (within ≡ true → verdict ≡ Within)
-    → (if device.0 == other.0 then option_map (λ channel. heard_by channel h point within) (channel_of_link v.scenario.network link) else None) ≡ Some hearing
-    → HearsThis v device h hearing
-from_afar v device other h hearing link cause point verdict within i same hearer out ins e =
-    let both = if_some (device.0 == other.0) (option_map (λ c. heard_by c h point within) (channel_of_link v.scenario.network link)) hearing e in
-    let at = mapped (λ (c : Channel). heard_by c h point within) (channel_of_link v.scenario.network link) hearing both.1 in
-    record {
-      judgement = verdict;
-      hearer = hearer;
-      hears = record {
-        there = i;
-        how =
-            inl (
-              link,
-              cause,
-              point,
-              same ∙ ap (λ (d : DeviceId). notes.Permanent d link cause point verdict) (same_device device other both.0),
-              at.1 ∙ ap (λ (x : Hearing). Some x.channel) at.2,
-              sym (ap (λ (x : Hearing). x.frame.point.0) at.2),
-            );
-      };
-      cycle = ap (λ (x : Hearing). x.frame.cycle) at.2;
-      members = ap (λ (x : Hearing). x.frame.members.0) at.2;
-      outside = λ e. out (ap (λ (x : Hearing). x.within) at.2 ∙ e);
-      inside = λ e. ins (ap (λ (x : Hearing). x.within) at.2 ∙ e);
-    }
+-- a record by which a device hears a frame at a point, on the channel that is there
+hears_on : (v : View) (device : DeviceId) (h : Happening) (hearing : Hearing) (judgement : Judgement) (within : Bool) (point : Units) (o : Option Channel)
+    → Judges judgement within → ((channel : Channel) → o ≡ Some channel → HearsBy v device channel point.0 judgement h)
+    → option_map (λ channel. heard_by channel h point within) o ≡ Some hearing → HearsThis v device h hearing
+hears_on v device h hearing judgement within point o judges how e =
+    let at = mapped (λ (c : Channel). heard_by c h point within) o hearing e in
+    subst (HearsThis v device h) at.2 (record { judgement = judgement; judges = judges; hears = how at.0 at.1; members = refl })
 
--- what the record of a frame that was sent says
-from_itself : (v : View) (device other : DeviceId) (h : Happening) (hearing : Hearing) (opened point : Units) (cycle : ℕ) (members : Members)
-    (verdict : Judgement) (within : Bool) → IsIn h v.records → h.note.body ≡ notes.Compressed other opened point cycle members verdict → IsOfHearer verdict
-    → (within ≡ false → verdict ≡ Within → ⊥) → (within ≡ true → verdict ≡ Within)
-    → (if device.0 == other.0 then option_map (λ channel. heard_by channel h point within) (channel_of v.scenario.network device) else None) ≡ Some hearing
-    → HearsThis v device h hearing
-from_itself v device other h hearing opened point cycle members verdict within i same hearer out ins e =
-    let both = if_some (device.0 == other.0) (option_map (λ c. heard_by c h point within) (channel_of v.scenario.network device)) hearing e in
-    let at = mapped (λ (c : Channel). heard_by c h point within) (channel_of v.scenario.network device) hearing both.1 in
-    record {
-      judgement = verdict;
-      hearer = hearer;
-      hears = record {
-        there = i;
-        how =
-            inr (
-              opened,
-              point,
-              cycle,
-              members,
-              same ∙ ap (λ (d : DeviceId). notes.Compressed d opened point cycle members verdict) (same_device device other both.0),
-              at.1 ∙ ap (λ (x : Hearing). Some x.channel) at.2,
-              sym (ap (λ (x : Hearing). x.frame.point.0) at.2),
-            );
-      };
-      cycle = ap (λ (x : Hearing). x.frame.cycle) at.2;
-      members = ap (λ (x : Hearing). x.frame.members.0) at.2;
-      outside = λ e. out (ap (λ (x : Hearing). x.within) at.2 ∙ e);
-      inside = λ e. ins (ap (λ (x : Hearing). x.within) at.2 ∙ e);
-    }
+module _ (v : View) (device : DeviceId) (h : Happening) (hearing : Hearing) where
+  -- what the record of a frame that came says
+  from_afar : (other : DeviceId) (link : LinkId) (cause : ℕ) (point : Units) (judgement : Judgement) (within : Bool) → Judges judgement within
+      → IsIn h v.records → h.note.body ≡ notes.Permanent other link cause point judgement
+      → (if device.0 == other.0 then option_map (λ channel. heard_by channel h point within) (channel_of_link v.scenario.network link) else None) ≡ Some hearing
+      → HearsThis v device h hearing
+  from_afar other link cause point judgement within judges i same e =
+      let both = if_some (device.0 == other.0) _ hearing e in
+      let mine = same ∙ ap (λ (d : DeviceId). notes.Permanent d link cause point judgement) (same_device device other both.0) in
+      hears_on v device h hearing judgement within point (channel_of_link v.scenario.network link) judges
+      (λ channel of. record { there = i; how = inl (link, cause, point, mine, of, refl) }) both.1
 
-pub hears_by : (v : View) (device : DeviceId) (h : Happening) (hearing : Hearing) (body : NoteBody) → IsIn h v.records → h.note.body ≡ body
-    → hearing_by v.scenario.network device h body ≡ Some hearing → HearsThis v device h hearing
-hears_by v device h hearing (notes.Permanent other link cause point Within) i same e =
-    from_afar v device other h hearing link cause point Within true i same tt (λ f w. absurd cc) (λ t. refl) e
-hears_by v device h hearing (notes.Permanent other link cause point Outside) i same e =
-    from_afar v device other h hearing link cause point Outside false i same tt (λ f w. absurd cc) (λ t. absurd cc) e
-hears_by v device h hearing (notes.Compressed other opened point cycle members Within) i same e =
-    from_itself v device other h hearing opened point cycle members Within true i same tt (λ f w. absurd cc) (λ t. refl) e
-hears_by v device h hearing (notes.Compressed other opened point cycle members Outside) i same e =
-    from_itself v device other h hearing opened point cycle members Outside false i same tt (λ f w. absurd cc) (λ t. absurd cc) e
-hears_by v device h hearing body i same e = absurd cc
+  -- what the record of a frame that was sent says
+  from_itself : (other : DeviceId) (opened point : Units) (cycle : ℕ) (members : Members) (judgement : Judgement) (within : Bool) → Judges judgement within
+      → IsIn h v.records → h.note.body ≡ notes.Compressed other opened point cycle members judgement
+      → (if device.0 == other.0 then option_map (λ channel. heard_by channel h point within) (channel_of v.scenario.network device) else None) ≡ Some hearing
+      → HearsThis v device h hearing
+  from_itself other opened point cycle members judgement within judges i same e =
+      let both = if_some (device.0 == other.0) _ hearing e in
+      let mine = same ∙ ap (λ (d : DeviceId). notes.Compressed d opened point cycle members judgement) (same_device device other both.0) in
+      hears_on v device h hearing judgement within point (channel_of v.scenario.network device) judges
+      (λ channel of. record { there = i; how = inr (opened, point, cycle, members, mine, of, refl) }) both.1
 
-pub within_by : (v : View) (device : DeviceId) (channel : Channel) (frame : HeardFrame) (h : Happening) (body : NoteBody) → IsIn h v.records
-    → h.note.body ≡ body → hearing_by v.scenario.network device h body ≡ Some (within_on channel frame) → HearsFrame v device channel frame h
-within_by v device channel frame h body i same e =
-    let this = hears_by v device h (within_on channel frame) body i same e in
-    let hears = subst (λ (j : Judgement). HearsBy v device channel frame.point.0 j h) (this.inside refl) this.hears in
-    record { hears = hears; cycle = this.cycle; members = this.members }
+  pub hears_by : (body : NoteBody) → IsIn h v.records → h.note.body ≡ body → hearing_by v.scenario.network device h body ≡ Some hearing
+      → HearsThis v device h hearing
+  hears_by (notes.Permanent other link cause point Within) = from_afar other link cause point Within true within_says
+  hears_by (notes.Permanent other link cause point Outside) = from_afar other link cause point Outside false outside_says
+  hears_by (notes.Compressed other opened point cycle members Within) = from_itself other opened point cycle members Within true within_says
+  hears_by (notes.Compressed other opened point cycle members Outside) = from_itself other opened point cycle members Outside false outside_says
+  hears_by body = λ i same e. absurd cc
 
 -- the best frame of a channel was heard
 pub best_is_heard : (heard : List Hearing) (channel : Channel) (frame : HeardFrame) → IsBest heard channel frame → IsIn (within_on channel frame) heard

@@ -1,8 +1,8 @@
 -- What a device hears is a frame that a compression master sent.
 use Rattle.precision_law.proofs.words.Std.{◌*◌, ◌+◌, ◌==◌, ◌∙◌, ◌∷◌, ◌≡◌, Bool, List, MatchBool-at_true, None, Option, Some, ap, arith, both_ways, eqb-true, false, false_from_ne_true, if◌then◌else◌, inl, inr, is_some, not-true, option_and_then, option_map_or, refl, subst, sym, true, ℕ, ℤ}
 use Rattle.precision_law.proofs.words.Plans.{Channel, Device, DeviceId, Down, IsDeviceInRange, Joints, Link, LinkId, Network, Pcf, Point, Relay, Role, Taken, Up, all_at, amount, compression_time, device_at, is_end_system, link_at, opened}
-use Rattle.precision_law.proofs.words.Runs.{Happening, Integrates, IsCaused, IsCollectedOrDropped, IsIn, IsPermanenceOutcome, Judgement, Outside, Reason, Within, cause_of, cycle_in, expected_by, founded_at, frame_by, in_left, is_cm, is_cm_role, is_parent_of, is_relay_role, members_in, numbered, numbered_front, numbered_in, ripe_as, ripe_by_role, waits_for, way_to}
-use Rattle.precision_law.proofs.words.Laws.{HearingsAreOfFrames, IsOfHearer, IsView, Sizes, View, expectation}
+use Rattle.precision_law.proofs.words.Runs.{Happening, Integrates, IsCaused, IsCollectedOrDropped, IsIn, IsPermanenceOutcome, Judgement, Outside, Reason, Within, cause_of, cycle_in, expected_by, founded_at, frame_by, in_left, is_cm, is_cm_role, is_parent_of, is_relay_role, numbered, numbered_front, numbered_in, ripe_as, ripe_by_role, waits_for, way_to}
+use Rattle.precision_law.proofs.words.Laws.{HearingsAreOfFrames, IsEmission, IsOfHearer, IsView, Sizes, View, expectation}
 use Rattle.compression.specs.declared.taken.Taken.TheVariants as taken
 use Rattle.run_law.specs.declared.note.NoteBody.TheVariants as notes
 use Rattle.run_law.specs.declared.steps.Ripe.TheVariants as ripe
@@ -14,17 +14,11 @@ use Rattle.precision_law.proofs.trips.Descents.{emission_shows, frames_down_are_
 -- a judgement of one who hears is no role in a collection
 role_not_heard : (j : Judgement) (t : Taken) → IsOfHearer j → ripe_as j ≡ ripe_by_role t → ⊥
 role_not_heard Within taken.Opened h e = absurd cc
-role_not_heard Within taken.Joined h e = absurd cc
-role_not_heard Within taken.Repeat h e = absurd cc
-role_not_heard Within taken.OtherCycle h e = absurd cc
+role_not_heard Within t h e = absurd cc
 role_not_heard Outside taken.Opened h e = absurd cc
-role_not_heard Outside taken.Joined h e = absurd cc
-role_not_heard Outside taken.Repeat h e = absurd cc
-role_not_heard Outside taken.OtherCycle h e = absurd cc
+role_not_heard Outside t h e = absurd cc
 role_not_heard Integrates taken.Opened h e = absurd cc
-role_not_heard Integrates taken.Joined h e = absurd cc
-role_not_heard Integrates taken.Repeat h e = absurd cc
-role_not_heard Integrates taken.OtherCycle h e = absurd cc
+role_not_heard Integrates t h e = absurd cc
 role_not_heard other t h e = absurd h
 
 drop_not_heard : (j : Judgement) (reason : Reason) → IsOfHearer j → ripe_as j ≡ ripe.Dropped reason → ⊥
@@ -49,45 +43,36 @@ switch_is_relay : (role : Role) → is_cm_role role ≡ false → is_end_system 
 switch_is_relay Relay a b = refl
 switch_is_relay role a b = absurd cc
 
+there_where : {X : Type 0} (f : X → Bool) (o : Option X) → option_map_or f o false ≡ true → (x : X) × (o ≡ Some x) × (f x ≡ true)
+there_where f None e = absurd cc
+there_where f (Some x) e = (x, refl, e)
+
 -- so it receives on a way down
 hearer_down : (v : View) (device : DeviceId) (link : LinkId) → IsView v → is_cm v.scenario.network device ≡ false
     → waits_for v.scenario.network device link ≡ true → way_to v.scenario.network device link ≡ Down
 hearer_down v device link is cm waits =
-    ap (λ (b : Bool). if b then Up else Down)
-    (false_from_ne_true (is_parent_of v.scenario.network device link) (λ parent. contradiction parent (link_at v.scenario.network link) refl))
-  where
-    contradiction : is_parent_of v.scenario.network device link ≡ true → (o : Option Link) → link_at v.scenario.network link ≡ o → ⊥
-    contradiction parent None at =
-        (let wrong : is_parent_of v.scenario.network device link ≡ false = ap (λ (o : Option Link). option_map_or (λ k. k.parent.0 == device.0) o false)
-        at in both_ways _ wrong parent)
-    contradiction parent (Some l) at =
-        let n = v.scenario.network in
-        let shown : (l.parent.0 == device.0) ≡ true = sym (ap (λ (o : Option Link). option_map_or (λ k. k.parent.0 == device.0) o false) at) ∙ parent in
-        let same : l.parent ≡ device = ap (λ (i : ℕ). let d : DeviceId = record { 0 = i } in d) (eqb-true l.parent.0 device.0 shown) in
-        let joint = is.lawful.rules Joints link.0 l at in
-        let p = opened (λ (d : Device). d.channel ≡ Some joint.0) (device_at n l.parent) joint.1 in
-        let known : IsDeviceInRange p.0 = all_at IsDeviceInRange n.device l.parent.0 p.0 is.lawful.range.devices p.1 in
-        let dev : device_at n device ≡ Some p.0 = ap (device_at n) (sym same) ∙ p.1 in
-        let cm_p : is_cm_role p.0.role ≡ false = sym (ap (λ (o : Option Device). option_map_or (λ d. is_cm_role d.role) o false) dev) ∙ cm in
-        let not_end : is_end_system p.0.role ≡ false = not-true (is_end_system p.0.role) (sym known.switches ∙ (ap (λ (c : Option Channel). is_some c) p.2)) in
-        let relay = ap (λ (o : Option Device). option_map_or (λ d. is_relay_role d.role) o false) dev ∙ switch_is_relay p.0.role cm_p not_end in
-        let wrong : waits_for n device link ≡ false = rw (relay, parent) refl in
-        both_ways (waits_for n device link) wrong waits
+    ap (λ (b : Bool). if b then Up else Down) (false_from_ne_true (is_parent_of v.scenario.network device link) (λ parent.
+    let n = v.scenario.network in
+    let l = there_where (λ (k : Link). k.parent.0 == device.0) (link_at n link) parent in
+    let same : l.0.parent ≡ device = ap (λ (i : ℕ). let d : DeviceId = record { 0 = i } in d) (eqb-true l.0.parent.0 device.0 l.2) in
+    let joint = is.lawful.rules Joints link.0 l.0 l.1 in
+    let p = opened (λ (d : Device). d.channel ≡ Some joint.0) (device_at n l.0.parent) joint.1 in
+    let known : IsDeviceInRange p.0 = all_at IsDeviceInRange n.device l.0.parent.0 p.0 is.lawful.range.devices p.1 in
+    let dev : device_at n device ≡ Some p.0 = ap (device_at n) (sym same) ∙ p.1 in
+    let cm_p : is_cm_role p.0.role ≡ false = sym (ap (λ (o : Option Device). option_map_or (λ d. is_cm_role d.role) o false) dev) ∙ cm in
+    let not_end : is_end_system p.0.role ≡ false = not-true (is_end_system p.0.role) (sym known.switches ∙ (ap (λ (c : Option Channel). is_some c) p.2)) in
+    let relay = ap (λ (o : Option Device). option_map_or (λ d. is_relay_role d.role) o false) dev ∙ switch_is_relay p.0.role cm_p not_end in
+    let wrong : waits_for n device link ≡ false = rw (relay, parent) refl in
+    both_ways (waits_for n device link) wrong waits))
 
 -- ---- what is heard
 
-expected_else : (v : View) (device : DeviceId) → IsView v → is_cm v.scenario.network device ≡ false → expected_by v.scenario.network device ≡ expectation
-    v.sizes
-expected_else v device is cm =
+expected_is : (v : View) (device : DeviceId) (b : Bool) → IsView v → is_cm v.scenario.network device ≡ b
+    → expected_by v.scenario.network device ≡ (if b then v.sizes.dmax + v.sizes.compression else expectation v.sizes)
+expected_is v device b is cm =
     let n = v.scenario.network in
-    ap (λ (b : Bool). if b then amount n.dmax + compression_time n else 2 * amount n.dmax + compression_time n) cm ∙ sym (ap expectation is.sizes)
-
-expected_cm : (v : View) (device : DeviceId) → IsView v → is_cm v.scenario.network device ≡ true
-    → expected_by v.scenario.network device ≡ v.sizes.dmax + v.sizes.compression
-expected_cm v device is cm =
-    let n = v.scenario.network in
-    let same : v.sizes.dmax + v.sizes.compression ≡ amount n.dmax + compression_time n = ap (λ (s : Sizes). s.dmax + s.compression) is.sizes in
-    ap (λ (b : Bool). if b then amount n.dmax + compression_time n else 2 * amount n.dmax + compression_time n) cm ∙ sym same
+    ap (λ (x : Bool). if x then amount n.dmax + compression_time n else 2 * amount n.dmax + compression_time n) cm
+    ∙ sym (ap (λ (s : Sizes). if b then s.dmax + s.compression else expectation s) is.sizes)
 
 pub hearings_are_of_frames : HearingsAreOfFrames
 hearings_are_of_frames v device channel point judgement h is hearer hears = elim hears.how [
@@ -103,9 +88,6 @@ hearings_are_of_frames v device channel point judgement h is hearer hears = elim
       let from_cm = frames_down_are_of_cms v p.arrival device far.0 p.from p.clock is in_all p.arrived down in
       let framed : h.frame ≡ p.arrival.frame = ap (λ (x : Happening). x.frame) found.due.same ∙ ap (frame_by v.scenario.network found.front) far.3
       ∙ ap (λ (o : Option Happening). option_and_then (λ x. x.frame) o) p.there in
-      let cycle : cycle_in p.arrival ≡ cycle_in h = ap (λ (o : Option Pcf). option_map_or (λ f. f.cycle) o 0) (sym framed) in
-      let members : members_in p.arrival ≡ members_in h = ap (λ (o : Option Pcf). option_map_or (λ f. f.members.0) o 0) (sym framed) in
-      let e = from_cm.emission in
       let by_h : cause_of h.note.body ≡ cause = ap cause_of far.3 in
       let there_all : numbered v.records (cause_of h.note.body) ≡ Some p.arrival = subst (λ (n : ℕ). numbered v.records n ≡ Some p.arrival) (sym by_h)
       (subst (λ (hs : List Happening). numbered hs cause ≡ Some p.arrival) (sym found.whole) (numbered_front found.front (h ∷ found.rest) cause _ p.there)) in
@@ -113,15 +95,8 @@ hearings_are_of_frames v device channel point judgement h is hearer hears = elim
         from_cm.first,
         record {
           cm = from_cm.cm;
-          emission = record {
-            there = e.there;
-            opened = e.opened;
-            at = e.at;
-            verdict = e.verdict;
-            is = e.is
-                ∙ ap (λ (c : ℕ). notes.Compressed from_cm.cm e.opened e.at c (record { 0 = members_in p.arrival }) e.verdict) cycle
-                ∙ ap (λ (m : ℕ). notes.Compressed from_cm.cm e.opened e.at (cycle_in h) (record { 0 = m }) e.verdict) members;
-          };
+          emission = subst (λ (o : Option Pcf). IsEmission v from_cm.first from_cm.cm (option_map_or (λ f. f.cycle) o 0)
+              (record { 0 = option_map_or (λ f. f.members.0) o 0 })) (sym framed) from_cm.emission;
           of_channel = sym (from_cm.same_channel device far.0 p.from p.clock p.arrived) ∙ far.4;
           hears = inr (record {
             ripe = h;
@@ -135,7 +110,7 @@ hearings_are_of_frames v device channel point judgement h is hearer hears = elim
             back = record { causes = p.arrival ∷ from_cm.back.causes; chain = (there_all, from_cm.back.chain); begins = from_cm.back.begins };
             ripe_at = refl;
             reading = far.5;
-            due = expected_else v device is not_cm;
+            due = expected_is v device false is not_cm;
           });
         },
         (omega (arith, from_cm.in_order, earlier_arrival)),
@@ -157,7 +132,7 @@ hearings_are_of_frames v device channel point judgement h is hearer hears = elim
                 ∙ ap (λ (m : ℕ). notes.Compressed device own.0 own.1 (cycle_in h) (record { 0 = m }) judgement) shown.1;
           };
           of_channel = own.5;
-          hears = inl (record { same = refl; at_once = refl; reading = own.6; due = expected_cm v device is emits.cm });
+          hears = inl (record { same = refl; at_once = refl; reading = own.6; due = expected_is v device true is emits.cm });
         },
         omega arith,
       )

@@ -1,15 +1,16 @@
 -- The frame that the compression master of the sound channel sends in a block is heard by each old device that is to keep
 -- the time.
-use Rattle.precision_law.proofs.words.Std.{◌+◌, ◌<ℤ◌, ◌<◌, ◌||◌, ◌∙◌, ◌∷◌, ◌≡◌, ◌≤ℤ◌, ◌≤◌, ◌⊎◌, Bool, List, None, Option, Some, [], ap, arith, cases_eq, false, false_from_ne_true, if◌then◌else◌, inl, inr, ints, not, option_and_then, option_map_or, pos, refl, subst, suc, sym, true, unsigned_abs, ℕ, ℤ}
-use Rattle.precision_law.proofs.words.Plans.{Cm, Device, DeviceId, Down, Integrating, IsCmOf, IsDeviceOf, Joining, LinkId, Members, Off, Pcf, State, SyncPlan, Synchronised, closed, device_at, is_end_system, opened}
-use Rattle.precision_law.proofs.words.Runs.{Gives, Happening, IsCaused, IsDue, IsIn, Judgement, NoteBody, adjustment_at_hearing, channel_of, channel_of_link, cycle_in, earlier, founded_at, heard_as, heard_by_schedule, in_left, is_cm, is_cm_role, is_off, is_parent_of, is_relay, members_in, observation_window, place_of, plan_of, receiver_of, split, state_at_hearing, state_before, time_of}
-use Rattle.precision_law.proofs.words.Laws.{BlocksGoSo, HearsBy, Hull, IsBrought, IsEmission, IsFirm, IsGood, IsInBlock, IsNearHull, IsOfHearer, IsSoundSwitch, IsTrip, IsView, Leg, Stands, View, base_of, epoch_time, first_correction, first_dispatch, has_time, hull_of, state_left}
-use Rattle.precision_law.proofs.words.Clocks.{IsRipeArrival, before_of, before_place, child_not_parent, cm_is_no_end, device_of, device_of_place, earlier_before, emission_shows, frames_come_first, is_heard_of, place_of_ripe, receiver_down, room, switches_are_good, time_stays}
-use Rattle.precision_law.proofs.words.Blocks.{AreUpTo, EndsSo, before_narrow, cm_of, earlier_in_block, ends_so, follows_before, hears_as_at, not_turned_on_then, one_cm, sound_frames_go_down}
+use Rattle.precision_law.proofs.words.Std.{◌+◌, ◌<ℤ◌, ◌<◌, ◌||◌, ◌∙◌, ◌∷◌, ◌≡◌, ◌≤ℤ◌, ◌≤◌, Bool, List, None, Option, Some, [], ap, arith, cases_eq, false, false_from_ne_true, if◌then◌else◌, inl, inr, ints, not, option_and_then, option_map_or, pos, refl, subst, suc, sym, true, unsigned_abs, ℕ, ℤ}
+use Rattle.precision_law.proofs.words.Plans.{Cm, Device, DeviceId, Down, Integrating, IsCmOf, IsDeviceOf, Joining, LinkId, Members, Off, Pcf, State, SyncPlan, Synchronised, device_at, is_end_system, opened}
+use Rattle.precision_law.proofs.words.Runs.{Gives, Happening, IsCaused, IsDue, IsIn, Judgement, NoteBody, adjustment_at_hearing, channel_of, channel_of_link, earlier, founded_at, heard_as, heard_by_schedule, is_cm, is_cm_role, is_off, is_parent_of, is_relay, members_in, observation_window, place_of, plan_of, receiver_of, split, state_before, time_of}
+use Rattle.precision_law.proofs.words.Laws.{BlocksGoSo, HearsBy, Hull, IsBrought, IsEmission, IsFirm, IsInBlock, IsNearHull, IsOfHearer, IsSoundSwitch, IsTrip, IsView, Leg, Stands, View, base_of, epoch_time, first_correction, first_dispatch, has_time, hull_of, state_left}
+use Rattle.precision_law.proofs.words.Clocks.{IsRipeArrival, before_of, before_place, child_not_parent, cm_is_no_end, device_of, device_of_place, emission_shows, frames_come_first, is_heard_of, place_of_ripe, receiver_down, room, switches_are_good, time_stays}
+use Rattle.precision_law.proofs.words.Blocks.{AreUpTo, EndsSo, before_narrow, cm_of, earlier_in_block, ends_so, follows_before, hears_as_at, judged_at, next_first, not_turned_on_then, one_cm, sound_frames_go_down, up_to_then}
 use Rattle.run_law.specs.declared.note.NoteBody.TheVariants as notes
-use Rattle.precision_law.proofs.hearing.GoodFrames.{next_first}
+use Rattle.precision_law.proofs.block.Onward.{firm_good}
+use Rattle.precision_law.proofs.hearing.GoodFrames.{IsAtPoint, sooner}
+use Rattle.precision_law.proofs.hearing.Timely.{of_channel_is}
 use Rattle.precision_law.proofs.trips.Gates.{are_open_from}
-use Rattle.precision_law.proofs.verdict.HeardOutside.{IsAtPoint, sooner}
 
 -- ---- when it is sent
 
@@ -54,15 +55,10 @@ no_end_cm (Some d) a b = cm_is_no_end d.role a b
 -- a device that is to keep the time is of the channel
 firm_member : (v : View) (device : DeviceId) → IsFirm v device → IsDeviceOf v.scenario.network v.channel device
 firm_member v device (inl end) =
-    (let d = device_of is_end_system (device_at v.scenario.network device) end.end in closed (λ (x : Device). (is_end_system x.role ≡ true)
-    ⊎ (x.channel ≡ Some v.channel)) (device_at v.scenario.network device) d.0 d.1 (inl d.2))
+    (let d = device_of is_end_system (device_at v.scenario.network device) end.end in of_channel_is v v.channel device d.0 d.1 (inl d.2))
 firm_member v device (inr switch) =
-    (let d = opened (λ (x : Device). x.channel ≡ Some v.channel) (device_at v.scenario.network device) switch in closed
-    (λ (x : Device). (is_end_system x.role ≡ true) ⊎ (x.channel ≡ Some v.channel)) (device_at v.scenario.network device) d.0 d.1 (inr d.2))
-
-firm_good : (v : View) (device : DeviceId) → IsView v → IsFirm v device → IsGood v device
-firm_good v device is (inl end) = end.good
-firm_good v device is (inr switch) = switches_are_good v v.channel device is switch
+    (let d = opened (λ (x : Device). x.channel ≡ Some v.channel) (device_at v.scenario.network device) switch in of_channel_is v v.channel device d.0 d.1
+    (inr d.2))
 
 switch_channel : (v : View) (device : DeviceId) → IsSoundSwitch v device → channel_of v.scenario.network device ≡ Some v.channel
 switch_channel v device switch =
@@ -93,145 +89,126 @@ pub record Receives (v : View) (n : ℕ) (before : Stands v n) (device : DeviceI
   pub judgement : Judgement
   pub hearer : IsOfHearer judgement
   pub hears : HearsBy v device v.channel point judgement h
-  pub of_cycle : cycle_in h ≡ suc n
   pub members_are : members_in h ≡ members.0
   pub from : before.next ≤ time_of h
   pub late : pos (time_of h) <ℤ first_correction v.sizes before.hull
-
--- the compression master's own frame
-own_frame : (v : View) (n t : ℕ) (block : IsInBlock v n t) → IsView v → (cm : DeviceId) → IsAtPoint v n t block cm → IsCmOf v.scenario.network v.channel cm
-    → (first : Happening) (members : Members) → IsEmission v first cm (suc n) members → IsSentInTime v n block.before first
-    → Receives v n block.before cm members
-own_frame v n t block is cm at one first members e timed =
-    let s = v.scenario in
-    let network = s.network in
-    let q = time_of first in
-    let found = founded_at s v.records first is.run.founded e.there in
-    let emits = subst (IsCaused s found.front first.note.time) e.is found.due.cause in
-    let split_at = before_of v first is found in
-    let up : AreUpTo v q found.front = record {
-      all = earlier_before v q found.front split_at;
-      there = λ x i. subst (IsIn x) (sym found.whole) (in_left x found.front (first ∷ found.rest) i);
-      to = λ x i. split_at.only x i;
-    } in
-    let late : pos q <ℤ first_correction v.sizes block.before.hull = omega (arith, ints, timed.soon) in
-    let stands = hears_as_at v cm block.before.next q t found.front is up timed.from (sooner v n t block cm q at late) at.old at.has.timed in
-    let hearer = hearer_of (plan_of network cm) (observation_window network) (state_at_hearing s found.front cm q) (adjustment_at_hearing s found.front cm q).0
-    e.at.0
-    (suc n) members stands.state in
-    let shows = emission_shows v first cm e.opened e.at (suc n) members e.verdict is e.there e.is in
-    record {
-      h = first;
-      point = e.at.0;
-      judgement = e.verdict;
-      hearer = subst IsOfHearer (sym emits.heard) hearer;
-      hears = record { there = e.there; how = inr (e.opened, e.at, suc n, members, e.is, cm_of_channel v cm one, refl) };
-      of_cycle = sym shows.0;
-      members_are = sym shows.1;
-      from = timed.from;
-      late = late;
-    }
 
 waits_by : (relay parent : Bool) → parent ≡ false → (not relay || not parent) ≡ true
 waits_by true false e = refl
 waits_by false false e = refl
 waits_by relay true e = absurd cc
 
--- what was brought down to a device came by a last leg
-brought_by_leg : (v : View) (cm device : DeviceId) (cycle : ℕ) (first : Happening) (members : Members) → IsView v → IsCmOf v.scenario.network v.channel cm
-    → IsEmission v first cm cycle members → (b : IsBrought v Down first device) → EndsSo v v.channel first b.last
-brought_by_leg v cm device cycle first members is one e b = by b.legs b.trip
-  where
-    by : (legs : List Leg) → IsTrip v Down first legs b.last → EndsSo v v.channel first b.last
-    by [] trip =
-        let wrong : notes.Compressed cm e.opened e.at cycle members e.verdict ≡ notes.Arrived device b.permanent.link b.permanent.from b.permanent.clock =
-        sym e.is ∙ ap (λ (h : Happening). h.note.body) trip ∙ b.permanent.is in absurd cc
-    by (leg ∷ legs) trip =
-        ends_so v v.channel first b.last leg legs is (λ d k gives.
-        (let g = subst (λ (x : NoteBody). Gives v.scenario.network x d k) e.is gives in ap (channel_of v.scenario.network) g.0 ∙ cm_of_channel v cm one)) trip
+module _ (v : View) (n t : ℕ) (block : IsInBlock v n t) (is : IsView v) (device cm : DeviceId) (firm : IsFirm v device) (at : IsAtPoint v n t block device)
+    (one : IsCmOf v.scenario.network v.channel cm) (first : Happening) (members : Members) (e : IsEmission v first cm (suc n) members)
+    (timed : IsSentInTime v n block.before first) where
+  -- what it hears in the block it hears with a common time
+  hears : (q : ℕ) (hs : List Happening) (point : ℤ) (cycle : ℕ) (others : Members) → AreUpTo v q hs → block.before.next ≤ q → q < t
+      → IsOfHearer (judged_at v.scenario device hs q point cycle others)
+  hears q hs point cycle others up from lt =
+      hearer_of (plan_of v.scenario.network device) (observation_window v.scenario.network) _ (adjustment_at_hearing v.scenario hs device q).0 point cycle
+      others (hears_as_at v device block.before.next q t hs is up from lt at.old at.has.timed).state
 
--- the frame that comes to another device
-brought_frame : BlocksGoSo → (v : View) (n t : ℕ) (block : IsInBlock v n t) → IsView v → (device cm : DeviceId) → IsFirm v device → (device ≡ cm → ⊥)
-    → IsAtPoint v n t block device → IsCmOf v.scenario.network v.channel cm → (first : Happening) (members : Members) → IsEmission v first cm (suc n) members
-    → IsSentInTime v n block.before first
-    → Receives v n block.before device members
-brought_frame goes v n t block is device cm firm other at one first members e timed =
-    let s = v.scenario in
-    let network = s.network in
-    let w = time_of first in
-    let space = room v is in
-    let lt : w + v.sizes.dmax + v.sizes.path < t = sooner v n t block device (w + v.sizes.dmax + v.sizes.path) at timed.soon in
-    let instant : IsInBlock v n w = earlier_in_block _ _ _ _ block timed.from (omega arith) in
-    let opens = are_open_from goes v n w instant is timed.low (omega (arith, ints, timed.soon)) (omega (arith, lt, block.in_run)) in
-    let good = firm_good v device is firm in
-    let on : (u : ℕ) → w ≤ u → u + v.sizes.path ≤ w + v.sizes.dmax → is_off (state_before s v.records device u) ≡ false = λ u ge le.
-    (let old_u : epoch_time (earlier t v.records) device <ℤ pos u = omega (arith, ints, at.old, timed.from, ge) in
-    let timed_u = time_stays v device u t is (omega (arith, le, lt)) old_u at.has.timed in
-    ap (λ (b : Bool). is_off (if b then Integrating else state_left v device u)) (not_turned_on_then v device u is timed_u)
-    ∙ timed_on (state_left v device u) timed_u) in
-    let b = sound_frames_go_down v first device cm (suc n) members is e one (firm_member v device firm) good other opens (omega (arith, lt, block.in_run)) on in
-    let p = b.permanent in
-    let q = b.q in
-    let ends = brought_by_leg v cm device (suc n) first members is one e b in
-    let same = sym ends.is.arrives ∙ ap (λ (h : Happening). h.note.body) ends.ends ∙ p.is in
-    let receiver : ends.is.receiver ≡ device = cc in
-    let link : ends.leg.link ≡ p.link = cc in
-    let child = receiver_down network p.link device (ap (λ (k : LinkId). receiver_of network k Down) (sym link) ∙ ends.is.comes_to
-    ∙ ap (λ (d : DeviceId). Some d) receiver) in
-    let parent = false_from_ne_true (is_parent_of network device p.link) (λ yes_parent. child_not_parent v device p.link is child yes_parent) in
-    let frame = ends.keeps.frame in
-    let r : IsRipeArrival v device b.last p.link frame b.point q = record {
-      there = subst (λ (h : Happening). IsIn h v.records) ends.ends ends.is.arrived;
-      of_frame = ends.keeps.of_frame;
-      waits = waits_by (is_relay network device) (is_parent_of network device p.link) parent;
-      good = good;
-      permanent = p;
-      by_link = refl;
-      later = omega (arith, ints, p.reached.from_on);
-      in_run = omega (arith, b.in_time.not_late, lt, block.in_run);
-    } in
-    let place = split place_of (IsDue s) v.records (place_of_ripe device b.last p.link frame b.point q) is.run.founded in
-    let split_at = before_place v q (3 ∷ device.0 ∷ unsigned_abs b.point ∷ frame.members.0 ∷ p.link.0 ∷ b.last.note.number ∷ []) place in
-    let up : AreUpTo v q place.front = record {
-      all = earlier_before v q place.front split_at;
-      there = λ x i. subst (IsIn x) (sym place.whole) (in_left x place.front place.rest i);
-      to = λ x i. split_at.only x i;
-    } in
-    let ripe = is_heard_of v device b.last p.link frame b.point q is (firm_other v device cm is firm one other) r place in
-    let from_q : block.before.next ≤ q = omega (arith, b.in_time.not_early, timed.from, space.paths) in
-    let lt_q : q < t = omega (arith, b.in_time.not_late, lt) in
-    let hearer = hearer_of (plan_of network device) (observation_window network) (state_at_hearing s place.front device q)
-    (adjustment_at_hearing s place.front device q).0
-    b.point frame.cycle frame.members (hears_as_at v device block.before.next q t place.front is up from_q lt_q at.old at.has.timed).state in
-    let shows = emission_shows v first cm e.opened e.at (suc n) members e.verdict is e.there e.is in
-    let cycle_h : cycle_in ripe.h ≡ cycle_in b.last = ap (λ (o : Option Pcf). option_map_or (λ f. f.cycle) o 0) (ripe.of_frame ∙ sym ends.keeps.of_frame) in
-    let members_h = ap (λ (o : Option Pcf). option_map_or (λ f. f.members.0) o 0) (ripe.of_frame ∙ sym ends.keeps.of_frame) in
-    record {
-      h = ripe.h;
-      point = b.point;
-      judgement =
-          heard_as (plan_of network device) (observation_window network) (state_at_hearing s place.front device q)
-          (adjustment_at_hearing s place.front device q).0 b.point
-          frame.cycle frame.members;
-      hearer = hearer;
-      hears = record {
-        there = ripe.there;
-        how = inl (p.link, b.last.note.number, record { 0 = b.point }, ripe.is, ap (channel_of_link network) (sym link) ∙ ends.of_channel, refl);
-      };
-      of_cycle = cycle_h ∙ sym ends.keeps.cycle ∙ sym shows.0;
-      members_are = members_h ∙ sym ends.keeps.members ∙ sym shows.1;
-      from = omega (arith, ripe.time, from_q);
-      late = omega (arith, ints, ripe.time, b.in_time.not_late, timed.soon);
-    }
+  shows : members.0 ≡ members_in first
+  shows = (emission_shows v first cm e.opened e.at (suc n) members e.verdict is e.there e.is).1
 
--- each old device that is to keep the time hears the frame
-pub receives : BlocksGoSo → (v : View) (n t : ℕ) (block : IsInBlock v n t) → IsView v → (device cm : DeviceId) → IsFirm v device → IsAtPoint v n t block device
-    → IsCmOf v.scenario.network v.channel cm → (first : Happening) (members : Members) → IsEmission v first cm (suc n) members
-    → IsSentInTime v n block.before first
-    → Receives v n block.before device members
-receives goes v n t block is device cm firm at one first members e timed =
-    elim (cases_eq device.0 cm.0) [
-      | inl same ↦ (let d = device_of_place cm device (sym same) in subst (λ (x : DeviceId). Receives v n block.before x members) d
-          (own_frame v n t block is cm (subst (IsAtPoint v n t block) (sym d) at) one first members e timed))
-      | inr other ↦ brought_frame goes v n t block is device cm firm (λ d. other (ap (λ (x : DeviceId). x.0) d)) at one first members e timed
-    ]
+  -- the compression master's own frame
+  own_frame : cm ≡ device → Receives v n block.before device members
+  own_frame same =
+      let s = v.scenario in
+      let q = time_of first in
+      let body = e.is ∙ ap (λ (d : DeviceId). notes.Compressed d e.opened e.at (suc n) members e.verdict) same in
+      let found = founded_at s v.records first is.run.founded e.there in
+      let emits = subst (IsCaused s found.front first.note.time) body found.due.cause in
+      let late : pos q <ℤ first_correction v.sizes block.before.hull = (let soon = timed.soon in omega (arith, ints, soon)) in
+      let hearer = hears q found.front e.at.0 (suc n) members (up_to_then v q found.front (before_of v first is found)) timed.from
+      (sooner v n t block device q at late) in
+      let of_channel = subst (λ (d : DeviceId). channel_of s.network d ≡ Some v.channel) same (cm_of_channel v cm one) in
+      record {
+        h = first;
+        point = e.at.0;
+        judgement = e.verdict;
+        hearer = subst IsOfHearer (sym emits.heard) hearer;
+        hears = record { there = e.there; how = inr (e.opened, e.at, suc n, members, body, of_channel, refl) };
+        members_are = sym shows;
+        from = timed.from;
+        late = late;
+      }
+
+  -- what was brought down to a device came by a last leg
+  brought_by_leg : (b : IsBrought v Down first device) → EndsSo v v.channel first b.last
+  brought_by_leg b = by b.legs b.trip
+    where
+      by : (legs : List Leg) → IsTrip v Down first legs b.last → EndsSo v v.channel first b.last
+      by [] trip =
+          let wrong : notes.Compressed cm e.opened e.at (suc n) members e.verdict ≡ notes.Arrived device b.permanent.link b.permanent.from b.permanent.clock =
+          sym e.is ∙ ap (λ (h : Happening). h.note.body) trip ∙ b.permanent.is in absurd cc
+      by (leg ∷ legs) trip =
+          ends_so v v.channel first b.last leg legs is (λ d k gives.
+          (let g = subst (λ (x : NoteBody). Gives v.scenario.network x d k) e.is gives in ap (channel_of v.scenario.network) g.0 ∙ cm_of_channel v cm one)) trip
+
+  -- the frame that comes to another device
+  brought_frame : BlocksGoSo → (device ≡ cm → ⊥) → Receives v n block.before device members
+  brought_frame goes other =
+      let s = v.scenario in
+      let network = s.network in
+      let w = time_of first in
+      let space = room v is in
+      let soon = timed.soon in
+      let lt : w + v.sizes.dmax + v.sizes.path < t = sooner v n t block device (w + v.sizes.dmax + v.sizes.path) at soon in
+      let instant : IsInBlock v n w = earlier_in_block _ _ _ _ block timed.from (omega (arith, lt)) in
+      let opens = are_open_from goes v n w instant is timed.low (omega (arith, ints, soon)) (omega (arith, lt, block.in_run)) in
+      let good = firm_good switches_are_good v device is firm in
+      let on : (u : ℕ) → w ≤ u → u + v.sizes.path ≤ w + v.sizes.dmax → is_off (state_before s v.records device u) ≡ false = λ u ge le.
+      (let old_u : epoch_time (earlier t v.records) device <ℤ pos u = omega (arith, ints, at.old, timed.from, ge) in
+      let timed_u = time_stays v device u t is (omega (arith, le, lt)) old_u at.has.timed in
+      ap (λ (b : Bool). is_off (if b then Integrating else state_left v device u)) (not_turned_on_then v device u is timed_u)
+      ∙ timed_on (state_left v device u) timed_u) in
+      let b = sound_frames_go_down v first device cm (suc n) members is e one (firm_member v device firm) good other opens (omega (arith, lt, block.in_run))
+      on in
+      let p = b.permanent in
+      let q = b.q in
+      let ends = brought_by_leg b in
+      let same = sym ends.is.arrives ∙ ap (λ (h : Happening). h.note.body) ends.ends ∙ p.is in
+      let receiver : ends.is.receiver ≡ device = cc in
+      let link : ends.leg.link ≡ p.link = cc in
+      let child = receiver_down network p.link device (ap (λ (k : LinkId). receiver_of network k Down) (sym link) ∙ ends.is.comes_to
+      ∙ ap (λ (d : DeviceId). Some d) receiver) in
+      let parent = false_from_ne_true (is_parent_of network device p.link) (λ yes_parent. child_not_parent v device p.link is child yes_parent) in
+      let frame = ends.keeps.frame in
+      let r : IsRipeArrival v device b.last p.link frame b.point q = record {
+        there = subst (λ (h : Happening). IsIn h v.records) ends.ends ends.is.arrived;
+        of_frame = ends.keeps.of_frame;
+        waits = waits_by (is_relay network device) (is_parent_of network device p.link) parent;
+        good = good;
+        permanent = p;
+        by_link = refl;
+        later = omega (arith, ints, p.reached.from_on);
+        in_run = omega (arith, b.in_time.not_late, lt, block.in_run);
+      } in
+      let place = split place_of (IsDue s) v.records (place_of_ripe device b.last p.link frame b.point q) is.run.founded in
+      let split_at = before_place v q (3 ∷ device.0 ∷ unsigned_abs b.point ∷ frame.members.0 ∷ p.link.0 ∷ b.last.note.number ∷ []) place in
+      let ripe = is_heard_of v device b.last p.link frame b.point q is (firm_other v device cm is firm one other) r place in
+      let from : block.before.next ≤ q = omega (arith, b.in_time.not_early, timed.from, space.paths) in
+      let hearer = hears q place.front b.point frame.cycle frame.members (up_to_then v q place.front split_at) from (omega (arith, b.in_time.not_late, lt)) in
+      let framed = ripe.of_frame ∙ sym ends.keeps.of_frame in
+      record {
+        h = ripe.h;
+        point = b.point;
+        judgement = judged_at s device place.front q b.point frame.cycle frame.members;
+        hearer = hearer;
+        hears = record {
+          there = ripe.there;
+          how = inl (p.link, b.last.note.number, record { 0 = b.point }, ripe.is, ap (channel_of_link network) (sym link) ∙ ends.of_channel, refl);
+        };
+        members_are = ap (λ (o : Option Pcf). option_map_or (λ f. f.members.0) o 0) framed ∙ sym ends.keeps.members ∙ sym shows;
+        from = omega (arith, ripe.time, from);
+        late = omega (arith, ints, ripe.time, b.in_time.not_late, soon);
+      }
+
+  -- each old device that is to keep the time hears the frame
+  pub receives : BlocksGoSo → Receives v n block.before device members
+  receives goes =
+      elim (cases_eq device.0 cm.0) [
+        | inl same ↦ own_frame (device_of_place cm device (sym same))
+        | inr differs ↦ brought_frame goes (λ d. differs (ap (λ (x : DeviceId). x.0) d))
+      ]

@@ -5,12 +5,12 @@ use Rattle.precision_law.proofs.words.Runs.{Gives, Happening, IsCaused, IsChain,
 use Rattle.precision_law.proofs.words.Laws.{EmissionsAreSharp, HeardFramesAreTimely, IsEmission, IsFromAfar, IsHeard, IsTimely, IsTrip, IsView, Leg, View, base_of, clock_in, links_back}
 use Rattle.precision_law.proofs.words.Clocks.{frames_down_are_of_cms, natural, permanence_is_sharp, sizes_are, steady}
 use Rattle.net_plan.proofs.Amounts.{amount_within}
-use Rattle.run_law.specs.declared.note.NoteBody.TheVariants as notes
 use Rattle.run_law.specs.records.Causes.{last_from}
 use Rattle.transparent_clock.proofs.HopLaw.{permanent_in_time}
+use Rattle.run_law.specs.declared.note.NoteBody.TheVariants as notes
+use Rattle.precision_law.proofs.Plain.{device_of, mapped}
 use Rattle.precision_law.proofs.block.Joins.{cm_channel}
 use Rattle.precision_law.proofs.trips.Travels.{GivesDown, adds_up, jitter_back, jitter_of_legs, last_young, many_back, path_down}
-use Rattle.precision_law.proofs.Plain.{device_of, mapped}
 
 -- ---- chains of causes
 
@@ -28,12 +28,18 @@ same_end hs r (x ∷ xs) (y ∷ ys) a b p q =
 
 -- ---- paths
 
--- the device of a path is of the channel
+-- a device that is an end system, or has the channel, is of the channel
+pub of_channel_is : (v : View) (channel : Channel) (device : DeviceId) (d : Device) → device_at v.scenario.network device ≡ Some d
+    → (is_end_system d.role ≡ true) ⊎ (d.channel ≡ Some channel) → IsDeviceOf v.scenario.network channel device
+of_channel_is v channel device d at is =
+    closed (λ (x : Device). (is_end_system x.role ≡ true) ⊎ (x.channel ≡ Some channel)) (device_at v.scenario.network device) d at is
+
+-- the device of a path is
 pub path_member : (v : View) (channel : Channel) (device : DeviceId) (links : List LinkId) → IsView v → IsPath v.scenario.network channel device links
     → IsDeviceOf v.scenario.network channel device
 path_member v channel device [] is path =
     let d = opened (λ (x : Device). (x.role ≡ Cm) × (x.channel ≡ Some channel)) (device_at v.scenario.network device) path in
-    closed (λ (x : Device). (is_end_system x.role ≡ true) ⊎ (x.channel ≡ Some channel)) (device_at v.scenario.network device) d.0 d.1 (inr d.2.1)
+    of_channel_is v channel device d.0 d.1 (inr d.2.1)
 path_member v channel device (link ∷ links) is path =
     let n = v.scenario.network in
     let l = opened (λ (k : Link). (k.child ≡ device) × IsSwitchOf n channel k.parent × IsPath n channel k.parent links) (link_at n link) path in
@@ -44,11 +50,10 @@ path_member v channel device (link ∷ links) is path =
     elim joint.2 [
       | inl end ↦
           let e = opened (λ (x : Device). is_end_system x.role ≡ true) (device_at n l.0.child) end in
-          closed (λ (x : Device). (is_end_system x.role ≡ true) ⊎ (x.channel ≡ Some channel)) _ e.0 (ap (device_at n) (sym l.2.0) ∙ e.1) (inl e.2)
+          of_channel_is v channel device e.0 (ap (device_at n) (sym l.2.0) ∙ e.1) (inl e.2)
       | inr role ↦
           let e = opened (λ (x : Device). (x.role ≡ Relay) × (x.channel ≡ Some joint.0)) (device_at n l.0.child) role in
-          closed (λ (x : Device). (is_end_system x.role ≡ true) ⊎ (x.channel ≡ Some channel)) (device_at n device) e.0 (ap (device_at n) (sym l.2.0) ∙ e.1)
-          (inr (e.2.1 ∙ ap (λ (c : Channel). Some c) channel_is))
+          of_channel_is v channel device e.0 (ap (device_at n) (sym l.2.0) ∙ e.1) (inr (e.2.1 ∙ ap (λ (c : Channel). Some c) channel_is))
     ]
 
 -- a compression master's role

@@ -1,16 +1,14 @@
 -- The correction points of the devices that are to keep the time correct their clocks, and share one frame.
-use Rattle.precision_law.proofs.words.Std.{◌+◌, ◌<◌, ◌∙◌, ◌∷◌, ◌≡◌, ◌≤◌, ◌⊎◌, All, All-head, All-tail, Bool, IfSome, List, None, Option, Some, [], ap, arith, if◌then◌else◌, inl, inr, le-leb, nat_le, option_and_then, refl, subst, suc, sym, true, ℕ, ℤ}
+use Rattle.precision_law.proofs.words.Std.{◌+◌, ◌<◌, ◌∙◌, ◌∷◌, ◌≡◌, ◌≤◌, ◌⊎◌, All, All-head, All-tail, Bool, IfSome, List, None, Option, Some, [], ap, arith, if◌then◌else◌, inl, inr, le-leb, nat_le, option_and_then, refl, subst, suc, sym, true, ℕ}
 use Rattle.precision_law.proofs.words.Plans.{A, AsyncClique, B, Channel, Cleared, Corrected, DeviceId, HasVerdict, HeardFrame, Hearing, IsBehind, IsBestOf, IsLevel, IsWithinOn, Masters, Members, SomeQualifies, Standing, Summarizes, Summary, SyncClique, Units, Verdict, best_on, correction_of, count_of, deviation_by, deviation_on, within_on}
-use Rattle.precision_law.proofs.words.Runs.{Happening, IsIn, Judgement, Within, heard_by, heard_since, in_parts, members_in, standing_before, time_of}
+use Rattle.precision_law.proofs.words.Runs.{Happening, IsIn, Judgement, Within, heard_by, heard_since, in_parts, same_some, standing_before, time_of}
 use Rattle.precision_law.proofs.words.Laws.{AreBeforeCorrections, BlocksGoSo, FirmDevicesCorrect, HearsBy, Hull, IsFirm, IsGoodEnd, IsInBlock, IsSharedCorrection, IsView, SendsSo, SoundMasterSends, View, base_of, hull_of}
-use Rattle.precision_law.proofs.words.Blocks.{FramesGoSo}
-use Rattle.precision_law.proofs.block.Brings.{channel_shows}
-use Rattle.precision_law.proofs.hearing.GoodFrames.{good_hearing, heard_within, late_from, went_so}
-use Rattle.precision_law.proofs.hearing.Hearers.{heard_within_by}
+use Rattle.precision_law.proofs.words.Blocks.{FramesGoSo, good_hearing, late_from, members_by}
+use Rattle.precision_law.proofs.block.Corrections.{IsByFrame, is_by_frame, shared_by, turned}
+use Rattle.precision_law.proofs.hearing.GoodFrames.{IsAtPoint, heard_within, heard_within_by, same_sent, sooner, went_so}
 use Rattle.precision_law.proofs.hearing.Received.{IsSentInTime, cm_of_channel, receives, sent_in_time}
 use Rattle.precision_law.proofs.hearing.Since.{is_since, not_integrating}
-use Rattle.precision_law.proofs.verdict.HeardOutside.{IsAtPoint, SoundIsSent, few_heard_outside, sooner}
-use Rattle.precision_law.proofs.verdict.Shared.{HasBase, IsByFrame, is_by_frame, is_by_sound, shared_first, shared_second}
+use Rattle.precision_law.proofs.verdict.HeardOutside.{SoundIsSent, few_heard_outside}
 
 -- ---- the best frame
 
@@ -58,21 +56,20 @@ some_qualifies : (standing : Standing) (summary : Summary) (channel : Channel) �
 some_qualifies standing summary A b = inl (let e = b.is in rw e b.enough)
 some_qualifies standing summary B b = inr (let e = b.is in rw e b.enough)
 
--- the deviation of that channel is there
-deviates_on : (standing : Standing) (summary : Summary) (channel : Channel) → (b : HasBest standing summary channel)
-    → deviation_on standing summary channel ≡ Some (deviation_by standing b.best)
-deviates_on standing summary channel b =
-    ap (λ (o : Option HeardFrame). option_and_then (λ frame. if nat_le standing.plan.threshold (count_of frame.members) then Some (deviation_by standing frame)
-    else None) o) b.is
-    ∙ ap (λ (t : Bool). if t then Some (deviation_by standing b.best) else None) (le-leb standing.plan.threshold (count_of b.best.members) b.enough)
-
 module _ (laws : FramesGoSo) (goes : BlocksGoSo) (v : View) (n t : ℕ) (block : IsInBlock v n t) (is : IsView v) (device : DeviceId) (firm : IsFirm v device)
-    (at : IsAtPoint v n t block device) (hull : Hull) (is_hull : hull_of v (suc n) ≡ Some hull) (sends : SendsSo v n hull) where
+    (at : IsAtPoint v n t block device) (hull : Hull) (is_hull : hull_of v (suc n) ≡ Some hull) (sends : SendsSo v n hull) (front : List Happening)
+    (split : AreBeforeCorrections v t front) (summary : Summary) (sums : Summarizes summary (heard_since v.scenario front device t)) where
+  abbrev standing : Standing
+  standing = standing_before v.scenario front device t
+
+  abbrev deviation : Channel → Option Units
+  deviation channel = deviation_on standing summary channel
+
   timed : IsSentInTime v n block.before sends.first
   timed = sent_in_time v n block.before hull sends.first is is_hull sends.near
 
   three : 3 ≤ count_of sends.members
-  three = (let least = (is.lawful.rules Masters 2).threshold_least refl in let enough = sends.enough in omega (arith, least, enough))
+  three = (let enough = sends.enough in omega (arith, (is.lawful.rules Masters 2).threshold_least refl, enough))
 
   sound : SoundIsSent v n t sends.first sends.members
   sound = record {
@@ -81,92 +78,70 @@ module _ (laws : FramesGoSo) (goes : BlocksGoSo) (v : View) (n t : ℕ) (block :
       emission = sends.emission;
       of_channel = cm_of_channel v sends.cm sends.is_cm;
       good = laws.three v sends.first sends.cm (suc n) sends.members is sends.emission three;
-      before = (let soon = timed.soon in let lt = sooner v n t block device (time_of sends.first + v.sizes.dmax + v.sizes.path) at soon in omega (arith, lt));
     };
+    before = (let soon = timed.soon in let lt = sooner v n t block device (time_of sends.first + v.sizes.dmax + v.sizes.path) at soon in omega (arith, lt));
     three = three;
   }
 
   -- the frame of the sound channel was heard within
-  heard_sound : (front : List Happening) → AreBeforeCorrections v t front → (frame : HeardFrame)
-      × IsIn (within_on v.channel frame) (heard_since v.scenario front device t) × (count_of sends.members ≤ count_of frame.members)
-  heard_sound front split =
-      let r = receives goes v n t block is device sends.cm firm at sends.is_cm sends.first sends.members sends.emission timed in
+  heard_sound : (frame : HeardFrame) × IsIn (within_on v.channel frame) (heard_since v.scenario front device t)
+      × (count_of sends.members ≤ count_of frame.members)
+  heard_sound =
+      let r = receives v n t block is device sends.cm firm at sends.is_cm sends.first sends.members sends.emission timed goes in
       let h = r.h in
-      let own : Members = record { 0 = members_in h } in
-      let same : count_of own ≡ count_of sends.members = ap (λ (x : ℕ). let m : Members = record { 0 = x } in count_of m) r.members_are in
-      let many : 3 ≤ count_of own = omega (arith, same, three) in
+      let same : count_of (members_by h) ≡ count_of sends.members = ap (λ (x : ℕ). let m : Members = record { 0 = x } in count_of m) r.members_are in
+      let many : 3 ≤ count_of (members_by h) = omega (arith, same, three) in
       let lt = sooner v n t block device (time_of h) at r.late in
-      let g = good_hearing laws v n t block.before device v.channel r.point r.judgement h is (went_so goes v n t block is) r.hearer r.hears (omega (arith, lt))
-      (late_from v n (time_of h) block.before is r.from) (λ e cm f. laws.three v e cm _ own is f many) in
-      let within = heard_within laws goes v n t block device v.channel r.point r.judgement h is at.has at.old lt r.hearer r.hears g (inl many) in
+      let g = good_hearing laws v n t block.before is (went_so goes v n t block is) device v.channel r.point h (omega (arith, lt)) r.judgement r.hearer r.hears
+      (late_from v n (time_of h) block.before is r.from) (λ e cm f. laws.three v e cm _ (members_by h) is f many) in
+      let within = heard_within goes v n t block is laws device v.channel r.point r.judgement h at lt r.hearer r.hears g (inl many) in
       let hears : HearsBy v device v.channel r.point Within h = subst (λ (j : Judgement). HearsBy v device v.channel r.point j h) within r.hears in
       let shown = heard_within_by v device v.channel r.point h hears in
-      let hearing : Hearing = heard_by v.channel h shown.point true in
-      (hearing.frame, is_since v n t block is device at front split h hearing hears.there r.from lt shown.shows, omega (arith, same))
+      let hearing : Hearing = heard_by v.channel h shown.0 true in
+      (hearing.frame, is_since v n t block is device at front split h hearing hears.there r.from lt shown.1, omega (arith, same))
 
-  has_best : (front : List Happening) (summary : Summary) → AreBeforeCorrections v t front → Summarizes summary (heard_since v.scenario front device t)
-      → HasBest (standing_before v.scenario front device t) summary v.channel
-  has_best front summary split sums =
-      let heard = heard_sound front split in
-      let best = best_has (heard_since v.scenario front device t) v.channel heard.0 (best_on v.channel summary) (sums.best v.channel) heard.1 in
+  has_best : HasBest standing summary v.channel
+  has_best =
+      let b = best_has (heard_since v.scenario front device t) v.channel heard_sound.0 (best_on v.channel summary) (sums.best v.channel) heard_sound.1 in
       let few = few_heard_outside laws goes v n t block is device at sends.first sends.members sound front split summary.outside sums.outside in
-      record { best = best.0; is = best.1; enough = omega (arith, sends.enough, heard.2, best.2); more = omega (arith, few, three, heard.2, best.2) }
+      record { best = b.0; is = b.1; enough = omega (arith, sends.enough, heard_sound.2, b.2); more = omega (arith, few, three, heard_sound.2, b.2) }
 
-  -- the deviations of both channels
-  by_frame : (front : List Happening) (summary : Summary) → AreBeforeCorrections v t front → Summarizes summary (heard_since v.scenario front device t)
-      → (channel : Channel) (dev : Units) → deviation_on (standing_before v.scenario front device t) summary channel ≡ Some dev
-      → IsByFrame v n t block device hull channel dev
-  by_frame front summary split sums channel dev e =
-      is_by_frame laws goes v n t block is device at hull is_hull channel dev
-      (channel_shows v n t block device front summary channel dev is at.has at.old split sums (best_on channel summary) refl e)
+  -- the deviation of a channel is by a frame
+  by_frame : (channel : Channel) (dev : Units) → deviation channel ≡ Some dev → IsByFrame v n t block.before device channel dev
+  by_frame channel dev e = is_by_frame laws v n t block device is (went_so goes v n t block is) at.has at.old front summary split sums channel dev
+      (best_on channel summary) refl e
 
-  shared_by : (front : List Happening) (summary : Summary) → AreBeforeCorrections v t front → Summarizes summary (heard_since v.scenario front device t)
-      → HasBest (standing_before v.scenario front device t) summary v.channel → (by : Units)
-      → correction_of (deviation_on (standing_before v.scenario front device t) summary A) (deviation_on (standing_before v.scenario front device t) summary B)
-      ≡ Some by → IsSharedCorrection v n t hull (base_of v.sizes (time_of sends.first)) device by
-  shared_by front summary split sums best by e = on v.channel refl
+  -- that of the sound channel is by the frame that all share
+  shared : (by : Units) → correction_of (deviation A) (deviation B) ≡ Some by → IsSharedCorrection v n t hull (base_of v.sizes (time_of sends.first)) device by
+  shared by e =
+      let dev = deviation_by standing has_best.best in
+      let is_dev = ap (λ (o : Option HeardFrame). option_and_then (λ frame. if nat_le standing.plan.threshold (count_of frame.members)
+      then Some (deviation_by standing frame) else None) o) has_best.is
+      ∙ ap (λ (t : Bool). if t then Some dev else None) (le-leb standing.plan.threshold (count_of has_best.best.members) has_best.enough) in
+      let f = by_frame v.channel dev is_dev in
+      let o = opposite v.channel in
+      let in_order = f.heard.in_order in
+      let lt = sooner v n t block device (time_of f.h) at f.heard.not_late in
+      let same = same_sent goes v n t block is v.channel f.heard.emission sends.first (members_by f.h) sends.members f.heard.sent sound.sent
+      (omega (arith, in_order, lt)) sound.before in
+      subst (λ (w : Hull). IsSharedCorrection v n t w (base_of v.sizes (time_of sends.first)) device by) (same_some _ _ _ f.heard.is_hull is_hull)
+      (subst (λ (h : Happening). IsSharedCorrection v n t f.heard.hull (base_of v.sizes (time_of h)) device by) same.0
+      (shared_by v n t block.before is device v.channel o.0 dev by (deviation o.0) f (by_frame o.0)
+      (ap (λ (x : Option Units). correction_of x (deviation o.0)) (sym is_dev) ∙ o.1)))
     where
-      standing : Standing
-      standing = standing_before v.scenario front device t
-
-      other : (channel : Channel) (dev : Units) → deviation_on (standing_before v.scenario front device t) summary channel ≡ Some dev → (base : ℤ)
-          × HasBase v n t block device hull base dev
-      other channel dev d = (let f = by_frame front summary split sums channel dev d in (base_of v.sizes (time_of f.emission), f.has))
-
-      own : (channel : Channel) → v.channel ≡ channel
-          → (deviation_on (standing_before v.scenario front device t) summary
-          channel ≡ Some (deviation_by (standing_before v.scenario front device t) best.best))
-          × HasBase v n t block device hull (base_of v.sizes (time_of sends.first)) (deviation_by (standing_before v.scenario front device t) best.best)
-      own channel same =
-          let d = deviates_on (standing_before v.scenario front device t) summary v.channel best in
-          let f = by_frame front summary split sums v.channel (deviation_by (standing_before v.scenario front device t) best.best) d in (
-            subst (λ (c : Channel). deviation_on (standing_before v.scenario front device t) summary
-                c ≡ Some (deviation_by (standing_before v.scenario front device t) best.best)) same d,
-            is_by_sound goes v n t block is device hull (deviation_by (standing_before v.scenario front device t) best.best) sends.first sends.members sound f,
-          )
-
-      on : (channel : Channel) → v.channel ≡ channel → IsSharedCorrection v n t hull (base_of v.sizes (time_of sends.first)) device by
-      on A same =
-          let o = own A same in
-          shared_first v n t _ is _ _ is_hull _ _ (deviation_on (standing_before v.scenario front device t) summary B) by o.1 (other B)
-          (ap (λ (x : Option Units). correction_of x (deviation_on (standing_before v.scenario front device t) summary B)) (sym o.0) ∙ e)
-      on B same =
-          let o = own B same in
-          shared_second v n t _ is _ _ is_hull _ _ (deviation_on (standing_before v.scenario front device t) summary A) by o.1 (other A)
-          (ap (λ (x : Option Units). correction_of (deviation_on (standing_before v.scenario front device t) summary A) x) (sym o.0) ∙ e)
+      opposite : (channel : Channel) → (other : Channel) × (correction_of (deviation channel) (deviation other) ≡ Some by)
+      opposite A = (B, e)
+      opposite B = (A, turned (deviation B) (deviation A) ∙ e)
 
   -- the point comes to a correction
-  corrects : (front : List Happening) (summary : Summary) (verdict : Verdict) → AreBeforeCorrections v t front
-      → Summarizes summary (heard_since v.scenario front device t) → HasVerdict (standing_before v.scenario front device t) summary verdict
+  corrects : (verdict : Verdict) → HasVerdict standing summary verdict
       → (by : Units) × (verdict ≡ Corrected by) × (IsGoodEnd v device → IsSharedCorrection v n t hull (base_of v.sizes (time_of sends.first)) device by)
-  corrects front summary Cleared split sums has = absurd (not_integrating v n t block is device at front split has)
-  corrects front summary SyncClique split sums has =
-      absurd (has.1 (some_qualifies (standing_before v.scenario front device t) summary v.channel (has_best front summary split sums)))
-  corrects front summary AsyncClique split sums has =
-      let best = has_best front summary split sums in
-      let few = subst (λ (o : Option HeardFrame). IfSome o (λ frame. count_of frame.members ≤ count_of summary.outside)) best.is (has.2 v.channel) in
-      absurd (omega (arith, few, best.more))
-  corrects front summary (Corrected by) split sums has = (by, refl, λ end. shared_by front summary split sums (has_best front summary split sums) by has.3)
+  corrects Cleared has = absurd (not_integrating v n t block is device at front split has)
+  corrects SyncClique has = absurd (has.1 (some_qualifies standing summary v.channel has_best))
+  corrects AsyncClique has =
+      let few = subst (λ (o : Option HeardFrame). IfSome o (λ frame. count_of frame.members ≤ count_of summary.outside)) has_best.is (has.2 v.channel) in
+      absurd (omega (arith, few, has_best.more))
+  corrects (Corrected by) has = (by, refl, λ end. shared by has.3)
 
 -- ---- the law
 
@@ -182,7 +157,7 @@ firm_devices_correct laws sent goes v n t block is late =
         each = λ u own device cycle verdict firm has old comes.
             (let point = (goes v n u own is).points device cycle verdict has old comes in
             let at : IsAtPoint v n u own device = record { has = has; old = old; late = point.not_early } in
-            corrects laws goes v n u own is device firm at s.0 s.1 sends comes.front comes.point.summary verdict comes.split comes.point.heard
+            corrects laws goes v n u own is device firm at s.0 s.1 sends comes.front comes.split comes.point.summary comes.point.heard verdict
             comes.point.comes);
       },
     )

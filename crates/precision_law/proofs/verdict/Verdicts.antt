@@ -1,8 +1,8 @@
 -- Each correction point comes to a verdict.
-use Rattle.precision_law.proofs.words.Std.{◌++◌, ◌∙◌, ◌∷◌, ◌≡◌, ◌≤◌, ◌⊎◌, Bool, IfSome, List, None, Option, Some, [], ap, append-nil, append_assoc, arith, cases_lt, false, if◌then◌else◌, inl, inr, le-leb, nat_le, option_and_then, refl, subst, sym, true, ℕ}
-use Rattle.precision_law.proofs.words.Plans.{A, AsyncClique, B, Channel, Corrected, HasVerdict, HeardFrame, Hearing, IsAtIntegration, IsBetterOf, IsOutnumbered, Qualifies, Standing, Summarizes, Summary, SyncClique, Units, correction_of, count_of, deviation_by, deviation_on, silence, union, within_on}
+use Rattle.precision_law.proofs.words.Std.{◌++◌, ◌∷◌, ◌≡◌, ◌≤◌, ◌⊎◌, Bool, IfSome, List, None, Option, Some, [], ap, append-nil, append_assoc, arith, cases_lt, false, if◌then◌else◌, inl, inr, le-leb, nat_le, option_and_then, refl, subst, sym, true, ℕ}
+use Rattle.precision_law.proofs.words.Plans.{A, AsyncClique, B, Channel, Corrected, HasVerdict, HeardFrame, Hearing, IsAtIntegration, IsBetterOf, IsOutnumbered, Qualifies, Standing, Summarizes, Summary, SyncClique, Units, best_on, correction_of, count_of, deviation_by, deviation_on, silence, union}
 use Rattle.precision_law.proofs.words.Runs.{IsDecided, decided_and, decided_less, decided_less_int, decided_or, decided_same, decided_some}
-use Rattle.membership.proofs.SummaryLemmas.{hears_on_a, hears_on_b, hears_outside, silence_summarizes}
+use Rattle.membership.proofs.SummaryLemmas.{hears_on_a, hears_on_b, hears_outside, same_hearing, silence_summarizes}
 
 -- ---- summaries
 
@@ -13,28 +13,19 @@ better (Some best) later =
     (decided_and (decided_same (count_of later.members) (count_of best.members)) (decided_less_int later.point.0 best.point.0))) as
     (λ _. (frame : HeardFrame) × IsBetterOf (Some best) later frame) [ inl behind ↦ (best, inl (behind, refl)) | inr other ↦ (later, inr (other, refl)) ]
 
-hearing_is : (h : Hearing) (channel : Channel) → h.channel ≡ channel → h.within ≡ true → within_on channel h.frame ≡ h
-hearing_is h channel a b =
-    ap (λ (c : Channel). let x : Hearing = record { channel = c; frame = h.frame; within = true } in x) (sym a)
-    ∙ ap (λ (w : Bool). let x : Hearing = record { channel = h.channel; frame = h.frame; within = w } in x) (sym b)
-
 one_more : (s : Summary) (acc : List Hearing) (h : Hearing) → Summarizes s acc → (t : Summary) × Summarizes t (acc ++ h ∷ [])
 one_more s acc h is = by h.within refl h.channel refl
   where
     by : (b : Bool) → h.within ≡ b → (c : Channel) → h.channel ≡ c → (t : Summary) × Summarizes t (acc ++ h ∷ [])
     by false e c f = (record { best_a = s.best_a; best_b = s.best_b; outside = union s.outside h.frame.members }, hears_outside s acc h e is)
     by true e A f =
-        let b = better s.best_a h.frame in (
-          record { best_a = Some b.0; best_b = s.best_b; outside = s.outside },
-          subst (λ (x : Hearing). Summarizes (record { best_a = Some b.0; best_b = s.best_b; outside = s.outside }) (acc ++ x ∷ [])) (hearing_is h A f e)
-              (hears_on_a s acc h.frame b.0 b.1 is),
-        )
+        let b = better s.best_a h.frame in
+        let t : Summary = record { best_a = Some b.0; best_b = s.best_b; outside = s.outside } in
+        (t, subst (λ (x : Hearing). Summarizes t (acc ++ x ∷ [])) (same_hearing h.channel A h.frame h.within f e) (hears_on_a s acc h.frame b.0 b.1 is))
     by true e B f =
-        let b = better s.best_b h.frame in (
-          record { best_a = s.best_a; best_b = Some b.0; outside = s.outside },
-          subst (λ (x : Hearing). Summarizes (record { best_a = s.best_a; best_b = Some b.0; outside = s.outside }) (acc ++ x ∷ [])) (hearing_is h B f e)
-              (hears_on_b s acc h.frame b.0 b.1 is),
-        )
+        let b = better s.best_b h.frame in
+        let t : Summary = record { best_a = s.best_a; best_b = Some b.0; outside = s.outside } in
+        (t, subst (λ (x : Hearing). Summarizes t (acc ++ x ∷ [])) (same_hearing h.channel B h.frame h.within f e) (hears_on_b s acc h.frame b.0 b.1 is))
 
 summary_from : (rest acc : List Hearing) (s : Summary) → Summarizes s acc → (t : Summary) × Summarizes t (acc ++ rest)
 summary_from [] acc s is = (s, subst (Summarizes s) (sym (append-nil acc)) is)
@@ -62,13 +53,11 @@ few (Some frame) n = decided_le (count_of frame.members) n
 outnumbered : (heard : Summary) → IsDecided (IsOutnumbered heard)
 outnumbered heard = elim (few heard.best_a (count_of heard.outside)) [
   | inr no_a ↦ inr (λ all. no_a (all A))
-  | inl a ↦ elim (few heard.best_b (count_of heard.outside)) [ inr no_b ↦ inr (λ all. no_b (all B)) | inl b ↦ inl (both a b) ]
+  | inl a ↦ elim (few heard.best_b (count_of heard.outside)) [
+    | inr no_b ↦ inr (λ all. no_b (all B))
+    | inl b ↦ inl (λ channel. elim channel as (λ c. IfSome (best_on c heard) (λ frame. count_of frame.members ≤ count_of heard.outside)) [ A ↦ a | B ↦ b ])
+  ]
 ]
-  where
-    both : IfSome heard.best_a (λ frame. count_of frame.members ≤ count_of heard.outside)
-        → IfSome heard.best_b (λ frame. count_of frame.members ≤ count_of heard.outside) → IsOutnumbered heard
-    both a b A = a
-    both a b B = b
 
 deviates : (s : Standing) (o : Option HeardFrame) → Qualifies s.plan.threshold o → (d : Units)
     × (option_and_then (λ frame. if nat_le s.plan.threshold (count_of frame.members) then Some (deviation_by s frame) else None) o ≡ Some d)
@@ -76,15 +65,11 @@ deviates s None q = absurd q
 deviates s (Some frame) q =
     (deviation_by s frame, ap (λ (b : Bool). if b then Some (deviation_by s frame) else None) (le-leb s.plan.threshold (count_of frame.members) q))
 
-corrects_left : (a b : Option Units) (d : Units) → a ≡ Some d → (by : Units) × (correction_of a b ≡ Some by)
-corrects_left None b d e = absurd cc
-corrects_left (Some a) None d e = (a, refl)
-corrects_left (Some a) (Some b) d e = (_, refl)
-
-corrects_right : (a b : Option Units) (d : Units) → b ≡ Some d → (by : Units) × (correction_of a b ≡ Some by)
-corrects_right a None d e = absurd cc
-corrects_right None (Some b) d e = (b, refl)
-corrects_right (Some a) (Some b) d e = (_, refl)
+corrects_some : (a b : Option Units) (d : Units) → (a ≡ Some d) ⊎ (b ≡ Some d) → (by : Units) × (correction_of a b ≡ Some by)
+corrects_some None None d e = absurd (elim e [ inl x ↦ cc | inr x ↦ cc ])
+corrects_some None (Some b) d e = (b, refl)
+corrects_some (Some a) None d e = (a, refl)
+corrects_some (Some a) (Some b) d e = (_, refl)
 
 -- a point that is not the one at which a joiner clears comes to a correction or to a clique
 pub verdict_of : (s : Standing) (heard : Summary) → (IsAtIntegration s → ⊥) → ((by : Units) × HasVerdict s heard (Corrected by))
@@ -95,8 +80,8 @@ verdict_of s heard not_at = elim (decided_or (qualifies s.plan.threshold heard.b
     | inl out ↦ inr (inr (not_at, some, out))
     | inr enough ↦
         let by = elim some as (λ _. (by : Units) × (correction_of (deviation_on s heard A) (deviation_on s heard B) ≡ Some by)) [
-          | inl a ↦ (let d = deviates s heard.best_a a in corrects_left (deviation_on s heard A) (deviation_on s heard B) d.0 d.1)
-          | inr b ↦ (let d = deviates s heard.best_b b in corrects_right (deviation_on s heard A) (deviation_on s heard B) d.0 d.1)
+          | inl a ↦ (let d = deviates s heard.best_a a in corrects_some (deviation_on s heard A) (deviation_on s heard B) d.0 (inl d.1))
+          | inr b ↦ (let d = deviates s heard.best_b b in corrects_some (deviation_on s heard A) (deviation_on s heard B) d.0 (inr d.1))
         ] in
         inl (by.0, (not_at, some, enough, by.1))
   ]

@@ -1,5 +1,5 @@
 -- What is proved of blocks, and is cited further on, passed on from one place. Declares nothing.
-pub use Rattle.precision_law.proofs.block.Goings.{FramesGoSo, IsLate, IsOfBlock, WentSo, corrections_before, corrections_go_on, known_dispatch, narrow_at, of_block, tidy}
+pub use Rattle.precision_law.proofs.block.Goings.{FramesGoSo, HasCorrected, HasPoint, IsGoodHearing, IsLate, IsSentOn, WentSo, corrections_go_on, early_show, good_hearing, had_time, has_corrected, has_lost, in_part, judged_at, judged_up_to, known_dispatch, late_from, members_by, near_hull, next_first, old_point, tidy, up_to_then}
 pub use Rattle.precision_law.proofs.block.Halving.{HasDispatched, IsReachedBy, has_dispatched, high_by, hulls_are_narrow, in_next, low_by, master_is_end, shared_near, start_near, synchronised_is}
 pub use Rattle.precision_law.proofs.block.Joins.{expected_is, expected_late, joins}
 pub use Rattle.precision_law.proofs.block.Starts.{stands_at_start}

@@ -11,7 +11,7 @@ pub use Rattle.precision_law.proofs.faults.Broken.{has_member, one_bad, one_memb
 pub use Rattle.precision_law.proofs.faults.Enough.{enough_masters, sets_within}
 pub use Rattle.precision_law.proofs.faults.Masters.{any_in, device_of_place, good_is_correct, in_any, master_ends, one_channel_is_sound, switches_are_good}
 pub use Rattle.precision_law.proofs.faults.Ways.{sound_switches_begin_on, sound_ways_are_whole}
-pub use Rattle.precision_law.proofs.hearing.Heard.{HearsThis, IsHearingOf, best_is_heard, cleared_by, hearing_of, hears_by, same_cleared, same_next, within_by}
+pub use Rattle.precision_law.proofs.hearing.Heard.{HearsThis, IsHearingOf, best_is_heard, cleared_by, hearing_of, hears_by, same_cleared, same_next}
 pub use Rattle.precision_law.proofs.hearing.Hearings.{hearer_not_cm, hearings_are_of_frames}
 pub use Rattle.precision_law.proofs.records.Behind.{PartsAtLast, after_last_at, after_last_none, all_of, behind_last, in_filter_map, none, parts_at_last, some}
 pub use Rattle.precision_law.proofs.records.Cutting.{IsCutAt, cut_at}
