@@ -1,6 +1,6 @@
 -- What stands behind the last element of a kind.
 use Rattle.precision_law.proofs.words.Std.{◌++◌, ◌+◌, ◌-◌, ◌∙◌, ◌∷◌, ◌≡◌, All, All-append, All-cons, All-head, All-nil, All-tail, Bool, List, None, Option, Some, [], after_last, ap, append-nil, append_assoc, arith, cond-false, cond-true, cons_option, drop, drop_at, false, filter_map, inl, inr, length, length-append, not, not_from_false, not_from_true, prefix_len, refl, reverse, subst, suffix_len, sym, true, zero-add}
-use Rattle.precision_law.proofs.words.Runs.{IsIn}
+use Rattle.precision_law.proofs.words.Runs.{IsIn, in_parts}
 use Rattle.std.proofs.lemmas.List.{length-reverse, length_push, reverse-append}
 
 -- ---- the last of a kind
@@ -47,6 +47,9 @@ pub all_of : {X : Type 0} (P : X → Type 0) (xs : List X) → ((x : X) → IsIn
 all_of P [] each = All-nil P
 all_of P (x ∷ xs) each = All-cons P x xs (each x (inl refl)) (all_of P xs (λ y i. each y (inr i)))
 
+pub not_each : {X : Type 0} (p : X → Bool) (xs : List X) → ((x : X) → IsIn x xs → p x ≡ false) → All (λ x. not (p x) ≡ true) xs
+not_each {X} p xs each = all_of (λ (x : X). not (p x) ≡ true) xs (λ x i. ap not (each x i))
+
 -- a list in which none is of the kind, or that parts at the last
 pub data PartsAtLast {X : Type 0} (p : X → Bool) (xs : List X) : Type 0 where
   none : ((x : X) → IsIn x xs → p x ≡ false) → PartsAtLast p xs
@@ -61,6 +64,17 @@ pub parts_at_last : {X : Type 0} (p : X → Bool) (xs : List X) → PartsAtLast 
 parts_at_last p [] = none (λ x i. absurd i)
 parts_at_last p (x ∷ xs) = parts_by p x xs (p x) refl (parts_at_last p xs)
 
+-- what is not of the kind may be added behind the last that is
+pub after_more : {X : Type 0} (p : X → Bool) (xs ys : List X) → ((y : X) → IsIn y ys → p y ≡ false) → PartsAtLast p xs
+    → after_last p (xs ++ ys) ≡ after_last p xs ++ ys
+after_more {X} p xs ys quiet (none all) =
+    after_last_none p (xs ++ ys) (not_each p (xs ++ ys) (λ x i. elim (in_parts x xs ys i) [ inl l ↦ all x l | inr r ↦ quiet x r ]))
+    ∙ ap (λ (zs : List X). zs ++ ys) (sym (after_last_none p xs (not_each p xs all)))
+after_more {X} p xs ys quiet (some front rest last whole hit all) =
+    ap (λ (zs : List X). after_last p (zs ++ ys)) whole ∙ ap (after_last p) (append_assoc front (last ∷ rest) ys)
+    ∙ after_last_at p front last (rest ++ ys) hit (not_each p (rest ++ ys) (λ x i. elim (in_parts x rest ys i) [ inl l ↦ all x l | inr r ↦ quiet x r ]))
+    ∙ ap (λ (zs : List X). zs ++ ys) (sym (ap (after_last p) whole ∙ after_last_at p front last rest hit (not_each p rest all)))
+
 -- what stands behind the last is a rest of the list, and none of it is of the kind
 pub record IsBehindLast {X : Type 0} (p : X → Bool) (xs : List X) : Type 0 where
   pub front : List X
@@ -69,10 +83,10 @@ pub record IsBehindLast {X : Type 0} (p : X → Bool) (xs : List X) : Type 0 whe
 
 behind_by : {X : Type 0} (p : X → Bool) (xs : List X) → PartsAtLast p xs → IsBehindLast p xs
 behind_by {X} p xs (none all) =
-    let same = after_last_none p xs (all_of (λ (x : X). not (p x) ≡ true) xs (λ x i. not_from_false (p x) (all x i))) in
+    let same = after_last_none p xs (not_each p xs all) in
     record { front = []; whole = sym same; others = λ x i. all x (subst (IsIn x) same i) }
 behind_by {X} p xs (some front rest last whole is all) =
-    let at = after_last_at p front last rest is (all_of (λ (x : X). not (p x) ≡ true) rest (λ x i. not_from_false (p x) (all x i))) in
+    let at = after_last_at p front last rest is (not_each p rest all) in
     let same : after_last p xs ≡ rest = ap (after_last p) whole ∙ at in
     record {
       front = front ++ last ∷ [];

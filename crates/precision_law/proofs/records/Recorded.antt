@@ -3,32 +3,12 @@ use Rattle.precision_law.proofs.words.Std.{◌&&◌, ◌++◌, ◌+ℤ◌, ◌+�
 use Rattle.precision_law.proofs.words.Plans.{AsyncClique, Corrected, DeviceId, HasVerdict, Hearing, Integrating, IsAtIntegration, Off, Standing, State, Summarizes, Summary, SyncClique, Units, Verdict, point_in}
 use Rattle.precision_law.proofs.words.Runs.{ChangesState, ComesToCorrection, Happening, IsBefore, IsDue, IsFounded, IsIn, IsSplit, Note, NoteBody, Reaches, Why, adjustment_after, adjustment_before, chain, changes_adjustment, correction_value, due_is_there, earlier, front_founded, happening, has_cleared, heard_since, hearing_by, in_filter, in_parts, in_right, integration_cycle, is_turned_on_at, next_cycle, place_of, plan_of, rank, recorded_cycle, split, standing_before, state_after, time_of}
 use Rattle.precision_law.proofs.words.Laws.{AreBeforeCorrections, HasTimeAt, IsPointRecord, IsView, NoneTurnsOn, PointsAreRecorded, View, has_time}
-use Rattle.precision_law.proofs.words.Clocks.{PartsAtLast, after_last_at, after_last_none, all_of, before_place, cleared_by, earlier_before, good_is_correct, none, parts_at_last, reaches_front, same_cleared, same_kept, same_next, some}
+use Rattle.precision_law.proofs.words.Clocks.{PartsAtLast, after_last_at, after_last_none, after_more, all_of, before_place, cleared_by, earlier_before, good_is_correct, none, parts_at_last, reaches_front, same_cleared, same_kept, same_next, some}
 use Rattle.run_law.specs.declared.judgement.Why.TheVariants as whys
 use Rattle.run_law.specs.declared.note.NoteBody.TheVariants as notes
 use Rattle.precision_law.proofs.verdict.Verdicts.{summary_of, verdict_of}
 
 -- ---- lists
-
--- what ends no part may be added behind the last that does
-after_more : {X : Type 0} (p : X → Bool) (xs ys : List X) → ((y : X) → IsIn y ys → p y ≡ false) → after_last p (xs ++ ys) ≡ after_last p xs ++ ys
-after_more {X} p xs ys quiet = by (parts_at_last p xs)
-  where
-    in_two : (ls rs : List X) → ((x : X) → IsIn x ls → p x ≡ false) → ((x : X) → IsIn x rs → p x ≡ false) → (x : X) → IsIn x (ls ++ rs) → not (p x) ≡ true
-    in_two ls rs a b x i = elim (in_parts x ls rs i) [ inl l ↦ ap not (a x l) | inr r ↦ ap not (b x r) ]
-
-    alone : (ls : List X) → ((x : X) → IsIn x ls → p x ≡ false) → (x : X) → IsIn x ls → not (p x) ≡ true
-    alone ls a x i = ap not (a x i)
-
-    by : PartsAtLast p xs → after_last p (xs ++ ys) ≡ after_last p xs ++ ys
-    by (none all) =
-        after_last_none p (xs ++ ys) (all_of (λ (x : X). not (p x) ≡ true) (xs ++ ys) (in_two xs ys all quiet))
-        ∙ ap (λ (t : List X). t ++ ys) (sym (after_last_none p xs (all_of (λ (x : X). not (p x) ≡ true) xs (alone xs all))))
-    by (some front rest last whole hit all) =
-        ap (λ (t : List X). after_last p (t ++ ys)) whole ∙ ap (after_last p) (append_assoc front (last ∷ rest) ys)
-        ∙ after_last_at p front last (rest ++ ys) hit (all_of (λ (x : X). not (p x) ≡ true) (rest ++ ys) (in_two rest ys all quiet))
-        ∙ ap (λ (t : List X). t ++ ys)
-        (sym (ap (after_last p) whole ∙ after_last_at p front last rest hit (all_of (λ (x : X). not (p x) ≡ true) rest (alone rest all))))
 
 -- what makes nothing of each makes nothing
 makes_none : {X Y : Type 0} (f : X → Option Y) (xs : List X) → ((x : X) → IsIn x xs → f x ≡ None) → filter_map f xs ≡ []
@@ -55,7 +35,8 @@ heard_more v device u front mid cleared cleared_at at high =
     let late = λ (h : Happening). not (has_cleared s front device u u) || has_cleared s front device u (time_of h) in
     let late_more = λ (h : Happening). not (has_cleared s (front ++ mid) device u u) || has_cleared s (front ++ mid) device u (time_of h) in
     let since = after_more set front mid
-    (λ m i. ap (λ (b : Bool). b && changes_adjustment device m.note.body) (le-ltb (time_of m) u (let e = at m i in omega (arith, e)))) in
+    (λ m i. ap (λ (b : Bool). b && changes_adjustment device m.note.body) (le-ltb (time_of m) u (let e = at m i in omega (arith, e))))
+    (parts_at_last set front) in
     let quiet = makes_none f (filter late mid) (λ m i. (let back = in_filter late mid m i in high_quiet v device u m m.note.body (at m back) (high m back))) in
     ap (λ (hs : List Happening). filter_map f (filter late_more hs)) since
     ∙ ap (filter_map f)

@@ -13,7 +13,7 @@ pub use Rattle.precision_law.proofs.faults.Masters.{any_in, device_of_place, goo
 pub use Rattle.precision_law.proofs.faults.Ways.{sound_switches_begin_on, sound_ways_are_whole}
 pub use Rattle.precision_law.proofs.hearing.Heard.{HearsThis, IsHearingOf, best_is_heard, cleared_by, hearing_of, hears_by, same_cleared, same_next, within_by}
 pub use Rattle.precision_law.proofs.hearing.Hearings.{hearer_not_cm, hearings_are_of_frames}
-pub use Rattle.precision_law.proofs.records.Behind.{PartsAtLast, after_last_at, after_last_none, all_of, behind_last, in_filter_map, none, parts_at_last, some}
+pub use Rattle.precision_law.proofs.records.Behind.{PartsAtLast, after_last_at, after_last_none, after_more, all_of, behind_last, in_filter_map, none, not_each, parts_at_last, some}
 pub use Rattle.precision_law.proofs.records.Cutting.{IsCutAt, cut_at}
 pub use Rattle.precision_law.proofs.records.Due.{IsRipeArrival, IsRipeRecord, IsSentAt, is_collected, is_heard_of, is_sent, place_of_ripe, place_of_sent, sent_at}
 pub use Rattle.precision_law.proofs.records.Judged.{earlier_judge}
