@@ -3,7 +3,7 @@ use Rattle.precision_law.proofs.words.Std.{◌*◌, ◌+ℤ◌, ◌+◌, ◌-ℤ
 use Rattle.precision_law.proofs.words.Plans.{Corrected, DeviceId, IsReach, Synchronised, Units, amount}
 use Rattle.precision_law.proofs.words.Runs.{Happening, IsCaused, NoteBody, Reaches, Scenario, adjustment_after, changes_adjustment, earlier, founded_at, happenings, is_joined_by, is_synchronised, is_turned_on_at, state_after, time_of}
 use Rattle.precision_law.proofs.words.Laws.{BlocksCover, BlocksGoSo, ComesTo, HasTimeAt, Hull, IsInBlock, IsNarrow, IsView, OneChannelIsSound, ShowsIn, Stands, ValuesAreReachedOnTime, View, adjustment_left, epoch_time, first_correction, hull_of, last_setting, state_left}
-use Rattle.precision_law.proofs.words.Clocks.{before_of, clocks_reach_sharply, instants_are_in_order, joiner_waits, one_more, point_timed, room, same_device, set_clocks_stay_at_correction, setting_is}
+use Rattle.precision_law.proofs.words.Clocks.{before_of, clocks_reach_sharply, instants_are_in_order, joiner_waits, one_more, point_timed, reaches_by, room, same_device, set_clocks_stay_at_correction, setting_is}
 use Rattle.precision_law.proofs.words.Blocks.{before_narrow, block_ends, earlier_in_block, follows_before, from_to_of_run, hull_is_from_to, new_shows, not_integrating, old_shows, set_shows, timed_of, view_of, view_with}
 use Rattle.run_law.specs.declared.note.NoteBody.TheVariants as notes
 
@@ -152,18 +152,6 @@ value_reached cover goes v n value t device is has synchronised in_run within re
     (corrected_late v k t block device (last_setting (earlier t v.records) device) goes is has synchronised refl late) least most))
 
 -- ---- in a run
-
--- what a clock reaches depends on the earlier records
-reaches_by : (s : Scenario) (hs gs : List Happening) (device : DeviceId) (value : ℤ) (t : ℕ) → earlier t hs ≡ earlier t gs → Reaches s hs device value t
-    → Reaches s gs device value t
-reaches_by s hs gs device value t same reaches = record {
-  below =
-      subst (λ (es : List Happening). (pos (s.reading device (option_map_or time_of (last_setting es device) 0)) +ℤ (adjustment_after s es device).0) <ℤ value)
-      same reaches.below;
-  reach =
-      subst (λ (es : List Happening). IsReach (s.reading device) (pos (option_map_or time_of (last_setting es device) 0))
-      (value -ℤ (adjustment_after s es device).0) (pos t)) same reaches.reach;
-}
 
 pub values_are_reached_on_time : OneChannelIsSound → BlocksCover → BlocksGoSo → ValuesAreReachedOnTime
 values_are_reached_on_time sound cover goes s mark ns until beta up is_beta t cycle value device le step within reaches =

@@ -18,6 +18,19 @@ pub next_due : (s : Scenario) (ps : List Happening) (t : ℕ) (body : NoteBody) 
     → IsDue s ps (happening s.network ps (next_note ps t body))
 next_due s ps t body cause = record { number = refl; same = refl; begun = omega (arith, ints); cause = cause }
 
+-- what a time of the run brings, given the records before its place, is recorded
+pub due_there : (v : View) (t : ℕ) (body : NoteBody) (p : List ℕ) (at : IsSplit place_of v.records p) → IsView v → t ≤ v.until
+    → place_of (happening v.scenario.network at.front (next_note at.front t body)) ≡ p → IsCaused v.scenario at.front (units_of t) body
+    → IsIn (happening v.scenario.network at.front (next_note at.front t body)) v.records
+due_there v t body p at is within same cause =
+    due_is_there v.scenario ((v.until + 1) ∷ []) v.records (happening v.scenario.network at.front (next_note at.front t body)) (record {
+      front = at.front;
+      rest = at.rest;
+      whole = at.whole;
+      before = subst (AllBefore place_of at.front) (sym same) at.before;
+      none = subst (NoneBefore place_of at.rest) (sym same) at.none;
+    }) is.run (next_due v.scenario at.front t body cause) (inl (omega (arith, within)))
+
 -- the emission reading of a cluster
 abbrev pub sent_at : View → Cluster → ℤ
 sent_at v c = emission (observation_window v.scenario.network) (pos (amount v.scenario.network.calc)) c
@@ -63,7 +76,7 @@ is_sent v cm t c clusters is one good within at are there reached =
     record {
       h = h;
       emission = record {
-        there = due_is_there s ((v.until + 1) ∷ []) v.records h at is.run (next_due s at.front t body emits) (inl (omega (arith, within)));
+        there = due_there v t body (place_of_sent v cm c t) at is within refl emits;
         opened = record { 0 = c.opened };
         at = record { 0 = sent_at v c };
         verdict = verdict;
@@ -144,22 +157,23 @@ is_recorded v device arrival link frame point q verdict is r at becomes =
     let framed : h.frame ≡ Some frame = ap (λ (o : Option Happening). option_and_then (λ x. x.frame) o) found ∙ r.of_frame in
     let members : members_in h ≡ frame.members.0 = ap (λ (o : Option Pcf). option_map_or (λ f. f.members.0) o 0) framed in
     let place = ap (λ (m : ℕ). q ∷ 3 ∷ device.0 ∷ unsigned_abs point ∷ m ∷ link.0 ∷ number ∷ []) members in
-    let moved : IsSplit place_of v.records (place_of h) = record {
-      front = at.front;
-      rest = at.rest;
-      whole = at.whole;
-      before = subst (AllBefore place_of at.front) (sym place) at.before;
-      none = subst (NoneBefore place_of at.rest) (sym place) at.none;
-    } in
     record {
       h = h;
-      there = due_is_there s ((v.until + 1) ∷ []) v.records h moved is.run (next_due s at.front q body ripens) (inl (omega (arith, r.in_run)));
+      there = due_there v q body (place_of_ripe device arrival link frame point q) at is r.in_run place ripens;
       is = refl;
       time = refl;
       of_frame = framed;
     }
 
 -- ---- what a compression master collects
+
+if_true : (b : Bool) (P Q : Type 0) → b ≡ true → P → MatchBool b P Q
+if_true true P Q e p = p
+if_true false P Q e p = absurd cc
+
+if_false : (b : Bool) (P Q : Type 0) → b ≡ false → Q → MatchBool b P Q
+if_false false P Q e p = p
+if_false true P Q e p = absurd cc
 
 -- a frame that is permanent at a compression master, and has no fault, has a record that gives its point, but where it
 -- is dropped since it lies in the time of a cluster of another cycle
@@ -174,15 +188,16 @@ is_collected v cm arrival link frame point q is one r at fine =
     let found = one_list_of_clusters (observation_window v.scenario.network) (points_of at.front cm) in
     by found.0 found.1 (role found.0 (point_at point (master_of frame.members.0) frame.cycle)) refl
   where
-    becomes : (verdict : Judgement) (points : List Point) (o : Option Reason) → o ≡ None
-        → IsCollectionOutcome v.scenario.network points (point_at point (master_of frame.members.0) frame.cycle) (ripe_as verdict)
-        → IsCollectedOrDropped v.scenario.network points (point_at point (master_of frame.members.0) frame.cycle) o (ripe_as verdict)
-    becomes verdict points None e so = so
-    becomes verdict points (Some reason) e so = absurd cc
+    becomes : (o : Option Reason) (verdict : Judgement) → o ≡ None
+        → IsCollectionOutcome v.scenario.network (points_of at.front cm) (point_at point (master_of frame.members.0) frame.cycle) (ripe_as verdict)
+        → IsCollectedOrDropped v.scenario.network (points_of at.front cm) (point_at point (master_of frame.members.0) frame.cycle) o (ripe_as verdict)
+    becomes None verdict e so = so
+    becomes (Some reason) verdict e so = absurd cc
 
-    at_cm : (verdict : Judgement) (b : Bool) (P Q : Type 0) → b ≡ true → P → MatchBool b P Q
-    at_cm verdict true P Q e p = p
-    at_cm verdict false P Q e p = absurd cc
+    kept : (verdict : Judgement)
+        → IsCollectionOutcome v.scenario.network (points_of at.front cm) (point_at point (master_of frame.members.0) frame.cycle) (ripe_as verdict)
+        → (verdict : Judgement) × IsRipeRecord v cm arrival link point q verdict frame
+    kept verdict so = (verdict, is_recorded v cm arrival link frame point q verdict is r at (if_true (is_cm v.scenario.network cm) _ _ one (becomes _ verdict fine so)))
 
     by : (clusters : List Cluster) → AreClusters (observation_window v.scenario.network) (points_of at.front cm) clusters → (t : Taken)
         → role clusters (point_at point (master_of frame.members.0) frame.cycle) ≡ t
@@ -191,29 +206,11 @@ is_collected v cm arrival link frame point q is one r at fine =
         ⊎ ((verdict : Judgement) × IsRipeRecord v cm arrival link point q verdict frame)
     by clusters are taken.OtherCycle e = inl (clusters, are, e)
     by clusters are taken.Opened e =
-        inr (
-          judgements.Opened,
-          is_recorded v cm arrival link frame point q judgements.Opened is r at
-              (at_cm judgements.Opened (is_cm v.scenario.network cm) _ _ one
-              (becomes judgements.Opened (points_of at.front cm) _ fine
-              (record { taken = taken.Opened; collected = record { clusters = clusters; are = are; is = sym e }; becomes = refl }))),
-        )
+        inr (kept judgements.Opened (record { taken = taken.Opened; collected = record { clusters = clusters; are = are; is = sym e }; becomes = refl }))
     by clusters are taken.Joined e =
-        inr (
-          judgements.Joined,
-          is_recorded v cm arrival link frame point q judgements.Joined is r at
-              (at_cm judgements.Joined (is_cm v.scenario.network cm) _ _ one
-              (becomes judgements.Joined (points_of at.front cm) _ fine
-              (record { taken = taken.Joined; collected = record { clusters = clusters; are = are; is = sym e }; becomes = refl }))),
-        )
+        inr (kept judgements.Joined (record { taken = taken.Joined; collected = record { clusters = clusters; are = are; is = sym e }; becomes = refl }))
     by clusters are taken.Repeat e =
-        inr (
-          judgements.Repeat,
-          is_recorded v cm arrival link frame point q judgements.Repeat is r at
-              (at_cm judgements.Repeat (is_cm v.scenario.network cm) _ _ one
-              (becomes judgements.Repeat (points_of at.front cm) _ fine
-              (record { taken = taken.Repeat; collected = record { clusters = clusters; are = are; is = sym e }; becomes = refl }))),
-        )
+        inr (kept judgements.Repeat (record { taken = taken.Repeat; collected = record { clusters = clusters; are = are; is = sym e }; becomes = refl }))
 
 -- ---- what other devices hear
 
@@ -224,8 +221,4 @@ pub is_heard_of : (v : View) (device : DeviceId) (arrival : Happening) (link : L
     → IsRipeRecord v device arrival link point q (heard_as (plan_of v.scenario.network device) (observation_window v.scenario.network)
     (state_at_hearing v.scenario at.front device q) (adjustment_at_hearing v.scenario at.front device q).0 point frame.cycle frame.members) frame
 is_heard_of v device arrival link frame point q is other r at =
-    is_recorded v device arrival link frame point q _ is r at (elsewhere (is_cm v.scenario.network device) _ _ other refl)
-  where
-    elsewhere : (b : Bool) (P Q : Type 0) → b ≡ false → Q → MatchBool b P Q
-    elsewhere false P Q e p = p
-    elsewhere true P Q e p = absurd cc
+    is_recorded v device arrival link frame point q _ is r at (if_false (is_cm v.scenario.network device) _ _ other refl)

@@ -3,7 +3,7 @@ use Rattle.precision_law.proofs.words.Std.{◌+ℤ◌, ◌-ℤ◌, ◌<ℤ◌, �
 use Rattle.precision_law.proofs.words.Plans.{DeviceId, IsReach, Units}
 use Rattle.precision_law.proofs.words.Runs.{Happening, IsSplit, Reaches, adjustment_before, changed_at, key, members_in, place_of, rank, time_of}
 use Rattle.precision_law.proofs.words.Laws.{AreBeforeCorrections, View, last_setting}
-use Rattle.precision_law.proofs.records.Points.{earlier_before, same_adjustment}
+use Rattle.precision_law.proofs.records.Points.{earlier_before, reaches_by, same_adjustment}
 use Rattle.precision_law.proofs.Plain.{no_later}
 
 -- where records part at a place of a time
@@ -18,14 +18,4 @@ before_place v t more at = record {
 -- what a clock reaches given all records it reaches given those before
 pub reaches_front : (v : View) (device : DeviceId) (value : ℤ) (t : ℕ) (front : List Happening) → AreBeforeCorrections v t front
     → Reaches v.scenario v.records device value t → Reaches v.scenario front device value t
-reaches_front v device value t front before reaches =
-    let time = ap (λ (hs : List Happening). option_map_or time_of (last_setting hs device) 0) (sym (earlier_before v t front before)) in
-    let left = ap (λ (a : Units). a.0) (sym (same_adjustment v device t front before)) in
-    record {
-      below =
-          subst (λ (x : ℕ). (pos (v.scenario.reading device x) +ℤ (adjustment_before v.scenario front device t).0) <ℤ value) time
-          (subst (λ (a : ℤ). (pos (v.scenario.reading device (changed_at v.records device t)) +ℤ a) <ℤ value) left reaches.below);
-      reach =
-          subst (λ (x : ℕ). IsReach (v.scenario.reading device) (pos x) (value -ℤ (adjustment_before v.scenario front device t).0) (pos t)) time
-          (subst (λ (a : ℤ). IsReach (v.scenario.reading device) (pos (changed_at v.records device t)) (value -ℤ a) (pos t)) left reaches.reach);
-    }
+reaches_front v device value t front before = reaches_by v.scenario v.records front device value t (sym (earlier_before v t front before))

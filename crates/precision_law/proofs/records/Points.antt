@@ -1,10 +1,10 @@
 -- The records of a view with those before them, and the correction points that they come of.
 use Rattle.precision_law.proofs.words.Std.{◌++◌, ◌+ℤ◌, ◌+◌, ◌-ℤ◌, ◌<ℤ◌, ◌<◌, ◌∙◌, ◌∷◌, ◌≡◌, ◌≤◌, ◌⊎◌, Bool, List, None, Option, Some, [], ap, append-nil, arith, false, filter, filter-append, if◌then◌else◌, inl, inr, last_or, le-ltb, nat_lt, option_map_or, pos, refl, subst, sym, true, ℕ, ℤ}
 use Rattle.precision_law.proofs.words.Plans.{DeviceId, Integrating, IsReach, Off, State, Units, Verdict, point_in}
-use Rattle.precision_law.proofs.words.Runs.{ComesToCorrection, Happening, IsFoundedAt, IsIn, Reaches, adjustment_after, adjustment_before, changed_at, changes_adjustment, earlier, in_filter, is_turned_on_at, none_kept, state_after, state_before, time_of}
+use Rattle.precision_law.proofs.words.Runs.{ComesToCorrection, Happening, IsFoundedAt, IsIn, Reaches, Scenario, adjustment_after, adjustment_before, changed_at, changes_adjustment, earlier, in_filter, is_turned_on_at, none_kept, state_after, state_before, time_of}
 use Rattle.precision_law.proofs.words.Laws.{AreBeforeCorrections, IsView, View, has_time, last_setting, state_left}
 use Rattle.precision_law.proofs.records.Cutting.{of_earlier}
-use Rattle.precision_law.proofs.records.Times.{AreSorted, in_earlier, passes}
+use Rattle.precision_law.proofs.records.Times.{AreSorted, earlier_front, in_earlier, passes}
 use Rattle.precision_law.proofs.records.Views.{in_order}
 
 -- ---- records with those before them
@@ -38,10 +38,7 @@ before_of v h is at =
 
 -- they have all earlier records
 pub earlier_before : (v : View) (t : ℕ) (front : List Happening) → AreBeforeCorrections v t front → earlier t front ≡ earlier t v.records
-earlier_before v t front split =
-    let none : earlier t split.rest ≡ [] = none_kept (λ h. nat_lt (time_of h) t) split.rest (λ h i. le-ltb (time_of h) t (split.later h i)) in
-    sym (append-nil (earlier t front)) ∙ ap (λ (gs : List Happening). earlier t front ++ gs) (sym none)
-    ∙ sym (filter-append (λ h. nat_lt (time_of h) t) front split.rest) ∙ ap (earlier t) (sym split.whole)
+earlier_before v t front split = earlier_front t front split.rest split.later ∙ ap (earlier t) (sym split.whole)
 
 -- ---- correction points
 
@@ -107,19 +104,21 @@ setting_is v device t h e =
           record { there = back.0; early = back.1; sets = passes sets (earlier t v.records) h i }
     ]
 
--- ---- what a clock reaches, given the records before
+-- ---- what a clock reaches
+
+-- it depends on the earlier records
+pub reaches_by : (s : Scenario) (hs gs : List Happening) (device : DeviceId) (value : ℤ) (t : ℕ) → earlier t hs ≡ earlier t gs
+    → Reaches s hs device value t → Reaches s gs device value t
+reaches_by s hs gs device value t same reaches = record {
+  below =
+      subst (λ (es : List Happening). (pos (s.reading device (option_map_or time_of (last_setting es device) 0)) +ℤ (adjustment_after s es device).0) <ℤ value)
+      same reaches.below;
+  reach =
+      subst (λ (es : List Happening). IsReach (s.reading device) (pos (option_map_or time_of (last_setting es device) 0))
+      (value -ℤ (adjustment_after s es device).0) (pos t)) same reaches.reach;
+}
 
 -- where a clock reaches a value given the records before, it does given all
 pub reaches_whole : (v : View) (device : DeviceId) (value : ℤ) (t : ℕ) (front : List Happening) → AreBeforeCorrections v t front
     → Reaches v.scenario front device value t → Reaches v.scenario v.records device value t
-reaches_whole v device value t front split reaches =
-    let time = ap (λ (hs : List Happening). option_map_or time_of (last_setting hs device) 0) (earlier_before v t front split) in
-    let left = ap (λ (a : Units). a.0) (same_adjustment v device t front split) in
-    record {
-      below =
-          subst (λ (x : ℕ). (pos (v.scenario.reading device x) +ℤ (adjustment_before v.scenario v.records device t).0) <ℤ value) time
-          (subst (λ (a : ℤ). (pos (v.scenario.reading device (changed_at front device t)) +ℤ a) <ℤ value) left reaches.below);
-      reach =
-          subst (λ (x : ℕ). IsReach (v.scenario.reading device) (pos x) (value -ℤ (adjustment_before v.scenario v.records device t).0) (pos t)) time
-          (subst (λ (a : ℤ). IsReach (v.scenario.reading device) (pos (changed_at front device t)) (value -ℤ a) (pos t)) left reaches.reach);
-    }
+reaches_whole v device value t front split = reaches_by v.scenario front v.records device value t (earlier_before v t front split)

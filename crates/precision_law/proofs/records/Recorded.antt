@@ -3,7 +3,7 @@ use Rattle.precision_law.proofs.words.Std.{◌&&◌, ◌++◌, ◌+ℤ◌, ◌+�
 use Rattle.precision_law.proofs.words.Plans.{AsyncClique, Corrected, DeviceId, HasVerdict, Hearing, Integrating, IsAtIntegration, Off, Standing, State, Summarizes, Summary, SyncClique, Units, Verdict, point_in}
 use Rattle.precision_law.proofs.words.Runs.{ChangesState, ComesToCorrection, Happening, IsBefore, IsDue, IsFounded, IsIn, IsSplit, Note, NoteBody, Reaches, Why, adjustment_after, adjustment_before, chain, changes_adjustment, correction_value, due_is_there, earlier, front_founded, happening, has_cleared, heard_since, hearing_by, in_filter, in_parts, in_right, integration_cycle, is_turned_on_at, next_cycle, place_of, plan_of, rank, recorded_cycle, split, standing_before, state_after, time_of}
 use Rattle.precision_law.proofs.words.Laws.{AreBeforeCorrections, HasTimeAt, IsPointRecord, IsView, NoneTurnsOn, PointsAreRecorded, View, has_time}
-use Rattle.precision_law.proofs.words.Clocks.{PartsAtLast, after_last_at, after_last_none, after_more, all_of, before_place, cleared_by, earlier_before, good_is_correct, none, parts_at_last, reaches_front, same_cleared, same_kept, same_next, some}
+use Rattle.precision_law.proofs.words.Clocks.{PartsAtLast, after_last_at, after_last_none, after_more, all_of, before_place, cleared_by, due_there, earlier_before, good_is_correct, next_note, none, parts_at_last, reaches_front, same_cleared, same_kept, same_next, some}
 use Rattle.run_law.specs.declared.judgement.Why.TheVariants as whys
 use Rattle.run_law.specs.declared.note.NoteBody.TheVariants as notes
 use Rattle.precision_law.proofs.verdict.Verdicts.{summary_of, verdict_of}
@@ -134,24 +134,23 @@ parts_of v device u is =
 corrected_there : (v : View) (device : DeviceId) (u : ℕ) (cycle : ℕ) (by : Units) (at : IsSplit place_of v.records (u ∷ 6 ∷ device.0 ∷ [])) → IsView v
     → u ≤ v.until → ComesToCorrection v.scenario at.front device u cycle (Corrected by) → (h : Happening) × IsPointRecord v device u h
 corrected_there v device u cycle by at is le comes =
-    let s = v.scenario in
-    let adjustment : Units = record { 0 = (adjustment_before s at.front device u).0 +ℤ by.0 } in
-    let note : Note = record { number = length at.front + 1; time = record { 0 = pos u }; body = notes.Corrected device cycle by adjustment } in
-    let x : Happening = happening s.network at.front note in
-    let due : IsDue s at.front x = record { number = refl; same = refl; begun = omega (arith, ints); cause = record { corrected = comes; sum = refl } } in (
-      x,
-      record { there = due_is_there s ((v.until + 1) ∷ []) v.records x at is.run due (inl (omega arith)); at = refl; says = inl (cycle, by, adjustment, refl) },
+    let adjustment : Units = record { 0 = (adjustment_before v.scenario at.front device u).0 +ℤ by.0 } in
+    let body : NoteBody = notes.Corrected device cycle by adjustment in (
+      happening v.scenario.network at.front (next_note at.front u body),
+      record {
+        there = due_there v u body (u ∷ 6 ∷ device.0 ∷ []) at is le refl (record { corrected = comes; sum = refl });
+        at = refl;
+        says = inl (cycle, by, adjustment, refl);
+      },
     )
 
 -- and that of the loss of the time
 lost_there : (v : View) (device : DeviceId) (u : ℕ) (why : Why) (at : IsSplit place_of v.records (u ∷ 7 ∷ device.0 ∷ 0 ∷ [])) → IsView v → u ≤ v.until
     → ChangesState v.scenario at.front device u Integrating 0 why → (h : Happening) × IsPointRecord v device u h
 lost_there v device u why at is le changes =
-    let note : Note = record { number = length at.front + 1; time = record { 0 = pos u }; body = notes.State device Integrating 0 why } in
-    let x : Happening = happening v.scenario.network at.front note in
-    let due : IsDue v.scenario at.front x = record { number = refl; same = refl; begun = omega (arith, ints); cause = changes } in (
-      x,
-      record { there = due_is_there v.scenario ((v.until + 1) ∷ []) v.records x at is.run due (inl (omega (arith, le))); at = refl; says = inr (0, why, refl) },
+    let body : NoteBody = notes.State device Integrating 0 why in (
+      happening v.scenario.network at.front (next_note at.front u body),
+      record { there = due_there v u body (u ∷ 7 ∷ device.0 ∷ 0 ∷ []) at is le refl changes; at = refl; says = inr (0, why, refl) },
     )
 
 pub points_are_recorded : NoneTurnsOn → PointsAreRecorded
