@@ -197,7 +197,8 @@ is_collected v cm arrival link frame point q is one r at fine =
     kept : (verdict : Judgement)
         → IsCollectionOutcome v.scenario.network (points_of at.front cm) (point_at point (master_of frame.members.0) frame.cycle) (ripe_as verdict)
         → (verdict : Judgement) × IsRipeRecord v cm arrival link point q verdict frame
-    kept verdict so = (verdict, is_recorded v cm arrival link frame point q verdict is r at (if_true (is_cm v.scenario.network cm) _ _ one (becomes _ verdict fine so)))
+    kept verdict so =
+        (verdict, is_recorded v cm arrival link frame point q verdict is r at (if_true (is_cm v.scenario.network cm) _ _ one (becomes _ verdict fine so)))
 
     by : (clusters : List Cluster) → AreClusters (observation_window v.scenario.network) (points_of at.front cm) clusters → (t : Taken)
         → role clusters (point_at point (master_of frame.members.0) frame.cycle) ≡ t

@@ -26,5 +26,5 @@ pub use Rattle.precision_law.proofs.trips.Ascents.{child_by, frames_up_are_of_ma
 pub use Rattle.precision_law.proofs.trips.Carried.{trip_says}
 pub use Rattle.precision_law.proofs.trips.Descents.{IsCarried, child_channel, child_down, child_not_parent, emission_shows, frames_down_are_of_cms, never_timed, parent_by, receiver_down, receiver_up, same_cycle, trip_more}
 pub use Rattle.precision_law.proofs.trips.Links.{HasGone, IsGivenOn, arrives_at, goes_over, leaves_at, takes_at_most}
-pub use Rattle.precision_law.proofs.trips.Paths.{TakesWith, arrived_frame, leaving_is, leg_hop, taken_young}
+pub use Rattle.precision_law.proofs.trips.Paths.{TakesWith, arrived_frame, clocked, frame_is, leaving_is, leg_hop, numbered_all, taken_as, taken_sound}
 pub use Rattle.precision_law.proofs.trips.Sound.{IsClean, IsReady, budget, no_fault, sound_switch_on, will_be_permanent}
