@@ -49,10 +49,14 @@ any_is {X} P (x ∷ xs) any = elim (any_parts P x xs any) as (λ _. (y : X) × I
 
 -- ---- roles and states
 
+-- what passes the test is there
+pub passed : {X : Type 0} (test : X → Bool) (o : Option X) → option_map_or test o false ≡ true → (x : X) × (o ≡ Some x) × (test x ≡ true)
+passed test None e = absurd cc
+passed test (Some x) e = (x, refl, e)
+
 -- a device of which this holds is there
 pub device_of : (f : Role → Bool) (o : Option Device) → option_map_or (λ d. f d.role) o false ≡ true → (d : Device) × (o ≡ Some d) × (f d.role ≡ true)
-device_of f None e = absurd cc
-device_of f (Some d) e = (d, refl, e)
+device_of f o e = passed (λ (d : Device). f d.role) o e
 
 pub cm_is_no_end : (role : Role) → is_cm_role role ≡ true → is_end_system role ≡ true → ⊥
 cm_is_no_end Master a b = absurd cc

@@ -3,6 +3,7 @@ pub mod Links
 pub mod Paths
 pub mod Travels
 pub mod Upward
+pub mod Legs
 pub mod Ascents
 pub mod Descents
 pub mod Carried

@@ -3,7 +3,7 @@ use Rattle.precision_law.proofs.words.Std.{◌&&◌, ◌*ℤ◌, ◌+ℤ◌, ◌
 use Rattle.precision_law.proofs.words.Plans.{AreClusters, Cluster, Compressed, DeviceId, LinkId, Ordered, Ordered-beyond, Pcf, Point, Units, amount, beyond, cluster_of, counts, emission, end_of, firsts, from_beyond, has_master, in_cases, in_head, in_none, in_tail, int_le-true, last_but_one, mean_of, mean_of-floor, middle_of, of_cycle_within, point_at, relative}
 use Rattle.precision_law.proofs.words.Runs.{Arrival, Happening, IsArrivedRecord, IsCaused, IsDue, IsFounded, IsIn, Judgement, NoteBody, Signal, arrival_of, control, cycle_in, ends_stretch, founded_at, in_right, master_of, members_in, numbered_in, observation_window, place_of, point_by, points_of, standpoint, time_of, timed}
 use Rattle.precision_law.proofs.words.Laws.{EmissionsAreSharp, IsView, View}
-use Rattle.precision_law.proofs.words.Clocks.{IsCarried, TakesWith, behind_last, in_filter_map, int_le-is, never_timed, reach_is_sharp, room, same_device, sizes_are, steady, taken_sound}
+use Rattle.precision_law.proofs.words.Clocks.{TakesWith, behind_last, in_filter_map, int_le-is, never_timed, reach_is_sharp, room, same_device, sizes_are, steady, taken_as, taken_sound}
 use Rattle.compression.proofs.Elements.{in_filter}
 use Rattle.run_law.specs.declared.note.NoteBody.TheVariants as notes
 use Rattle.run_law.specs.declared.steps.Arrival.TheVariants as arrivals
@@ -107,13 +107,6 @@ pub contained : {X : Type 0} (xs : List X) (x : X) → Contains xs x → IsIn x 
 contained [] x at = absurd (in_none x at)
 contained (y ∷ xs) x at = elim (in_cases y x xs at) [ inl same ↦ inl (sym same) | inr more ↦ inr (contained xs x more) ]
 
--- what is taken with a frame is carried on
-takes_carried : (a : Arrival) (taken : Pcf) → TakesWith a taken → IsCarried a
-takes_carried (arrivals.Waits frame point) taken t = tt
-takes_carried (arrivals.Passes frame way) taken t = tt
-takes_carried (arrivals.PassesAndWaits frame way point) taken t = tt
-takes_carried other taken t = absurd t
-
 -- no arrival is too old
 young_by : (v : View) (hs : List Happening) (t : ℕ) (device : DeviceId) (link : LinkId) (cause : ℕ) (signal : Signal) (taken : Pcf)
     → TakesWith (arrival_of v.scenario hs device t link cause signal) taken → taken.clock ≤ amount v.scenario.network.dmax
@@ -121,20 +114,14 @@ young_by v hs t device link cause (control (Ok frame)) taken takes =
     omega (arith, taken_sound v.scenario.network device link (standpoint v.scenario hs device t) frame taken takes)
 young_by v hs t device link cause (control (Err refusal)) taken takes = absurd takes
 young_by v hs t device link cause (timed octets) taken takes =
-    absurd (never_timed v hs t device link cause octets (takes_carried (arrival_of v.scenario hs device t link cause (timed octets)) taken takes))
+    absurd (never_timed v hs t device link cause octets taken takes)
 
 pub arrival_young : (v : View) (hs : List Happening) (t : ℕ) (device : DeviceId) (link : LinkId) (cause clock : ℕ)
     → IsArrivedRecord v.scenario hs device t link cause clock → clock ≤ amount v.scenario.network.dmax
-arrival_young v hs t device link cause clock a = elim a.taken [
-  | inl comes ↦ (let y = young_by v hs t device link cause comes.signal a.frame (subst (λ (x : Arrival). TakesWith x a.frame) comes.becomes refl) in let s =
-      a.shows in omega (arith, y, s))
-  | inr (inl comes) ↦
-      (let y = young_by v hs t device link cause comes.signal a.frame (subst (λ (x : Arrival). TakesWith x a.frame) comes.becomes refl) in let s =
-      a.shows in omega (arith, y, s))
-  | inr (inr comes) ↦
-      (let y = young_by v hs t device link cause comes.signal a.frame (subst (λ (x : Arrival). TakesWith x a.frame) comes.becomes refl) in let s =
-      a.shows in omega (arith, y, s))
-]
+arrival_young v hs t device link cause clock a =
+    let x = taken_as a in
+    let young = young_by v hs t device link cause x.1.signal a.frame (subst (λ (y : Arrival). TakesWith y a.frame) x.1.becomes x.2) in
+    omega (arith, young, a.shows)
 
 -- the record gives the device this point
 pub record GivesPoint (cm : DeviceId) (k : Happening) (p : Point) : Type 0 where

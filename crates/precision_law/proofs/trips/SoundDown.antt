@@ -3,7 +3,7 @@ use Rattle.precision_law.proofs.words.Std.{◌&&◌, ◌*◌, ◌++◌, ◌+◌,
 use Rattle.precision_law.proofs.words.Plans.{Device, DeviceId, Down, IsChildOf, IsCmOf, IsDeviceOf, IsPath, IsSwitchOf, Link, LinkId, Members, Pcf, Relay, Role, Up, amount, beta_at, closed, delay_by, delay_of, delay_on, device_at, is_end_system, link_at, opened, rules_give_trees, shape_rules, target_by}
 use Rattle.precision_law.proofs.words.Runs.{Gives, Happening, IsIn, IsParentOf, NoteBody, are_others, founded_at, frame_by, integration_frame, is_end, is_parent_of, is_relay, is_relay_role, member_of, receiver_of, time_of, with_clock}
 use Rattle.precision_law.proofs.words.Laws.{AreOpenFrom, IsEmission, IsGood, IsOpen, IsSoundSwitch, IsTrip, IsView, Leg, SoundFramesGoDown, View, clock_in, links_back}
-use Rattle.precision_law.proofs.words.Clocks.{IsClean, IsGivenOn, IsReady, arrives_at, budget, child_down, goes_over, good_is_correct, leaves_at, no_fault, sizes_are, sound_switch_on, sound_ways_are_whole, switches_are_good, takes_at_most, trip_more, will_be_permanent}
+use Rattle.precision_law.proofs.words.Clocks.{IsClean, IsGivenOn, IsReady, arrives_at, budget, child_ways, goes_over, good_is_correct, leaves_at, no_fault, sizes_are, sound_switch_on, sound_ways_are_whole, switches_are_good, takes_at_most, trip_more, will_be_permanent}
 use Rattle.run_law.specs.declared.note.NoteBody.TheVariants as notes
 use Rattle.precision_law.proofs.hearing.Timely.{emission_clock, emission_gives, path_member}
 use Rattle.precision_law.proofs.trips.SoundUp.{child_relays, one_cm, path_fits}
@@ -72,7 +72,7 @@ go_down (link ∷ rest) v first cm device cycle members is e one path good ready
     let child : IsChildOf n device link = closed (λ (x : Link). x.child ≡ device) (link_at n link) l.0 l.1 l.2.0 in
     let parent : IsParentOf n sender link = closed (λ (x : Link). x.parent ≡ sender) (link_at n link) l.0 l.1 refl in
     let is_parent = ap (λ (o : Option Link). option_map_or (λ k. k.parent.0 == sender.0) o false) l.1 ∙ eq-eqb sender.0 sender.0 refl in
-    let on_way = child_down v device link is child in
+    let on_way = (child_ways v device link is child).0 in
     let to : receiver_of n link Down ≡ Some device = ap (λ (o : Option Link). option_map (target_by Down) o) l.1 ∙ ap (λ (x : DeviceId). Some x) l.2.0 in
     let delay = sum_by-cons (delay_of n) link rest ∙ ap (λ (x : ℕ). x + delay_on n rest) (ap (λ (o : Option Link). option_map_or delay_by o 0) l.1) in
     let takes = takes_at_most v Down link l.0 (time_of r) is l.1 in

@@ -3,7 +3,7 @@ use Rattle.precision_law.proofs.words.Std.{◌&&◌, ◌*◌, ◌+◌, ◌==◌,
 use Rattle.precision_law.proofs.words.Plans.{A, B, Channel, Cm, CompressionMasters, Device, DeviceId, Down, IsChildOf, IsCmOf, IsDeviceInRange, IsDeviceOf, IsPath, IsSwitchOf, Joints, Link, LinkId, Master, Pcf, Relay, Role, Up, all_at, amount, beta_at, closed, delay_by, delay_of, delay_on, device_at, is_end_system, is_master, link_at, margins, opened, rules_give_trees, shape_rules, target_by}
 use Rattle.precision_law.proofs.words.Runs.{Gives, Happening, IsCaused, IsIn, IsParentOf, NoteBody, are_others, dispatched_frame, founded_at, frame_by, is_end, is_of_other_member, is_parent_of, is_relay, is_relay_role, member_of, receiver_of, same_some, time_of, with_clock}
 use Rattle.precision_law.proofs.words.Laws.{AreOpenFrom, IsBrought, IsGood, IsSoundSwitch, IsTrip, IsView, Leg, SoundFramesGoUp, View, clock_in}
-use Rattle.precision_law.proofs.words.Clocks.{HasGone, IsClean, IsGivenOn, arrives_at, budget, child_down, device_of, goes_over, good_is_correct, leaves_at, master_ends, master_member, no_fault, receiver_up, sizes_are, sound_switch_on, sound_ways_are_whole, switches_are_good, takes_at_most, will_be_permanent}
+use Rattle.precision_law.proofs.words.Clocks.{HasGone, IsClean, IsGivenOn, arrives_at, budget, child_ways, device_of, goes_over, good_is_correct, leaves_at, master_ends, master_member, no_fault, receiver_up, receiver_way, sizes_are, sound_switch_on, sound_ways_are_whole, switches_are_good, takes_at_most, will_be_permanent}
 use Rattle.run_law.specs.declared.note.NoteBody.TheVariants as notes
 use Rattle.precision_law.proofs.compression.Made.{dispatch_clock}
 use Rattle.precision_law.proofs.trips.Upward.{path_up, trips_up_take_dmax}
@@ -35,10 +35,6 @@ child_relays v device channel link l is at child switch =
           ap (λ (o : Option Device). option_map_or (λ x. is_relay_role x.role) o false) e.1 ∙ ap is_relay_role e.2.0
     ] in
     ap (is_relay n) (sym child) ∙ relays
-
-turned : (b : Bool) → (if b then Up else Down) ≡ Down → (if b then Down else Up) ≡ Up
-turned true e = absurd cc
-turned false e = refl
 
 last_false : (a b c : Bool) → (b ≡ true → c ≡ false) → (a && b && c) ≡ false
 last_false true true c f = f refl
@@ -102,8 +98,8 @@ step_up v t0 link rest r frame sender d k is c opens in_run =
       of_frame = c.of_frame;
       gives = c.gives;
       there = l.1;
-      from_way = turned (is_parent_of n sender link) (child_down v sender link is child);
-      on_way = receiver_up n link receiver to;
+      from_way = (child_ways v sender link is child).1;
+      on_way = receiver_way v link receiver Up is to;
       comes_to = to;
       correct = good_is_correct v sender (leaves_at v.scenario link Up (time_of r)) c.good (omega (arith, takes.1, within));
       whole =

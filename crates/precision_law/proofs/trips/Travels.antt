@@ -1,9 +1,9 @@
 -- What the legs of a trip add up to, and the path that they go.
 use Rattle.precision_law.proofs.words.Std.{◌+◌, ◌==◌, ◌∙◌, ◌∷◌, ◌≡◌, ◌≤◌, All, All-cons, All-nil, List, Option, Some, [], ap, arith, eqb-true, false, fold, length, option_and_then, option_map, option_map_or, refl, subst, suc, sum_by, sum_by-cons, sym, true, ℕ}
-use Rattle.precision_law.proofs.words.Plans.{Channel, Device, DeviceId, Down, Hop, IsHop, IsPath, IsSwitchOf, Link, LinkId, Network, Way, amount, closed, device_at, growth, jitter_of, jitter_on, link_at, target_by, travel}
-use Rattle.precision_law.proofs.words.Runs.{Gives, Happening, IsCaused, NoteBody, channel_of, founded_at, is_parent_of, is_relay, time_of}
+use Rattle.precision_law.proofs.words.Plans.{Channel, Device, DeviceId, Down, Hop, IsHop, IsPath, IsSwitchOf, Link, LinkId, Network, Way, amount, closed, device_at, growth, jitter_of, jitter_on, link_at, opened, target_by, travel}
+use Rattle.precision_law.proofs.words.Runs.{Gives, Happening, IsCaused, NoteBody, channel_of, founded_at, is_parent_of, is_relay, same_some, time_of}
 use Rattle.precision_law.proofs.words.Laws.{IsLeg, IsTrip, IsView, Leg, View, clock_in, links_back}
-use Rattle.precision_law.proofs.words.Clocks.{child_channel, leg_hop, parent_by}
+use Rattle.precision_law.proofs.words.Clocks.{child_channel, gives_down, leg_hop}
 use Rattle.run_law.specs.declared.note.NoteBody.TheVariants as notes
 use Rattle.precision_law.proofs.block.Joins.{arrival_link}
 use Rattle.precision_law.proofs.Plain.{reached}
@@ -99,9 +99,8 @@ pub leg_down : (v : View) (leg : Leg) → IsView v → (l : IsLeg v Down leg) �
 leg_down v leg is l =
     let link = leg_link v Down leg is l in
     let to : Some link.0.child ≡ Some l.receiver = ap (λ (o : Option Link). option_map (target_by Down) o) (sym link.1) ∙ l.comes_to in
-    let parent = parent_by (is_parent_of v.scenario.network l.sender leg.link) l.from_way in
-    let shown = sym (ap (λ (o : Option Link). option_map_or (λ k. k.parent.0 == l.sender.0) o false) link.1) ∙ parent in
-    (link.0, link.1, cc, ap (λ (i : ℕ). let d : DeviceId = record { 0 = i } in d) (eqb-true link.0.parent.0 l.sender.0 shown))
+    let p = opened (λ (k : Link). k.parent ≡ l.sender) (link_at v.scenario.network leg.link) (gives_down v.scenario.network l.sender leg.link l.from_way) in
+    (link.0, link.1, cc, ap (λ (k : Link). k.parent) (same_some _ _ _ link.1 p.1) ∙ p.2)
 
 -- what gives a frame down is of the channel, and has this path
 pub record GivesDown (v : View) (channel : Channel) (first : Happening) (giver : DeviceId) (links : List LinkId) : Type 0 where

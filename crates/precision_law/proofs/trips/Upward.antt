@@ -3,7 +3,7 @@ use Rattle.precision_law.proofs.words.Std.{◌∙◌, ◌∷◌, ◌≡◌, List
 use Rattle.precision_law.proofs.words.Plans.{Channel, Cm, Device, DeviceId, Down, IsChildOf, IsCmOf, IsPath, IsReach, IsSwitchOf, Link, LinkId, Network, Up, Way, amount, closed, device_at, jitter_of, jitter_on, link_at, opened, point_of, target_by, waits_for_point}
 use Rattle.precision_law.proofs.words.Runs.{Gives, Happening, NoteBody, channel_of, is_parent_of, is_relay, same_some, time_of}
 use Rattle.precision_law.proofs.words.Laws.{IsInTime, IsLeg, IsPermanentAt, IsTrip, IsView, Leg, TripsDownTakeDmax, TripsUpTakeDmax, View, clock_in, links_back, links_of}
-use Rattle.precision_law.proofs.words.Clocks.{child_by, child_channel, shown_parent, sizes_are}
+use Rattle.precision_law.proofs.words.Clocks.{child_channel, parent_ways, sizes_are}
 use Rattle.run_law.specs.declared.note.NoteBody.TheVariants as notes
 use Rattle.precision_law.proofs.hearing.Timely.{trip_in_time}
 use Rattle.precision_law.proofs.trips.Travels.{jitter_back, jitter_of_legs, last_young, leg_link, many_back, switch_of}
@@ -83,8 +83,7 @@ path_from v channel g last (leg ∷ legs) cm relay by to c d t u is one trip end
         → Gives v.scenario.network (notes.Arrived relay by c t) l.sender leg.link → IsChildOf v.scenario.network l.sender leg.link
     passes_up v leg relay by is l gives = elim gives.1.on [
       | inl up ↦ up.1
-      | inr down ↦ absurd (both_ways (is_parent_of v.scenario.network l.sender leg.link)
-          (child_by (is_parent_of v.scenario.network l.sender leg.link) l.from_way) (shown_parent v l.sender leg.link down.1))
+      | inr down ↦ (let wrong : Down ≡ Up = sym (parent_ways v.scenario.network l.sender leg.link down.1).1 ∙ l.from_way in absurd cc)
     ]
 
 -- the links of a trip up from a master are its path

@@ -22,9 +22,10 @@ pub use Rattle.precision_law.proofs.records.Points.{IsSetting, before_of, earlie
 pub use Rattle.precision_law.proofs.records.Times.{AreSorted, between, in_earlier, in_kept, is_between, last_some, passes, same_kept}
 pub use Rattle.precision_law.proofs.records.Views.{in_order, room, sizes_are, steady}
 pub use Rattle.precision_law.proofs.sizes.Instants.{corrections_come_first, cycles_are_few, frames_come_first, hulls_go_on, instants_are_in_order, set_clocks_stay_at_correction}
-pub use Rattle.precision_law.proofs.trips.Ascents.{child_by, frames_up_are_of_masters, master_member, shown_parent}
+pub use Rattle.precision_law.proofs.trips.Ascents.{frames_up_are_of_masters, master_member, never_timed}
 pub use Rattle.precision_law.proofs.trips.Carried.{trip_says}
-pub use Rattle.precision_law.proofs.trips.Descents.{IsCarried, child_channel, child_down, child_not_parent, emission_shows, frames_down_are_of_cms, never_timed, parent_by, receiver_down, receiver_up, same_cycle, trip_more}
+pub use Rattle.precision_law.proofs.trips.Descents.{emission_shows, frames_down_are_of_cms}
+pub use Rattle.precision_law.proofs.trips.Legs.{child_channel, child_not_parent, child_ways, gives_down, parent_ways, receiver_down, receiver_up, receiver_way, same_cycle, trip_more}
 pub use Rattle.precision_law.proofs.trips.Links.{HasGone, IsGivenOn, arrives_at, goes_over, leaves_at, takes_at_most}
 pub use Rattle.precision_law.proofs.trips.Paths.{TakesWith, arrived_frame, clocked, frame_is, leaving_is, leg_hop, numbered_all, taken_as, taken_sound}
 pub use Rattle.precision_law.proofs.trips.Sound.{IsClean, IsReady, budget, no_fault, sound_switch_on, will_be_permanent}
