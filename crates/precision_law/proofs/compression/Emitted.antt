@@ -6,7 +6,6 @@ use Rattle.precision_law.proofs.words.Laws.{EmissionsAreSharp, IsView, View}
 use Rattle.precision_law.proofs.words.Clocks.{TakesWith, behind_last, in_filter_map, int_le-is, never_timed, reach_is_sharp, room, same_device, sizes_are, steady, taken_as, taken_sound}
 use Rattle.compression.proofs.Elements.{in_filter}
 use Rattle.run_law.specs.declared.note.NoteBody.TheVariants as notes
-use Rattle.run_law.specs.declared.steps.Arrival.TheVariants as arrivals
 
 -- ---- middles
 

@@ -3,7 +3,7 @@ use Rattle.precision_law.proofs.words.Std.{◌^◌, ◌∙◌, ◌∷◌, ◌≡
 use Rattle.precision_law.proofs.words.Plans.{Device, DeviceId, Down, IsChildOf, Joints, Link, LinkId, Master, Pcf, Relay, Role, Units, Up, Way, amount, device_at, is_end_system, link_at, opened, point_of}
 use Rattle.precision_law.proofs.words.Runs.{Happening, IsArrivedRecord, IsCaused, IsIn, Judgement, cycle_in, founded_at, frame_by, in_left, is_cm, is_cm_role, master_of, members_in, numbered_in, receiver_of, same_some, time_of, way_to}
 use Rattle.precision_law.proofs.words.Laws.{IsPermanentAt, IsRipe, IsView, View, clock_in}
-use Rattle.precision_law.proofs.words.Clocks.{cm_is_no_end, device_of, natural, permanence_is_sharp, receiver_down, receiver_up, receiver_way, sizes_are, steady, taken_as}
+use Rattle.precision_law.proofs.words.Clocks.{cm_is_no_end, device_of, natural, permanence_is_sharp, receiver_down, receiver_way, sizes_are, steady, taken_as}
 use Rattle.run_law.specs.declared.note.NoteBody.TheVariants as notes
 use Rattle.precision_law.proofs.compression.Emitted.{arrival_young}
 use Rattle.precision_law.proofs.hearing.Timely.{arrived_clock}

@@ -1,9 +1,9 @@
 -- The points of a compression master as records come.
-use Rattle.precision_law.proofs.words.Std.{◌++◌, ◌-◌, ◌<◌, ◌∙◌, ◌∷◌, ◌≡◌, ◌≤ℤ◌, ◌≤◌, ◌⊎◌, Bool, List, None, Option, Some, [], after_last, ap, append_assoc, arith, cons_option, false, filter_map, filter_map-append, inl, inr, ints, not, not_from_false, pos, refl, subst, sym, true, ℕ, ℤ}
+use Rattle.precision_law.proofs.words.Std.{◌++◌, ◌-◌, ◌<◌, ◌∙◌, ◌∷◌, ◌≡◌, ◌≤ℤ◌, ◌≤◌, ◌⊎◌, Bool, List, None, Option, Some, [], after_last, ap, append_assoc, arith, cons_option, filter_map, filter_map-append, inl, inr, ints, pos, refl, subst, sym, ℕ, ℤ}
 use Rattle.precision_law.proofs.words.Plans.{DeviceId, Ordered, Point, amount}
-use Rattle.precision_law.proofs.words.Runs.{Happening, IsBefore, IsCaused, IsDue, IsFounded, IsIn, NoteBody, behind_first, ends_stretch, founded_at, in_left, in_parts, in_right, key, members_in, numbered_in, place_of, point_by, points_of, rank, time_of}
+use Rattle.precision_law.proofs.words.Runs.{Happening, IsBefore, IsCaused, IsDue, IsFounded, IsIn, NoteBody, behind_first, ends_stretch, founded_at, in_left, in_right, key, members_in, numbered_in, place_of, point_by, points_of, rank, time_of}
 use Rattle.precision_law.proofs.words.Laws.{IsRipe, IsView, View}
-use Rattle.precision_law.proofs.words.Clocks.{PartsAtLast, after_last_at, after_last_none, after_more, all_by, all_of, behind_last, in_filter_map, not_each, parts_at_last, permanence_is_sharp, ripe_in_order, steady}
+use Rattle.precision_law.proofs.words.Clocks.{PartsAtLast, after_last_at, after_more, all_by, behind_last, in_filter_map, not_each, parts_at_last, permanence_is_sharp, ripe_in_order, steady}
 use Rattle.run_law.specs.declared.note.NoteBody.TheVariants as notes
 use Rattle.precision_law.proofs.compression.Emitted.{GivesPoint, arrival_young, gives_point}
 use Rattle.precision_law.proofs.records.Behind.PartsAtLast.{none, some}

@@ -1,5 +1,5 @@
 -- What stands behind the last element of a kind.
-use Rattle.precision_law.proofs.words.Std.{◌++◌, ◌+◌, ◌-◌, ◌∙◌, ◌∷◌, ◌≡◌, All, All-append, All-cons, All-head, All-nil, All-tail, Bool, List, None, Option, Some, [], after_last, ap, append-nil, append_assoc, arith, cond-false, cond-true, cons_option, drop, drop_at, false, filter_map, inl, inr, length, length-append, not, not_from_false, not_from_true, prefix_len, refl, reverse, subst, suffix_len, sym, true, zero-add}
+use Rattle.precision_law.proofs.words.Std.{◌++◌, ◌+◌, ◌-◌, ◌∙◌, ◌∷◌, ◌≡◌, All, All-append, All-cons, All-head, All-nil, All-tail, Bool, List, None, Option, Some, [], after_last, ap, append-nil, append_assoc, arith, cond-false, cond-true, cons_option, drop, drop_at, false, filter_map, inl, inr, length, length-append, not, not_from_true, prefix_len, refl, reverse, subst, suffix_len, sym, true, zero-add}
 use Rattle.precision_law.proofs.words.Runs.{IsIn, in_parts}
 use Rattle.std.proofs.lemmas.List.{length-reverse, length_push, reverse-append}
 

@@ -1,6 +1,6 @@
 -- A run up to an earlier time.
-use Rattle.precision_law.proofs.words.Std.{◌++◌, ◌+◌, ◌<◌, ◌∙◌, ◌∷◌, ◌≡◌, ◌≤◌, List, [], ap, append-nil, append_assoc, arith, cases_lt, filter-append, inl, inr, le-ltb, lt-ltb, nat_lt, subst, sym, ℕ}
-use Rattle.precision_law.proofs.words.Runs.{Happening, IsBefore, IsDue, IsFounded, IsIn, IsRun, IsSplit, Scenario, chain, earlier, earlier_time, front_founded, in_front_of, in_left, in_parts, key, members_in, none_kept, place_of, rank, split, time_of}
+use Rattle.precision_law.proofs.words.Std.{◌++◌, ◌+◌, ◌<◌, ◌∙◌, ◌∷◌, ◌≡◌, ◌≤◌, List, [], ap, append_assoc, arith, cases_lt, inl, inr, lt-ltb, nat_lt, subst, sym, ℕ}
+use Rattle.precision_law.proofs.words.Runs.{Happening, IsBefore, IsDue, IsFounded, IsIn, IsRun, IsSplit, Scenario, chain, earlier, earlier_time, front_founded, in_front_of, in_left, in_parts, key, members_in, place_of, rank, split, time_of}
 use Rattle.precision_law.proofs.words.Laws.{Covers}
 use Rattle.precision_law.proofs.records.Times.{all_kept, earlier_front}
 

@@ -1,9 +1,9 @@
 -- The records before a place of a time, and what clocks reach by them.
-use Rattle.precision_law.proofs.words.Std.{◌+ℤ◌, ◌-ℤ◌, ◌<ℤ◌, ◌∷◌, List, ap, cases_lt, inl, inr, option_map_or, pos, subst, sym, ℕ, ℤ}
-use Rattle.precision_law.proofs.words.Plans.{DeviceId, IsReach, Units}
-use Rattle.precision_law.proofs.words.Runs.{Happening, IsSplit, Reaches, adjustment_before, changed_at, key, members_in, place_of, rank, time_of}
-use Rattle.precision_law.proofs.words.Laws.{AreBeforeCorrections, View, last_setting}
-use Rattle.precision_law.proofs.records.Points.{earlier_before, reaches_by, same_adjustment}
+use Rattle.precision_law.proofs.words.Std.{◌∷◌, List, cases_lt, inl, inr, sym, ℕ, ℤ}
+use Rattle.precision_law.proofs.words.Plans.{DeviceId}
+use Rattle.precision_law.proofs.words.Runs.{Happening, IsSplit, Reaches, key, members_in, place_of, rank, time_of}
+use Rattle.precision_law.proofs.words.Laws.{AreBeforeCorrections, View}
+use Rattle.precision_law.proofs.records.Points.{earlier_before, reaches_by}
 use Rattle.precision_law.proofs.Plain.{no_later}
 
 -- where records part at a place of a time

@@ -1,7 +1,7 @@
 -- The records of a view with those before them, and the correction points that they come of.
-use Rattle.precision_law.proofs.words.Std.{◌++◌, ◌+ℤ◌, ◌+◌, ◌-ℤ◌, ◌<ℤ◌, ◌<◌, ◌∙◌, ◌∷◌, ◌≡◌, ◌≤◌, ◌⊎◌, Bool, List, None, Option, Some, [], ap, append-nil, arith, false, filter, filter-append, if◌then◌else◌, inl, inr, last_or, le-ltb, nat_lt, option_map_or, pos, refl, subst, sym, true, ℕ, ℤ}
-use Rattle.precision_law.proofs.words.Plans.{DeviceId, Integrating, IsReach, Off, State, Units, Verdict, point_in}
-use Rattle.precision_law.proofs.words.Runs.{ComesToCorrection, Happening, IsFoundedAt, IsIn, Reaches, Scenario, adjustment_after, adjustment_before, changed_at, changes_adjustment, earlier, in_filter, is_turned_on_at, none_kept, state_after, state_before, time_of}
+use Rattle.precision_law.proofs.words.Std.{◌++◌, ◌+ℤ◌, ◌+◌, ◌-ℤ◌, ◌<ℤ◌, ◌<◌, ◌∙◌, ◌∷◌, ◌≡◌, ◌≤◌, ◌⊎◌, Bool, List, None, Option, Some, [], ap, arith, false, filter, if◌then◌else◌, inl, inr, last_or, option_map_or, pos, refl, subst, sym, true, ℕ, ℤ}
+use Rattle.precision_law.proofs.words.Plans.{DeviceId, Integrating, IsReach, Off, State, Verdict, point_in}
+use Rattle.precision_law.proofs.words.Runs.{ComesToCorrection, Happening, IsFoundedAt, IsIn, Reaches, Scenario, adjustment_after, adjustment_before, changes_adjustment, earlier, in_filter, is_turned_on_at, state_after, state_before, time_of}
 use Rattle.precision_law.proofs.words.Laws.{AreBeforeCorrections, IsView, View, has_time, last_setting, state_left}
 use Rattle.precision_law.proofs.records.Cutting.{of_earlier}
 use Rattle.precision_law.proofs.records.Times.{AreSorted, earlier_front, in_earlier, passes}

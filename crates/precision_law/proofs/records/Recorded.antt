@@ -1,9 +1,9 @@
 -- The correction points of good devices are recorded.
-use Rattle.precision_law.proofs.words.Std.{◌&&◌, ◌++◌, ◌+ℤ◌, ◌+◌, ◌<◌, ◌||◌, ◌∙◌, ◌∷◌, ◌≡◌, ◌≤◌, Bool, List, None, Option, Some, [], after_last, ap, append-nil, append_assoc, arith, cons_option, false, filter, filter-append, filter_map, filter_map-append, if◌then◌else◌, inl, inr, ints, le-ltb, length, nat_lt, not, pos, refl, subst, sym, true, ℕ}
+use Rattle.precision_law.proofs.words.Std.{◌&&◌, ◌++◌, ◌+ℤ◌, ◌+◌, ◌<◌, ◌||◌, ◌∙◌, ◌∷◌, ◌≡◌, ◌≤◌, Bool, List, None, Option, Some, [], after_last, ap, append-nil, append_assoc, arith, cons_option, filter, filter-append, filter_map, filter_map-append, if◌then◌else◌, inl, inr, le-ltb, nat_lt, not, refl, subst, sym, true, ℕ}
 use Rattle.precision_law.proofs.words.Plans.{AsyncClique, Corrected, DeviceId, HasVerdict, Hearing, Integrating, IsAtIntegration, Off, Standing, State, Summarizes, Summary, SyncClique, Units, Verdict, point_in}
-use Rattle.precision_law.proofs.words.Runs.{ChangesState, ComesToCorrection, Happening, IsBefore, IsDue, IsFounded, IsIn, IsSplit, Note, NoteBody, Reaches, Why, adjustment_after, adjustment_before, chain, changes_adjustment, correction_value, due_is_there, earlier, front_founded, happening, has_cleared, heard_since, hearing_by, in_filter, in_parts, in_right, integration_cycle, is_turned_on_at, next_cycle, place_of, plan_of, rank, recorded_cycle, split, standing_before, state_after, time_of}
+use Rattle.precision_law.proofs.words.Runs.{ChangesState, ComesToCorrection, Happening, IsBefore, IsDue, IsFounded, IsIn, IsSplit, NoteBody, Reaches, Why, adjustment_after, adjustment_before, chain, changes_adjustment, correction_value, earlier, front_founded, happening, has_cleared, heard_since, hearing_by, in_filter, in_parts, in_right, integration_cycle, is_turned_on_at, next_cycle, place_of, plan_of, rank, recorded_cycle, split, standing_before, state_after, time_of}
 use Rattle.precision_law.proofs.words.Laws.{AreBeforeCorrections, HasTimeAt, IsPointRecord, IsView, NoneTurnsOn, PointsAreRecorded, View, has_time}
-use Rattle.precision_law.proofs.words.Clocks.{PartsAtLast, after_last_at, after_last_none, after_more, all_of, before_place, cleared_by, due_there, earlier_before, good_is_correct, next_note, none, parts_at_last, reaches_front, same_cleared, same_kept, same_next, some}
+use Rattle.precision_law.proofs.words.Clocks.{after_more, before_place, cleared_by, due_there, earlier_before, good_is_correct, next_note, parts_at_last, reaches_front, same_cleared, same_kept, same_next}
 use Rattle.run_law.specs.declared.judgement.Why.TheVariants as whys
 use Rattle.run_law.specs.declared.note.NoteBody.TheVariants as notes
 use Rattle.precision_law.proofs.verdict.Verdicts.{summary_of, verdict_of}

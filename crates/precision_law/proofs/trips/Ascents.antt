@@ -1,13 +1,12 @@
 -- Where frames come from, leg by leg; those that go up are of masters.
-use Rattle.precision_law.proofs.words.Std.{◌&&◌, ◌++◌, ◌+◌, ◌<◌, ◌==◌, ◌^◌, ◌∙◌, ◌∷◌, ◌≡◌, ◌≤ℤ◌, ◌≤◌, ◌⊎◌, Any, Bool, Err, List, None, Ok, Option, Result, Some, [], ap, append_assoc, arith, both_ways, by_lt_z, eq-eqb, eqb-true, false, if◌then◌else◌, inl, inr, ints, le-leb, length, nat_le, nat_lt, not, not-false, option_and_then, option_map, option_map_or, pos, refl, slice_get, subst, suc, sym, true, true_from_ne_false, unwrap_or, zero, ℕ}
+use Rattle.precision_law.proofs.words.Std.{◌&&◌, ◌++◌, ◌+◌, ◌<◌, ◌==◌, ◌^◌, ◌∙◌, ◌∷◌, ◌≡◌, ◌≤ℤ◌, ◌≤◌, ◌⊎◌, Any, Bool, Err, List, None, Ok, Option, Result, Some, [], ap, append_assoc, arith, both_ways, by_lt_z, eq-eqb, eqb-true, false, if◌then◌else◌, inl, inr, ints, le-leb, length, nat_le, not-false, option_and_then, option_map_or, pos, refl, slice_get, subst, suc, sym, true, true_from_ne_false, unwrap_or, zero, ℕ}
 use Rattle.precision_law.proofs.words.Plans.{Device, DeviceId, Down, Event, IsDeviceInRange, Link, LinkId, Members, Network, Pcf, Up, Way, all_at, amount, device_at, field, is_end_system, is_master, link_at, opened}
-use Rattle.precision_law.proofs.words.Runs.{AreWithinHypothesis, Arrival, ArrivesAs, Breaks, ColdStart, Domain, Gate, Gives, Happening, IsArrivedRecord, IsCaused, IsIn, IsParentOf, Launch, Member, NotBroken, NoteBody, Old, Order, Reason, Signal, Standpoint, are_others, arrival_of, breaks_at, channel_of, channel_of_link, clock_on_arrival, control, cycle_in, events_up_to, first_reason, founded_at, frame_by, frame_fault, frame_in, frame_or_fault, has_role, in_at, in_left, is_broken, is_cold_start, is_cut, is_end, is_gate_shut, is_of_other_domain, is_of_other_member, is_parent_of, last_taken, launched, member_of, members_in, numbered, numbered_in, parted, receiver_of, same_some, signal_of, standpoint, time_of, timed, way_from, way_to, with_clock}
+use Rattle.precision_law.proofs.words.Runs.{AreWithinHypothesis, Arrival, ArrivesAs, Breaks, Gives, Happening, IsCaused, IsIn, Launch, NotBroken, NoteBody, Order, Reason, Signal, Standpoint, are_others, arrival_of, breaks_at, channel_of, channel_of_link, control, cycle_in, events_up_to, founded_at, frame_in, has_role, in_at, in_left, is_broken, is_cut, is_end, is_of_other_member, last_taken, launched, member_of, members_in, numbered, numbered_in, parted, receiver_of, same_some, signal_of, standpoint, time_of, timed, way_from, way_to}
 use Rattle.precision_law.proofs.words.Laws.{FramesUpAreOfMasters, IsBad, IsOfBad, IsOfGood, IsTrip, IsView, Leg, View}
 use Rattle.net_plan.specs.declared.event.What.TheVariants as events
 use Rattle.pcf_codec.specs.Decoding.{decoded}
 use Rattle.pcf_codec.specs.EtherType.{pcf_type}
 use Rattle.pcf_codec.specs.declared.refusal.PcfRefusal.{PcfRefusal}
-use Rattle.run_law.specs.declared.judgement.Reason.TheVariants.{Off}
 use Rattle.run_law.specs.declared.note.NoteBody.TheVariants as notes
 use Rattle.run_law.specs.declared.steps.Arrival.TheVariants as arrivals
 use Rattle.run_law.specs.law.FirstLaws.{IsEventInRange}
@@ -376,7 +375,8 @@ frames_up_are_of_masters v h switch link cause clock is i body up =
       | inl c ↦ of_master c c.first.note.body refl c.start.gives
     ]
   where
-    of_master : (c : ComesSo v Up h link) (b : NoteBody) → c.first.note.body ≡ b → Gives v.scenario.network b c.start.sender c.start.by → IsOfGood v h ⊎ IsOfBad v h
+    of_master : (c : ComesSo v Up h link) (b : NoteBody) → c.first.note.body ≡ b → Gives v.scenario.network b c.start.sender c.start.by
+        → IsOfGood v h ⊎ IsOfBad v h
     of_master c (notes.Sent master cycle) same gives =
         let at = founded_at v.scenario v.records c.first is.run.founded c.start.there in
         let m = master_member v master is (subst (IsCaused v.scenario at.front c.first.note.time) same at.due.cause).master in

@@ -1,13 +1,9 @@
 -- A frame that arrives came over a link: who gives and who receives on its ways, and the leg before a record.
-use Rattle.precision_law.proofs.words.Std.{◌++◌, ◌+◌, ◌<◌, ◌==◌, ◌∙◌, ◌∷◌, ◌≡◌, ◌⊎◌, Bool, List, None, Ok, Option, Some, [], ap, arith, eq-eqb, eqb-true, false, false_from_ne_true, if◌then◌else◌, inl, inr, length, option_and_then, option_map, option_map_or, refl, subst, suc, sym, true, zero, ℕ}
-use Rattle.precision_law.proofs.words.Plans.{Channel, Device, DeviceId, Down, IsChildOf, IsPath, IsSwitchOf, IsTree, IsUplink, Joints, Link, LinkId, Master, Members, Network, Pcf, Relay, Role, Send, Units, Up, Way, amount, closed, device_at, field, is_end_system, link_at, opened, rules_give_trees, shape_rules, target_by}
-use Rattle.precision_law.proofs.words.Runs.{Arrival, ArrivesAs, Gives, Happening, IsArrivedRecord, IsBefore, IsCaused, IsIn, IsParentOf, Judgement, Launch, NoteBody, Reason, Signal, Standpoint, arrival_of, cause_of, channel_of, channel_of_link, control, cycle_in, founded_at, frame_by, in_left, is_cut, is_end, is_parent_of, is_relay, is_relay_role, key, last_taken, launched, members_in, number_is, numbered, numbered_front, numbered_in, numbered_within, place_of, rank, receiver_of, same_some, signal_of, standpoint, time_of, timed, way_from, way_to, with_clock}
-use Rattle.precision_law.proofs.words.Laws.{FramesDownAreOfCms, IsLeg, IsOfCm, IsTrip, IsView, Leg, View}
-use Rattle.net_plan.specs.declared.ids.VlId.{VlId}
+use Rattle.precision_law.proofs.words.Std.{◌++◌, ◌<◌, ◌==◌, ◌∙◌, ◌∷◌, ◌≡◌, ◌⊎◌, Bool, List, Option, Some, [], ap, arith, eq-eqb, eqb-true, false, false_from_ne_true, if◌then◌else◌, inl, inr, option_and_then, option_map_or, refl, subst, sym, true, ℕ}
+use Rattle.precision_law.proofs.words.Plans.{Channel, Device, DeviceId, Down, IsChildOf, IsPath, IsSwitchOf, IsTree, IsUplink, Joints, Link, LinkId, Master, Network, Pcf, Relay, Role, Up, Way, closed, device_at, is_end_system, link_at, opened, rules_give_trees, shape_rules}
+use Rattle.precision_law.proofs.words.Runs.{Happening, IsBefore, IsCaused, IsIn, IsParentOf, NoteBody, cause_of, channel_of, channel_of_link, cycle_in, founded_at, in_left, is_parent_of, is_relay, is_relay_role, key, members_in, number_is, numbered, numbered_in, numbered_within, place_of, rank, receiver_of, same_some, time_of, way_from, way_to, with_clock}
+use Rattle.precision_law.proofs.words.Laws.{IsLeg, IsTrip, IsView, Leg, View}
 use Rattle.run_law.specs.declared.note.NoteBody.TheVariants as notes
-use Rattle.run_law.specs.declared.steps.Arrival.TheVariants as arrivals
-use Rattle.run_law.specs.timed.Arrivals.{entry_arrival, entry_entering, octets_fault, octets_or_fault, taken_or_fault}
-use Rattle.schedule_tables.specs.declared.entry.Entry.{Entry}
 use Rattle.precision_law.proofs.Plain.{device_of, mapped, passed}
 use Rattle.precision_law.proofs.faults.Masters.{device_of_place}
 use Rattle.precision_law.proofs.trips.Paths.{clocked, frame_is, numbered_all}

@@ -1,9 +1,9 @@
 -- The sound channel brings dispatches up to its compression master.
-use Rattle.precision_law.proofs.words.Std.{◌&&◌, ◌*◌, ◌+◌, ◌==◌, ◌^◌, ◌∙◌, ◌∷◌, ◌≡◌, ◌≤◌, ◌⊎◌, Bool, List, None, Option, Some, [], ap, arith, both_ways, eq-eqb, false, if◌then◌else◌, inl, inr, ints, is_some, length, not, not-true, option_map, option_map_or, refl, subst, suc, sum_by-cons, sym, true, unwrap_or, ℕ}
-use Rattle.precision_law.proofs.words.Plans.{A, B, Channel, Cm, CompressionMasters, Device, DeviceId, Down, IsChildOf, IsCmOf, IsDeviceInRange, IsDeviceOf, IsPath, IsSwitchOf, Joints, Link, LinkId, Master, Pcf, Relay, Role, Up, all_at, amount, beta_at, closed, delay_by, delay_of, delay_on, device_at, is_end_system, is_master, link_at, margins, opened, rules_give_trees, shape_rules, target_by}
-use Rattle.precision_law.proofs.words.Runs.{Gives, Happening, IsCaused, IsIn, IsParentOf, NoteBody, are_others, dispatched_frame, founded_at, frame_by, is_end, is_of_other_member, is_parent_of, is_relay, is_relay_role, member_of, receiver_of, same_some, time_of, with_clock}
+use Rattle.precision_law.proofs.words.Std.{◌&&◌, ◌*◌, ◌+◌, ◌==◌, ◌^◌, ◌∙◌, ◌∷◌, ◌≡◌, ◌≤◌, ◌⊎◌, Bool, List, None, Option, Some, [], ap, arith, both_ways, eq-eqb, false, inl, inr, ints, is_some, length, not, not-true, option_map, option_map_or, refl, subst, suc, sum_by-cons, sym, true, unwrap_or, ℕ}
+use Rattle.precision_law.proofs.words.Plans.{A, B, Channel, Cm, CompressionMasters, Device, DeviceId, IsChildOf, IsCmOf, IsDeviceInRange, IsDeviceOf, IsPath, IsSwitchOf, Joints, Link, LinkId, Master, Pcf, Relay, Role, Up, all_at, amount, beta_at, closed, delay_by, delay_of, delay_on, device_at, is_end_system, is_master, link_at, margins, opened, rules_give_trees, shape_rules, target_by}
+use Rattle.precision_law.proofs.words.Runs.{Gives, Happening, IsCaused, IsIn, IsParentOf, NoteBody, are_others, dispatched_frame, founded_at, frame_by, is_end, is_of_other_member, is_relay, is_relay_role, member_of, receiver_of, same_some, time_of, with_clock}
 use Rattle.precision_law.proofs.words.Laws.{AreOpenFrom, IsBrought, IsGood, IsSoundSwitch, IsTrip, IsView, Leg, SoundFramesGoUp, View, clock_in}
-use Rattle.precision_law.proofs.words.Clocks.{HasGone, IsClean, IsGivenOn, arrives_at, budget, child_ways, device_of, goes_over, good_is_correct, leaves_at, master_ends, master_member, no_fault, receiver_up, receiver_way, sizes_are, sound_switch_on, sound_ways_are_whole, switches_are_good, takes_at_most, will_be_permanent}
+use Rattle.precision_law.proofs.words.Clocks.{HasGone, IsClean, IsGivenOn, arrives_at, budget, child_ways, device_of, goes_over, good_is_correct, leaves_at, master_ends, master_member, no_fault, receiver_way, sizes_are, sound_switch_on, sound_ways_are_whole, switches_are_good, takes_at_most, will_be_permanent}
 use Rattle.run_law.specs.declared.note.NoteBody.TheVariants as notes
 use Rattle.precision_law.proofs.compression.Made.{dispatch_clock}
 use Rattle.precision_law.proofs.trips.Upward.{path_up, trips_up_take_dmax}

@@ -1,7 +1,7 @@
 -- What the legs of a trip add up to, and the path that they go.
-use Rattle.precision_law.proofs.words.Std.{◌+◌, ◌==◌, ◌∙◌, ◌∷◌, ◌≡◌, ◌≤◌, All, All-cons, All-nil, List, Option, Some, [], ap, arith, eqb-true, false, fold, length, option_and_then, option_map, option_map_or, refl, subst, suc, sum_by, sum_by-cons, sym, true, ℕ}
+use Rattle.precision_law.proofs.words.Std.{◌+◌, ◌∙◌, ◌∷◌, ◌≡◌, ◌≤◌, All, All-cons, All-nil, List, Option, Some, [], ap, arith, fold, length, option_and_then, option_map, refl, subst, suc, sum_by, sum_by-cons, sym, true, ℕ}
 use Rattle.precision_law.proofs.words.Plans.{Channel, Device, DeviceId, Down, Hop, IsHop, IsPath, IsSwitchOf, Link, LinkId, Network, Way, amount, closed, device_at, growth, jitter_of, jitter_on, link_at, opened, target_by, travel}
-use Rattle.precision_law.proofs.words.Runs.{Gives, Happening, IsCaused, NoteBody, channel_of, founded_at, is_parent_of, is_relay, same_some, time_of}
+use Rattle.precision_law.proofs.words.Runs.{Gives, Happening, IsCaused, NoteBody, channel_of, founded_at, is_relay, same_some, time_of}
 use Rattle.precision_law.proofs.words.Laws.{IsLeg, IsTrip, IsView, Leg, View, clock_in, links_back}
 use Rattle.precision_law.proofs.words.Clocks.{child_channel, gives_down, leg_hop}
 use Rattle.run_law.specs.declared.note.NoteBody.TheVariants as notes
