@@ -10,5 +10,6 @@ pub mod Carried
 pub mod Kept
 pub mod Gates
 pub mod Sound
+pub mod SoundLinks
 pub mod SoundUp
 pub mod SoundDown
