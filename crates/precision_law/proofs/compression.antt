@@ -3,7 +3,6 @@ pub mod Ripenings
 pub mod Origins
 pub mod Made
 pub mod Counted
-pub mod Fronts
 pub mod Shrunk
 pub mod Stretches
 pub mod Emitted

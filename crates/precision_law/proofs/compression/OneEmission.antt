@@ -7,7 +7,7 @@ use Rattle.precision_law.proofs.words.Clocks.{Apart, all_by, ascending_from, bef
 use Rattle.compression.proofs.Elements.{in_filter}
 use Rattle.run_law.specs.declared.note.NoteBody.TheVariants as notes
 use Rattle.precision_law.proofs.compression.Emitted.{contained, emissions_are_sharp, gives_point, middle_late, point_record}
-use Rattle.precision_law.proofs.compression.Fronts.{cluster_stays}
+use Rattle.precision_law.proofs.compression.Shrunk.{same_beyond}
 use Rattle.precision_law.proofs.compression.Made.{IsBadPoint, IsGoodPoint, bad_is_one, ends_soon, front_point, not_both, point_is, point_not_both}
 use Rattle.precision_law.proofs.compression.Stretches.{IsGivenIn, later_point, points_go_on, points_ordered, read_at}
 
@@ -349,7 +349,8 @@ not_behind v t h g cm cycle members others k e f early good also at front mid is
           let all : points_of at.front cm ≡ points_of front cm ++ adds.more = ap (λ (hs : List Happening). points_of hs cm) is_front ∙ adds.whole in
           let past = all_by (λ (q : Point). b.cluster.end <ℤ q.reading) adds.more
           (λ q i. (let above = late q (adds.given q i) in let ends = x.1.ends in omega (arith, ints, above, ends))) in
-          let stays = cluster_stays _ _ adds.more _ _ b.cluster wide b.are (subst (λ (ps : List Point). AreClusters ow ps c.clusters) all c.are) b.there past in
+          let next = subst (λ (ps : List Point). AreClusters ow ps c.clusters) all c.are in
+          let stays = (same_beyond _ _ adds.more _ _ b.cluster wide b.are next past).0 b.there in
           let ix : IsIn x.0 (points_of at.front cm) = subst (IsIn x.0) (sym all) (in_left x.0 (points_of front cm) adds.more x.1.there) in
           let one = one_of_two v t g cm cycle k at early c.one c.clusters c.are b.cluster c.cluster stays c.there x.0 y.0 ix y.1.there x.1.of_cycle y.1.of_cycle
           x.1.of_cluster y.1.of_cluster x.1.lies y.1.lies (time_of h) early_h x.1.good y.1.good in
