@@ -6,6 +6,7 @@ use Rattle.precision_law.proofs.words.Laws.{EmissionsAreSharp, IsView, View}
 use Rattle.precision_law.proofs.words.Clocks.{TakesWith, behind_last, in_filter_map, int_le-is, never_timed, reach_is_sharp, room, same_device, sizes_are, steady, taken_as, taken_sound}
 use Rattle.compression.proofs.Elements.{in_filter}
 use Rattle.run_law.specs.declared.note.NoteBody.TheVariants as notes
+use Rattle.precision_law.proofs.compression.Counted.{IsClusterOf, cluster_from, has_firsts}
 
 -- ---- middles
 
@@ -32,72 +33,18 @@ middle_not_negative (a ∷ b ∷ c ∷ d ∷ e ∷ f ∷ more) all =
 
 -- ---- clusters
 
--- a cluster is that of one of the points and others
-pub record IsClusterOf (ow : ℤ) (ps : List Point) (c : Cluster) : Type 0 where
-  pub first : Point
-  pub rest : List Point
-  pub there : Contains ps first
-  pub others : (x : Point) → Contains rest x → Contains ps x
-  pub ordered : Ordered ps → Ordered (first ∷ rest)
-  pub is : c ≡ cluster_of ow first (first ∷ rest)
-
-pub cluster_from : (ow : ℤ) (ps : List Point) (cs : List Cluster) (c : Cluster) → AreClusters ow ps cs → Contains cs c → IsClusterOf ow ps c
-cluster_from ow [] [] c are at = absurd (in_none c at)
-cluster_from ow (o ∷ ps) (d ∷ cs) c are at =
-    elim (in_cases d c cs at) [
-      | inl same ↦ record { first = o; rest = ps; there = in_head o ps; others = λ x i. in_tail o x ps i; ordered = λ up. up; is = sym same ∙ are.0 }
-      | inr later ↦
-          let more = cluster_from ow (beyond d.end ps) cs c are.1 later in
-          record {
-            first = more.first;
-            rest = more.rest;
-            there = in_tail o more.first ps (from_beyond d.end ps more.first more.there).0;
-            others = λ x i. in_tail o x ps (from_beyond d.end ps x (more.others x i)).0;
-            ordered = λ up. more.ordered (Ordered-beyond d.end ps up.1);
-            is = more.is;
-          }
-    ]
-cluster_from ow ps cs c are at = absurd are
-
--- what is counted in a cluster is not before it
-counted_late : (o : Point) (end : ℤ) (rest qs : List Point) → AllByRecursion (λ q. Contains (of_cycle_within o.cycle o.reading end rest) q) qs
+-- what is not before the opener
+all_late : (o : Point) (qs : List Point) → ((q : Point) → IsIn q qs → o.reading ≤ℤ q.reading)
     → AllByRecursion NotNegative (map (λ q. q -ℤ o.reading) (map (λ q. q.reading) qs))
-counted_late o end rest [] all = tt
-counted_late o end rest (q ∷ qs) all =
-    let test = in_filter (λ x. x.cycle == o.cycle && (int_le o.reading x.reading && int_le x.reading end)) rest q all.0 in
-    let both = and_parts (q.cycle == o.cycle) (int_le o.reading q.reading && int_le q.reading end) test.1 in
-    let low = int_le-is o.reading q.reading (and_parts (int_le o.reading q.reading) (int_le q.reading end) both.1).0 in
-    (omega (arith, ints, low), counted_late o end rest qs all.1)
-
-first_parts : (xs acc : List Point) (qs : List Point) → AllByRecursion (λ q. Contains xs q × (has_master acc q.master ≡ false)) qs
-    → AllByRecursion (λ q. Contains xs q) qs
-first_parts xs acc [] all = tt
-first_parts xs acc (q ∷ qs) all = (all.0.0, first_parts xs acc qs all.1)
+all_late o [] from = tt
+all_late o (q ∷ qs) from = (let low = from q (inl refl) in omega (arith, ints, low), all_late o qs (λ x i. from x (inr i)))
 
 -- the middle of a cluster is not before its first point
-pub middle_late : (ow : ℤ) (o : Point) (rest : List Point) → o.reading ≤ℤ end_of ow o (o ∷ rest)
-    → NotNegative (middle_of (relative (cluster_of ow o (o ∷ rest)).points))
-middle_late ow o rest ends =
-    let end = end_of ow o (o ∷ rest) in
-    let inner = of_cycle_within o.cycle o.reading end rest in
-    let a : (o.cycle == o.cycle) ≡ true = eq-eqb o.cycle o.cycle refl in
-    let b : int_le o.reading o.reading ≡ true = int_le-true o.reading o.reading (omega (arith, ints)) in
-    let c : int_le o.reading end ≡ true = int_le-true o.reading end ends in
-    let kept = ap (λ (t : Bool). if t then o ∷ inner else inner)
-    (and_from (o.cycle == o.cycle) (int_le o.reading o.reading && int_le o.reading end) a (and_from (int_le o.reading o.reading) (int_le o.reading end) b c)) in
-    let count = counts (o ∷ []) inner in
-    let late = counted_late o end rest count.more (first_parts inner (o ∷ []) count.more count.each) in
-    let zero_first : NotNegative (o.reading -ℤ o.reading) = omega (arith, ints) in
-    subst (λ (qs : List Point). NotNegative (middle_of (relative (map (λ q. q.reading) qs)))) (sym (ap firsts kept ∙ count.is))
-    (middle_not_negative (map (λ q. q -ℤ o.reading) (map (λ q. q.reading) (o ∷ count.more))) (zero_first, late))
-
--- a cluster does not end before it begins
-pub ends_late : (ow : ℤ) (o : Point) (ps : List Point) → pos 0 ≤ℤ ow → o.reading ≤ℤ end_of ow o ps
-ends_late ow o ps some = by (nat_le 2 (length (firsts (of_cycle_within o.cycle o.reading (o.reading +ℤ ow) ps))))
-  where
-    by : (b : Bool) → o.reading ≤ℤ (if b then o.reading +ℤ (pos 2 *ℤ ow) else o.reading +ℤ ow)
-    by true = omega (arith, ints, some)
-    by false = omega (arith, ints, some)
+pub middle_late : (ow : ℤ) (o : Point) (rest : List Point) → pos 0 ≤ℤ ow → NotNegative (middle_of (relative (cluster_of ow o (o ∷ rest)).points))
+middle_late ow o rest some =
+    let f = has_firsts ow o rest some in
+    subst (λ (qs : List Point). NotNegative (middle_of (relative (map (λ q. q.reading) qs)))) (sym f.are)
+    (middle_not_negative (map (λ q. q -ℤ o.reading) (map (λ q. q.reading) (o ∷ f.more))) (all_late o (o ∷ f.more) (λ q i. (f.each q i).from)))
 
 -- ---- points
 
@@ -105,6 +52,11 @@ ends_late ow o ps some = by (nat_le 2 (length (firsts (of_cycle_within o.cycle o
 pub contained : {X : Type 0} (xs : List X) (x : X) → Contains xs x → IsIn x xs
 contained [] x at = absurd (in_none x at)
 contained (y ∷ xs) x at = elim (in_cases y x xs at) [ inl same ↦ inl (sym same) | inr more ↦ inr (contained xs x more) ]
+
+-- so is what is in a cluster of the points
+pub in_cluster : {ow : ℤ} {ps : List Point} {c : Cluster} (k : IsClusterOf ow ps c) (q : Point) → Contains (k.first ∷ k.rest) q → IsIn q ps
+in_cluster {ps = ps} k q at =
+    contained ps q (elim (in_cases k.first q k.rest at) [ inl same ↦ subst (Contains ps) same k.there | inr later ↦ k.others q later ])
 
 -- no arrival is too old
 young_by : (v : View) (hs : List Happening) (t : ℕ) (device : DeviceId) (link : LinkId) (cause : ℕ) (signal : Signal) (taken : Pcf)
@@ -183,7 +135,7 @@ emissions_are_sharp v h cm cycle members e is =
     let c = cluster_from ow (points_of at.front cm) emits.clusters emits.cluster emits.are emits.there in
     let first = point_not_negative v cm at.front c.first is at.founded (contained (points_of at.front cm) c.first c.there) in
     let wide : pos 0 ≤ℤ ow = omega (arith, ints) in
-    let middle = middle_late ow c.first c.rest (ends_late ow c.first (c.first ∷ c.rest) wide) in
+    let middle = middle_late ow c.first c.rest wide in
     let shown = ap (emission ow (pos (amount s.network.calc))) c.is in
     reach_is_sharp v.sizes (s.reading cm) 0 e.at.0 (time_of h) (steady v is cm)
     (omega (arith, ints, (steady v is cm).begins, ap (λ (x : Compressed). x.at.0) emits.is, shown, first, middle, (sizes_are v is).precision, room v is))

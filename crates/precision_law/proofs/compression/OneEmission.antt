@@ -148,7 +148,7 @@ front_witness v t cycle cm by front rest clusters cluster f m bit good =
     let at : ℤ = emission ow (pos (amount n.calc)) cluster in
     let points = ap (λ (zs : List Point). middle_of (relative (map (λ q. q.reading) zs))) counted in
     let whole = (ap (emission ow (pos (amount n.calc))) c.is) ∙ ap (λ (z : ℤ). ((o.reading +ℤ (pos 2 *ℤ ow)) +ℤ pos (amount n.calc)) +ℤ z) points in
-    let late = subst (λ (z : ℤ). pos 0 ≤ℤ z) points (middle_late ow o c.rest (omega (arith, ints, least, wide))) in
+    let late = subst (λ (z : ℤ). pos 0 ≤ℤ z) points (middle_late ow o c.rest wide) in
     let calc : 1 ≤ amount n.calc = (let m = (room v k.is).compression_least in omega (arith, m, sizes_are v k.is)) in
     let given = point_record cm front o (in_points o (inl refl)) in
     let begun = (read_at v cm given.0 o k.is (subst (IsIn given.0) (sym f.whole) (in_left given.0 front rest given.1)) given.2).not_negative in
