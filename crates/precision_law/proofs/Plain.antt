@@ -1,7 +1,7 @@
 -- Plain facts of choices, lists, roles and states that several files use.
-use Rattle.precision_law.proofs.words.Std.{◌∙◌, ◌∷◌, ◌≡◌, ◌≤◌, Any, Bool, List, None, Option, Some, [], ap, arith, cons_option, false, filter_map, inl, inr, is_some, option_and_then, option_map, option_map_or, refl, subst, sym, true, ℕ}
+use Rattle.precision_law.proofs.words.Std.{◌∙◌, ◌∷◌, ◌≡◌, ◌≤◌, Any, Bool, List, None, Option, Some, [], ap, arith, cons_option, false, filter_map, if◌then◌else◌, inl, inr, is_some, option_and_then, option_map, option_map_or, refl, subst, sym, true, ℕ}
 use Rattle.precision_law.proofs.words.Plans.{Device, Master, Role, State, Synchronised, is_end_system}
-use Rattle.precision_law.proofs.words.Runs.{IsBefore, IsIn, any_of_none, any_parts, is_cm_role, is_synchronised}
+use Rattle.precision_law.proofs.words.Runs.{IsBefore, IsIn, any_first, any_later, any_of_none, any_parts, is_cm_role, is_synchronised}
 use Rattle.precision_law.proofs.words.Laws.{has_time}
 
 -- ---- choices
@@ -21,6 +21,10 @@ mapped f (Some x) y e = (x, refl, cc)
 pub reached : {X Y : Type 0} (f : X → Option Y) (o : Option X) (y : Y) → option_and_then f o ≡ Some y → (x : X) × (o ≡ Some x) × (f x ≡ Some y)
 reached f None y e = absurd cc
 reached f (Some x) y e = (x, refl, e)
+
+pub some_if : {X : Type 0} (b : Bool) (x y : X) → (if b then Some x else None) ≡ Some y → (b ≡ true) × (x ≡ y)
+some_if true x y e = (refl, cc)
+some_if false x y e = absurd cc
 
 -- ---- lists
 
@@ -46,6 +50,11 @@ any_is {X} P (x ∷ xs) any = elim (any_parts P x xs any) as (λ _. (y : X) × I
   | inl p ↦ (x, inl refl, p)
   | inr more ↦ (let r = any_is P xs more in (r.0, inr r.1, r.2))
 ]
+
+pub any_of_in : {X : Type 0} (P : X → Type 0) (x : X) (xs : List X) → IsIn x xs → P x → Any P xs
+any_of_in P x [] i p = absurd i
+any_of_in P x (y ∷ xs) (inl same) p = any_first P y xs (subst P same p)
+any_of_in P x (y ∷ xs) (inr i) p = any_later P y xs (any_of_in P x xs i p)
 
 -- ---- roles and states
 

@@ -1,11 +1,11 @@
 -- The base of a compressed frame lies in the hull of its cycle.
-use Rattle.precision_law.proofs.words.Std.{◌*◌, ◌+ℤ◌, ◌+◌, ◌-ℤ◌, ◌-◌, ◌<◌, ◌∙◌, ◌∷◌, ◌≡◌, ◌≤ℤ◌, ◌≤◌, ◌⊎◌, List, Some, [], ap, arith, bit_at, cases_lt, inl, inr, ints, length, map, negsuc, pos, refl, subst, suc, sym, ℕ, ℤ}
+use Rattle.precision_law.proofs.words.Std.{◌*◌, ◌+ℤ◌, ◌+◌, ◌-ℤ◌, ◌-◌, ◌<◌, ◌∙◌, ◌∷◌, ◌≡◌, ◌≤ℤ◌, ◌≤◌, ◌⊎◌, List, Some, [], ap, arith, cases_lt, inl, inr, ints, length, map, negsuc, pos, refl, subst, suc, sym, ℕ, ℤ}
 use Rattle.precision_law.proofs.words.Plans.{DeviceId, LiesWithin, Members, Ordered, Point, count_of, last_from, mean_of, mean_of-floor, members_of, middle_among_others, middle_from_first_to_last, middle_point}
-use Rattle.precision_law.proofs.words.Runs.{Happening, IsIn, founded_at, same_some, time_of}
+use Rattle.precision_law.proofs.words.Runs.{Happening, IsIn, same_some, time_of}
 use Rattle.precision_law.proofs.words.Laws.{AreGood, BasesAreInHulls, BasesAreNearHulls, HaveRoom, Hull, IsBaseIn, IsEmission, IsSteady, IsTidyBefore, IsView, Sizes, View, base_of, hull_of}
 use Rattle.precision_law.proofs.words.Clocks.{Apart, all_but_one, ascending_from, few_members, one_member, room, short_by_reading, steady}
 use Rattle.precision_law.proofs.compression.Emitted.{emissions_are_sharp}
-use Rattle.precision_law.proofs.compression.Made.{IsBadPoint, IsGoodPoint, IsMade, bad_is_one, good_member_point, good_or_bad_point, is_of_member, made, made_of, member_of_point, not_both, point_is, three_have_good}
+use Rattle.precision_law.proofs.compression.Made.{IsBadPoint, IsGoodPoint, bad_is_one, good_member_point, good_or_bad_point, is_of_member, made, not_both, three_have_good}
 
 -- ---- numbers
 
@@ -190,7 +190,8 @@ module _ (v : View) (h : Happening) (cm : DeviceId) (cycle : ℕ) (members : Mem
       record { hull = bounds.hull; is = bounds.is; least = omega (arith, ints, near.least); most = omega (arith, ints, near.most) }
 
   -- where it lies within them, the base lies in the hull
-  base_in : (bounds : HasBounds v cm cycle (time_of h)) → LiesBetween v cm bounds.a bounds.b middle → IsBaseIn v cycle v.sizes.base (base_of v.sizes (time_of h))
+  base_in : (bounds : HasBounds v cm cycle (time_of h)) → LiesBetween v cm bounds.a bounds.b middle
+      → IsBaseIn v cycle v.sizes.base (base_of v.sizes (time_of h))
   base_in bounds lies =
       let near = base_near 0 bounds (omega arith) (omega (arith, ints, lies.0), omega (arith, ints, lies.1)) in
       record { hull = near.hull; is = near.is; least = omega (arith, ints, near.least); most = omega (arith, ints, near.most) }

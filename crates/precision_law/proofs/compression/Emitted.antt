@@ -1,12 +1,12 @@
 -- When compression masters send.
-use Rattle.precision_law.proofs.words.Std.{◌&&◌, ◌*ℤ◌, ◌+ℤ◌, ◌-ℤ◌, ◌==◌, ◌∙◌, ◌∷◌, ◌≡◌, ◌≤ℤ◌, ◌≤◌, AllByRecursion, Bool, Contains, Err, List, None, Ok, Some, [], after_last, and_from, and_parts, ap, arith, eq-eqb, false, if◌then◌else◌, inl, inr, int_le, ints, length, map, nat_le, pos, refl, subst, sym, true, ℕ, ℤ}
-use Rattle.precision_law.proofs.words.Plans.{AreClusters, Cluster, Compressed, DeviceId, LinkId, Ordered, Ordered-beyond, Pcf, Point, Units, amount, beyond, cluster_of, counts, emission, end_of, firsts, from_beyond, has_master, in_cases, in_head, in_none, in_tail, int_le-true, last_but_one, mean_of, mean_of-floor, middle_of, of_cycle_within, point_at, relative}
+use Rattle.precision_law.proofs.words.Std.{◌-ℤ◌, ◌==◌, ◌∙◌, ◌∷◌, ◌≡◌, ◌≤ℤ◌, ◌≤◌, AllByRecursion, Contains, Err, List, Ok, Some, [], after_last, ap, arith, inl, inr, ints, map, pos, refl, subst, sym, ℕ, ℤ}
+use Rattle.precision_law.proofs.words.Plans.{Cluster, Compressed, DeviceId, LinkId, Pcf, Point, Units, amount, cluster_of, emission, in_cases, in_none, last_but_one, mean_of, mean_of-floor, middle_of, point_at, relative}
 use Rattle.precision_law.proofs.words.Runs.{Arrival, Happening, IsArrivedRecord, IsCaused, IsDue, IsFounded, IsIn, Judgement, NoteBody, Signal, arrival_of, control, cycle_in, ends_stretch, founded_at, in_right, master_of, members_in, numbered_in, observation_window, place_of, point_by, points_of, standpoint, time_of, timed}
 use Rattle.precision_law.proofs.words.Laws.{EmissionsAreSharp, IsView, View}
-use Rattle.precision_law.proofs.words.Clocks.{TakesWith, behind_last, in_filter_map, int_le-is, never_timed, reach_is_sharp, room, same_device, sizes_are, steady, taken_as, taken_sound}
-use Rattle.compression.proofs.Elements.{in_filter}
+use Rattle.precision_law.proofs.words.Clocks.{TakesWith, behind_last, in_filter_map, never_timed, reach_is_sharp, room, same_device, sizes_are, steady, taken_as, taken_sound}
 use Rattle.run_law.specs.declared.note.NoteBody.TheVariants as notes
 use Rattle.precision_law.proofs.compression.Counted.{IsClusterOf, cluster_from, has_firsts}
+use Rattle.precision_law.proofs.Plain.{some_if}
 
 -- ---- middles
 
@@ -84,10 +84,6 @@ pub record GivesPoint (cm : DeviceId) (k : Happening) (p : Point) : Type 0 where
   pub reads : p.reading ≡ point.0
   pub of_master : p.master ≡ master_of (members_in k)
   pub of_cycle : p.cycle ≡ cycle_in k
-
-some_if : {X : Type 0} (b : Bool) (x y : X) → (if b then Some x else None) ≡ Some y → (b ≡ true) × (x ≡ y)
-some_if true x y e = (refl, cc)
-some_if false x y e = absurd cc
 
 gives_by : (cm : DeviceId) (k : Happening) (p : Point) (body : NoteBody) → k.note.body ≡ body → point_by cm k body ≡ Some p → GivesPoint cm k p
 gives_by cm k p (notes.Permanent other link cause point verdict) same e =

@@ -1,12 +1,11 @@
 -- What compressed frames are made of.
-use Rattle.precision_law.proofs.words.Std.{◌&&◌, ◌*ℤ◌, ◌*◌, ◌++◌, ◌+ℤ◌, ◌<◌, ◌==◌, ◌^◌, ◌∙◌, ◌∷◌, ◌≡◌, ◌≤ℤ◌, ◌≤◌, ◌⊎◌, Bool, Contains, List, Option, Some, [], and_from, and_parts, ap, arith, bit_at, bit_at-zero, both_ways, cases_lt, eq-eqb, eqb-true, false, if◌then◌else◌, inl, inr, int_le, ints, length, map, nat_le, option_map_or, pos, refl, subst, sym, true, zero_from_ones, ℕ, ℤ}
-use Rattle.precision_law.proofs.words.Plans.{Cluster, Compressed, DeviceId, IsMember, Members, Ordered, Pcf, Point, amount, count_of, counts, emission, end_of, firsts, in_cases, int_le-true, members_of, middle_of, of_cycle_within, relative}
+use Rattle.precision_law.proofs.words.Std.{◌*ℤ◌, ◌*◌, ◌++◌, ◌+ℤ◌, ◌<◌, ◌==◌, ◌^◌, ◌∙◌, ◌∷◌, ◌≡◌, ◌≤ℤ◌, ◌≤◌, ◌⊎◌, Bool, List, Option, Some, [], ap, arith, bit_at, bit_at-zero, both_ways, cases_lt, eq-eqb, eqb-true, false, if◌then◌else◌, inl, inr, ints, length, map, nat_le, option_map_or, pos, refl, subst, sym, true, zero_from_ones, ℕ, ℤ}
+use Rattle.precision_law.proofs.words.Plans.{Cluster, Compressed, DeviceId, IsMember, Members, Ordered, Pcf, Point, amount, count_of, emission, end_of, firsts, members_of, middle_of, of_cycle_within, relative}
 use Rattle.precision_law.proofs.words.Runs.{Happening, IsCaused, IsFoundedAt, IsIn, cycle_in, founded_at, frame_by, in_left, is_broken, is_cm, master_of, member_of, observation_window, points_of, same_some, time_of}
-use Rattle.precision_law.proofs.words.Laws.{AreBad, EmissionsAreOfDispatches, HasGood, IsBad, IsBadMember, IsDispatch, IsEmission, IsGood, IsGoodMember, IsInTime, IsView, MembersAreMasters, ThreeHaveGood, View, clock_in, links_of}
-use Rattle.precision_law.proofs.words.Clocks.{Apart, any_in, before_of, few_members, firsts_apart, firsts_in, firsts_ordered, frames_up_are_of_masters, has_is_member, has_member, in_any, int_le-is, member_has, one_bad, one_member, sizes_are, within_ordered}
-use Rattle.compression.proofs.Elements.{in_filter}
+use Rattle.precision_law.proofs.words.Laws.{EmissionsAreOfDispatches, HasGood, IsBad, IsDispatch, IsEmission, IsGood, IsGoodMember, IsInTime, IsView, MembersAreMasters, ThreeHaveGood, View, clock_in, links_of}
+use Rattle.precision_law.proofs.words.Clocks.{Apart, any_in, before_of, few_members, frames_up_are_of_masters, has_is_member, has_member, in_any, member_has, one_bad, one_member, sizes_are}
 use Rattle.precision_law.proofs.block.Joins.{cm_channel}
-use Rattle.precision_law.proofs.compression.Emitted.{contained, in_cluster, point_record}
+use Rattle.precision_law.proofs.compression.Emitted.{in_cluster, point_record}
 use Rattle.precision_law.proofs.compression.Ripenings.{master_of_bit, ripening}
 use Rattle.precision_law.proofs.compression.Stretches.{points_ordered}
 use Rattle.precision_law.proofs.hearing.Timely.{cm_of, path_member}

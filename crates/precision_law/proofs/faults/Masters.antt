@@ -11,12 +11,10 @@ use Rattle.precision_law.proofs.records.Times.{in_kept, passes}
 -- where some element passes, one is there that does
 pub any_in : {X : Type 0} (p : X → Bool) (xs : List X) → list_any p xs ≡ true → (x : X) × IsIn x xs × (p x ≡ true)
 any_in p [] e = absurd cc
-any_in {X} p (x ∷ xs) e = either p x xs (p x) refl e (any_in p xs)
-  where
-    either : {X : Type 0} (p : X → Bool) (x : X) (xs : List X) (b : Bool) → p x ≡ b → (b || list_any p xs) ≡ true
-        → (list_any p xs ≡ true → (y : X) × IsIn y xs × (p y ≡ true)) → (y : X) × IsIn y (x ∷ xs) × (p y ≡ true)
-    either p x xs true at s back = (x, inl refl, at)
-    either p x xs false at s back = (let r = back s in (r.0, inr r.1, r.2))
+any_in {X} p (x ∷ xs) e = elim (p x) as (λ b. p x ≡ b → (b || list_any p xs) ≡ true → (y : X) × IsIn y (x ∷ xs) × (p y ≡ true)) [
+  | true ↦ λ at some. (x, inl refl, at)
+  | false ↦ λ at some. (let r = any_in p xs some in (r.0, inr r.1, r.2))
+] refl e
 
 -- and where one does, some does
 pub in_any : {X : Type 0} (p : X → Bool) (xs : List X) (x : X) → IsIn x xs → p x ≡ true → list_any p xs ≡ true
@@ -101,10 +99,7 @@ link_of_one n c d link one other =
 
 -- the link that an event cuts
 pub cut_link : (link other : LinkId) (e : Event) → Cuts link e → Cuts other e → other ≡ link
-cut_link link other e a b = link_is (sym b.1 ∙ a.1)
-  where
-    link_is : {x y : _} → events.Cut other x ≡ events.Cut link y → other ≡ link
-    link_is e = cc
+cut_link link other e a b = (let same : events.Cut other b.0 ≡ events.Cut link a.0 = sym b.1 ∙ a.1 in cc)
 
 -- no two channels are faulty
 pub one_is_faulty : (n : Network) (es : List Event) (c d : Channel) → ((x y : Channel) → HasOffSwitch n x → HasOffSwitch n y → x ≡ y) → IsFaulty n es c

@@ -1,7 +1,7 @@
 -- A device that has the common time is not just turned on.
-use Rattle.precision_law.proofs.words.Std.{◌&&◌, ◌++◌, ◌<◌, ◌==◌, ◌∙◌, ◌∷◌, ◌≡◌, ◌≤◌, ◌⊎◌, Any, Bool, IsNone, IsSomeAnd, List, None, Option, Some, [], and_parts, ap, append_assoc, arith, eqb-true, false, false_from_ne_true, if◌then◌else◌, inl, inr, not, option_and_then, refl, subst, suc, sym, true, zero, ℕ}
+use Rattle.precision_law.proofs.words.Std.{◌&&◌, ◌++◌, ◌<◌, ◌==◌, ◌∙◌, ◌∷◌, ◌≡◌, ◌≤◌, ◌⊎◌, Bool, IsNone, IsSomeAnd, List, None, Option, Some, and_parts, ap, append_assoc, arith, eqb-true, false, false_from_ne_true, if◌then◌else◌, inl, inr, not, option_and_then, refl, subst, suc, sym, true, zero, ℕ}
 use Rattle.precision_law.proofs.words.Plans.{Device, DeviceId, Event, Integrating, Joining, Off, State, Units, What, amount, device_at, state_at_start}
-use Rattle.precision_law.proofs.words.Runs.{BecomesPermanent, ChangesState, Emits, Happening, Integrates, IsCaused, IsEventRecord, IsIn, NotOff, NoteBody, Scenario, TurnsOn, Why, adjustment_at_hearing, any_first, any_later, before_permanence, earlier, founded_at, has_joined_at, in_at, in_left, in_parts, in_right, is_joined_by, is_off, is_turned_on_at, numbered_in, observation_window, parted, plan_of, points_of, start_of, state_after, state_at_hearing, state_before, time_of, turns_on}
+use Rattle.precision_law.proofs.words.Runs.{BecomesPermanent, ChangesState, Emits, Happening, Integrates, IsCaused, IsEventRecord, IsIn, NotOff, NoteBody, Scenario, TurnsOn, Why, adjustment_at_hearing, before_permanence, earlier, founded_at, has_joined_at, in_at, in_left, in_parts, in_right, is_joined_by, is_off, is_turned_on_at, numbered_in, observation_window, parted, plan_of, points_of, start_of, state_after, state_at_hearing, state_before, time_of, turns_on}
 use Rattle.precision_law.proofs.words.Laws.{AreBeforeCorrections, IsView, NoneTurnsOn, View, has_time, state_left}
 use Rattle.precision_law.proofs.words.Clocks.{Keeps, any_in, before_of, earlier_before, earlier_judge, in_earlier, kept_by_all, kept_if, point_has_time, same_device}
 use Rattle.net_plan.specs.declared.event.What.TheVariants as events
@@ -9,6 +9,7 @@ use Rattle.run_law.specs.declared.judgement.Why.TheVariants as whys
 use Rattle.run_law.specs.declared.note.NoteBody.TheVariants as notes
 use Rattle.run_law.specs.declared.steps.Ripe.TheVariants as ripe
 use Rattle.precision_law.proofs.block.Joins.{integrates_by, ripe_integrates}
+use Rattle.precision_law.proofs.Plain.{any_of_in}
 
 -- ---- states
 
@@ -138,18 +139,10 @@ off_until v device (suc bound) t is le none begins e =
 
 -- ---- a device is turned on once
 
-pub any_of_in : {X : Type 0} (P : X → Type 0) (x : X) (xs : List X) → IsIn x xs → P x → Any P xs
-any_of_in P x [] i p = absurd i
-any_of_in P x (y ∷ xs) (inl same) p = any_first P y xs (subst P same p)
-any_of_in P x (y ∷ xs) (inr i) p = any_later P y xs (any_of_in P x xs i p)
-
 begins_by : (o : Option Device) → is_on (state_at_start (option_and_then (λ d. d.start) o)) ≡ true → IsSomeAnd o (λ d. IsNone d.start → ⊥)
 begins_by None e = absurd cc
-begins_by (Some d) e = start_there d.start e
-  where
-    start_there : (start : Option Units) → is_on (state_at_start start) ≡ true → IsNone start → ⊥
-    start_there None e is = absurd cc
-    start_there (Some x) e is = absurd cc
+begins_by (Some d) e =
+    elim d.start as (λ o. is_on (state_at_start o) ≡ true → IsNone o → ⊥) [ None ↦ λ on off. absurd cc | Some x ↦ λ on off. absurd cc ] e
 
 pub not_turned_on_then : (v : View) (device : DeviceId) (u : ℕ) → IsView v → has_time (state_left v device u) ≡ true
     → is_turned_on_at v.scenario device u ≡ false

@@ -1,7 +1,7 @@
 -- The sound channel: no way of its links is cut, and its switches begin on.
 use Rattle.precision_law.proofs.words.Std.{◌++◌, ◌<◌, ◌==◌, ◌∙◌, ◌∷◌, ◌≡◌, ◌≤◌, ◌⊎◌, Any, Bool, IsNone, List, None, Option, Some, [], and_parts, ap, append_assoc, arith, eqb-true, false, false_from_ne_true, filter, filter-append, if◌then◌else◌, inl, inr, ints, last_or, le-leb, leb-true, length, nat_le, refl, slice_get, subst, suc, sym, true, unwrap_or, zero, ℕ}
 use Rattle.precision_law.proofs.words.Plans.{A, B, Channel, Device, Event, HasOffSwitch, IsSwitchOf, Joints, Link, LinkId, Network, Way, What, amount, closed, device_at, link_at, opened}
-use Rattle.precision_law.proofs.words.Runs.{Cuts, IsFaulty, IsIn, IsLinkOf, Scenario, any_first, any_later, any_of_none, any_parts, cut_set, events_up_to, in_filter, in_left, in_right, is_cut, is_faulty, is_way, is_way_of, parted}
+use Rattle.precision_law.proofs.words.Runs.{Cuts, IsFaulty, IsIn, IsLinkOf, Scenario, any_of_none, any_parts, cut_set, events_up_to, in_filter, in_left, in_right, is_cut, is_faulty, is_way, is_way_of, parted}
 use Rattle.precision_law.proofs.words.Laws.{IsView, SoundSwitchesBeginOn, SoundWaysAreWhole, View}
 use Rattle.net_plan.specs.declared.event.What.TheVariants as events
 use Rattle.run_law.specs.declared.outside.Outside.TheVariants as outside
@@ -10,6 +10,7 @@ use Rattle.precision_law.proofs.records.Behind.{in_filter_map}
 use Rattle.precision_law.proofs.records.Points.{last_in}
 use Rattle.precision_law.proofs.records.Times.{passes}
 use Rattle.precision_law.proofs.trips.Ascents.{event_begins, no_earlier}
+use Rattle.precision_law.proofs.Plain.{any_is, any_of_in, some_if}
 
 -- ---- switches
 
@@ -43,14 +44,7 @@ first_cut (e ∷ es) = by e.what refl (first_cut es)
   where
     by : (what : What) → e.what ≡ what → FirstCut es → FirstCut (e ∷ es)
     by (events.Cut link way) same more = cut_at [] es e link refl (way, same) (λ l any. any_of_none (Cuts l) any)
-    by (events.Rate device rate) same more = not_cut e es (never_cuts e (events.Rate device rate) same (λ l w x. cc)) more
-    by (events.Wire link way delay) same more = not_cut e es (never_cuts e (events.Wire link way delay) same (λ l w x. cc)) more
-    by (events.Hold link way delay) same more = not_cut e es (never_cuts e (events.Hold link way delay) same (λ l w x. cc)) more
-    by (events.Heal link way) same more = not_cut e es (never_cuts e (events.Heal link way) same (λ l w x. cc)) more
-    by (events.On device) same more = not_cut e es (never_cuts e (events.On device) same (λ l w x. cc)) more
-    by (events.Break device) same more = not_cut e es (never_cuts e (events.Break device) same (λ l w x. cc)) more
-    by (events.Send link octets) same more = not_cut e es (never_cuts e (events.Send link octets) same (λ l w x. cc)) more
-    by events.End same more = not_cut e es (never_cuts e events.End same (λ l w x. cc)) more
+    by what same more = not_cut e es (never_cuts e what same (λ l w x. cc)) more
 
 -- a filter keeps a split
 kept_split : (p : Event → Bool) (before behind : List Event) (e : Event) → p e ≡ true → filter p (before ++ e ∷ behind) ≡ filter p before ++ e ∷ filter p behind
@@ -59,12 +53,7 @@ kept_split p before behind e pass =
 
 -- where nothing holds of any event it holds of none that is kept
 any_kept : (P : Event → Type 0) (p : Event → Bool) (es : List Event) → Any P (filter p es) → Any P es
-any_kept P p [] any = any
-any_kept P p (e ∷ es) any = by (p e) (any_kept P p es) any
-  where
-    by : (b : Bool) → (Any P (filter p es) → Any P es) → Any P (if b then e ∷ filter p es else filter p es) → Any P (e ∷ es)
-    by true back a = elim (any_parts P e (filter p es) a) [ inl here ↦ any_first P e es here | inr later ↦ any_later P e es (back later) ]
-    by false back a = any_later P e es (back a)
+any_kept P p es any = (let x = any_is P (filter p es) any in any_of_in P x.0 es (in_filter p es x.0 x.1) x.2)
 
 -- the event by which a way is cut
 record IsCutBy (s : Scenario) (link : LinkId) (t : ℕ) : Type 0 where
@@ -86,20 +75,12 @@ cut_by s link way t cut =
     some_true None e = absurd cc
     some_true (Some b) e = ap (λ (x : Bool). Some x) e
 
-    true_if : (b : Bool) → (if b then Some true else None) ≡ Some true → b ≡ true
-    true_if true e = refl
-    true_if false e = absurd cc
-
-    never_true : (b : Bool) → (if b then Some false else None) ≡ Some true → ⊥
-    never_true true e = absurd cc
-    never_true false e = absurd cc
-
     set_by : (e : Event) (what : What) → e.what ≡ what → cut_set link way what ≡ Some true → Cuts link e
     set_by e (events.Cut other turned) same set =
-        let parts = and_parts (link.0 == other.0) (is_way way turned) (true_if (is_way_of link way other turned) set) in
+        let parts = and_parts (link.0 == other.0) (is_way way turned) (some_if (is_way_of link way other turned) true true set).0 in
         let one : other ≡ link = ap (λ (n : ℕ). let l : LinkId = record { 0 = n } in l) (sym (eqb-true link.0 other.0 parts.0)) in
         (turned, same ∙ ap (λ (l : LinkId). events.Cut l turned) one)
-    set_by e (events.Heal other turned) same set = absurd (never_true (is_way_of link way other turned) set)
+    set_by e (events.Heal other turned) same set = (let wrong : false ≡ true = (some_if (is_way_of link way other turned) false true set).1 in absurd cc)
     set_by e what same set = absurd cc
 
 -- a channel has a switch that begins off, or has none

@@ -1,7 +1,7 @@
 -- The records of a view with those before them, and the correction points that they come of.
 use Rattle.precision_law.proofs.words.Std.{◌++◌, ◌+ℤ◌, ◌+◌, ◌-ℤ◌, ◌<ℤ◌, ◌<◌, ◌∙◌, ◌∷◌, ◌≡◌, ◌≤◌, ◌⊎◌, Bool, List, None, Option, Some, [], ap, arith, false, filter, if◌then◌else◌, inl, inr, last_or, option_map_or, pos, refl, subst, sym, true, ℕ, ℤ}
 use Rattle.precision_law.proofs.words.Plans.{DeviceId, Integrating, IsReach, Off, State, Verdict, point_in}
-use Rattle.precision_law.proofs.words.Runs.{ComesToCorrection, Happening, IsFoundedAt, IsIn, Reaches, Scenario, adjustment_after, adjustment_before, changes_adjustment, earlier, in_filter, is_turned_on_at, state_after, state_before, time_of}
+use Rattle.precision_law.proofs.words.Runs.{ComesToCorrection, Happening, IsFoundedAt, IsIn, Reaches, Scenario, adjustment_after, adjustment_before, changes_adjustment, earlier, in_filter, in_right, is_turned_on_at, state_after, state_before, time_of}
 use Rattle.precision_law.proofs.words.Laws.{AreBeforeCorrections, IsView, View, has_time, last_setting, state_left}
 use Rattle.precision_law.proofs.records.Cutting.{of_earlier}
 use Rattle.precision_law.proofs.records.Times.{AreSorted, earlier_front, in_earlier, passes}
@@ -20,15 +20,11 @@ sorted_parts [] qs x order = (λ y i. absurd i, order.0)
 sorted_parts (p ∷ ps) qs x order =
     let more = sorted_parts ps qs x order.1 in (
       λ y i. elim i [
-        | inl same ↦ (let up = order.0 x (in_middle ps qs x) in rw same up)
+        | inl same ↦ (let up = order.0 x (in_right x ps (x ∷ qs) (inl refl)) in rw same up)
         | inr later ↦ more.0 y later
       ],
       more.1,
     )
-  where
-    in_middle : (ps qs : List Happening) (x : Happening) → IsIn x (ps ++ x ∷ qs)
-    in_middle [] qs x = inl refl
-    in_middle (p ∷ ps) qs x = inr (in_middle ps qs x)
 
 -- those before a record are the records before corrections at its time
 pub before_of : (v : View) (h : Happening) → IsView v → (at : IsFoundedAt v.scenario v.records h) → AreBeforeCorrections v (time_of h) at.front
