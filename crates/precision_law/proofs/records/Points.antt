@@ -1,7 +1,7 @@
 -- The records of a view with those before them, and the correction points that they come of.
 use Rattle.precision_law.proofs.words.Std.{◌++◌, ◌+ℤ◌, ◌+◌, ◌-ℤ◌, ◌<ℤ◌, ◌<◌, ◌∙◌, ◌∷◌, ◌≡◌, ◌≤◌, ◌⊎◌, Bool, List, None, Option, Some, [], ap, arith, false, filter, if◌then◌else◌, inl, inr, last_or, option_map_or, pos, refl, subst, sym, true, ℕ, ℤ}
 use Rattle.precision_law.proofs.words.Plans.{DeviceId, Integrating, IsReach, Off, State, Verdict, point_in}
-use Rattle.precision_law.proofs.words.Runs.{ComesToCorrection, Happening, IsFoundedAt, IsIn, Reaches, Scenario, adjustment_after, adjustment_before, changes_adjustment, earlier, in_filter, in_right, is_turned_on_at, state_after, state_before, time_of}
+use Rattle.precision_law.proofs.words.Runs.{ComesToCorrection, Happening, IsDue, IsFounded, IsFoundedAt, IsIn, Reaches, Scenario, adjustment_after, adjustment_before, changes_adjustment, earlier, front_founded, in_filter, in_right, is_turned_on_at, place_of, state_after, state_before, time_of}
 use Rattle.precision_law.proofs.words.Laws.{AreBeforeCorrections, IsView, View, has_time, last_setting, state_left}
 use Rattle.precision_law.proofs.records.Cutting.{of_earlier}
 use Rattle.precision_law.proofs.records.Times.{AreSorted, earlier_front, in_earlier, passes}
@@ -31,6 +31,16 @@ pub before_of : (v : View) (h : Happening) → IsView v → (at : IsFoundedAt v.
 before_of v h is at =
     let parts = sorted_parts at.front at.rest h (subst AreSorted at.whole (in_order v is)) in
     record { rest = h ∷ at.rest; whole = at.whole; later = λ g i. elim i [ inl same ↦ (rw same (omega arith)) | inr more ↦ parts.1 g more ]; only = parts.0 }
+
+-- a record at a place of the view, with those before it
+abbrev pub founded_by : (v : View) (front rest : List Happening) (h : Happening) → IsView v → v.records ≡ front ++ h ∷ rest → IsFoundedAt v.scenario v.records h
+founded_by v front rest h is whole = record {
+  front = front;
+  rest = rest;
+  whole = whole;
+  due = (is.run.founded front rest h whole).1;
+  founded = front_founded place_of (IsDue v.scenario) front (h ∷ rest) (subst (IsFounded place_of (IsDue v.scenario)) whole is.run.founded);
+}
 
 -- they have all earlier records
 pub earlier_before : (v : View) (t : ℕ) (front : List Happening) → AreBeforeCorrections v t front → earlier t front ≡ earlier t v.records

@@ -18,7 +18,7 @@ pub use Rattle.precision_law.proofs.records.Cutting.{IsCutAt, cut_at}
 pub use Rattle.precision_law.proofs.records.Due.{IsRipeArrival, IsRipeRecord, IsSentAt, due_there, is_collected, is_heard_of, is_sent, next_due, next_note, place_of_ripe, place_of_sent, sent_at}
 pub use Rattle.precision_law.proofs.records.Judged.{earlier_judge}
 pub use Rattle.precision_law.proofs.records.PlacedFronts.{before_place, reaches_front}
-pub use Rattle.precision_law.proofs.records.Points.{IsSetting, before_of, earlier_before, last_in, point_has_time, point_is, point_timed, reaches_by, reaches_whole, same_adjustment, setting_is, sorted_parts, within_run}
+pub use Rattle.precision_law.proofs.records.Points.{IsSetting, before_of, earlier_before, founded_by, last_in, point_has_time, point_is, point_timed, reaches_by, reaches_whole, same_adjustment, setting_is, sorted_parts, within_run}
 pub use Rattle.precision_law.proofs.records.Times.{AreSorted, between, in_earlier, in_kept, is_between, last_some, passes, same_kept}
 pub use Rattle.precision_law.proofs.records.Views.{in_order, room, sizes_are, steady}
 pub use Rattle.precision_law.proofs.sizes.Instants.{corrections_come_first, cycles_are_few, frames_come_first, hulls_go_on, instants_are_in_order, set_clocks_stay_at_correction}
