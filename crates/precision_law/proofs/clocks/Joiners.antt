@@ -91,37 +91,27 @@ no_correction_then v device t front rest h x cycle by adjustment is e early join
 pub joiner_waits : (v : View) (device : DeviceId) (t : ℕ) (h : Happening) → IsView v → last_setting (earlier t v.records) device ≡ Some h
     → is_joined_by device h.note.body ≡ true → is_synchronised (state_left v device t) ≡ false
 joiner_waits v device t h is e joined =
-    false_from_ne_true (is_synchronised (state_left v device t)) (λ at. contradiction at)
-  where
-    contradiction : is_synchronised (state_left v device t) ≡ true → ⊥
-    contradiction at =
-        let setting = setting_is v device t h e in
-        let w = time_of h in
-        let time : epoch_time (earlier t v.records) device ≡ pos w = ap (λ (o : Option Happening). option_map_or (λ g. pos (time_of g)) o (negsuc 0)) e in
-        let still = state_stays is_synchronised refl v device (w + 1) t is (omega (arith, setting.early)) (omega (arith, ints, time)) at in
-        let found = founded_at v.scenario v.records h is.run.founded setting.there in
-        let test = λ (g : Happening). nat_lt (time_of g) (w + 1) in
-        let here : test h ≡ true = lt-ltb w (w + 1) (omega arith) in
-        let parts = ap (earlier (w + 1)) found.whole ∙ filter-append test found.front (h ∷ found.rest) ∙ ap
-        (λ (b : Bool). earlier (w + 1) found.front ++ (if b then h ∷ earlier (w + 1) found.rest else earlier (w + 1) found.rest)) here in
-        let step = λ (state : State) (g : Happening). state_with device state g.note.body in
-        let whole = subst (λ (hs : List Happening). is_synchronised (state_after v.scenario hs device) ≡ true) parts still in
-        let apart = fold-append step (state_at_start (start_of v.scenario.network device)) (earlier (w + 1) found.front) (h ∷ earlier (w + 1) found.rest) in
-        let now = kept_by_all is_synchronised device (earlier (w + 1) found.rest) (λ g i. each g i)
-        (step (state_after v.scenario (earlier (w + 1) found.front) device) h) (subst (λ (x : State). is_synchronised x ≡ true) apart whole) in
-        let joining = joins_state device (state_after v.scenario (earlier (w + 1) found.front) device) h.note.body joined in
-        both_ways (is_synchronised (step (state_after v.scenario (earlier (w + 1) found.front) device) h)) (ap is_synchronised joining) now
-      where
-        each : (g : Happening) → IsIn g (earlier (time_of h + 1) (founded_at v.scenario v.records h is.run.founded (setting_is v device t h e).there).rest)
-            → Keeps is_synchronised device g.note.body
-        each g i =
-            let setting = setting_is v device t h e in
-            let at_h = founded_at v.scenario v.records h is.run.founded setting.there in
-            let back = in_earlier (time_of h + 1) at_h.rest g i in
-            let in_all : IsIn g v.records = subst (IsIn g) (sym at_h.whole) (in_right g at_h.front (h ∷ at_h.rest) (inr back.0)) in
-            let at_g = founded_at v.scenario v.records g is.run.founded in_all in
-            let order = sorted_parts at_h.front at_h.rest h (subst AreSorted at_h.whole (in_order v is)) in
-            let same : time_of g ≡ time_of h = (let up = order.1 g back.0 in omega (arith, up, back.1)) in
-            keeps_unsynchronised v.scenario at_g.front g.note.time device g.note.body (λ x cycle by adjustment j at body.
-            no_correction_then v device t at_h.front at_h.rest h x cycle by adjustment is e setting.early joined at_h.whole
-            (subst (IsIn x) (sym at_g.whole) (in_left x at_g.front (g ∷ at_g.rest) j)) (omega (arith, at, same)) body) at_g.due.cause
+    false_from_ne_true (is_synchronised (state_left v device t)) (λ at.
+    let setting = setting_is v device t h e in
+    let w = time_of h in
+    let time : epoch_time (earlier t v.records) device ≡ pos w = ap (λ (o : Option Happening). option_map_or (λ g. pos (time_of g)) o (negsuc 0)) e in
+    let still = state_stays is_synchronised refl v device (w + 1) t is (omega (arith, setting.early)) (omega (arith, ints, time)) at in
+    let found = founded_at v.scenario v.records h is.run.founded setting.there in
+    let here : nat_lt w (w + 1) ≡ true = lt-ltb w (w + 1) (omega arith) in
+    let parts = ap (earlier (w + 1)) found.whole ∙ filter-append (λ (g : Happening). nat_lt (time_of g) (w + 1)) found.front (h ∷ found.rest) ∙ ap
+    (λ (b : Bool). earlier (w + 1) found.front ++ (if b then h ∷ earlier (w + 1) found.rest else earlier (w + 1) found.rest)) here in
+    let step = λ (state : State) (g : Happening). state_with device state g.note.body in
+    let whole = subst (λ (hs : List Happening). is_synchronised (state_after v.scenario hs device) ≡ true) parts still in
+    let apart = fold-append step (state_at_start (start_of v.scenario.network device)) (earlier (w + 1) found.front) (h ∷ earlier (w + 1) found.rest) in
+    let old = state_after v.scenario (earlier (w + 1) found.front) device in
+    let each : (g : Happening) → IsIn g (earlier (w + 1) found.rest) → Keeps is_synchronised device g.note.body = λ g i.
+    let back = in_earlier (w + 1) found.rest g i in
+    let in_all : IsIn g v.records = subst (IsIn g) (sym found.whole) (in_right g found.front (h ∷ found.rest) (inr back.0)) in
+    let at_g = founded_at v.scenario v.records g is.run.founded in_all in
+    let order = sorted_parts found.front found.rest h (subst AreSorted found.whole (in_order v is)) in
+    let same : time_of g ≡ w = (let up = order.1 g back.0 in omega (arith, up, back.1)) in
+    keeps_unsynchronised v.scenario at_g.front g.note.time device g.note.body (λ x cycle by adjustment j at body.
+    no_correction_then v device t found.front found.rest h x cycle by adjustment is e setting.early joined found.whole
+    (subst (IsIn x) (sym at_g.whole) (in_left x at_g.front (g ∷ at_g.rest) j)) (omega (arith, at, same)) body) at_g.due.cause in
+    let now = kept_by_all is_synchronised device (earlier (w + 1) found.rest) each (step old h) (subst (λ (x : State). is_synchronised x ≡ true) apart whole) in
+    both_ways (is_synchronised (step old h)) (ap is_synchronised (joins_state device old h.note.body joined)) now)

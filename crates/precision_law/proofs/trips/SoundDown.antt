@@ -122,12 +122,12 @@ is_open_at : (v : View) (device : DeviceId) (u : ℕ) → IsDeviceOf v.scenario.
 is_open_at v device u member opens =
     let d = opened (λ (x : Device). (is_end_system x.role ≡ true) ⊎ (x.channel ≡ Some v.channel)) (device_at v.scenario.network device) member in
     elim d.2 [
-      | inl end ↦ shut (ap (λ (o : Option Device). option_map_or (λ x. is_relay_role x.role) o false) d.1 ∙ relay_no_end d.0.role end)
+      | inl end ↦
+          let none : is_relay v.scenario.network device ≡ false =
+          ap (λ (o : Option Device). option_map_or (λ x. is_relay_role x.role) o false) d.1 ∙ relay_no_end d.0.role end in
+          rw none refl
       | inr channel ↦ opens (closed (λ (x : Device). x.channel ≡ Some v.channel) (device_at v.scenario.network device) d.0 d.1 channel)
     ]
-  where
-    shut : is_relay v.scenario.network device ≡ false → IsOpen v device u
-    shut e = rw e refl
 
 pub sound_frames_go_down : SoundFramesGoDown
 sound_frames_go_down v h device cm cycle members is e one member good other opens in_run on =

@@ -207,47 +207,43 @@ sound_frames_go_up v h master cm cycle is d one opens in_run =
     role.0 role.1 (inl (master_ends role.0.role role.2)) in
     let reach = (rules_give_trees n (shape_rules n is.lawful.rules)).reach v.channel master of_channel in
     let framed : h.frame ≡ Some (dispatched_frame n master cycle) = ap (λ (x : Happening). x.frame) at.due.same ∙ ap (frame_by n at.front) d.is in
-    by reach.0 reach.2 role of_channel (master_member v master is sends.master) framed
-  where
-    by : (links : List LinkId) → IsPath v.scenario.network v.channel master links
-        → (role : (x : Device) × (device_at v.scenario.network master ≡ Some x) × (is_master x.role ≡ true)) → IsDeviceOf v.scenario.network v.channel master
-        → (m : (x : ℕ) × (member_of v.scenario.network master ≡ Some x)) → h.frame ≡ Some (dispatched_frame v.scenario.network master cycle)
-        → IsBrought v Up h cm
-    by [] path role of_channel m framed =
-        let e = opened (λ (x : Device). (x.role ≡ Cm) × (x.channel ≡ Some v.channel)) (device_at v.scenario.network master) path in
-        let same : e.0 ≡ role.0 = same_some (device_at v.scenario.network master) e.0 role.0 e.1 role.1 in
-        absurd (master_no_cm role.0.role role.2 (ap (λ (x : Device). x.role) (sym same) ∙ e.2.0))
-    by (link ∷ rest) path role of_channel m framed =
-        let n = v.scenario.network in
-        let l = opened (λ (x : Link). (x.child ≡ master) × IsSwitchOf n v.channel x.parent × IsPath n v.channel x.parent rest) (link_at n link) path in
-        let child : IsChildOf n master link = closed (λ (x : Link). x.child ≡ master) (link_at n link) l.0 l.1 l.2.0 in
-        let fits = path_fits v v.channel master (link ∷ rest) is of_channel path in
-        let goes = go_up v (time_of h) link rest h (dispatched_frame n master cycle) master 0 0 is (record {
-          path = path;
-          there = d.there;
-          of_frame = framed;
-          clean = record { kind = refl; priority = refl; domain = refl };
-          gives = subst (λ (b : NoteBody). Gives n b master link) (sym d.is) (refl, child);
-          good = d.good;
-          member = λ ends. own_member (member_of n master) m.0 m.1;
-          clock = omega arith;
-          time = omega arith;
-          after = omega arith;
-          fits = omega (arith, fits.0);
-          few = omega (arith, fits.1);
-        }) opens in_run in
-        let come = goes.come in
-        let body = come.body ∙ ap (λ (x : DeviceId). notes.Arrived x come.link come.cause come.clock) (one_cm v v.channel come.cm cm is come.is_cm one) in
-        let will = will_be_permanent v goes.last cm come.link come.cause come.clock is body (omega (arith, come.small, sizes_are v is)) in
-        let up = path_up v v.channel h goes.last goes.legs master cm cycle come.link come.cause come.clock is one goes.trip body d.is in
-        record {
-          legs = goes.legs;
-          last = goes.last;
-          trip = goes.trip;
-          point = will.point;
-          q = will.q;
-          permanent = will.permanent;
-          in_time =
-              trips_up_take_dmax v h goes.last goes.legs v.channel master cm will.point will.q is of_channel up (dispatch_clock v h master cycle is d) goes.trip
-              will.permanent (come.clock_is ∙ sym will.same);
-        }
+    let m = master_member v master is sends.master in
+    elim reach.0 as (λ links. IsPath n v.channel master links → IsBrought v Up h cm) [
+      | [] ↦ λ path.
+          let e = opened (λ (x : Device). (x.role ≡ Cm) × (x.channel ≡ Some v.channel)) (device_at n master) path in
+          let same : e.0 ≡ role.0 = same_some (device_at n master) e.0 role.0 e.1 role.1 in
+          absurd (master_no_cm role.0.role role.2 (ap (λ (x : Device). x.role) (sym same) ∙ e.2.0))
+      | link ∷ rest ↦ λ path.
+          let l = opened (λ (x : Link). (x.child ≡ master) × IsSwitchOf n v.channel x.parent × IsPath n v.channel x.parent rest) (link_at n link) path in
+          let child : IsChildOf n master link = closed (λ (x : Link). x.child ≡ master) (link_at n link) l.0 l.1 l.2.0 in
+          let fits = path_fits v v.channel master (link ∷ rest) is of_channel path in
+          let goes = go_up v (time_of h) link rest h (dispatched_frame n master cycle) master 0 0 is (record {
+            path = path;
+            there = d.there;
+            of_frame = framed;
+            clean = record { kind = refl; priority = refl; domain = refl };
+            gives = subst (λ (b : NoteBody). Gives n b master link) (sym d.is) (refl, child);
+            good = d.good;
+            member = λ ends. own_member (member_of n master) m.0 m.1;
+            clock = omega arith;
+            time = omega arith;
+            after = omega arith;
+            fits = omega (arith, fits.0);
+            few = omega (arith, fits.1);
+          }) opens in_run in
+          let come = goes.come in
+          let body = come.body ∙ ap (λ (x : DeviceId). notes.Arrived x come.link come.cause come.clock) (one_cm v v.channel come.cm cm is come.is_cm one) in
+          let will = will_be_permanent v goes.last cm come.link come.cause come.clock is body (omega (arith, come.small, sizes_are v is)) in
+          let up = path_up v v.channel h goes.last goes.legs master cm cycle come.link come.cause come.clock is one goes.trip body d.is in
+          record {
+            legs = goes.legs;
+            last = goes.last;
+            trip = goes.trip;
+            point = will.point;
+            q = will.q;
+            permanent = will.permanent;
+            in_time =
+                trips_up_take_dmax v h goes.last goes.legs v.channel master cm will.point will.q is of_channel up (dispatch_clock v h master cycle is d) goes.trip
+                will.permanent (come.clock_is ∙ sym will.same);
+          }
+    ] reach.2

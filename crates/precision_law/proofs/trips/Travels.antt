@@ -52,21 +52,17 @@ adds_up v way first last (leg ∷ legs) is trip =
       jitter = omega (arith, sum_by-cons (λ (h : Hop). h.jitter) hop.hop more.hops, sum_by-cons (λ (x : Leg). jitter_of v.scenario.network x.link) leg legs);
     }
 
--- what a trip's last leg brings is not too old
+-- what a trip brings is not too old
+stays_young : (v : View) (way : Way) (first last : Happening) (legs : List Leg) → IsView v → IsTrip v way first legs last
+    → clock_in first ≤ amount v.scenario.network.dmax → clock_in last ≤ amount v.scenario.network.dmax
+stays_young v way first last [] is trip young = (let same : clock_in first ≡ clock_in last = ap clock_in trip in omega (arith, same, young))
+stays_young v way first last (leg ∷ legs) is trip young =
+    let link = leg_link v way leg is trip.1 in
+    stays_young v way leg.arriving last legs is trip.2 (leg_hop v way leg link.0 is trip.1 link.1).young
+
 pub last_young : (v : View) (way : Way) (first last : Happening) (legs : List Leg) → IsView v → IsTrip v way first legs last → clock_in first ≡ 0
     → clock_in last ≤ amount v.scenario.network.dmax
-last_young v way first last [] is trip zero_clock = (let c : clock_in first ≡ clock_in last = ap clock_in trip in omega (arith, c, zero_clock))
-last_young v way first last (leg ∷ []) is trip zero_clock =
-    let link = leg_link v way leg is trip.1 in
-    (omega (arith, ap clock_in trip.2, (leg_hop v way leg link.0 is trip.1 link.1).young))
-last_young v way first last (leg ∷ next ∷ legs) is trip zero_clock = last_of_more v way leg.arriving last next legs is trip.2
-  where
-    last_of_more : (v : View) (way : Way) (first last : Happening) (leg : Leg) (legs : List Leg) → IsView v → IsTrip v way first (leg ∷ legs) last
-        → clock_in last ≤ amount v.scenario.network.dmax
-    last_of_more v way first last leg [] is trip =
-        let link = leg_link v way leg is trip.1 in
-        (omega (arith, ap clock_in trip.2, (leg_hop v way leg link.0 is trip.1 link.1).young))
-    last_of_more v way first last leg (next ∷ legs) is trip = last_of_more v way leg.arriving last next legs is trip.2
+last_young v way first last legs is trip zero_clock = stays_young v way first last legs is trip (omega (arith, zero_clock))
 
 -- ---- links from the last to the first
 

@@ -66,7 +66,10 @@ path_from v channel g last (leg ∷ legs) cm relay by to c d t u is one trip end
     let l = trip.1 in
     let up = path_from v channel leg.arriving last legs cm l.receiver leg.link to leg.leaving.note.number d l.arrived_clock u is one trip.2 ends l.arrives in
     let gives = subst (λ (b : NoteBody). Gives n b l.sender leg.link) (ap (λ (h : Happening). h.note.body) trip.0 ∙ body) l.gives in
-    let child : IsChildOf n l.sender leg.link = passes_up v leg relay by is l gives in
+    let child : IsChildOf n l.sender leg.link = elim gives.1.on [
+      | inl up ↦ up.1
+      | inr down ↦ (let wrong : Down ≡ Up = sym (parent_ways n l.sender leg.link down.1).1 ∙ l.from_way in absurd cc)
+    ] in
     let path = leg_up v channel leg (links_of legs) is l (λ link at. child_is n l.sender leg.link link child at) up in
     let link = leg_link v Up leg is l in
     let recv : Some link.0.parent ≡ Some l.receiver = ap (λ (o : Option Link). option_map (target_by Up) o) (sym link.1) ∙ l.comes_to in
@@ -78,13 +81,6 @@ path_from v channel g last (leg ∷ legs) cm relay by to c d t u is one trip end
       path = subst (λ (x : DeviceId). IsPath n channel x (leg.link ∷ links_of legs)) gives.0 path;
       switch = subst (IsSwitchOf n channel) gives.0 (switch_of n channel l.sender of_link);
     }
-  where
-    passes_up : (v : View) (leg : Leg) (relay : DeviceId) (by : LinkId) → IsView v → (l : IsLeg v Up leg)
-        → Gives v.scenario.network (notes.Arrived relay by c t) l.sender leg.link → IsChildOf v.scenario.network l.sender leg.link
-    passes_up v leg relay by is l gives = elim gives.1.on [
-      | inl up ↦ up.1
-      | inr down ↦ (let wrong : Down ≡ Up = sym (parent_ways v.scenario.network l.sender leg.link down.1).1 ∙ l.from_way in absurd cc)
-    ]
 
 -- the links of a trip up from a master are its path
 pub path_up : (v : View) (channel : Channel) (first last : Happening) (legs : List Leg) (master cm : DeviceId) (cycle : ℕ) (to : LinkId) (d u : ℕ) → IsView v
