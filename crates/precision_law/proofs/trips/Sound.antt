@@ -45,7 +45,8 @@ starts_on network device on = by (device_at network device) on
   where
     by : (o : Option Device) → IsSomeAnd o (λ d. IsNone d.start → ⊥) → is_off (state_at_start (option_and_then (λ d. d.start) o)) ≡ false
     by None on = absurd on
-    by (Some d) on = elim d.start as (λ o. (IsNone o → ⊥) → is_off (state_at_start o) ≡ false) [ None ↦ λ never. absurd (never refl) | Some x ↦ λ never. refl ] on
+    by (Some d) on =
+        elim d.start as (λ o. (IsNone o → ⊥) → is_off (state_at_start o) ≡ false) [ None ↦ λ never. absurd (never refl) | Some x ↦ λ never. refl ] on
 
 pub sound_switch_on : (v : View) (device : DeviceId) (t : ℕ) → IsView v → IsSoundSwitch v device → is_off (state_before v.scenario v.records device t) ≡ false
 sound_switch_on v device t is switch =
