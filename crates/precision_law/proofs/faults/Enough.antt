@@ -1,13 +1,13 @@
 -- Enough masters began on and are good.
-use Rattle.precision_law.proofs.words.Std.{◌&&◌, ◌++◌, ◌+◌, ◌/◌, ◌<◌, ◌∙◌, ◌∷◌, ◌≡◌, ◌≤◌, ◌⊎◌, Bool, IsNone, List, None, Option, Some, [], and_parts, ap, arith, bit_at, bit_at-pow_other, bit_at-suc, bit_at-zero, bit_at_lowest, bit_at_or, both_ways, cases_eq, cases_lt, cond, count_by, count_ones, enumerate_from, eq-eqb, false, false_from_ne_true, filter, if◌then◌else◌, inl, inr, is_some, length, list_any, not, not-true, ones_le_self, ones_step, option_and_then, option_map_or, refl, slice_get, subst, suc, sum_by-cons, sym, true, zero, ℕ}
-use Rattle.precision_law.proofs.words.Plans.{Device, DeviceId, Event, IsDeviceInRange, IsMember, Masters, Members, all_at, closed, count_of, device_at, is_master, none, single, union}
+use Rattle.precision_law.proofs.words.Std.{◌&&◌, ◌++◌, ◌+◌, ◌/◌, ◌<◌, ◌∙◌, ◌∷◌, ◌≡◌, ◌≤◌, ◌⊎◌, Bool, IsNone, List, None, Option, Some, [], and_parts, ap, arith, bit_at, bit_at-pow_other, bit_at-suc, bit_at-zero, bit_at_lowest, bit_at_or, both_ways, cases_eq, cases_lt, cond, count_by, count_ones, enumerate_from, eq-eqb, false, false_from_ne_true, filter, if◌then◌else◌, inl, inr, is_some, length, list_any, not, not-true, ones_le_self, ones_step, option_map_or, refl, slice_get, subst, suc, sum_by-cons, sym, true, zero, ℕ}
+use Rattle.precision_law.proofs.words.Plans.{Device, DeviceId, Event, IsMember, Masters, Members, closed, count_of, device_at, is_master, none, single, union}
 use Rattle.precision_law.proofs.words.Runs.{Breaks, TooFewMasters, breaks_at, in_right, is_broken, is_sound_master, member_of, parted, sound_masters}
 use Rattle.precision_law.proofs.words.Laws.{EnoughMasters, IsBad, IsFirstMaster, IsGood, IsView, View}
 use Rattle.membership.proofs.CountLemmas.{count_of-union_single}
 use Rattle.precision_law.proofs.faults.Broken.{broke_by, one_bad, one_member}
 use Rattle.precision_law.proofs.faults.Masters.{in_any}
-use Rattle.precision_law.proofs.Plain.{some_of}
 use Rattle.std.proofs.lemmas.Option.{slice_get_within}
+use Rattle.precision_law.proofs.trips.Ascents.{master_member}
 
 -- ---- bits
 
@@ -47,11 +47,9 @@ AreBelow v befallen place set = (i : ℕ) → IsMember i set → (s : IsSoundAt 
 sound_member : (v : View) (befallen : List Event) (k : ℕ) (d : Device) → IsView v → slice_get v.scenario.network.device k ≡ Some d
     → is_sound_master befallen (k, d) ≡ true → (i : ℕ) × (member_of v.scenario.network (record { 0 = k }) ≡ Some i)
 sound_member v befallen k d is at sound =
-    let known : IsDeviceInRange d = all_at IsDeviceInRange v.scenario.network.device k d is.lawful.range.devices at in
     let role = (and_parts (is_master d.role) (is_some d.start)
     (and_parts (is_master d.role && is_some d.start) (not (list_any (λ e. breaks_at k e.what) befallen)) sound).0).0 in
-    let m = some_of d.member (known.masters ∙ role) in
-    (m.0, ap (λ (o : Option Device). option_and_then (λ x. x.member) o) at ∙ m.1)
+    master_member v (record { 0 = k }) is (ap (λ (o : Option Device). option_map_or (λ x. is_master x.role) o false) at ∙ role)
 
 -- a set of so many members, each that of a sound master
 abbrev HasSound : View → List Event → ℕ → Type 0

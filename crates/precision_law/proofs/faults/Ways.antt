@@ -1,7 +1,7 @@
 -- The sound channel: no way of its links is cut, and its switches begin on.
-use Rattle.precision_law.proofs.words.Std.{◌++◌, ◌<◌, ◌==◌, ◌∙◌, ◌∷◌, ◌≡◌, ◌≤◌, ◌⊎◌, Any, Bool, IsNone, List, None, Option, Some, [], and_parts, ap, append_assoc, arith, eqb-true, false, false_from_ne_true, filter, filter-append, if◌then◌else◌, inl, inr, ints, last_or, le-leb, leb-true, length, nat_le, refl, slice_get, subst, suc, sym, true, unwrap_or, zero, ℕ}
+use Rattle.precision_law.proofs.words.Std.{◌++◌, ◌<◌, ◌∙◌, ◌∷◌, ◌≡◌, ◌≤◌, ◌⊎◌, Any, Bool, IsNone, List, None, Option, Some, [], ap, append_assoc, arith, false, false_from_ne_true, filter, filter-append, if◌then◌else◌, inl, inr, ints, last_or, le-leb, leb-true, length, nat_le, refl, slice_get, subst, suc, sym, true, unwrap_or, zero, ℕ}
 use Rattle.precision_law.proofs.words.Plans.{A, B, Channel, Device, Event, HasOffSwitch, IsSwitchOf, Joints, Link, LinkId, Network, Way, What, amount, closed, device_at, link_at, opened}
-use Rattle.precision_law.proofs.words.Runs.{Cuts, IsFaulty, IsIn, IsLinkOf, Scenario, any_of_none, any_parts, cut_set, events_up_to, in_filter, in_left, in_right, is_cut, is_faulty, is_way, is_way_of, parted}
+use Rattle.precision_law.proofs.words.Runs.{Cuts, IsFaulty, IsIn, IsLinkOf, Scenario, any_of_none, any_parts, cut_set, events_up_to, in_filter, in_left, in_right, is_cut, is_faulty, is_way_of, parted}
 use Rattle.precision_law.proofs.words.Laws.{IsView, SoundSwitchesBeginOn, SoundWaysAreWhole, View}
 use Rattle.net_plan.specs.declared.event.What.TheVariants as events
 use Rattle.run_law.specs.declared.outside.Outside.TheVariants as outside
@@ -9,8 +9,9 @@ use Rattle.std.proofs.Common.{filter_map}
 use Rattle.precision_law.proofs.records.Behind.{in_filter_map}
 use Rattle.precision_law.proofs.records.Points.{last_in}
 use Rattle.precision_law.proofs.records.Times.{passes}
-use Rattle.precision_law.proofs.trips.Ascents.{event_begins, no_earlier}
+use Rattle.precision_law.proofs.trips.Ascents.{no_earlier}
 use Rattle.precision_law.proofs.Plain.{any_is, any_of_in, some_if}
+use Rattle.run_law.proofs.law.FirstDelays.{given, same_way_link}
 
 -- ---- switches
 
@@ -77,8 +78,7 @@ cut_by s link way t cut =
 
     set_by : (e : Event) (what : What) → e.what ≡ what → cut_set link way what ≡ Some true → Cuts link e
     set_by e (events.Cut other turned) same set =
-        let parts = and_parts (link.0 == other.0) (is_way way turned) (some_if (is_way_of link way other turned) true true set).0 in
-        let one : other ≡ link = ap (λ (n : ℕ). let l : LinkId = record { 0 = n } in l) (sym (eqb-true link.0 other.0 parts.0)) in
+        let one = same_way_link link other way turned (some_if (is_way_of link way other turned) true true set).0 in
         (turned, same ∙ ap (λ (l : LinkId). events.Cut l turned) one)
     set_by e (events.Heal other turned) same set = (let wrong : false ≡ true = (some_if (is_way_of link way other turned) false true set).1 in absurd cc)
     set_by e what same set = absurd cc
@@ -150,7 +150,7 @@ where_first v link e before behind is of_channel whole early cuts on (cut_at b m
     let in_before : IsIn c before = subst (IsIn c) (sym split) (in_right c b (c ∷ m) (inl refl)) in
     let in_all : IsIn c v.scenario.events = subst (IsIn c) (sym whole) (in_left c before (e ∷ behind) in_before) in
     let order = no_earlier v.scenario.network v.scenario.events before behind c e is.lawful.within whole in_before in
-    let begun = event_begins v c is in_all in
+    let begun = (given v.scenario c is.lawful in_all).range.time in
     let of_c = channel_cut v c l is in_all cuts_c in
     elim (same_or_not of_c.0 v.channel) [
       | inl same ↦

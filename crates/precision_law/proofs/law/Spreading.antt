@@ -135,7 +135,9 @@ two_of sound s mark ns until path n up beta g h a b le =
       second = record { there = y.cut.has h b.there (omega arith); is = b.is; good = sends_correct s mark ns until (suc n) up h b };
       le = le;
       early = λ t within. x.cut.early t (omega (arith, within)) ∙ sym (y.cut.early t (omega (arith, within, le)));
-      inside = λ e i. y.cut.has e (x.cut.inside e i) (let in_run = within_run (view_of s (time_of g) c.0 path x.cut.front) x.is e i in omega (arith, in_run, le));
+      inside = λ e i.
+          let in_run = within_run (view_of s (time_of g) c.0 path x.cut.front) x.is e i in
+          y.cut.has e (x.cut.inside e i) (omega (arith, in_run, le));
       of_run = x.cut.inside;
     }
 

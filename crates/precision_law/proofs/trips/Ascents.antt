@@ -1,15 +1,13 @@
 -- Where frames come from, leg by leg; those that go up are of masters.
-use Rattle.precision_law.proofs.words.Std.{◌&&◌, ◌++◌, ◌+◌, ◌<◌, ◌==◌, ◌^◌, ◌∙◌, ◌∷◌, ◌≡◌, ◌≤ℤ◌, ◌≤◌, ◌⊎◌, Any, Bool, Err, List, None, Ok, Option, Result, Some, [], ap, append_assoc, arith, both_ways, by_lt_z, eq-eqb, eqb-true, false, if◌then◌else◌, inl, inr, ints, le-leb, length, nat_le, not-false, option_and_then, option_map_or, pos, refl, slice_get, subst, suc, sym, true, true_from_ne_false, unwrap_or, zero, ℕ}
+use Rattle.precision_law.proofs.words.Std.{◌&&◌, ◌++◌, ◌+◌, ◌<◌, ◌==◌, ◌^◌, ◌∙◌, ◌∷◌, ◌≡◌, ◌≤ℤ◌, ◌≤◌, ◌⊎◌, Any, Bool, Err, List, None, Ok, Option, Some, [], ap, append_assoc, arith, both_ways, by_lt_z, eq-eqb, eqb-true, false, if◌then◌else◌, inl, inr, ints, le-leb, length, nat_le, not-false, option_and_then, option_map_or, refl, subst, suc, sym, true, true_from_ne_false, unwrap_or, zero, ℕ}
 use Rattle.precision_law.proofs.words.Plans.{Device, DeviceId, Down, Event, IsDeviceInRange, Link, LinkId, Members, Network, Pcf, Up, Way, all_at, amount, device_at, field, is_end_system, is_master, link_at, opened}
 use Rattle.precision_law.proofs.words.Runs.{AreWithinHypothesis, Arrival, ArrivesAs, Breaks, Gives, Happening, IsCaused, IsIn, Launch, NotBroken, NoteBody, Order, Reason, Signal, Standpoint, are_others, arrival_of, breaks_at, channel_of, channel_of_link, control, cycle_in, events_up_to, founded_at, frame_in, has_role, in_at, in_left, is_broken, is_cut, is_end, is_of_other_member, last_taken, launched, member_of, members_in, numbered, numbered_in, parted, receiver_of, same_some, signal_of, standpoint, time_of, timed, way_from, way_to}
 use Rattle.precision_law.proofs.words.Laws.{FramesUpAreOfMasters, IsBad, IsOfBad, IsOfGood, IsTrip, IsView, Leg, View}
 use Rattle.net_plan.specs.declared.event.What.TheVariants as events
 use Rattle.pcf_codec.specs.Decoding.{decoded}
 use Rattle.pcf_codec.specs.EtherType.{pcf_type}
-use Rattle.pcf_codec.specs.declared.refusal.PcfRefusal.{PcfRefusal}
 use Rattle.run_law.specs.declared.note.NoteBody.TheVariants as notes
 use Rattle.run_law.specs.declared.steps.Arrival.TheVariants as arrivals
-use Rattle.run_law.specs.law.FirstLaws.{IsEventInRange}
 use Rattle.precision_law.proofs.faults.Masters.{bad_is_master, in_any, master_ends}
 use Rattle.precision_law.proofs.records.Points.{within_run}
 use Rattle.precision_law.proofs.records.Times.{in_kept}
@@ -21,6 +19,7 @@ use Rattle.schedule_tables.specs.declared.entry.Entry.{Entry}
 use Rattle.run_law.specs.timed.Arrivals.{entry_arrival, entry_entering, octets_fault, octets_or_fault, taken_or_fault}
 use Rattle.run_law.specs.control.Leaving.{Passes}
 use Rattle.run_law.specs.records.Causes.{GoesBackTo}
+use Rattle.run_law.proofs.law.FirstDelays.{given}
 
 -- ---- masters
 
@@ -70,17 +69,6 @@ no_earlier n all before behind e event within whole i =
     let at = parted e before i in
     in_turn n all within at.1 at.0 behind e event (whole ∙ ap (λ (t : List Event). t ++ event ∷ behind) at.2 ∙ append_assoc at.0 (e ∷ at.1) (event ∷ behind))
 
-index_of : (x : Event) (xs : List Event) → IsIn x xs → (n : ℕ) × (slice_get xs n ≡ Some x)
-index_of x [] j = absurd j
-index_of x (y ∷ ys) (inl same) = (0, ap (λ (e : Event). Some e) (sym same))
-index_of x (y ∷ ys) (inr more) = (let r = index_of x ys more in (suc r.0, r.1))
-
--- no event is of a time before 0
-pub event_begins : (v : View) (x : Event) → IsView v → IsIn x v.scenario.events → pos 0 ≤ℤ x.time.0
-event_begins v x is j =
-    let at = index_of x v.scenario.events j in
-    (all_at IsEventInRange v.scenario.events at.0 x is.lawful.events at.1).time
-
 -- what sends by an event is broken
 sender_broken : (v : View) (e : Event) (link : LinkId) (l : Link) (octets : List ℕ) → IsView v → IsIn e v.scenario.events → e.what ≡ events.Send link octets
     → link_at v.scenario.network link ≡ Some l → amount e.time ≤ v.until → IsBad v l.child
@@ -99,7 +87,7 @@ sender_broken v e link l octets is i what there early =
           let in_all : IsIn found.0 s.events = subst (IsIn found.0) (sym split.2) (in_left found.0 split.0 (e ∷ split.1) found.1) in
           let place = parted found.0 s.events in_all in
           let kept = in_kept (λ x. nat_le (amount x.time) v.until) s.events found.0 in_all
-          (le-leb (amount found.0.time) v.until (omega (arith, ints, order, event_begins v found.0 is in_all, early))) in
+          (le-leb (amount found.0.time) v.until (omega (arith, ints, order, (given s found.0 is.lawful in_all).range.time, early))) in
           let breaks : breaks_at l.child.0 found.0.what ≡ true = ap (breaks_at l.child.0) found.2 ∙ eq-eqb l.child.0 l.child.0 refl in
           both_ways (is_broken s l.child v.until) at (in_any (λ (x : Event). breaks_at l.child.0 x.what) (events_up_to s v.until) found.0 kept breaks);
     }))
@@ -117,22 +105,19 @@ never_fault : (n : Network) (device : DeviceId) (at : Standpoint) (entry : Entry
 never_fault n device at entry (Some reason) taken c = c
 never_fault n device at entry None taken c = never_taken (is_end n device) _ _ taken c
 
-never_entry : (n : Network) (device : DeviceId) (at : Standpoint) (size : ℕ) (last : VlId → Option ℕ) (entry : Option Entry) (taken : Pcf)
-    → TakesWith (entry_arrival n device at size last entry) taken → ⊥
-never_entry n device at size last None taken c = c
-never_entry n device at size last (Some entry) taken c = never_fault n device at entry _ taken c
-
-never_octets : (n : Network) (device : DeviceId) (link : LinkId) (at : Standpoint) (octets : List ℕ) (last : VlId → Option ℕ) (fault : Option Reason)
-    (taken : Pcf) → TakesWith (octets_or_fault n device link at octets last fault) taken → ⊥
-never_octets n device link at octets last (Some reason) taken c = c
-never_octets n device link at octets last None taken c =
-    never_entry n device at (length octets) last (entry_entering n device link (field 4 2 octets)) taken c
-
 pub never_timed : (v : View) (ps : List Happening) (t : ℕ) (device : DeviceId) (link : LinkId) (cause : ℕ) (octets : List ℕ) (taken : Pcf)
     → TakesWith (arrival_of v.scenario ps device t link cause (timed octets)) taken → ⊥
-never_timed v ps t device link cause octets taken c =
-    never_octets v.scenario.network device link (standpoint v.scenario ps device t) octets (last_taken ps device t link cause)
-    (octets_fault v.scenario.network (standpoint v.scenario ps device t) octets) taken c
+never_timed v ps t device link cause octets taken takes =
+    let n = v.scenario.network in
+    let at : Standpoint = standpoint v.scenario ps device t in
+    let last = last_taken ps device t link cause in
+    elim (octets_fault n at octets) as (λ o. TakesWith (octets_or_fault n device link at octets last o) taken → ⊥) [
+      | Some reason ↦ λ c. c
+      | None ↦ elim (entry_entering n device link (field 4 2 octets)) as (λ o. TakesWith (entry_arrival n device at (length octets) last o) taken → ⊥) [
+        | None ↦ λ c. c
+        | Some entry ↦ λ c. never_fault n device at entry _ taken c
+      ]
+    ] takes
 
 -- the members are those of one whose frame is its own
 mine_is : (relay end : Bool) (o : Option ℕ) (members : Members) → (relay && end && are_others o members) ≡ false → relay ≡ true → end ≡ true → (m : ℕ)
@@ -151,21 +136,23 @@ pub record IsSentUp (v : View) (ps : List Happening) (device : DeviceId) (link :
   pub decodes : decoded octets ≡ Ok frame
   pub mine : is_of_other_member v.scenario.network device link frame.members ≡ false
 
--- what arrives as a control frame by octets was decoded
-decoded_as : (v : View) (ps : List Happening) (t : ℕ) (device : DeviceId) (link : LinkId) (cause : ℕ) (octets : List ℕ) (taken : Pcf)
-    → TakesWith (arrival_of v.scenario ps device t link cause (signal_of octets)) taken → (frame : Pcf) × (decoded octets ≡ Ok frame)
-    × (is_of_other_member v.scenario.network device link frame.members ≡ false)
-decoded_as v ps t device link cause octets taken c = by (field 12 2 octets == pcf_type) c
-  where
-    as_frame : (r : Result Pcf PcfRefusal) → decoded octets ≡ r → TakesWith (arrival_of v.scenario ps device t link cause (control r)) taken → (frame : Pcf)
-        × (decoded octets ≡ Ok frame) × (is_of_other_member v.scenario.network device link frame.members ≡ false)
-    as_frame (Err refusal) e c = absurd c
-    as_frame (Ok frame) e c = (frame, e, (taken_sound v.scenario.network device link (standpoint v.scenario ps device t) frame taken c).0)
+-- what arrives as a control frame by octets was decoded, and is its sender's
+abbrev IsDecoded : Network → DeviceId → LinkId → List ℕ → Type 0
+IsDecoded n device link octets = (frame : Pcf) × (decoded octets ≡ Ok frame) × (is_of_other_member n device link frame.members ≡ false)
 
-    by : (b : Bool) → TakesWith (arrival_of v.scenario ps device t link cause (if b then control (decoded octets) else timed octets)) taken → (frame : Pcf)
-        × (decoded octets ≡ Ok frame) × (is_of_other_member v.scenario.network device link frame.members ≡ false)
-    by true c = as_frame (decoded octets) refl c
-    by false c = absurd (never_timed v ps t device link cause octets taken c)
+decoded_as : (v : View) (ps : List Happening) (t : ℕ) (device : DeviceId) (link : LinkId) (cause : ℕ) (octets : List ℕ) (taken : Pcf)
+    → TakesWith (arrival_of v.scenario ps device t link cause (signal_of octets)) taken → IsDecoded v.scenario.network device link octets
+decoded_as v ps t device link cause octets taken takes =
+    let n = v.scenario.network in
+    elim (field 12 2 octets == pcf_type) as (λ b. TakesWith (arrival_of v.scenario ps device t link cause (if b then control (decoded octets) else timed
+    octets)) taken → IsDecoded n device link octets) [
+      | false ↦ λ c. absurd (never_timed v ps t device link cause octets taken c)
+      | true ↦ elim (decoded octets) as (λ r. decoded octets ≡ r → TakesWith (arrival_of v.scenario ps device t link cause (control r)) taken
+          → IsDecoded n device link octets) [
+            | Err refusal ↦ λ e c. absurd c
+            | Ok frame ↦ λ e c. (frame, e, (taken_sound n device link (standpoint v.scenario ps device t) frame taken c).0)
+          ] refl
+    ] takes
 
 -- what is taken from a way left its sender, or an event sent it up
 put_on : (v : View) (ps : List Happening) (t : ℕ) (device : DeviceId) (link : LinkId) (cause : ℕ) (a : Arrival) (taken : Pcf) (way : Way) → IsView v

@@ -1,11 +1,11 @@
 -- A leg of a frame, by its records: a hop, and what arrives is what was given but for its clock.
 use Rattle.precision_law.proofs.words.Std.{◌+ℤ◌, ◌+◌, ◌-◌, ◌<ℤ◌, ◌∙◌, ◌∷◌, ◌≡◌, ◌≤◌, ◌⊎◌, Bool, List, None, Ok, Option, Some, [], ap, arith, by_lt_z, false, if◌then◌else◌, inl, inr, ints, ltb-false, nat_lt, not, option_and_then, option_map, option_map_or, refl, subst, sym, true, ℕ}
 use Rattle.precision_law.proofs.words.Plans.{DeviceId, Down, Event, Hop, IsHop, IsLinkInRange, Link, LinkId, Measures, Network, Pcf, Units, Up, Way, all_at, amount, closed, delay_by, delay_of, link_at}
-use Rattle.precision_law.proofs.words.Runs.{Arrival, ArrivesAs, ColdStart, Domain, Gate, Happening, IsArrivedRecord, IsCaused, IsFoundedAt, IsIn, Launch, Member, NoteBody, Old, Reason, Scenario, Standpoint, Wire, arrival_of, by_number, clock_at_leaving, clock_on_arrival, control, control_arrival, delay_at, first_reason, founded_at, frame_by, frame_fault, frame_or_fault, hold_at, hold_most, is_cold_start, is_cut, is_gate_shut, is_of_other_domain, is_of_other_member, is_parent_of, is_relay, last_is, launched, leaves, numbered, numbered_front, on_cut_way, parted, point_on_arrival, same_some, standpoint, time_of, time_on_port, too_old, way_from, wire_of, wire_set, with_clock}
+use Rattle.precision_law.proofs.words.Runs.{Arrival, ArrivesAs, ColdStart, Domain, Gate, Happening, IsArrivedRecord, IsCaused, IsFoundedAt, IsIn, Launch, Member, NoteBody, Old, Reason, Scenario, Standpoint, Wire, arrival_of, by_number, clock_at_leaving, clock_on_arrival, control, control_arrival, delay_at, first_reason, founded_at, frame_by, frame_fault, frame_or_fault, hold_at, hold_most, is_cold_start, is_cut, is_gate_shut, is_of_other_domain, is_of_other_member, is_parent_of, is_relay, last_is, launched, leaves, numbered, numbered_front, on_cut_way, point_on_arrival, same_some, standpoint, time_of, time_on_port, too_old, way_from, wire_of, wire_set, with_clock}
 use Rattle.precision_law.proofs.words.Laws.{IsLeg, IsView, Leg, View, clock_in}
 use Rattle.run_law.specs.declared.judgement.Reason.TheVariants.{Off}
 use Rattle.run_law.specs.declared.steps.Arrival.TheVariants as arrivals
-use Rattle.run_law.proofs.law.FirstDelays.{sets_wire}
+use Rattle.run_law.proofs.law.FirstDelays.{given, sets_wire}
 use Rattle.precision_law.proofs.Plain.{mapped}
 
 -- ---- records and their frames
@@ -50,10 +50,8 @@ set_delay : (v : View) (link : LinkId) (l : Link) (way : Way) → IsView v → l
 set_delay v link l way is there e i d set =
     let n = v.scenario.network in
     let w = sets_wire link way e.what d set in
-    let at = parted e v.scenario.events i in
-    let known = is.lawful.within at.0 at.1 e at.2 in
     let range : IsLinkInRange n l = all_at (IsLinkInRange n) n.link link.0 l is.lawful.range.links there in
-    let never = λ (other : (w.delay.0 <ℤ l.wire.0) ⊎ ((l.wire.0 +ℤ l.jitter.0) <ℤ w.delay.0)). known Wire (record {
+    let never = λ (other : (w.delay.0 <ℤ l.wire.0) ⊎ ((l.wire.0 +ℤ l.jitter.0) <ℤ w.delay.0)). (given v.scenario e is.lawful i).within Wire (record {
       link = link;
       way = w.way;
       delay = w.delay;

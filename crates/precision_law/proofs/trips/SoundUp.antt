@@ -243,7 +243,7 @@ sound_frames_go_up v h master cm cycle is d one opens in_run =
             q = will.q;
             permanent = will.permanent;
             in_time =
-                trips_up_take_dmax v h goes.last goes.legs v.channel master cm will.point will.q is of_channel up (dispatch_clock v h master cycle is d) goes.trip
-                will.permanent (come.clock_is ∙ sym will.same);
+                trips_up_take_dmax v h goes.last goes.legs v.channel master cm will.point will.q is of_channel up (dispatch_clock v h master cycle is d)
+                goes.trip will.permanent (come.clock_is ∙ sym will.same);
           }
     ] reach.2
