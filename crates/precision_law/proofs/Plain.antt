@@ -1,5 +1,5 @@
 -- Plain facts of choices, lists, roles and states that several files use.
-use Rattle.precision_law.proofs.words.Std.{◌∙◌, ◌∷◌, ◌≡◌, ◌≤◌, Any, Bool, List, None, Option, Some, [], ap, arith, cons_option, false, filter_map, if◌then◌else◌, inl, inr, is_some, option_and_then, option_map, option_map_or, refl, subst, sym, true, ℕ}
+use Rattle.precision_law.proofs.words.Std.{◌<◌, ◌∙◌, ◌∷◌, ◌≡◌, ◌≤◌, Any, Bool, List, None, Option, Some, [], ap, arith, cases_lt, cons_option, false, filter_map, if◌then◌else◌, inl, inr, is_some, option_and_then, option_map, option_map_or, refl, subst, sym, true, ℕ}
 use Rattle.precision_law.proofs.words.Plans.{Device, Master, Role, State, Synchronised, is_end_system}
 use Rattle.precision_law.proofs.words.Runs.{IsBefore, IsIn, any_first, any_later, any_of_none, any_parts, is_cm_role, is_synchronised}
 use Rattle.precision_law.proofs.words.Laws.{has_time}
@@ -32,6 +32,10 @@ some_if false x y e = absurd cc
 pub no_later : (t u : ℕ) (xs ys : List ℕ) → IsBefore (t ∷ xs) (u ∷ ys) → t ≤ u
 no_later t u xs ys (inl lt) = omega arith
 no_later t u xs ys (inr both) = omega (arith, both.0)
+
+-- one of a lower rank, and of no later time, is before it
+pub ranked : (t u a b : ℕ) (xs ys : List ℕ) → t ≤ u → a < b → IsBefore (t ∷ a ∷ xs) (u ∷ b ∷ ys)
+ranked t u a b xs ys le low = elim (cases_lt t u) [ inl lt ↦ inl lt | inr ge ↦ inr (omega (arith, le, ge), inl low) ]
 
 -- what is made of an element is there
 pub made_in : {X Y : Type 0} (f : X → Option Y) (xs : List X) (x : X) (y : Y) → IsIn x xs → f x ≡ Some y → IsIn y (filter_map f xs)

@@ -6,8 +6,6 @@ pub mod Upward
 pub mod Legs
 pub mod Ascents
 pub mod Descents
-pub mod Carried
-pub mod Kept
 pub mod Gates
 pub mod Sound
 pub mod SoundLinks

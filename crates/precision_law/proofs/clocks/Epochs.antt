@@ -9,8 +9,6 @@ use Rattle.precision_law.proofs.clocks.Readings.{reach_is_sharp, reach_is_there}
 use Rattle.precision_law.proofs.records.Times.{between, earlier_parts, in_between, in_kept, is_between, last_append, last_some}
 use Rattle.precision_law.proofs.records.Views.{in_order, steady}
 
--- ---- the last of what is tested
-
 -- where each element that passes the test sets a value and no other does, the last such element sets it
 pub fold_last : {X V : Type 0} (f : V → X → V) (g : X → V) (test : X → Bool) (o : Option X) (initial : V) (xs : List X)
     → ((v : V) (x : X) → test x ≡ true → f v x ≡ g x) → ((v : V) (x : X) → test x ≡ false → f v x ≡ v) → fold f (option_map_or g o initial) xs ≡ option_map_or g

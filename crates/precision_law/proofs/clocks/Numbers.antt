@@ -59,9 +59,6 @@ integration_by : (recorded : ℕ) (o : Option ℕ) → option_map_or (λ cycle. 
 integration_by recorded None e = absurd cc
 integration_by recorded (Some c) e = ap (λ (x : ℕ). Some x) (sym (eqb-true recorded c e))
 
-pub integration_is : (hs : List Happening) (device : DeviceId) → is_integration_cycle hs device ≡ true → IsJoining hs device (recorded_cycle hs device)
-integration_is hs device e = joining_from hs device (recorded_cycle hs device) (integration_by (recorded_cycle hs device) (integration_cycle hs device) e)
-
 pub joining_of_setting : (device : DeviceId) (body : NoteBody) → changes_adjustment device body ≡ true → is_correction body ≡ false
     → is_joined_by device body ≡ true
 joining_of_setting device (notes.Corrected d cycle by adjustment) e other = absurd cc
@@ -161,7 +158,8 @@ set_or_cleared v n t device before is from has old (Some h) e index =
 earlier_join : (v : View) (n t : ℕ) (device : DeviceId) (before : Stands v n) → IsView v → before.next ≤ t → IsGood v device → IsOldAt v before.next device t
     → is_integration_cycle (earlier t v.records) device ≡ true → recorded_cycle (earlier t v.records) device ≤ n
 earlier_join v n t device before is from good old at =
-    let j = integration_is (earlier t v.records) device at in
+    let hs = earlier t v.records in
+    let j = joining_from hs device (recorded_cycle hs device) (integration_by (recorded_cycle hs device) (integration_cycle hs device) at) in
     let back = in_earlier t v.records j.h j.there in
     let early : time_of j.h < before.next = elim (cases_lt (time_of j.h) before.next) [
       | inl lt ↦ lt

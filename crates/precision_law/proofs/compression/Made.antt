@@ -147,12 +147,7 @@ made_of v h cm cycle members is e =
       members_are = ap (λ (x : Compressed). x.members.0) emits.is ∙ ap (λ (x : Cluster). x.members) c.is ∙ ap members_of f.are;
       each = λ q i.
           let k = f.each q i in
-          record {
-            of_cycle = k.of_cycle ∙ sym cycle_is;
-            from = k.from;
-            to = omega (arith, ints, k.to, soon, sizes_are v is);
-            there = in_cluster c q k.there;
-          };
+          record { of_cycle = k.of_cycle ∙ sym cycle_is; from = k.from; to = omega (arith, ints, k.to, soon, sizes_are v is); there = in_cluster c q k.there };
       differ = f.differ;
       ordered = f.ordered (c.ordered (points_ordered v cm at.front (h ∷ at.rest) is at.whole));
       at = omega (arith, ints, sent, middle, sizes_are v is);

@@ -207,8 +207,6 @@ bad_number v cm by qs is each = elim (bad_or_none v cm by qs each) [
   )
 ]
 
--- ---- one cluster
-
 -- two clusters of good points of one cycle are one
 one_of_two : (v : View) (t : ℕ) (g : Happening) (cm : DeviceId) (cycle : ℕ) (k : IsKnown v t cycle) (at : IsFoundedAt v.scenario v.records g) → time_of g < t
     → is_cm v.scenario.network cm ≡ true

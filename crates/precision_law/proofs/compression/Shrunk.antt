@@ -82,8 +82,6 @@ pub cluster_was : (ow : ℤ) (ps more : List Point) (cs ds : List Cluster) (c : 
     → Contains ds c → AllByRecursion (λ q. c.end <ℤ q.reading) more → Contains cs c
 cluster_was ow ps more cs ds c some are next at past = (same_beyond ow ps more cs ds c some are next past).1 at
 
--- ---- members
-
 -- the master of a point that a cluster holds is one of its members
 pub is_held : (ow : ℤ) (ps : List Point) (cs : List Cluster) (c : Cluster) (p : Point) → pos 0 ≤ℤ ow → Ordered ps → AreClusters ow ps cs → Contains cs c
     → Contains ps p → Holds c p → bit_at c.members p.master ≡ 1

@@ -26,10 +26,6 @@ sets_within a b each = ones_within a.0 a.0 b.0 (omega arith) (λ i. elim (cases_
   | inr other ↦ (let small : bit_at a.0 i < 2 = omega arith in omega (arith, small, other))
 ])
 
--- what is in a set with one more
-in_union : (i k : ℕ) (m : Members) → IsMember i (union (single k) m) → (i ≡ k) ⊎ IsMember i m
-in_union i k m set = elim (cases_eq i k) [ inl same ↦ inl same | inr other ↦ inr (omega (arith, bit_at_or (single k).0 m.0 i, bit_at-pow_other k i other)) ]
-
 -- ---- the sound masters' members
 
 -- a sound master's device, among those before a place
@@ -78,9 +74,9 @@ grow v befallen (d ∷ xs) k set is there below =
           let lt = b.1 in
           let place : b.0.device.0 ≡ k = ap (λ (x : DeviceId). x.0) (one_member v b.0.device (record { 0 = k }) m.0 is b.0.is_member m.1) in
           absurd (omega (arith, lt, place)) in
-          let r = grow v befallen xs (k + 1) (union (single m.0) set) is later (λ i j. elim (in_union i m.0 set j) [
+          let r = grow v befallen xs (k + 1) (union (single m.0) set) is later (λ i j. elim (cases_eq i m.0) [
             | inl same ↦ (record { device = record { 0 = k }; d = d; at = here; sound = e; is_member = m.1 ∙ ap (λ (x : ℕ). Some x) (sym same) }, omega arith)
-            | inr more ↦ old i more
+            | inr other ↦ old i (omega (arith, j, bit_at_or (single m.0).0 set.0 i, bit_at-pow_other m.0 i other))
           ]) in
           (r.0, omega (arith, r.1, counts, ap (λ (b : Bool). let n : ℕ = cond b 1 0 in n) e, count_of-union_single m.0 set new), r.2)
     ] refl

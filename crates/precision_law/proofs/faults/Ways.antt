@@ -36,16 +36,13 @@ not_cut e es never (cut_at before behind c link whole cuts none) =
     cut_at (e ∷ before) behind c link (ap (λ (t : List Event). e ∷ t) whole) cuts
     (λ l any. elim (any_parts (Cuts l) e before any) [ inl here ↦ never l here | inr later ↦ none l later ])
 
-never_cuts : (e : Event) (what : What) → e.what ≡ what → ((link : LinkId) (way : Way) → what ≡ events.Cut link way → ⊥) → (link : LinkId) → Cuts link e → ⊥
-never_cuts e what same never link cuts = never link cuts.0 (sym same ∙ cuts.1)
-
 first_cut : (es : List Event) → FirstCut es
 first_cut [] = uncut (λ link any. any_of_none (Cuts link) any)
 first_cut (e ∷ es) = by e.what refl (first_cut es)
   where
     by : (what : What) → e.what ≡ what → FirstCut es → FirstCut (e ∷ es)
     by (events.Cut link way) same more = cut_at [] es e link refl (way, same) (λ l any. any_of_none (Cuts l) any)
-    by what same more = not_cut e es (never_cuts e what same (λ l w x. cc)) more
+    by what same more = not_cut e es (λ l cuts. (let wrong : what ≡ events.Cut l cuts.0 = sym same ∙ cuts.1 in absurd cc)) more
 
 -- a filter keeps a split
 kept_split : (p : Event → Bool) (before behind : List Event) (e : Event) → p e ≡ true → filter p (before ++ e ∷ behind) ≡ filter p before ++ e ∷ filter p behind

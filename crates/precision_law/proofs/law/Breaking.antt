@@ -8,8 +8,6 @@ use Rattle.precision_law.proofs.words.Blocks.{all_in_hulls, before_narrow, block
 use Rattle.precision_law.proofs.block.Dispatched.{masters_dispatch}
 use Rattle.precision_law.proofs.block.Halving as halving
 
--- ---- a master that began on has dispatched
-
 -- once the block of a later cycle is over, each good master that began on has dispatched the frame of the cycle
 pub first_dispatched : BlocksCover → BlocksGoSo → (v : View) (m : ℕ) (stands : Stands v (suc m)) (device : DeviceId) → IsView v → IsFirstMaster v device
     → (h : Happening) × IsDispatch v h device (suc m)

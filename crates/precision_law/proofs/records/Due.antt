@@ -1,5 +1,5 @@
 -- What is due is recorded: the frames of clusters, and what is permanent.
-use Rattle.precision_law.proofs.words.Std.{◌+◌, ◌<◌, ◌∙◌, ◌∷◌, ◌≡◌, ◌≤◌, ◌⊎◌, Bool, Contains, List, MatchBool, None, Option, Some, [], ap, arith, cases_lt, false, inl, inr, ints, length, option_and_then, option_map_or, pos, refl, subst, sym, true, unsigned_abs, ℕ, ℤ}
+use Rattle.precision_law.proofs.words.Std.{◌+◌, ◌∙◌, ◌∷◌, ◌≡◌, ◌≤◌, ◌⊎◌, Bool, Contains, List, MatchBool, None, Option, Some, [], ap, arith, false, inl, inr, ints, length, option_and_then, option_map_or, pos, refl, subst, sym, true, unsigned_abs, ℕ, ℤ}
 use Rattle.precision_law.proofs.words.Plans.{AreClusters, Cluster, DeviceId, IsReach, LinkId, Pcf, Taken, amount, emission, one_list_of_clusters, point_at, point_of, role, units_of}
 use Rattle.precision_law.proofs.words.Runs.{AllBefore, BecomesPermanent, Emits, Happening, IsBefore, IsCaused, IsCollectedOrDropped, IsCollectionOutcome, IsDue, IsFounded, IsIn, IsJudgedBy, IsPermanenceOutcome, IsPermanent, IsSplit, Judgement, NoneBefore, Note, NoteBody, Reason, Scenario, adjustment_at_hearing, by_number, due_is_there, front_founded, happening, heard_as, in_front_of, is_cm, key, master_of, members_in, numbered, observation_window, place_of, plan_of, point_fault, points_of, rank, ripe_as, sign, state_at_hearing, time_of, waits_for}
 use Rattle.precision_law.proofs.words.Laws.{IsEmission, IsGood, IsPermanentAt, IsView, Sizes, View}
@@ -8,6 +8,7 @@ use Rattle.run_law.specs.declared.judgement.Judgement.TheVariants as judgements
 use Rattle.run_law.specs.declared.note.NoteBody.TheVariants as notes
 use Rattle.precision_law.proofs.faults.Masters.{good_is_correct}
 use Rattle.precision_law.proofs.records.Judged.{all_judge}
+use Rattle.precision_law.proofs.Plain.{ranked}
 
 -- ---- what is sent
 
@@ -112,9 +113,6 @@ pub record IsRipeRecord (v : View) (device : DeviceId) (arrival : Happening) (li
   pub time : time_of h ≡ q
   pub of_frame : h.frame ≡ Some frame
 
-before_ripe : (t q : ℕ) (r : ℕ) (rest more : List ℕ) → t ≤ q → r < 3 → IsBefore (t ∷ r ∷ rest) (q ∷ 3 ∷ more)
-before_ripe t q r rest more le low = elim (cases_lt t q) [ inl lt ↦ inl lt | inr ge ↦ inr (omega (arith, le, ge), inl low) ]
-
 -- given those before its place, it becomes what the law of permanence says: where this is a judgement, there is a
 -- record of it
 pub is_recorded : (v : View) (device : DeviceId) (arrival : Happening) (link : LinkId) (frame : Pcf) (point : ℤ) (q : ℕ) (verdict : Judgement) (is : IsView v)
@@ -130,7 +128,7 @@ is_recorded v device arrival link frame point q verdict is r at becomes =
     let body : NoteBody = notes.Permanent device link number (record { 0 = point }) verdict in
     let p = r.permanent in
     let arrives : arrival.note.body ≡ notes.Arrived device link p.from p.clock = p.is ∙ ap (λ (l : LinkId). notes.Arrived device l p.from p.clock) r.by_link in
-    let sooner : IsBefore (place_of arrival) (place_of_ripe device arrival link frame point q) = before_ripe (time_of arrival) q (rank arrival.note.body)
+    let sooner : IsBefore (place_of arrival) (place_of_ripe device arrival link frame point q) = ranked (time_of arrival) q (rank arrival.note.body) 3
     (key (members_in arrival) arrival.note.body) (device.0 ∷ unsigned_abs point ∷ frame.members.0 ∷ link.0 ∷ number ∷ []) r.later
     (let two : rank arrival.note.body ≡ 2 = ap rank arrives in omega (arith, two)) in
     let front = front_founded place_of (IsDue s) at.front at.rest (subst (IsFounded place_of (IsDue s)) at.whole is.run.founded) in
@@ -212,8 +210,6 @@ is_collected v cm arrival link frame point q is one r at fine =
         inr (kept judgements.Joined (record { taken = taken.Joined; collected = record { clusters = clusters; are = are; is = sym e }; becomes = refl }))
     by clusters are taken.Repeat e =
         inr (kept judgements.Repeat (record { taken = taken.Repeat; collected = record { clusters = clusters; are = are; is = sym e }; becomes = refl }))
-
--- ---- what other devices hear
 
 -- a frame that is permanent at any other device has a record, by which the device hears it
 pub is_heard_of : (v : View) (device : DeviceId) (arrival : Happening) (link : LinkId) (frame : Pcf) (point : ℤ) (q : ℕ) (is : IsView v)

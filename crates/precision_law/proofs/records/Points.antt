@@ -1,11 +1,12 @@
 -- The records of a view with those before them, and the correction points that they come of.
-use Rattle.precision_law.proofs.words.Std.{◌++◌, ◌+ℤ◌, ◌+◌, ◌-ℤ◌, ◌<ℤ◌, ◌<◌, ◌∙◌, ◌∷◌, ◌≡◌, ◌≤◌, ◌⊎◌, Bool, List, None, Option, Some, [], ap, arith, false, filter, if◌then◌else◌, inl, inr, last_or, option_map_or, pos, refl, subst, sym, true, ℕ, ℤ}
+use Rattle.precision_law.proofs.words.Std.{◌++◌, ◌+ℤ◌, ◌+◌, ◌-ℤ◌, ◌<ℤ◌, ◌<◌, ◌∙◌, ◌∷◌, ◌≡◌, ◌≤◌, ◌⊎◌, Bool, List, None, Option, Some, [], ap, arith, cases_lt, false, filter, if◌then◌else◌, inl, inr, last_or, option_map_or, pos, refl, subst, sym, true, ℕ, ℤ}
 use Rattle.precision_law.proofs.words.Plans.{DeviceId, Integrating, IsReach, Off, State, Verdict, point_in}
-use Rattle.precision_law.proofs.words.Runs.{ComesToCorrection, Happening, IsDue, IsFounded, IsFoundedAt, IsIn, Reaches, Scenario, adjustment_after, adjustment_before, changes_adjustment, earlier, front_founded, in_filter, in_right, is_turned_on_at, place_of, state_after, state_before, time_of}
+use Rattle.precision_law.proofs.words.Runs.{ComesToCorrection, Happening, IsDue, IsFounded, IsFoundedAt, IsIn, IsSplit, Reaches, Scenario, adjustment_after, adjustment_before, changes_adjustment, earlier, front_founded, in_filter, in_right, is_turned_on_at, key, members_in, place_of, rank, state_after, state_before, time_of}
 use Rattle.precision_law.proofs.words.Laws.{AreBeforeCorrections, IsView, View, has_time, last_setting, state_left}
 use Rattle.precision_law.proofs.records.Cutting.{of_earlier}
 use Rattle.precision_law.proofs.records.Times.{AreSorted, earlier_front, in_earlier, passes}
 use Rattle.precision_law.proofs.records.Views.{in_order}
+use Rattle.precision_law.proofs.Plain.{no_later}
 
 -- ---- records with those before them
 
@@ -65,18 +66,13 @@ not_turned_on : (b : Bool) (state : State) → has_time (if b then Integrating e
 not_turned_on true state e = absurd cc
 not_turned_on false state e = e
 
--- before t a device has the time where it does when something comes at t
-pub left_with_time : (v : View) (device : DeviceId) (t : ℕ) (front : List Happening) → AreBeforeCorrections v t front
-    → has_time (state_before v.scenario front device t) ≡ true → has_time (state_left v device t) ≡ true
-left_with_time v device t front split e =
-    let here = not_turned_on (is_turned_on_at v.scenario device t) (state_after v.scenario (earlier t front) device) e in
-    subst (λ (hs : List Happening). has_time (state_after v.scenario hs device) ≡ true) (earlier_before v t front split) here
-
--- so does one that comes to a correction point
+-- one that comes to a correction point has the time
 pub point_timed : (v : View) (t : ℕ) (device : DeviceId) (cycle : ℕ) (verdict : Verdict) (front : List Happening) → AreBeforeCorrections v t front
     → ComesToCorrection v.scenario front device t cycle verdict → has_time (state_left v device t) ≡ true
 point_timed v t device cycle verdict front split point =
-    left_with_time v device t front split (point_has_time (state_before v.scenario front device t) _ cycle point.next)
+    let now = point_has_time (state_before v.scenario front device t) _ cycle point.next in
+    let here = not_turned_on (is_turned_on_at v.scenario device t) (state_after v.scenario (earlier t front) device) now in
+    subst (λ (hs : List Happening). has_time (state_after v.scenario hs device) ≡ true) (earlier_before v t front split) here
 
 -- the adjustment is that which the earlier records leave
 pub same_adjustment : (v : View) (device : DeviceId) (t : ℕ) (front : List Happening) → AreBeforeCorrections v t front
@@ -128,3 +124,19 @@ reaches_by s hs gs device value t same reaches = record {
 pub reaches_whole : (v : View) (device : DeviceId) (value : ℤ) (t : ℕ) (front : List Happening) → AreBeforeCorrections v t front
     → Reaches v.scenario front device value t → Reaches v.scenario v.records device value t
 reaches_whole v device value t front split = reaches_by v.scenario front v.records device value t (earlier_before v t front split)
+
+-- ---- the records before a place of a time
+
+-- where records part at a place of a time
+pub before_place : (v : View) (t : ℕ) (more : List ℕ) (at : IsSplit place_of v.records (t ∷ more)) → AreBeforeCorrections v t at.front
+before_place v t more at = record {
+  rest = at.rest;
+  whole = at.whole;
+  later = λ h i. elim (cases_lt (time_of h) t) [ inl lt ↦ absurd (at.none h i (inl lt)) | inr ge ↦ ge ];
+  only = λ h i. no_later (time_of h) t (rank h.note.body ∷ key (members_in h) h.note.body) more (at.before h i);
+}
+
+-- what a clock reaches given all records it reaches given those before
+pub reaches_front : (v : View) (device : DeviceId) (value : ℤ) (t : ℕ) (front : List Happening) → AreBeforeCorrections v t front
+    → Reaches v.scenario v.records device value t → Reaches v.scenario front device value t
+reaches_front v device value t front before = reaches_by v.scenario v.records front device value t (sym (earlier_before v t front before))

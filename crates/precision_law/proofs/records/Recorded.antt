@@ -8,8 +8,6 @@ use Rattle.run_law.specs.declared.judgement.Why.TheVariants as whys
 use Rattle.run_law.specs.declared.note.NoteBody.TheVariants as notes
 use Rattle.precision_law.proofs.verdict.Verdicts.{summary_of, verdict_of}
 
--- ---- lists
-
 -- what makes nothing of each makes nothing
 makes_none : {X Y : Type 0} (f : X → Option Y) (xs : List X) → ((x : X) → IsIn x xs → f x ≡ None) → filter_map f xs ≡ []
 makes_none f [] quiet = refl

@@ -39,12 +39,6 @@ bad_role v device is bad =
     let d = opened (λ (x : Device). is_master x.role ≡ true) (device_at v.scenario.network device) master in
     both_ways (has_role v.scenario.network is_master device) other (ap (λ (o : Option Device). option_map_or (λ x. is_master x.role) o false) d.1 ∙ d.2)))
 
--- it is an end system
-bad_ends : (v : View) (device : DeviceId) → IsView v → IsBad v device → is_end v.scenario.network device ≡ true
-bad_ends v device is bad =
-    let d = device_of is_master (device_at v.scenario.network device) (bad_role v device is bad) in
-    ap (λ (o : Option Device). option_map_or (λ x. is_end_system x.role) o false) d.1 ∙ master_ends d.0.role d.2
-
 -- ---- events in order
 
 -- of events within the hypothesis none is earlier than the one before it
@@ -234,8 +228,10 @@ sent_by_bad v h device link cause clock is i body to put =
     let frame_h = frame_is at _ body ∙ clocked clock _ putting put.frame put.there framed in
     let mine = sym (ap (λ (o : Option Link). option_map_or (λ k. k.parent.0 == device.0 && is_end n k.child && are_others
     (member_of n k.child) put.frame.members) o false) l.1) ∙ put.mine in
+    let d = device_of is_master (device_at n l.0.child) (bad_role v l.0.child is bad) in
     let is_mine = mine_is (l.0.parent.0 == device.0) (is_end n l.0.child) (member_of n l.0.child) put.frame.members mine
-    (eq-eqb l.0.parent.0 device.0 (ap (λ (d : DeviceId). d.0) l.2)) (bad_ends v l.0.child is bad) in
+    (eq-eqb l.0.parent.0 device.0 (ap (λ (d : DeviceId). d.0) l.2))
+    (ap (λ (o : Option Device). option_map_or (λ x. is_end_system x.role) o false) d.1 ∙ master_ends d.0.role d.2) in
     record {
       master = l.0.child;
       bad = bad;

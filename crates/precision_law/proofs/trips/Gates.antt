@@ -1,8 +1,8 @@
 -- The gates of the sound channel are open while the frames of a cycle come.
-use Rattle.precision_law.proofs.words.Std.{◌%◌, ◌&&◌, ◌*◌, ◌+ℤ◌, ◌+◌, ◌-◌, ◌<ℤ◌, ◌<◌, ◌∙◌, ◌≡◌, ◌≤ℤ◌, ◌≤◌, Bool, and_right, ap, arith, false, inr, int_lt, int_rem_euclid_is, ints, le-ltb, mod-mul-add, pos, suc, ℕ, ℤ}
+use Rattle.precision_law.proofs.words.Std.{◌%◌, ◌&&◌, ◌*◌, ◌+ℤ◌, ◌+◌, ◌-◌, ◌<ℤ◌, ◌<◌, ◌∙◌, ◌≡◌, ◌≤ℤ◌, ◌≤◌, and_right, ap, arith, false, inr, int_lt, int_rem_euclid_is, ints, le-ltb, mod-mul-add, pos, suc, ℕ, ℤ}
 use Rattle.precision_law.proofs.words.Plans.{DeviceId, Network, amount}
 use Rattle.precision_law.proofs.words.Runs.{is_relay, is_synchronised, offset_in_cycle, standpoint}
-use Rattle.precision_law.proofs.words.Laws.{AreOpenFrom, BlocksGoSo, HasTimeAt, HaveRoom, Hull, IsInBlock, IsNarrow, IsOpen, IsSoundSwitch, IsView, ShowsIn, Sizes, Stands, View, adjustment_left, first_correction, first_dispatch, has_time, last_correction, last_dispatch}
+use Rattle.precision_law.proofs.words.Laws.{AreOpenFrom, BlocksGoSo, HasTimeAt, HaveRoom, Hull, IsInBlock, IsNarrow, IsOpen, IsSoundSwitch, IsView, ShowsIn, Sizes, View, adjustment_left, first_correction, first_dispatch, has_time, last_dispatch}
 use Rattle.precision_law.proofs.words.Clocks.{frames_come_first, natural, natural_of, one_more, room, sizes_are, sound_switches_begin_on, switches_are_good}
 use Rattle.precision_law.proofs.words.Blocks.{before_narrow, block_ends, old_shows}
 use Rattle.precision_law.proofs.block.Dispatched.{IsCalm, old_then, synchronised_then}
@@ -30,9 +30,6 @@ in_window s shown n u hull space narrow shows low high =
 
 -- ---- gates
 
-and_third : (a b c : Bool) → c ≡ false → (a && b && c) ≡ false
-and_third a b c e = and_right (a && b) c e
-
 -- then the gate is open
 open_by : (v : View) (cycle : ℕ) (shown : ℤ) → IsView v → IsInWindow v.sizes cycle shown
     → int_lt (pos (amount v.scenario.network.correction + 2 * amount v.scenario.network.precision))
@@ -54,8 +51,8 @@ open_by v cycle shown is window =
     (amount n.cycle) v.sizes.dmax v.sizes.spread v.sizes.reach v.sizes.clock v.sizes.path v.sizes.drift v.sizes.grain rest.0 precision correction length
     top space.cycles space.eight_errors space.errors.reach_is space.grain in
     let some : 0 < amount n.cycle = omega (arith, small) in
-    let place = placed n cycle rest.0 m.0 z some (begun v is) small rest.1 m.1 in
-    ap (int_lt (pos (amount n.correction + 2 * amount n.precision))) place ∙ not_less (amount n.correction + 2 * amount n.precision) rest.0 top
+    let place = placed n cycle rest.0 m.0 z some (omega (arith, ints, is.lawful.range.cycle.least)) small rest.1 m.1 in
+    ap (int_lt (pos (amount n.correction + 2 * amount n.precision))) place ∙ le-ltb (amount n.correction + 2 * amount n.precision) rest.0 top
   where
     from_by : (a b : ℕ) (shown : ℤ) (p q : ℕ) → a ≡ b → p ≡ q → pos a ≤ℤ (shown +ℤ pos (2 * p)) → pos b ≤ℤ (shown +ℤ pos (2 * q))
     from_by a b shown p q x y le = omega (arith, ints, x, y, le)
@@ -69,12 +66,6 @@ open_by v cycle shown is window =
     small_by : (p q c d l k dmax spread reach clock path drift grain r : ℕ) → p ≡ q → c ≡ d → l ≡ k → r ≤ d + 2 * q → c + dmax + 8 * p ≤ l
         → spread + 8 * reach ≤ p → reach ≡ clock + drift + 2 * grain → 1 ≤ grain → r < k
     small_by p q c d l k dmax spread reach clock path drift grain r x y z le cycles errors reach_is some = omega arith
-
-    not_less : (a b : ℕ) → b ≤ a → int_lt (pos a) (pos b) ≡ false
-    not_less a b le = le-ltb a b le
-
-    begun : (v : View) → IsView v → pos 0 ≤ℤ v.scenario.network.cycle.0
-    begun v is = omega (arith, ints, is.lawful.range.cycle.least)
 
 -- a switch of the sound channel is calm
 switch_calm : (v : View) (n u : ℕ) (block : IsInBlock v n u) (switch : DeviceId) → IsView v → IsSoundSwitch v switch
@@ -97,7 +88,7 @@ gate_is_open goes v n u block switch is sound low high =
     let has : HasTimeAt v switch u = record { good = calm.good; timed = ap has_time (synchronised_then goes v n u block switch u u is calm (omega arith)) } in
     let window = in_window v.sizes (pos (s.reading switch u) +ℤ adjustment_left v switch u) n u block.before.hull (room v is) (before_narrow v n block.before)
     (old_shows v n u u switch block is (omega arith) has (old_then goes v n u block switch u u is calm (omega arith))) low high in
-    and_third (is_relay s.network switch) (is_synchronised (standpoint s v.records switch u).state) _ (open_by v _ _ is window)
+    and_right (is_relay s.network switch && is_synchronised (standpoint s v.records switch u).state) _ (open_by v _ _ is window)
 
 -- so they are while a frame that is given then may travel
 pub are_open_from : BlocksGoSo → (v : View) (n w : ℕ) (block : IsInBlock v n w) → IsView v → first_dispatch v.sizes block.before.hull ≤ℤ pos w
@@ -110,13 +101,10 @@ are_open_from goes v n w block is low high in_run switch u sound from to =
       next = block.next;
       is_over = block.is_over;
       from = omega (arith, block.from, from);
-      to = omega (arith, ints, block_ends v n block.next _ block.before.is_hull block.is_over, high, to, corrections_ordered v n block.before is);
+      to = omega (arith, ints, block_ends v n block.next _ block.before.is_hull block.is_over, high, to, hull_ordered v n block.before is);
       in_run = omega (arith, to, in_run);
     } in
     gate_is_open goes v n u at switch is sound (omega (arith, ints, low, from)) (omega (arith, ints, high, to))
-  where
-    corrections_ordered : (v : View) (n : ℕ) (before : Stands v n) → IsView v → first_correction v.sizes before.hull ≤ℤ last_correction v.sizes before.hull
-    corrections_ordered v n before is = (let ordered = hull_ordered v n before is in omega (arith, ints, ordered))
 
 -- so they are for the dispatches of the block's cycle
 pub dispatches_pass : BlocksGoSo → (v : View) (n w : ℕ) (block : IsInBlock v n w) → IsView v → first_dispatch v.sizes block.before.hull ≤ℤ pos w

@@ -2,7 +2,7 @@
 use Rattle.precision_law.proofs.words.Std.{◌+ℤ◌, ◌+◌, ◌-◌, ◌<ℤ◌, ◌∙◌, ◌∷◌, ◌≡◌, ◌≤◌, ◌⊎◌, Bool, List, None, Ok, Option, Some, [], ap, arith, by_lt_z, false, if◌then◌else◌, inl, inr, ints, ltb-false, nat_lt, not, option_and_then, option_map, option_map_or, refl, subst, sym, true, ℕ}
 use Rattle.precision_law.proofs.words.Plans.{DeviceId, Down, Event, Hop, IsHop, IsLinkInRange, Link, LinkId, Measures, Network, Pcf, Units, Up, Way, all_at, amount, closed, delay_by, delay_of, link_at}
 use Rattle.precision_law.proofs.words.Runs.{Arrival, ArrivesAs, ColdStart, Domain, Gate, Happening, IsArrivedRecord, IsCaused, IsFoundedAt, IsIn, Launch, Member, NoteBody, Old, Reason, Scenario, Standpoint, Wire, arrival_of, by_number, clock_at_leaving, clock_on_arrival, control, control_arrival, delay_at, first_reason, founded_at, frame_by, frame_fault, frame_or_fault, hold_at, hold_most, is_cold_start, is_cut, is_gate_shut, is_of_other_domain, is_of_other_member, is_parent_of, is_relay, last_is, launched, leaves, numbered, numbered_front, on_cut_way, point_on_arrival, same_some, standpoint, time_of, time_on_port, too_old, way_from, wire_of, wire_set, with_clock}
-use Rattle.precision_law.proofs.words.Laws.{IsLeg, IsView, Leg, View, clock_in}
+use Rattle.precision_law.proofs.words.Laws.{IsLeg, IsTrip, IsView, Leg, View, clock_in}
 use Rattle.run_law.specs.declared.judgement.Reason.TheVariants.{Off}
 use Rattle.run_law.specs.declared.steps.Arrival.TheVariants as arrivals
 use Rattle.run_law.proofs.law.FirstDelays.{given, sets_wire}
@@ -26,8 +26,6 @@ pub numbered_all : {s : Scenario} {hs : List Happening} {h : Happening} (at : Is
     → numbered hs n ≡ Some g
 numbered_all {h = h} at n g there =
     subst (λ (hs : List Happening). numbered hs n ≡ Some g) (sym at.whole) (numbered_front at.front (h ∷ at.rest) n g there)
-
--- ---- one leg as a hop
 
 -- the leg of a frame, as a hop: what it is held and what of this is measured, the wire and the delay
 pub record HasHop (v : View) (leg : Leg) : Type 0 where
@@ -216,11 +214,6 @@ arrived_frame v way leg frame is l framed =
     let same = same_some _ _ _ in_all (by_number s v.records leg.leaving is.run.founded l.left) in
     frame_is at _ l.arrives ∙ clocked l.arrived_clock _ put.putting frame put.there (ap (λ (h : Happening). h.frame) same ∙ framed)
 
--- its clock
-arrived_clock_is : (v : View) (way : Way) (leg : Leg) (frame : Pcf) → IsView v → (l : IsLeg v way leg) → leg.leaving.frame ≡ Some frame
-    → clock_in leg.arriving ≡ l.arrived_clock
-arrived_clock_is v way leg frame is l framed = ap (λ (o : Option Pcf). option_map_or (λ f. f.clock) o 0) (arrived_frame v way leg frame is l framed)
-
 -- what a leg brings is what was given, but for its clock
 pub leg_frame : (v : View) (way : Way) (leg : Leg) (frame : Pcf) → IsView v → IsLeg v way leg → leg.giving.frame ≡ Some frame → (clock : ℕ)
     × (leg.arriving.frame ≡ Some (with_clock clock frame))
@@ -234,7 +227,7 @@ leg_hop v way leg link is l there =
     let n = v.scenario.network in
     let d = leaving_is v way leg is l in
     let a = arriving_is v way leg is l (with_clock l.left_clock d.frame) d.left_frame in
-    let clock = arrived_clock_is v way leg (with_clock l.left_clock d.frame) is l d.left_frame in
+    let clock = ap (λ (o : Option Pcf). option_map_or (λ f. f.clock) o 0) (arrived_frame v way leg (with_clock l.left_clock d.frame) is l d.left_frame) in
     let given : clock_in leg.giving ≡ d.frame.clock = ap (λ (o : Option Pcf). option_map_or (λ f. f.clock) o 0) d.of_frame in
     let reading = v.scenario.reading l.sender in
     let drifts = (is.lawful.clocks l.sender).drifts (time_of leg.giving) (time_of leg.leaving) (omega (arith, d.held)) in
@@ -263,3 +256,26 @@ leg_hop v way leg link is l there =
           (arith, h, within.1, all));
       jitter = refl;
     }
+
+-- ---- What a frame says stays as it is on a trip
+
+-- the frame of the record is of the cycle and of the members of the other frame
+pub record SaysSo (h : Happening) (frame : Pcf) : Type 0 where
+  pub carried : Pcf
+  pub is : h.frame ≡ Some carried
+  pub of_cycle : carried.cycle ≡ frame.cycle
+  pub of_members : carried.members ≡ frame.members
+
+-- so is that of the last record of a trip
+pub trip_says : (v : View) (way : Way) (first last : Happening) (legs : List Leg) (frame : Pcf) → IsView v → IsTrip v way first legs last
+    → first.frame ≡ Some frame → SaysSo last frame
+trip_says v way first last [] frame is trip framed = record {
+  carried = frame;
+  is = ap (λ (h : Happening). h.frame) (sym trip) ∙ framed;
+  of_cycle = refl;
+  of_members = refl;
+}
+trip_says v way first last (leg ∷ legs) frame is trip framed =
+    let one = leg_frame v way leg frame is trip.1 (ap (λ (h : Happening). h.frame) trip.0 ∙ framed) in
+    let more = trip_says v way leg.arriving last legs (with_clock one.0 frame) is trip.2 one.1 in
+    record { carried = more.carried; is = more.is; of_cycle = more.of_cycle; of_members = more.of_members }

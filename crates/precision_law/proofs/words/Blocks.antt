@@ -21,6 +21,6 @@ pub use Rattle.precision_law.proofs.law.Precision.{clique_point, clocks_stay_tog
 pub use Rattle.precision_law.proofs.law.Together.{IsSetInBlock, before_narrow, block_ends, clocks_agree_in_blocks, earlier_in_block, follows_before, new_shows, old_shows, set_by, set_shows}
 pub use Rattle.precision_law.proofs.records.RunViews.{all_in_hulls, block_of, from_to_of_run, hull_is_from_to, hull_lies, of_cut, view_of, view_with}
 pub use Rattle.precision_law.proofs.sizes.Few.{few_cycles}
-pub use Rattle.precision_law.proofs.trips.Kept.{EndsSo, ends_so}
 pub use Rattle.precision_law.proofs.trips.SoundDown.{sound_frames_go_down}
 pub use Rattle.precision_law.proofs.trips.SoundUp.{one_cm, sound_frames_go_up}
+pub use Rattle.precision_law.proofs.trips.Travels.{EndsSo, ends_so}

@@ -5,8 +5,7 @@ pub use Rattle.precision_law.proofs.clocks.Anchored.{anchored_clocks_reach, anch
 pub use Rattle.precision_law.proofs.clocks.Epochs.{Keeps, adjustment_is_last, adjustment_set, adjustment_stays, clocks_have_reached, clocks_reach_sharply, fold_last, joined_changes, keeps, kept_by_all, kept_if, next_cycle_is_of_last, none_between, same_device, sets_none, settings_stay, state_stays, time_stays}
 pub use Rattle.precision_law.proofs.clocks.Joiners.{joiner_waits}
 pub use Rattle.precision_law.proofs.clocks.Readings.{permanence_is_sharp, reach_is_sharp, reach_is_there, ripe_in_order, short_by_reading}
-pub use Rattle.precision_law.proofs.compression.Counted.{Apart, all_but_one, all_by, ascending_from, contains, firsts_apart, firsts_in, firsts_ordered, has_one, middle_near, opened_by, ordered_filter}
-pub use Rattle.precision_law.proofs.compression.Origins.{few_members, has_is_member, member_has, within_ordered}
+pub use Rattle.precision_law.proofs.compression.Counted.{Apart, all_but_one, all_by, ascending_from, contains, few_members, firsts_apart, firsts_in, firsts_ordered, has_is_member, has_one, member_has, middle_near, opened_by, ordered_filter}
 pub use Rattle.precision_law.proofs.faults.Broken.{has_member, one_bad, one_member}
 pub use Rattle.precision_law.proofs.faults.Enough.{enough_masters, sets_within}
 pub use Rattle.precision_law.proofs.faults.Masters.{any_in, device_of_place, good_is_correct, in_any, master_ends, one_channel_is_sound, switches_are_good}
@@ -17,15 +16,13 @@ pub use Rattle.precision_law.proofs.records.Behind.{PartsAtLast, after_last_at, 
 pub use Rattle.precision_law.proofs.records.Cutting.{IsCutAt, cut_at}
 pub use Rattle.precision_law.proofs.records.Due.{IsRipeArrival, IsRipeRecord, IsSentAt, due_there, is_collected, is_heard_of, is_sent, next_due, next_note, place_of_ripe, place_of_sent, sent_at}
 pub use Rattle.precision_law.proofs.records.Judged.{earlier_judge}
-pub use Rattle.precision_law.proofs.records.PlacedFronts.{before_place, reaches_front}
-pub use Rattle.precision_law.proofs.records.Points.{IsSetting, before_of, earlier_before, founded_by, last_in, point_has_time, point_is, point_timed, reaches_by, reaches_whole, same_adjustment, setting_is, sorted_parts, within_run}
+pub use Rattle.precision_law.proofs.records.Points.{IsSetting, before_of, before_place, earlier_before, founded_by, last_in, point_has_time, point_is, point_timed, reaches_by, reaches_front, reaches_whole, same_adjustment, setting_is, sorted_parts, within_run}
 pub use Rattle.precision_law.proofs.records.Times.{AreSorted, between, in_earlier, in_kept, is_between, last_some, passes, same_kept}
 pub use Rattle.precision_law.proofs.records.Views.{in_order, room, sizes_are, steady}
 pub use Rattle.precision_law.proofs.sizes.Instants.{corrections_come_first, cycles_are_few, frames_come_first, hulls_go_on, instants_are_in_order, set_clocks_stay_at_correction}
 pub use Rattle.precision_law.proofs.trips.Ascents.{frames_up_are_of_masters, master_member, never_timed}
-pub use Rattle.precision_law.proofs.trips.Carried.{trip_says}
 pub use Rattle.precision_law.proofs.trips.Descents.{emission_shows, frames_down_are_of_cms}
 pub use Rattle.precision_law.proofs.trips.Legs.{child_channel, child_not_parent, child_ways, gives_down, parent_ways, receiver_down, receiver_up, receiver_way, same_cycle, trip_more}
 pub use Rattle.precision_law.proofs.trips.Links.{HasGone, IsGivenOn, arrives_at, goes_over, leaves_at, takes_at_most}
-pub use Rattle.precision_law.proofs.trips.Paths.{TakesWith, arrived_frame, clocked, frame_is, leaving_is, leg_hop, numbered_all, taken_as, taken_sound}
+pub use Rattle.precision_law.proofs.trips.Paths.{TakesWith, arrived_frame, clocked, frame_is, leaving_is, leg_hop, numbered_all, taken_as, taken_sound, trip_says}
 pub use Rattle.precision_law.proofs.trips.Sound.{IsClean, IsReady, budget, no_fault, sound_switch_on, will_be_permanent}
