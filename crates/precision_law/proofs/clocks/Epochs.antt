@@ -72,11 +72,8 @@ next_of_option (Some h) = refl
 
 pub next_cycle_is_of_last : NextCycleIsOfLast
 next_cycle_is_of_last hs device =
-    fold_last (λ (n : ℕ) (h : Happening). cycle_after device n h h.note.body) number_by
-    (λ (h : Happening). changes_adjustment device h.note.body) None 1 hs
-    (λ n h e. number_set device n h h.note.body e)
-    (λ n h e. number_kept device n h h.note.body e)
-    ∙ next_of_option (last_setting hs device)
+    fold_last (λ (n : ℕ) (h : Happening). cycle_after device n h h.note.body) number_by (λ (h : Happening). changes_adjustment device h.note.body) None 1 hs
+    (λ n h e. number_set device n h h.note.body e) (λ n h e. number_kept device n h h.note.body e) ∙ next_of_option (last_setting hs device)
 
 -- ---- settings stay
 
@@ -123,8 +120,7 @@ sets_none v device from t is le old h i late early =
 pub adjustment_stays : (v : View) (device : DeviceId) (u t : ℕ) → IsView v → u ≤ t → epoch_time (earlier t v.records) device <ℤ pos u
     → adjustment_before v.scenario v.records device u ≡ adjustment_before v.scenario v.records device t
 adjustment_stays v device u t is le early =
-    adjustment_is_last v.scenario (earlier u v.records) device
-    ∙ ap (λ (o : Option Happening). option_map_or
+    adjustment_is_last v.scenario (earlier u v.records) device ∙ ap (λ (o : Option Happening). option_map_or
     (λ h. adjustment_with v.scenario device (cycle_in h) (adjustment_at_start (start_of v.scenario.network device)) h.note.body) o
     (adjustment_at_start (start_of v.scenario.network device))) (settings_stay v device u t is le early)
     ∙ sym (adjustment_is_last v.scenario (earlier t v.records) device)

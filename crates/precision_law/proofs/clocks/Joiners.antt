@@ -59,8 +59,7 @@ none_behind v device t front rest h x is e whole i early changes =
     let parts = ap (λ (hs : List Happening). filter sets (earlier t hs)) (whole ∙ sym (append_assoc front (h ∷ []) rest)) ∙ ap (filter sets)
     (filter-append (λ g. nat_lt (time_of g) t) (front ++ h ∷ []) rest) ∙ filter-append sets before (earlier t rest) in
     by (filter sets before) (filter sets (earlier t rest)) (in_kept sets (earlier t rest) x (is_earlier t rest x i early) changes)
-    (sym (ap (last_or None) parts) ∙ e)
-    (λ y j. in_earlier t rest y (in_filter sets (earlier t rest) y j))
+    (sym (ap (last_or None) parts) ∙ e) (λ y j. in_earlier t rest y (in_filter sets (earlier t rest) y j))
   where
     by : (us bs : List Happening) → IsIn x bs → last_or None (us ++ bs) ≡ Some h → ((y : Happening) → IsIn y bs → IsIn y rest × (time_of y < t)) → ⊥
     by us [] j last back = absurd j

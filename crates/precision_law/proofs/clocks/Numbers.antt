@@ -29,8 +29,7 @@ joining_is_last : (hs : List Happening) (device : DeviceId) → integration_cycl
     (last_or None (filter (λ h. is_joined_by device h.note.body) hs)) None
 joining_is_last hs device =
     fold_last (λ (last : Option ℕ) (h : Happening). if is_joined_by device h.note.body then Some (cycle_in h) else last) (λ (h : Happening). Some (cycle_in h))
-    (λ (h : Happening). is_joined_by device h.note.body) None None hs
-    (λ last h e. rw e refl) (λ last h e. rw e refl)
+    (λ (h : Happening). is_joined_by device h.note.body) None None hs (λ last h e. rw e refl) (λ last h e. rw e refl)
 
 -- a joining of the device, of this cycle
 pub record IsJoining (hs : List Happening) (device : DeviceId) (cycle : ℕ) : Type 0 where
@@ -77,8 +76,7 @@ joiner_integrates hs device h e changes other =
     let joined = joining_of_setting device h.note.body changes other in
     let last = last_of_both joins _ None None hs h (λ g j. joined_changes device g.note.body j) joined (λ s. s) e in
     let at = joining_is_last hs device ∙ ap (λ (o : Option Happening). option_map_or (λ g. Some (cycle_in g)) o None) last in
-    let recorded : recorded_cycle hs device ≡ cycle_in h =
-    next_cycle_is_of_last hs device ∙ ap next_of e
+    let recorded : recorded_cycle hs device ≡ cycle_in h = next_cycle_is_of_last hs device ∙ ap next_of e
     ∙ ap (λ (b : Bool). if b then cycle_set h h.note.body + 1 else cycle_set h h.note.body) other ∙ set_by_joining h h.note.body other in (
       ap (λ (o : Option ℕ). option_map_or (λ cycle. recorded_cycle hs device == cycle) o false) at ∙ eq-eqb (recorded_cycle hs device) (cycle_in h) recorded,
       recorded,
@@ -140,8 +138,7 @@ set_or_cleared : (v : View) (n t : ℕ) (device : DeviceId) (before : Stands v n
     → IsOldAt v before.next device t → (o : Option Happening) → last_setting (earlier t v.records) device ≡ o
     → option_map_or (λ h. cycle_set h h.note.body) o 0 ≡ n → (recorded_cycle (earlier t v.records) device ≡ suc n)
     ⊎ ((recorded_cycle (earlier t v.records) device ≡ n) × (has_cleared v.scenario v.records device t t ≡ true))
-set_or_cleared v n t device before is from has old None e index =
-    inl (omega (arith, index, next_cycle_is_of_last (earlier t v.records) device ∙ ap next_of e))
+set_or_cleared v n t device before is from has old None e index = inl (omega (arith, index, next_cycle_is_of_last (earlier t v.records) device ∙ ap next_of e))
 set_or_cleared v n t device before is from has old (Some h) e index =
     let recorded = next_cycle_is_of_last (earlier t v.records) device ∙ ap next_of e in
     let number = λ (b : Bool). if b then cycle_set h h.note.body + 1 else cycle_set h h.note.body in
@@ -172,8 +169,7 @@ earlier_join v n t device before is from good old at =
 pub old_number : (v : View) (n t : ℕ) (device : DeviceId) (before : Stands v n) → IsView v → before.next ≤ t → HasTimeAt v device t
     → IsOldAt v before.next device t → next_cycle v.scenario v.records device t ≡ suc n
 old_number v n t device before is from has old =
-    let then_has : HasTimeAt v device before.next =
-    record { good = has.good; timed = time_stays v device before.next t is from old has.timed } in
+    let then_has : HasTimeAt v device before.next = record { good = has.good; timed = time_stays v device before.next t is from old has.timed } in
     let recorded = recorded_cycle (earlier t v.records) device in
     let number = λ (b : Bool). if b then recorded + 1 else recorded in
     let index = ap (λ (x : Option Happening). option_map_or (λ h. cycle_set h h.note.body) x 0) (sym (settings_stay v device before.next t is from old))

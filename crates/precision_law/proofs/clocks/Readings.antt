@@ -74,8 +74,7 @@ first_of_all n reading from x v zero steady le below above =
     let here = rw same at above in
     absurd (omega (arith, ints, here, below))
 first_of_all n reading from x v (suc more) steady le below above =
-    by_lt_z {P = (u : ℕ) × (x < u) × (u ≤ x + suc more) × IsReach reading (pos from) v (pos u)} (pos (reading (x + more))) v
-    (λ less. (
+    by_lt_z {P = (u : ℕ) × (x < u) × (u ≤ x + suc more) × IsReach reading (pos from) v (pos u)} (pos (reading (x + more))) v (λ less. (
       x + suc more,
       omega arith,
       omega arith,

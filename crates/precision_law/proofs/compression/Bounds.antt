@@ -46,8 +46,7 @@ record IsSentNear (n : Sizes) (low high : ℤ) (s slack : ℕ) : Type 0 where
 sent_near : (n : Sizes) (reading : ℕ → ℕ) (low high middle : ℤ) (a b s slack : ℕ) → IsSteady n reading → HaveRoom n → slack ≤ n.precision
     → (low +ℤ pos n.dmax) ≤ℤ pos (a + n.path) → pos b ≤ℤ (high +ℤ pos (n.dmax + n.path))
     → pos (reading a) ≤ℤ (middle +ℤ pos (2 * n.grain + slack)) → middle ≤ℤ pos (reading b + slack)
-    → (middle +ℤ pos n.compression) ≤ℤ pos (reading s) → pos (reading s) ≤ℤ ((middle +ℤ pos n.compression) +ℤ pos (2 * n.grain))
-    → IsSentNear n low high s slack
+    → (middle +ℤ pos n.compression) ≤ℤ pos (reading s) → pos (reading s) ≤ℤ ((middle +ℤ pos n.compression) +ℤ pos (2 * n.grain)) → IsSentNear n low high s slack
 sent_near n reading low high middle a b s slack steady space small from to above below reached sharp =
     let fit = gaps_fit n slack space small in
     let base = space.errors.base_is in

@@ -64,8 +64,7 @@ young_by : (v : View) (hs : List Happening) (t : ℕ) (device : DeviceId) (link 
 young_by v hs t device link cause (control (Ok frame)) taken takes =
     omega (arith, taken_sound v.scenario.network device link (standpoint v.scenario hs device t) frame taken takes)
 young_by v hs t device link cause (control (Err refusal)) taken takes = absurd takes
-young_by v hs t device link cause (timed octets) taken takes =
-    absurd (never_timed v hs t device link cause octets taken takes)
+young_by v hs t device link cause (timed octets) taken takes = absurd (never_timed v hs t device link cause octets taken takes)
 
 pub arrival_young : (v : View) (hs : List Happening) (t : ℕ) (device : DeviceId) (link : LinkId) (cause clock : ℕ)
     → IsArrivedRecord v.scenario hs device t link cause clock → clock ≤ amount v.scenario.network.dmax

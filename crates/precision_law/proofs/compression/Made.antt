@@ -240,14 +240,16 @@ three_have_good v h cm cycle members is e many = elim (good_or_alone v h cm cycl
 pub members_are_masters : MembersAreMasters
 members_are_masters v h cm cycle members is e =
     let m = made v h cm cycle members is e in
-    let one = one_at_least v h cm cycle members is e in
-    (one, elim (good_or_alone v h cm cycle members is e m.more refl) [
-      | inl good ↦ inl good
-      | inr alone ↦ inr (
-        λ i member.
-            let p = point_of_member (m.first ∷ m.more) i (ap (λ (x : ℕ). bit_at x i) (sym m.members_are) ∙ member) in
-            let only : p.0 ≡ m.first = elim p.1 [ inl same ↦ same | inr more ↦ absurd (subst (IsIn p.0) alone.1 more) ] in
-            (alone.0.master, alone.0.is_member ∙ ap (λ (x : ℕ). Some x) (ap (λ (q : Point). q.master) (sym only) ∙ p.2), alone.0.bad),
-        omega (arith, one, one_at_most v h cm cycle members is e alone.1),
-      )
-    ])
+    let one = one_at_least v h cm cycle members is e in (
+      one,
+      elim (good_or_alone v h cm cycle members is e m.more refl) [
+        | inl good ↦ inl good
+        | inr alone ↦ inr (
+          λ i member.
+              let p = point_of_member (m.first ∷ m.more) i (ap (λ (x : ℕ). bit_at x i) (sym m.members_are) ∙ member) in
+              let only : p.0 ≡ m.first = elim p.1 [ inl same ↦ same | inr more ↦ absurd (subst (IsIn p.0) alone.1 more) ] in
+              (alone.0.master, alone.0.is_member ∙ ap (λ (x : ℕ). Some x) (ap (λ (q : Point). q.master) (sym only) ∙ p.2), alone.0.bad),
+          omega (arith, one, one_at_most v h cm cycle members is e alone.1),
+        )
+      ],
+    )

@@ -212,8 +212,7 @@ one_of_two : (v : View) (t : ℕ) (g : Happening) (cm : DeviceId) (cycle : ℕ) 
     → is_cm v.scenario.network cm ≡ true
     → (ds : List Cluster) → AreClusters (observation_window v.scenario.network) (points_of at.front cm) ds → (c d : Cluster) → Contains ds c → Contains ds d
     → (x y : Point) → IsIn x (points_of at.front cm) → IsIn y (points_of at.front cm) → x.cycle ≡ cycle → y.cycle ≡ cycle → x.cycle ≡ c.cycle
-    → y.cycle ≡ d.cycle → LiesIn c x → LiesIn d y
-    → (late : ℕ) → late < t → IsGoodPoint v cm late x → IsGoodPoint v cm (time_of g) y → c ≡ d
+    → y.cycle ≡ d.cycle → LiesIn c x → LiesIn d y → (late : ℕ) → late < t → IsGoodPoint v cm late x → IsGoodPoint v cm (time_of g) y → c ≡ d
 one_of_two v t g cm cycle k at early one ds are c d in_c in_d x y ix iy of_x of_y of_c of_d lies_x lies_y late less gx gy =
     let ow = observation_window v.scenario.network in
     let ps = points_of at.front cm in

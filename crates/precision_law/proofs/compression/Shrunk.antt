@@ -36,10 +36,13 @@ same_by : (ow : ℤ) (ps : List Point) (p : Point) (cs ds : List Cluster) (c : C
 same_by ow [] p (k ∷ cs) ds c some are next past = absurd are
 same_by ow [] p [] [] c some are next past = absurd next
 same_by ow [] p [] (e ∷ d ∷ ds) c some are next past = absurd next.1
-same_by ow [] p [] (e ∷ []) c some are next past = (λ at. absurd (in_none c at), λ at. elim (in_cases e c [] at) [
-  | inl same ↦ absurd (omega (arith, ints, end_of-least ow p (p ∷ []) some, ap (λ (x : Cluster). x.end) (sym same ∙ next.0), past, some))
-  | inr none ↦ none
-])
+same_by ow [] p [] (e ∷ []) c some are next past = (
+  λ at. absurd (in_none c at),
+  λ at. elim (in_cases e c [] at) [
+    | inl same ↦ absurd (omega (arith, ints, end_of-least ow p (p ∷ []) some, ap (λ (x : Cluster). x.end) (sym same ∙ next.0), past, some))
+    | inr none ↦ none
+  ],
+)
 same_by ow (o ∷ ps) p [] ds c some are next past = absurd are
 same_by ow (o ∷ ps) p (k ∷ cs) [] c some are next past = absurd next
 same_by ow (o ∷ ps) p (k ∷ cs) (e ∷ ds) c some are next past =

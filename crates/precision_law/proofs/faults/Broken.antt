@@ -41,8 +41,7 @@ one_bad v device other is bad bad' =
             device = other;
             broken = device;
             breaks = b.breaks;
-            is_broken =
-                any_of_in (Breaks device) a.event (at.0 ++ a.event ∷ to.0) (in_right a.event at.0 (a.event ∷ to.0) (inl refl)) a.breaks;
+            is_broken = any_of_in (Breaks device) a.event (at.0 ++ a.event ∷ to.0) (in_right a.event at.0 (a.event ∷ to.0) (inl refl)) a.breaks;
           }))
     ]
 

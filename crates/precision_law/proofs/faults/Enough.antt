@@ -85,8 +85,7 @@ grow v befallen (d ∷ xs) k set is there below =
 enough_by : (v : View) (befallen : List Event) (members : Members) → IsView v
     → ((device : DeviceId) (i : ℕ) → IsFirstMaster v device → member_of v.scenario.network device ≡ Some i → IsMember i members)
     → ((device : DeviceId) (d : Device) → device_at v.scenario.network device ≡ Some d → list_any (λ e. breaks_at device.0 e.what) befallen ≡ false
-    → IsGood v device)
-    → sound_masters v.scenario.network befallen ≤ count_of members
+    → IsGood v device) → sound_masters v.scenario.network befallen ≤ count_of members
 enough_by v befallen members is all good =
     let r = grow v befallen v.scenario.network.device 0 none is (λ j d at.
     let same : j ≡ 0 + j = omega arith in
@@ -128,8 +127,7 @@ none_befell (d ∷ xs) k =
     ] refl
 
 -- a device is broken, or none is
-some_bad : (v : View) (ds : List Device) (k : ℕ) → ((device : DeviceId) × IsBad v device)
-    ⊎ ((i : ℕ) → k ≤ i → i < k + length ds → IsGood v (record { 0 = i }))
+some_bad : (v : View) (ds : List Device) (k : ℕ) → ((device : DeviceId) × IsBad v device) ⊎ ((i : ℕ) → k ≤ i → i < k + length ds → IsGood v (record { 0 = i }))
 some_bad v [] k = inr (λ i from to. absurd (omega (arith, from, to)))
 some_bad v (d ∷ ds) k =
     elim (is_broken v.scenario (record { 0 = k }) v.until) as (λ b. is_broken v.scenario (record { 0 = k }) v.until ≡ b

@@ -113,8 +113,7 @@ module _ (v : View) (device : DeviceId) (t : ℕ) (is : IsView v) (none : IsTurn
   keeps_off : (h : Happening) (front : List Happening) (body : NoteBody) → IsIn h v.records → time_of h < t → h.note.body ≡ body
       → AreBeforeCorrections v (time_of h) front → IsCaused v.scenario front h.note.time body → Keeps is_on device body
   keeps_off h front (notes.State other state cause why) i lt same split c old e =
-      kept_if is_on (device.0 == other.0) state old
-      (λ own on. never_changes (time_of h) front state cause why split lt
+      kept_if is_on (device.0 == other.0) state old (λ own on. never_changes (time_of h) front state cause why split lt
       (subst (λ (d : DeviceId). ChangesState v.scenario front d (time_of h) state cause why) (same_device device other own) c)) e
   keeps_off h front (notes.Permanent other link cause point Integrates) i lt same split c old e =
       kept_if is_on (device.0 == other.0) Joining old (λ own on. never_joined h i lt (ap (is_joined_by device) same ∙ own)) e
@@ -141,8 +140,7 @@ off_until v device (suc bound) t is le none begins e =
 
 begins_by : (o : Option Device) → is_on (state_at_start (option_and_then (λ d. d.start) o)) ≡ true → IsSomeAnd o (λ d. IsNone d.start → ⊥)
 begins_by None e = absurd cc
-begins_by (Some d) e =
-    elim d.start as (λ o. is_on (state_at_start o) ≡ true → IsNone o → ⊥) [ None ↦ λ on off. absurd cc | Some x ↦ λ on off. absurd cc ] e
+begins_by (Some d) e = elim d.start as (λ o. is_on (state_at_start o) ≡ true → IsNone o → ⊥) [ None ↦ λ on off. absurd cc | Some x ↦ λ on off. absurd cc ] e
 
 pub not_turned_on_then : (v : View) (device : DeviceId) (u : ℕ) → IsView v → has_time (state_left v device u) ≡ true
     → is_turned_on_at v.scenario device u ≡ false
@@ -166,8 +164,7 @@ not_turned_on_then v device u is timed =
                 (inl (any_of_in (TurnsOn device) x.event (parts.0 ++ x.event ∷ more.0) (in_right x.event parts.0 (x.event ∷ more.0) (inl refl)) x.turns));
           })
     ]) (λ on. is.lawful.within parts.0 parts.1 x.event parts.2 NotOff
-    (record { device = device; what = x.turns; known = inl (begins_by (device_at v.scenario.network device) on) }))
-    (timed_on (state_left v device u) timed))
+    (record { device = device; what = x.turns; known = inl (begins_by (device_at v.scenario.network device) on) })) (timed_on (state_left v device u) timed))
 
 -- so none that has the common time is
 pub none_turns_on : NoneTurnsOn

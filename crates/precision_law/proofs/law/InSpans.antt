@@ -82,8 +82,7 @@ early_by t reach cycle correction first least same le = omega (arith, ints, same
 span_shows : BlocksCover → BlocksGoSo → (v : View) (cycle : ℕ) (first last : ℤ) (device : DeviceId) → IsView v
     → AreFromTo v.scenario v.records v.until cycle first last → ((c : ℕ) → cycle ≡ suc c → ComesBefore v v.until c)
     → (pos v.until +ℤ pos v.sizes.reach) ≤ℤ (first +ℤ pos (v.sizes.cycle + v.sizes.correction)) → HasTimeAt v device v.until
-    → state_left v device v.until ≡ Synchronised
-    → (hull : Hull) × (first ≡ hull.least) × (last ≡ hull.greatest)
+    → state_left v device v.until ≡ Synchronised → (hull : Hull) × (first ≡ hull.least) × (last ≡ hull.greatest)
     × ShowsIn v.sizes (pos (v.scenario.reading device v.until) +ℤ adjustment_left v device v.until) cycle hull v.until
 span_shows cover goes v cycle first last device is lie behind early has synchronised =
     let covered = cover v v.until is (omega arith) in
@@ -97,8 +96,7 @@ span_shows cover goes v cycle first last device is lie behind early has synchron
     (hull_is_from_to cover goes v is k hull block.before.is_hull) in
     let at = one_span v.scenario v.records v.until cycle first last hull.least hull.greatest lie at_hull in
     let shows = by_lt_z {P = ShowsIn v.sizes (pos (v.scenario.reading device v.until) +ℤ adjustment_left v device v.until) k hull v.until}
-    (epoch_time (earlier v.until v.records) device) (pos block.before.next)
-    (λ old. old_shows v k v.until v.until device block is (omega arith) has old)
+    (epoch_time (earlier v.until v.records) device) (pos block.before.next) (λ old. old_shows v k v.until v.until device block is (omega arith) has old)
     (λ late. (let after = corrected_late v k v.until block device (last_setting (earlier v.until v.records) device) goes is has synchronised refl
     late in absurd (omega (arith, ints, after, early_by v.until v.sizes.reach v.sizes.cycle v.sizes.correction first hull.least at.0 early)))) in (
       hull,

@@ -31,8 +31,7 @@ corrects_by device body sets none = absurd (both_ways _ none sets)
 pub last_corrects : (v : View) (device : DeviceId) (t : ℕ) (h : Happening) → IsView v → state_left v device t ≡ Synchronised
     → last_setting (earlier t v.records) device ≡ Some h → CorrectsClock device h.note.body
 last_corrects v device t h is synchronised last =
-    corrects_by device h.note.body (setting_is v device t h last).sets
-    (false_from_ne_true (is_joined_by device h.note.body)
+    corrects_by device h.note.body (setting_is v device t h last).sets (false_from_ne_true (is_joined_by device h.note.body)
     (λ joined. both_ways (is_synchronised (state_left v device t)) (joiner_waits v device t h is last joined) (ap is_synchronised synchronised)))
 
 -- one whose clock was set in the block was corrected there, not before the first correction

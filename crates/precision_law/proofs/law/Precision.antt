@@ -140,8 +140,7 @@ time_is_kept sound cover goes correct s mark ns until up h device state cause wh
             (subst (λ (x : Scenario). is_broken x device (time_of h) ≡ false) (sym same) good);
       })),
   λ channel switch quiet.
-      never_lost cover goes correct s mark ns until h device state cause why channel up i le body clique quiet
-      (λ v same at of good. inr
+      never_lost cover goes correct s mark ns until h device state cause why channel up i le body clique quiet (λ v same at of good. inr
       (subst (λ (c : Channel). IsSwitchOf v.scenario.network c device) (sym of)
       (subst (λ (x : Scenario). IsSwitchOf x.network channel device) (sym same) switch))),
 )

@@ -117,8 +117,7 @@ sends_correct s mark ns until cycle up h d =
 -- the views at a dispatch and at a later one
 two_of : OneChannelIsSound → (s : Scenario) (mark : List ℕ) (ns : List Note) (until path n : ℕ) → (up : IsRunUpTo s mark ns until)
     → IsBeta s.network (pos path) → (g h : Happening) → (a : IsDispatchOf (happenings s.network ns) until (suc n) g)
-    → (b : IsDispatchOf (happenings s.network ns) until (suc n) h) → time_of g ≤ time_of h
-    → AreTwo s (happenings s.network ns) path n g h a.master b.master
+    → (b : IsDispatchOf (happenings s.network ns) until (suc n) h) → time_of g ≤ time_of h → AreTwo s (happenings s.network ns) path n g h a.master b.master
 two_of sound s mark ns until path n up beta g h a b le =
     let c = sound s (time_of g) up.lawful in
     let d = sound s (time_of h) up.lawful in
@@ -191,8 +190,7 @@ apart sound cover goes s mark ns until k up g h a b le =
     let at : first.n ≡ k = omega (arith, first.of_cycle) in
     let too : second.n ≡ k = omega (arith, second.of_cycle) in
     apart_by cover goes s (happenings s.network ns) path until k g h a.master b.master two a.by_then
-    (subst (λ (j : ℕ). IsInBlock (first_view two) j (time_of g)) at first.block)
-    (subst (λ (j : ℕ). IsInBlock (second_view two) j (time_of h)) too second.block)
+    (subst (λ (j : ℕ). IsInBlock (first_view two) j (time_of g)) at first.block) (subst (λ (j : ℕ). IsInBlock (second_view two) j (time_of h)) too second.block)
 
 -- nothing is dispatched in cycle 0
 none_of_start : (s : Scenario) (mark : List ℕ) (ns : List Note) (until cycle : ℕ) → IsRunUpTo s mark ns until → (h : Happening)

@@ -33,8 +33,7 @@ module _ {X : Type 0} (p : X → Bool) where
   pub after_last_at : (xs : List X) (y : X) (ys : List X) → p y ≡ true → All (λ x. not (p x) ≡ true) ys → after_last p (xs ++ y ∷ ys) ≡ ys
   after_last_at xs y ys here h =
       let n = length (xs ++ y ∷ ys) - suffix_len (λ x. not (p x)) (xs ++ y ∷ ys) in
-      ap (drop n) (sym (append_assoc xs (y ∷ []) ys))
-      ∙ drop_at (xs ++ y ∷ []) ys n
+      ap (drop n) (sym (append_assoc xs (y ∷ []) ys)) ∙ drop_at (xs ++ y ∷ []) ys n
       (omega (arith, suffix_len_at (λ x. not (p x)) xs y ys (not_from_true _ here) h, length-append xs (y ∷ ys), length_push xs y))
 
   pub after_last_none : (xs : List X) → All (λ x. not (p x) ≡ true) xs → after_last p xs ≡ xs

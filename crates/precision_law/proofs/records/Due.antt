@@ -52,8 +52,7 @@ pub record IsSentAt (v : View) (cm : DeviceId) (c : Cluster) (t : ℕ) : Type 0 
 pub is_sent : (v : View) (cm : DeviceId) (t : ℕ) (c : Cluster) (clusters : List Cluster) (is : IsView v) → is_cm v.scenario.network cm ≡ true → IsGood v cm
     → t ≤ v.until
     → (at : IsSplit place_of v.records (place_of_sent v cm c t)) → AreClusters (observation_window v.scenario.network) (points_of at.front cm) clusters
-    → Contains clusters c
-    → IsReach (v.scenario.reading cm) (pos 0) (sent_at v c) (pos t) → IsSentAt v cm c t
+    → Contains clusters c → IsReach (v.scenario.reading cm) (pos 0) (sent_at v c) (pos t) → IsSentAt v cm c t
 is_sent v cm t c clusters is one good within at are there reached =
     let s = v.scenario in
     let n = s.network in
@@ -116,11 +115,9 @@ pub record IsRipeRecord (v : View) (device : DeviceId) (arrival : Happening) (li
 -- given those before its place, it becomes what the law of permanence says: where this is a judgement, there is a
 -- record of it
 pub is_recorded : (v : View) (device : DeviceId) (arrival : Happening) (link : LinkId) (frame : Pcf) (point : ℤ) (q : ℕ) (verdict : Judgement) (is : IsView v)
-    → IsRipeArrival v device arrival link frame point q
-    → (at : IsSplit place_of v.records (place_of_ripe device arrival link frame point q))
+    → IsRipeArrival v device arrival link frame point q → (at : IsSplit place_of v.records (place_of_ripe device arrival link frame point q))
     → IsPermanenceOutcome v.scenario.network device (state_at_hearing v.scenario at.front device q) (adjustment_at_hearing v.scenario at.front device q).0
-    (points_of at.front device) frame point (ripe_as verdict)
-    → IsRipeRecord v device arrival link point q verdict frame
+    (points_of at.front device) frame point (ripe_as verdict) → IsRipeRecord v device arrival link point q verdict frame
 is_recorded v device arrival link frame point q verdict is r at becomes =
     let s = v.scenario in
     let n = s.network in

@@ -36,14 +36,11 @@ heard_more v device u front mid cleared cleared_at at high =
     (λ m i. ap (λ (b : Bool). b && changes_adjustment device m.note.body) (le-ltb (time_of m) u (let e = at m i in omega (arith, e))))
     (parts_at_last set front) in
     let quiet = makes_none f (filter late mid) (λ m i. (let back = in_filter late mid m i in high_quiet v device u m m.note.body (at m back) (high m back))) in
-    ap (λ (hs : List Happening). filter_map f (filter late_more hs)) since
-    ∙ ap (filter_map f)
+    ap (λ (hs : List Happening). filter_map f (filter late_more hs)) since ∙ ap (filter_map f)
     (same_kept late_more late (after_last set front ++ mid) (λ h i. ap (λ (b : Bool). not b || has_cleared s (front ++ mid) device u (time_of h)) cleared
     ∙ ap (λ (b : Bool). not (has_cleared s front device u u) || b) (cleared_at (time_of h))))
-    ∙ ap (filter_map f) (filter-append late (after_last set front) mid)
-    ∙ filter_map-append f (filter late (after_last set front)) (filter late mid)
-    ∙ ap (λ (t : List Hearing). filter_map f (filter late (after_last set front)) ++ t) quiet
-    ∙ append-nil (filter_map f (filter late (after_last set front)))
+    ∙ ap (filter_map f) (filter-append late (after_last set front) mid) ∙ filter_map-append f (filter late (after_last set front)) (filter late mid)
+    ∙ ap (λ (t : List Hearing). filter_map f (filter late (after_last set front)) ++ t) quiet ∙ append-nil (filter_map f (filter late (after_last set front)))
 
 -- ---- the point
 

@@ -89,8 +89,7 @@ sender_broken v e link l octets is i what there early =
 -- ---- what was put on a wire
 
 -- no scheduled frame is taken as a control frame
-never_taken : (end : Bool) (vl : VlId) (cycle : ℕ) (taken : Pcf)
-    → TakesWith (if end then arrivals.Delivered vl cycle else arrivals.Accepted vl cycle) taken → ⊥
+never_taken : (end : Bool) (vl : VlId) (cycle : ℕ) (taken : Pcf) → TakesWith (if end then arrivals.Delivered vl cycle else arrivals.Accepted vl cycle) taken → ⊥
 never_taken true vl cycle taken c = c
 never_taken false vl cycle taken c = c
 
@@ -192,16 +191,19 @@ put_on v ps t device link cause a taken way is comes takes on =
         let l = sent (is_cut v.scenario out Up (time_of comes.putting)) out (signal_of octets) _ put in
         let d = decoded_as v ps t device link cause octets taken (subst (λ (x : Signal). TakesWith (arrival_of v.scenario ps device t link cause x) taken)
         (ap (λ (x : Launch). x.signal) (sym l)) c) in
-        inr (sym along ∙ ap (λ (x : Launch). x.way) (sym l), record {
-          putting = comes.putting;
-          there = comes.there;
-          line = line;
-          octets = octets;
-          sends = same ∙ ap (λ (x : LinkId). notes.Event line (events.Send x octets)) (ap (λ (x : Launch). x.link) l);
-          frame = d.0;
-          decodes = d.1;
-          mine = d.2;
-        })
+        inr (
+          sym along ∙ ap (λ (x : Launch). x.way) (sym l),
+          record {
+            putting = comes.putting;
+            there = comes.there;
+            line = line;
+            octets = octets;
+            sends = same ∙ ap (λ (x : LinkId). notes.Event line (events.Send x octets)) (ap (λ (x : Launch). x.link) l);
+            frame = d.0;
+            decodes = d.1;
+            mine = d.2;
+          },
+        )
     by body same put along c = absurd cc
 
 -- ---- leg by leg

@@ -195,8 +195,7 @@ has_leg v way h device link cause clock is i body on to put =
     let number_g = number_is s at_l.front put.given giving at_l.founded departs.there in
     let frame_l = frame_is at_l _ put.left ∙ clocked put.clock _ giving departs.frame departs.there departs.of_frame in
     let placed = (is.run.founded at.front at.rest h at.whole).0 putting in_front in
-    let placed_l = subst
-    (λ (b : NoteBody). IsBefore (time_of putting ∷ rank b ∷ key (members_in putting) b)
+    let placed_l = subst (λ (b : NoteBody). IsBefore (time_of putting ∷ rank b ∷ key (members_in putting) b)
     (time_of h ∷ rank (notes.Arrived device link cause clock) ∷ key (members_in h) (notes.Arrived device link cause clock))) put.left
     (subst (λ (b : NoteBody). IsBefore (place_of putting) (time_of h ∷ rank b ∷ key (members_in h) b)) body placed) in
     let later = strictly (time_of putting) (time_of h) (key (members_in putting) (notes.Left put.sender link put.given put.clock))

@@ -90,9 +90,7 @@ pub goes_over : (v : View) (way : Way) (r : Happening) (frame : Pcf) (sender rec
     v.scenario.network.grain * 10 ^ 9 → clock ≤ amount v.scenario.network.dmax)
     → ((clock : ℕ) → clock + wire_of v.scenario.network link ≤ amount v.scenario.network.dmax
     → frame_fault v.scenario.network receiver link (standpoint v.scenario v.records receiver (arrives_at v.scenario link way (time_of r)))
-    (with_clock clock frame) ≡ None)
-    → arrives_at v.scenario link way (time_of r) ≤ v.until
-    → HasGone v way r frame receiver link l
+    (with_clock clock frame) ≡ None) → arrives_at v.scenario link way (time_of r) ≤ v.until → HasGone v way r frame receiver link l
 goes_over v way r frame sender receiver link l is g correct uncut young fair in_run =
     let s = v.scenario in
     let n = s.network in

@@ -24,8 +24,7 @@ clocked clock o g frame there framed =
 -- the record of a number before another one is that of all
 pub numbered_all : {s : Scenario} {hs : List Happening} {h : Happening} (at : IsFoundedAt s hs h) (n : ℕ) (g : Happening) → numbered at.front n ≡ Some g
     → numbered hs n ≡ Some g
-numbered_all {h = h} at n g there =
-    subst (λ (hs : List Happening). numbered hs n ≡ Some g) (sym at.whole) (numbered_front at.front (h ∷ at.rest) n g there)
+numbered_all {h = h} at n g there = subst (λ (hs : List Happening). numbered hs n ≡ Some g) (sym at.whole) (numbered_front at.front (h ∷ at.rest) n g there)
 
 -- the leg of a frame, as a hop: what it is held and what of this is measured, the wire and the delay
 pub record HasHop (v : View) (leg : Leg) : Type 0 where

@@ -32,8 +32,7 @@ record ComesDown (v : View) (first : Happening) (cm device : DeviceId) (d k : �
 go_down : (links : List LinkId) (v : View) (first : Happening) (cm device : DeviceId) (cycle : ℕ) (members : Members) → IsView v
     → IsEmission v first cm cycle members → IsCmOf v.scenario.network v.channel cm
     → IsPath v.scenario.network v.channel device links → IsGood v device → IsReady v device (time_of first) → AreOpenFrom v (time_of first)
-    → time_of first + v.sizes.dmax + v.sizes.path ≤ v.until
-    → ComesDown v first cm device (delay_on v.scenario.network links) (length links)
+    → time_of first + v.sizes.dmax + v.sizes.path ≤ v.until → ComesDown v first cm device (delay_on v.scenario.network links) (length links)
 go_down [] v first cm device cycle members is e one path good ready opens in_run =
     let at = founded_at v.scenario v.records first is.run.founded e.there in
     let same : cm ≡ device = one_cm v v.channel cm device is one path in

@@ -34,8 +34,7 @@ pub record HasCome (v : View) (way : Way) (t0 : ℕ) (r : Happening) (frame : Pc
 -- the delay of a path is that of its first link and of the others
 pub delay_more : (n : Network) (link : LinkId) (l : Link) (rest : List LinkId) → link_at n link ≡ Some l
     → delay_on n (link ∷ rest) ≡ delay_by l + delay_on n rest
-delay_more n link l rest at =
-    sum_by-cons (delay_of n) link rest ∙ ap (λ (x : ℕ). x + delay_on n rest) (ap (λ (o : Option Link). option_map_or delay_by o 0) at)
+delay_more n link l rest at = sum_by-cons (delay_of n) link rest ∙ ap (λ (x : ℕ). x + delay_on n rest) (ap (λ (o : Option Link). option_map_or delay_by o 0) at)
 
 -- so it does, where its path is no longer than others
 pub comes_over : (v : View) (way : Way) (t0 : ℕ) (r : Happening) (frame : Pcf) (sender receiver : DeviceId) (link : LinkId) (l : Link) (d k : ℕ)

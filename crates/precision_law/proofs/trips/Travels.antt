@@ -115,8 +115,7 @@ through v channel leg is l m at child parent of_sender relay =
 
 pub path_down : (v : View) (channel : Channel) (first last : Happening) (legs : List Leg) (giver : DeviceId) (links : List LinkId) → IsView v
     → GivesDown v channel first giver links → IsTrip v Down first legs last → (device : DeviceId) (link : LinkId) (cause clock : ℕ)
-    → last.note.body ≡ notes.Arrived device link cause clock
-    → IsPath v.scenario.network channel device (fold (λ links leg. leg.link ∷ links) links legs)
+    → last.note.body ≡ notes.Arrived device link cause clock → IsPath v.scenario.network channel device (fold (λ links leg. leg.link ∷ links) links legs)
 path_down v channel first last [] giver links is g trip device link cause clock body =
     let at : first.note.body ≡ notes.Arrived device link cause clock = ap (λ (h : Happening). h.note.body) trip ∙ body in
     subst (λ (d : DeviceId). IsPath v.scenario.network channel d links) (sym (g.arrived device link cause clock at)) g.path
