@@ -4,7 +4,7 @@ use Rattle.precision_law.proofs.words.Plans.{DeviceId, Synchronised, amount, clo
 use Rattle.precision_law.proofs.words.Runs.{Happening, Scenario, adjustment_after, earlier, happenings, is_turned_on_at, state_after}
 use Rattle.precision_law.proofs.words.Laws.{AreFromTo, BlocksCover, BlocksGoSo, ClocksKeepTheSpan, HasTimeAt, Hull, IsBehindCorrections, IsBetweenIdeals, IsInBlock, IsView, OneChannelIsSound, ShowsIn, View, adjustment_left, epoch_time, hull_of, last_setting, state_left}
 use Rattle.precision_law.proofs.words.Clocks.{IsCutAt, room}
-use Rattle.precision_law.proofs.words.Blocks.{all_in_hulls, before_narrow, block_ends, corrections_go_on, earlier_in_block, follows_before, hull_is_from_to, known_dispatch, not_integrating, of_cut, old_shows, timed_of, view_of, view_with}
+use Rattle.precision_law.proofs.words.Blocks.{all_in_hulls, before_narrow, block_ends, corrections_go_on, earlier_in_block, follows_before, from_to_of_cut, hull_is_from_to, known_dispatch, not_integrating, old_shows, timed_of, view_of, view_with}
 use Rattle.precision_law.proofs.law.Keeping.{ideal_least, ideal_most}
 use Rattle.precision_law.proofs.law.OnTime.{begins_late, corrected_late}
 
@@ -111,20 +111,6 @@ span_shows cover goes v cycle first last device is lie behind early has synchron
         not_earlier cover goes v (cover v v.until is (omega arith)).0 c (cover v v.until is (omega arith)).1 is (behind c refl) (omega (arith, lt))
 
 -- ---- in a run
-
--- what holds of the dispatches of the run holds of those up to the time
-from_to_of_cut : (s : Scenario) (hs : List Happening) (t cycle : ℕ) (first last : ℤ) (cut : IsCutAt s hs t) → AreFromTo s hs t cycle first last
-    → AreFromTo s cut.front t cycle first last
-from_to_of_cut s hs t zero first last cut at = at
-from_to_of_cut s hs t (suc c) first last cut at = record {
-  earliest = at.earliest;
-  is_earliest = of_cut s hs t (suc c) cut at.earliest at.is_earliest;
-  first_is = at.first_is;
-  latest = at.latest;
-  is_latest = of_cut s hs t (suc c) cut at.latest at.is_latest;
-  last_is = at.last_is;
-  each = λ h d. at.each h (record { there = cut.inside h d.there; master = d.master; is = d.is; correct = d.correct; by_then = d.by_then });
-}
 
 pub clocks_keep_the_span : OneChannelIsSound → BlocksCover → BlocksGoSo → ClocksKeepTheSpan
 clocks_keep_the_span sound cover goes s mark ns until beta up is_beta t cycle first last device le lie behind early step =

@@ -161,21 +161,13 @@ points_are_recorded steady_on v device u is le timed reaches never =
     let heard : heard_since s p.seven.front device u ≡ heard_since s p.six.front device u = ap (λ (hs : List Happening). heard_since s hs device u) p.whole
     ∙ heard_more v device u p.six.front p.mid (cleared u) cleared (λ m i. (p.at m i).0) (λ m i. (p.at m i).1) in
     let summary = summary_of (heard_since s p.seven.front device u) in
+    let comes = λ (verdict : Verdict) (has : HasVerdict (standing_before s p.seven.front device u) summary.0 verdict).
+    comes_given v device u p.seven.front summary.0 verdict is steady_on le timed seven reaches summary.1 has in
     elim (verdict_of (standing_before s p.seven.front device u) summary.0 (not_at v device u p.seven.front seven never)) [
       | inl correct ↦
           corrected_there v device u (next_cycle s v.records device u) correct.0 p.six is le
           (comes_given v device u p.six.front summary.0 (Corrected correct.0) is steady_on le timed six reaches (subst (Summarizes summary.0) heard summary.1)
           (subst (λ (st : Standing). HasVerdict st summary.0 (Corrected correct.0)) standing correct.1))
-      | inr (inl sync) ↦
-          lost_there v device u whys.SyncClique p.seven is le (
-            refl,
-            refl,
-            (next_cycle s v.records device u, comes_given v device u p.seven.front summary.0 SyncClique is steady_on le timed seven reaches summary.1 sync),
-          )
-      | inr (inr async) ↦
-          lost_there v device u whys.AsyncClique p.seven is le (
-            refl,
-            refl,
-            (next_cycle s v.records device u, comes_given v device u p.seven.front summary.0 AsyncClique is steady_on le timed seven reaches summary.1 async),
-          )
+      | inr (inl sync) ↦ lost_there v device u whys.SyncClique p.seven is le (refl, refl, (next_cycle s v.records device u, comes SyncClique sync))
+      | inr (inr async) ↦ lost_there v device u whys.AsyncClique p.seven is le (refl, refl, (next_cycle s v.records device u, comes AsyncClique async))
     ]

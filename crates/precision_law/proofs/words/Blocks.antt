@@ -19,7 +19,7 @@ pub use Rattle.precision_law.proofs.law.ComingIn.{joiners_come_in}
 pub use Rattle.precision_law.proofs.law.Cover.{blocks_cover, later_end}
 pub use Rattle.precision_law.proofs.law.Precision.{clique_point, clocks_stay_together, not_integrating, time_is_kept, timed_of, up_to_is}
 pub use Rattle.precision_law.proofs.law.Together.{IsSetInBlock, before_narrow, block_ends, clocks_agree_in_blocks, earlier_in_block, follows_before, new_shows, old_shows, set_by, set_shows}
-pub use Rattle.precision_law.proofs.records.RunViews.{all_in_hulls, block_of, from_to_of_run, hull_is_from_to, hull_lies, of_cut, view_of, view_with}
+pub use Rattle.precision_law.proofs.records.RunViews.{all_in_hulls, block_of, from_to_of_cut, from_to_of_run, hull_is_from_to, hull_lies, of_cut, view_of, view_with}
 pub use Rattle.precision_law.proofs.sizes.Few.{few_cycles}
 pub use Rattle.precision_law.proofs.trips.SoundDown.{sound_frames_go_down}
 pub use Rattle.precision_law.proofs.trips.SoundUp.{one_cm, sound_frames_go_up}
