@@ -42,30 +42,15 @@ open_by v cycle shown is window =
     let length = (sizes_are v is).cycle in
     let product : cycle * v.sizes.cycle ≡ cycle * amount n.cycle = ap (λ (x : ℕ). cycle * x) length in
     let z = shown +ℤ pos (2 * amount n.precision) in
-    let from = from_by (cycle * v.sizes.cycle) (cycle * amount n.cycle) shown v.sizes.precision (amount n.precision) product precision window.least in
+    let from : pos (cycle * amount n.cycle) ≤ℤ z = omega (arith, ints, product, precision, window.least) in
     let m = natural_of z (cycle * amount n.cycle) from in
-    let rest = behind (cycle * amount n.cycle) m.0 z from m.1 in
-    let top = top_by (cycle * v.sizes.cycle) (cycle * amount n.cycle) shown v.sizes.precision (amount n.precision) v.sizes.correction (amount n.correction)
-    rest.0 m.0 product precision correction window.most m.1 rest.1 in
-    let small : rest.0 < amount n.cycle = small_by v.sizes.precision (amount n.precision) v.sizes.correction (amount n.correction) v.sizes.cycle
-    (amount n.cycle) v.sizes.dmax v.sizes.spread v.sizes.reach v.sizes.clock v.sizes.path v.sizes.drift v.sizes.grain rest.0 precision correction length
-    top space.cycles space.eight_errors space.errors.reach_is space.grain in
+    let rest : ℕ = m.0 - cycle * amount n.cycle in
+    let is_rest : m.0 ≡ cycle * amount n.cycle + rest = omega (arith, ints, from, m.1) in
+    let top : rest ≤ amount n.correction + 2 * amount n.precision = omega (arith, ints, product, precision, correction, window.most, m.1, is_rest) in
+    let small : rest < amount n.cycle = omega (arith, top, precision, correction, length, space) in
     let some : 0 < amount n.cycle = omega (arith, small) in
-    let place = placed n cycle rest.0 m.0 z some (omega (arith, ints, is.lawful.range.cycle.least)) small rest.1 m.1 in
-    ap (int_lt (pos (amount n.correction + 2 * amount n.precision))) place ∙ le-ltb (amount n.correction + 2 * amount n.precision) rest.0 top
-  where
-    from_by : (a b : ℕ) (shown : ℤ) (p q : ℕ) → a ≡ b → p ≡ q → pos a ≤ℤ (shown +ℤ pos (2 * p)) → pos b ≤ℤ (shown +ℤ pos (2 * q))
-    from_by a b shown p q x y le = omega (arith, ints, x, y, le)
-
-    behind : (a m : ℕ) (z : ℤ) → pos a ≤ℤ z → z ≡ pos m → (r : ℕ) × (m ≡ a + r)
-    behind a m z le same = (m - a, omega (arith, ints, le, same))
-
-    top_by : (a b : ℕ) (shown : ℤ) (p q c d r m : ℕ) → a ≡ b → p ≡ q → c ≡ d → shown ≤ℤ pos (a + c) → (shown +ℤ pos (2 * q)) ≡ pos m → m ≡ b + r → r ≤ d + 2 * q
-    top_by a b shown p q c d r m x y z le same is = omega (arith, ints, x, y, z, le, same, is)
-
-    small_by : (p q c d l k dmax spread reach clock path drift grain r : ℕ) → p ≡ q → c ≡ d → l ≡ k → r ≤ d + 2 * q → c + dmax + 8 * p ≤ l
-        → spread + 8 * reach ≤ p → reach ≡ clock + drift + 2 * grain → 1 ≤ grain → r < k
-    small_by p q c d l k dmax spread reach clock path drift grain r x y z le cycles errors reach_is some = omega arith
+    let place = placed n cycle rest m.0 z some (omega (arith, ints, is.lawful.range.cycle.least)) small is_rest m.1 in
+    ap (int_lt (pos (amount n.correction + 2 * amount n.precision))) place ∙ le-ltb (amount n.correction + 2 * amount n.precision) rest top
 
 -- a switch of the sound channel is calm
 switch_calm : (v : View) (n u : ℕ) (block : IsInBlock v n u) (switch : DeviceId) → IsView v → IsSoundSwitch v switch
