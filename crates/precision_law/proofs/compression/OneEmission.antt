@@ -1,6 +1,6 @@
 -- A compression master sends at most one frame of a cycle that has a good member.
 use Rattle.precision_law.proofs.words.Std.{◌*ℤ◌, ◌*◌, ◌++◌, ◌+ℤ◌, ◌+◌, ◌-ℤ◌, ◌-◌, ◌<ℤ◌, ◌<◌, ◌∙◌, ◌∷◌, ◌≡◌, ◌≤ℤ◌, ◌≤◌, ◌⊎◌, Contains, List, Some, [], ap, append_assoc, arith, bit_at, cases_lt, inl, inr, ints, map, pos, refl, subst, sym, true, ℕ, ℤ}
-use Rattle.precision_law.proofs.words.Plans.{AreClusters, AreInOrder, Cluster, Compressed, DeviceId, IsKept, LiesIn, LiesWithin, Members, Point, amount, emission, end_of, middle_of, one_cluster, one_time_law, relative}
+use Rattle.precision_law.proofs.words.Plans.{AreClusters, AreInOrder, Cluster, Compressed, DeviceId, IsKept, LiesIn, LiesWithin, Members, Point, amount, emission, middle_of, one_cluster, one_time_law, relative}
 use Rattle.precision_law.proofs.words.Runs.{Happening, IsBefore, IsCaused, IsDue, IsFounded, IsFoundedAt, IsIn, NoteBody, behind_first, in_left, in_parts, in_right, is_cm, key, members_in, never_self, observation_window, parted, place_of, points_of, rank, same_some, time_of}
 use Rattle.precision_law.proofs.words.Laws.{EmissionIsOne, HasGood, HaveRoom, Hull, IsEmission, IsGoodMember, IsInHull, IsNarrowIfThere, IsSteady, IsTidyBefore, IsView, Sizes, View}
 use Rattle.precision_law.proofs.words.Clocks.{all_by, ascending_from, before_of, contains, founded_by, has_member, has_one, member_has, middle_near, no_later, one_member, room, sizes_are, steady}
@@ -72,17 +72,6 @@ pub record IsFrontCluster (v : View) (t cycle : ℕ) (cm : DeviceId) (by : ℕ) 
   pub there : Contains clusters c
   pub cycle_is : c.cycle ≡ cycle
 
--- the numbers of what is sent
-sent_numbers : (ow compression calc : ℕ) (at opened middle x end : ℤ) → 1 ≤ calc → compression ≡ 2 * ow + calc
-    → at ≡ (((opened +ℤ (pos 2 *ℤ pos ow)) +ℤ pos calc) +ℤ middle) → pos 0 ≤ℤ middle → pos 0 ≤ℤ opened → end ≤ℤ (opened +ℤ (pos 2 *ℤ pos ow))
-    → LiesWithin (x -ℤ pos ow) (x +ℤ pos ow) (opened +ℤ middle) → ((x +ℤ pos ow) <ℤ at) × (end <ℤ at) × (pos 0 <ℤ at) × (at ≤ℤ (x +ℤ pos (ow + compression)))
-sent_numbers ow compression calc at opened middle x end some wait is late begun soon near = (
-  omega (arith, ints, some, is, near.0),
-  omega (arith, ints, some, is, late, soon),
-  omega (arith, ints, some, is, late, begun),
-  omega (arith, ints, wait, is, near.1),
-)
-
 -- a member of such a cluster that is good has such a point
 pub front_witness : (v : View) (t cycle : ℕ) (cm : DeviceId) (by : ℕ) (front rest : List Happening) (clusters : List Cluster) (cluster : Cluster)
     → IsFrontCluster v t cycle cm by front rest clusters cluster → (m : ℕ) → bit_at cluster.members m ≡ 1 → IsGoodMember v m
@@ -126,8 +115,7 @@ front_witness v t cycle cm by front rest clusters cluster f m bit good =
     let calc : 1 ≤ amount n.calc = (let m = (room v k.is).compression_least in omega (arith, m, sizes_are v k.is)) in
     let given = point_record cm front o (in_points o (inl refl)) in
     let begun = (read_at v cm given.0 o k.is (subst (IsIn given.0) (sym f.whole) (in_left given.0 front rest given.1)) given.2).not_negative in
-    let numbers = sent_numbers (amount n.precision) v.sizes.compression (amount n.calc) at o.reading (middle_of (relative (map (λ q. q.reading) (o ∷ h.more))))
-    x.reading (end_of ow o (o ∷ c.rest)) calc (sizes_are v k.is).compression whole late begun soon near in
+    let sizes = sizes_are v k.is in
     let here = h.each x i in (
       x,
       record {
@@ -139,10 +127,10 @@ front_witness v t cycle cm by front rest clusters cluster f m bit good =
           high = subst (λ (y : Cluster). x.reading ≤ℤ y.end) (sym c.is) here.to;
         };
         good = is_good;
-        near = subst (λ (z : ℕ). (x.reading +ℤ pos z) <ℤ at) (sym (sizes_are v k.is).precision) numbers.0;
-        ends = subst (λ (y : Cluster). y.end <ℤ at) (sym c.is) numbers.1;
-        begun = numbers.2;
-        soon = subst (λ (z : ℕ). at ≤ℤ (x.reading +ℤ pos (z + v.sizes.compression))) (sym (sizes_are v k.is).precision) numbers.3;
+        near = omega (arith, ints, calc, whole, near.0, sizes);
+        ends = omega (arith, ints, calc, whole, late, soon, ap (λ (y : Cluster). y.end) c.is);
+        begun = omega (arith, ints, calc, whole, late, begun);
+        soon = omega (arith, ints, whole, near.1, sizes);
       },
     )
 

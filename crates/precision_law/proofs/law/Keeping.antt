@@ -1,6 +1,6 @@
 -- The clock of a synchronised device keeps between the ideal clocks of a cycle.
-use Rattle.precision_law.proofs.words.Std.{◌*◌, ◌+ℤ◌, ◌+◌, ◌-ℤ◌, ◌∙◌, ◌≡◌, ◌≤ℤ◌, ◌≤◌, List, None, Option, Some, ap, arith, by_lt_z, false, ints, negsuc, option_map_or, pos, refl, subst, suc, sym, true, ℕ, ℤ}
-use Rattle.precision_law.proofs.words.Plans.{Channel, Corrected, DeviceId, Synchronised, amount, clock_error, drift_of}
+use Rattle.precision_law.proofs.words.Std.{◌+ℤ◌, ◌+◌, ◌∙◌, ◌≡◌, ◌≤ℤ◌, ◌≤◌, List, None, Option, Some, ap, arith, by_lt_z, false, ints, negsuc, option_map_or, pos, refl, subst, suc, sym, true, ℕ, ℤ}
+use Rattle.precision_law.proofs.words.Plans.{Channel, Corrected, DeviceId, Synchronised}
 use Rattle.precision_law.proofs.words.Runs.{Happening, IsCaused, NoteBody, Scenario, adjustment_after, cycle_in, earlier, founded_at, happenings, is_broken, is_joined_by, is_turned_on_at, state_after, time_of}
 use Rattle.precision_law.proofs.words.Laws.{BlocksCover, BlocksGoSo, ClocksKeepTheirCycles, ComesTo, HasTimeAt, Hull, IsInBlock, IsNarrow, IsView, KeepsCycle, OneChannelIsSound, ShowsIn, View, adjustment_left, cycle_set, epoch_cycle, epoch_time, hull_of, last_setting}
 use Rattle.precision_law.proofs.words.Clocks.{IsCutAt, before_of, point_timed, setting_is, settings_stay, time_stays}
@@ -80,15 +80,6 @@ shows_cycle goes v n t u device block is le most has =
 
 -- ---- of a run
 
--- the same bounds in two forms
-pub ideal_least : (product t error : ℕ) (shown last : ℤ) → (pos product +ℤ pos t) ≤ℤ (shown +ℤ (last +ℤ pos error))
-    → ((pos product +ℤ pos t) -ℤ last) ≤ℤ (shown +ℤ pos error)
-ideal_least product t error shown last le = omega (arith, ints, le)
-
-pub ideal_most : (product t error : ℕ) (shown first : ℤ) → (shown +ℤ first) ≤ℤ (pos product +ℤ (pos t +ℤ pos error))
-    → shown ≤ℤ (((pos product +ℤ pos t) -ℤ first) +ℤ pos error)
-ideal_most product t error shown first le = omega (arith, ints, le)
-
 keeps_by : BlocksCover → BlocksGoSo → (s : Scenario) (hs : List Happening) (t : ℕ) (channel : Channel) (path : ℕ) (cut : IsCutAt s hs t) (cycle : ℕ) (shown : ℤ)
     → IsView (view_of s t channel path cut.front) → ShowsCycle (view_of s t channel path cut.front) t cycle shown → KeepsCycle s hs path t cycle shown
 keeps_by cover goes s hs t channel path cut cycle shown is c = record {
@@ -98,8 +89,8 @@ keeps_by cover goes s hs t channel path cut cycle shown is c = record {
       from_to_of_run s hs t cycle c.hull.least c.hull.greatest cut (hull_is_from_to cover goes (view_of s t channel path cut.front) is cycle c.hull c.is_hull);
   narrow = c.narrow;
   between = record {
-    least = ideal_least (cycle * amount s.network.cycle) t (clock_error s.network path + drift_of s.network) shown c.hull.greatest c.shows.least;
-    most = ideal_most (cycle * amount s.network.cycle) t (clock_error s.network path + drift_of s.network) shown c.hull.least c.shows.most;
+    least = omega (arith, ints, c.shows.least);
+    most = omega (arith, ints, c.shows.most);
   };
 }
 

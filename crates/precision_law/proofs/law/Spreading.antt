@@ -146,17 +146,6 @@ record AreApart (s : Scenario) (hs : List Happening) (until k : ℕ) (g h : Happ
   pub halves : (first last : ℤ) → 1 ≤ k → ((e : Happening) → IsDispatchOf hs until k e → (first ≤ℤ pos (time_of e)) × (pos (time_of e) ≤ℤ last))
       → AreWithin (time_of g) (time_of h) ((last -ℤ first) +ℤ pos (amount s.network.settled))
 
--- numbers
-spread_by : (w u settled spread gamma : ℕ) (least greatest : ℤ) → AreWithin w u ((greatest -ℤ least) +ℤ pos settled) → greatest ≤ℤ (least +ℤ pos spread)
-    → spread ≡ settled + 2 * gamma + 2 → AreWithin w u (pos (2 * spread))
-spread_by w u settled spread gamma least greatest near narrow is =
-    (let a = near.one in let b = near.other in record { one = omega (arith, ints, a, narrow, is); other = omega (arith, ints, b, narrow, is) })
-
-wider_by : (w u settled : ℕ) (least greatest first last : ℤ) → AreWithin w u ((greatest -ℤ least) +ℤ pos settled) → first ≤ℤ least → greatest ≤ℤ last
-    → AreWithin w u ((last -ℤ first) +ℤ pos settled)
-wider_by w u settled least greatest first last near low high =
-    (let a = near.one in let b = near.other in record { one = omega (arith, ints, a, low, high); other = omega (arith, ints, b, low, high) })
-
 apart_by : BlocksCover → BlocksGoSo → (s : Scenario) (hs : List Happening) (path until k : ℕ) (g h : Happening) (one other : DeviceId)
     → (two : AreTwo s hs path k g h one other) → time_of g ≤ until → IsInBlock (first_view two) k (time_of g) → IsInBlock (second_view two) k (time_of h)
     → AreApart s hs until k g h
@@ -166,15 +155,17 @@ apart_by cover goes s hs path until (suc m) g h one other two to block later =
     let v = first_view two in
     let half = halve_two cover goes s hs path g h one other m two block later in
     let hull = block.before.hull in
+    let narrow = before_narrow v _ block.before in
+    let spread_is = (room v two.is).errors.spread_is in
     record {
-      near = spread_by _ _ v.sizes.settled _ v.sizes.gamma hull.least hull.greatest half (before_narrow v _ block.before) (room v two.is).errors.spread_is;
+      near = record { one = omega (arith, ints, half.one, narrow, spread_is); other = omega (arith, ints, half.other, narrow, spread_is) };
       halves = λ first last begun lie.
           let ends = hull_lies cover goes v two.is m hull block.before.is_hull in
           let a = ends.is_earliest in
           let b = ends.is_latest in
           let low = (lie ends.earliest (record { there = two.of_run ends.earliest a.there; master = a.master; is = a.is; by_then = omega arith })).0 in
           let high = (lie ends.latest (record { there = two.of_run ends.latest b.there; master = b.master; is = b.is; by_then = omega arith })).1 in
-          wider_by (time_of g) (time_of h) v.sizes.settled hull.least hull.greatest first last half (omega (arith, ints)) (omega (arith, ints));
+          record { one = omega (arith, ints, half.one); other = omega (arith, ints, half.other) };
     }
 
 apart : OneChannelIsSound → BlocksCover → BlocksGoSo → (s : Scenario) (mark : List ℕ) (ns : List Note) (until k : ℕ) → IsRunUpTo s mark ns until

@@ -1,5 +1,5 @@
 -- The gates of the sound channel are open while the frames of a cycle come.
-use Rattle.precision_law.proofs.words.Std.{◌%◌, ◌&&◌, ◌*◌, ◌+ℤ◌, ◌+◌, ◌-◌, ◌<ℤ◌, ◌<◌, ◌∙◌, ◌≡◌, ◌≤ℤ◌, ◌≤◌, and_right, ap, arith, false, inr, int_lt, int_rem_euclid_is, ints, le-ltb, mod-mul-add, pos, suc, ℕ, ℤ}
+use Rattle.precision_law.proofs.words.Std.{◌%◌, ◌&&◌, ◌*◌, ◌+ℤ◌, ◌+◌, ◌-◌, ◌<◌, ◌∙◌, ◌≡◌, ◌≤ℤ◌, ◌≤◌, and_right, ap, arith, false, inr, int_lt, int_rem_euclid_is, ints, le-ltb, mod-mul-add, pos, suc, ℕ, ℤ}
 use Rattle.precision_law.proofs.words.Plans.{DeviceId, Network, amount}
 use Rattle.precision_law.proofs.words.Runs.{is_relay, is_synchronised, offset_in_cycle, standpoint}
 use Rattle.precision_law.proofs.words.Laws.{AreOpenFrom, BlocksGoSo, HasTimeAt, HaveRoom, Hull, IsInBlock, IsNarrow, IsOpen, IsSoundSwitch, IsView, ShowsIn, Sizes, View, adjustment_left, first_correction, first_dispatch, has_time, last_dispatch}
@@ -96,9 +96,4 @@ pub dispatches_pass : BlocksGoSo → (v : View) (n w : ℕ) (block : IsInBlock v
     → pos w ≤ℤ last_dispatch v.sizes block.before.hull → w + v.sizes.dmax ≤ v.until + v.sizes.path → AreOpenFrom v w
 dispatches_pass goes v n w block is low high in_run =
     let first = frames_come_first v.sizes block.before.hull (room v is) (before_narrow v n block.before) in
-    are_open_from goes v n w block is low (early w v.sizes.dmax v.sizes.compression v.sizes.base v.sizes.path v.sizes.precision
-    (last_dispatch v.sizes block.before.hull) (first_correction v.sizes block.before.hull) high first) in_run
-  where
-    early : (w dmax compression base path precision : ℕ) (last first : ℤ) → pos w ≤ℤ last
-        → ((last +ℤ pos (2 * dmax + compression + base + path + precision)) +ℤ pos (5 * precision)) <ℤ first → pos (w + dmax) ≤ℤ first
-    early w dmax compression base path precision last first le lt = omega (arith, ints, le, lt)
+    are_open_from goes v n w block is low (omega (arith, ints, high, first)) in_run

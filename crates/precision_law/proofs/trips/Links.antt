@@ -75,13 +75,6 @@ takes_at_most v way link l t is there =
     let delay = delay_is v link l way (leaves_at v.scenario link way t) is there in
     (omega (arith, hold, delay.1), omega (arith, delay_least v.scenario link l way (leaves_at v.scenario link way t) is.lawful there known.wire.least))
 
--- what the clock of the frame grows by
-grown : (rho grain held hold wire jitter clock seen : ℕ) → Measures rho grain held seen → held ≤ hold
-    → 10 ^ 9 * (clock + seen + wire) ≤ 10 ^ 9 * clock + 10 ^ 9 * (wire + jitter + hold) + rho * (wire + jitter + hold) + 2 * grain * 10 ^ 9
-grown rho grain held hold wire jitter clock seen measures short =
-    let drift : rho * held ≤ rho * (wire + jitter + hold) = mul-le-mul_left rho (omega (arith, short)) in
-    omega (arith, measures, drift, short)
-
 -- over a way that is whole a frame comes from a correct sender
 pub goes_over : (v : View) (way : Way) (r : Happening) (frame : Pcf) (sender receiver : DeviceId) (link : LinkId) (l : Link) → IsView v
     → IsGivenOn v way r frame sender receiver link l → is_broken v.scenario sender (leaves_at v.scenario link way (time_of r)) ≡ false
@@ -105,11 +98,10 @@ goes_over v way r frame sender receiver link l is g correct uncut young fair in_
     let clock : ℕ = clock_at_leaving s sender frame (time_of r) t in
     let hold_is : t - time_of r ≡ hold_at s link way (time_of r) = omega arith in
     let measures = subst (λ (x : ℕ). Measures n.rho (amount n.grain) x seen) hold_is ((is.lawful.clocks sender).drifts (time_of r) t (omega arith)) in
-    let grows = grown n.rho (amount n.grain) (hold_at s link way (time_of r)) (amount l.hold) (amount l.wire) (amount l.jitter) frame.clock seen measures held
-    in
+    let drift : n.rho * hold_at s link way (time_of r) ≤ n.rho * delay_by l = mul-le-mul_left n.rho (omega (arith, held)) in
     let then_clock : ℕ = clock + wire_of n link in
-    let grows_so = subst (λ (x : ℕ). 10 ^ 9 * (clock + x) ≤ 10 ^ 9 * frame.clock + 10 ^ 9 * delay_by l + n.rho * delay_by l + 2 * amount n.grain * 10 ^ 9)
-    (sym nominal) grows in
+    let grows_so : 10 ^ 9 * then_clock ≤ 10 ^ 9 * frame.clock + 10 ^ 9 * delay_by l + n.rho * delay_by l + 2 * amount n.grain * 10 ^ 9 =
+    omega (arith, measures, drift, held, nominal) in
     let small : then_clock ≤ amount n.dmax = young then_clock grows_so in
     let at = split place_of (IsDue s) hs (t ∷ 8 ∷ sender.0 ∷ link.0 ∷ r.note.number ∷ []) is.run.founded in
     let sooner : IsBefore (place_of r) (t ∷ 8 ∷ sender.0 ∷ link.0 ∷ r.note.number ∷ []) = ranked (time_of r) t (rank r.note.body) 8
