@@ -78,9 +78,8 @@ no_correction_then v device t front rest h x cycle by adjustment is e early join
     let changes : changes_adjustment device x.note.body ≡ true = ap (changes_adjustment device) body ∙ (eq-eqb device.0 device.0 refl) in
     elim (in_parts x front (h ∷ rest) (subst (IsIn x) whole i)) [
       | inl before ↦
-          let order = (is.run.founded front rest h whole).0 x before in
           lower_rank (time_of x) (time_of h) (rank x.note.body) (rank h.note.body) (key (members_in x) x.note.body) (key (members_in h) h.note.body) same
-          (omega (arith, ap rank body, joining_rank device h.note.body joined)) order
+          (omega (arith, ap rank body, joining_rank device h.note.body joined)) ((is.run.founded front rest h whole).0 x before)
       | inr (inl one) ↦ (let wrong : is_joined_by device h.note.body ≡ false = ap (λ (g : Happening). is_joined_by device g.note.body) (sym one)
           ∙ ap (is_joined_by device) body in both_ways (is_joined_by device h.note.body) wrong joined)
       | inr (inr later) ↦ none_behind v device t front rest h x is e whole later (omega (arith, same, early)) changes

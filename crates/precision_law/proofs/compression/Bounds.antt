@@ -38,26 +38,6 @@ gaps_fit n slack space small =
           (arith, a, b, c, d, f, small)),
     )
 
--- the times between which a frame is sent whose middle lies so
-record IsSentNear (n : Sizes) (low high : ℤ) (s slack : ℕ) : Type 0 where
-  pub least : ((low +ℤ pos n.dmax) +ℤ pos n.compression) ≤ℤ (pos s +ℤ pos (n.base + slack))
-  pub most : pos s ≤ℤ (((high +ℤ pos n.dmax) +ℤ pos n.compression) +ℤ pos (n.base + slack))
-
-sent_near : (n : Sizes) (reading : ℕ → ℕ) (low high middle : ℤ) (a b s slack : ℕ) → IsSteady n reading → HaveRoom n → slack ≤ n.precision
-    → (low +ℤ pos n.dmax) ≤ℤ pos (a + n.path) → pos b ≤ℤ (high +ℤ pos (n.dmax + n.path))
-    → pos (reading a) ≤ℤ (middle +ℤ pos (2 * n.grain + slack)) → middle ≤ℤ pos (reading b + slack)
-    → (middle +ℤ pos n.compression) ≤ℤ pos (reading s) → pos (reading s) ≤ℤ ((middle +ℤ pos n.compression) +ℤ pos (2 * n.grain)) → IsSentNear n low high s slack
-sent_near n reading low high middle a b s slack steady space small from to above below reached sharp =
-    let fit = gaps_fit n slack space small in
-    let base = space.errors.base_is in
-    let gap : ℕ = n.compression - (2 * n.grain + slack) in
-    let gap_is : gap + (2 * n.grain + slack) ≡ n.compression = omega (arith, fit.0) in
-    let late = later_by n reading a s gap steady (omega (arith, fit.1, gap_is)) (omega (arith, ints, above, reached, gap_is)) (omega (arith, fit.0, gap_is)) in
-    record {
-      least = omega (arith, ints, late, from, gap_is, base);
-      most = omega (arith, ints, sooner_by n reading b s (n.compression + slack + 2 * n.grain) steady fit.1 (omega (arith, ints, below, sharp)), to, base);
-    }
-
 -- ---- middles
 
 -- the last of points that lie within bounds does
@@ -184,9 +164,20 @@ module _ (v : View) (h : Happening) (cm : DeviceId) (cycle : ℕ) (members : Mem
   base_near slack bounds small lies =
       let m = made v h cm cycle members is e in
       let sharp = emissions_are_sharp v h cm cycle members e is in
-      let near = sent_near v.sizes (v.scenario.reading cm) bounds.hull.least bounds.hull.greatest middle bounds.a bounds.b (time_of h) slack (steady v is cm)
-      (room v is) small bounds.from bounds.to (omega (arith, ints)) (omega (arith, ints)) (omega (arith, ints)) (omega (arith, ints)) in
-      record { hull = bounds.hull; is = bounds.is; least = omega (arith, ints, near.least); most = omega (arith, ints, near.most) }
+      let space = room v is in
+      let fit = gaps_fit v.sizes slack space small in
+      let gap : ℕ = v.sizes.compression - (2 * v.sizes.grain + slack) in
+      let gap_is : gap + (2 * v.sizes.grain + slack) ≡ v.sizes.compression = omega (arith, fit.0) in
+      let late = later_by v.sizes (v.scenario.reading cm) bounds.a (time_of h) gap (steady v is cm) (omega (arith, fit.1, gap_is))
+      (omega (arith, ints, sharp, lies.0, m.at, gap_is)) (omega (arith, fit.0, gap_is)) in
+      let soon = sooner_by v.sizes (v.scenario.reading cm) bounds.b (time_of h) (v.sizes.compression + slack + 2 * v.sizes.grain) (steady v is cm) fit.1
+      (omega (arith, ints, sharp, lies.1, m.at)) in
+      record {
+        hull = bounds.hull;
+        is = bounds.is;
+        least = omega (arith, ints, late, bounds.from, gap_is, space.errors.base_is);
+        most = omega (arith, ints, soon, bounds.to, space.errors.base_is);
+      }
 
   -- where it lies within them, the base lies in the hull
   base_in : (bounds : HasBounds v cm cycle (time_of h)) → LiesBetween v cm bounds.a bounds.b middle

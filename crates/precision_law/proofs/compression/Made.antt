@@ -139,7 +139,6 @@ made_of v h cm cycle members is e =
     let soon = ends_soon ow o (o ∷ c.rest) wide in
     let cycle_is : cycle ≡ o.cycle = ap (λ (x : Compressed). x.cycle) emits.is ∙ ap (λ (x : Cluster). x.cycle) c.is in
     let sent = ap (λ (x : Compressed). x.at.0) emits.is ∙ ap (emission ow (pos (amount v.scenario.network.calc))) c.is in
-    let middle = ap (λ (qs : List Point). middle_of (relative (map (λ q. q.reading) qs))) f.are in
     record {
       is_cm_one = emits.cm;
       first = o;
@@ -150,7 +149,7 @@ made_of v h cm cycle members is e =
           record { of_cycle = k.of_cycle ∙ sym cycle_is; from = k.from; to = omega (arith, ints, k.to, soon, sizes_are v is); there = in_cluster c q k.there };
       differ = f.differ;
       ordered = f.ordered (c.ordered (points_ordered v cm at.front (h ∷ at.rest) is at.whole));
-      at = omega (arith, ints, sent, middle, sizes_are v is);
+      at = omega (arith, ints, sent, ap (λ (qs : List Point). middle_of (relative (map (λ q. q.reading) qs))) f.are, sizes_are v is);
     }
 
 -- ---- good members

@@ -2,7 +2,7 @@
 use Rattle.precision_law.proofs.words.Std.{◌*ℤ◌, ◌*◌, ◌++◌, ◌+ℤ◌, ◌+◌, ◌-ℤ◌, ◌-◌, ◌<ℤ◌, ◌<◌, ◌∙◌, ◌∷◌, ◌≡◌, ◌≤ℤ◌, ◌≤◌, ◌⊎◌, Contains, List, Some, [], ap, append_assoc, arith, bit_at, cases_lt, inl, inr, ints, map, pos, refl, subst, sym, true, ℕ, ℤ}
 use Rattle.precision_law.proofs.words.Plans.{AreClusters, AreInOrder, Cluster, Compressed, DeviceId, IsKept, LiesIn, LiesWithin, Members, Point, amount, emission, middle_of, one_cluster, one_time_law, relative}
 use Rattle.precision_law.proofs.words.Runs.{Happening, IsBefore, IsCaused, IsDue, IsFounded, IsFoundedAt, IsIn, NoteBody, behind_first, in_left, in_parts, in_right, is_cm, key, members_in, never_self, observation_window, parted, place_of, points_of, rank, same_some, time_of}
-use Rattle.precision_law.proofs.words.Laws.{EmissionIsOne, HasGood, HaveRoom, Hull, IsEmission, IsGoodMember, IsInHull, IsNarrowIfThere, IsSteady, IsTidyBefore, IsView, Sizes, View}
+use Rattle.precision_law.proofs.words.Laws.{EmissionIsOne, HasGood, Hull, IsEmission, IsGoodMember, IsInHull, IsNarrowIfThere, IsTidyBefore, IsView, View}
 use Rattle.precision_law.proofs.words.Clocks.{all_by, ascending_from, before_of, contains, founded_by, has_member, has_one, member_has, middle_near, no_later, one_member, room, sizes_are, steady}
 use Rattle.run_law.specs.declared.note.NoteBody.TheVariants as notes
 use Rattle.precision_law.proofs.compression.Emitted.{contained, emissions_are_sharp, gives_point, in_cluster, middle_late, point_record}
@@ -14,22 +14,6 @@ use Rattle.run_law.specs.control.Emissions.{Emits}
 use Rattle.compression.specs.Emission.{compressed}
 
 -- ---- good points of one cycle are near
-
--- what two good points tell
-near_numbers : (n : Sizes) (reading : ℕ → ℕ) (least greatest p q : ℤ) (w x a b : ℕ) → HaveRoom n → IsSteady n reading → greatest ≤ℤ (least +ℤ pos n.spread)
-    → least ≤ℤ pos x → pos w ≤ℤ greatest → a ≤ w + n.dmax + n.path → x + n.dmax ≤ b + n.path
-    → p ≤ℤ pos (reading a) → pos (reading b) ≤ℤ (q +ℤ pos (2 * n.grain)) → p ≤ℤ (q +ℤ pos n.precision)
-near_numbers n reading least greatest p q w x a b space steady narrow low high late early up down =
-    let errors = space.eight_errors in
-    let reach = space.errors.reach_is in
-    let clock = space.errors.clock_is in
-    let cycles = space.cycles in
-    elim (cases_lt b a) [
-      | inr le ↦ (let r = steady.never_falls a b le in omega (arith, ints, r, up, down, errors, reach, clock))
-      | inl lt ↦
-          let within : a ≤ b + (n.spread + 2 * n.path) = omega (arith, ints, narrow, low, high, late, early) in
-          omega (arith, ints, steady.fast b a (omega (arith, lt)) (omega (arith, within, errors, reach, clock, cycles)), within, up, down, errors, reach, clock)
-    ]
 
 -- what is known of the cycle
 pub record IsKnown (v : View) (t cycle : ℕ) : Type 0 where
@@ -43,8 +27,15 @@ good_near v t cycle cm by late p q k lt less of_p of_q a b =
     let w = subst (λ (c : ℕ). IsInHull v c (time_of a.first)) of_p (k.tidy a.first a.master p.cycle a.dispatch (omega (arith, a.before, lt))) in
     let x = subst (λ (c : ℕ). IsInHull v c (time_of b.first)) of_q (k.tidy b.first b.master q.cycle b.dispatch (omega (arith, b.before, less))) in
     let low : w.hull.least ≤ℤ pos (time_of b.first) = subst (λ (y : Hull). y.least ≤ℤ pos (time_of b.first)) (same_some _ _ _ x.is w.is) x.least in
-    near_numbers v.sizes (v.scenario.reading cm) w.hull.least w.hull.greatest p.reading q.reading (time_of a.first) (time_of b.first) a.ripe b.ripe
-    (room v k.is) (steady v k.is cm) (k.narrow w.hull w.is) low w.most a.in_time.not_late b.in_time.not_early a.least b.most
+    let space = room v k.is in
+    let clock = steady v k.is cm in
+    let narrow = k.narrow w.hull w.is in
+    elim (cases_lt b.ripe a.ripe) [
+      | inr le ↦ (let up = clock.never_falls a.ripe b.ripe le in omega (arith, ints, up, a.least, b.most, space))
+      | inl more ↦
+          let within : a.ripe ≤ b.ripe + (v.sizes.spread + 2 * v.sizes.path) = omega (arith, ints, narrow, low, w.most, a.in_time, b.in_time) in
+          omega (arith, ints, clock.fast b.ripe a.ripe (omega (arith, more)) (omega (arith, within, space)), within, a.least, b.most, space)
+    ]
 
 -- ---- a good point of what is sent
 

@@ -53,8 +53,7 @@ same_by ow (o ∷ ps) p (k ∷ cs) (e ∷ ds) c some are next past =
       λ at. elim (in_cases k c cs at) [
         | inl same ↦ subst (Contains (e ∷ ds)) (sym (one (inl (subst (λ (x : Cluster). x.end <ℤ p.reading) (sym same) past))) ∙ same) (in_head e ds)
         | inr later ↦
-            let opens = opens_behind ow k.end ps cs c some are.1 later in
-            let behind : k.end <ℤ p.reading = omega (arith, ints, opens, past) in
+            let behind : k.end <ℤ p.reading = omega (arith, ints, opens_behind ow k.end ps cs c some are.1 later, past) in
             in_tail e c ds ((rest (one (inl behind)) behind).0 later)
       ],
       λ at. elim (in_cases e c ds at) [

@@ -71,9 +71,8 @@ grow v befallen (d ∷ xs) k set is there below =
           let m = sound_member v befallen k d is here e in
           let new : IsMember m.0 set → ⊥ = λ old.
           let b = below m.0 old in
-          let lt = b.1 in
           let place : b.0.device.0 ≡ k = ap (λ (x : DeviceId). x.0) (one_member v b.0.device (record { 0 = k }) m.0 is b.0.is_member m.1) in
-          absurd (omega (arith, lt, place)) in
+          absurd (omega (arith, b.1, place)) in
           let r = grow v befallen xs (k + 1) (union (single m.0) set) is later (λ i j. elim (cases_eq i m.0) [
             | inl same ↦ (record { device = record { 0 = k }; d = d; at = here; sound = e; is_member = m.1 ∙ ap (λ (x : ℕ). Some x) (sym same) }, omega arith)
             | inr other ↦ old i (omega (arith, j, bit_at_or (single m.0).0 set.0 i, bit_at-pow_other m.0 i other))
@@ -148,8 +147,7 @@ enough_masters v members is all =
     elim (some_bad v n.device 0) [
       | inr good ↦
           let enough = enough_by v [] members is all (λ device d at none_breaks.
-          let small = slice_get_within n.device device.0 d at in
-          good device.0 (omega arith) (omega (arith, small))) in
+          good device.0 (omega arith) (omega (arith, slice_get_within n.device device.0 d at))) in
           omega (arith, (is.lawful.rules Masters 3).begin_on refl, none_befell n.device 0, enough)
       | inl bad ↦
           let b = broke_by v bad.0 bad.1 in

@@ -138,12 +138,11 @@ module _ (v : View) (link : LinkId) (e : Event) (before behind : List Event) (is
       let in_before : IsIn c before = subst (IsIn c) (sym split) (in_right c b (c ∷ m) (inl refl)) in
       let in_all : IsIn c v.scenario.events = subst (IsIn c) (sym whole) (in_left c before (e ∷ behind) in_before) in
       let order = no_earlier v.scenario.network v.scenario.events before behind c e is.lawful.within whole in_before in
-      let begun = (given v.scenario c is.lawful in_all).range.time in
       let of_c = channel_cut v c l is in_all cuts_c in
       elim (same_or_not of_c.0 v.channel) [
         | inl same ↦
             let parts = whole ∙ ap (λ (t : List Event). t ++ e ∷ behind) split ∙ append_assoc b (c ∷ m) (e ∷ behind) in
-            sound_cut v b (m ++ e ∷ behind) c l is parts (omega (arith, ints, order, begun, early)) cuts_c
+            sound_cut v b (m ++ e ∷ behind) c l is parts (omega (arith, ints, order, (given v.scenario c is.lawful in_all).range.time, early)) cuts_c
             (subst (λ (x : Channel). IsLinkOf v.scenario.network x l) same of_c.1) none_off none
         | inr other ↦ other_faulty of_c.0
             (inr (none_off, record { before = b; cut = c; behind = m; order = split; none_before = none; cuts = (l, cuts_c, of_c.1) })) other

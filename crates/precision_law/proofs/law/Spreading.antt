@@ -135,8 +135,7 @@ two_of sound s mark ns until path n up beta g h a b le =
       le = le;
       early = λ t within. x.cut.early t (omega (arith, within)) ∙ sym (y.cut.early t (omega (arith, within, le)));
       inside = λ e i.
-          let in_run = within_run (view_of s (time_of g) c.0 path x.cut.front) x.is e i in
-          y.cut.has e (x.cut.inside e i) (omega (arith, in_run, le));
+          y.cut.has e (x.cut.inside e i) (omega (arith, within_run (view_of s (time_of g) c.0 path x.cut.front) x.is e i, le));
       of_run = x.cut.inside;
     }
 

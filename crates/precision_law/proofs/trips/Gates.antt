@@ -36,7 +36,6 @@ open_by : (v : View) (cycle : ℕ) (shown : ℤ) → IsView v → IsInWindow v.s
     (offset_in_cycle v.scenario.network (shown +ℤ pos (2 * amount v.scenario.network.precision))) ≡ false
 open_by v cycle shown is window =
     let n = v.scenario.network in
-    let space = room v is in
     let precision = (sizes_are v is).precision in
     let correction = (sizes_are v is).correction in
     let length = (sizes_are v is).cycle in
@@ -47,7 +46,7 @@ open_by v cycle shown is window =
     let rest : ℕ = m.0 - cycle * amount n.cycle in
     let is_rest : m.0 ≡ cycle * amount n.cycle + rest = omega (arith, ints, from, m.1) in
     let top : rest ≤ amount n.correction + 2 * amount n.precision = omega (arith, ints, product, precision, correction, window.most, m.1, is_rest) in
-    let small : rest < amount n.cycle = omega (arith, top, precision, correction, length, space) in
+    let small : rest < amount n.cycle = omega (arith, top, precision, correction, length, room v is) in
     let some : 0 < amount n.cycle = omega (arith, small) in
     let place = placed n cycle rest m.0 z some (omega (arith, ints, is.lawful.range.cycle.least)) small is_rest m.1 in
     ap (int_lt (pos (amount n.correction + 2 * amount n.precision))) place ∙ le-ltb (amount n.correction + 2 * amount n.precision) rest top
