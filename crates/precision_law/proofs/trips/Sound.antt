@@ -92,18 +92,6 @@ no_fault v device link u clock frame is clean good within on is_open member smal
     none_holds _ _ _ _ _ _ IsOffReason ColdStart Domain Member Old Gate (taking_part _ _ on (good_is_correct v device u good within))
     (ap is_cold_start clean.kind) (same_domain _ _ _ _ clean.priority clean.domain) member (le-ltb (amount n.dmax) (clock + wire_of n link) small) is_open
 
--- ---- the budget of a path
-
-pub budget : (rho g dmax path jitter links d e k clock next : ℕ) → path ≡ jitter + 4 * rho * dmax / 10 ^ 9 + 8 * g * (links + 2)
-    → path + (d + e) ≤ dmax → k + 1 ≤ links
-    → 10 ^ 9 * clock ≤ 10 ^ 9 * d + rho * d + 2 * g * 10 ^ 9 * k → 10 ^ 9 * next ≤ 10 ^ 9 * clock + 10 ^ 9 * e + rho * e + 2 * g * 10 ^ 9
-    → (next ≤ dmax) × (10 ^ 9 * next ≤ 10 ^ 9 * (d + e) + rho * (d + e) + 2 * g * 10 ^ 9 * suc k)
-budget rho g dmax path jitter links d e k clock next is fits few before grows =
-    let drift : rho * (d + e) ≤ rho * dmax = mul-le-mul_left rho (omega (arith, fits)) in
-    let grains : g * (k + 1) ≤ g * (links + 2) = mul-le-mul_left g (omega (arith, few)) in
-    let floor : 4 * rho * dmax < 10 ^ 9 * (4 * rho * dmax / 10 ^ 9 + 1) = omega arith in
-    (omega (arith, is, fits, before, grows, drift, grains, floor), omega (arith, before, grows))
-
 -- ---- permanence
 
 -- what has arrived will be permanent

@@ -1,9 +1,9 @@
 -- A frame goes over one link of the sound channel, in either way.
-use Rattle.precision_law.proofs.words.Std.{◌*◌, ◌+◌, ◌^◌, ◌∙◌, ◌∷◌, ◌≡◌, ◌≤◌, List, Option, Some, ap, arith, false, ints, option_map_or, suc, sum_by-cons, ℕ}
+use Rattle.precision_law.proofs.words.Std.{◌*◌, ◌+◌, ◌/◌, ◌<◌, ◌^◌, ◌∙◌, ◌∷◌, ◌≡◌, ◌≤◌, List, Option, Some, ap, arith, false, ints, mul-le-mul_left, option_map_or, suc, sum_by-cons, ℕ}
 use Rattle.precision_law.proofs.words.Plans.{DeviceId, IsSwitchOf, Link, LinkId, Network, Pcf, Way, amount, beta_at, closed, delay_by, delay_of, delay_on, link_at}
 use Rattle.precision_law.proofs.words.Runs.{Happening, is_of_other_member, time_of}
 use Rattle.precision_law.proofs.words.Laws.{IsGood, IsSoundSwitch, IsView, View}
-use Rattle.precision_law.proofs.words.Clocks.{HasGone, IsClean, IsGivenOn, IsReady, arrives_at, budget, goes_over, good_is_correct, leaves_at, no_fault, sizes_are, sound_ways_are_whole, takes_at_most}
+use Rattle.precision_law.proofs.words.Clocks.{HasGone, IsClean, IsGivenOn, IsReady, arrives_at, goes_over, good_is_correct, leaves_at, no_fault, sizes_are, sound_ways_are_whole, takes_at_most}
 
 -- the clock of a frame that has been on its way for at most so long, over so many links
 abbrev pub HasGrown : View → ℕ → ℕ → ℕ → Type 0
@@ -51,9 +51,12 @@ comes_over v way t0 r frame sender receiver link l d k is c fits few in_run =
     let within : u ≤ v.until = omega (arith, soon, fits, in_run) in
     let behind : t0 ≤ u = omega (arith, c.after) in
     let stands = c.ready u behind (omega (arith, soon, fits)) in
+    let drift : n.rho * (d + delay_by l) ≤ n.rho * amount n.dmax = mul-le-mul_left n.rho (omega (arith, fits_so)) in
+    let grains : amount n.grain * (k + 1) ≤ amount n.grain * (is.beta.links + 2) = mul-le-mul_left (amount n.grain) (omega (arith, few)) in
+    let floor : 4 * n.rho * amount n.dmax < 10 ^ 9 * (4 * n.rho * amount n.dmax / 10 ^ 9 + 1) = omega arith in
     let spend : (next : ℕ) → 10 ^ 9 * next ≤ 10 ^ 9 * frame.clock + 10 ^ 9 * delay_by l + n.rho * delay_by l + 2 * amount n.grain * 10 ^ 9
     → (next ≤ amount n.dmax) × HasGrown v next (d + delay_by l) (suc k) = λ next grows.
-    budget n.rho (amount n.grain) (amount n.dmax) _ is.beta.jitter is.beta.links d (delay_by l) k frame.clock next value fits_so few c.clock grows in
+    (omega (arith, value, fits_so, c.clock, grows, drift, grains, floor), omega (arith, c.clock, grows)) in
     let whole = sound_ways_are_whole v link way left is (closed (λ (x : Link). IsSwitchOf n v.channel x.parent) (link_at n link) l c.given.there c.switch)
     (omega (arith, takes.1, within)) in
     let gone = goes_over v way r frame sender receiver link l is c.given (good_is_correct v sender left c.good (omega (arith, takes.1, within))) whole

@@ -25,4 +25,4 @@ pub use Rattle.precision_law.proofs.trips.Descents.{emission_shows, frames_down_
 pub use Rattle.precision_law.proofs.trips.Legs.{child_channel, child_not_parent, child_ways, gives_down, parent_ways, receiver_down, receiver_up, receiver_way, same_cycle, trip_more}
 pub use Rattle.precision_law.proofs.trips.Links.{HasGone, IsGivenOn, arrives_at, goes_over, leaves_at, takes_at_most}
 pub use Rattle.precision_law.proofs.trips.Paths.{TakesWith, arrived_frame, clocked, frame_is, leaving_is, leg_hop, numbered_all, taken_as, taken_sound, trip_says}
-pub use Rattle.precision_law.proofs.trips.Sound.{IsClean, IsReady, budget, no_fault, sound_switch_on, will_be_permanent}
+pub use Rattle.precision_law.proofs.trips.Sound.{IsClean, IsReady, no_fault, sound_switch_on, will_be_permanent}
