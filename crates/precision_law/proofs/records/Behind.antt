@@ -1,45 +1,37 @@
 -- What stands behind the last element of a kind.
-use Rattle.precision_law.proofs.words.Std.{◌++◌, ◌+◌, ◌-◌, ◌∙◌, ◌∷◌, ◌≡◌, All, All-append, All-cons, All-head, All-nil, All-tail, Bool, List, None, Option, Some, [], after_last, ap, append-nil, append_assoc, arith, cond-false, cond-true, cons_option, drop, drop_at, false, filter_map, inl, inr, length, length-append, not, not_from_true, prefix_len, refl, reverse, subst, suffix_len, sym, true, zero-add}
+use Rattle.precision_law.proofs.words.Std.{◌++◌, ◌+◌, ◌-◌, ◌∙◌, ◌∷◌, ◌≡◌, All, All-cons, All-nil, Bool, List, None, Option, Some, [], after_last, ap, append_assoc, arith, cons_option, drop, drop_at, false, filter_map, inl, inr, length, length-append, not, not_from_true, refl, subst, suffix_len, sym, true, ℕ}
 use Rattle.precision_law.proofs.words.Runs.{IsIn, in_parts}
-use Rattle.std.proofs.lemmas.List.{length-reverse, length_push, reverse-append}
+use Rattle.std.proofs.lemmas.List.{get_or-append_right, length_push}
+use Rattle.std.proofs.lemmas.List.Sums.{suffix_len_is}
+use Rattle.std.proofs.lemmas.List.Elements.{All-get_or}
+use Rattle.std.proofs.Common.{get_or}
 
 -- ---- the last of a kind
-
-All-reverse : {X : Type 0} (P : X → Type 0) (xs : List X) → All P xs → All P (reverse xs)
-All-reverse P [] h = h
-All-reverse P (x ∷ xs) h =
-    subst (All P) (sym (reverse-append (x ∷ []) xs))
-    (All-append P (reverse xs) (x ∷ []) (All-reverse P xs (All-tail P x xs h)) (All-cons P x [] (All-head P x xs h) (All-nil P)))
-
-module _ {X : Type 0} (p : X → Bool) where
-  prefix_len-append : (xs ys : List X) → All (λ x. p x ≡ true) xs → prefix_len p (xs ++ ys) ≡ length xs + prefix_len p ys
-  prefix_len-append [] ys h = sym (zero-add _)
-  prefix_len-append (x ∷ xs) ys h =
-      let more = prefix_len-append xs ys (All-tail (λ y. p y ≡ true) x xs h) in
-      cond-true (p x) _ 0 (All-head (λ y. p y ≡ true) x xs h) ∙ omega arith
-
-  suffix_len_all : (xs : List X) → All (λ x. p x ≡ true) xs → suffix_len p xs ≡ length xs
-  suffix_len_all xs h =
-      let all = prefix_len-append (reverse xs) [] (All-reverse (λ x. p x ≡ true) xs h) in
-      ap (prefix_len p) (sym (append-nil (reverse xs))) ∙ all ∙ omega (arith, length-reverse xs)
-
-  suffix_len_at : (xs : List X) (y : X) (ys : List X) → p y ≡ false → All (λ x. p x ≡ true) ys → suffix_len p (xs ++ y ∷ ys) ≡ length ys
-  suffix_len_at xs y ys stop h =
-      let turned = reverse-append xs (y ∷ ys) ∙ ap (λ zs. zs ++ reverse xs) (reverse-append (y ∷ []) ys) ∙ append_assoc (reverse ys) (y ∷ []) (reverse xs) in
-      let none : prefix_len p (y ∷ reverse xs) ≡ 0 = cond-false (p y) _ 0 stop in
-      ap (prefix_len p) turned ∙ prefix_len-append (reverse ys) _ (All-reverse (λ x. p x ≡ true) ys h) ∙ omega (arith, length-reverse ys)
 
 module _ {X : Type 0} (p : X → Bool) where
   pub after_last_at : (xs : List X) (y : X) (ys : List X) → p y ≡ true → All (λ x. not (p x) ≡ true) ys → after_last p (xs ++ y ∷ ys) ≡ ys
   after_last_at xs y ys here h =
-      let n = length (xs ++ y ∷ ys) - suffix_len (λ x. not (p x)) (xs ++ y ∷ ys) in
-      ap (drop n) (sym (append_assoc xs (y ∷ []) ys)) ∙ drop_at (xs ++ y ∷ []) ys n
-      (omega (arith, suffix_len_at (λ x. not (p x)) xs y ys (not_from_true _ here) h, length-append xs (y ∷ ys), length_push xs y))
+      let whole = xs ++ y ∷ ys in
+      let long = length-append xs (y ∷ ys) in
+      let moved = sym (append_assoc xs (y ∷ []) ys) in
+      let shown = λ (l : List X) (k : ℕ). not (p (get_or l k y)) in
+      let first : length xs + 1 - 1 ≡ length xs = omega arith in
+      let none : length xs - length xs ≡ 0 = omega arith in
+      let suffix = suffix_len_is (λ x. not (p x)) whole (length xs + 1) y (omega (arith, long)) (λ k from to. ap (λ (l : List X). shown l k) moved
+      ∙ ap (λ (x : X). not (p x)) (get_or-append_right (xs ++ y ∷ []) ys (length xs + 1) k y (length_push xs y) from)
+      ∙ All-get_or (λ x. not (p x) ≡ true) ys (k - (length xs + 1)) y (omega (arith, to, long, from)) h) (λ some. ap (shown whole) first
+      ∙ ap (λ (x : X). not (p x)) (get_or-append_right xs (y ∷ ys) (length xs) (length xs) y refl (omega arith))
+      ∙ ap (shown (y ∷ ys)) none ∙ not_from_true _ here) in
+      let n = length whole - suffix_len (λ x. not (p x)) whole in
+      ap (drop n) moved ∙ drop_at (xs ++ y ∷ []) ys n (omega (arith, suffix, long, length_push xs y))
 
   pub after_last_none : (xs : List X) → All (λ x. not (p x) ≡ true) xs → after_last p xs ≡ xs
-  after_last_none xs h =
-      let none : length xs - suffix_len (λ x. not (p x)) xs ≡ 0 = omega (arith, suffix_len_all (λ x. not (p x)) xs h) in
-      ap (λ n. drop n xs) none
+  after_last_none [] h = refl
+  after_last_none (x ∷ xs) h =
+      let suffix = suffix_len_is (λ x. not (p x)) (x ∷ xs) 0 x (omega arith) (λ k from to. All-get_or (λ x. not (p x) ≡ true) (x ∷ xs) k x to h)
+      (λ some. absurd (omega (arith, some))) in
+      let none : length (x ∷ xs) - suffix_len (λ x. not (p x)) (x ∷ xs) ≡ 0 = omega (arith, suffix) in
+      ap (λ n. drop n (x ∷ xs)) none
 
 -- what holds of each element holds of all
 pub all_of : {X : Type 0} (P : X → Type 0) (xs : List X) → ((x : X) → IsIn x xs → P x) → All P xs

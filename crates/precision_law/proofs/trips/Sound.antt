@@ -1,5 +1,5 @@
 -- The sound channel delivers: up to its compression master, and down from it.
-use Rattle.precision_law.proofs.words.Std.{◌&&◌, ◌*◌, ◌+◌, ◌/◌, ◌<◌, ◌==◌, ◌^◌, ◌∙◌, ◌∷◌, ◌≡◌, ◌≤◌, Bool, IsNone, IsSomeAnd, List, None, Option, Some, [], ap, arith, by_lt_z, eq-eqb, false, fold, if◌then◌else◌, inl, inr, ints, le-ltb, mul-le-mul_left, nat_lt, not, option_and_then, pos, refl, subst, suc, true, ℕ, ℤ}
+use Rattle.precision_law.proofs.words.Std.{◌&&◌, ◌+◌, ◌==◌, ◌∙◌, ◌∷◌, ◌≡◌, ◌≤◌, Bool, IsNone, IsSomeAnd, List, None, Option, Some, [], ap, arith, by_lt_z, eq-eqb, false, fold, if◌then◌else◌, inl, inr, ints, le-ltb, nat_lt, not, option_and_then, pos, refl, subst, true, ℕ, ℤ}
 use Rattle.precision_law.proofs.words.Plans.{Device, DeviceId, Integrating, IsReach, Joining, LinkId, Network, Pcf, State, amount, device_at, point_of, state_at_start}
 use Rattle.precision_law.proofs.words.Runs.{BeginsOn, ChangesState, ColdStart, Domain, Gate, Happening, IsCaused, IsIn, Member, NoteBody, Old, Reason, Standpoint, Why, earlier, first_reason, founded_at, frame_fault, in_filter, is_cold_start, is_joined_by, is_of_other_member, is_off, is_turned_on_at, standpoint, start_of, state_after, state_before, state_with, time_of, wire_of, with_clock}
 use Rattle.precision_law.proofs.words.Laws.{IsGood, IsOpen, IsPermanentAt, IsSoundSwitch, IsView, View}
