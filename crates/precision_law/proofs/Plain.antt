@@ -1,7 +1,7 @@
 -- Plain facts of choices, lists, roles and states that several files use.
 use Rattle.precision_law.proofs.words.Std.{◌<◌, ◌∙◌, ◌∷◌, ◌≡◌, ◌≤◌, Any, Bool, List, None, Option, Some, [], ap, arith, cases_lt, cons_option, false, filter_map, if◌then◌else◌, inl, inr, is_some, option_and_then, option_map, option_map_or, refl, subst, sym, true, ℕ}
 use Rattle.precision_law.proofs.words.Plans.{Device, Master, Role, State, Synchronised, is_end_system}
-use Rattle.precision_law.proofs.words.Runs.{IsBefore, IsIn, any_first, any_later, any_of_none, any_parts, is_cm_role, is_synchronised}
+use Rattle.precision_law.proofs.words.Runs.{Happening, IsBefore, IsIn, any_first, any_later, any_of_none, any_parts, is_cm_role, is_synchronised, place_of, rank, time_of}
 use Rattle.precision_law.proofs.words.Laws.{has_time}
 
 -- ---- choices
@@ -32,6 +32,12 @@ some_if false x y e = absurd cc
 pub no_later : (t u : ℕ) (xs ys : List ℕ) → IsBefore (t ∷ xs) (u ∷ ys) → t ≤ u
 no_later t u xs ys (inl lt) = omega arith
 no_later t u xs ys (inr both) = omega (arith, both.0)
+
+-- a record that is before one of a lower rank is of an earlier time
+pub higher_before : (h g : Happening) → IsBefore (place_of h) (place_of g) → rank g.note.body < rank h.note.body → time_of h < time_of g
+higher_before h g (inl lt) low = lt
+higher_before h g (inr (same, inl less)) low = absurd (omega (arith, less, low))
+higher_before h g (inr (same, inr more)) low = absurd (omega (arith, more.0, low))
 
 -- one of a lower rank, and of no later time, is before it
 pub ranked : (t u a b : ℕ) (xs ys : List ℕ) → t ≤ u → a < b → IsBefore (t ∷ a ∷ xs) (u ∷ b ∷ ys)

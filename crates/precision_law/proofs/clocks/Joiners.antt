@@ -1,7 +1,7 @@
 -- A device whose clock was last set by a frame that told it the time is still joining.
 use Rattle.precision_law.proofs.words.Std.{◌++◌, ◌+◌, ◌<◌, ◌==◌, ◌∙◌, ◌∷◌, ◌≡◌, Bool, List, None, Option, Some, [], ap, append_assoc, arith, both_ways, eq-eqb, false, false_from_ne_true, filter, filter-append, fold-append, if◌then◌else◌, inl, inr, ints, last_or, lt-ltb, nat_lt, negsuc, option_map_or, pos, refl, subst, sym, true, ℕ}
 use Rattle.precision_law.proofs.words.Plans.{DeviceId, Joining, State, Units, amount, state_at_start}
-use Rattle.precision_law.proofs.words.Runs.{ChangesState, Happening, Integrates, IsBefore, IsCaused, IsDue, IsFounded, IsIn, NoteBody, Scenario, Why, behind_first, changes_adjustment, earlier, founded_at, in_filter, in_left, in_parts, in_right, is_joined_by, is_synchronised, key, members_in, never_self, numbered_in, place_of, rank, same_some, start_of, state_after, state_with, time_of}
+use Rattle.precision_law.proofs.words.Runs.{ChangesState, Happening, Integrates, IsCaused, IsDue, IsFounded, IsIn, NoteBody, Scenario, Why, behind_first, changes_adjustment, earlier, founded_at, in_filter, in_left, in_parts, in_right, is_joined_by, is_synchronised, never_self, numbered_in, place_of, rank, same_some, start_of, state_after, state_with, time_of}
 use Rattle.precision_law.proofs.words.Laws.{IsView, View, epoch_time, last_setting, state_left}
 use Rattle.run_law.specs.declared.judgement.Why.TheVariants as whys
 use Rattle.run_law.specs.declared.note.NoteBody.TheVariants as notes
@@ -9,6 +9,7 @@ use Rattle.precision_law.proofs.clocks.Epochs.{Keeps, kept_by_all, kept_if, same
 use Rattle.precision_law.proofs.records.Points.{setting_is, sorted_parts}
 use Rattle.precision_law.proofs.records.Times.{AreSorted, in_earlier, in_kept, is_earlier, last_append, last_some}
 use Rattle.precision_law.proofs.records.Views.{in_order}
+use Rattle.precision_law.proofs.Plain.{higher_before}
 
 -- where no correction of the device comes at a time, no change of state synchronises it
 no_correction : (s : Scenario) (ps : List Happening) (t : ℕ) (device : DeviceId) (state : State) (cause : ℕ) (why : Why)
@@ -43,12 +44,6 @@ joins_state device old (notes.Permanent other link cause point Integrates) e = r
 joins_state device old (notes.Compressed other opened own cycle members Integrates) e = rw e refl
 joins_state device old body e = absurd cc
 
--- what is before a place of its time has no higher rank
-lower_rank : (t u a b : ℕ) (xs ys : List ℕ) → t ≡ u → b < a → IsBefore (t ∷ a ∷ xs) (u ∷ b ∷ ys) → ⊥
-lower_rank t u a b xs ys same less (inl lt) = absurd (omega (arith, same))
-lower_rank t u a b xs ys same less (inr (e, inl lt)) = absurd (omega (arith, less, lt))
-lower_rank t u a b xs ys same less (inr (e, inr more)) = absurd (omega (arith, less, more.0))
-
 -- behind the last setting before a time nothing sets the clock before it
 none_behind : (v : View) (device : DeviceId) (t : ℕ) (front rest : List Happening) (h x : Happening) → IsView v
     → last_setting (earlier t v.records) device ≡ Some h → v.records ≡ front ++ h ∷ rest → IsIn x rest → time_of x < t
@@ -78,8 +73,9 @@ no_correction_then v device t front rest h x cycle by adjustment is e early join
     let changes : changes_adjustment device x.note.body ≡ true = ap (changes_adjustment device) body ∙ (eq-eqb device.0 device.0 refl) in
     elim (in_parts x front (h ∷ rest) (subst (IsIn x) whole i)) [
       | inl before ↦
-          lower_rank (time_of x) (time_of h) (rank x.note.body) (rank h.note.body) (key (members_in x) x.note.body) (key (members_in h) h.note.body) same
-          (omega (arith, ap rank body, joining_rank device h.note.body joined)) ((is.run.founded front rest h whole).0 x before)
+          let low : rank h.note.body < rank x.note.body = omega (arith, ap rank body, joining_rank device h.note.body joined) in
+          let sooner = higher_before x h ((is.run.founded front rest h whole).0 x before) low in
+          omega (arith, same, sooner)
       | inr (inl one) ↦ (let wrong : is_joined_by device h.note.body ≡ false = ap (λ (g : Happening). is_joined_by device g.note.body) (sym one)
           ∙ ap (is_joined_by device) body in both_ways (is_joined_by device h.note.body) wrong joined)
       | inr (inr later) ↦ none_behind v device t front rest h x is e whole later (omega (arith, same, early)) changes

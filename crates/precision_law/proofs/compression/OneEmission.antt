@@ -3,7 +3,7 @@ use Rattle.precision_law.proofs.words.Std.{◌*ℤ◌, ◌*◌, ◌++◌, ◌+�
 use Rattle.precision_law.proofs.words.Plans.{AreClusters, AreInOrder, Cluster, Compressed, DeviceId, IsKept, LiesIn, LiesWithin, Members, Point, amount, emission, middle_of, one_cluster, one_time_law, relative}
 use Rattle.precision_law.proofs.words.Runs.{Happening, IsBefore, IsCaused, IsDue, IsFounded, IsFoundedAt, IsIn, NoteBody, behind_first, in_left, in_parts, in_right, is_cm, key, members_in, never_self, observation_window, parted, place_of, points_of, rank, same_some, time_of}
 use Rattle.precision_law.proofs.words.Laws.{EmissionIsOne, HasGood, Hull, IsEmission, IsGoodMember, IsInHull, IsNarrowIfThere, IsTidyBefore, IsView, View}
-use Rattle.precision_law.proofs.words.Clocks.{all_by, ascending_from, before_of, contains, founded_by, has_member, has_one, member_has, middle_near, no_later, one_member, room, sizes_are, steady}
+use Rattle.precision_law.proofs.words.Clocks.{all_by, ascending_from, before_of, contains, founded_by, has_member, has_one, higher_before, member_has, middle_near, no_later, one_member, room, sizes_are, steady}
 use Rattle.run_law.specs.declared.note.NoteBody.TheVariants as notes
 use Rattle.precision_law.proofs.compression.Emitted.{contained, emissions_are_sharp, gives_point, in_cluster, middle_late, point_record}
 use Rattle.precision_law.proofs.compression.Shrunk.{same_beyond}
@@ -224,12 +224,6 @@ one_of_two v t g cm cycle k at early one ds are c d in_c in_d x y ix iy of_x of_
 
 -- ---- one emission
 
--- a record that gives a point, behind an emission, is of a later time
-later_time : (t u : ℕ) (xs ys : List ℕ) → IsBefore (t ∷ 4 ∷ xs) (u ∷ 3 ∷ ys) → t < u
-later_time t u xs ys (inl lt) = lt
-later_time t u xs ys (inr (same, inl lt)) = absurd (omega (arith, lt))
-later_time t u xs ys (inr (same, inr (e, more))) = absurd (omega (arith, e))
-
 -- of two emissions one is not behind the other
 not_behind : (v : View) (t : ℕ) (h g : Happening) (cm : DeviceId) (cycle : ℕ) (members others : Members) (k : IsKnown v t cycle)
     → IsEmission v h cm cycle members → IsEmission v g cm cycle others → time_of g < t → HasGood v members → HasGood v others
@@ -259,11 +253,7 @@ not_behind v t h g cm cycle members others k e f early good also front mid rest 
       | inr i ↦
           let in_rest : IsIn given.0 (mid ++ g ∷ rest) = in_left given.0 mid (g ∷ rest) i in
           let behind = behind_first place_of (IsDue s) front (mid ++ g ∷ rest) h given.0 founded in_rest in
-          let moved = subst (λ (z : NoteBody). IsBefore (time_of h ∷ rank z ∷ key (members_in h) z) (place_of given.0)) e.is behind in
-          let placed = subst (λ (z : NoteBody). IsBefore (time_of h ∷ 4 ∷ key (members_in h) (notes.Compressed cm e.opened e.at cycle members e.verdict))
-          (time_of given.0 ∷ rank z ∷ key (members_in given.0) z)) point.is moved in
-          let lt = later_time (time_of h) (time_of given.0) (key (members_in h) (notes.Compressed cm e.opened e.at cycle members e.verdict))
-          (key (members_in given.0) (notes.Permanent cm point.link point.cause point.point point.verdict)) placed in
+          let lt = higher_before h given.0 behind (omega (arith, ap rank e.is, ap rank point.is)) in
           let in_all : IsIn given.0 v.records = subst (IsIn given.0) (sym whole) (in_right given.0 front (h ∷ (mid ++ g ∷ rest)) (inr in_rest)) in
           (omega (arith, ints, later_point v cm p.reading (time_of h) (time_of given.0) k.is (read_at v cm given.0 p k.is in_all point) lt, sharp.least))
     ] in

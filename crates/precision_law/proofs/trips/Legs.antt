@@ -1,10 +1,10 @@
 -- A frame that arrives came over a link: who gives and who receives on its ways, and the leg before a record.
 use Rattle.precision_law.proofs.words.Std.{◌++◌, ◌<◌, ◌==◌, ◌∙◌, ◌∷◌, ◌≡◌, ◌⊎◌, Bool, List, Option, Some, [], ap, arith, eq-eqb, eqb-true, false, false_from_ne_true, if◌then◌else◌, inl, inr, option_and_then, option_map_or, refl, subst, sym, true, ℕ}
 use Rattle.precision_law.proofs.words.Plans.{Channel, Device, DeviceId, Down, IsChildOf, IsPath, IsSwitchOf, IsTree, IsUplink, Joints, Link, LinkId, Master, Network, Pcf, Relay, Role, Up, Way, closed, device_at, is_end_system, link_at, opened, rules_give_trees, shape_rules}
-use Rattle.precision_law.proofs.words.Runs.{Happening, IsBefore, IsCaused, IsIn, IsParentOf, NoteBody, cause_of, channel_of, channel_of_link, cycle_in, founded_at, in_left, is_parent_of, is_relay, is_relay_role, key, members_in, number_is, numbered, numbered_in, numbered_within, place_of, rank, receiver_of, same_some, time_of, way_from, way_to, with_clock}
+use Rattle.precision_law.proofs.words.Runs.{Happening, IsCaused, IsIn, IsParentOf, NoteBody, cause_of, channel_of, channel_of_link, cycle_in, founded_at, in_left, is_parent_of, is_relay, is_relay_role, members_in, number_is, numbered, numbered_in, numbered_within, rank, receiver_of, same_some, time_of, way_from, way_to, with_clock}
 use Rattle.precision_law.proofs.words.Laws.{IsLeg, IsTrip, IsView, Leg, View}
 use Rattle.run_law.specs.declared.note.NoteBody.TheVariants as notes
-use Rattle.precision_law.proofs.Plain.{device_of, mapped, passed}
+use Rattle.precision_law.proofs.Plain.{device_of, higher_before, mapped, passed}
 use Rattle.precision_law.proofs.faults.Masters.{device_of_place}
 use Rattle.precision_law.proofs.trips.Paths.{clocked, frame_is, numbered_all}
 
@@ -170,12 +170,6 @@ pub record HasLeg (v : View) (way : Way) (h : Happening) (device : DeviceId) (li
   pub clock : ℕ
   pub shows : h.frame ≡ Some (with_clock clock of_frame)
 
--- what left before an arrival left at an earlier time
-strictly : (t u : ℕ) (xs ys : List ℕ) → IsBefore (t ∷ 8 ∷ xs) (u ∷ 2 ∷ ys) → t < u
-strictly t u xs ys (inl lt) = lt
-strictly t u xs ys (inr (same, inl rank)) = absurd (omega (arith, rank))
-strictly t u xs ys (inr (same, inr both)) = absurd (omega (arith, both.0))
-
 pub has_leg : (v : View) (way : Way) (h : Happening) (device : DeviceId) (link : LinkId) (cause clock : ℕ) (is : IsView v) → (i : IsIn h v.records)
     → h.note.body ≡ notes.Arrived device link cause clock → way_to v.scenario.network device link ≡ way
     → receiver_of v.scenario.network link way ≡ Some device → IsPutAs v (founded_at v.scenario v.records h is.run.founded i).front device link cause way
@@ -195,11 +189,7 @@ has_leg v way h device link cause clock is i body on to put =
     let number_g = number_is s at_l.front put.given giving at_l.founded departs.there in
     let frame_l = frame_is at_l _ put.left ∙ clocked put.clock _ giving departs.frame departs.there departs.of_frame in
     let placed = (is.run.founded at.front at.rest h at.whole).0 putting in_front in
-    let placed_l = subst (λ (b : NoteBody). IsBefore (time_of putting ∷ rank b ∷ key (members_in putting) b)
-    (time_of h ∷ rank (notes.Arrived device link cause clock) ∷ key (members_in h) (notes.Arrived device link cause clock))) put.left
-    (subst (λ (b : NoteBody). IsBefore (place_of putting) (time_of h ∷ rank b ∷ key (members_in h) b)) body placed) in
-    let later = strictly (time_of putting) (time_of h) (key (members_in putting) (notes.Left put.sender link put.given put.clock))
-    (key (members_in h) (notes.Arrived device link cause clock)) placed_l in
+    let later = higher_before putting h placed (omega (arith, ap rank put.left, ap rank body)) in
     record {
       leaving = putting;
       giving = giving;
