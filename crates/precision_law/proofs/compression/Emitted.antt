@@ -3,10 +3,8 @@ use Rattle.precision_law.proofs.words.Std.{◌-ℤ◌, ◌==◌, ◌∙◌, ◌�
 use Rattle.precision_law.proofs.words.Plans.{Cluster, Compressed, DeviceId, LinkId, Pcf, Point, Units, amount, cluster_of, emission, in_cases, in_none, last_but_one, mean_of, mean_of-floor, middle_of, point_at, relative}
 use Rattle.precision_law.proofs.words.Runs.{Arrival, Happening, IsArrivedRecord, IsCaused, IsDue, IsFounded, IsIn, Judgement, NoteBody, Signal, arrival_of, control, cycle_in, ends_stretch, founded_at, in_right, master_of, members_in, numbered_in, observation_window, place_of, point_by, points_of, standpoint, time_of, timed}
 use Rattle.precision_law.proofs.words.Laws.{EmissionsAreSharp, IsView, View}
-use Rattle.precision_law.proofs.words.Clocks.{TakesWith, behind_last, in_filter_map, never_timed, reach_is_sharp, room, same_device, sizes_are, steady, taken_as, taken_sound}
+use Rattle.precision_law.proofs.words.Clocks.{IsClusterOf, TakesWith, behind_last, cluster_from, has_firsts, in_filter_map, never_timed, reach_is_sharp, room, same_device, sizes_are, some_if, steady, taken_as, taken_sound}
 use Rattle.run_law.specs.declared.note.NoteBody.TheVariants as notes
-use Rattle.precision_law.proofs.compression.Counted.{IsClusterOf, cluster_from, has_firsts}
-use Rattle.precision_law.proofs.Plain.{some_if}
 
 -- ---- middles
 

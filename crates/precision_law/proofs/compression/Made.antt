@@ -3,14 +3,13 @@ use Rattle.precision_law.proofs.words.Std.{◌*ℤ◌, ◌*◌, ◌++◌, ◌+�
 use Rattle.precision_law.proofs.words.Plans.{Cluster, Compressed, DeviceId, IsMember, Members, Ordered, Pcf, Point, amount, count_of, emission, end_of, firsts, members_of, middle_of, of_cycle_within, relative}
 use Rattle.precision_law.proofs.words.Runs.{Happening, IsCaused, IsFoundedAt, IsIn, cycle_in, founded_at, frame_by, in_left, is_broken, is_cm, master_of, member_of, observation_window, points_of, same_some, time_of}
 use Rattle.precision_law.proofs.words.Laws.{EmissionsAreOfDispatches, HasGood, IsBad, IsDispatch, IsEmission, IsGood, IsGoodMember, IsInTime, IsView, MembersAreMasters, ThreeHaveGood, View, clock_in, links_of}
-use Rattle.precision_law.proofs.words.Clocks.{Apart, any_in, before_of, few_members, frames_up_are_of_masters, has_is_member, has_member, in_any, member_has, one_bad, one_member, sizes_are}
+use Rattle.precision_law.proofs.words.Clocks.{Apart, any_in, before_of, cluster_from, few_members, frames_up_are_of_masters, has_firsts, has_is_member, has_member, in_all, in_any, member_has, one_bad, one_member, sizes_are}
 use Rattle.precision_law.proofs.block.Joins.{cm_channel}
 use Rattle.precision_law.proofs.compression.Emitted.{in_cluster, point_record}
 use Rattle.precision_law.proofs.compression.Ripenings.{master_of_bit, ripening}
 use Rattle.precision_law.proofs.compression.Stretches.{points_ordered}
 use Rattle.precision_law.proofs.hearing.Timely.{cm_of, path_member}
 use Rattle.precision_law.proofs.trips.Upward.{path_up, trips_up_take_dmax}
-use Rattle.precision_law.proofs.compression.Counted.{cluster_from, has_firsts, in_all}
 
 -- ---- points
 

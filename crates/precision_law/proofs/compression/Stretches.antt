@@ -1,10 +1,9 @@
 -- The points of a compression master as records come.
 use Rattle.precision_law.proofs.words.Std.{◌++◌, ◌-◌, ◌<◌, ◌∙◌, ◌∷◌, ◌≡◌, ◌≤ℤ◌, ◌≤◌, ◌⊎◌, Bool, List, None, Option, Some, [], after_last, ap, append_assoc, arith, cons_option, filter_map, filter_map-append, inl, inr, ints, pos, refl, subst, sym, ℕ, ℤ}
 use Rattle.precision_law.proofs.words.Plans.{DeviceId, Ordered, Point, amount}
-use Rattle.precision_law.proofs.words.Runs.{Happening, IsBefore, IsCaused, IsDue, IsFounded, IsIn, NoteBody, behind_first, ends_stretch, founded_at, in_left, in_right, key, members_in, numbered_in, place_of, point_by, points_of, rank, time_of}
+use Rattle.precision_law.proofs.words.Runs.{Happening, IsBefore, IsCaused, IsDue, IsFounded, IsIn, behind_first, ends_stretch, founded_at, in_left, in_right, members_in, numbered_in, place_of, point_by, points_of, time_of}
 use Rattle.precision_law.proofs.words.Laws.{IsRipe, IsView, View}
 use Rattle.precision_law.proofs.words.Clocks.{PartsAtLast, after_last_at, after_more, all_by, behind_last, in_filter_map, not_each, parts_at_last, permanence_is_sharp, ripe_in_order, steady}
-use Rattle.run_law.specs.declared.note.NoteBody.TheVariants as notes
 use Rattle.precision_law.proofs.compression.Emitted.{GivesPoint, arrival_young, gives_point}
 use Rattle.precision_law.proofs.records.Behind.PartsAtLast.{none, some}
 
@@ -60,9 +59,7 @@ points_in_order : (v : View) (cm : DeviceId) (k l : Happening) (p q : Point) →
 points_in_order v cm k l p q is i j gk gl before =
     let a = read_at v cm k p is i gk in
     let b = read_at v cm l q is j gl in
-    let of_k = subst (λ (n : NoteBody). IsBefore (time_of k ∷ rank n ∷ key (members_in k) n) (place_of l)) gk.is before in
-    let of_l = subst (λ (n : NoteBody). IsBefore (time_of k ∷ rank (notes.Permanent cm gk.link gk.cause gk.point gk.verdict) ∷ key (members_in k)
-    (notes.Permanent cm gk.link gk.cause gk.point gk.verdict)) (time_of l ∷ rank n ∷ key (members_in l) n)) gl.is of_k in
+    let of_l = rw (gk.is, gl.is) at before in
     elim (place_order (time_of k) (time_of l) cm.0 (amount gk.point) (amount gl.point) (members_in k ∷ gk.link.0 ∷ gk.cause ∷ [])
     (members_in l ∷ gl.link.0 ∷ gl.cause ∷ []) of_l) [
       | inl lt ↦ ripe_in_order v.sizes (v.scenario.reading cm) a.arrived b.arrived p.reading q.reading (time_of k) (time_of l) (steady v is cm) a.ripe b.ripe lt

@@ -3,13 +3,12 @@ use Rattle.precision_law.proofs.words.Std.{◌&&◌, ◌++◌, ◌<◌, ◌==◌
 use Rattle.precision_law.proofs.words.Plans.{Device, DeviceId, Event, Integrating, Joining, Off, State, Units, What, amount, device_at, state_at_start}
 use Rattle.precision_law.proofs.words.Runs.{BecomesPermanent, ChangesState, Emits, Happening, Integrates, IsCaused, IsEventRecord, IsIn, NotOff, NoteBody, Scenario, TurnsOn, Why, adjustment_at_hearing, before_permanence, earlier, founded_at, has_joined_at, in_at, in_left, in_parts, in_right, is_joined_by, is_off, is_turned_on_at, numbered_in, observation_window, parted, plan_of, points_of, start_of, state_after, state_at_hearing, state_before, time_of, turns_on}
 use Rattle.precision_law.proofs.words.Laws.{AreBeforeCorrections, IsView, NoneTurnsOn, View, has_time, state_left}
-use Rattle.precision_law.proofs.words.Clocks.{Keeps, any_in, before_of, earlier_before, earlier_judge, in_earlier, kept_by_all, kept_if, point_has_time, same_device}
+use Rattle.precision_law.proofs.words.Clocks.{Keeps, any_in, any_of_in, before_of, earlier_before, earlier_judge, in_earlier, kept_by_all, kept_if, point_has_time, same_device}
 use Rattle.net_plan.specs.declared.event.What.TheVariants as events
 use Rattle.run_law.specs.declared.judgement.Why.TheVariants as whys
 use Rattle.run_law.specs.declared.note.NoteBody.TheVariants as notes
 use Rattle.run_law.specs.declared.steps.Ripe.TheVariants as ripe
 use Rattle.precision_law.proofs.block.Joins.{integrates_by, ripe_integrates}
-use Rattle.precision_law.proofs.Plain.{any_of_in}
 
 -- ---- states
 

@@ -3,10 +3,9 @@ use Rattle.precision_law.proofs.words.Std.{◌+◌, ◌∙◌, ◌∷◌, ◌≡
 use Rattle.precision_law.proofs.words.Plans.{Channel, Device, DeviceId, Down, Hop, IsHop, IsPath, IsSwitchOf, Link, LinkId, Network, Pcf, Way, amount, closed, device_at, growth, jitter_of, jitter_on, link_at, opened, target_by, travel}
 use Rattle.precision_law.proofs.words.Runs.{Gives, Happening, IsCaused, NoteBody, channel_of, channel_of_link, cycle_in, founded_at, is_relay, members_in, same_some, time_of, with_clock}
 use Rattle.precision_law.proofs.words.Laws.{IsLeg, IsTrip, IsView, Leg, View, clock_in, links_back}
-use Rattle.precision_law.proofs.words.Clocks.{arrived_frame, child_channel, gives_down, leaving_is, leg_hop, same_cycle}
+use Rattle.precision_law.proofs.words.Clocks.{arrived_frame, child_channel, gives_down, leaving_is, leg_hop, reached, same_cycle}
 use Rattle.run_law.specs.declared.note.NoteBody.TheVariants as notes
 use Rattle.precision_law.proofs.block.Joins.{arrival_link}
-use Rattle.precision_law.proofs.Plain.{reached}
 
 -- ---- sums
 

@@ -1,11 +1,11 @@
 -- What is proved of records, clocks, faults and frames, and is cited further on, passed on from one place. Declares nothing.
-pub use Rattle.precision_law.proofs.Plain.{any_is, cm_is_no_end, device_of, higher_before, made_in, never_some, no_later, some_of, synchronised_has_time}
+pub use Rattle.precision_law.proofs.Plain.{any_is, any_of_in, cm_is_no_end, device_of, higher_before, made_in, never_some, no_later, reached, some_if, some_of, synchronised_has_time}
 pub use Rattle.precision_law.proofs.block.Hulls.{has_before, in_hull, int_le-is, over, tested}
 pub use Rattle.precision_law.proofs.clocks.Anchored.{anchored_clocks_reach, anchored_clocks_show, anchors_widen, clocks_of_one_cycle, clocks_of_two_cycles, natural, natural_of, one_frame_anchors, one_frame_sets, one_more, set_clocks_have_reached, set_clocks_show, shared_clocks_halve, starts_are_set, starts_stay_together, two_frames_anchor, two_frames_set}
 pub use Rattle.precision_law.proofs.clocks.Epochs.{Keeps, adjustment_is_last, adjustment_set, adjustment_stays, clocks_have_reached, clocks_reach_sharply, fold_last, joined_changes, keeps, kept_by_all, kept_if, next_cycle_is_of_last, none_between, same_device, sets_none, settings_stay, state_stays, time_stays}
 pub use Rattle.precision_law.proofs.clocks.Joiners.{joiner_waits}
 pub use Rattle.precision_law.proofs.clocks.Readings.{permanence_is_sharp, reach_is_sharp, reach_is_there, ripe_in_order, short_by_reading}
-pub use Rattle.precision_law.proofs.compression.Counted.{Apart, all_but_one, all_by, ascending_from, contains, few_members, firsts_apart, firsts_in, firsts_ordered, has_is_member, has_one, member_has, middle_near, opened_by, ordered_filter}
+pub use Rattle.precision_law.proofs.compression.Counted.{Apart, IsClusterOf, all_but_one, all_by, ascending_from, cluster_from, contains, few_members, firsts_apart, firsts_in, firsts_ordered, has_firsts, has_is_member, has_one, in_all, member_has, middle_near, opened_by, ordered_filter}
 pub use Rattle.precision_law.proofs.faults.Broken.{has_member, one_bad, one_member}
 pub use Rattle.precision_law.proofs.faults.Enough.{enough_masters, sets_within}
 pub use Rattle.precision_law.proofs.faults.Masters.{any_in, device_of_place, good_is_correct, in_any, master_ends, one_channel_is_sound, switches_are_good}
