@@ -1,11 +1,12 @@
 -- The base of a compressed frame lies in the hull of its cycle.
-use Rattle.precision_law.proofs.words.Std.{◌*◌, ◌+ℤ◌, ◌+◌, ◌-ℤ◌, ◌-◌, ◌<◌, ◌∙◌, ◌∷◌, ◌≡◌, ◌≤ℤ◌, ◌≤◌, ◌⊎◌, List, Some, [], ap, arith, cases_lt, inl, inr, ints, length, map, negsuc, pos, refl, subst, suc, sym, ℕ, ℤ}
-use Rattle.precision_law.proofs.words.Plans.{DeviceId, LiesWithin, Members, Ordered, Point, count_of, last_from, mean_of, mean_of-floor, members_of, middle_among_others, middle_from_first_to_last, middle_point}
+use Rattle.precision_law.proofs.words.Std.{◌*◌, ◌+ℤ◌, ◌+◌, ◌-ℤ◌, ◌-◌, ◌<◌, ◌∙◌, ◌∷◌, ◌≡◌, ◌≤ℤ◌, ◌≤◌, ◌⊎◌, List, Some, [], ap, arith, cases_lt, inl, inr, ints, length, map, negsuc, pos, refl, subst, sym, ℕ, ℤ}
+use Rattle.precision_law.proofs.words.Plans.{DeviceId, LiesWithin, Members, Ordered, Point, count_of, last_from, mean_of-floor, members_of, middle_among_others, middle_from_first_to_last, middle_point}
 use Rattle.precision_law.proofs.words.Runs.{Happening, IsIn, same_some, time_of}
-use Rattle.precision_law.proofs.words.Laws.{AreGood, BasesAreInHulls, BasesAreNearHulls, HaveRoom, Hull, IsBaseIn, IsEmission, IsSteady, IsTidyBefore, IsView, Sizes, View, base_of, hull_of}
+use Rattle.precision_law.proofs.words.Laws.{AreGood, BasesAreInHulls, BasesAreNearHulls, Hull, IsBaseIn, IsEmission, IsSteady, IsTidyBefore, IsView, Sizes, View, base_of, hull_of}
 use Rattle.precision_law.proofs.words.Clocks.{Apart, all_but_one, ascending_from, few_members, one_member, room, short_by_reading, steady}
 use Rattle.precision_law.proofs.compression.Emitted.{emissions_are_sharp}
 use Rattle.precision_law.proofs.compression.Made.{IsBadPoint, IsGoodPoint, bad_is_one, good_member_point, good_or_bad_point, is_of_member, made, not_both, three_have_good}
+use Rattle.std.proofs.lemmas.List.{length-map}
 
 -- ---- numbers
 
@@ -28,16 +29,6 @@ sooner_by n reading b s gap steady short le =
       | inl lt ↦ omega (arith, steady.slow b s (omega arith) (omega (arith, short_by_reading n reading b s steady (omega arith) (omega arith))), le)
     ]
 
--- what the sizes leave
-gaps_fit : (n : Sizes) (slack : ℕ) → HaveRoom n → slack ≤ n.precision → (2 * n.grain + slack + 1 ≤ n.compression)
-    × (n.compression + slack + 2 * n.grain + n.drift < 2 * n.cycle)
-gaps_fit n slack space small =
-    let e = space.errors in (
-      (omega (arith, space, e, small)),
-      (let a = space.compression_most in let b = space.eight_errors in let c = e.reach_is in let d = e.clock_is in let f = space.cycles in omega
-          (arith, a, b, c, d, f, small)),
-    )
-
 -- ---- middles
 
 -- the last of points that lie within bounds does
@@ -45,12 +36,6 @@ last_within : (low high p : ℤ) (qs : List Point) → LiesWithin low high p →
     → LiesWithin low high (last_from p (map (λ q. q.reading) qs))
 last_within low high p [] at each = at
 last_within low high p (q ∷ qs) at each = last_within low high q.reading qs (each q (inl refl)) (λ x i. each x (inr i))
-
--- of two points the middle is near each
-two_near : (low high a b : ℤ) (width : ℕ) → a ≤ℤ b → b ≤ℤ (a +ℤ pos (2 * width)) → LiesWithin low high a ⊎ LiesWithin low high b
-    → LiesWithin (low -ℤ pos width) (high +ℤ pos width) (a +ℤ mean_of (a -ℤ a) (b -ℤ a))
-two_near low high a b width up close (inl at) = (let m = mean_of-floor (a -ℤ a) (b -ℤ a) in (omega (arith, ints), omega (arith, ints)))
-two_near low high a b width up close (inr at) = (let m = mean_of-floor (a -ℤ a) (b -ℤ a) in (omega (arith, ints), omega (arith, ints)))
 
 -- ---- the bounds of an emission
 
@@ -109,10 +94,6 @@ bounds_of v cm cycle by q is tidy of_cycle good =
     top (pos n) l le = (let up = l.above in let down = l.least n (omega (arith, ints)) in omega (arith, ints, up, down))
     top (negsuc n) l le = absurd (omega (arith, ints, le))
 
-many_readings : (qs : List Point) → length (map (λ q. q.reading) qs) ≡ length qs
-many_readings [] = refl
-many_readings (q ∷ qs) = ap suc (many_readings qs)
-
 -- the middle of any number of points within bounds lies within them
 good_lie : (low high : ℤ) (first : Point) (more : List Point) → Ordered (first ∷ more) → ((q : Point) → IsIn q (first ∷ more) → LiesWithin low high q.reading)
     → LiesWithin low high (middle_point (map (λ q. q.reading) (first ∷ more)))
@@ -133,11 +114,15 @@ near_lie v low high first [] q is up differ close each (inl same) at =
     (omega (arith, ints, m.0, here.0), omega (arith, ints, m.1, here.1))
 near_lie v low high first [] q is up differ close each (inr i) at = absurd i
 near_lie v low high first (next ∷ []) q is up differ close each i at =
-    two_near low high first.reading next.reading v.sizes.precision up.0.0 (close next (inr (inl refl))) (elim i [
+    let m = mean_of-floor (first.reading -ℤ first.reading) (next.reading -ℤ first.reading) in
+    let order : first.reading ≤ℤ next.reading = up.0.0 in
+    let near = close next (inr (inl refl)) in
+    let which : LiesWithin low high first.reading ⊎ LiesWithin low high next.reading = elim i [
       | inl same ↦ inl (subst (λ (x : Point). LiesWithin low high x.reading) same at)
       | inr (inl same) ↦ inr (subst (λ (x : Point). LiesWithin low high x.reading) same at)
       | inr (inr none) ↦ absurd none
-    ])
+    ] in
+    elim which [ inl one ↦ (omega (arith, ints), omega (arith, ints)) | inr other ↦ (omega (arith, ints), omega (arith, ints)) ]
 near_lie v low high first (next ∷ third ∷ more) q is up differ close each i at =
     let middle = middle_among_others (map (λ q. q.reading) (first ∷ next ∷ third ∷ more)) low high (omega arith)
     (ascending_from (first ∷ next ∷ third ∷ more) up)
@@ -165,12 +150,13 @@ module _ (v : View) (h : Happening) (cm : DeviceId) (cycle : ℕ) (members : Mem
       let m = made v h cm cycle members is e in
       let sharp = emissions_are_sharp v h cm cycle members e is in
       let space = room v is in
-      let fit = gaps_fit v.sizes slack space small in
+      let fit : 2 * v.sizes.grain + slack + 1 ≤ v.sizes.compression = omega (arith, space, small) in
+      let short : v.sizes.compression + slack + 2 * v.sizes.grain + v.sizes.drift < 2 * v.sizes.cycle = omega (arith, space, small) in
       let gap : ℕ = v.sizes.compression - (2 * v.sizes.grain + slack) in
-      let gap_is : gap + (2 * v.sizes.grain + slack) ≡ v.sizes.compression = omega (arith, fit.0) in
-      let late = later_by v.sizes (v.scenario.reading cm) bounds.a (time_of h) gap (steady v is cm) (omega (arith, fit.1, gap_is))
-      (omega (arith, ints, sharp, lies.0, m.at, gap_is)) (omega (arith, fit.0, gap_is)) in
-      let soon = sooner_by v.sizes (v.scenario.reading cm) bounds.b (time_of h) (v.sizes.compression + slack + 2 * v.sizes.grain) (steady v is cm) fit.1
+      let gap_is : gap + (2 * v.sizes.grain + slack) ≡ v.sizes.compression = omega (arith, fit) in
+      let late = later_by v.sizes (v.scenario.reading cm) bounds.a (time_of h) gap (steady v is cm) (omega (arith, short, gap_is))
+      (omega (arith, ints, sharp, lies.0, m.at, gap_is)) (omega (arith, fit, gap_is)) in
+      let soon = sooner_by v.sizes (v.scenario.reading cm) bounds.b (time_of h) (v.sizes.compression + slack + 2 * v.sizes.grain) (steady v is cm) short
       (omega (arith, ints, sharp, lies.1, m.at)) in
       record {
         hull = bounds.hull;
@@ -197,7 +183,8 @@ module _ (v : View) (h : Happening) (cm : DeviceId) (cycle : ℕ) (members : Mem
   three_lie : (bounds : HasBounds v cm cycle (time_of h)) → 3 ≤ length points → LiesBetween v cm bounds.a bounds.b middle
   three_lie bounds many =
       let m = made v h cm cycle members is e in
-      middle_among_others (map (λ q. q.reading) points) _ _ (omega (arith, many_readings points, many)) (ascending_from points m.ordered)
+      middle_among_others (map (λ q. q.reading) points) _ _ (omega (arith, length-map points (λ (q : Point). q.reading), many))
+      (ascending_from points m.ordered)
       (all_but_one _ _ (IsBadPoint v) points m.differ (within_or_bad bounds) (λ p q i j a b. bad_is_one v p q is a b))
 
   -- all points of good members are good

@@ -40,13 +40,6 @@ record IsSoundAt (v : View) (befallen : List Event) (i : ℕ) : Type 0 where
 abbrev AreBelow : View → List Event → ℕ → Members → Type 0
 AreBelow v befallen place set = (i : ℕ) → IsMember i set → (s : IsSoundAt v befallen i) × (s.device.0 < place)
 
-sound_member : (v : View) (befallen : List Event) (k : ℕ) (d : Device) → IsView v → slice_get v.scenario.network.device k ≡ Some d
-    → is_sound_master befallen (k, d) ≡ true → (i : ℕ) × (member_of v.scenario.network (record { 0 = k }) ≡ Some i)
-sound_member v befallen k d is at sound =
-    let role = (and_parts (is_master d.role) (is_some d.start)
-    (and_parts (is_master d.role && is_some d.start) (not (list_any (λ e. breaks_at k e.what) befallen)) sound).0).0 in
-    master_member v (record { 0 = k }) is (ap (λ (o : Option Device). option_map_or (λ x. is_master x.role) o false) at ∙ role)
-
 -- a set of so many members, each that of a sound master
 abbrev HasSound : View → List Event → ℕ → Type 0
 HasSound v befallen n = (set : Members) × (count_of set ≡ n) × ((i : ℕ) → IsMember i set → IsSoundAt v befallen i)
@@ -68,7 +61,9 @@ grow v befallen (d ∷ xs) k set is there below =
           let r = grow v befallen xs (k + 1) set is later old in
           (r.0, omega (arith, r.1, counts, ap (λ (b : Bool). let n : ℕ = cond b 1 0 in n) e), r.2)
       | true ↦ λ e.
-          let m = sound_member v befallen k d is here e in
+          let role = (and_parts (is_master d.role) (is_some d.start)
+          (and_parts (is_master d.role && is_some d.start) (not (list_any (λ e. breaks_at k e.what) befallen)) e).0).0 in
+          let m = master_member v (record { 0 = k }) is (ap (λ (o : Option Device). option_map_or (λ x. is_master x.role) o false) here ∙ role) in
           let new : IsMember m.0 set → ⊥ = λ old.
           let b = below m.0 old in
           let place : b.0.device.0 ≡ k = ap (λ (x : DeviceId). x.0) (one_member v b.0.device (record { 0 = k }) m.0 is b.0.is_member m.1) in

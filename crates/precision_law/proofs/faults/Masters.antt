@@ -1,7 +1,7 @@
 -- What the fault hypothesis leaves.
-use Rattle.precision_law.proofs.words.Std.{◌++◌, ◌||◌, ◌∙◌, ◌∷◌, ◌≡◌, ◌≤◌, Any, Bool, IsSomeAnd, List, Option, Some, [], ap, arith, both_ways, eqb-true, false, false_from_ne_true, inl, inr, is_some, le-leb, leb-true, list_any, nat_le, not_from_true, or_left, or_right, refl, subst, sym, true, ℕ}
+use Rattle.precision_law.proofs.words.Std.{◌++◌, ◌||◌, ◌∙◌, ◌∷◌, ◌≡◌, Any, Bool, IsSomeAnd, List, Option, Some, [], ap, arith, both_ways, eqb-true, false, false_from_ne_true, inl, inr, is_some, le-leb, leb-true, list_any, nat_le, not_from_true, or_left, or_right, refl, subst, sym, true, ℕ}
 use Rattle.precision_law.proofs.words.Plans.{A, B, Channel, Cm, Device, DeviceId, Event, HasOffSwitch, IsDeviceInRange, IsSwitchOf, Link, LinkId, Masters, Network, Relay, Role, What, all_at, amount, device_at, is_end_system, is_master, link_at, opened}
-use Rattle.precision_law.proofs.words.Runs.{Cuts, IsFaulty, IsIn, IsLinkOf, NotMaster, Scenario, any_first, any_later, breaks_at, events_up_to, in_filter, is_broken, is_faulty, parted, same_some}
+use Rattle.precision_law.proofs.words.Runs.{Cuts, IsFaulty, IsIn, IsLinkOf, NotMaster, any_first, any_later, breaks_at, events_up_to, in_filter, is_broken, is_faulty, parted, same_some}
 use Rattle.precision_law.proofs.words.Laws.{GoodIsCorrect, IsBad, IsView, OneChannelIsSound, SwitchesAreGood, View}
 use Rattle.net_plan.specs.declared.event.What.TheVariants as events
 use Rattle.precision_law.proofs.records.Times.{in_kept, passes}
@@ -57,18 +57,16 @@ switches_are_good v channel device is switch =
     let ends = master_ends d.0.role (ap (λ (x : Device). is_master x.role) (sym (same_some (device_at v.scenario.network device) m.0 d.0 m.1 d.1)) ∙ m.2) in
     both_ways (is_some d.0.channel) (known.switches ∙ not_from_true (is_end_system d.0.role) ends) (ap (λ (c : Option Channel). is_some c) d.2)))
 
--- an event up to a time is one up to a later one
-later_event : (s : Scenario) (t u : ℕ) (e : Event) → t ≤ u → IsIn e (events_up_to s t) → IsIn e (events_up_to s u)
-later_event s t u e le i =
-    let early = leb-true (amount e.time) t (passes (λ x. nat_le (amount x.time) t) s.events e i) in
-    in_kept (λ x. nat_le (amount x.time) u) s.events e (in_filter (λ x. nat_le (amount x.time) t) s.events e i) (le-leb (amount e.time) u (omega arith))
-
 pub good_is_correct : GoodIsCorrect
 good_is_correct v device t good le =
     false_from_ne_true (is_broken v.scenario device t) (λ broken.
     let found = any_in (λ (e : Event). breaks_at device.0 e.what) (events_up_to v.scenario t) broken in
+    let test = λ (u : ℕ) (x : Event). nat_le (amount x.time) u in
+    let early = leb-true (amount found.0.time) t (passes (test t) v.scenario.events found.0 found.1) in
+    let later = in_kept (test v.until) v.scenario.events found.0 (in_filter (test t) v.scenario.events found.0 found.1)
+    (le-leb (amount found.0.time) v.until (omega (arith, early, le))) in
     both_ways (is_broken v.scenario device v.until) good
-    (in_any (λ (e : Event). breaks_at device.0 e.what) (events_up_to v.scenario v.until) found.0 (later_event v.scenario t v.until found.0 le found.1) found.2))
+    (in_any (λ (e : Event). breaks_at device.0 e.what) (events_up_to v.scenario v.until) found.0 later found.2))
 
 -- ---- channels
 

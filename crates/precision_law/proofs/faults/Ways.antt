@@ -44,15 +44,6 @@ first_cut (e ∷ es) = by e.what refl (first_cut es)
     by (events.Cut link way) same more = cut_at [] es e link refl (way, same) (λ l any. any_of_none (Cuts l) any)
     by what same more = not_cut e es (λ l cuts. (let wrong : what ≡ events.Cut l cuts.0 = sym same ∙ cuts.1 in absurd cc)) more
 
--- a filter keeps a split
-kept_split : (p : Event → Bool) (before behind : List Event) (e : Event) → p e ≡ true → filter p (before ++ e ∷ behind) ≡ filter p before ++ e ∷ filter p behind
-kept_split p before behind e pass =
-    filter-append p before (e ∷ behind) ∙ ap (λ (b : Bool). filter p before ++ (if b then e ∷ filter p behind else filter p behind)) pass
-
--- where nothing holds of any event it holds of none that is kept
-any_kept : (P : Event → Type 0) (p : Event → Bool) (es : List Event) → Any P (filter p es) → Any P es
-any_kept P p es any = (let x = any_is P (filter p es) any in any_of_in P x.0 es (in_filter p es x.0 x.1) x.2)
-
 -- the event by which a way is cut
 record IsCutBy (s : Scenario) (link : LinkId) (t : ℕ) : Type 0 where
   pub event : Event
@@ -110,8 +101,9 @@ sound_cut v before behind e link is whole early cuts of_channel on none =
         before = filter p before;
         cut = e;
         behind = filter p behind;
-        order = ap (filter p) whole ∙ kept_split p before behind e (le-leb (amount e.time) v.until early);
-        none_before = λ l any. none l (any_kept (Cuts l) p before any);
+        order = ap (filter p) whole ∙ filter-append p before (e ∷ behind)
+            ∙ ap (λ (b : Bool). filter p before ++ (if b then e ∷ filter p behind else filter p behind)) (le-leb (amount e.time) v.until early);
+        none_before = λ l any. (let x = any_is (Cuts l) (filter p before) any in none l (any_of_in (Cuts l) x.0 before (in_filter p before x.0 x.1) x.2));
         cuts = (link, cuts, of_channel);
       },
     ))

@@ -182,15 +182,11 @@ apart sound cover goes s mark ns until k up g h a b le =
     apart_by cover goes s (happenings s.network ns) path until k g h a.master b.master two a.by_then
     (subst (λ (j : ℕ). IsInBlock (first_view two) j (time_of g)) at first.block) (subst (λ (j : ℕ). IsInBlock (second_view two) j (time_of h)) too second.block)
 
--- nothing is dispatched in cycle 0
-none_of_start : (s : Scenario) (mark : List ℕ) (ns : List Note) (until cycle : ℕ) → IsRunUpTo s mark ns until → (h : Happening)
-    → IsDispatchOf (happenings s.network ns) until cycle h → 1 ≤ cycle
-none_of_start s mark ns until cycle up h d =
-    let found = founded_at s (happenings s.network ns) h up.run.founded d.there in
-    (subst (IsCaused s found.front h.note.time) d.is found.due.cause).begun
-
 pub dispatches_stay_near : OneChannelIsSound → BlocksCover → BlocksGoSo → DispatchesStayNear
-dispatches_stay_near sound cover goes s mark ns until up zero g h a b = (let begun = none_of_start s mark ns until zero up g a in absurd (omega (arith, begun)))
+dispatches_stay_near sound cover goes s mark ns until up zero g h a b = 
+    let found = founded_at s (happenings s.network ns) g up.run.founded a.there in
+    let begun = (subst (IsCaused s found.front g.note.time) a.is found.due.cause).begun in
+    absurd (omega (arith, begun))
 dispatches_stay_near sound cover goes s mark ns until up (suc k) g h a b =
     elim (cases_lt (time_of h) (time_of g)) [
       | inr le ↦ (let near = (apart sound cover goes s mark ns until k up g h a b le).near.other in omega (arith, ints, near))

@@ -91,12 +91,12 @@ behind_last p xs = behind_by p xs (parts_at_last p xs)
 -- ---- what is made of elements
 
 -- an element that is made of one of the list
-made_by : {X Y : Type 0} (f : X → Option Y) (x : X) (xs : List X) (y : Y) (o : Option Y) (rest : List Y) → f x ≡ o
-    → (IsIn y rest → (z : X) × IsIn z xs × (f z ≡ Some y)) → IsIn y (cons_option o rest) → (z : X) × IsIn z (x ∷ xs) × (f z ≡ Some y)
-made_by f x xs y None rest e back i = let r = back i in (r.0, inr r.1, r.2)
-made_by {X} {Y} f x xs y (Some w) rest e back (inl same) = (x, inl refl, e ∙ ap (λ (u : Y). Some u) (sym same))
-made_by f x xs y (Some w) rest e back (inr i) = let r = back i in (r.0, inr r.1, r.2)
-
 pub in_filter_map : {X Y : Type 0} (f : X → Option Y) (xs : List X) (y : Y) → IsIn y (filter_map f xs) → (x : X) × IsIn x xs × (f x ≡ Some y)
 in_filter_map f [] y i = absurd i
-in_filter_map f (x ∷ xs) y i = made_by f x xs y (f x) (filter_map f xs) refl (in_filter_map f xs y) i
+in_filter_map {X} {Y} f (x ∷ xs) y i =
+    let later : IsIn y (filter_map f xs) → (z : X) × IsIn z (x ∷ xs) × (f z ≡ Some y) = λ j.
+    (let r = in_filter_map f xs y j in (r.0, inr r.1, r.2)) in
+    elim (f x) as (λ o. f x ≡ o → IsIn y (cons_option o (filter_map f xs)) → (z : X) × IsIn z (x ∷ xs) × (f z ≡ Some y)) [
+      | None ↦ λ e j. later j
+      | Some w ↦ λ e j. elim j [ inl same ↦ (x, inl refl, e ∙ ap (λ (u : Y). Some u) (sym same)) | inr more ↦ later more ]
+    ] refl i

@@ -103,7 +103,7 @@ parent_channel v device link parent =
     let l = opened (λ (k : Link). k.parent ≡ device) (link_at v.scenario.network link) parent in
     ap (λ (o : Option Link). option_and_then (λ k. channel_of v.scenario.network k.parent) o) l.1 ∙ ap (channel_of v.scenario.network) l.2
 
-relay_not_end : (role : Role) → is_relay_role role ≡ true → is_end_system role ≡ true → ⊥
+pub relay_not_end : (role : Role) → is_relay_role role ≡ true → is_end_system role ≡ true → ⊥
 relay_not_end Master e end = absurd cc
 relay_not_end role e end = absurd cc
 

@@ -1,6 +1,6 @@
 -- The sound channel brings compressed frames down to its devices.
 use Rattle.precision_law.proofs.words.Std.{◌&&◌, ◌++◌, ◌+◌, ◌==◌, ◌∙◌, ◌∷◌, ◌≡◌, ◌≤◌, ◌⊎◌, Bool, List, Option, Some, [], ap, arith, false, false_from_ne_true, inl, inr, length, option_map, option_map_or, refl, subst, sym, true, ℕ}
-use Rattle.precision_law.proofs.words.Plans.{Device, DeviceId, Down, IsChildOf, IsCmOf, IsDeviceOf, IsPath, IsSwitchOf, Link, LinkId, Members, Pcf, Relay, Role, amount, closed, delay_by, delay_on, device_at, is_end_system, link_at, opened, rules_give_trees, shape_rules, target_by}
+use Rattle.precision_law.proofs.words.Plans.{Device, DeviceId, Down, IsChildOf, IsCmOf, IsDeviceOf, IsPath, IsSwitchOf, Link, LinkId, Members, Pcf, amount, closed, delay_by, delay_on, device_at, is_end_system, link_at, opened, rules_give_trees, shape_rules, target_by}
 use Rattle.precision_law.proofs.words.Runs.{Gives, Happening, IsIn, IsParentOf, NoteBody, are_others, founded_at, frame_by, integration_frame, is_end, is_parent_of, is_relay, is_relay_role, member_of, receiver_of, time_of, with_clock}
 use Rattle.precision_law.proofs.words.Laws.{AreOpenFrom, IsEmission, IsGood, IsOpen, IsSoundSwitch, IsTrip, IsView, Leg, SoundFramesGoDown, View, clock_in, links_back}
 use Rattle.precision_law.proofs.words.Clocks.{IsClean, IsReady, child_not_parent, child_ways, parent_ways, sizes_are, sound_switch_on, switches_are_good, trip_more, will_be_permanent}
@@ -10,6 +10,7 @@ use Rattle.precision_law.proofs.trips.SoundUp.{child_relays, one_cm, path_fits}
 use Rattle.precision_law.proofs.trips.Travels.{path_down}
 use Rattle.precision_law.proofs.trips.Upward.{trips_down_take_dmax}
 use Rattle.precision_law.proofs.trips.SoundLinks.{HasGrown, comes_over, delay_more}
+use Rattle.precision_law.proofs.trips.Legs.{relay_not_end}
 
 -- ---- one link down
 
@@ -111,10 +112,6 @@ go_down (link ∷ rest) v first cm device cycle members is e one path good ready
 
 -- ---- the law
 
-relay_no_end : (role : Role) → is_end_system role ≡ true → is_relay_role role ≡ false
-relay_no_end Relay e = absurd cc
-relay_no_end role e = refl
-
 -- the gate of a device of the channel is open
 is_open_at : (v : View) (device : DeviceId) (u : ℕ) → IsDeviceOf v.scenario.network v.channel device → (IsSoundSwitch v device → IsOpen v device u)
     → IsOpen v device u
@@ -123,7 +120,8 @@ is_open_at v device u member opens =
     elim d.2 [
       | inl end ↦
           let none : is_relay v.scenario.network device ≡ false =
-          ap (λ (o : Option Device). option_map_or (λ x. is_relay_role x.role) o false) d.1 ∙ relay_no_end d.0.role end in
+          ap (λ (o : Option Device). option_map_or (λ x. is_relay_role x.role) o false) d.1
+          ∙ false_from_ne_true (is_relay_role d.0.role) (λ relay. relay_not_end d.0.role relay end) in
           rw none refl
       | inr channel ↦ opens (closed (λ (x : Device). x.channel ≡ Some v.channel) (device_at v.scenario.network device) d.0 d.1 channel)
     ]

@@ -1,5 +1,5 @@
 -- The sound channel brings dispatches up to its compression master.
-use Rattle.precision_law.proofs.words.Std.{◌&&◌, ◌+◌, ◌==◌, ◌^◌, ◌∙◌, ◌∷◌, ◌≡◌, ◌≤◌, ◌⊎◌, Bool, List, None, Option, Some, [], ap, arith, both_ways, eq-eqb, false, inl, inr, is_some, length, not, not-true, option_map, option_map_or, refl, subst, suc, sym, true, unwrap_or, ℕ}
+use Rattle.precision_law.proofs.words.Std.{◌&&◌, ◌+◌, ◌==◌, ◌^◌, ◌∙◌, ◌∷◌, ◌≡◌, ◌≤◌, ◌⊎◌, Bool, List, Option, Some, [], ap, arith, both_ways, eq-eqb, false, inl, inr, is_some, length, not, not-true, option_map, option_map_or, refl, subst, suc, sym, true, ℕ}
 use Rattle.precision_law.proofs.words.Plans.{A, B, Channel, Cm, CompressionMasters, Device, DeviceId, IsChildOf, IsCmOf, IsDeviceInRange, IsDeviceOf, IsPath, IsSwitchOf, Joints, Link, LinkId, Master, Pcf, Relay, Role, Up, all_at, amount, closed, delay_by, delay_on, device_at, is_end_system, is_master, link_at, margins, opened, rules_give_trees, shape_rules, target_by}
 use Rattle.precision_law.proofs.words.Runs.{Gives, Happening, IsCaused, IsIn, IsParentOf, NoteBody, are_others, dispatched_frame, founded_at, frame_by, is_end, is_of_other_member, is_relay, is_relay_role, member_of, receiver_of, same_some, time_of, with_clock}
 use Rattle.precision_law.proofs.words.Laws.{AreOpenFrom, IsBrought, IsGood, IsSoundSwitch, IsTrip, IsView, Leg, SoundFramesGoUp, View, clock_in}
@@ -186,10 +186,6 @@ master_no_cm : (role : Role) → is_master role ≡ true → role ≡ Cm → ⊥
 master_no_cm Master e f = cc
 master_no_cm role e f = cc
 
-own_member : (o : Option ℕ) (m : ℕ) → o ≡ Some m → are_others o (record { 0 = 2 ^ unwrap_or o 0 }) ≡ false
-own_member None m e = absurd cc
-own_member (Some x) m e = ap not (eq-eqb (2 ^ x) (2 ^ x) refl)
-
 -- the delays of a path leave room for its error
 pub path_fits : (v : View) (channel : Channel) (device : DeviceId) (links : List LinkId) (is : IsView v) → IsDeviceOf v.scenario.network channel device
     → IsPath v.scenario.network channel device links → (v.sizes.path + delay_on v.scenario.network links ≤ v.sizes.dmax) × (length links ≤ is.beta.links)
@@ -224,7 +220,7 @@ sound_frames_go_up v h master cm cycle is d one opens in_run =
             clean = record { kind = refl; priority = refl; domain = refl };
             gives = subst (λ (b : NoteBody). Gives n b master link) (sym d.is) (refl, child);
             good = d.good;
-            member = λ ends. own_member (member_of n master) m.0 m.1;
+            member = λ ends. rw m.1 (ap not (eq-eqb (2 ^ m.0) (2 ^ m.0) refl));
             clock = omega arith;
             time = omega arith;
             after = omega arith;

@@ -1,5 +1,5 @@
 -- A trip up takes dmax.
-use Rattle.precision_law.proofs.words.Std.{◌∙◌, ◌∷◌, ◌≡◌, List, Option, Some, [], ap, arith, inl, inr, length, option_and_then, option_map, pos, refl, subst, suc, sum_by-cons, sym, true, ℕ, ℤ}
+use Rattle.precision_law.proofs.words.Std.{◌∙◌, ◌∷◌, ◌≡◌, List, Option, Some, [], ap, arith, inl, inr, length, option_and_then, option_map, pos, refl, subst, sum_by-cons, sym, true, ℕ, ℤ}
 use Rattle.precision_law.proofs.words.Plans.{Channel, Cm, Device, DeviceId, Down, IsChildOf, IsCmOf, IsPath, IsReach, IsSwitchOf, Link, LinkId, Network, Up, Way, amount, closed, device_at, jitter_of, jitter_on, link_at, opened, point_of, target_by, waits_for_point}
 use Rattle.precision_law.proofs.words.Runs.{Gives, Happening, NoteBody, channel_of, is_relay, same_some, time_of}
 use Rattle.precision_law.proofs.words.Laws.{IsInTime, IsLeg, IsPermanentAt, IsTrip, IsView, Leg, TripsDownTakeDmax, TripsUpTakeDmax, View, clock_in, links_back, links_of}
@@ -7,6 +7,7 @@ use Rattle.precision_law.proofs.words.Clocks.{child_channel, parent_ways, sizes_
 use Rattle.run_law.specs.declared.note.NoteBody.TheVariants as notes
 use Rattle.precision_law.proofs.hearing.Timely.{trip_in_time}
 use Rattle.precision_law.proofs.trips.Travels.{jitter_back, jitter_of_legs, last_young, leg_link, many_back, switch_of}
+use Rattle.std.proofs.lemmas.List.{length-map}
 
 -- ---- sums
 
@@ -14,10 +15,6 @@ pub jitter_up : (n : Network) (legs : List Leg) → jitter_on n (links_of legs) 
 jitter_up n [] = refl
 jitter_up n (leg ∷ legs) =
     omega (arith, jitter_up n legs, sum_by-cons (jitter_of n) leg.link (links_of legs), sum_by-cons (λ (x : Leg). jitter_of n x.link) leg legs)
-
-pub many_up : (legs : List Leg) → length (links_of legs) ≡ length legs
-many_up [] = refl
-many_up (leg ∷ legs) = ap suc (many_up legs)
 
 -- ---- the path up
 
@@ -114,7 +111,7 @@ trip_takes_dmax v way first last legs links channel device at point q is jitters
 
 pub trips_up_take_dmax : TripsUpTakeDmax
 trips_up_take_dmax v first last legs channel device cm point q is member path fresh trip p clock =
-    trip_takes_dmax v Up first last legs (links_of legs) channel device cm point q is (jitter_up v.scenario.network legs) (many_up legs) path fresh trip p clock
+    trip_takes_dmax v Up first last legs (links_of legs) channel device cm point q is (jitter_up v.scenario.network legs) (length-map legs (λ (leg : Leg). leg.link)) path fresh trip p clock
 
 pub trips_down_take_dmax : TripsDownTakeDmax
 trips_down_take_dmax v first last legs channel device point q is member path fresh trip p clock =
