@@ -111,7 +111,8 @@ trip_takes_dmax v way first last legs links channel device at point q is jitters
 
 pub trips_up_take_dmax : TripsUpTakeDmax
 trips_up_take_dmax v first last legs channel device cm point q is member path fresh trip p clock =
-    trip_takes_dmax v Up first last legs (links_of legs) channel device cm point q is (jitter_up v.scenario.network legs) (length-map legs (λ (leg : Leg). leg.link)) path fresh trip p clock
+    trip_takes_dmax v Up first last legs (links_of legs) channel device cm point q is (jitter_up v.scenario.network legs)
+    (length-map legs (λ (leg : Leg). leg.link)) path fresh trip p clock
 
 pub trips_down_take_dmax : TripsDownTakeDmax
 trips_down_take_dmax v first last legs channel device point q is member path fresh trip p clock =
