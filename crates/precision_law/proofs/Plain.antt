@@ -1,7 +1,7 @@
 -- Plain facts of choices, lists, roles and states that several files use.
-use Rattle.precision_law.proofs.words.Std.{◌∙◌, ◌∷◌, ◌≡◌, ◌≤◌, Any, Bool, List, None, Option, Some, [], ap, arith, cons_option, false, filter_map, inl, inr, is_some, option_and_then, option_map, option_map_or, refl, subst, sym, true, ℕ}
+use Rattle.precision_law.proofs.words.Std.{◌<◌, ◌∙◌, ◌∷◌, ◌≡◌, ◌≤◌, Any, Bool, List, None, Option, Some, [], ap, arith, cases_lt, cons_option, false, filter_map, if◌then◌else◌, inl, inr, is_some, option_and_then, option_map, option_map_or, refl, subst, sym, true, ℕ}
 use Rattle.precision_law.proofs.words.Plans.{Device, Master, Role, State, Synchronised, is_end_system}
-use Rattle.precision_law.proofs.words.Runs.{IsBefore, IsIn, any_of_none, any_parts, is_cm_role, is_synchronised}
+use Rattle.precision_law.proofs.words.Runs.{Happening, IsBefore, IsIn, any_first, any_later, any_of_none, any_parts, is_cm_role, is_synchronised, place_of, rank, time_of}
 use Rattle.precision_law.proofs.words.Laws.{has_time}
 
 -- ---- choices
@@ -22,12 +22,26 @@ pub reached : {X Y : Type 0} (f : X → Option Y) (o : Option X) (y : Y) → opt
 reached f None y e = absurd cc
 reached f (Some x) y e = (x, refl, e)
 
+pub some_if : {X : Type 0} (b : Bool) (x y : X) → (if b then Some x else None) ≡ Some y → (b ≡ true) × (x ≡ y)
+some_if true x y e = (refl, cc)
+some_if false x y e = absurd cc
+
 -- ---- lists
 
 -- a place that is before another is of no later time
 pub no_later : (t u : ℕ) (xs ys : List ℕ) → IsBefore (t ∷ xs) (u ∷ ys) → t ≤ u
 no_later t u xs ys (inl lt) = omega arith
 no_later t u xs ys (inr both) = omega (arith, both.0)
+
+-- a record that is before one of a lower rank is of an earlier time
+pub higher_before : (h g : Happening) → IsBefore (place_of h) (place_of g) → rank g.note.body < rank h.note.body → time_of h < time_of g
+higher_before h g (inl lt) low = lt
+higher_before h g (inr (same, inl less)) low = absurd (omega (arith, less, low))
+higher_before h g (inr (same, inr more)) low = absurd (omega (arith, more.0, low))
+
+-- one of a lower rank, and of no later time, is before it
+pub ranked : (t u a b : ℕ) (xs ys : List ℕ) → t ≤ u → a < b → IsBefore (t ∷ a ∷ xs) (u ∷ b ∷ ys)
+ranked t u a b xs ys le low = elim (cases_lt t u) [ inl lt ↦ inl lt | inr ge ↦ inr (omega (arith, le, ge), inl low) ]
 
 -- what is made of an element is there
 pub made_in : {X Y : Type 0} (f : X → Option Y) (xs : List X) (x : X) (y : Y) → IsIn x xs → f x ≡ Some y → IsIn y (filter_map f xs)
@@ -47,12 +61,21 @@ any_is {X} P (x ∷ xs) any = elim (any_parts P x xs any) as (λ _. (y : X) × I
   | inr more ↦ (let r = any_is P xs more in (r.0, inr r.1, r.2))
 ]
 
+pub any_of_in : {X : Type 0} (P : X → Type 0) (x : X) (xs : List X) → IsIn x xs → P x → Any P xs
+any_of_in P x [] i p = absurd i
+any_of_in P x (y ∷ xs) (inl same) p = any_first P y xs (subst P same p)
+any_of_in P x (y ∷ xs) (inr i) p = any_later P y xs (any_of_in P x xs i p)
+
 -- ---- roles and states
+
+-- what passes the test is there
+pub passed : {X : Type 0} (test : X → Bool) (o : Option X) → option_map_or test o false ≡ true → (x : X) × (o ≡ Some x) × (test x ≡ true)
+passed test None e = absurd cc
+passed test (Some x) e = (x, refl, e)
 
 -- a device of which this holds is there
 pub device_of : (f : Role → Bool) (o : Option Device) → option_map_or (λ d. f d.role) o false ≡ true → (d : Device) × (o ≡ Some d) × (f d.role ≡ true)
-device_of f None e = absurd cc
-device_of f (Some d) e = (d, refl, e)
+device_of f o e = passed (λ (d : Device). f d.role) o e
 
 pub cm_is_no_end : (role : Role) → is_cm_role role ≡ true → is_end_system role ≡ true → ⊥
 cm_is_no_end Master a b = absurd cc

@@ -5,7 +5,6 @@ pub mod RunViews
 pub mod Cutting
 pub mod Behind
 pub mod Points
-pub mod PlacedFronts
 pub mod Judged
 pub mod Due
 pub mod Recorded

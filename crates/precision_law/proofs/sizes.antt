@@ -1,4 +1,3 @@
 -- The sizes of an accepted network leave room, and so the instants of a cycle come in order.
-pub mod Rooms
 pub mod Instants
 pub mod Few

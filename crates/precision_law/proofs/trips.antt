@@ -3,11 +3,11 @@ pub mod Links
 pub mod Paths
 pub mod Travels
 pub mod Upward
+pub mod Legs
 pub mod Ascents
 pub mod Descents
-pub mod Carried
-pub mod Kept
 pub mod Gates
 pub mod Sound
+pub mod SoundLinks
 pub mod SoundUp
 pub mod SoundDown

@@ -9,8 +9,6 @@ use Rattle.precision_law.proofs.clocks.Readings.{reach_is_sharp, reach_is_there}
 use Rattle.precision_law.proofs.records.Times.{between, earlier_parts, in_between, in_kept, is_between, last_append, last_some}
 use Rattle.precision_law.proofs.records.Views.{in_order, steady}
 
--- ---- the last of what is tested
-
 -- where each element that passes the test sets a value and no other does, the last such element sets it
 pub fold_last : {X V : Type 0} (f : V → X → V) (g : X → V) (test : X → Bool) (o : Option X) (initial : V) (xs : List X)
     → ((v : V) (x : X) → test x ≡ true → f v x ≡ g x) → ((v : V) (x : X) → test x ≡ false → f v x ≡ v) → fold f (option_map_or g o initial) xs ≡ option_map_or g
@@ -74,11 +72,8 @@ next_of_option (Some h) = refl
 
 pub next_cycle_is_of_last : NextCycleIsOfLast
 next_cycle_is_of_last hs device =
-    fold_last (λ (n : ℕ) (h : Happening). cycle_after device n h h.note.body) number_by
-    (λ (h : Happening). changes_adjustment device h.note.body) None 1 hs
-    (λ n h e. number_set device n h h.note.body e)
-    (λ n h e. number_kept device n h h.note.body e)
-    ∙ next_of_option (last_setting hs device)
+    fold_last (λ (n : ℕ) (h : Happening). cycle_after device n h h.note.body) number_by (λ (h : Happening). changes_adjustment device h.note.body) None 1 hs
+    (λ n h e. number_set device n h h.note.body e) (λ n h e. number_kept device n h h.note.body e) ∙ next_of_option (last_setting hs device)
 
 -- ---- settings stay
 
@@ -112,12 +107,20 @@ settings_stay v device u t is le early =
     (λ (hs : List Happening). filter sets (earlier u v.records) ++ hs) none ∙ append-nil (filter sets (earlier u v.records)) in
     ap (last_or None) (sym same)
 
+-- a record between sets no clock that was set before
+pub sets_none : (v : View) (device : DeviceId) (from t : ℕ) → IsView v → from ≤ t → epoch_time (earlier t v.records) device <ℤ pos from → (h : Happening)
+    → IsIn h v.records → from ≤ time_of h → time_of h < t → changes_adjustment device h.note.body ≡ false
+sets_none v device from t is le old h i late early =
+    false_from_ne_true (changes_adjustment device h.note.body) (λ sets.
+    let kept = in_kept (λ (x : Happening). changes_adjustment device x.note.body) (between from t v.records) h (is_between from t v.records h i late early) sets
+    in
+    absurd (subst (IsIn h) (none_between v device from t is le old) kept))
+
 -- so does the adjustment
 pub adjustment_stays : (v : View) (device : DeviceId) (u t : ℕ) → IsView v → u ≤ t → epoch_time (earlier t v.records) device <ℤ pos u
     → adjustment_before v.scenario v.records device u ≡ adjustment_before v.scenario v.records device t
 adjustment_stays v device u t is le early =
-    adjustment_is_last v.scenario (earlier u v.records) device
-    ∙ ap (λ (o : Option Happening). option_map_or
+    adjustment_is_last v.scenario (earlier u v.records) device ∙ ap (λ (o : Option Happening). option_map_or
     (λ h. adjustment_with v.scenario device (cycle_in h) (adjustment_at_start (start_of v.scenario.network device)) h.note.body) o
     (adjustment_at_start (start_of v.scenario.network device))) (settings_stay v device u t is le early)
     ∙ sym (adjustment_is_last v.scenario (earlier t v.records) device)
@@ -177,26 +180,17 @@ keeps p out s ps time device body e none c old timed = timed
 pub state_stays : (p : State → Bool) → p Integrating ≡ false → (v : View) (device : DeviceId) (u t : ℕ) → IsView v → u ≤ t
     → epoch_time (earlier t v.records) device <ℤ pos u → p (state_left v device t) ≡ true → p (state_left v device u) ≡ true
 state_stays p out v device u t is le early timed =
-    let sets = λ (h : Happening). changes_adjustment device h.note.body in
-    let none = none_between v device u t is le early in
-    let unset : (h : Happening) → IsIn h (between u t v.records) → sets h ≡ false = λ h i. unset_in sets (between u t v.records) h i none in
-    let state_of = λ (hs : List Happening). state_after v.scenario hs device in
+    let unset = sets_none v device u t is le early in
     let whole = subst (λ (hs : List Happening). p (state_after v.scenario hs device) ≡ true) (earlier_parts u t v.records (in_order v is) le) timed in
     let apart = fold-append (λ (state : State) (h : Happening). state_with device state h.note.body) (state_at_start (start_of v.scenario.network device))
     (earlier u v.records) (between u t v.records) in
     kept_by_all p device (between u t v.records) (λ h i.
     let there = in_between u t v.records h i in
     let at = founded_at v.scenario v.records h is.run.founded there.0 in
-    keeps p out v.scenario at.front h.note.time device h.note.body (unset h i) (λ g j same.
+    keeps p out v.scenario at.front h.note.time device h.note.body (unset h there.0 there.1 there.2) (λ g j same.
     let in_all : IsIn g v.records = subst (IsIn g) (sym at.whole) (in_left g at.front (h ∷ at.rest) j) in
-    unset g (in_middle v u t g in_all (omega (arith, same, there.1)) (omega (arith, same, there.2)))) at.due.cause)
+    unset g in_all (omega (arith, same, there.1)) (omega (arith, same, there.2))) at.due.cause)
     (state_after v.scenario (earlier u v.records) device) (subst (λ (x : State). p x ≡ true) apart whole)
-  where
-    unset_in : {X : Type 0} (p : X → Bool) (xs : List X) (h : X) → IsIn h xs → filter p xs ≡ [] → p h ≡ false
-    unset_in p xs h i none = false_from_ne_true (p h) (λ hit. (let wrong : IsIn h [] = subst (IsIn h) none (in_kept p xs h i hit) in wrong))
-
-    in_middle : (v : View) (u t : ℕ) (g : Happening) → IsIn g v.records → u ≤ time_of g → time_of g < t → IsIn g (between u t v.records)
-    in_middle v u t g i late early = is_between u t v.records g i late early
 
 pub time_stays : TimeStays
 time_stays v device u t is le early timed = state_stays has_time refl v device u t is le early timed

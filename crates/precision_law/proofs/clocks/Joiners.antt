@@ -1,7 +1,7 @@
 -- A device whose clock was last set by a frame that told it the time is still joining.
 use Rattle.precision_law.proofs.words.Std.{◌++◌, ◌+◌, ◌<◌, ◌==◌, ◌∙◌, ◌∷◌, ◌≡◌, Bool, List, None, Option, Some, [], ap, append_assoc, arith, both_ways, eq-eqb, false, false_from_ne_true, filter, filter-append, fold-append, if◌then◌else◌, inl, inr, ints, last_or, lt-ltb, nat_lt, negsuc, option_map_or, pos, refl, subst, sym, true, ℕ}
 use Rattle.precision_law.proofs.words.Plans.{DeviceId, Joining, State, Units, amount, state_at_start}
-use Rattle.precision_law.proofs.words.Runs.{ChangesState, Happening, Integrates, IsBefore, IsCaused, IsDue, IsFounded, IsIn, NoteBody, Scenario, Why, behind_first, changes_adjustment, earlier, founded_at, in_filter, in_left, in_parts, in_right, is_joined_by, is_synchronised, key, members_in, never_self, numbered_in, place_of, rank, same_some, start_of, state_after, state_with, time_of}
+use Rattle.precision_law.proofs.words.Runs.{ChangesState, Happening, Integrates, IsCaused, IsDue, IsFounded, IsIn, NoteBody, Scenario, Why, behind_first, changes_adjustment, earlier, founded_at, in_filter, in_left, in_parts, in_right, is_joined_by, is_synchronised, never_self, numbered_in, place_of, rank, same_some, start_of, state_after, state_with, time_of}
 use Rattle.precision_law.proofs.words.Laws.{IsView, View, epoch_time, last_setting, state_left}
 use Rattle.run_law.specs.declared.judgement.Why.TheVariants as whys
 use Rattle.run_law.specs.declared.note.NoteBody.TheVariants as notes
@@ -9,6 +9,7 @@ use Rattle.precision_law.proofs.clocks.Epochs.{Keeps, kept_by_all, kept_if, same
 use Rattle.precision_law.proofs.records.Points.{setting_is, sorted_parts}
 use Rattle.precision_law.proofs.records.Times.{AreSorted, in_earlier, in_kept, is_earlier, last_append, last_some}
 use Rattle.precision_law.proofs.records.Views.{in_order}
+use Rattle.precision_law.proofs.Plain.{higher_before}
 
 -- where no correction of the device comes at a time, no change of state synchronises it
 no_correction : (s : Scenario) (ps : List Happening) (t : ℕ) (device : DeviceId) (state : State) (cause : ℕ) (why : Why)
@@ -43,12 +44,6 @@ joins_state device old (notes.Permanent other link cause point Integrates) e = r
 joins_state device old (notes.Compressed other opened own cycle members Integrates) e = rw e refl
 joins_state device old body e = absurd cc
 
--- what is before a place of its time has no higher rank
-lower_rank : (t u a b : ℕ) (xs ys : List ℕ) → t ≡ u → b < a → IsBefore (t ∷ a ∷ xs) (u ∷ b ∷ ys) → ⊥
-lower_rank t u a b xs ys same less (inl lt) = absurd (omega (arith, same))
-lower_rank t u a b xs ys same less (inr (e, inl lt)) = absurd (omega (arith, less, lt))
-lower_rank t u a b xs ys same less (inr (e, inr more)) = absurd (omega (arith, less, more.0))
-
 -- behind the last setting before a time nothing sets the clock before it
 none_behind : (v : View) (device : DeviceId) (t : ℕ) (front rest : List Happening) (h x : Happening) → IsView v
     → last_setting (earlier t v.records) device ≡ Some h → v.records ≡ front ++ h ∷ rest → IsIn x rest → time_of x < t
@@ -59,8 +54,7 @@ none_behind v device t front rest h x is e whole i early changes =
     let parts = ap (λ (hs : List Happening). filter sets (earlier t hs)) (whole ∙ sym (append_assoc front (h ∷ []) rest)) ∙ ap (filter sets)
     (filter-append (λ g. nat_lt (time_of g) t) (front ++ h ∷ []) rest) ∙ filter-append sets before (earlier t rest) in
     by (filter sets before) (filter sets (earlier t rest)) (in_kept sets (earlier t rest) x (is_earlier t rest x i early) changes)
-    (sym (ap (last_or None) parts) ∙ e)
-    (λ y j. in_earlier t rest y (in_filter sets (earlier t rest) y j))
+    (sym (ap (last_or None) parts) ∙ e) (λ y j. in_earlier t rest y (in_filter sets (earlier t rest) y j))
   where
     by : (us bs : List Happening) → IsIn x bs → last_or None (us ++ bs) ≡ Some h → ((y : Happening) → IsIn y bs → IsIn y rest × (time_of y < t)) → ⊥
     by us [] j last back = absurd j
@@ -79,9 +73,9 @@ no_correction_then v device t front rest h x cycle by adjustment is e early join
     let changes : changes_adjustment device x.note.body ≡ true = ap (changes_adjustment device) body ∙ (eq-eqb device.0 device.0 refl) in
     elim (in_parts x front (h ∷ rest) (subst (IsIn x) whole i)) [
       | inl before ↦
-          let order = (is.run.founded front rest h whole).0 x before in
-          lower_rank (time_of x) (time_of h) (rank x.note.body) (rank h.note.body) (key (members_in x) x.note.body) (key (members_in h) h.note.body) same
-          (omega (arith, ap rank body, joining_rank device h.note.body joined)) order
+          let low : rank h.note.body < rank x.note.body = omega (arith, ap rank body, joining_rank device h.note.body joined) in
+          let sooner = higher_before x h ((is.run.founded front rest h whole).0 x before) low in
+          omega (arith, same, sooner)
       | inr (inl one) ↦ (let wrong : is_joined_by device h.note.body ≡ false = ap (λ (g : Happening). is_joined_by device g.note.body) (sym one)
           ∙ ap (is_joined_by device) body in both_ways (is_joined_by device h.note.body) wrong joined)
       | inr (inr later) ↦ none_behind v device t front rest h x is e whole later (omega (arith, same, early)) changes
@@ -91,37 +85,27 @@ no_correction_then v device t front rest h x cycle by adjustment is e early join
 pub joiner_waits : (v : View) (device : DeviceId) (t : ℕ) (h : Happening) → IsView v → last_setting (earlier t v.records) device ≡ Some h
     → is_joined_by device h.note.body ≡ true → is_synchronised (state_left v device t) ≡ false
 joiner_waits v device t h is e joined =
-    false_from_ne_true (is_synchronised (state_left v device t)) (λ at. contradiction at)
-  where
-    contradiction : is_synchronised (state_left v device t) ≡ true → ⊥
-    contradiction at =
-        let setting = setting_is v device t h e in
-        let w = time_of h in
-        let time : epoch_time (earlier t v.records) device ≡ pos w = ap (λ (o : Option Happening). option_map_or (λ g. pos (time_of g)) o (negsuc 0)) e in
-        let still = state_stays is_synchronised refl v device (w + 1) t is (omega (arith, setting.early)) (omega (arith, ints, time)) at in
-        let found = founded_at v.scenario v.records h is.run.founded setting.there in
-        let test = λ (g : Happening). nat_lt (time_of g) (w + 1) in
-        let here : test h ≡ true = lt-ltb w (w + 1) (omega arith) in
-        let parts = ap (earlier (w + 1)) found.whole ∙ filter-append test found.front (h ∷ found.rest) ∙ ap
-        (λ (b : Bool). earlier (w + 1) found.front ++ (if b then h ∷ earlier (w + 1) found.rest else earlier (w + 1) found.rest)) here in
-        let step = λ (state : State) (g : Happening). state_with device state g.note.body in
-        let whole = subst (λ (hs : List Happening). is_synchronised (state_after v.scenario hs device) ≡ true) parts still in
-        let apart = fold-append step (state_at_start (start_of v.scenario.network device)) (earlier (w + 1) found.front) (h ∷ earlier (w + 1) found.rest) in
-        let now = kept_by_all is_synchronised device (earlier (w + 1) found.rest) (λ g i. each g i)
-        (step (state_after v.scenario (earlier (w + 1) found.front) device) h) (subst (λ (x : State). is_synchronised x ≡ true) apart whole) in
-        let joining = joins_state device (state_after v.scenario (earlier (w + 1) found.front) device) h.note.body joined in
-        both_ways (is_synchronised (step (state_after v.scenario (earlier (w + 1) found.front) device) h)) (ap is_synchronised joining) now
-      where
-        each : (g : Happening) → IsIn g (earlier (time_of h + 1) (founded_at v.scenario v.records h is.run.founded (setting_is v device t h e).there).rest)
-            → Keeps is_synchronised device g.note.body
-        each g i =
-            let setting = setting_is v device t h e in
-            let at_h = founded_at v.scenario v.records h is.run.founded setting.there in
-            let back = in_earlier (time_of h + 1) at_h.rest g i in
-            let in_all : IsIn g v.records = subst (IsIn g) (sym at_h.whole) (in_right g at_h.front (h ∷ at_h.rest) (inr back.0)) in
-            let at_g = founded_at v.scenario v.records g is.run.founded in_all in
-            let order = sorted_parts at_h.front at_h.rest h (subst AreSorted at_h.whole (in_order v is)) in
-            let same : time_of g ≡ time_of h = (let up = order.1 g back.0 in omega (arith, up, back.1)) in
-            keeps_unsynchronised v.scenario at_g.front g.note.time device g.note.body (λ x cycle by adjustment j at body.
-            no_correction_then v device t at_h.front at_h.rest h x cycle by adjustment is e setting.early joined at_h.whole
-            (subst (IsIn x) (sym at_g.whole) (in_left x at_g.front (g ∷ at_g.rest) j)) (omega (arith, at, same)) body) at_g.due.cause
+    false_from_ne_true (is_synchronised (state_left v device t)) (λ at.
+    let setting = setting_is v device t h e in
+    let w = time_of h in
+    let time : epoch_time (earlier t v.records) device ≡ pos w = ap (λ (o : Option Happening). option_map_or (λ g. pos (time_of g)) o (negsuc 0)) e in
+    let still = state_stays is_synchronised refl v device (w + 1) t is (omega (arith, setting.early)) (omega (arith, ints, time)) at in
+    let found = founded_at v.scenario v.records h is.run.founded setting.there in
+    let here : nat_lt w (w + 1) ≡ true = lt-ltb w (w + 1) (omega arith) in
+    let parts = ap (earlier (w + 1)) found.whole ∙ filter-append (λ (g : Happening). nat_lt (time_of g) (w + 1)) found.front (h ∷ found.rest) ∙ ap
+    (λ (b : Bool). earlier (w + 1) found.front ++ (if b then h ∷ earlier (w + 1) found.rest else earlier (w + 1) found.rest)) here in
+    let step = λ (state : State) (g : Happening). state_with device state g.note.body in
+    let whole = subst (λ (hs : List Happening). is_synchronised (state_after v.scenario hs device) ≡ true) parts still in
+    let apart = fold-append step (state_at_start (start_of v.scenario.network device)) (earlier (w + 1) found.front) (h ∷ earlier (w + 1) found.rest) in
+    let old = state_after v.scenario (earlier (w + 1) found.front) device in
+    let each : (g : Happening) → IsIn g (earlier (w + 1) found.rest) → Keeps is_synchronised device g.note.body = λ g i.
+    let back = in_earlier (w + 1) found.rest g i in
+    let in_all : IsIn g v.records = subst (IsIn g) (sym found.whole) (in_right g found.front (h ∷ found.rest) (inr back.0)) in
+    let at_g = founded_at v.scenario v.records g is.run.founded in_all in
+    let order = sorted_parts found.front found.rest h (subst AreSorted found.whole (in_order v is)) in
+    let same : time_of g ≡ w = (let up = order.1 g back.0 in omega (arith, up, back.1)) in
+    keeps_unsynchronised v.scenario at_g.front g.note.time device g.note.body (λ x cycle by adjustment j at body.
+    no_correction_then v device t found.front found.rest h x cycle by adjustment is e setting.early joined found.whole
+    (subst (IsIn x) (sym at_g.whole) (in_left x at_g.front (g ∷ at_g.rest) j)) (omega (arith, at, same)) body) at_g.due.cause in
+    let now = kept_by_all is_synchronised device (earlier (w + 1) found.rest) each (step old h) (subst (λ (x : State). is_synchronised x ≡ true) apart whole) in
+    both_ways (is_synchronised (step old h)) (ap is_synchronised (joins_state device old h.note.body joined)) now)

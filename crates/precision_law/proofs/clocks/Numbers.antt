@@ -1,9 +1,9 @@
 -- The next correction point of a device whose clock was set before a block.
-use Rattle.precision_law.proofs.words.Std.{◌+ℤ◌, ◌+◌, ◌-◌, ◌<ℤ◌, ◌<◌, ◌==◌, ◌∙◌, ◌∷◌, ◌≡◌, ◌≤◌, Bool, List, None, Option, Some, [], and_from, and_parts, ap, arith, both_ways, cases_lt, eq-eqb, eqb-true, false, filter, if◌then◌else◌, inl, inr, int_le, int_lt, ints, last_or, negsuc, option_map_or, pos, refl, subst, suc, sym, true, zero, ℕ, ℤ}
+use Rattle.precision_law.proofs.words.Std.{◌+ℤ◌, ◌+◌, ◌-◌, ◌<ℤ◌, ◌<◌, ◌==◌, ◌∙◌, ◌∷◌, ◌≡◌, ◌≤◌, ◌⊎◌, Bool, List, None, Option, Some, [], and_from, and_parts, ap, arith, both_ways, cases_Bool, cases_lt, eq-eqb, eqb-true, false, filter, if◌then◌else◌, inl, inr, int_le, int_lt, ints, last_or, negsuc, option_map_or, pos, refl, subst, suc, sym, true, zero, ℕ, ℤ}
 use Rattle.precision_law.proofs.words.Plans.{DeviceId, Units, int_le-true}
 use Rattle.precision_law.proofs.words.Runs.{Happening, IsIn, NoteBody, adjustment_before, changed_at, changes_adjustment, correction_value, cycle_in, earlier, had_come, has_cleared, in_filter, integration_cycle, is_integration_cycle, is_joined_by, local_at_change, next_cycle, recorded_cycle, time_of}
-use Rattle.precision_law.proofs.words.Laws.{HasTimeAt, IsOldAt, IsView, Stands, View, cycle_set, epoch_time, has_time, is_corrected, is_correction, last_setting, next_of, state_left}
-use Rattle.precision_law.proofs.words.Clocks.{adjustment_stays, between, fold_last, in_earlier, in_kept, int_le-is, is_between, joined_changes, last_some, next_cycle_is_of_last, none_between, passes, setting_is, settings_stay, steady, time_stays}
+use Rattle.precision_law.proofs.words.Laws.{HasTimeAt, IsGood, IsOldAt, IsView, Stands, View, cycle_set, epoch_time, is_corrected, is_correction, last_setting, next_of}
+use Rattle.precision_law.proofs.words.Clocks.{adjustment_stays, fold_last, in_earlier, int_le-is, joined_changes, last_some, next_cycle_is_of_last, passes, sets_none, setting_is, settings_stay, steady, time_stays}
 use Rattle.run_law.specs.declared.note.NoteBody.TheVariants as notes
 
 -- ---- the last joining
@@ -13,29 +13,23 @@ last_of_both : {X : Type 0} (p q : X → Bool) (o r : Option X) (xs : List X) (h
     → (o ≡ Some h → r ≡ Some h) → last_or o (filter q xs) ≡ Some h → last_or r (filter p xs) ≡ Some h
 last_of_both p q o r [] h up at both e = both e
 last_of_both {X} p q o r (x ∷ xs) h up at both e =
-    kept_or_not p q o r x xs h up at both (last_of_both p q (Some x) (Some x) xs h up at (λ s. s)) (λ miss. last_of_both p q (Some x) r xs h up at miss)
-    (last_of_both p q o r xs h up at both) (p x) (q x) refl refl e
-  where
-    kept_or_not : {X : Type 0} (p q : X → Bool) (o r : Option X) (x : X) (xs : List X) (h : X) → ((x : X) → p x ≡ true → q x ≡ true) → p h ≡ true
-        → (o ≡ Some h → r ≡ Some h)
-        → (last_or (Some x) (filter q xs) ≡ Some h → last_or (Some x) (filter p xs) ≡ Some h)
-        → ((Some x ≡ Some h → r ≡ Some h) → last_or (Some x) (filter q xs) ≡ Some h → last_or r (filter p xs) ≡ Some h)
-        → (last_or o (filter q xs) ≡ Some h → last_or r (filter p xs) ≡ Some h)
-        → (a b : Bool) → p x ≡ a → q x ≡ b → last_or o (if b then x ∷ filter q xs else filter q xs) ≡ Some h
-        → last_or r (if a then x ∷ filter p xs else filter p xs) ≡ Some h
-    kept_or_not p q o r x xs h up at both taken missed dropped true true pa qb e = taken e
-    kept_or_not p q o r x xs h up at both taken missed dropped true false pa qb e = absurd (both_ways (q x) qb (up x pa))
-    kept_or_not {X} p q o r x xs h up at both taken missed dropped false true pa qb e =
-        missed (λ s. (let same : h ≡ x = cc in let wrong : p h ≡ false = ap p same ∙ pa in absurd (both_ways (p h) wrong at))) e
-    kept_or_not p q o r x xs h up at both taken missed dropped false false pa qb e = dropped e
+    elim (p x) as (λ b. p x ≡ b → last_or r (if b then x ∷ filter p xs else filter p xs) ≡ Some h) [
+      | true ↦ λ here. last_of_both p q (Some x) (Some x) xs h up at (λ s. s)
+          (subst (λ (b : Bool). last_or o (if b then x ∷ filter q xs else filter q xs) ≡ Some h) (up x here) e)
+      | false ↦ λ not_here. elim (q x) as (λ b. last_or o (if b then x ∷ filter q xs else filter q xs) ≡ Some h → last_or r (filter p xs) ≡ Some h) [
+        | true ↦ last_of_both p q (Some x) r xs h up at (λ s.
+            let same : h ≡ x = cc in
+            absurd (both_ways (p h) (ap p same ∙ not_here) at))
+        | false ↦ last_of_both p q o r xs h up at both
+      ] e
+    ] refl
 
 -- the cycle of the last joining
 joining_is_last : (hs : List Happening) (device : DeviceId) → integration_cycle hs device ≡ option_map_or (λ h. Some (cycle_in h))
     (last_or None (filter (λ h. is_joined_by device h.note.body) hs)) None
 joining_is_last hs device =
     fold_last (λ (last : Option ℕ) (h : Happening). if is_joined_by device h.note.body then Some (cycle_in h) else last) (λ (h : Happening). Some (cycle_in h))
-    (λ (h : Happening). is_joined_by device h.note.body) None None hs
-    (λ last h e. rw e refl) (λ last h e. rw e refl)
+    (λ (h : Happening). is_joined_by device h.note.body) None None hs (λ last h e. rw e refl) (λ last h e. rw e refl)
 
 -- a joining of the device, of this cycle
 pub record IsJoining (hs : List Happening) (device : DeviceId) (cycle : ℕ) : Type 0 where
@@ -64,9 +58,6 @@ integration_by : (recorded : ℕ) (o : Option ℕ) → option_map_or (λ cycle. 
 integration_by recorded None e = absurd cc
 integration_by recorded (Some c) e = ap (λ (x : ℕ). Some x) (sym (eqb-true recorded c e))
 
-pub integration_is : (hs : List Happening) (device : DeviceId) → is_integration_cycle hs device ≡ true → IsJoining hs device (recorded_cycle hs device)
-integration_is hs device e = joining_from hs device (recorded_cycle hs device) (integration_by (recorded_cycle hs device) (integration_cycle hs device) e)
-
 pub joining_of_setting : (device : DeviceId) (body : NoteBody) → changes_adjustment device body ≡ true → is_correction body ≡ false
     → is_joined_by device body ≡ true
 joining_of_setting device (notes.Corrected d cycle by adjustment) e other = absurd cc
@@ -85,8 +76,7 @@ joiner_integrates hs device h e changes other =
     let joined = joining_of_setting device h.note.body changes other in
     let last = last_of_both joins _ None None hs h (λ g j. joined_changes device g.note.body j) joined (λ s. s) e in
     let at = joining_is_last hs device ∙ ap (λ (o : Option Happening). option_map_or (λ g. Some (cycle_in g)) o None) last in
-    let recorded : recorded_cycle hs device ≡ cycle_in h =
-    next_cycle_is_of_last hs device ∙ ap next_of e
+    let recorded : recorded_cycle hs device ≡ cycle_in h = next_cycle_is_of_last hs device ∙ ap next_of e
     ∙ ap (λ (b : Bool). if b then cycle_set h h.note.body + 1 else cycle_set h h.note.body) other ∙ set_by_joining h h.note.body other in (
       ap (λ (o : Option ℕ). option_map_or (λ cycle. recorded_cycle hs device == cycle) o false) at ∙ eq-eqb (recorded_cycle hs device) (cycle_in h) recorded,
       recorded,
@@ -143,66 +133,55 @@ had_cleared v (suc c) t device before is from has old h e joined =
       | inr cleared ↦ cleared.1
     ]
 
--- its number, by what set its clock last
-number_by : (v : View) (n t : ℕ) (device : DeviceId) (before : Stands v n) → IsView v → before.next ≤ t → HasTimeAt v device t → IsOldAt v before.next device t
-    → (o : Option Happening) → last_setting (earlier t v.records) device ≡ o → (cleared : Bool) → has_cleared v.scenario v.records device t t ≡ cleared
-    → (if cleared then recorded_cycle (earlier t v.records) device + 1 else recorded_cycle (earlier t v.records) device) ≡ suc n
-number_by v n t device before is from has old o e cleared c =
-    let timed = time_stays v device before.next t is from old has.timed in
-    let set = before.clocks device (record { good = has.good; timed = timed }) in
-    let index : option_map_or (λ h. cycle_set h h.note.body) o 0 ≡ n = ap (λ (x : Option Happening). option_map_or (λ h. cycle_set h h.note.body) x 0) (sym e)
-    ∙ ap (λ (x : Option Happening). option_map_or (λ h. cycle_set h h.note.body) x 0) (sym (settings_stay v device before.next t is from old)) ∙ set.index in
-    by o e cleared c index (next_cycle_is_of_last (earlier t v.records) device ∙ ap next_of e) timed
-  where
-    -- where a device has cleared, it joined in an earlier cycle
-    earlier_join : is_integration_cycle (earlier t v.records) device ≡ true → recorded_cycle (earlier t v.records) device ≤ n
-    earlier_join at =
-        let j = integration_is (earlier t v.records) device at in
-        let back = in_earlier t v.records j.h j.there in
-        let changes = joined_changes device j.h.note.body j.joins in
-        let sets = λ (h : Happening). changes_adjustment device h.note.body in
-        let early : time_of j.h < before.next =
-        elim (cases_lt (time_of j.h) before.next) [
-          | inl lt ↦ lt
-          | inr ge ↦ (let i : IsIn j.h [] = subst (IsIn j.h) (none_between v device before.next t is from old)
-              (in_kept sets (between before.next t v.records) j.h (is_between before.next t v.records j.h back.0 ge back.1) changes) in absurd i)
-        ] in
-        omega (arith, before.joined j.h device back.0 j.joins has.good early, j.of_cycle)
+-- by what set its clock last, its number is that of the block's cycle, or it has cleared and its number is the one before
+set_or_cleared : (v : View) (n t : ℕ) (device : DeviceId) (before : Stands v n) → IsView v → before.next ≤ t → HasTimeAt v device before.next
+    → IsOldAt v before.next device t → (o : Option Happening) → last_setting (earlier t v.records) device ≡ o
+    → option_map_or (λ h. cycle_set h h.note.body) o 0 ≡ n → (recorded_cycle (earlier t v.records) device ≡ suc n)
+    ⊎ ((recorded_cycle (earlier t v.records) device ≡ n) × (has_cleared v.scenario v.records device t t ≡ true))
+set_or_cleared v n t device before is from has old None e index = inl (omega (arith, index, next_cycle_is_of_last (earlier t v.records) device ∙ ap next_of e))
+set_or_cleared v n t device before is from has old (Some h) e index =
+    let recorded = next_cycle_is_of_last (earlier t v.records) device ∙ ap next_of e in
+    let number = λ (b : Bool). if b then cycle_set h h.note.body + 1 else cycle_set h h.note.body in
+    elim (is_correction h.note.body) as (λ b. is_correction h.note.body ≡ b → (recorded_cycle (earlier t v.records) device ≡ suc n)
+    ⊎ ((recorded_cycle (earlier t v.records) device ≡ n) × (has_cleared v.scenario v.records device t t ≡ true))) [
+      | true ↦ λ corrected. inl (omega (arith, index, recorded, ap number corrected))
+      | false ↦ λ joined.
+          let integrates = joiner_integrates (earlier t v.records) device h e (setting_is v device t h e).sets joined in
+          let first = had_cleared v n t device before is from has old h e joined in
+          inr (omega (arith, index, recorded, ap number joined), cleared_from v device before.next t t is from from old integrates.0 first)
+    ] refl
 
-    by : (o : Option Happening) → last_setting (earlier t v.records) device ≡ o → (cleared : Bool) → has_cleared v.scenario v.records device t t ≡ cleared
-        → option_map_or (λ h. cycle_set h h.note.body) o 0 ≡ n → recorded_cycle (earlier t v.records) device ≡ next_of o
-        → has_time (state_left v device before.next) ≡ true
-        → (if cleared then recorded_cycle (earlier t v.records) device + 1 else recorded_cycle (earlier t v.records) device) ≡ suc n
-    by None e true c index recorded timed =
-        let at = (and_parts (is_integration_cycle (earlier t v.records) device) _ c).0 in
-        absurd (omega (arith, index, recorded, earlier_join at))
-    by None e false c index recorded timed = omega (arith, index, recorded)
-    by (Some h) e cleared c index recorded timed = some_by h e cleared c index recorded timed (is_correction h.note.body) refl
-      where
-        some_by : (h : Happening) → last_setting (earlier t v.records) device ≡ Some h → (cleared : Bool)
-            → has_cleared v.scenario v.records device t t ≡ cleared → cycle_set h h.note.body ≡ n → recorded_cycle (earlier t v.records) device ≡ next_of
-            (Some h) → has_time (state_left v device before.next) ≡ true → (b : Bool) → is_correction h.note.body ≡ b
-            → (if cleared then recorded_cycle (earlier t v.records) device + 1 else recorded_cycle (earlier t v.records) device) ≡ suc n
-        some_by h e true c index recorded timed true corrected =
-            let at = (and_parts (is_integration_cycle (earlier t v.records) device) _ c).0 in
-            let shown : recorded_cycle (earlier t v.records) device ≡ cycle_set h h.note.body + 1 = recorded
-            ∙ ap (λ (b : Bool). if b then cycle_set h h.note.body + 1 else cycle_set h h.note.body) corrected in
-            absurd (omega (arith, index, shown, earlier_join at))
-        some_by h e false c index recorded timed true corrected =
-            let shown : recorded_cycle (earlier t v.records) device ≡ cycle_set h h.note.body + 1 = recorded
-            ∙ ap (λ (b : Bool). if b then cycle_set h h.note.body + 1 else cycle_set h h.note.body) corrected in
-            omega (arith, index, shown)
-        some_by h e true c index recorded timed false joined =
-            let shown : recorded_cycle (earlier t v.records) device ≡ cycle_set h h.note.body = recorded
-            ∙ ap (λ (b : Bool). if b then cycle_set h h.note.body + 1 else cycle_set h h.note.body) joined in
-            omega (arith, index, shown)
-        some_by h e false c index recorded timed false joined =
-            let integrates = joiner_integrates (earlier t v.records) device h e (setting_is v device t h e).sets joined in
-            let first = had_cleared v n t device before is from (record { good = has.good; timed = timed }) old h e joined in
-            absurd (both_ways (has_cleared v.scenario v.records device t t) c (cleared_from v device before.next t t is from from old integrates.0 first))
+-- where a device has cleared, it joined in an earlier cycle
+earlier_join : (v : View) (n t : ℕ) (device : DeviceId) (before : Stands v n) → IsView v → before.next ≤ t → IsGood v device → IsOldAt v before.next device t
+    → is_integration_cycle (earlier t v.records) device ≡ true → recorded_cycle (earlier t v.records) device ≤ n
+earlier_join v n t device before is from good old at =
+    let hs = earlier t v.records in
+    let j = joining_from hs device (recorded_cycle hs device) (integration_by (recorded_cycle hs device) (integration_cycle hs device) at) in
+    let back = in_earlier t v.records j.h j.there in
+    let early : time_of j.h < before.next = elim (cases_lt (time_of j.h) before.next) [
+      | inl lt ↦ lt
+      | inr ge ↦ absurd (both_ways (changes_adjustment device j.h.note.body) (sets_none v device before.next t is from old j.h back.0 ge back.1)
+          (joined_changes device j.h.note.body j.joins))
+    ] in
+    omega (arith, before.joined j.h device back.0 j.joins good early, j.of_cycle)
 
 -- the number of an old device is that of the block's cycle
 pub old_number : (v : View) (n t : ℕ) (device : DeviceId) (before : Stands v n) → IsView v → before.next ≤ t → HasTimeAt v device t
     → IsOldAt v before.next device t → next_cycle v.scenario v.records device t ≡ suc n
 old_number v n t device before is from has old =
-    number_by v n t device before is from has old (last_setting (earlier t v.records) device) refl (has_cleared v.scenario v.records device t t) refl
+    let then_has : HasTimeAt v device before.next = record { good = has.good; timed = time_stays v device before.next t is from old has.timed } in
+    let recorded = recorded_cycle (earlier t v.records) device in
+    let number = λ (b : Bool). if b then recorded + 1 else recorded in
+    let index = ap (λ (x : Option Happening). option_map_or (λ h. cycle_set h h.note.body) x 0) (sym (settings_stay v device before.next t is from old))
+    ∙ (before.clocks device then_has).index in
+    let which = set_or_cleared v n t device before is from then_has old _ refl index in
+    elim (cases_Bool (has_cleared v.scenario v.records device t t)) [
+      | inl cleared ↦
+          let at = (and_parts (is_integration_cycle (earlier t v.records) device) _ cleared).0 in
+          let small = earlier_join v n t device before is from has.good old at in
+          ap number cleared ∙ elim which [ inl more ↦ absurd (omega (arith, more, small)) | inr so ↦ (let one = so.0 in omega (arith, one)) ]
+      | inr not_cleared ↦ ap number not_cleared ∙ elim which [
+        | inl more ↦ more
+        | inr so ↦ absurd (both_ways (has_cleared v.scenario v.records device t t) not_cleared so.1)
+      ]
+    ]

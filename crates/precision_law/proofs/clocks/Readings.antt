@@ -1,28 +1,22 @@
 -- How the clocks of a lawful scenario read.
-use Rattle.precision_law.proofs.words.Std.{◌*◌, ◌+◌, ◌-◌, ◌/◌, ◌<ℤ◌, ◌<◌, ◌^◌, ◌≡◌, ◌≤ℤ◌, ◌≤◌, arith, by_lt_z, cases_lt, inl, inr, ints, mul-le-mul_left, pos, refl, suc, zero, ℕ, ℤ}
+use Rattle.precision_law.proofs.words.Std.{◌*◌, ◌+◌, ◌-◌, ◌/◌, ◌<ℤ◌, ◌<◌, ◌^◌, ◌≡◌, ◌≤ℤ◌, ◌≤◌, arith, by_lt_z, cases_lt, inl, inr, ints, mul-le-mul_left, pos, suc, zero, ℕ, ℤ}
 use Rattle.precision_law.proofs.words.Plans.{IsReach, amount}
 use Rattle.precision_law.proofs.words.Laws.{ClocksAreSteady, IsSteady, PermanenceIsSharp, ReachIsSharp, ReachIsThere, RipeInOrder, ShortByReading, Sizes}
 
 -- ---- what the clock laws give
-
--- the numbers alone: over at most two cycles a reading goes on by the time, but for the drift
-drifts : (rho grain cycle d a b real : ℕ) → real ≤ 2 * cycle → d ≡ 2 * rho * cycle / 10 ^ 9 + 2 * grain → a ≤ b
-    → 10 ^ 9 * (b - a) ≤ 10 ^ 9 * real + rho * real + 2 * grain * 10 ^ 9 → 10 ^ 9 * real ≤ 10 ^ 9 * (b - a) + rho * real + 2 * grain * 10 ^ 9
-    → (b ≤ a + real + d) × (a + real ≤ b + d)
-drifts rho grain cycle d a b real within is up most least =
-    let drift : rho * real ≤ rho * (2 * cycle) = mul-le-mul_left rho within in
-    let floor : 2 * rho * cycle < 10 ^ 9 * (2 * rho * cycle / 10 ^ 9 + 1) = omega arith in
-    let same : rho * (2 * cycle) ≡ 2 * rho * cycle = omega arith in
-    (omega arith, omega arith)
 
 pub clocks_are_steady : ClocksAreSteady
 clocks_are_steady s path device lawful =
     let n = s.network in
     let laws = lawful.clocks device in
     let reading = s.reading device in
-    let both : (a b : ℕ) → a ≤ b → b ≤ a + 2 * amount n.cycle → _ = λ a b le within.
-    drifts n.rho (amount n.grain) (amount n.cycle) (2 * n.rho * amount n.cycle / 10 ^ 9 + 2 * amount n.grain) (reading a) (reading b) (b - a) (omega arith) refl
-    (laws.never_falls a b le) (omega (arith, laws.drifts a b le)) (omega (arith, laws.drifts a b le)) in
+    let both : (a b : ℕ) → a ≤ b → b ≤ a + 2 * amount n.cycle → (reading b ≤ reading a + (b - a) + (2 * n.rho * amount n.cycle / 10 ^ 9 + 2 * amount n.grain))
+    × (reading a + (b - a) ≤ reading b + (2 * n.rho * amount n.cycle / 10 ^ 9 + 2 * amount n.grain)) = λ a b le within.
+    let drift : n.rho * (b - a) ≤ n.rho * (2 * amount n.cycle) = mul-le-mul_left n.rho (omega (arith, within)) in
+    let floor : 2 * n.rho * amount n.cycle < 10 ^ 9 * (2 * n.rho * amount n.cycle / 10 ^ 9 + 1) = omega arith in
+    let facts = laws.drifts a b le in
+    let up = laws.never_falls a b le in
+    (omega (arith, drift, floor, facts, up), omega (arith, drift, floor, facts, up)) in
     record {
       begins = lawful.begins device;
       never_falls = laws.never_falls;
@@ -74,8 +68,7 @@ first_of_all n reading from x v zero steady le below above =
     let here = rw same at above in
     absurd (omega (arith, ints, here, below))
 first_of_all n reading from x v (suc more) steady le below above =
-    by_lt_z {P = (u : ℕ) × (x < u) × (u ≤ x + suc more) × IsReach reading (pos from) v (pos u)} (pos (reading (x + more))) v
-    (λ less. (
+    by_lt_z {P = (u : ℕ) × (x < u) × (u ≤ x + suc more) × IsReach reading (pos from) v (pos u)} (pos (reading (x + more))) v (λ less. (
       x + suc more,
       omega arith,
       omega arith,

@@ -1,9 +1,9 @@
 -- How a device hears that has had a common time since before the block.
-use Rattle.precision_law.proofs.words.Std.{◌&&◌, ◌<ℤ◌, ◌<◌, ◌==◌, ◌||◌, ◌∙◌, ◌≡◌, ◌≤◌, Bool, List, and_parts, ap, arith, both_ways, cases_lt, eqb-true, false, false_from_ne_true, filter, if◌then◌else◌, inl, inr, ints, lt-ltb, nat_lt, pos, refl, subst, true, ℕ}
+use Rattle.precision_law.proofs.words.Std.{◌&&◌, ◌<ℤ◌, ◌<◌, ◌==◌, ◌||◌, ◌∙◌, ◌≡◌, ◌≤◌, Bool, List, and_parts, ap, arith, both_ways, cases_lt, eqb-true, false, false_from_ne_true, filter, if◌then◌else◌, inl, inr, ints, lt-ltb, nat_lt, pos, refl, true, ℕ}
 use Rattle.precision_law.proofs.words.Plans.{DeviceId, Integrating, Joining, Units}
 use Rattle.precision_law.proofs.words.Runs.{Happening, IsIn, adjustment_after, adjustment_at_hearing, changes_adjustment, earlier, has_joined_at, is_joined_by, state_after, state_at_hearing, state_before, time_of}
 use Rattle.precision_law.proofs.words.Laws.{IsView, View, adjustment_left, epoch_time, has_time, state_left}
-use Rattle.precision_law.proofs.words.Clocks.{adjustment_stays, any_in, between, in_kept, is_between, joined_changes, none_between, same_kept, time_stays}
+use Rattle.precision_law.proofs.words.Clocks.{adjustment_stays, any_in, joined_changes, same_kept, sets_none, time_stays}
 use Rattle.precision_law.proofs.faults.Turned.{not_turned_on_then}
 
 -- records of the view up to a time, among them all of earlier times
@@ -16,15 +16,6 @@ pub record AreUpTo (v : View) (q : ℕ) (hs : List Happening) : Type 0 where
 pub record HearsAsAt (v : View) (t q : ℕ) (device : DeviceId) (hs : List Happening) : Type 0 where
   pub state : has_time (state_at_hearing v.scenario hs device q) ≡ true
   pub adjustment : (adjustment_at_hearing v.scenario hs device q).0 ≡ adjustment_left v device t
-
--- a record between sets no clock that was set before
-pub sets_none : (v : View) (device : DeviceId) (from t : ℕ) → IsView v → from ≤ t → epoch_time (earlier t v.records) device <ℤ pos from → (h : Happening)
-    → IsIn h v.records → from ≤ time_of h → time_of h < t → changes_adjustment device h.note.body ≡ false
-sets_none v device from t is le old h i late early =
-    false_from_ne_true (changes_adjustment device h.note.body) (λ sets.
-    let kept = in_kept (λ (x : Happening). changes_adjustment device x.note.body) (between from t v.records) h (is_between from t v.records h i late early) sets
-    in
-    absurd (subst (IsIn h) (none_between v device from t is le old) kept))
 
 -- so none tells it the time
 pub joins_none : (v : View) (device : DeviceId) (from t : ℕ) → IsView v → from ≤ t → epoch_time (earlier t v.records) device <ℤ pos from → (h : Happening)

@@ -1,11 +1,12 @@
 -- The base of a compressed frame lies in the hull of its cycle.
-use Rattle.precision_law.proofs.words.Std.{◌*◌, ◌+ℤ◌, ◌+◌, ◌-ℤ◌, ◌-◌, ◌<◌, ◌∙◌, ◌∷◌, ◌≡◌, ◌≤ℤ◌, ◌≤◌, ◌⊎◌, List, Some, [], ap, arith, bit_at, cases_lt, inl, inr, ints, length, map, negsuc, pos, refl, subst, suc, sym, ℕ, ℤ}
-use Rattle.precision_law.proofs.words.Plans.{DeviceId, LiesWithin, Members, Ordered, Point, count_of, last_from, mean_of, mean_of-floor, members_of, middle_among_others, middle_from_first_to_last, middle_point}
-use Rattle.precision_law.proofs.words.Runs.{Happening, IsIn, founded_at, same_some, time_of}
-use Rattle.precision_law.proofs.words.Laws.{AreGood, BasesAreInHulls, BasesAreNearHulls, HaveRoom, Hull, IsBaseIn, IsEmission, IsSteady, IsTidyBefore, IsView, Sizes, View, base_of, hull_of}
+use Rattle.precision_law.proofs.words.Std.{◌*◌, ◌+ℤ◌, ◌+◌, ◌-ℤ◌, ◌-◌, ◌<◌, ◌∙◌, ◌∷◌, ◌≡◌, ◌≤ℤ◌, ◌≤◌, ◌⊎◌, List, Some, [], ap, arith, cases_lt, inl, inr, ints, length, map, negsuc, pos, refl, subst, sym, ℕ, ℤ}
+use Rattle.precision_law.proofs.words.Plans.{DeviceId, LiesWithin, Members, Ordered, Point, count_of, last_from, mean_of-floor, members_of, middle_among_others, middle_from_first_to_last, middle_point}
+use Rattle.precision_law.proofs.words.Runs.{Happening, IsIn, same_some, time_of}
+use Rattle.precision_law.proofs.words.Laws.{AreGood, BasesAreInHulls, BasesAreNearHulls, Hull, IsBaseIn, IsEmission, IsSteady, IsTidyBefore, IsView, Sizes, View, base_of, hull_of}
 use Rattle.precision_law.proofs.words.Clocks.{Apart, all_but_one, ascending_from, few_members, one_member, room, short_by_reading, steady}
 use Rattle.precision_law.proofs.compression.Emitted.{emissions_are_sharp}
-use Rattle.precision_law.proofs.compression.Made.{IsBadPoint, IsGoodPoint, IsMade, bad_is_one, good_member_point, made_of, member_of_point, not_both, point_is, three_have_good}
+use Rattle.precision_law.proofs.compression.Made.{IsBadPoint, IsGoodPoint, bad_is_one, good_member_point, good_or_bad_point, is_of_member, made, not_both, three_have_good}
+use Rattle.std.proofs.lemmas.List.{length-map}
 
 -- ---- numbers
 
@@ -28,37 +29,6 @@ sooner_by n reading b s gap steady short le =
       | inl lt ↦ omega (arith, steady.slow b s (omega arith) (omega (arith, short_by_reading n reading b s steady (omega arith) (omega arith))), le)
     ]
 
--- what the sizes leave
-gaps_fit : (n : Sizes) (slack : ℕ) → HaveRoom n → slack ≤ n.precision → (2 * n.grain + slack + 1 ≤ n.compression)
-    × (n.compression + slack + 2 * n.grain + n.drift < 2 * n.cycle)
-gaps_fit n slack space small =
-    let e = space.errors in (
-      (omega (arith, space, e, small)),
-      (let a = space.compression_most in let b = space.eight_errors in let c = e.reach_is in let d = e.clock_is in let f = space.cycles in omega
-          (arith, a, b, c, d, f, small)),
-    )
-
--- the times between which a frame is sent whose middle lies so
-record IsSentNear (n : Sizes) (low high : ℤ) (s slack : ℕ) : Type 0 where
-  pub least : ((low +ℤ pos n.dmax) +ℤ pos n.compression) ≤ℤ (pos s +ℤ pos (n.base + slack))
-  pub most : pos s ≤ℤ (((high +ℤ pos n.dmax) +ℤ pos n.compression) +ℤ pos (n.base + slack))
-
-sent_near : (n : Sizes) (reading : ℕ → ℕ) (low high middle : ℤ) (a b s slack : ℕ) → IsSteady n reading → HaveRoom n → slack ≤ n.precision
-    → (low +ℤ pos n.dmax) ≤ℤ pos (a + n.path) → pos b ≤ℤ (high +ℤ pos (n.dmax + n.path))
-    → pos (reading a) ≤ℤ (middle +ℤ pos (2 * n.grain + slack)) → middle ≤ℤ pos (reading b + slack)
-    → (middle +ℤ pos n.compression) ≤ℤ pos (reading s) → pos (reading s) ≤ℤ ((middle +ℤ pos n.compression) +ℤ pos (2 * n.grain))
-    → IsSentNear n low high s slack
-sent_near n reading low high middle a b s slack steady space small from to above below reached sharp =
-    let fit = gaps_fit n slack space small in
-    let base = space.errors.base_is in
-    let gap : ℕ = n.compression - (2 * n.grain + slack) in
-    let gap_is : gap + (2 * n.grain + slack) ≡ n.compression = omega (arith, fit.0) in
-    let late = later_by n reading a s gap steady (omega (arith, fit.1, gap_is)) (omega (arith, ints, above, reached, gap_is)) (omega (arith, fit.0, gap_is)) in
-    record {
-      least = omega (arith, ints, late, from, gap_is, base);
-      most = omega (arith, ints, sooner_by n reading b s (n.compression + slack + 2 * n.grain) steady fit.1 (omega (arith, ints, below, sharp)), to, base);
-    }
-
 -- ---- middles
 
 -- the last of points that lie within bounds does
@@ -66,12 +36,6 @@ last_within : (low high p : ℤ) (qs : List Point) → LiesWithin low high p →
     → LiesWithin low high (last_from p (map (λ q. q.reading) qs))
 last_within low high p [] at each = at
 last_within low high p (q ∷ qs) at each = last_within low high q.reading qs (each q (inl refl)) (λ x i. each x (inr i))
-
--- of two points the middle is near each
-two_near : (low high a b : ℤ) (width : ℕ) → a ≤ℤ b → b ≤ℤ (a +ℤ pos (2 * width)) → LiesWithin low high a ⊎ LiesWithin low high b
-    → LiesWithin (low -ℤ pos width) (high +ℤ pos width) (a +ℤ mean_of (a -ℤ a) (b -ℤ a))
-two_near low high a b width up close (inl at) = (let m = mean_of-floor (a -ℤ a) (b -ℤ a) in (omega (arith, ints), omega (arith, ints)))
-two_near low high a b width up close (inr at) = (let m = mean_of-floor (a -ℤ a) (b -ℤ a) in (omega (arith, ints), omega (arith, ints)))
 
 -- ---- the bounds of an emission
 
@@ -85,6 +49,10 @@ has_least : (z : ℤ) → HasLeast z
 has_least (pos n) = record { n = n; above = omega (arith, ints); least = λ q le. omega (arith, ints, le) }
 has_least (negsuc n) = record { n = 0; above = omega (arith, ints); least = λ q le. omega arith }
 
+-- the reading lies between those of the compression master at the two times
+abbrev LiesBetween : View → DeviceId → ℕ → ℕ → ℤ → Type 0
+LiesBetween v cm a b z = LiesWithin (pos (v.scenario.reading cm a) -ℤ pos (2 * v.sizes.grain)) (pos (v.scenario.reading cm b)) z
+
 -- the times between which what dispatches of the cycle make is permanent
 record HasBounds (v : View) (cm : DeviceId) (cycle by : ℕ) : Type 0 where
   pub hull : Hull
@@ -93,8 +61,7 @@ record HasBounds (v : View) (cm : DeviceId) (cycle by : ℕ) : Type 0 where
   pub b : ℕ
   pub from : (hull.least +ℤ pos v.sizes.dmax) ≤ℤ pos (a + v.sizes.path)
   pub to : pos b ≤ℤ (hull.greatest +ℤ pos (v.sizes.dmax + v.sizes.path))
-  pub each : (q : Point) → q.cycle ≡ cycle → IsGoodPoint v cm by q → LiesWithin (pos (v.scenario.reading cm a) -ℤ pos (2 * v.sizes.grain))
-      (pos (v.scenario.reading cm b)) q.reading
+  pub each : (q : Point) → q.cycle ≡ cycle → IsGoodPoint v cm by q → LiesBetween v cm a b q.reading
 
 bounds_of : (v : View) (cm : DeviceId) (cycle by : ℕ) (q : Point) → IsView v → IsTidyBefore v by → q.cycle ≡ cycle → IsGoodPoint v cm by q
     → HasBounds v cm cycle by
@@ -127,102 +94,13 @@ bounds_of v cm cycle by q is tidy of_cycle good =
     top (pos n) l le = (let up = l.above in let down = l.least n (omega (arith, ints)) in omega (arith, ints, up, down))
     top (negsuc n) l le = absurd (omega (arith, ints, le))
 
--- where the middle lies so, the frame is sent so
-sent_so : (v : View) (h : Happening) (cm : DeviceId) (cycle : ℕ) (members : Members) (slack : ℕ) (is : IsView v) (e : IsEmission v h cm cycle members)
-    (m : IsMade v h cm cycle members e.at.0 (founded_at v.scenario v.records h is.run.founded e.there).front) (bounds : HasBounds v cm cycle (time_of h))
-    → slack ≤ v.sizes.precision
-    → LiesWithin ((pos (v.scenario.reading cm bounds.a) -ℤ pos (2 * v.sizes.grain)) -ℤ pos slack) (pos (v.scenario.reading cm bounds.b) +ℤ pos slack)
-    (middle_point (map (λ q. q.reading) (m.first ∷ m.more)))
-    → IsSentNear v.sizes bounds.hull.least bounds.hull.greatest (time_of h) slack
-sent_so v h cm cycle members slack is e m bounds small lies =
-    let sharp = emissions_are_sharp v h cm cycle members e is in
-    let middle : ℤ = middle_point (map (λ q. q.reading) (m.first ∷ m.more)) in
-    sent_near v.sizes (v.scenario.reading cm) bounds.hull.least bounds.hull.greatest middle bounds.a bounds.b (time_of h) slack (steady v is cm) (room v is)
-    small bounds.from bounds.to (omega (arith, ints)) (omega (arith, ints)) (omega (arith, ints)) (omega (arith, ints))
-
-many_readings : (qs : List Point) → length (map (λ q. q.reading) qs) ≡ length qs
-many_readings [] = refl
-many_readings (q ∷ qs) = ap suc (many_readings qs)
-
--- each point lies within the bounds, or is a broken master's
-within_or_bad : (v : View) (h : Happening) (cm : DeviceId) (cycle : ℕ) (members : Members) (is : IsView v) (e : IsEmission v h cm cycle members)
-    (m : IsMade v h cm cycle members e.at.0 (founded_at v.scenario v.records h is.run.founded e.there).front) (bounds : HasBounds v cm cycle (time_of h))
-    → (q : Point) → IsIn q (m.first ∷ m.more) → LiesWithin (pos (v.scenario.reading cm bounds.a) -ℤ pos (2 * v.sizes.grain))
-    (pos (v.scenario.reading cm bounds.b)) q.reading ⊎ IsBadPoint v q
-within_or_bad v h cm cycle members is e m bounds q i =
-    let counted = m.each q i in
-    elim (point_is v h cm q is (founded_at v.scenario v.records h is.run.founded e.there) m.is_cm_one counted.there) [
-      | inl good ↦ inl (bounds.each q counted.of_cycle good)
-      | inr bad ↦ inr bad
-    ]
-
--- the middle of three or more lies within the bounds
-three_lie : (v : View) (h : Happening) (cm : DeviceId) (cycle : ℕ) (members : Members) (is : IsView v) (e : IsEmission v h cm cycle members)
-    (m : IsMade v h cm cycle members e.at.0 (founded_at v.scenario v.records h is.run.founded e.there).front) (bounds : HasBounds v cm cycle (time_of h))
-    → 3 ≤ length (m.first ∷ m.more)
-    → LiesWithin (pos (v.scenario.reading cm bounds.a) -ℤ pos (2 * v.sizes.grain)) (pos (v.scenario.reading cm bounds.b))
-    (middle_point (map (λ q. q.reading) (m.first ∷ m.more)))
-three_lie v h cm cycle members is e m bounds many =
-    let low : ℤ = pos (v.scenario.reading cm bounds.a) -ℤ pos (2 * v.sizes.grain) in
-    let high : ℤ = pos (v.scenario.reading cm bounds.b) in
-    middle_among_others (map (λ q. q.reading) (m.first ∷ m.more)) low high (let same = many_readings (m.first ∷ m.more) in omega (arith, same, many))
-    (ascending_from (m.first ∷ m.more) m.ordered)
-    (all_but_one low high (IsBadPoint v) (m.first ∷ m.more) m.differ (within_or_bad v h cm _ _ is e m bounds) (λ p q i j a b. bad_is_one v p q is a b))
-
--- so does that of any number of good ones
+-- the middle of any number of points within bounds lies within them
 good_lie : (low high : ℤ) (first : Point) (more : List Point) → Ordered (first ∷ more) → ((q : Point) → IsIn q (first ∷ more) → LiesWithin low high q.reading)
     → LiesWithin low high (middle_point (map (λ q. q.reading) (first ∷ more)))
 good_lie low high first more up each =
     let middle = middle_from_first_to_last first.reading (map (λ q. q.reading) more) (ascending_from (first ∷ more) up) in
     let at = each first (inl refl) in
     (omega (arith, ints, middle.0, at.0), omega (arith, ints, middle.1, (last_within low high first.reading more at (λ x i. each x (inr i))).1))
-
--- all points of good members are good
-all_good : (v : View) (h : Happening) (cm : DeviceId) (cycle : ℕ) (members : Members) (is : IsView v) (e : IsEmission v h cm cycle members)
-    (m : IsMade v h cm cycle members e.at.0 (founded_at v.scenario v.records h is.run.founded e.there).front) → AreGood v members
-    → (q : Point) → IsIn q (m.first ∷ m.more) → IsGoodPoint v cm (time_of h) q
-all_good v h cm cycle members is e m are q i =
-    elim (point_is v h cm q is (founded_at v.scenario v.records h is.run.founded e.there) m.is_cm_one (m.each q i).there) [
-      | inl good ↦ good
-      | inr bad ↦
-          let good = are q.master (ap (λ (x : ℕ). bit_at x q.master) m.members_are ∙ member_of_point (m.first ∷ m.more) q i) in
-          absurd (not_both v good.0 bad.master good.2 bad.bad (one_member v good.0 bad.master q.master is good.1 bad.is_member))
-    ]
-
-sharp_base : (v : View) (h : Happening) (cm : DeviceId) (cycle : ℕ) (members : Members) (is : IsView v) (e : IsEmission v h cm cycle members)
-    (m : IsMade v h cm cycle members e.at.0 (founded_at v.scenario v.records h is.run.founded e.there).front) (bounds : HasBounds v cm cycle (time_of h))
-    → LiesWithin (pos (v.scenario.reading cm bounds.a) -ℤ pos (2 * v.sizes.grain)) (pos (v.scenario.reading cm bounds.b))
-    (middle_point (map (λ q. q.reading) (m.first ∷ m.more)))
-    → IsBaseIn v cycle v.sizes.base (base_of v.sizes (time_of h))
-sharp_base v h cm cycle members is e m bounds lies =
-    let near = sent_so v h cm cycle members 0 is e m bounds (omega arith) (omega (arith, ints, lies.0), omega (arith, ints, lies.1)) in
-    record { hull = bounds.hull; is = bounds.is; least = omega (arith, ints, near.least); most = omega (arith, ints, near.most) }
-
-near_base : (v : View) (h : Happening) (cm : DeviceId) (cycle : ℕ) (members : Members) (is : IsView v) (e : IsEmission v h cm cycle members)
-    (m : IsMade v h cm cycle members e.at.0 (founded_at v.scenario v.records h is.run.founded e.there).front) (bounds : HasBounds v cm cycle (time_of h))
-    → LiesWithin ((pos (v.scenario.reading cm bounds.a) -ℤ pos (2 * v.sizes.grain)) -ℤ pos v.sizes.precision)
-    (pos (v.scenario.reading cm bounds.b) +ℤ pos v.sizes.precision) (middle_point (map (λ q. q.reading) (m.first ∷ m.more)))
-    → IsBaseIn v cycle (v.sizes.base + v.sizes.precision) (base_of v.sizes (time_of h))
-near_base v h cm cycle members is e m bounds lies =
-    let near = sent_so v h cm cycle members v.sizes.precision is e m bounds (omega arith) lies in
-    record { hull = bounds.hull; is = bounds.is; least = omega (arith, ints, near.least); most = omega (arith, ints, near.most) }
-
-pub bases_are_in_hulls : BasesAreInHulls
-bases_are_in_hulls v h cm cycle members is e tidy which =
-    let m = made_of v h cm cycle members is e in
-    elim which [
-      | inl many ↦
-          let good = three_have_good v h cm cycle members is e many in
-          let p = good_member_point v h cm cycle members is e m good.0 good.1 good.2 in
-          let bounds = bounds_of v cm cycle (time_of h) p.0 is tidy (m.each p.0 p.1).of_cycle p.2 in
-          let same : count_of members ≡ count_of (record { 0 = members_of (m.first ∷ m.more) }) = ap (λ (x : ℕ). count_of (record { 0 = x })) m.members_are in
-          sharp_base v h cm _ _ is e m bounds (three_lie v h cm _ _ is e m bounds (omega (arith, few_members (m.first ∷ m.more), same, many)))
-      | inr are ↦
-          let bounds = bounds_of v cm _ _ _ is tidy (m.each m.first (inl refl)).of_cycle (all_good v h cm _ _ is e m are m.first (inl refl)) in
-          sharp_base v h cm cycle members is e m bounds
-          (good_lie (pos (v.scenario.reading cm bounds.a) -ℤ pos (2 * v.sizes.grain)) (pos (v.scenario.reading cm bounds.b)) m.first m.more m.ordered
-          (λ q i. bounds.each q (m.each q i).of_cycle (all_good v h cm cycle members is e m are q i)))
-    ]
 
 -- the middle of points of which one lies within bounds, and all but one do, is near them
 near_lie : (v : View) (low high : ℤ) (first : Point) (more : List Point) (q : Point) → IsView v → Ordered (first ∷ more) → Apart (first ∷ more)
@@ -236,22 +114,109 @@ near_lie v low high first [] q is up differ close each (inl same) at =
     (omega (arith, ints, m.0, here.0), omega (arith, ints, m.1, here.1))
 near_lie v low high first [] q is up differ close each (inr i) at = absurd i
 near_lie v low high first (next ∷ []) q is up differ close each i at =
-    two_near low high first.reading next.reading v.sizes.precision up.0.0 (close next (inr (inl refl))) (elim i [
+    let m = mean_of-floor (first.reading -ℤ first.reading) (next.reading -ℤ first.reading) in
+    let order : first.reading ≤ℤ next.reading = up.0.0 in
+    let near = close next (inr (inl refl)) in
+    let which : LiesWithin low high first.reading ⊎ LiesWithin low high next.reading = elim i [
       | inl same ↦ inl (subst (λ (x : Point). LiesWithin low high x.reading) same at)
       | inr (inl same) ↦ inr (subst (λ (x : Point). LiesWithin low high x.reading) same at)
       | inr (inr none) ↦ absurd none
-    ])
+    ] in
+    elim which [ inl one ↦ (omega (arith, ints), omega (arith, ints)) | inr other ↦ (omega (arith, ints), omega (arith, ints)) ]
 near_lie v low high first (next ∷ third ∷ more) q is up differ close each i at =
     let middle = middle_among_others (map (λ q. q.reading) (first ∷ next ∷ third ∷ more)) low high (omega arith)
     (ascending_from (first ∷ next ∷ third ∷ more) up)
     (all_but_one low high (IsBadPoint v) (first ∷ next ∷ third ∷ more) differ each (λ p q i j a b. bad_is_one v p q is a b)) in
     (omega (arith, ints, middle.0), omega (arith, ints, middle.1))
 
+-- ---- the base of what is sent
+
+module _ (v : View) (h : Happening) (cm : DeviceId) (cycle : ℕ) (members : Members) (is : IsView v) (e : IsEmission v h cm cycle members) where
+  abbrev points : List Point
+  points = (made v h cm cycle members is e).first ∷ (made v h cm cycle members is e).more
+
+  abbrev middle : ℤ
+  middle = middle_point (map (λ q. q.reading) points)
+
+  -- a member that is good gives bounds
+  bounds_by : IsTidyBefore v (time_of h) → (q : Point) → IsIn q points → IsGoodPoint v cm (time_of h) q → HasBounds v cm cycle (time_of h)
+  bounds_by tidy q i good = bounds_of v cm cycle (time_of h) q is tidy ((made v h cm cycle members is e).each q i).of_cycle good
+
+  -- where the middle lies near the bounds, the base lies near the hull
+  base_near : (slack : ℕ) (bounds : HasBounds v cm cycle (time_of h)) → slack ≤ v.sizes.precision
+      → LiesWithin ((pos (v.scenario.reading cm bounds.a) -ℤ pos (2 * v.sizes.grain)) -ℤ pos slack) (pos (v.scenario.reading cm bounds.b) +ℤ pos slack) middle
+      → IsBaseIn v cycle (v.sizes.base + slack) (base_of v.sizes (time_of h))
+  base_near slack bounds small lies =
+      let m = made v h cm cycle members is e in
+      let sharp = emissions_are_sharp v h cm cycle members e is in
+      let space = room v is in
+      let fit : 2 * v.sizes.grain + slack + 1 ≤ v.sizes.compression = omega (arith, space, small) in
+      let short : v.sizes.compression + slack + 2 * v.sizes.grain + v.sizes.drift < 2 * v.sizes.cycle = omega (arith, space, small) in
+      let gap : ℕ = v.sizes.compression - (2 * v.sizes.grain + slack) in
+      let gap_is : gap + (2 * v.sizes.grain + slack) ≡ v.sizes.compression = omega (arith, fit) in
+      let late = later_by v.sizes (v.scenario.reading cm) bounds.a (time_of h) gap (steady v is cm) (omega (arith, short, gap_is))
+      (omega (arith, ints, sharp, lies.0, m.at, gap_is)) (omega (arith, fit, gap_is)) in
+      let soon = sooner_by v.sizes (v.scenario.reading cm) bounds.b (time_of h) (v.sizes.compression + slack + 2 * v.sizes.grain) (steady v is cm) short
+      (omega (arith, ints, sharp, lies.1, m.at)) in
+      record {
+        hull = bounds.hull;
+        is = bounds.is;
+        least = omega (arith, ints, late, bounds.from, gap_is, space.errors.base_is);
+        most = omega (arith, ints, soon, bounds.to, space.errors.base_is);
+      }
+
+  -- where it lies within them, the base lies in the hull
+  base_in : (bounds : HasBounds v cm cycle (time_of h)) → LiesBetween v cm bounds.a bounds.b middle
+      → IsBaseIn v cycle v.sizes.base (base_of v.sizes (time_of h))
+  base_in bounds lies =
+      let near = base_near 0 bounds (omega arith) (omega (arith, ints, lies.0), omega (arith, ints, lies.1)) in
+      record { hull = near.hull; is = near.is; least = omega (arith, ints, near.least); most = omega (arith, ints, near.most) }
+
+  -- each point lies within the bounds, or is a broken master's
+  within_or_bad : (bounds : HasBounds v cm cycle (time_of h)) (q : Point) → IsIn q points → LiesBetween v cm bounds.a bounds.b q.reading ⊎ IsBadPoint v q
+  within_or_bad bounds q i = elim (good_or_bad_point v h cm cycle members is e q i) [
+    | inl good ↦ inl (bounds.each q ((made v h cm cycle members is e).each q i).of_cycle good)
+    | inr bad ↦ inr bad
+  ]
+
+  -- the middle of three or more lies within the bounds
+  three_lie : (bounds : HasBounds v cm cycle (time_of h)) → 3 ≤ length points → LiesBetween v cm bounds.a bounds.b middle
+  three_lie bounds many =
+      let m = made v h cm cycle members is e in
+      middle_among_others (map (λ q. q.reading) points) _ _ (omega (arith, length-map points (λ (q : Point). q.reading), many))
+      (ascending_from points m.ordered)
+      (all_but_one _ _ (IsBadPoint v) points m.differ (within_or_bad bounds) (λ p q i j a b. bad_is_one v p q is a b))
+
+  -- all points of good members are good
+  all_good : AreGood v members → (q : Point) → IsIn q points → IsGoodPoint v cm (time_of h) q
+  all_good are q i = elim (good_or_bad_point v h cm cycle members is e q i) [
+    | inl good ↦ good
+    | inr bad ↦
+        let good = are q.master (is_of_member v h cm cycle members is e q i) in
+        absurd (not_both v good.0 bad.master good.2 bad.bad (one_member v good.0 bad.master q.master is good.1 bad.is_member))
+  ]
+
+pub bases_are_in_hulls : BasesAreInHulls
+bases_are_in_hulls v h cm cycle members is e tidy which =
+    let m = made v h cm cycle members is e in
+    elim which [
+      | inl many ↦
+          let good = three_have_good v h cm cycle members is e many in
+          let p = good_member_point v h cm cycle members is e good.0 good.1 good.2 in
+          let same : count_of members ≡ count_of (record { 0 = members_of (m.first ∷ m.more) }) = ap (λ (x : ℕ). count_of (record { 0 = x })) m.members_are in
+          let bounds = bounds_by v h cm cycle members is e tidy p.0 p.1 p.2 in
+          base_in v h cm cycle members is e bounds (three_lie v h cm cycle members is e bounds (omega (arith, few_members (m.first ∷ m.more), same, many)))
+      | inr are ↦
+          let good = all_good v h cm cycle members is e are in
+          let bounds = bounds_by v h cm cycle members is e tidy m.first (inl refl) (good m.first (inl refl)) in
+          base_in v h cm cycle members is e bounds (good_lie _ _ m.first m.more m.ordered (λ q i. bounds.each q (m.each q i).of_cycle (good q i)))
+    ]
+
 pub bases_are_near_hulls : BasesAreNearHulls
 bases_are_near_hulls v h cm cycle members is e tidy good =
-    let m = made_of v h cm cycle members is e in
-    let p = good_member_point v h cm cycle members is e m good.0 good.1 good.2 in
-    let bounds = bounds_of v cm cycle (time_of h) p.0 is tidy (m.each p.0 p.1).of_cycle p.2 in
-    near_base _ _ _ _ _ is e m bounds
-    (near_lie _ _ _ m.first m.more p.0 is m.ordered m.differ (λ x i. (m.each x i).to) (within_or_bad _ _ _ _ _ is e m bounds) p.1
+    let m = made v h cm cycle members is e in
+    let p = good_member_point v h cm cycle members is e good.0 good.1 good.2 in
+    let bounds = bounds_by v h cm cycle members is e tidy p.0 p.1 p.2 in
+    base_near v h cm cycle members is e v.sizes.precision bounds (omega arith)
+    (near_lie _ _ _ m.first m.more p.0 is m.ordered m.differ (λ x i. (m.each x i).to) (within_or_bad v h cm cycle members is e bounds) p.1
     (bounds.each p.0 (m.each p.0 p.1).of_cycle p.2))

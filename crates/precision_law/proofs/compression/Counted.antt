@@ -1,7 +1,9 @@
 -- The points that count in a cluster, and their middle.
-use Rattle.precision_law.proofs.words.Std.{◌*ℤ◌, ◌++◌, ◌+ℤ◌, ◌-ℤ◌, ◌==◌, ◌∙◌, ◌∷◌, ◌≡◌, ◌≤ℤ◌, ◌⊎◌, All, All-cons, All-nil, AllByRecursion, Bool, Contains, List, [], ap, arith, cases_Bool, eqb-false, eqb-true, false, filter, fold, inl, inr, ints, map, or_cases, or_parts, pos, refl, subst, sym, true, ℕ, ℤ}
-use Rattle.precision_law.proofs.words.Plans.{AllButOne, AreClusters, Cluster, IsAscending, LiesWithin, Ordered, Ordered-beyond, Point, all-filter, beyond, cluster_of, counts, firsts, from_beyond, has_master, in_cases, in_head, in_none, in_tail, mean_of-floor, middle_among_others, middle_of, relative, with_first, with_first-new, with_first-old}
+use Rattle.precision_law.proofs.words.Std.{◌%◌, ◌&&◌, ◌*ℤ◌, ◌*◌, ◌++◌, ◌+ℤ◌, ◌+◌, ◌-ℤ◌, ◌/◌, ◌<◌, ◌==◌, ◌^◌, ◌∙◌, ◌∷◌, ◌≡◌, ◌≤ℤ◌, ◌≤◌, ◌⊎◌, All, All-cons, All-nil, AllByRecursion, Bool, Contains, List, [], and_le_r, and_parts, and_pow, ap, arith, bit_at, bit_at_lowest, bit_at_or, bit_or, cases_Bool, count_ones, eqb-false, eqb-true, false, filter, fold, inl, inr, int_le, ints, length, map, max, ones_le_self, ones_step, or_cases, or_disjoint, or_parts, or_shr, pos, pow-suc, pow_pos, refl, subst, suc, sym, true, zero, ℕ, ℤ}
+use Rattle.precision_law.proofs.words.Plans.{AllButOne, AreClusters, Cluster, IsAscending, LiesWithin, Ordered, Ordered-beyond, Point, all-filter, beyond, cluster_of, counts, end_of, end_of-least, firsts, firsts-start, from_beyond, has_master, held-start, in_cases, in_head, in_none, in_tail, mean_of-floor, members_of, members_of-clear, members_of-set, middle_among_others, middle_of, of_cycle_within, relative, with_first, with_first-new, with_first-old}
 use Rattle.precision_law.proofs.words.Runs.{IsIn, in_parts}
+use Rattle.precision_law.proofs.block.Hulls.{int_le-is}
+use Rattle.compression.proofs.Elements.{in_filter}
 
 -- ---- lists
 
@@ -140,7 +142,34 @@ middle_near ow Bad k o (b ∷ c ∷ rest) some up apart i each same short =
 
 -- ---- a cluster by its opener
 
--- a cluster is that of one of the points and others, which are in order
+-- a cluster is that of one of the points and others
+pub record IsClusterOf (ow : ℤ) (ps : List Point) (c : Cluster) : Type 0 where
+  pub first : Point
+  pub rest : List Point
+  pub there : Contains ps first
+  pub others : (x : Point) → Contains rest x → Contains ps x
+  pub ordered : Ordered ps → Ordered (first ∷ rest)
+  pub is : c ≡ cluster_of ow first (first ∷ rest)
+
+pub cluster_from : (ow : ℤ) (ps : List Point) (cs : List Cluster) (c : Cluster) → AreClusters ow ps cs → Contains cs c → IsClusterOf ow ps c
+cluster_from ow [] [] c are at = absurd (in_none c at)
+cluster_from ow (o ∷ ps) (d ∷ cs) c are at =
+    elim (in_cases d c cs at) [
+      | inl same ↦ record { first = o; rest = ps; there = in_head o ps; others = λ x i. in_tail o x ps i; ordered = λ up. up; is = sym same ∙ are.0 }
+      | inr later ↦
+          let more = cluster_from ow (beyond d.end ps) cs c are.1 later in
+          record {
+            first = more.first;
+            rest = more.rest;
+            there = in_tail o more.first ps (from_beyond d.end ps more.first more.there).0;
+            others = λ x i. in_tail o x ps (from_beyond d.end ps x (more.others x i)).0;
+            ordered = λ up. more.ordered (Ordered-beyond d.end ps up.1);
+            is = more.is;
+          }
+    ]
+cluster_from ow ps cs c are at = absurd are
+
+-- where the points are in order, so are those
 pub record IsOpenedBy (ow : ℤ) (ps : List Point) (c : Cluster) : Type 0 where
   pub first : Point
   pub rest : List Point
@@ -150,19 +179,95 @@ pub record IsOpenedBy (ow : ℤ) (ps : List Point) (c : Cluster) : Type 0 where
   pub up : Ordered (first ∷ rest)
 
 pub opened_by : (ow : ℤ) (ps : List Point) (cs : List Cluster) (c : Cluster) → Ordered ps → AreClusters ow ps cs → Contains cs c → IsOpenedBy ow ps c
-opened_by ow [] [] c up are at = absurd (in_none c at)
-opened_by ow (o ∷ ps) (d ∷ cs) c up are at =
-    elim (in_cases d c cs at) [
-      | inl same ↦ record { first = o; rest = ps; there = in_head o ps; others = λ x i. in_tail o x ps i; is = sym same ∙ are.0; up = up }
-      | inr later ↦
-          let more = opened_by ow (beyond d.end ps) cs c (Ordered-beyond d.end ps up.1) are.1 later in
+opened_by ow ps cs c up are at =
+    let k = cluster_from ow ps cs c are at in
+    record { first = k.first; rest = k.rest; there = k.there; others = k.others; is = k.is; up = k.ordered up }
+
+-- ---- what counts in a cluster
+
+-- the point counts in the cluster that opens with o
+pub record CountsIn (ow : ℤ) (o : Point) (rest : List Point) (q : Point) : Type 0 where
+  pub there : Contains (o ∷ rest) q
+  pub of_cycle : q.cycle ≡ o.cycle
+  pub from : o.reading ≤ℤ q.reading
+  pub to : q.reading ≤ℤ end_of ow o (o ∷ rest)
+
+-- the first points of its masters: the opener, and more
+pub record HasFirsts (ow : ℤ) (o : Point) (rest : List Point) : Type 0 where
+  pub more : List Point
+  pub are : firsts (of_cycle_within o.cycle o.reading (end_of ow o (o ∷ rest)) (o ∷ rest)) ≡ o ∷ more
+  pub each : (q : Point) → IsIn q (o ∷ more) → CountsIn ow o rest q
+  pub differ : Apart (o ∷ more)
+  pub ordered : Ordered (o ∷ rest) → Ordered (o ∷ more)
+
+pub has_firsts : (ow : ℤ) (o : Point) (rest : List Point) → pos 0 ≤ℤ ow → HasFirsts ow o rest
+has_firsts ow o rest some =
+    let end = end_of ow o (o ∷ rest) in
+    let held = of_cycle_within o.cycle o.reading end (o ∷ rest) in
+    let test = λ (x : Point). x.cycle == o.cycle && (int_le o.reading x.reading && int_le x.reading end) in
+    let start = firsts-start o (of_cycle_within o.cycle o.reading end rest) in
+    let are : firsts held ≡ o ∷ start.0 = ap firsts (held-start o end rest (omega (arith, ints, end_of-least ow o (o ∷ rest) some, some))) ∙ start.1 in
+    record {
+      more = start.0;
+      are = are;
+      each = λ q i.
+          let kept = in_filter test (o ∷ rest) q (firsts_in held q (subst (IsIn q) (sym are) i)) in
+          let both = and_parts (q.cycle == o.cycle) (int_le o.reading q.reading && int_le q.reading end) kept.1 in
+          let bounds = and_parts (int_le o.reading q.reading) (int_le q.reading end) both.1 in
           record {
-            first = more.first;
-            rest = more.rest;
-            there = in_tail o more.first ps (from_beyond d.end ps more.first more.there).0;
-            others = λ x i. in_tail o x ps (from_beyond d.end ps x (more.others x i)).0;
-            is = more.is;
-            up = more.up;
-          }
+            there = kept.0;
+            of_cycle = eqb-true q.cycle o.cycle both.0;
+            from = int_le-is o.reading q.reading bounds.0;
+            to = int_le-is q.reading end bounds.1;
+          };
+      differ = subst Apart are (firsts_apart held);
+      ordered = λ up. subst Ordered are (firsts_ordered held (ordered_filter test (o ∷ rest) up));
+    }
+
+-- ---- how many
+
+or_half : (a b : ℕ) → bit_or a b / 2 ≡ bit_or (a / 2) (b / 2)
+or_half a b = or_shr a b 1
+
+or_zero : (n : ℕ) → bit_or n 0 ≡ n
+or_zero n = omega (arith, or_disjoint n 0 (omega (arith, and_le_r n 0)))
+
+or_parity : (a b : ℕ) → bit_or a b % 2 ≡ max (a % 2) (b % 2)
+or_parity a b = omega (arith, bit_at_or a b 0, bit_at_lowest (bit_or a b), bit_at_lowest a, bit_at_lowest b)
+
+-- one more bit makes at most one more
+ones_or : (k n : ℕ) → count_ones (bit_or n (2 ^ k)) ≤ count_ones n + 1
+ones_or zero n = omega (arith, ones_step (bit_or n 1), ones_step n, ap count_ones (or_half n 1 ∙ or_zero (n / 2)), or_parity n 1)
+ones_or (suc k) n =
+    let power : 2 ^ suc k ≡ 2 * 2 ^ k = omega (arith, pow-suc 2 k) in
+    let half : bit_or n (2 ^ suc k) / 2 ≡ bit_or (n / 2) (2 ^ k) = or_half n (2 ^ suc k) ∙ ap (bit_or (n / 2)) (omega (arith, power)) in
+    omega (arith, ones_step (bit_or n (2 ^ suc k)), ones_step n, ap count_ones half, or_parity n (2 ^ suc k), ones_or k (n / 2), power)
+
+ones_fold : (a : ℕ) (qs : List Point) → count_ones (fold (λ members q. bit_or members (2 ^ q.master)) a qs) ≤ count_ones a + length qs
+ones_fold a [] = omega arith
+ones_fold a (q ∷ qs) = (let more = ones_fold (bit_or a (2 ^ q.master)) qs in let one = ones_or q.master a in omega (arith, more, one))
+
+-- there are not more members than points
+pub few_members : (qs : List Point) → count_ones (members_of qs) ≤ length qs
+few_members qs = (let all = ones_fold 0 qs in let none = ones_le_self 0 in omega (arith, all, none))
+
+-- ---- members and points
+
+pub member_has : (qs : List Point) (i : ℕ) → bit_at (members_of qs) i ≡ 1 → has_master qs i ≡ true
+member_has qs i set =
+    elim (cases_Bool (has_master qs i)) [
+      | inl has ↦ has
+      | inr none ↦ (let clear = members_of-clear qs i none in let and = and_pow (members_of qs) i in let same = rw set at
+          and in absurd (omega (arith, clear, same, pow_pos i)))
     ]
-opened_by ow ps cs c up are at = absurd are
+
+pub has_is_member : (qs : List Point) (i : ℕ) → has_master qs i ≡ true → bit_at (members_of qs) i ≡ 1
+has_is_member qs i has = by (bit_at (members_of qs) i) refl (bit_less (members_of qs) i)
+  where
+    bit_less : (n i : ℕ) → bit_at n i < 2
+    bit_less n i = omega arith
+
+    by : (b : ℕ) → bit_at (members_of qs) i ≡ b → b < 2 → bit_at (members_of qs) i ≡ 1
+    by zero e lt = absurd (members_of-set qs i has (let and = rw e at (and_pow (members_of qs) i) in omega (arith, and)))
+    by (suc zero) e lt = e
+    by (suc (suc n)) e lt = absurd (omega (arith, lt))

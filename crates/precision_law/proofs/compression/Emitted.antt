@@ -1,12 +1,10 @@
 -- When compression masters send.
-use Rattle.precision_law.proofs.words.Std.{◌&&◌, ◌*ℤ◌, ◌+ℤ◌, ◌-ℤ◌, ◌==◌, ◌∙◌, ◌∷◌, ◌≡◌, ◌≤ℤ◌, ◌≤◌, AllByRecursion, Bool, Contains, Err, List, None, Ok, Some, [], after_last, and_from, and_parts, ap, arith, eq-eqb, false, if◌then◌else◌, inl, inr, int_le, ints, length, map, nat_le, pos, refl, subst, sym, true, ℕ, ℤ}
-use Rattle.precision_law.proofs.words.Plans.{AreClusters, Cluster, Compressed, DeviceId, LinkId, Ordered, Ordered-beyond, Pcf, Point, Units, amount, beyond, cluster_of, counts, emission, end_of, firsts, from_beyond, has_master, in_cases, in_head, in_none, in_tail, int_le-true, last_but_one, mean_of, mean_of-floor, middle_of, of_cycle_within, point_at, relative}
+use Rattle.precision_law.proofs.words.Std.{◌-ℤ◌, ◌==◌, ◌∙◌, ◌∷◌, ◌≡◌, ◌≤ℤ◌, ◌≤◌, AllByRecursion, Contains, Err, List, Ok, Some, [], after_last, ap, arith, inl, inr, ints, map, pos, refl, subst, sym, ℕ, ℤ}
+use Rattle.precision_law.proofs.words.Plans.{Cluster, Compressed, DeviceId, LinkId, Pcf, Point, Units, amount, cluster_of, emission, in_cases, in_none, last_but_one, mean_of, mean_of-floor, middle_of, point_at, relative}
 use Rattle.precision_law.proofs.words.Runs.{Arrival, Happening, IsArrivedRecord, IsCaused, IsDue, IsFounded, IsIn, Judgement, NoteBody, Signal, arrival_of, control, cycle_in, ends_stretch, founded_at, in_right, master_of, members_in, numbered_in, observation_window, place_of, point_by, points_of, standpoint, time_of, timed}
 use Rattle.precision_law.proofs.words.Laws.{EmissionsAreSharp, IsView, View}
-use Rattle.precision_law.proofs.words.Clocks.{IsCarried, TakesWith, behind_last, in_filter_map, int_le-is, never_timed, reach_is_sharp, room, same_device, sizes_are, steady, taken_young}
-use Rattle.compression.proofs.Elements.{in_filter}
+use Rattle.precision_law.proofs.words.Clocks.{IsClusterOf, TakesWith, behind_last, cluster_from, has_firsts, in_filter_map, never_timed, reach_is_sharp, room, same_device, sizes_are, some_if, steady, taken_as, taken_sound}
 use Rattle.run_law.specs.declared.note.NoteBody.TheVariants as notes
-use Rattle.run_law.specs.declared.steps.Arrival.TheVariants as arrivals
 
 -- ---- middles
 
@@ -33,72 +31,18 @@ middle_not_negative (a ∷ b ∷ c ∷ d ∷ e ∷ f ∷ more) all =
 
 -- ---- clusters
 
--- a cluster is that of one of the points and others
-pub record IsClusterOf (ow : ℤ) (ps : List Point) (c : Cluster) : Type 0 where
-  pub first : Point
-  pub rest : List Point
-  pub there : Contains ps first
-  pub others : (x : Point) → Contains rest x → Contains ps x
-  pub ordered : Ordered ps → Ordered (first ∷ rest)
-  pub is : c ≡ cluster_of ow first (first ∷ rest)
-
-pub cluster_from : (ow : ℤ) (ps : List Point) (cs : List Cluster) (c : Cluster) → AreClusters ow ps cs → Contains cs c → IsClusterOf ow ps c
-cluster_from ow [] [] c are at = absurd (in_none c at)
-cluster_from ow (o ∷ ps) (d ∷ cs) c are at =
-    elim (in_cases d c cs at) [
-      | inl same ↦ record { first = o; rest = ps; there = in_head o ps; others = λ x i. in_tail o x ps i; ordered = λ up. up; is = sym same ∙ are.0 }
-      | inr later ↦
-          let more = cluster_from ow (beyond d.end ps) cs c are.1 later in
-          record {
-            first = more.first;
-            rest = more.rest;
-            there = in_tail o more.first ps (from_beyond d.end ps more.first more.there).0;
-            others = λ x i. in_tail o x ps (from_beyond d.end ps x (more.others x i)).0;
-            ordered = λ up. more.ordered (Ordered-beyond d.end ps up.1);
-            is = more.is;
-          }
-    ]
-cluster_from ow ps cs c are at = absurd are
-
--- what is counted in a cluster is not before it
-counted_late : (o : Point) (end : ℤ) (rest qs : List Point) → AllByRecursion (λ q. Contains (of_cycle_within o.cycle o.reading end rest) q) qs
+-- what is not before the opener
+all_late : (o : Point) (qs : List Point) → ((q : Point) → IsIn q qs → o.reading ≤ℤ q.reading)
     → AllByRecursion NotNegative (map (λ q. q -ℤ o.reading) (map (λ q. q.reading) qs))
-counted_late o end rest [] all = tt
-counted_late o end rest (q ∷ qs) all =
-    let test = in_filter (λ x. x.cycle == o.cycle && (int_le o.reading x.reading && int_le x.reading end)) rest q all.0 in
-    let both = and_parts (q.cycle == o.cycle) (int_le o.reading q.reading && int_le q.reading end) test.1 in
-    let low = int_le-is o.reading q.reading (and_parts (int_le o.reading q.reading) (int_le q.reading end) both.1).0 in
-    (omega (arith, ints, low), counted_late o end rest qs all.1)
-
-first_parts : (xs acc : List Point) (qs : List Point) → AllByRecursion (λ q. Contains xs q × (has_master acc q.master ≡ false)) qs
-    → AllByRecursion (λ q. Contains xs q) qs
-first_parts xs acc [] all = tt
-first_parts xs acc (q ∷ qs) all = (all.0.0, first_parts xs acc qs all.1)
+all_late o [] from = tt
+all_late o (q ∷ qs) from = (let low = from q (inl refl) in omega (arith, ints, low), all_late o qs (λ x i. from x (inr i)))
 
 -- the middle of a cluster is not before its first point
-pub middle_late : (ow : ℤ) (o : Point) (rest : List Point) → o.reading ≤ℤ end_of ow o (o ∷ rest)
-    → NotNegative (middle_of (relative (cluster_of ow o (o ∷ rest)).points))
-middle_late ow o rest ends =
-    let end = end_of ow o (o ∷ rest) in
-    let inner = of_cycle_within o.cycle o.reading end rest in
-    let a : (o.cycle == o.cycle) ≡ true = eq-eqb o.cycle o.cycle refl in
-    let b : int_le o.reading o.reading ≡ true = int_le-true o.reading o.reading (omega (arith, ints)) in
-    let c : int_le o.reading end ≡ true = int_le-true o.reading end ends in
-    let kept = ap (λ (t : Bool). if t then o ∷ inner else inner)
-    (and_from (o.cycle == o.cycle) (int_le o.reading o.reading && int_le o.reading end) a (and_from (int_le o.reading o.reading) (int_le o.reading end) b c)) in
-    let count = counts (o ∷ []) inner in
-    let late = counted_late o end rest count.more (first_parts inner (o ∷ []) count.more count.each) in
-    let zero_first : NotNegative (o.reading -ℤ o.reading) = omega (arith, ints) in
-    subst (λ (qs : List Point). NotNegative (middle_of (relative (map (λ q. q.reading) qs)))) (sym (ap firsts kept ∙ count.is))
-    (middle_not_negative (map (λ q. q -ℤ o.reading) (map (λ q. q.reading) (o ∷ count.more))) (zero_first, late))
-
--- a cluster does not end before it begins
-pub ends_late : (ow : ℤ) (o : Point) (ps : List Point) → pos 0 ≤ℤ ow → o.reading ≤ℤ end_of ow o ps
-ends_late ow o ps some = by (nat_le 2 (length (firsts (of_cycle_within o.cycle o.reading (o.reading +ℤ ow) ps))))
-  where
-    by : (b : Bool) → o.reading ≤ℤ (if b then o.reading +ℤ (pos 2 *ℤ ow) else o.reading +ℤ ow)
-    by true = omega (arith, ints, some)
-    by false = omega (arith, ints, some)
+pub middle_late : (ow : ℤ) (o : Point) (rest : List Point) → pos 0 ≤ℤ ow → NotNegative (middle_of (relative (cluster_of ow o (o ∷ rest)).points))
+middle_late ow o rest some =
+    let f = has_firsts ow o rest some in
+    subst (λ (qs : List Point). NotNegative (middle_of (relative (map (λ q. q.reading) qs)))) (sym f.are)
+    (middle_not_negative (map (λ q. q -ℤ o.reading) (map (λ q. q.reading) (o ∷ f.more))) (all_late o (o ∷ f.more) (λ q i. (f.each q i).from)))
 
 -- ---- points
 
@@ -107,34 +51,25 @@ pub contained : {X : Type 0} (xs : List X) (x : X) → Contains xs x → IsIn x 
 contained [] x at = absurd (in_none x at)
 contained (y ∷ xs) x at = elim (in_cases y x xs at) [ inl same ↦ inl (sym same) | inr more ↦ inr (contained xs x more) ]
 
--- what is taken with a frame is carried on
-takes_carried : (a : Arrival) (taken : Pcf) → TakesWith a taken → IsCarried a
-takes_carried (arrivals.Waits frame point) taken t = tt
-takes_carried (arrivals.Passes frame way) taken t = tt
-takes_carried (arrivals.PassesAndWaits frame way point) taken t = tt
-takes_carried other taken t = absurd t
+-- so is what is in a cluster of the points
+pub in_cluster : {ow : ℤ} {ps : List Point} {c : Cluster} (k : IsClusterOf ow ps c) (q : Point) → Contains (k.first ∷ k.rest) q → IsIn q ps
+in_cluster {ps = ps} k q at =
+    contained ps q (elim (in_cases k.first q k.rest at) [ inl same ↦ subst (Contains ps) same k.there | inr later ↦ k.others q later ])
 
 -- no arrival is too old
 young_by : (v : View) (hs : List Happening) (t : ℕ) (device : DeviceId) (link : LinkId) (cause : ℕ) (signal : Signal) (taken : Pcf)
     → TakesWith (arrival_of v.scenario hs device t link cause signal) taken → taken.clock ≤ amount v.scenario.network.dmax
 young_by v hs t device link cause (control (Ok frame)) taken takes =
-    omega (arith, taken_young v.scenario.network device link (standpoint v.scenario hs device t) frame taken takes)
+    omega (arith, taken_sound v.scenario.network device link (standpoint v.scenario hs device t) frame taken takes)
 young_by v hs t device link cause (control (Err refusal)) taken takes = absurd takes
-young_by v hs t device link cause (timed octets) taken takes =
-    absurd (never_timed v hs t device link cause octets (takes_carried (arrival_of v.scenario hs device t link cause (timed octets)) taken takes))
+young_by v hs t device link cause (timed octets) taken takes = absurd (never_timed v hs t device link cause octets taken takes)
 
 pub arrival_young : (v : View) (hs : List Happening) (t : ℕ) (device : DeviceId) (link : LinkId) (cause clock : ℕ)
     → IsArrivedRecord v.scenario hs device t link cause clock → clock ≤ amount v.scenario.network.dmax
-arrival_young v hs t device link cause clock a = elim a.taken [
-  | inl comes ↦ (let y = young_by v hs t device link cause comes.signal a.frame (subst (λ (x : Arrival). TakesWith x a.frame) comes.becomes refl) in let s =
-      a.shows in omega (arith, y, s))
-  | inr (inl comes) ↦
-      (let y = young_by v hs t device link cause comes.signal a.frame (subst (λ (x : Arrival). TakesWith x a.frame) comes.becomes refl) in let s =
-      a.shows in omega (arith, y, s))
-  | inr (inr comes) ↦
-      (let y = young_by v hs t device link cause comes.signal a.frame (subst (λ (x : Arrival). TakesWith x a.frame) comes.becomes refl) in let s =
-      a.shows in omega (arith, y, s))
-]
+arrival_young v hs t device link cause clock a =
+    let x = taken_as a in
+    let young = young_by v hs t device link cause x.1.signal a.frame (subst (λ (y : Arrival). TakesWith y a.frame) x.1.becomes x.2) in
+    omega (arith, young, a.shows)
 
 -- the record gives the device this point
 pub record GivesPoint (cm : DeviceId) (k : Happening) (p : Point) : Type 0 where
@@ -146,10 +81,6 @@ pub record GivesPoint (cm : DeviceId) (k : Happening) (p : Point) : Type 0 where
   pub reads : p.reading ≡ point.0
   pub of_master : p.master ≡ master_of (members_in k)
   pub of_cycle : p.cycle ≡ cycle_in k
-
-some_if : {X : Type 0} (b : Bool) (x y : X) → (if b then Some x else None) ≡ Some y → (b ≡ true) × (x ≡ y)
-some_if true x y e = (refl, cc)
-some_if false x y e = absurd cc
 
 gives_by : (cm : DeviceId) (k : Happening) (p : Point) (body : NoteBody) → k.note.body ≡ body → point_by cm k body ≡ Some p → GivesPoint cm k p
 gives_by cm k p (notes.Permanent other link cause point verdict) same e =
@@ -197,7 +128,7 @@ emissions_are_sharp v h cm cycle members e is =
     let c = cluster_from ow (points_of at.front cm) emits.clusters emits.cluster emits.are emits.there in
     let first = point_not_negative v cm at.front c.first is at.founded (contained (points_of at.front cm) c.first c.there) in
     let wide : pos 0 ≤ℤ ow = omega (arith, ints) in
-    let middle = middle_late ow c.first c.rest (ends_late ow c.first (c.first ∷ c.rest) wide) in
+    let middle = middle_late ow c.first c.rest wide in
     let shown = ap (emission ow (pos (amount s.network.calc))) c.is in
     reach_is_sharp v.sizes (s.reading cm) 0 e.at.0 (time_of h) (steady v is cm)
     (omega (arith, ints, (steady v is cm).begins, ap (λ (x : Compressed). x.at.0) emits.is, shown, first, middle, (sizes_are v is).precision, room v is))

@@ -1,12 +1,11 @@
 -- What compressed frames are made of.
-use Rattle.precision_law.proofs.words.Std.{◌&&◌, ◌*ℤ◌, ◌*◌, ◌++◌, ◌+ℤ◌, ◌<◌, ◌==◌, ◌^◌, ◌∙◌, ◌∷◌, ◌≡◌, ◌≤ℤ◌, ◌≤◌, ◌⊎◌, Bool, Contains, List, Option, Some, [], and_from, and_parts, ap, arith, bit_at, bit_at-zero, both_ways, cases_lt, eq-eqb, eqb-true, false, if◌then◌else◌, inl, inr, int_le, ints, length, map, nat_le, option_map_or, pos, refl, subst, sym, true, zero_from_ones, ℕ, ℤ}
-use Rattle.precision_law.proofs.words.Plans.{Cluster, Compressed, DeviceId, IsMember, Members, Ordered, Pcf, Point, amount, count_of, counts, emission, end_of, firsts, in_cases, int_le-true, members_of, middle_of, of_cycle_within, relative}
+use Rattle.precision_law.proofs.words.Std.{◌*ℤ◌, ◌*◌, ◌++◌, ◌+ℤ◌, ◌<◌, ◌==◌, ◌^◌, ◌∙◌, ◌∷◌, ◌≡◌, ◌≤ℤ◌, ◌≤◌, ◌⊎◌, Bool, List, Option, Some, [], ap, arith, bit_at, bit_at-zero, both_ways, cases_lt, eq-eqb, eqb-true, false, if◌then◌else◌, inl, inr, ints, length, map, nat_le, option_map_or, pos, refl, subst, sym, true, zero_from_ones, ℕ, ℤ}
+use Rattle.precision_law.proofs.words.Plans.{Cluster, Compressed, DeviceId, IsMember, Members, Ordered, Pcf, Point, amount, count_of, emission, end_of, firsts, members_of, middle_of, of_cycle_within, relative}
 use Rattle.precision_law.proofs.words.Runs.{Happening, IsCaused, IsFoundedAt, IsIn, cycle_in, founded_at, frame_by, in_left, is_broken, is_cm, master_of, member_of, observation_window, points_of, same_some, time_of}
-use Rattle.precision_law.proofs.words.Laws.{AreBad, EmissionsAreOfDispatches, HasGood, IsBad, IsBadMember, IsDispatch, IsEmission, IsGood, IsGoodMember, IsInTime, IsView, MembersAreMasters, ThreeHaveGood, View, clock_in, links_of}
-use Rattle.precision_law.proofs.words.Clocks.{Apart, any_in, before_of, few_members, firsts_apart, firsts_in, firsts_ordered, frames_up_are_of_masters, has_is_member, has_member, in_any, int_le-is, member_has, one_bad, one_member, sizes_are, within_ordered}
-use Rattle.compression.proofs.Elements.{in_filter}
+use Rattle.precision_law.proofs.words.Laws.{EmissionsAreOfDispatches, HasGood, IsBad, IsDispatch, IsEmission, IsGood, IsGoodMember, IsInTime, IsView, MembersAreMasters, ThreeHaveGood, View, clock_in, links_of}
+use Rattle.precision_law.proofs.words.Clocks.{Apart, any_in, before_of, cluster_from, few_members, frames_up_are_of_masters, has_firsts, has_is_member, has_member, in_all, in_any, member_has, one_bad, one_member, sizes_are}
 use Rattle.precision_law.proofs.block.Joins.{cm_channel}
-use Rattle.precision_law.proofs.compression.Emitted.{cluster_from, contained, ends_late, point_record}
+use Rattle.precision_law.proofs.compression.Emitted.{in_cluster, point_record}
 use Rattle.precision_law.proofs.compression.Ripenings.{master_of_bit, ripening}
 use Rattle.precision_law.proofs.compression.Stretches.{points_ordered}
 use Rattle.precision_law.proofs.hearing.Timely.{cm_of, path_member}
@@ -135,49 +134,22 @@ made_of v h cm cycle members is e =
     let c = cluster_from ow (points_of at.front cm) emits.clusters emits.cluster emits.are emits.there in
     let o = c.first in
     let wide : pos 0 ≤ℤ ow = omega (arith, ints) in
-    let end = end_of ow o (o ∷ c.rest) in
-    let late = ends_late ow o (o ∷ c.rest) wide in
+    let f = has_firsts ow o c.rest wide in
     let soon = ends_soon ow o (o ∷ c.rest) wide in
-    let inner = of_cycle_within o.cycle o.reading end c.rest in
-    let kept = ap (λ (t : Bool). if t then o ∷ inner else inner)
-    (and_from (o.cycle == o.cycle) (int_le o.reading o.reading && int_le o.reading end) (eq-eqb o.cycle o.cycle refl)
-    (and_from (int_le o.reading o.reading) (int_le o.reading end) (int_le-true o.reading o.reading (omega (arith, ints))) (int_le-true o.reading end late))) in
-    let count = counts (o ∷ []) inner in
-    let counted : firsts (of_cycle_within o.cycle o.reading end (o ∷ c.rest)) ≡ o ∷ count.more = ap firsts kept ∙ count.is in
     let cycle_is : cycle ≡ o.cycle = ap (λ (x : Compressed). x.cycle) emits.is ∙ ap (λ (x : Cluster). x.cycle) c.is in
-    let size = (sizes_are v is).precision in
-    let up = within_ordered o.cycle o.reading end (o ∷ c.rest) (c.ordered (points_ordered v cm at.front (h ∷ at.rest) is at.whole)) in
     let sent = ap (λ (x : Compressed). x.at.0) emits.is ∙ ap (emission ow (pos (amount v.scenario.network.calc))) c.is in
-    let middle = ap (λ (qs : List Point). middle_of (relative (map (λ q. q.reading) qs))) counted in
     record {
       is_cm_one = emits.cm;
       first = o;
-      more = count.more;
-      members_are = ap (λ (x : Compressed). x.members.0) emits.is ∙ ap (λ (x : Cluster). x.members) c.is ∙ ap members_of counted;
-      each =
-          λ q i. one_counted v cm at.front cycle o c.rest q end cycle_is (subst (λ (x : ℕ). end ≤ℤ (o.reading +ℤ (pos 2 *ℤ pos x))) (sym size) soon) c.there
-          c.others (firsts_in (of_cycle_within o.cycle o.reading end (o ∷ c.rest)) q (subst (IsIn q) (sym counted) i));
-      differ = subst Apart counted (firsts_apart (of_cycle_within o.cycle o.reading end (o ∷ c.rest)));
-      ordered = subst Ordered counted (firsts_ordered (of_cycle_within o.cycle o.reading end (o ∷ c.rest)) up);
-      at = omega (arith, ints, sent, middle, sizes_are v is);
+      more = f.more;
+      members_are = ap (λ (x : Compressed). x.members.0) emits.is ∙ ap (λ (x : Cluster). x.members) c.is ∙ ap members_of f.are;
+      each = λ q i.
+          let k = f.each q i in
+          record { of_cycle = k.of_cycle ∙ sym cycle_is; from = k.from; to = omega (arith, ints, k.to, soon, sizes_are v is); there = in_cluster c q k.there };
+      differ = f.differ;
+      ordered = f.ordered (c.ordered (points_ordered v cm at.front (h ∷ at.rest) is at.whole));
+      at = omega (arith, ints, sent, ap (λ (qs : List Point). middle_of (relative (map (λ q. q.reading) qs))) f.are, sizes_are v is);
     }
-  where
-    one_counted : (v : View) (cm : DeviceId) (front : List Happening) (cycle : ℕ) (o : Point) (rest : List Point) (q : Point) (end : ℤ) → cycle ≡ o.cycle
-        → end ≤ℤ (o.reading +ℤ (pos 2 *ℤ pos v.sizes.precision)) → Contains (points_of front cm) o
-        → ((x : Point) → Contains rest x → Contains (points_of front cm) x) → Contains (of_cycle_within o.cycle o.reading end (o ∷ rest)) q
-        → IsCounted v cm front cycle o.reading q
-    one_counted v cm front cycle o rest q end cycle_is ends here others i =
-        let test = in_filter (λ x. x.cycle == o.cycle && (int_le o.reading x.reading && int_le x.reading end)) (o ∷ rest) q i in
-        let both = and_parts (q.cycle == o.cycle) (int_le o.reading q.reading && int_le q.reading end) test.1 in
-        let bounds = and_parts (int_le o.reading q.reading) (int_le q.reading end) both.1 in
-        record {
-          of_cycle = eqb-true q.cycle o.cycle both.0 ∙ sym cycle_is;
-          from = int_le-is o.reading q.reading bounds.0;
-          to = omega (arith, ints, int_le-is q.reading end bounds.1, ends);
-          there =
-              contained (points_of front cm) q
-              (elim (in_cases o q rest test.0) [ inl same ↦ subst (Contains (points_of front cm)) same here | inr later ↦ others q later ]);
-        }
 
 -- ---- good members
 
@@ -191,91 +163,91 @@ point_of_member qs i set =
 pub member_of_point : (qs : List Point) (q : Point) → IsIn q qs → bit_at (members_of qs) q.master ≡ 1
 member_of_point qs q i = has_is_member qs q.master (in_any (λ (x : Point). x.master == q.master) qs q i (eq-eqb q.master q.master refl))
 
-pub good_member_point : (v : View) (h : Happening) (cm : DeviceId) (cycle : ℕ) (members : Members) (is : IsView v) → (e : IsEmission v h cm cycle members)
-    → (m : IsMade v h cm cycle members e.at.0 (founded_at v.scenario v.records h is.run.founded e.there).front) → (i : ℕ) → IsMember i members
-    → IsGoodMember v i
-    → (q : Point) × IsIn q (m.first ∷ m.more) × IsGoodPoint v cm (time_of h) q
-good_member_point v h cm cycle members is e m i set good =
-    let p = point_of_member (m.first ∷ m.more) i (ap (λ (x : ℕ). bit_at x i) (sym m.members_are) ∙ set) in
-    elim (point_is v h cm p.0 is (founded_at v.scenario v.records h is.run.founded e.there) m.is_cm_one (m.each p.0 p.1).there) [
-      | inl one ↦ (p.0, p.1, one)
-      | inr bad ↦ absurd (not_both v good.0 bad.master good.2 bad.bad (one_member v good.0 bad.master i is good.1 (bad.is_member ∙ ap (λ (x : ℕ). Some x) p.2)))
-    ]
+module _ (v : View) (h : Happening) (cm : DeviceId) (cycle : ℕ) (members : Members) (is : IsView v) (e : IsEmission v h cm cycle members) where
+  -- the points of what is sent
+  abbrev pub made : IsMade v h cm cycle members e.at.0 (founded_at v.scenario v.records h is.run.founded e.there).front
+  made = made_of v h cm cycle members is e
+
+  -- each is good, or a broken master's
+  pub good_or_bad_point : (q : Point) → IsIn q (made.first ∷ made.more) → IsGoodPoint v cm (time_of h) q ⊎ IsBadPoint v q
+  good_or_bad_point q i = point_is v h cm q is (founded_at v.scenario v.records h is.run.founded e.there) made.is_cm_one (made.each q i).there
+
+  -- and its master is a member
+  pub is_of_member : (q : Point) → IsIn q (made.first ∷ made.more) → IsMember q.master members
+  is_of_member q i = ap (λ (x : ℕ). bit_at x q.master) made.members_are ∙ member_of_point (made.first ∷ made.more) q i
+
+  pub good_member_point : (i : ℕ) → IsMember i members → IsGoodMember v i → (q : Point) × IsIn q (made.first ∷ made.more) × IsGoodPoint v cm (time_of h) q
+  good_member_point i set good =
+      let p = point_of_member (made.first ∷ made.more) i (ap (λ (x : ℕ). bit_at x i) (sym made.members_are) ∙ set) in
+      elim (good_or_bad_point p.0 p.1) [
+        | inl one ↦ (p.0, p.1, one)
+        | inr bad ↦ absurd (not_both v good.0 bad.master good.2 bad.bad
+            (one_member v good.0 bad.master i is good.1 (bad.is_member ∙ ap (λ (x : ℕ). Some x) p.2)))
+      ]
+
+  -- some member is good, or the only point is a broken master's
+  good_or_alone : (more : List Point) → made.more ≡ more → HasGood v members ⊎ (IsBadPoint v made.first × (made.more ≡ []))
+  good_or_alone more are =
+      let has : (q : Point) → IsIn q (made.first ∷ made.more) → IsGoodPoint v cm (time_of h) q → HasGood v members =
+      λ q i good. (q.master, is_of_member q i, (good.master, good.is_member, good.dispatch.good)) in
+      elim (good_or_bad_point made.first (inl refl)) [
+        | inl good ↦ inl (has made.first (inl refl) good)
+        | inr bad ↦ by more are bad has
+      ]
+    where
+      by : (more : List Point) → made.more ≡ more → IsBadPoint v made.first
+          → ((q : Point) → IsIn q (made.first ∷ made.more) → IsGoodPoint v cm (time_of h) q → HasGood v members)
+          → HasGood v members ⊎ (IsBadPoint v made.first × (made.more ≡ []))
+      by [] none bad has = inr (bad, none)
+      by (next ∷ more) some bad has =
+          let i : IsIn next made.more = subst (IsIn next) (sym some) (inl refl) in
+          elim (good_or_bad_point next (inr i)) [
+            | inl good ↦ inl (has next (inr i) good)
+            | inr other ↦ absurd (in_all (λ (q : Point). q.master ≡ made.first.master → ⊥) made.more next made.differ.0 i
+                (bad_is_one v next made.first is other bad))
+          ]
+
+  one_at_least : 1 ≤ count_of members
+  one_at_least = elim (cases_lt 0 (count_of members)) [
+    | inl some ↦ omega (arith, some)
+    | inr none ↦
+        let bit = ap (λ (x : ℕ). bit_at x made.first.master) (zero_from_ones members.0 (omega (arith, none))) in
+        absurd (omega (arith, is_of_member made.first (inl refl), bit, bit_at-zero made.first.master))
+  ]
+
+  -- one point makes one member
+  one_at_most : made.more ≡ [] → count_of members ≤ 1
+  one_at_most none =
+      let same : count_of members ≡ count_of (record { 0 = members_of (made.first ∷ []) }) =
+      ap (λ (x : ℕ). count_of (record { 0 = x })) (made.members_are ∙ ap (λ (qs : List Point). members_of (made.first ∷ qs)) none) in
+      omega (arith, few_members (made.first ∷ []), same)
 
 pub emissions_are_of_dispatches : EmissionsAreOfDispatches
 emissions_are_of_dispatches v h cm cycle members is e good =
-    let m = made_of v h cm cycle members is e in
-    let p = good_member_point v h cm cycle members is e m good.0 good.1 good.2 in
+    let p = good_member_point v h cm cycle members is e good.0 good.1 good.2 in
     let g = p.2 in
-    record { first = g.first; master = g.master; dispatch = subst (IsDispatch v g.first g.master) (m.each p.0 p.1).of_cycle g.dispatch; before = g.before }
+    let dispatch = subst (IsDispatch v g.first g.master) ((made v h cm cycle members is e).each p.0 p.1).of_cycle g.dispatch in
+    record { first = g.first; master = g.master; dispatch = dispatch; before = g.before }
 
--- of two different points one is good
 pub three_have_good : ThreeHaveGood
-three_have_good v h cm cycle members is e many =
-    let m = made_of v h cm cycle members is e in
-    by m.first m.more m.members_are m.each m.differ m.is_cm_one
-  where
-    by : (first : Point) (more : List Point) → members.0 ≡ members_of (first ∷ more)
-        → ((q : Point) → IsIn q (first ∷ more) → IsCounted v cm (founded_at v.scenario v.records h is.run.founded e.there).front cycle first.reading q)
-        → Apart (first ∷ more) → is_cm v.scenario.network cm ≡ true → HasGood v members
-    by first [] members_are each differ one =
-        (let few = few_members (first ∷ []) in let same : count_of members ≡ count_of (record { 0 = members_of (first ∷ []) }) =
-        ap (λ (x : ℕ). count_of (record { 0 = x })) members_are in absurd (omega (arith, few, same, many)))
-    by first (next ∷ more) members_are each differ one =
-        let at = founded_at v.scenario v.records h is.run.founded e.there in
-        let set : (q : Point) → IsIn q (first ∷ next ∷ more) → IsMember q.master members = λ q i. ap (λ (x : ℕ). bit_at x q.master) members_are
-        ∙ member_of_point (first ∷ next ∷ more) q i in
-        elim (point_is v h cm first is at one (each first (inl refl)).there) [
-          | inl good ↦ (first.master, set first (inl refl), (good.master, good.is_member, good.dispatch.good))
-          | inr bad ↦ elim (point_is v h cm next is at one (each next (inr (inl refl))).there) [
-            | inl good ↦ (next.master, set next (inr (inl refl)), (good.master, good.is_member, good.dispatch.good))
-            | inr other ↦ absurd (differ.0.0 (bad_is_one v next first is other bad))
-          ]
-        ]
-
--- ---- the members of what is sent
-
-one_at_least : (v : View) (members : Members) (i : ℕ) → IsMember i members → 1 ≤ count_of members
-one_at_least v members i set = elim (cases_lt 0 (count_of members)) [
-  | inl some ↦ omega (arith, some)
-  | inr none ↦ (let empty = zero_from_ones members.0 (omega (arith, none)) in let bit : bit_at members.0 i ≡ bit_at 0 i = ap (λ (x : ℕ). bit_at x i)
-      empty in let clear = bit_at-zero i in absurd (omega (arith, set, bit, clear)))
+three_have_good v h cm cycle members is e many = elim (good_or_alone v h cm cycle members is e (made v h cm cycle members is e).more refl) [
+  | inl good ↦ good
+  | inr alone ↦ absurd (omega (arith, one_at_most v h cm cycle members is e alone.1, many))
 ]
 
 pub members_are_masters : MembersAreMasters
 members_are_masters v h cm cycle members is e =
-    let m = made_of v h cm cycle members is e in (
-      one_at_least v members m.first.master (ap (λ (x : ℕ). bit_at x m.first.master) m.members_are ∙ member_of_point (m.first ∷ m.more) m.first (inl refl)),
-      by m.first m.more m.members_are m.each m.differ m.is_cm_one,
+    let m = made v h cm cycle members is e in
+    let one = one_at_least v h cm cycle members is e in (
+      one,
+      elim (good_or_alone v h cm cycle members is e m.more refl) [
+        | inl good ↦ inl good
+        | inr alone ↦ inr (
+          λ i member.
+              let p = point_of_member (m.first ∷ m.more) i (ap (λ (x : ℕ). bit_at x i) (sym m.members_are) ∙ member) in
+              let only : p.0 ≡ m.first = elim p.1 [ inl same ↦ same | inr more ↦ absurd (subst (IsIn p.0) alone.1 more) ] in
+              (alone.0.master, alone.0.is_member ∙ ap (λ (x : ℕ). Some x) (ap (λ (q : Point). q.master) (sym only) ∙ p.2), alone.0.bad),
+          omega (arith, one, one_at_most v h cm cycle members is e alone.1),
+        )
+      ],
     )
-  where
-    by : (first : Point) (more : List Point) → members.0 ≡ members_of (first ∷ more)
-        → ((q : Point) → IsIn q (first ∷ more) → IsCounted v cm (founded_at v.scenario v.records h is.run.founded e.there).front cycle first.reading q)
-        → Apart (first ∷ more) → is_cm v.scenario.network cm ≡ true → HasGood v members ⊎ (AreBad v members × (count_of members ≡ 1))
-    by first more members_are each differ one =
-        let set : (q : Point) → IsIn q (first ∷ more) → IsMember q.master members = λ q i. ap (λ (x : ℕ). bit_at x q.master) members_are
-        ∙ member_of_point (first ∷ more) q i in
-        elim (point_is v h cm first is (founded_at v.scenario v.records h is.run.founded e.there) one (each first (inl refl)).there) [
-          | inl good ↦ inl (first.master, set first (inl refl), (good.master, good.is_member, good.dispatch.good))
-          | inr bad ↦ rest more members_are each differ one bad set
-        ]
-      where
-        rest : (more : List Point) → members.0 ≡ members_of (first ∷ more)
-            → ((q : Point) → IsIn q (first ∷ more) → IsCounted v cm (founded_at v.scenario v.records h is.run.founded e.there).front cycle first.reading q)
-            → Apart (first ∷ more) → is_cm v.scenario.network cm ≡ true → IsBadPoint v first → ((q : Point) → IsIn q (first ∷ more) → IsMember q.master members)
-            → HasGood v members ⊎ (AreBad v members × (count_of members ≡ 1))
-        rest [] members_are each differ one bad set =
-            let same : count_of members ≡ count_of (record { 0 = members_of (first ∷ []) }) = ap (λ (x : ℕ). count_of (record { 0 = x })) members_are in
-            inr (
-              λ i member. (let p = point_of_member (first ∷ []) i (ap (λ (x : ℕ). bit_at x i) (sym members_are) ∙ member) in alone bad p.0 i p.1 p.2),
-              omega (arith, few_members (first ∷ []), same, one_at_least v members first.master (set first (inl refl))),
-            )
-          where
-            alone : IsBadPoint v first → (q : Point) (i : ℕ) → IsIn q (first ∷ []) → q.master ≡ i → IsBadMember v i
-            alone bad q i (inl same) e = (bad.master, bad.is_member ∙ ap (λ (x : ℕ). Some x) (ap (λ (x : Point). x.master) (sym same) ∙ e), bad.bad)
-            alone bad q i (inr none) e = absurd none
-        rest (next ∷ more) members_are each differ one bad set =
-            elim (point_is v h cm next is (founded_at v.scenario v.records h is.run.founded e.there) one (each next (inr (inl refl))).there) [
-              | inl good ↦ inl (next.master, set next (inr (inl refl)), (good.master, good.is_member, good.dispatch.good))
-              | inr other ↦ absurd (differ.0.0 (bad_is_one v next first is other bad))
-            ]

@@ -1,33 +1,18 @@
 -- A compression master sends at most one frame of a cycle that has a good member.
-use Rattle.precision_law.proofs.words.Std.{◌&&◌, ◌*ℤ◌, ◌*◌, ◌++◌, ◌+ℤ◌, ◌+◌, ◌-ℤ◌, ◌-◌, ◌<ℤ◌, ◌<◌, ◌==◌, ◌∙◌, ◌∷◌, ◌≡◌, ◌≤ℤ◌, ◌≤◌, ◌⊎◌, Contains, List, Some, [], and_parts, ap, append_assoc, arith, bit_at, cases_lt, eqb-true, inl, inr, int_le, ints, map, pos, refl, subst, sym, true, ℕ, ℤ}
-use Rattle.precision_law.proofs.words.Plans.{AreClusters, AreInOrder, Cluster, Compressed, DeviceId, IsKept, LiesIn, LiesWithin, Members, Ordered, Point, Units, amount, emission, end_of, end_of-least, firsts, firsts-start, held-start, in_cases, middle_of, of_cycle_within, one_cluster, one_time_law, relative}
-use Rattle.precision_law.proofs.words.Runs.{Happening, IsBefore, IsCaused, IsDue, IsFounded, IsFoundedAt, IsIn, NoteBody, behind_first, chain, founded_at, front_founded, in_left, in_parts, in_right, is_cm, key, members_in, never_self, observation_window, parted, place_of, points_of, rank, same_some, time_of}
-use Rattle.precision_law.proofs.words.Laws.{EmissionIsOne, HasGood, HaveRoom, Hull, IsEmission, IsGoodMember, IsInHull, IsNarrowIfThere, IsSteady, IsTidyBefore, IsView, Sizes, View}
-use Rattle.precision_law.proofs.words.Clocks.{Apart, all_by, ascending_from, before_of, contains, firsts_apart, firsts_in, firsts_ordered, has_member, has_one, int_le-is, member_has, middle_near, no_later, one_member, opened_by, ordered_filter, room, sizes_are, steady}
-use Rattle.compression.proofs.Elements.{in_filter}
+use Rattle.precision_law.proofs.words.Std.{◌*ℤ◌, ◌*◌, ◌++◌, ◌+ℤ◌, ◌+◌, ◌-ℤ◌, ◌-◌, ◌<ℤ◌, ◌<◌, ◌∙◌, ◌∷◌, ◌≡◌, ◌≤ℤ◌, ◌≤◌, ◌⊎◌, Contains, List, Some, [], ap, append_assoc, arith, bit_at, cases_lt, inl, inr, ints, map, pos, refl, subst, sym, true, ℕ, ℤ}
+use Rattle.precision_law.proofs.words.Plans.{AreClusters, AreInOrder, Cluster, Compressed, DeviceId, IsKept, LiesIn, LiesWithin, Members, Point, amount, emission, middle_of, one_cluster, one_time_law, relative}
+use Rattle.precision_law.proofs.words.Runs.{Happening, IsBefore, IsCaused, IsDue, IsFounded, IsFoundedAt, IsIn, NoteBody, behind_first, in_left, in_parts, in_right, is_cm, key, members_in, never_self, observation_window, parted, place_of, points_of, rank, same_some, time_of}
+use Rattle.precision_law.proofs.words.Laws.{EmissionIsOne, HasGood, Hull, IsEmission, IsGoodMember, IsInHull, IsNarrowIfThere, IsTidyBefore, IsView, View}
+use Rattle.precision_law.proofs.words.Clocks.{all_by, ascending_from, before_of, cluster_from, contains, founded_by, has_firsts, has_member, has_one, higher_before, member_has, middle_near, no_later, one_member, room, sizes_are, steady}
 use Rattle.run_law.specs.declared.note.NoteBody.TheVariants as notes
-use Rattle.precision_law.proofs.compression.Emitted.{contained, emissions_are_sharp, gives_point, middle_late, point_record}
-use Rattle.precision_law.proofs.compression.Fronts.{cluster_stays}
+use Rattle.precision_law.proofs.compression.Emitted.{contained, emissions_are_sharp, gives_point, in_cluster, middle_late, point_record}
+use Rattle.precision_law.proofs.compression.Shrunk.{same_beyond}
 use Rattle.precision_law.proofs.compression.Made.{IsBadPoint, IsGoodPoint, bad_is_one, ends_soon, front_point, not_both, point_is, point_not_both}
 use Rattle.precision_law.proofs.compression.Stretches.{IsGivenIn, later_point, points_go_on, points_ordered, read_at}
+use Rattle.run_law.specs.control.Emissions.{Emits}
+use Rattle.compression.specs.Emission.{compressed}
 
 -- ---- good points of one cycle are near
-
--- what two good points tell
-near_numbers : (n : Sizes) (reading : ℕ → ℕ) (least greatest p q : ℤ) (w x a b : ℕ) → HaveRoom n → IsSteady n reading → greatest ≤ℤ (least +ℤ pos n.spread)
-    → least ≤ℤ pos x → pos w ≤ℤ greatest → a ≤ w + n.dmax + n.path → x + n.dmax ≤ b + n.path
-    → p ≤ℤ pos (reading a) → pos (reading b) ≤ℤ (q +ℤ pos (2 * n.grain)) → p ≤ℤ (q +ℤ pos n.precision)
-near_numbers n reading least greatest p q w x a b space steady narrow low high late early up down =
-    let errors = space.eight_errors in
-    let reach = space.errors.reach_is in
-    let clock = space.errors.clock_is in
-    let cycles = space.cycles in
-    elim (cases_lt b a) [
-      | inr le ↦ (let r = steady.never_falls a b le in omega (arith, ints, r, up, down, errors, reach, clock))
-      | inl lt ↦
-          let within : a ≤ b + (n.spread + 2 * n.path) = omega (arith, ints, narrow, low, high, late, early) in
-          omega (arith, ints, steady.fast b a (omega (arith, lt)) (omega (arith, within, errors, reach, clock, cycles)), within, up, down, errors, reach, clock)
-    ]
 
 -- what is known of the cycle
 pub record IsKnown (v : View) (t cycle : ℕ) : Type 0 where
@@ -41,27 +26,17 @@ good_near v t cycle cm by late p q k lt less of_p of_q a b =
     let w = subst (λ (c : ℕ). IsInHull v c (time_of a.first)) of_p (k.tidy a.first a.master p.cycle a.dispatch (omega (arith, a.before, lt))) in
     let x = subst (λ (c : ℕ). IsInHull v c (time_of b.first)) of_q (k.tidy b.first b.master q.cycle b.dispatch (omega (arith, b.before, less))) in
     let low : w.hull.least ≤ℤ pos (time_of b.first) = subst (λ (y : Hull). y.least ≤ℤ pos (time_of b.first)) (same_some _ _ _ x.is w.is) x.least in
-    near_numbers v.sizes (v.scenario.reading cm) w.hull.least w.hull.greatest p.reading q.reading (time_of a.first) (time_of b.first) a.ripe b.ripe
-    (room v k.is) (steady v k.is cm) (k.narrow w.hull w.is) low w.most a.in_time.not_late b.in_time.not_early a.least b.most
+    let space = room v k.is in
+    let clock = steady v k.is cm in
+    let narrow = k.narrow w.hull w.is in
+    elim (cases_lt b.ripe a.ripe) [
+      | inr le ↦ (let up = clock.never_falls a.ripe b.ripe le in omega (arith, ints, up, a.least, b.most, space))
+      | inl more ↦
+          let within : a.ripe ≤ b.ripe + (v.sizes.spread + 2 * v.sizes.path) = omega (arith, ints, narrow, low, w.most, a.in_time, b.in_time) in
+          omega (arith, ints, clock.fast b.ripe a.ripe (omega (arith, more)) (omega (arith, within, space)), within, a.least, b.most, space)
+    ]
 
 -- ---- a good point of what is sent
-
--- a counted point
-pub record IsCountedIn (ow : ℤ) (o : Point) (rest : List Point) (q : Point) : Type 0 where
-  pub there : Contains (o ∷ rest) q
-  pub of_cycle : q.cycle ≡ o.cycle
-  pub from : o.reading ≤ℤ q.reading
-  pub to : q.reading ≤ℤ end_of ow o (o ∷ rest)
-
-pub counted_in : (ow : ℤ) (o : Point) (rest : List Point) (q : Point) → IsIn q (firsts (of_cycle_within o.cycle o.reading (end_of ow o (o ∷ rest)) (o ∷ rest)))
-    → IsCountedIn ow o rest q
-counted_in ow o rest q i =
-    let end = end_of ow o (o ∷ rest) in
-    let test = in_filter (λ x. x.cycle == o.cycle && (int_le o.reading x.reading && int_le x.reading end)) (o ∷ rest) q
-    (firsts_in (of_cycle_within o.cycle o.reading end (o ∷ rest)) q i) in
-    let both = and_parts (q.cycle == o.cycle) (int_le o.reading q.reading && int_le q.reading end) test.1 in
-    let bounds = and_parts (int_le o.reading q.reading) (int_le q.reading end) both.1 in
-    record { there = test.0; of_cycle = eqb-true q.cycle o.cycle both.0; from = int_le-is o.reading q.reading bounds.0; to = int_le-is q.reading end bounds.1 }
 
 -- a good point in the cluster of what is sent: a precision and more below the emission reading, which is behind the
 -- cluster's end, and at most a precision and the time of a compression above the point
@@ -87,17 +62,6 @@ pub record IsFrontCluster (v : View) (t cycle : ℕ) (cm : DeviceId) (by : ℕ) 
   pub there : Contains clusters c
   pub cycle_is : c.cycle ≡ cycle
 
--- the numbers of what is sent
-sent_numbers : (ow compression calc : ℕ) (at opened middle x end : ℤ) → 1 ≤ calc → compression ≡ 2 * ow + calc
-    → at ≡ (((opened +ℤ (pos 2 *ℤ pos ow)) +ℤ pos calc) +ℤ middle) → pos 0 ≤ℤ middle → pos 0 ≤ℤ opened → end ≤ℤ (opened +ℤ (pos 2 *ℤ pos ow))
-    → LiesWithin (x -ℤ pos ow) (x +ℤ pos ow) (opened +ℤ middle) → ((x +ℤ pos ow) <ℤ at) × (end <ℤ at) × (pos 0 <ℤ at) × (at ≤ℤ (x +ℤ pos (ow + compression)))
-sent_numbers ow compression calc at opened middle x end some wait is late begun soon near = (
-  omega (arith, ints, some, is, near.0),
-  omega (arith, ints, some, is, late, soon),
-  omega (arith, ints, some, is, late, begun),
-  omega (arith, ints, wait, is, near.1),
-)
-
 -- a member of such a cluster that is good has such a point
 pub front_witness : (v : View) (t cycle : ℕ) (cm : DeviceId) (by : ℕ) (front rest : List Happening) (clusters : List Cluster) (cluster : Cluster)
     → IsFrontCluster v t cycle cm by front rest clusters cluster → (m : ℕ) → bit_at cluster.members m ≡ 1 → IsGoodMember v m
@@ -109,29 +73,22 @@ front_witness v t cycle cm by front rest clusters cluster f m bit good =
     let ow = observation_window n in
     let ps = points_of front cm in
     let point : (q : Point) → IsIn q ps → IsGoodPoint v cm by q ⊎ IsBadPoint v q = λ q i. front_point v cm q by front rest k.is f.whole f.only f.one i in
-    let c = opened_by ow ps clusters cluster (points_ordered v cm front rest k.is f.whole) f.are f.there in
+    let c = cluster_from ow ps clusters cluster f.are f.there in
     let o = c.first in
     let wide : pos 0 ≤ℤ ow = omega (arith, ints) in
-    let end = end_of ow o (o ∷ c.rest) in
-    let least = end_of-least ow o (o ∷ c.rest) wide in
     let soon = ends_soon ow o (o ∷ c.rest) wide in
-    let qs = firsts (of_cycle_within o.cycle o.reading end (o ∷ c.rest)) in
-    let start = firsts-start o (of_cycle_within o.cycle o.reading end c.rest) in
-    let counted : qs ≡ o ∷ start.0 = ap firsts (held-start o end c.rest (omega (arith, ints, least, wide))) ∙ start.1 in
-    let each : (q : Point) → IsIn q (o ∷ start.0) → IsCountedIn ow o c.rest q = λ q i. counted_in ow o c.rest q (subst (IsIn q) (sym counted) i) in
-    let in_points : (q : Point) → IsIn q (o ∷ start.0)
-    → IsIn q ps = λ q i. contained ps q
-    (elim (in_cases o q c.rest (each q i).there) [ inl same ↦ subst (Contains ps) same c.there | inr later ↦ c.others q later ]) in
+    let h = has_firsts ow o c.rest wide in
+    let in_points : (q : Point) → IsIn q (o ∷ h.more) → IsIn q ps = λ q i. in_cluster c q (h.each q i).there in
     let cycle_is : o.cycle ≡ cycle = ap (λ (x : Cluster). x.cycle) (sym c.is) ∙ f.cycle_is in
-    let found = has_one qs m (member_has qs m (subst (λ (x : Cluster). bit_at x.members m ≡ 1) c.is bit)) in
+    let found = has_one _ m (member_has _ m (subst (λ (x : Cluster). bit_at x.members m ≡ 1) c.is bit)) in
     let x = found.0 in
-    let i : IsIn x (o ∷ start.0) = subst (IsIn x) counted found.1 in
+    let i : IsIn x (o ∷ h.more) = subst (IsIn x) h.are found.1 in
     let is_good : IsGoodPoint v cm by x = elim (point x (in_points x i)) [
       | inl one ↦ one
       | inr bad ↦ absurd (not_both v _ _ good.2 bad.bad (one_member v good.0 bad.master m k.is good.1 (bad.is_member ∙ ap (λ (m : ℕ). Some m) found.2)))
     ] in
-    let of_cycle : (q : Point) → IsIn q (o ∷ start.0) → q.cycle ≡ cycle = λ q j. (each q j).of_cycle ∙ cycle_is in
-    let lies : (q : Point) → IsIn q (o ∷ start.0) → LiesWithin (x.reading -ℤ ow) (x.reading +ℤ ow) q.reading
+    let of_cycle : (q : Point) → IsIn q (o ∷ h.more) → q.cycle ≡ cycle = λ q j. (h.each q j).of_cycle ∙ cycle_is in
+    let lies : (q : Point) → IsIn q (o ∷ h.more) → LiesWithin (x.reading -ℤ ow) (x.reading +ℤ ow) q.reading
     ⊎ IsBadPoint v q = λ q j. elim (point q (in_points q j)) [
       | inr bad ↦ inr bad
       | inl one ↦
@@ -139,22 +96,17 @@ front_witness v t cycle cm by front rest clusters cluster f m bit good =
           let below = good_near v t cycle cm by by x q k f.early f.early (of_cycle x i) (of_cycle q j) is_good one in
           inl (omega (arith, ints, below, sizes_are v k.is), omega (arith, ints, above, sizes_are v k.is))
     ] in
-    let near = middle_near ow (IsBadPoint v) x o start.0 wide
-    (subst Ordered counted
-    (firsts_ordered (of_cycle_within o.cycle o.reading end (o ∷ c.rest))
-    (ordered_filter (λ q. q.cycle == o.cycle && (int_le o.reading q.reading && int_le q.reading end)) (o ∷ c.rest) c.up)))
-    (subst Apart counted (firsts_apart (of_cycle_within o.cycle o.reading end (o ∷ c.rest)))) i lies
-    (λ p q a d bad also. bad_is_one v p q k.is bad also) (λ q j. (let to = (each q j).to in omega (arith, ints, to, soon))) in
+    let near = middle_near ow (IsBadPoint v) x o h.more wide (h.ordered (c.ordered (points_ordered v cm front rest k.is f.whole))) h.differ i lies
+    (λ p q a d bad also. bad_is_one v p q k.is bad also) (λ q j. (let to = (h.each q j).to in omega (arith, ints, to, soon))) in
     let at : ℤ = emission ow (pos (amount n.calc)) cluster in
-    let points = ap (λ (zs : List Point). middle_of (relative (map (λ q. q.reading) zs))) counted in
+    let points = ap (λ (zs : List Point). middle_of (relative (map (λ q. q.reading) zs))) h.are in
     let whole = (ap (emission ow (pos (amount n.calc))) c.is) ∙ ap (λ (z : ℤ). ((o.reading +ℤ (pos 2 *ℤ ow)) +ℤ pos (amount n.calc)) +ℤ z) points in
-    let late = subst (λ (z : ℤ). pos 0 ≤ℤ z) points (middle_late ow o c.rest (omega (arith, ints, least, wide))) in
+    let late = subst (λ (z : ℤ). pos 0 ≤ℤ z) points (middle_late ow o c.rest wide) in
     let calc : 1 ≤ amount n.calc = (let m = (room v k.is).compression_least in omega (arith, m, sizes_are v k.is)) in
     let given = point_record cm front o (in_points o (inl refl)) in
     let begun = (read_at v cm given.0 o k.is (subst (IsIn given.0) (sym f.whole) (in_left given.0 front rest given.1)) given.2).not_negative in
-    let numbers = sent_numbers (amount n.precision) v.sizes.compression (amount n.calc) at o.reading (middle_of (relative (map (λ q. q.reading) (o ∷ start.0))))
-    x.reading end calc (sizes_are v k.is).compression whole late begun soon near in
-    let here = each x i in (
+    let sizes = sizes_are v k.is in
+    let here = h.each x i in (
       x,
       record {
         there = in_points x i;
@@ -165,44 +117,25 @@ front_witness v t cycle cm by front rest clusters cluster f m bit good =
           high = subst (λ (y : Cluster). x.reading ≤ℤ y.end) (sym c.is) here.to;
         };
         good = is_good;
-        near = subst (λ (z : ℕ). (x.reading +ℤ pos z) <ℤ at) (sym (sizes_are v k.is).precision) numbers.0;
-        ends = subst (λ (y : Cluster). y.end <ℤ at) (sym c.is) numbers.1;
-        begun = numbers.2;
-        soon = subst (λ (z : ℕ). at ≤ℤ (x.reading +ℤ pos (z + v.sizes.compression))) (sym (sizes_are v k.is).precision) numbers.3;
+        near = omega (arith, ints, calc, whole, near.0, sizes);
+        ends = omega (arith, ints, calc, whole, late, soon, ap (λ (y : Cluster). y.end) c.is);
+        begun = omega (arith, ints, calc, whole, late, begun);
+        soon = omega (arith, ints, whole, near.1, sizes);
       },
     )
 
 -- what is sent, given the records before it
-record IsSentBy (v : View) (h : Happening) (cm : DeviceId) (cycle : ℕ) (members : Members) (opened at : Units) (front : List Happening) : Type 0 where
-  pub clusters : List Cluster
-  pub are : AreClusters (observation_window v.scenario.network) (points_of front cm) clusters
-  pub cluster : Cluster
-  pub there : Contains clusters cluster
-  pub one : is_cm v.scenario.network cm ≡ true
-  pub at_is : at.0 ≡ emission (observation_window v.scenario.network) (pos (amount v.scenario.network.calc)) cluster
-  pub opened_is : opened ≡ record { 0 = cluster.opened }
-  pub cycle_is : cycle ≡ cluster.cycle
-  pub members_is : members ≡ record { 0 = cluster.members }
+abbrev IsSentBy : (v : View) (h : Happening) (cm : DeviceId) (cycle : ℕ) (members : Members) → IsEmission v h cm cycle members → List Happening → Type 0
+IsSentBy v h cm cycle members e front =
+    Emits v.scenario front cm (time_of h) (record { opened = e.opened; at = e.at; cycle = cycle; members = members }) e.verdict
 
 sent_by : (v : View) (h : Happening) (cm : DeviceId) (cycle : ℕ) (members : Members) (e : IsEmission v h cm cycle members)
-    (at : IsFoundedAt v.scenario v.records h) → IsSentBy v h cm cycle members e.opened e.at at.front
-sent_by v h cm cycle members e at =
-    let emits = subst (IsCaused v.scenario at.front h.note.time) e.is at.due.cause in
-    record {
-      clusters = emits.clusters;
-      are = emits.are;
-      cluster = emits.cluster;
-      there = emits.there;
-      one = emits.cm;
-      at_is = ap (λ (x : Compressed). x.at.0) emits.is;
-      opened_is = ap (λ (x : Compressed). x.opened) emits.is;
-      cycle_is = ap (λ (x : Compressed). x.cycle) emits.is;
-      members_is = ap (λ (x : Compressed). x.members) emits.is;
-    }
+    (at : IsFoundedAt v.scenario v.records h) → IsSentBy v h cm cycle members e at.front
+sent_by v h cm cycle members e at = subst (IsCaused v.scenario at.front h.note.time) e.is at.due.cause
 
 witness : (v : View) (t : ℕ) (h : Happening) (cm : DeviceId) (cycle : ℕ) (members : Members) (k : IsKnown v t cycle) (e : IsEmission v h cm cycle members)
     (at : IsFoundedAt v.scenario v.records h) → time_of h < t → HasGood v members
-    → (b : IsSentBy v h cm cycle members e.opened e.at at.front) → (x : Point) × IsWitness v cm (time_of h) cycle e.at.0 (points_of at.front cm) b.cluster x
+    → (b : IsSentBy v h cm cycle members e at.front) → (x : Point) × IsWitness v cm (time_of h) cycle e.at.0 (points_of at.front cm) b.cluster x
 witness v t h cm cycle members k e at early good b =
     let found = front_witness v t cycle cm (time_of h) at.front (h ∷ at.rest) b.clusters b.cluster
     (record {
@@ -210,12 +143,13 @@ witness v t h cm cycle members k e at early good b =
       whole = at.whole;
       only = (before_of v h k.is at).only;
       early = early;
-      one = b.one;
+      one = b.cm;
       are = b.are;
       there = b.there;
-      cycle_is = sym b.cycle_is;
-    }) good.0 (subst (λ (m : Members). bit_at m.0 good.0 ≡ 1) b.members_is good.1) good.2 in
-    (found.0, subst (λ (z : ℤ). IsWitness v cm (time_of h) cycle z (points_of at.front cm) b.cluster found.0) (sym b.at_is) found.1)
+      cycle_is = ap (λ (x : Compressed). x.cycle) (sym b.is);
+    }) good.0 (ap (λ (x : Compressed). bit_at x.members.0 good.0) (sym b.is) ∙ good.1) good.2 in
+    let sent = ap (λ (x : Compressed). x.at.0) (sym b.is) in
+    (found.0, subst (λ (z : ℤ). IsWitness v cm (time_of h) cycle z (points_of at.front cm) b.cluster found.0) sent found.1)
 
 -- ---- the number of the broken master
 
@@ -251,15 +185,12 @@ bad_number v cm by qs is each = elim (bad_or_none v cm by qs each) [
   )
 ]
 
--- ---- one cluster
-
 -- two clusters of good points of one cycle are one
 one_of_two : (v : View) (t : ℕ) (g : Happening) (cm : DeviceId) (cycle : ℕ) (k : IsKnown v t cycle) (at : IsFoundedAt v.scenario v.records g) → time_of g < t
     → is_cm v.scenario.network cm ≡ true
     → (ds : List Cluster) → AreClusters (observation_window v.scenario.network) (points_of at.front cm) ds → (c d : Cluster) → Contains ds c → Contains ds d
     → (x y : Point) → IsIn x (points_of at.front cm) → IsIn y (points_of at.front cm) → x.cycle ≡ cycle → y.cycle ≡ cycle → x.cycle ≡ c.cycle
-    → y.cycle ≡ d.cycle → LiesIn c x → LiesIn d y
-    → (late : ℕ) → late < t → IsGoodPoint v cm late x → IsGoodPoint v cm (time_of g) y → c ≡ d
+    → y.cycle ≡ d.cycle → LiesIn c x → LiesIn d y → (late : ℕ) → late < t → IsGoodPoint v cm late x → IsGoodPoint v cm (time_of g) y → c ≡ d
 one_of_two v t g cm cycle k at early one ds are c d in_c in_d x y ix iy of_x of_y of_c of_d lies_x lies_y late less gx gy =
     let ow = observation_window v.scenario.network in
     let ps = points_of at.front cm in
@@ -292,30 +223,18 @@ one_of_two v t g cm cycle k at early one ds are c d in_c in_d x y ix iy of_x of_
 
 -- ---- one emission
 
--- a record that gives a point, behind an emission, is of a later time
-later_time : (t u : ℕ) (xs ys : List ℕ) → IsBefore (t ∷ 4 ∷ xs) (u ∷ 3 ∷ ys) → t < u
-later_time t u xs ys (inl lt) = lt
-later_time t u xs ys (inr (same, inl lt)) = absurd (omega (arith, lt))
-later_time t u xs ys (inr (same, inr (e, more))) = absurd (omega (arith, e))
-
 -- of two emissions one is not behind the other
 not_behind : (v : View) (t : ℕ) (h g : Happening) (cm : DeviceId) (cycle : ℕ) (members others : Members) (k : IsKnown v t cycle)
     → IsEmission v h cm cycle members → IsEmission v g cm cycle others → time_of g < t → HasGood v members → HasGood v others
-    → (at : IsFoundedAt v.scenario v.records g) → (front mid : List Happening) → at.front ≡ front ++ h ∷ mid → ⊥
-not_behind v t h g cm cycle members others k e f early good also at front mid is_front =
+    → (front mid rest : List Happening) → v.records ≡ front ++ h ∷ (mid ++ g ∷ rest) → ⊥
+not_behind v t h g cm cycle members others k e f early good also front mid rest whole =
     let s = v.scenario in
     let ow = observation_window s.network in
     let wide : pos 0 ≤ℤ ow = omega (arith, ints) in
-    let whole = at.whole ∙ ap (λ (hs : List Happening). hs ++ g ∷ at.rest) is_front ∙ append_assoc front (h ∷ mid) (g ∷ at.rest) in
-    let founded : IsFounded place_of (IsDue s) (front ++ h ∷ (mid ++ g ∷ at.rest)) = subst (IsFounded place_of (IsDue s)) whole k.is.run.founded in
-    let at_h : IsFoundedAt s v.records h = record {
-      front = front;
-      rest = mid ++ g ∷ at.rest;
-      whole = whole;
-      due = (founded front (mid ++ g ∷ at.rest) h refl).1;
-      founded = front_founded place_of (IsDue s) front (h ∷ (mid ++ g ∷ at.rest)) founded;
-    } in
-    let before = behind_first place_of (IsDue s) front (mid ++ g ∷ at.rest) h g founded (in_right g mid (g ∷ at.rest) (inl refl)) in
+    let founded = subst (IsFounded place_of (IsDue s)) whole k.is.run.founded in
+    let at_h = founded_by v front (mid ++ g ∷ rest) h k.is whole in
+    let at = founded_by v (front ++ h ∷ mid) rest g k.is (whole ∙ sym (append_assoc front (h ∷ mid) (g ∷ rest))) in
+    let before = behind_first place_of (IsDue s) front (mid ++ g ∷ rest) h g founded (in_right g mid (g ∷ rest) (inl refl)) in
     let order = no_later (time_of h) (time_of g) (rank h.note.body ∷ key (members_in h) h.note.body) (rank g.note.body ∷ key (members_in g) g.note.body)
     before in
     let early_h : time_of h < t = omega (arith, order, early) in
@@ -331,75 +250,51 @@ not_behind v t h g cm cycle members others k e f early good also at front mid is
       | inl same ↦ (let wrong : notes.Compressed cm e.opened e.at cycle members e.verdict ≡ notes.Permanent cm point.link point.cause point.point
           point.verdict = sym e.is ∙ ap (λ (z : Happening). z.note.body) (sym same) ∙ point.is in absurd cc)
       | inr i ↦
-          let in_rest : IsIn given.0 (mid ++ g ∷ at.rest) = in_left given.0 mid (g ∷ at.rest) i in
-          let behind = behind_first place_of (IsDue s) front (mid ++ g ∷ at.rest) h given.0 founded in_rest in
-          let moved = subst (λ (z : NoteBody). IsBefore (time_of h ∷ rank z ∷ key (members_in h) z) (place_of given.0)) e.is behind in
-          let placed = subst (λ (z : NoteBody). IsBefore (time_of h ∷ 4 ∷ key (members_in h) (notes.Compressed cm e.opened e.at cycle members e.verdict))
-          (time_of given.0 ∷ rank z ∷ key (members_in given.0) z)) point.is moved in
-          let lt = later_time (time_of h) (time_of given.0) (key (members_in h) (notes.Compressed cm e.opened e.at cycle members e.verdict))
-          (key (members_in given.0) (notes.Permanent cm point.link point.cause point.point point.verdict)) placed in
-          let in_all : IsIn given.0 v.records = subst (IsIn given.0) (sym whole) (in_right given.0 front (h ∷ (mid ++ g ∷ at.rest)) (inr in_rest)) in
+          let in_rest : IsIn given.0 (mid ++ g ∷ rest) = in_left given.0 mid (g ∷ rest) i in
+          let behind = behind_first place_of (IsDue s) front (mid ++ g ∷ rest) h given.0 founded in_rest in
+          let lt = higher_before h given.0 behind (omega (arith, ap rank e.is, ap rank point.is)) in
+          let in_all : IsIn given.0 v.records = subst (IsIn given.0) (sym whole) (in_right given.0 front (h ∷ (mid ++ g ∷ rest)) (inr in_rest)) in
           (omega (arith, ints, later_point v cm p.reading (time_of h) (time_of given.0) k.is (read_at v cm given.0 p k.is in_all point) lt, sharp.least))
     ] in
     elim (points_go_on cm front (h ∷ mid)) [
       | inr anew ↦
           let near = good_near v t cycle cm (time_of g) (time_of h) y.0 x.0 k early early_h y.1.of_cycle x.1.of_cycle y.1.good x.1.good in
-          (omega (arith, ints, late y.0 (anew y.0 (subst (λ (hs : List Happening). IsIn y.0 (points_of hs cm)) is_front y.1.there)), near, x.1.near))
+          (omega (arith, ints, late y.0 (anew y.0 y.1.there), near, x.1.near))
       | inl adds ↦
-          let all : points_of at.front cm ≡ points_of front cm ++ adds.more = ap (λ (hs : List Happening). points_of hs cm) is_front ∙ adds.whole in
           let past = all_by (λ (q : Point). b.cluster.end <ℤ q.reading) adds.more
           (λ q i. (let above = late q (adds.given q i) in let ends = x.1.ends in omega (arith, ints, above, ends))) in
-          let stays = cluster_stays _ _ adds.more _ _ b.cluster wide b.are (subst (λ (ps : List Point). AreClusters ow ps c.clusters) all c.are) b.there past in
-          let ix : IsIn x.0 (points_of at.front cm) = subst (IsIn x.0) (sym all) (in_left x.0 (points_of front cm) adds.more x.1.there) in
-          let one = one_of_two v t g cm cycle k at early c.one c.clusters c.are b.cluster c.cluster stays c.there x.0 y.0 ix y.1.there x.1.of_cycle y.1.of_cycle
+          let next = subst (λ (ps : List Point). AreClusters ow ps c.clusters) adds.whole c.are in
+          let stays = (same_beyond _ _ adds.more _ _ b.cluster wide b.are next past).0 b.there in
+          let ix : IsIn x.0 (points_of at.front cm) = subst (IsIn x.0) (sym adds.whole) (in_left x.0 (points_of front cm) adds.more x.1.there) in
+          let one = one_of_two v t g cm cycle k at early c.cm c.clusters c.are b.cluster c.cluster stays c.there x.0 y.0 ix y.1.there x.1.of_cycle y.1.of_cycle
           x.1.of_cluster y.1.of_cluster x.1.lies y.1.lies (time_of h) early_h x.1.good y.1.good in
-          let at_same : e.at.0 ≡ f.at.0 = b.at_is ∙ ap (emission ow (pos (amount s.network.calc))) one ∙ sym c.at_is in
+          let sent = b.is ∙ ap (compressed ow (pos (amount s.network.calc))) one ∙ sym c.is in
+          let at_same : e.at.0 ≡ f.at.0 = ap (λ (x : Compressed). x.at.0) sent in
           let same_time : time_of h ≡ time_of g = elim (cases_lt (time_of h) (time_of g)) [
             | inr ge ↦ omega (arith, ge, order)
             | inl lt ↦
                 let up = (steady v k.is cm).never_falls (time_of h) (time_of g - 1) (omega (arith, lt)) in
                 (let reached = sharp.least in let not_yet = sharp_g.before in absurd (omega (arith, ints, up, reached, not_yet, at_same)))
           ] in
-          never_self (place_of g)
-          (subst (λ (p : List ℕ). IsBefore p (place_of g)) (same_place b.cluster c.cluster one same_time b.opened_is c.opened_is at_same b.members_is
-          c.members_is) before)
+          let place : place_of h ≡ place_of g = ap (λ (z : NoteBody). time_of h ∷ rank z ∷ key (members_in h) z) e.is
+          ∙ ap (λ (z : ℕ). z ∷ 4 ∷ key 0 (notes.Compressed cm e.opened e.at cycle members e.verdict)) same_time
+          ∙ ap (λ (x : Compressed). time_of g ∷ 4 ∷ key 0 (notes.Compressed cm x.opened x.at x.cycle x.members e.verdict)) sent
+          ∙ sym (ap (λ (z : NoteBody). time_of g ∷ rank z ∷ key (members_in g) z) f.is) in
+          never_self (place_of g) (subst (λ (p : List ℕ). IsBefore p (place_of g)) place before)
     ]
-  where
-    same_units : (a b : Units) → a.0 ≡ b.0 → a ≡ b
-    same_units a b same = ap unit same
-      where
-        unit : ℤ → Units
-        unit z = record { 0 = z }
-
-    same_place : (c d : Cluster) → c ≡ d → time_of h ≡ time_of g → e.opened ≡ record { 0 = c.opened } → f.opened ≡ record { 0 = d.opened } → e.at.0 ≡ f.at.0
-        → members ≡ record { 0 = c.members } → others ≡ record { 0 = d.members } → place_of h ≡ place_of g
-    same_place c d one time opened opened' at_same of_h of_g =
-        let by_opened : e.opened ≡ f.opened = opened ∙ ap (λ (z : Cluster). record { 0 = z.opened }) one ∙ sym opened' in
-        let by_members : members ≡ others = of_h ∙ ap (λ (z : Cluster). record { 0 = z.members }) one ∙ sym of_g in
-        ap (λ (z : NoteBody). time_of h ∷ rank z ∷ key (members_in h) z) e.is
-        ∙ ap (λ (z : ℕ). z ∷ 4 ∷ key 0 (notes.Compressed cm e.opened e.at cycle members e.verdict)) time
-        ∙ ap (λ (z : Units). time_of g ∷ 4 ∷ key 0 (notes.Compressed cm z e.at cycle members e.verdict)) by_opened
-        ∙ ap (λ (z : Units). time_of g ∷ 4 ∷ key 0 (notes.Compressed cm f.opened z cycle members e.verdict)) (same_units e.at f.at at_same)
-        ∙ ap (λ (z : Members). time_of g ∷ 4 ∷ key 0 (notes.Compressed cm f.opened f.at cycle z e.verdict)) by_members
-        ∙ sym (ap (λ (z : NoteBody). time_of g ∷ rank z ∷ key (members_in g) z) f.is)
 
 pub emission_is_one : EmissionIsOne
 emission_is_one v t h g cm cycle members others is tidy narrow e f before after good also =
     let k : IsKnown v t cycle = record { is = is; tidy = tidy; narrow = narrow } in
-    let at_g = founded_at v.scenario v.records g is.run.founded f.there in
-    let at_h = founded_at v.scenario v.records h is.run.founded e.there in
-    elim (in_parts h at_g.front (g ∷ at_g.rest) (subst (IsIn h) at_g.whole e.there)) [
-      | inl first ↦ (let p = parted h at_g.front first in absurd (not_behind v t h g cm cycle members others k e f after good also at_g p.0 p.1 p.2))
+    let at = parted g v.records f.there in
+    elim (in_parts h at.0 (g ∷ at.1) (subst (IsIn h) at.2 e.there)) [
+      | inl first ↦
+          let p = parted h at.0 first in
+          let whole = at.2 ∙ ap (λ (hs : List Happening). hs ++ g ∷ at.1) p.2 ∙ append_assoc p.0 (h ∷ p.1) (g ∷ at.1) in
+          absurd (not_behind v t h g cm cycle members others k e f after good also p.0 p.1 at.1 whole)
       | inr (inl same) ↦ same
       | inr (inr later) ↦
-          let behind = behind_first place_of (IsDue v.scenario) at_g.front at_g.rest g h
-          (subst (IsFounded place_of (IsDue v.scenario)) at_g.whole is.run.founded) later in
-          elim (in_parts g at_h.front (h ∷ at_h.rest) (subst (IsIn g) at_h.whole f.there)) [
-            | inl first ↦ (let p = parted g at_h.front first in absurd (not_behind v t g h cm cycle others members k f e before also good at_h p.0 p.1 p.2))
-            | inr (inl same) ↦ sym same
-            | inr (inr after_h) ↦
-                let ahead = behind_first place_of (IsDue v.scenario) at_h.front at_h.rest h g
-                (subst (IsFounded place_of (IsDue v.scenario)) at_h.whole is.run.founded) after_h in
-                absurd (never_self (place_of h) (chain (place_of h) (place_of g) (place_of h) ahead behind))
-          ]
+          let p = parted h at.1 later in
+          let whole = at.2 ∙ ap (λ (hs : List Happening). at.0 ++ g ∷ hs) p.2 in
+          absurd (not_behind v t g h cm cycle others members k f e before also good at.0 p.0 p.1 whole)
     ]

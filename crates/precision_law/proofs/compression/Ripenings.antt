@@ -3,7 +3,7 @@ use Rattle.precision_law.proofs.words.Std.{◌^◌, ◌∙◌, ◌∷◌, ◌≡
 use Rattle.precision_law.proofs.words.Plans.{Device, DeviceId, Down, IsChildOf, Joints, Link, LinkId, Master, Pcf, Relay, Role, Units, Up, Way, amount, device_at, is_end_system, link_at, opened, point_of}
 use Rattle.precision_law.proofs.words.Runs.{Happening, IsArrivedRecord, IsCaused, IsIn, Judgement, cycle_in, founded_at, frame_by, in_left, is_cm, is_cm_role, master_of, members_in, numbered_in, receiver_of, same_some, time_of, way_to}
 use Rattle.precision_law.proofs.words.Laws.{IsPermanentAt, IsRipe, IsView, View, clock_in}
-use Rattle.precision_law.proofs.words.Clocks.{cm_is_no_end, device_of, natural, permanence_is_sharp, receiver_down, receiver_up, sizes_are, steady}
+use Rattle.precision_law.proofs.words.Clocks.{cm_is_no_end, device_of, natural, permanence_is_sharp, receiver_down, receiver_way, sizes_are, steady, taken_as}
 use Rattle.run_law.specs.declared.note.NoteBody.TheVariants as notes
 use Rattle.precision_law.proofs.compression.Emitted.{arrival_young}
 use Rattle.precision_law.proofs.hearing.Timely.{arrived_clock}
@@ -32,18 +32,15 @@ cm_no_child v cm link is one child =
           cm_role_relays d.0.role d.2 (ap (λ (x : Device). x.role) (sym same) ∙ e.2.0)
     ]
 
-received_up : (v : View) (cm : DeviceId) (link : LinkId) (way : Way) → IsView v → is_cm v.scenario.network cm ≡ true
-    → receiver_of v.scenario.network link way ≡ Some cm → way_to v.scenario.network cm link ≡ Up
-received_up v cm link Up is one e = receiver_up v.scenario.network link cm e
-received_up v cm link Down is one e = absurd (cm_no_child v cm link is one (receiver_down v.scenario.network link cm e))
-
 arrives_up : (v : View) (hs : List Happening) (t : ℕ) (cm : DeviceId) (link : LinkId) (cause clock : ℕ) → IsView v → is_cm v.scenario.network cm ≡ true
     → IsArrivedRecord v.scenario hs cm t link cause clock → way_to v.scenario.network cm link ≡ Up
-arrives_up v hs t cm link cause clock is one a = elim a.taken [
-  | inl waits ↦ received_up v cm link waits.arrives.way is one waits.arrives.receiver
-  | inr (inl passes) ↦ received_up v cm link passes.arrives.way is one passes.arrives.receiver
-  | inr (inr both) ↦ received_up v cm link both.arrives.way is one both.arrives.receiver
-]
+arrives_up v hs t cm link cause clock is one a =
+    let put = (taken_as a).1.arrives in
+    by put.way put.receiver
+  where
+    by : (way : Way) → receiver_of v.scenario.network link way ≡ Some cm → way_to v.scenario.network cm link ≡ Up
+    by Up e = receiver_way v link cm Up is e
+    by Down e = absurd (cm_no_child v cm link is one (receiver_down v.scenario.network link cm e))
 
 -- ---- what is permanent
 

@@ -1,14 +1,9 @@
--- A cluster of points was one before the points beyond its end came, and a point that it holds is of one of its members.
-use Rattle.precision_law.proofs.words.Std.{◌&&◌, ◌++◌, ◌+ℤ◌, ◌<ℤ◌, ◌==◌, ◌∙◌, ◌∷◌, ◌≡◌, ◌≤ℤ◌, AllByRecursion, Contains, List, [], and_from, ap, append-nil, append_assoc, arith, bit_at, eq-eqb, inl, inr, int_le, ints, pos, subst, sym, ℤ}
+-- A cluster of points is one without the points beyond its end as it is with them, and a point that it holds is of one of its members.
+use Rattle.precision_law.proofs.words.Std.{◌&&◌, ◌++◌, ◌+ℤ◌, ◌<ℤ◌, ◌==◌, ◌∙◌, ◌∷◌, ◌≡◌, ◌≤ℤ◌, ◌⊎◌, AllByRecursion, Contains, List, [], and_from, ap, append-nil, append_assoc, arith, bit_at, eq-eqb, inl, inr, int_le, ints, pos, subst, sym, ℤ}
 use Rattle.precision_law.proofs.words.Plans.{AreClusters, Cluster, Holds, Ordered, Ordered-beyond, Point, beyond, beyond-push_out, cluster_of, cluster_of-beyond, end_of, end_of-least, end_of-same, firsts, firsts-has, from_beyond, held-push_beyond, in_cases, in_filter_from, in_head, in_none, in_rest, in_tail, int_le-true, of_cycle_within, one_list_of_clusters}
-use Rattle.precision_law.proofs.words.Clocks.{has_is_member}
-use Rattle.precision_law.proofs.compression.Emitted.{cluster_from}
+use Rattle.precision_law.proofs.words.Clocks.{cluster_from, has_is_member}
 
--- ---- before points came
-
--- a point behind the first window does not move the end
-same_end : (ow : ℤ) (o : Point) (ps : List Point) (p : Point) → (o.reading +ℤ ow) <ℤ p.reading → end_of ow o (ps ++ p ∷ []) ≡ end_of ow o ps
-same_end ow o ps p past = end_of-same ow o ps (ps ++ p ∷ []) (ap firsts (held-push_beyond o.cycle o.reading (o.reading +ℤ ow) ps p past))
+-- ---- with points beyond and without
 
 -- a cluster of a list opens behind a reading behind which all points lie, and does not end before it opens
 opens_behind : (ow end : ℤ) (qs : List Point) (cs : List Cluster) (c : Cluster) → pos 0 ≤ℤ ow → AreClusters ow (beyond end qs) cs → Contains cs c
@@ -20,50 +15,73 @@ opens_behind ow end qs cs c some are at =
     let opens : c.opened ≡ from.first.reading = ap (λ (x : Cluster). x.opened) from.is in
     (omega (arith, ints, opened, opens), omega (arith, ints, end_of-least ow from.first (from.first ∷ from.rest) some, ends, opens, some))
 
--- without one point more
-was_by : (ow : ℤ) (ps : List Point) (p : Point) (cs ds : List Cluster) (c : Cluster) → pos 0 ≤ℤ ow → AreClusters ow ps cs → AreClusters ow (ps ++ p ∷ []) ds
-    → Contains ds c → c.end <ℤ p.reading → Contains cs c
-was_by ow [] p cs [] c some are next at past = absurd next
-was_by ow [] p cs (e ∷ []) c some are next at past =
-    elim (in_cases e c [] at) [
-      | inl same ↦ absurd (omega (arith, ints, end_of-least ow p (p ∷ []) some, ap (λ (x : Cluster). x.end) (sym same ∙ next.0), past, some))
-      | inr none ↦ absurd (in_none c none)
-    ]
-was_by ow [] p cs (e ∷ d ∷ ds) c some are next at past = absurd next.1
-was_by ow (o ∷ ps) p [] ds c some are next at past = absurd are
-was_by ow (o ∷ ps) p (k ∷ cs) [] c some are next at past = absurd next
-was_by ow (o ∷ ps) p (k ∷ cs) (e ∷ ds) c some are next at past =
-    elim (in_cases e c ds at) [
-      | inl same ↦ subst (Contains (k ∷ cs)) (same_first (subst (λ (x : Cluster). x.end <ℤ p.reading) (sym same) past) ∙ same) (in_head k cs)
-      | inr later ↦
-          let opens = opens_behind ow e.end (ps ++ p ∷ []) ds c some next.1 later in
-          let one = same_first (omega (arith, ints, opens, past)) in
-          let behind : k.end <ℤ p.reading = subst (λ (x : Cluster). x.end <ℤ p.reading) (sym one) (omega (arith, ints, opens, past)) in
-          let moved = subst (λ (x : Cluster). AreClusters ow (beyond x.end (ps ++ p ∷ [])) ds) (sym one) next.1 in
-          let rest = subst (λ (qs : List Point). AreClusters ow qs ds) (beyond-push_out k.end ps p behind) moved in
-          in_tail k c cs (was_by ow (beyond k.end ps) p cs ds c some are.1 rest later past)
-    ]
-  where
-    same_first : e.end <ℤ p.reading → k ≡ e
-    same_first behind =
-        let ends : e.end ≡ end_of ow o ((o ∷ ps) ++ p ∷ []) = ap (λ (x : Cluster). x.end) next.0 in
-        let same = same_end ow o (o ∷ ps) p (omega (arith, ints, end_of-least ow o ((o ∷ ps) ++ p ∷ []) some, ends, behind)) in
-        let past_end : end_of ow o (o ∷ ps) <ℤ p.reading = omega (arith, ints, same, ends, behind) in
-        are.0 ∙ sym (cluster_of-beyond ow o (o ∷ ps) p some past_end) ∙ sym next.0
+-- the first cluster is the same with a point more, where either ends before it
+first_same : (ow : ℤ) (o : Point) (ps : List Point) (p : Point) (k e : Cluster) → pos 0 ≤ℤ ow → k ≡ cluster_of ow o (o ∷ ps)
+    → e ≡ cluster_of ow o ((o ∷ ps) ++ p ∷ []) → (k.end <ℤ p.reading) ⊎ (e.end <ℤ p.reading) → k ≡ e
+first_same ow o ps p k e some is_k is_e past =
+    let before : end_of ow o (o ∷ ps) <ℤ p.reading = elim past [
+      | inl k_ends ↦ omega (arith, ints, k_ends, ap (λ (x : Cluster). x.end) is_k)
+      | inr e_ends ↦
+          let ends : e.end ≡ end_of ow o ((o ∷ ps) ++ p ∷ []) = ap (λ (x : Cluster). x.end) is_e in
+          let behind : (o.reading +ℤ ow) <ℤ p.reading = omega (arith, ints, end_of-least ow o ((o ∷ ps) ++ p ∷ []) some, ends, e_ends) in
+          let same = end_of-same ow o (o ∷ ps) ((o ∷ ps) ++ p ∷ []) (ap firsts (held-push_beyond o.cycle o.reading (o.reading +ℤ ow) (o ∷ ps) p behind)) in
+          omega (arith, ints, same, ends, e_ends)
+    ] in
+    is_k ∙ sym (cluster_of-beyond ow o (o ∷ ps) p some before) ∙ sym is_e
 
--- without any
-pub cluster_was : (ow : ℤ) (ps more : List Point) (cs ds : List Cluster) (c : Cluster) → pos 0 ≤ℤ ow → AreClusters ow ps cs → AreClusters ow (ps ++ more) ds
-    → Contains ds c → AllByRecursion (λ q. c.end <ℤ q.reading) more → Contains cs c
-cluster_was ow ps [] cs ds c some are next at past =
+-- a cluster that ends before a point is one with the point where it is one without
+same_by : (ow : ℤ) (ps : List Point) (p : Point) (cs ds : List Cluster) (c : Cluster) → pos 0 ≤ℤ ow → AreClusters ow ps cs → AreClusters ow (ps ++ p ∷ []) ds
+    → c.end <ℤ p.reading → (Contains cs c → Contains ds c) × (Contains ds c → Contains cs c)
+same_by ow [] p (k ∷ cs) ds c some are next past = absurd are
+same_by ow [] p [] [] c some are next past = absurd next
+same_by ow [] p [] (e ∷ d ∷ ds) c some are next past = absurd next.1
+same_by ow [] p [] (e ∷ []) c some are next past = (
+  λ at. absurd (in_none c at),
+  λ at. elim (in_cases e c [] at) [
+    | inl same ↦ absurd (omega (arith, ints, end_of-least ow p (p ∷ []) some, ap (λ (x : Cluster). x.end) (sym same ∙ next.0), past, some))
+    | inr none ↦ none
+  ],
+)
+same_by ow (o ∷ ps) p [] ds c some are next past = absurd are
+same_by ow (o ∷ ps) p (k ∷ cs) [] c some are next past = absurd next
+same_by ow (o ∷ ps) p (k ∷ cs) (e ∷ ds) c some are next past =
+    let one = first_same ow o ps p k e some are.0 next.0 in
+    let rest = λ (same : k ≡ e) (behind : k.end <ℤ p.reading).
+    same_by ow (beyond k.end ps) p cs ds c some are.1 (subst (λ (qs : List Point). AreClusters ow qs ds) (beyond-push_out k.end ps p behind)
+    (subst (λ (x : Cluster). AreClusters ow (beyond x.end (ps ++ p ∷ [])) ds) (sym same) next.1)) past in (
+      λ at. elim (in_cases k c cs at) [
+        | inl same ↦ subst (Contains (e ∷ ds)) (sym (one (inl (subst (λ (x : Cluster). x.end <ℤ p.reading) (sym same) past))) ∙ same) (in_head e ds)
+        | inr later ↦
+            let behind : k.end <ℤ p.reading = omega (arith, ints, opens_behind ow k.end ps cs c some are.1 later, past) in
+            in_tail e c ds ((rest (one (inl behind)) behind).0 later)
+      ],
+      λ at. elim (in_cases e c ds at) [
+        | inl same ↦ subst (Contains (k ∷ cs)) (one (inr (subst (λ (x : Cluster). x.end <ℤ p.reading) (sym same) past)) ∙ same) (in_head k cs)
+        | inr later ↦
+            let opens = opens_behind ow e.end (ps ++ p ∷ []) ds c some next.1 later in
+            let same = one (inr (omega (arith, ints, opens, past))) in
+            in_tail k c cs ((rest same (omega (arith, ints, opens, past, ap (λ (x : Cluster). x.end) same))).1 later)
+      ],
+    )
+
+-- one that ends before all that come is one with them where it is one without
+pub same_beyond : (ow : ℤ) (ps more : List Point) (cs ds : List Cluster) (c : Cluster) → pos 0 ≤ℤ ow → AreClusters ow ps cs → AreClusters ow (ps ++ more) ds
+    → AllByRecursion (λ q. c.end <ℤ q.reading) more → (Contains cs c → Contains ds c) × (Contains ds c → Contains cs c)
+same_beyond ow ps [] cs ds c some are next past =
     let unique = (one_list_of_clusters ow ps).2 in
     let same : ds ≡ cs = unique ds (subst (λ (qs : List Point). AreClusters ow qs ds) (append-nil ps) next) ∙ sym (unique cs are) in
-    subst (λ (x : List Cluster). Contains x c) same at
-cluster_was ow ps (p ∷ more) cs ds c some are next at past =
+    (subst (λ (x : List Cluster). Contains x c) (sym same), subst (λ (x : List Cluster). Contains x c) same)
+same_beyond ow ps (p ∷ more) cs ds c some are next past =
     let found = one_list_of_clusters ow (ps ++ p ∷ []) in
     let whole : AreClusters ow ((ps ++ p ∷ []) ++ more) ds = subst (λ (qs : List Point). AreClusters ow qs ds) (sym (append_assoc ps (p ∷ []) more)) next in
-    was_by ow ps p cs found.0 c some are found.1 (cluster_was ow (ps ++ p ∷ []) more found.0 ds c some found.1 whole at past.1) past.0
+    let one = same_by ow ps p cs found.0 c some are found.1 past.0 in
+    let all = same_beyond ow (ps ++ p ∷ []) more found.0 ds c some found.1 whole past.1 in
+    (λ at. all.0 (one.0 at), λ at. one.1 (all.1 at))
 
--- ---- members
+-- so it was one before they came
+pub cluster_was : (ow : ℤ) (ps more : List Point) (cs ds : List Cluster) (c : Cluster) → pos 0 ≤ℤ ow → AreClusters ow ps cs → AreClusters ow (ps ++ more) ds
+    → Contains ds c → AllByRecursion (λ q. c.end <ℤ q.reading) more → Contains cs c
+cluster_was ow ps more cs ds c some are next at past = (same_beyond ow ps more cs ds c some are next past).1 at
 
 -- the master of a point that a cluster holds is one of its members
 pub is_held : (ow : ℤ) (ps : List Point) (cs : List Cluster) (c : Cluster) (p : Point) → pos 0 ≤ℤ ow → Ordered ps → AreClusters ow ps cs → Contains cs c

@@ -1,10 +1,9 @@
 -- The points of a compression master as records come.
-use Rattle.precision_law.proofs.words.Std.{◌++◌, ◌-◌, ◌<◌, ◌∙◌, ◌∷◌, ◌≡◌, ◌≤ℤ◌, ◌≤◌, ◌⊎◌, Bool, List, None, Option, Some, [], after_last, ap, append_assoc, arith, cons_option, false, filter_map, filter_map-append, inl, inr, ints, not, not_from_false, pos, refl, subst, sym, true, ℕ, ℤ}
+use Rattle.precision_law.proofs.words.Std.{◌++◌, ◌-◌, ◌<◌, ◌∙◌, ◌∷◌, ◌≡◌, ◌≤ℤ◌, ◌≤◌, ◌⊎◌, Bool, List, None, Option, Some, [], after_last, ap, append_assoc, arith, cons_option, filter_map, filter_map-append, inl, inr, ints, pos, refl, subst, sym, ℕ, ℤ}
 use Rattle.precision_law.proofs.words.Plans.{DeviceId, Ordered, Point, amount}
-use Rattle.precision_law.proofs.words.Runs.{Happening, IsBefore, IsCaused, IsDue, IsFounded, IsIn, NoteBody, behind_first, ends_stretch, founded_at, in_left, in_parts, in_right, key, members_in, numbered_in, place_of, point_by, points_of, rank, time_of}
+use Rattle.precision_law.proofs.words.Runs.{Happening, IsBefore, IsCaused, IsDue, IsFounded, IsIn, behind_first, ends_stretch, founded_at, in_left, in_right, members_in, numbered_in, place_of, point_by, points_of, time_of}
 use Rattle.precision_law.proofs.words.Laws.{IsRipe, IsView, View}
-use Rattle.precision_law.proofs.words.Clocks.{PartsAtLast, after_last_at, after_last_none, all_by, all_of, behind_last, in_filter_map, parts_at_last, permanence_is_sharp, ripe_in_order, steady}
-use Rattle.run_law.specs.declared.note.NoteBody.TheVariants as notes
+use Rattle.precision_law.proofs.words.Clocks.{PartsAtLast, after_last_at, after_more, all_by, behind_last, in_filter_map, not_each, parts_at_last, permanence_is_sharp, ripe_in_order, steady}
 use Rattle.precision_law.proofs.compression.Emitted.{GivesPoint, arrival_young, gives_point}
 use Rattle.precision_law.proofs.records.Behind.PartsAtLast.{none, some}
 
@@ -60,9 +59,7 @@ points_in_order : (v : View) (cm : DeviceId) (k l : Happening) (p q : Point) →
 points_in_order v cm k l p q is i j gk gl before =
     let a = read_at v cm k p is i gk in
     let b = read_at v cm l q is j gl in
-    let of_k = subst (λ (n : NoteBody). IsBefore (time_of k ∷ rank n ∷ key (members_in k) n) (place_of l)) gk.is before in
-    let of_l = subst (λ (n : NoteBody). IsBefore (time_of k ∷ rank (notes.Permanent cm gk.link gk.cause gk.point gk.verdict) ∷ key (members_in k)
-    (notes.Permanent cm gk.link gk.cause gk.point gk.verdict)) (time_of l ∷ rank n ∷ key (members_in l) n)) gl.is of_k in
+    let of_l = rw (gk.is, gl.is) at before in
     elim (place_order (time_of k) (time_of l) cm.0 (amount gk.point) (amount gl.point) (members_in k ∷ gk.link.0 ∷ gk.cause ∷ [])
     (members_in l ∷ gl.link.0 ∷ gl.cause ∷ []) of_l) [
       | inl lt ↦ ripe_in_order v.sizes (v.scenario.reading cm) a.arrived b.arrived p.reading q.reading (time_of k) (time_of l) (steady v is cm) a.ripe b.ripe lt
@@ -105,29 +102,13 @@ abbrev pub IsGivenIn : DeviceId → List Happening → Point → Type 0
 IsGivenIn cm ks p = (k : Happening) × IsIn k ks × (point_by cm k k.note.body ≡ Some p)
 
 -- behind the last of a kind stands what stood there, with what comes, or only what comes
-module _ {X : Type 0} (p : X → Bool) where
-  pub last_none : (xs ys : List X) → ((y : X) → IsIn y ys → p y ≡ false) → PartsAtLast p xs → after_last p (xs ++ ys) ≡ after_last p xs ++ ys
-  last_none xs ys quiet (none all) =
-      after_last_none p (xs ++ ys)
-      (all_of (λ (x : X). not (p x) ≡ true) (xs ++ ys) (λ x i. not_from_false (p x) (elim (in_parts x xs ys i) [ inl l ↦ all x l | inr r ↦ quiet x r ])))
-      ∙ ap (λ (zs : List X). zs ++ ys) (sym (after_last_none p xs (all_of (λ (x : X). not (p x) ≡ true) xs (λ x i. not_from_false (p x) (all x i)))))
-  last_none xs ys quiet (some front rest last whole here all) =
-      ap (λ (zs : List X). after_last p (zs ++ ys)) whole
-      ∙ ap (after_last p) (append_assoc front (last ∷ rest) ys)
-      ∙ after_last_at p front last (rest ++ ys) here
-      (all_of (λ (x : X). not (p x) ≡ true) (rest ++ ys)
-      (λ x i. not_from_false (p x) (elim (in_parts x rest ys i) [ inl l ↦ all x l | inr r ↦ quiet x r ])))
-      ∙ ap (λ (zs : List X). zs ++ ys)
-      (sym (ap (after_last p) whole
-      ∙ after_last_at p front last rest here (all_of (λ (x : X). not (p x) ≡ true) rest (λ x i. not_from_false (p x) (all x i)))))
-
-  last_parts : (xs ys : List X) → PartsAtLast p ys → (after_last p (xs ++ ys) ≡ after_last p xs ++ ys)
-      ⊎ ((x : X) → IsIn x (after_last p (xs ++ ys)) → IsIn x ys)
-  last_parts xs ys (none all) = inl (last_none xs ys all (parts_at_last p xs))
-  last_parts xs ys (some front rest last whole here all) =
-      let at = ap (λ (zs : List X). after_last p (xs ++ zs)) whole ∙ ap (after_last p) (sym (append_assoc xs front (last ∷ rest))) ∙ after_last_at p
-      (xs ++ front) last rest here (all_of (λ (x : X). not (p x) ≡ true) rest (λ x i. not_from_false (p x) (all x i))) in
-      inr (λ x i. subst (IsIn x) (sym whole) (in_right x front (last ∷ rest) (inr (subst (IsIn x) at i))))
+last_parts : {X : Type 0} (p : X → Bool) (xs ys : List X) → PartsAtLast p ys → (after_last p (xs ++ ys) ≡ after_last p xs ++ ys)
+    ⊎ ((x : X) → IsIn x (after_last p (xs ++ ys)) → IsIn x ys)
+last_parts p xs ys (none all) = inl (after_more p xs ys all (parts_at_last p xs))
+last_parts {X} p xs ys (some front rest last whole here all) =
+    let at = ap (λ (zs : List X). after_last p (xs ++ zs)) whole ∙ ap (after_last p) (sym (append_assoc xs front (last ∷ rest)))
+    ∙ after_last_at p (xs ++ front) last rest here (not_each p rest all) in
+    inr (λ x i. subst (IsIn x) (sym whole) (in_right x front (last ∷ rest) (inr (subst (IsIn x) at i))))
 
 -- records that come add points behind those of the stretch, or begin another, whose points are all given by them
 pub record AddsPoints (cm : DeviceId) (front back : List Happening) : Type 0 where

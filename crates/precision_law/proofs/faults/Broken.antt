@@ -1,12 +1,12 @@
 -- One master at most is broken, and no two masters have one member number.
-use Rattle.precision_law.proofs.words.Std.{◌++◌, ◌<◌, ◌∙◌, ◌∷◌, ◌≡◌, ◌≤◌, Bool, IfSome, List, Option, Some, [], ap, arith, cases_eq, cases_lt, false, filter, if◌then◌else◌, inl, inr, is_some, nat_le, refl, slice_get, subst, suc, sym, true, zero, ℕ}
+use Rattle.precision_law.proofs.words.Std.{◌++◌, ◌<◌, ◌∙◌, ◌∷◌, ◌≡◌, ◌≤◌, Bool, IfSome, List, Option, Some, [], ap, append_assoc, arith, cases_eq, cases_lt, false, filter, if◌then◌else◌, inl, inr, is_some, nat_le, refl, slice_get, subst, suc, sym, true, zero, ℕ}
 use Rattle.precision_law.proofs.words.Plans.{Device, DeviceId, Event, IsDeviceInRange, Masters, all_at, amount, device_at, is_master}
-use Rattle.precision_law.proofs.words.Runs.{Breaks, IsBroken, IsIn, SecondBreak, any_first, any_later, breaks_at, events_up_to, in_filter, in_parts, member_of, parted}
+use Rattle.precision_law.proofs.words.Runs.{Breaks, IsIn, SecondBreak, breaks_at, events_up_to, in_filter, in_parts, in_right, member_of, parted}
 use Rattle.precision_law.proofs.words.Laws.{IsBad, IsView, OneMasterBreaks, View}
 use Rattle.net_plan.specs.declared.event.What.TheVariants as events
 use Rattle.precision_law.proofs.faults.Masters.{any_in, breaks_it, device_of_place}
 use Rattle.precision_law.proofs.trips.Ascents.{bad_role}
-use Rattle.precision_law.proofs.Plain.{reached}
+use Rattle.precision_law.proofs.Plain.{any_of_in, reached}
 
 -- ---- one breaks
 
@@ -24,19 +24,6 @@ broke_by v device bad =
     let same = device_of_place breaks.0 device breaks.2 in
     record { event = found.0; there = in_filter (λ e. nat_le (amount e.time) v.until) s.events found.0 found.1; breaks = breaks.1 ∙ ap events.Break same }
 
-broken_in : (es : List Event) (e : Event) (device : DeviceId) → IsIn e es → Breaks device e → IsBroken es device
-broken_in [] e device i breaks = absurd i
-broken_in (x ∷ es) e device (inl same) breaks = any_first (Breaks device) x es (subst (Breaks device) same breaks)
-broken_in (x ∷ es) e device (inr more) breaks = any_later (Breaks device) x es (broken_in es e device more breaks)
-
-in_end : {X : Type 0} (ps qs : List X) (x : X) → IsIn x (ps ++ x ∷ qs)
-in_end [] qs x = inl refl
-in_end (p ∷ ps) qs x = inr (in_end ps qs x)
-
-split_twice : {X : Type 0} (ps mid qs : List X) (e : X) → (ps ++ e ∷ mid) ++ qs ≡ ps ++ e ∷ (mid ++ qs)
-split_twice [] mid qs e = refl
-split_twice (p ∷ ps) mid qs e = ap (λ (t : List _). p ∷ t) (split_twice ps mid qs e)
-
 pub one_bad : (v : View) (device other : DeviceId) → IsView v → IsBad v device → IsBad v other → other ≡ device
 one_bad v device other is bad bad' =
     let a = broke_by v device bad in
@@ -44,17 +31,17 @@ one_bad v device other is bad bad' =
     let at = parted a.event v.scenario.events a.there in
     elim (in_parts b.event at.0 (a.event ∷ at.1) (subst (IsIn b.event) at.2 b.there)) [
       | inl before ↦ absurd (is.lawful.within at.0 at.1 a.event at.2 SecondBreak
-          (record { device = device; broken = other; breaks = a.breaks; is_broken = broken_in at.0 b.event other before b.breaks }))
+          (record { device = device; broken = other; breaks = a.breaks; is_broken = any_of_in (Breaks other) b.event at.0 before b.breaks }))
       | inr (inl same) ↦ (let both : events.Break other ≡ events.Break device = sym b.breaks ∙ ap (λ (e : Event). e.what) same ∙ a.breaks in cc)
       | inr (inr after) ↦
           let to = parted b.event at.1 after in
-          let whole = at.2 ∙ ap (λ (t : List Event). at.0 ++ a.event ∷ t) to.2 ∙ sym (split_twice at.0 to.0 (b.event ∷ to.1) a.event) in
+          let whole = at.2 ∙ ap (λ (t : List Event). at.0 ++ a.event ∷ t) to.2 ∙ sym (append_assoc at.0 (a.event ∷ to.0) (b.event ∷ to.1)) in
           absurd (is.lawful.within (at.0 ++ a.event ∷ to.0) to.1 b.event whole SecondBreak
           (record {
             device = other;
             broken = device;
             breaks = b.breaks;
-            is_broken = broken_in (at.0 ++ a.event ∷ to.0) a.event device (in_end at.0 to.0 a.event) a.breaks;
+            is_broken = any_of_in (Breaks device) a.event (at.0 ++ a.event ∷ to.0) (in_right a.event at.0 (a.event ∷ to.0) (inl refl)) a.breaks;
           }))
     ]
 
@@ -117,17 +104,10 @@ one_member v a b m is of_a of_b =
     let x = has_member v a m is of_a in
     let y = has_member v b m is of_b in
     let differ = (is.lawful.rules Masters 1).members refl in
+    let clash = λ (p q : DeviceId) (at_p : HasMember v p m) (at_q : HasMember v q m) (lt : p.0 < q.0).
+    let k = kept_pair (λ (d : Device). is_master d.role) v.scenario.network.device p.0 q.0 at_p.d at_q.d lt at_p.at at_q.at at_p.master at_q.master in
+    differ k.0 k.1 at_p.d at_q.d k.2 k.3 k.4 (at_p.member ∙ sym at_q.member) in
     elim (cases_eq a.0 b.0) [
       | inl same ↦ device_of_place a b same
-      | inr other ↦ elim (cases_lt a.0 b.0) [
-        | inl lt ↦
-            let p = kept_pair (λ (d : Device). is_master d.role) v.scenario.network.device a.0 b.0 x.d y.d lt x.at y.at x.master y.master in
-            absurd (differ p.0 p.1 x.d y.d p.2 p.3 p.4 (x.member ∙ sym y.member))
-        | inr ge ↦
-            let p = kept_pair (λ (d : Device). is_master d.role) v.scenario.network.device b.0 a.0 _ _ (strict a.0 b.0 ge other) y.at x.at y.master x.master in
-            absurd (differ p.0 p.1 y.d x.d p.2 p.3 p.4 (y.member ∙ sym x.member))
-      ]
+      | inr other ↦ elim (cases_lt a.0 b.0) [ inl lt ↦ absurd (clash a b x y lt) | inr ge ↦ absurd (clash b a y x (omega (arith, ge, other))) ]
     ]
-  where
-    strict : (i j : ℕ) → j ≤ i → (i ≡ j → ⊥) → j < i
-    strict i j ge other = elim (cases_lt j i) [ inl lt ↦ lt | inr le ↦ absurd (other (omega (arith, ge, le))) ]

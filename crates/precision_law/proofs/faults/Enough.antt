@@ -1,12 +1,13 @@
 -- Enough masters began on and are good.
-use Rattle.precision_law.proofs.words.Std.{◌&&◌, ◌++◌, ◌+◌, ◌/◌, ◌<◌, ◌∙◌, ◌∷◌, ◌≡◌, ◌≤◌, ◌⊎◌, Bool, IsNone, List, None, Option, Some, [], and_parts, ap, arith, bit_at, bit_at-pow_other, bit_at-suc, bit_at-zero, bit_at_lowest, bit_at_or, both_ways, cases_eq, cases_lt, cond, count_by, count_ones, enumerate_from, eq-eqb, false, false_from_ne_true, filter, if◌then◌else◌, inl, inr, is_some, length, list_any, not, not-true, ones_le_self, ones_step, option_and_then, option_map_or, refl, slice_get, subst, suc, sum_by-cons, sym, true, zero, ℕ}
-use Rattle.precision_law.proofs.words.Plans.{Device, DeviceId, Event, IsDeviceInRange, IsMember, Masters, Members, Units, all_at, closed, count_of, device_at, is_master, none, single, union}
-use Rattle.precision_law.proofs.words.Runs.{Breaks, IsIn, TooFewMasters, breaks_at, is_broken, is_sound_master, member_of, parted, sound_masters}
+use Rattle.precision_law.proofs.words.Std.{◌&&◌, ◌++◌, ◌+◌, ◌/◌, ◌<◌, ◌∙◌, ◌∷◌, ◌≡◌, ◌≤◌, ◌⊎◌, Bool, IsNone, List, None, Option, Some, [], and_parts, ap, arith, bit_at, bit_at-pow_other, bit_at-suc, bit_at-zero, bit_at_lowest, bit_at_or, both_ways, cases_eq, cases_lt, cond, count_by, count_ones, enumerate_from, eq-eqb, false, false_from_ne_true, filter, if◌then◌else◌, inl, inr, is_some, length, list_any, not, not-true, ones_le_self, ones_step, option_map_or, refl, slice_get, subst, suc, sum_by-cons, sym, true, zero, ℕ}
+use Rattle.precision_law.proofs.words.Plans.{Device, DeviceId, Event, IsMember, Masters, Members, closed, count_of, device_at, is_master, none, single, union}
+use Rattle.precision_law.proofs.words.Runs.{Breaks, TooFewMasters, breaks_at, in_right, is_broken, is_sound_master, member_of, parted, sound_masters}
 use Rattle.precision_law.proofs.words.Laws.{EnoughMasters, IsBad, IsFirstMaster, IsGood, IsView, View}
 use Rattle.membership.proofs.CountLemmas.{count_of-union_single}
 use Rattle.precision_law.proofs.faults.Broken.{broke_by, one_bad, one_member}
 use Rattle.precision_law.proofs.faults.Masters.{in_any}
-use Rattle.precision_law.proofs.Plain.{some_of}
+use Rattle.std.proofs.lemmas.Option.{slice_get_within}
+use Rattle.precision_law.proofs.trips.Ascents.{master_member}
 
 -- ---- bits
 
@@ -20,16 +21,10 @@ ones_within (suc d) n m small each =
 
 -- a set within another has no more members
 pub sets_within : (a b : Members) → ((i : ℕ) → IsMember i a → IsMember i b) → count_of a ≤ count_of b
-sets_within a b each = ones_within a.0 a.0 b.0 (omega arith) (λ i. by i (bit_at a.0 i) refl (omega arith))
-  where
-    by : (i x : ℕ) → bit_at a.0 i ≡ x → x < 2 → bit_at a.0 i ≤ bit_at b.0 i
-    by i zero e lt = omega (arith, e)
-    by i (suc zero) e lt = (let m = each i e in omega (arith, e, m))
-    by i (suc (suc n)) e lt = absurd (omega (arith, lt))
-
--- what is in a set with one more
-in_union : (i k : ℕ) (m : Members) → IsMember i (union (single k) m) → (i ≡ k) ⊎ IsMember i m
-in_union i k m set = elim (cases_eq i k) [ inl same ↦ inl same | inr other ↦ inr (omega (arith, bit_at_or (single k).0 m.0 i, bit_at-pow_other k i other)) ]
+sets_within a b each = ones_within a.0 a.0 b.0 (omega arith) (λ i. elim (cases_eq (bit_at a.0 i) 1) [
+  | inl one ↦ (let m = each i one in omega (arith, one, m))
+  | inr other ↦ (let small : bit_at a.0 i < 2 = omega arith in omega (arith, small, other))
+])
 
 -- ---- the sound masters' members
 
@@ -45,87 +40,61 @@ record IsSoundAt (v : View) (befallen : List Event) (i : ℕ) : Type 0 where
 abbrev AreBelow : View → List Event → ℕ → Members → Type 0
 AreBelow v befallen place set = (i : ℕ) → IsMember i set → (s : IsSoundAt v befallen i) × (s.device.0 < place)
 
-sound_member : (v : View) (befallen : List Event) (k : ℕ) (d : Device) → IsView v → slice_get v.scenario.network.device k ≡ Some d
-    → is_sound_master befallen (k, d) ≡ true → (i : ℕ) × (member_of v.scenario.network (record { 0 = k }) ≡ Some i)
-sound_member v befallen k d is at sound =
-    let known : IsDeviceInRange d = all_at IsDeviceInRange v.scenario.network.device k d is.lawful.range.devices at in
-    let role = (and_parts (is_master d.role) (is_some d.start)
-    (and_parts (is_master d.role && is_some d.start) (not (list_any (λ e. breaks_at k e.what) befallen)) sound).0).0 in
-    let m = some_of d.member (known.masters ∙ role) in
-    (m.0, ap (λ (o : Option Device). option_and_then (λ x. x.member) o) at ∙ m.1)
+-- a set of so many members, each that of a sound master
+abbrev HasSound : View → List Event → ℕ → Type 0
+HasSound v befallen n = (set : Members) × (count_of set ≡ n) × ((i : ℕ) → IsMember i set → IsSoundAt v befallen i)
 
 grow : (v : View) (befallen : List Event) (xs : List Device) (k : ℕ) (set : Members) → IsView v
     → ((j : ℕ) (d : Device) → slice_get xs j ≡ Some d → slice_get v.scenario.network.device (k + j) ≡ Some d) → AreBelow v befallen k set
-    → (more : Members) × (count_of more ≡ count_of set + count_by (is_sound_master befallen) (enumerate_from k xs))
-    × ((i : ℕ) → IsMember i more → IsSoundAt v befallen i)
+    → HasSound v befallen (count_of set + count_by (is_sound_master befallen) (enumerate_from k xs))
 grow v befallen [] k set is there below = (set, omega arith, λ i m. (below i m).0)
-grow v befallen (d ∷ xs) k set is there below = by (is_sound_master befallen (k, d)) refl (grow v befallen xs (k + 1))
-  where
-    here : slice_get v.scenario.network.device k ≡ Some d
-    here = subst (λ (n : ℕ). slice_get v.scenario.network.device n ≡ Some d) (plus_zero k) (there 0 d refl)
-      where
-        plus_zero : (n : ℕ) → n + 0 ≡ n
-        plus_zero n = omega arith
-
-    later : (j : ℕ) (e : Device) → slice_get xs j ≡ Some e → slice_get v.scenario.network.device ((k + 1) + j) ≡ Some e
-    later j e at = subst (λ (n : ℕ). slice_get v.scenario.network.device n ≡ Some e) (shifted k j) (there (suc j) e at)
-      where
-        shifted : (a b : ℕ) → a + suc b ≡ (a + 1) + b
-        shifted a b = omega arith
-
-    by : (b : Bool) → is_sound_master befallen (k, d) ≡ b
-        → ((set : Members) → IsView v → ((j : ℕ) (e : Device) → slice_get xs j ≡ Some e → slice_get v.scenario.network.device ((k + 1) + j) ≡ Some e)
-        → AreBelow v befallen (k + 1) set → (more : Members)
-        × (count_of more ≡ count_of set + count_by (is_sound_master befallen) (enumerate_from (k + 1) xs))
-        × ((i : ℕ) → IsMember i more → IsSoundAt v befallen i))
-        → (more : Members) × (count_of more ≡ count_of set + count_by (is_sound_master befallen) (enumerate_from k (d ∷ xs)))
-        × ((i : ℕ) → IsMember i more → IsSoundAt v befallen i)
-    by false e back =
-        let r = back set is later (λ i m. (let b = below i m in let lt = b.1 in (b.0, omega (arith, lt)))) in
-        let c = sum_by-cons (λ (x : ℕ × Device). cond (is_sound_master befallen x) 1 0) (k, d) (enumerate_from (k + 1) xs) in
-        (r.0, omega (arith, r.1, c, ap (λ (b : Bool). let n : ℕ = cond b 1 0 in n) e), r.2)
-    by true e back =
-        let m = sound_member v befallen k d is here e in
-        let new : IsMember m.0 set → ⊥ = λ old.
-        (let b = below m.0 old in let lt = b.1 in let same = one_member v b.0.device (record { 0 = k }) m.0 is b.0.is_member
-        m.1 in let place : b.0.device.0 ≡ k = ap (λ (x : DeviceId). x.0) same in absurd (omega (arith, lt, place))) in
-        let grown = count_of-union_single m.0 set new in
-        let r = back (union (single m.0) set) is later (λ i j. elim (in_union i m.0 set j) [
-          | inl same ↦ (record { device = record { 0 = k }; d = d; at = here; sound = e; is_member = m.1 ∙ ap (λ (x : ℕ). Some x) (sym same) }, omega arith)
-          | inr old ↦ (let b = below i old in let lt = b.1 in (b.0, omega (arith, lt)))
-        ]) in
-        let c = sum_by-cons (λ (x : ℕ × Device). cond (is_sound_master befallen x) 1 0) (k, d) (enumerate_from (k + 1) xs) in
-        (r.0, omega (arith, r.1, c, ap (λ (b : Bool). let n : ℕ = cond b 1 0 in n) e, grown), r.2)
+grow v befallen (d ∷ xs) k set is there below =
+    let test = is_sound_master befallen (k, d) in
+    let here : slice_get v.scenario.network.device k ≡ Some d =
+    (let same : k + 0 ≡ k = omega arith in subst (λ (n : ℕ). slice_get v.scenario.network.device n ≡ Some d) same (there 0 d refl)) in
+    let later : (j : ℕ) (e : Device) → slice_get xs j ≡ Some e → slice_get v.scenario.network.device ((k + 1) + j) ≡ Some e = λ j e at.
+    (let same : k + suc j ≡ (k + 1) + j = omega arith in subst (λ (n : ℕ). slice_get v.scenario.network.device n ≡ Some e) same (there (suc j) e at)) in
+    let old : AreBelow v befallen (k + 1) set = λ i m. (let b = below i m in let lt = b.1 in (b.0, omega (arith, lt))) in
+    let counts = sum_by-cons (λ (x : ℕ × Device). cond (is_sound_master befallen x) 1 0) (k, d) (enumerate_from (k + 1) xs) in
+    elim test as (λ b. test ≡ b → HasSound v befallen (count_of set + count_by (is_sound_master befallen) (enumerate_from k (d ∷ xs)))) [
+      | false ↦ λ e.
+          let r = grow v befallen xs (k + 1) set is later old in
+          (r.0, omega (arith, r.1, counts, ap (λ (b : Bool). let n : ℕ = cond b 1 0 in n) e), r.2)
+      | true ↦ λ e.
+          let role = (and_parts (is_master d.role) (is_some d.start)
+          (and_parts (is_master d.role && is_some d.start) (not (list_any (λ e. breaks_at k e.what) befallen)) e).0).0 in
+          let m = master_member v (record { 0 = k }) is (ap (λ (o : Option Device). option_map_or (λ x. is_master x.role) o false) here ∙ role) in
+          let new : IsMember m.0 set → ⊥ = λ old.
+          let b = below m.0 old in
+          let place : b.0.device.0 ≡ k = ap (λ (x : DeviceId). x.0) (one_member v b.0.device (record { 0 = k }) m.0 is b.0.is_member m.1) in
+          absurd (omega (arith, b.1, place)) in
+          let r = grow v befallen xs (k + 1) (union (single m.0) set) is later (λ i j. elim (cases_eq i m.0) [
+            | inl same ↦ (record { device = record { 0 = k }; d = d; at = here; sound = e; is_member = m.1 ∙ ap (λ (x : ℕ). Some x) (sym same) }, omega arith)
+            | inr other ↦ old i (omega (arith, j, bit_at_or (single m.0).0 set.0 i, bit_at-pow_other m.0 i other))
+          ]) in
+          (r.0, omega (arith, r.1, counts, ap (λ (b : Bool). let n : ℕ = cond b 1 0 in n) e, count_of-union_single m.0 set new), r.2)
+    ] refl
 
 -- a set that has all first masters has as many members as there are sound masters, where these are good
 enough_by : (v : View) (befallen : List Event) (members : Members) → IsView v
     → ((device : DeviceId) (i : ℕ) → IsFirstMaster v device → member_of v.scenario.network device ≡ Some i → IsMember i members)
     → ((device : DeviceId) (d : Device) → device_at v.scenario.network device ≡ Some d → list_any (λ e. breaks_at device.0 e.what) befallen ≡ false
-    → IsGood v device)
-    → sound_masters v.scenario.network befallen ≤ count_of members
+    → IsGood v device) → sound_masters v.scenario.network befallen ≤ count_of members
 enough_by v befallen members is all good =
-    let r = grow v befallen v.scenario.network.device 0 none is (λ j d at. subst (λ (x : ℕ). slice_get v.scenario.network.device x ≡ Some d) (zero_plus j) at)
-    (λ i m. (let z = bit_at-zero i in absurd (omega (arith, m, z)))) in
+    let r = grow v befallen v.scenario.network.device 0 none is (λ j d at.
+    let same : j ≡ 0 + j = omega arith in
+    subst (λ (x : ℕ). slice_get v.scenario.network.device x ≡ Some d) same at) (λ i m. (let z = bit_at-zero i in absurd (omega (arith, m, z)))) in
     let empty : count_of none ≡ 0 = (let le = ones_le_self 0 in omega (arith, le)) in
     omega (arith, r.1, sets_within r.0 members (λ i m. is_first i (r.2 i m)), empty)
   where
-    zero_plus : (n : ℕ) → n ≡ 0 + n
-    zero_plus n = omega arith
-
-    is_there : (o : Option Device) (d : Device) → o ≡ Some d → is_master d.role ≡ true → option_map_or (λ x. is_master x.role) o false ≡ true
-    is_there o d e role = ap (λ (o : Option Device). option_map_or (λ x. is_master x.role) o false) e ∙ role
-
-    starts : (o : Option Units) → is_some o ≡ true → IsNone o → ⊥
-    starts None e n = absurd cc
-    starts (Some x) e n = absurd cc
-
     is_first : (i : ℕ) → IsSoundAt v befallen i → IsMember i members
     is_first i s =
         let more = and_parts (is_master s.d.role && is_some s.d.start) (not (list_any (λ e. breaks_at s.device.0 e.what) befallen)) s.sound in
         let parts = and_parts (is_master s.d.role) (is_some s.d.start) more.0 in
         all s.device i (record {
-          master = is_there (device_at v.scenario.network s.device) s.d s.at parts.0;
-          on = closed (λ (x : Device). IsNone x.start → ⊥) (device_at v.scenario.network s.device) s.d s.at (starts s.d.start parts.1);
+          master = ap (λ (o : Option Device). option_map_or (λ x. is_master x.role) o false) s.at ∙ parts.0;
+          on = closed (λ (x : Device). IsNone x.start → ⊥) (device_at v.scenario.network s.device) s.d s.at
+              (elim s.d.start as (λ o. is_some o ≡ true → IsNone o → ⊥) [ None ↦ λ e off. absurd cc | Some x ↦ λ e off. absurd cc ] parts.1);
           good = good s.device s.d s.at (not-true (list_any (λ e. breaks_at s.device.0 e.what) befallen) more.1);
         }) s.is_member
 
@@ -136,62 +105,44 @@ none_befell : (xs : List Device) (k : ℕ) → count_by (is_sound_master []) (en
     (filter (λ d. is_master d.role) xs)
 none_befell [] k = refl
 none_befell (d ∷ xs) k =
+    let more = none_befell xs (k + 1) in
     let a = sum_by-cons (λ (x : ℕ × Device). cond (is_sound_master [] x) 1 0) (k, d) (enumerate_from (k + 1) xs) in
-    by (is_master d.role) (is_some d.start) refl refl (none_befell xs (k + 1)) a
-  where
-    by : (m s : Bool) → is_master d.role ≡ m → is_some d.start ≡ s → count_by (is_sound_master []) (enumerate_from (k + 1) xs) ≡ count_by (λ d. is_some d.start)
-        (filter (λ d. is_master d.role) xs) → count_by (is_sound_master []) (enumerate_from k (d ∷ xs)) ≡ cond (is_sound_master [] (k, d)) 1 0 + count_by
-        (is_sound_master []) (enumerate_from (k + 1) xs) → count_by (is_sound_master []) (enumerate_from k (d ∷ xs)) ≡ count_by (λ d. is_some d.start)
-        (filter (λ d. is_master d.role) (d ∷ xs))
-    by false s e f more a =
-        let kept = ap (λ (b : Bool). if b then d ∷ filter (λ d. is_master d.role) xs else filter (λ d. is_master d.role) xs) e in
-        let one : cond (is_sound_master [] (k, d)) 1 0 ≡ 0 = ap (λ (b : Bool). let n : ℕ = cond (b && is_some d.start && true) 1 0 in n) e in
-        omega (arith, more, a, one, ap (λ (ys : List Device). count_by (λ d. is_some d.start) ys) kept)
-    by true s e f more a =
-        let kept = ap (λ (b : Bool). if b then d ∷ filter (λ d. is_master d.role) xs else filter (λ d. is_master d.role) xs) e in
-        let c = sum_by-cons (λ (x : Device). cond (is_some x.start) 1 0) d (filter (λ d. is_master d.role) xs) in
-        let one : cond (is_sound_master [] (k, d)) 1 0 ≡ cond (s && true) 1 0 = ap (λ (b : Bool). let n : ℕ = cond (b && is_some d.start && true) 1 0 in n) e
-        ∙ ap (λ (b : Bool). let n : ℕ = cond (b && true) 1 0 in n) f in
-        let other : cond (is_some d.start) 1 0 ≡ cond s 1 0 = ap (λ (b : Bool). let n : ℕ = cond b 1 0 in n) f in
-        let trues : cond (s && true) 1 0 ≡ cond s 1 0 = ap (λ (b : Bool). let n : ℕ = cond b 1 0 in n) (and_true s) in
-        omega (arith, more, a, one, ap (λ (ys : List Device). count_by (λ d. is_some d.start) ys) kept, c, other, trues)
-      where
-        and_true : (b : Bool) → (b && true) ≡ b
-        and_true true = refl
-        and_true false = refl
+    let c = sum_by-cons (λ (x : Device). cond (is_some x.start) 1 0) d (filter (λ d. is_master d.role) xs) in
+    let counts = λ (s : Bool). let n : ℕ = cond s 1 0 in n in
+    elim (is_master d.role) as (λ m. is_master d.role ≡ m → count_by (is_sound_master []) (enumerate_from k (d ∷ xs)) ≡ count_by (λ d. is_some d.start)
+    (if m then d ∷ filter (λ d. is_master d.role) xs else filter (λ d. is_master d.role) xs)) [
+      | false ↦ λ e. (let none : cond (is_sound_master [] (k, d)) 1 0 ≡ 0 = ap (λ (b : Bool). counts (b && is_some d.start && true)) e in
+          omega (arith, more, a, none))
+      | true ↦ λ e.
+          let both = elim (is_some d.start) as (λ s. (s && true) ≡ s) [ true ↦ refl | false ↦ refl ] in
+          let one : cond (is_sound_master [] (k, d)) 1 0 ≡ cond (is_some d.start) 1 0 =
+          ap (λ (b : Bool). counts (b && is_some d.start && true)) e ∙ ap counts both in
+          omega (arith, more, a, one, c)
+    ] refl
 
 -- a device is broken, or none is
-some_bad : (v : View) (ds : List Device) (k : ℕ) → ((device : DeviceId) × IsBad v device) ⊎ ((j : ℕ) → j < length ds → IsGood v (record { 0 = k + j }))
-some_bad v [] k = inr (λ j lt. absurd (omega (arith, lt)))
-some_bad v (d ∷ ds) k = by (is_broken v.scenario (record { 0 = k }) v.until) refl (some_bad v ds (k + 1))
-  where
-    shifted : (a b : ℕ) → (a + 1) + b ≡ a + suc b
-    shifted a b = omega arith
-
-    plus_zero : (n : ℕ) → n ≡ n + 0
-    plus_zero n = omega arith
-
-    by : (b : Bool) → is_broken v.scenario (record { 0 = k }) v.until ≡ b → ((device : DeviceId) × IsBad v device)
-        ⊎ ((j : ℕ) → j < length ds → IsGood v (record { 0 = (k + 1) + j })) → ((device : DeviceId) × IsBad v device)
-        ⊎ ((j : ℕ) → j < length (d ∷ ds) → IsGood v (record { 0 = k + j }))
-    by true e more = inl (record { 0 = k }, e)
-    by false e (inl found) = inl found
-    by false e (inr all) = inr (λ j lt. at j lt)
-      where
-        at : (j : ℕ) → j < length (d ∷ ds) → IsGood v (record { 0 = k + j })
-        at zero lt = subst (λ (n : ℕ). IsGood v (record { 0 = n })) (plus_zero k) e
-        at (suc j) lt = subst (λ (n : ℕ). IsGood v (record { 0 = n })) (shifted k j) (all j (omega (arith, lt)))
-
-in_end : (ps : List Event) (x : Event) → IsIn x (ps ++ x ∷ [])
-in_end [] x = inl refl
-in_end (p ∷ ps) x = inr (in_end ps x)
+some_bad : (v : View) (ds : List Device) (k : ℕ) → ((device : DeviceId) × IsBad v device) ⊎ ((i : ℕ) → k ≤ i → i < k + length ds → IsGood v (record { 0 = i }))
+some_bad v [] k = inr (λ i from to. absurd (omega (arith, from, to)))
+some_bad v (d ∷ ds) k =
+    elim (is_broken v.scenario (record { 0 = k }) v.until) as (λ b. is_broken v.scenario (record { 0 = k }) v.until ≡ b
+    → ((device : DeviceId) × IsBad v device) ⊎ ((i : ℕ) → k ≤ i → i < k + length (d ∷ ds) → IsGood v (record { 0 = i }))) [
+      | true ↦ λ e. inl (record { 0 = k }, e)
+      | false ↦ λ e. elim (some_bad v ds (k + 1)) [
+        | inl found ↦ inl found
+        | inr all ↦ inr (λ i from to. elim (cases_eq i k) [
+          | inl same ↦ subst (λ (n : ℕ). IsGood v (record { 0 = n })) (sym same) e
+          | inr other ↦ all i (omega (arith, from, other)) (omega (arith, to))
+        ])
+      ]
+    ] refl
 
 pub enough_masters : EnoughMasters
 enough_masters v members is all =
     let n = v.scenario.network in
     elim (some_bad v n.device 0) [
       | inr good ↦
-          let enough = enough_by v [] members is all (λ device d at none_breaks. good_place device (good device.0 (within n.device device.0 d at))) in
+          let enough = enough_by v [] members is all (λ device d at none_breaks.
+          good device.0 (omega arith) (omega (arith, slice_get_within n.device device.0 d at))) in
           omega (arith, (is.lawful.rules Masters 3).begin_on refl, none_befell n.device 0, enough)
       | inl bad ↦
           let b = broke_by v bad.0 bad.1 in
@@ -204,17 +155,6 @@ enough_masters v members is all =
           ]
     ]
   where
-    within : (xs : List Device) (i : ℕ) (d : Device) → slice_get xs i ≡ Some d → i < length xs
-    within [] i d e = absurd cc
-    within (x ∷ xs) zero d e = omega arith
-    within (x ∷ xs) (suc i) d e = (let more = within xs i d e in omega (arith, more))
-
-    good_place : (device : DeviceId) → IsGood v (record { 0 = 0 + device.0 }) → IsGood v device
-    good_place device g = subst (λ (n : ℕ). IsGood v (record { 0 = n })) (zero_plus device.0) g
-      where
-        zero_plus : (n : ℕ) → 0 + n ≡ n
-        zero_plus n = omega arith
-
     spared : (v : View) (broken : DeviceId) (e : Event) (before : List Event) (device : DeviceId) → IsView v → IsBad v broken → Breaks broken e
         → list_any (λ x. breaks_at device.0 x.what) (before ++ e ∷ []) ≡ false → IsGood v device
     spared v broken e before device is bad breaks none_breaks =
@@ -222,4 +162,4 @@ enough_masters v members is all =
         let same = one_bad v broken device is bad bad' in
         let hit : breaks_at device.0 e.what ≡ true = ap (breaks_at device.0) breaks ∙ eq-eqb broken.0 device.0 (ap (λ (d : DeviceId). d.0) (sym same)) in
         both_ways (list_any (λ x. breaks_at device.0 x.what) (before ++ e ∷ [])) none_breaks
-        (in_any (λ (x : Event). breaks_at device.0 x.what) (before ++ e ∷ []) e (in_end before e) hit))
+        (in_any (λ (x : Event). breaks_at device.0 x.what) (before ++ e ∷ []) e (in_right e before (e ∷ []) (inl refl)) hit))

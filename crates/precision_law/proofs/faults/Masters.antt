@@ -1,7 +1,7 @@
 -- What the fault hypothesis leaves.
-use Rattle.precision_law.proofs.words.Std.{◌++◌, ◌||◌, ◌∙◌, ◌∷◌, ◌≡◌, ◌≤◌, Any, Bool, IsSomeAnd, List, Option, Some, [], ap, arith, both_ways, eqb-true, false, false_from_ne_true, inl, inr, is_some, le-leb, leb-true, list_any, nat_le, not_from_true, or_left, or_right, refl, subst, sym, true, ℕ}
+use Rattle.precision_law.proofs.words.Std.{◌++◌, ◌||◌, ◌∙◌, ◌∷◌, ◌≡◌, Any, Bool, IsSomeAnd, List, Option, Some, [], ap, arith, both_ways, eqb-true, false, false_from_ne_true, inl, inr, is_some, le-leb, leb-true, list_any, nat_le, not_from_true, or_left, or_right, refl, subst, sym, true, ℕ}
 use Rattle.precision_law.proofs.words.Plans.{A, B, Channel, Cm, Device, DeviceId, Event, HasOffSwitch, IsDeviceInRange, IsSwitchOf, Link, LinkId, Masters, Network, Relay, Role, What, all_at, amount, device_at, is_end_system, is_master, link_at, opened}
-use Rattle.precision_law.proofs.words.Runs.{Cuts, IsFaulty, IsIn, IsLinkOf, NotMaster, Scenario, any_first, any_later, breaks_at, events_up_to, in_filter, is_broken, is_faulty, parted, same_some}
+use Rattle.precision_law.proofs.words.Runs.{Cuts, IsFaulty, IsIn, IsLinkOf, NotMaster, any_first, any_later, breaks_at, events_up_to, in_filter, is_broken, is_faulty, parted, same_some}
 use Rattle.precision_law.proofs.words.Laws.{GoodIsCorrect, IsBad, IsView, OneChannelIsSound, SwitchesAreGood, View}
 use Rattle.net_plan.specs.declared.event.What.TheVariants as events
 use Rattle.precision_law.proofs.records.Times.{in_kept, passes}
@@ -11,12 +11,10 @@ use Rattle.precision_law.proofs.records.Times.{in_kept, passes}
 -- where some element passes, one is there that does
 pub any_in : {X : Type 0} (p : X → Bool) (xs : List X) → list_any p xs ≡ true → (x : X) × IsIn x xs × (p x ≡ true)
 any_in p [] e = absurd cc
-any_in {X} p (x ∷ xs) e = either p x xs (p x) refl e (any_in p xs)
-  where
-    either : {X : Type 0} (p : X → Bool) (x : X) (xs : List X) (b : Bool) → p x ≡ b → (b || list_any p xs) ≡ true
-        → (list_any p xs ≡ true → (y : X) × IsIn y xs × (p y ≡ true)) → (y : X) × IsIn y (x ∷ xs) × (p y ≡ true)
-    either p x xs true at s back = (x, inl refl, at)
-    either p x xs false at s back = (let r = back s in (r.0, inr r.1, r.2))
+any_in {X} p (x ∷ xs) e = elim (p x) as (λ b. p x ≡ b → (b || list_any p xs) ≡ true → (y : X) × IsIn y (x ∷ xs) × (p y ≡ true)) [
+  | true ↦ λ at some. (x, inl refl, at)
+  | false ↦ λ at some. (let r = any_in p xs some in (r.0, inr r.1, r.2))
+] refl e
 
 -- and where one does, some does
 pub in_any : {X : Type 0} (p : X → Bool) (xs : List X) (x : X) → IsIn x xs → p x ≡ true → list_any p xs ≡ true
@@ -59,18 +57,16 @@ switches_are_good v channel device is switch =
     let ends = master_ends d.0.role (ap (λ (x : Device). is_master x.role) (sym (same_some (device_at v.scenario.network device) m.0 d.0 m.1 d.1)) ∙ m.2) in
     both_ways (is_some d.0.channel) (known.switches ∙ not_from_true (is_end_system d.0.role) ends) (ap (λ (c : Option Channel). is_some c) d.2)))
 
--- an event up to a time is one up to a later one
-later_event : (s : Scenario) (t u : ℕ) (e : Event) → t ≤ u → IsIn e (events_up_to s t) → IsIn e (events_up_to s u)
-later_event s t u e le i =
-    let early = leb-true (amount e.time) t (passes (λ x. nat_le (amount x.time) t) s.events e i) in
-    in_kept (λ x. nat_le (amount x.time) u) s.events e (in_filter (λ x. nat_le (amount x.time) t) s.events e i) (le-leb (amount e.time) u (omega arith))
-
 pub good_is_correct : GoodIsCorrect
 good_is_correct v device t good le =
     false_from_ne_true (is_broken v.scenario device t) (λ broken.
     let found = any_in (λ (e : Event). breaks_at device.0 e.what) (events_up_to v.scenario t) broken in
+    let test = λ (u : ℕ) (x : Event). nat_le (amount x.time) u in
+    let early = leb-true (amount found.0.time) t (passes (test t) v.scenario.events found.0 found.1) in
+    let later = in_kept (test v.until) v.scenario.events found.0 (in_filter (test t) v.scenario.events found.0 found.1)
+    (le-leb (amount found.0.time) v.until (omega (arith, early, le))) in
     both_ways (is_broken v.scenario device v.until) good
-    (in_any (λ (e : Event). breaks_at device.0 e.what) (events_up_to v.scenario v.until) found.0 (later_event v.scenario t v.until found.0 le found.1) found.2))
+    (in_any (λ (e : Event). breaks_at device.0 e.what) (events_up_to v.scenario v.until) found.0 later found.2))
 
 -- ---- channels
 
@@ -101,10 +97,7 @@ link_of_one n c d link one other =
 
 -- the link that an event cuts
 pub cut_link : (link other : LinkId) (e : Event) → Cuts link e → Cuts other e → other ≡ link
-cut_link link other e a b = link_is (sym b.1 ∙ a.1)
-  where
-    link_is : {x y : _} → events.Cut other x ≡ events.Cut link y → other ≡ link
-    link_is e = cc
+cut_link link other e a b = (let same : events.Cut other b.0 ≡ events.Cut link a.0 = sym b.1 ∙ a.1 in cc)
 
 -- no two channels are faulty
 pub one_is_faulty : (n : Network) (es : List Event) (c d : Channel) → ((x y : Channel) → HasOffSwitch n x → HasOffSwitch n y → x ≡ y) → IsFaulty n es c

@@ -1,9 +1,9 @@
 -- A device that has the common time is not just turned on.
-use Rattle.precision_law.proofs.words.Std.{◌&&◌, ◌++◌, ◌<◌, ◌==◌, ◌∙◌, ◌∷◌, ◌≡◌, ◌≤◌, ◌⊎◌, Any, Bool, IsNone, IsSomeAnd, List, None, Option, Some, [], and_parts, ap, append_assoc, arith, eqb-true, false, false_from_ne_true, if◌then◌else◌, inl, inr, not, option_and_then, refl, subst, suc, sym, true, zero, ℕ}
+use Rattle.precision_law.proofs.words.Std.{◌&&◌, ◌++◌, ◌<◌, ◌==◌, ◌∙◌, ◌∷◌, ◌≡◌, ◌≤◌, Bool, IsNone, IsSomeAnd, List, None, Option, Some, and_parts, ap, append_assoc, arith, eqb-true, false, false_from_ne_true, if◌then◌else◌, inl, inr, not, option_and_then, refl, subst, suc, sym, true, zero, ℕ}
 use Rattle.precision_law.proofs.words.Plans.{Device, DeviceId, Event, Integrating, Joining, Off, State, Units, What, amount, device_at, state_at_start}
-use Rattle.precision_law.proofs.words.Runs.{BecomesPermanent, ChangesState, Emits, Happening, Integrates, IsCaused, IsEventRecord, IsIn, NotOff, NoteBody, Scenario, TurnsOn, Why, adjustment_at_hearing, any_first, any_later, before_permanence, earlier, founded_at, has_joined_at, in_at, in_left, in_parts, in_right, is_joined_by, is_off, is_turned_on_at, numbered_in, observation_window, parted, plan_of, points_of, start_of, state_after, state_at_hearing, state_before, time_of, turns_on}
+use Rattle.precision_law.proofs.words.Runs.{BecomesPermanent, ChangesState, Emits, Happening, Integrates, IsCaused, IsEventRecord, IsIn, NotOff, NoteBody, Scenario, TurnsOn, Why, adjustment_at_hearing, before_permanence, earlier, founded_at, has_joined_at, in_at, in_left, in_parts, in_right, is_joined_by, is_off, is_turned_on_at, numbered_in, observation_window, parted, plan_of, points_of, start_of, state_after, state_at_hearing, state_before, time_of, turns_on}
 use Rattle.precision_law.proofs.words.Laws.{AreBeforeCorrections, IsView, NoneTurnsOn, View, has_time, state_left}
-use Rattle.precision_law.proofs.words.Clocks.{Keeps, any_in, before_of, earlier_before, earlier_judge, in_earlier, kept_by_all, kept_if, point_has_time, same_device}
+use Rattle.precision_law.proofs.words.Clocks.{Keeps, any_in, any_of_in, before_of, earlier_before, earlier_judge, in_earlier, kept_by_all, kept_if, point_has_time, same_device}
 use Rattle.net_plan.specs.declared.event.What.TheVariants as events
 use Rattle.run_law.specs.declared.judgement.Why.TheVariants as whys
 use Rattle.run_law.specs.declared.note.NoteBody.TheVariants as notes
@@ -45,19 +45,7 @@ looking_by s ps time device (notes.Compressed other opened at cycle members Inte
     before_hearing (has_joined_at ps device (amount time)) (state_before s ps device (amount time)) looks
 looking_by s ps time device other joined caused = absurd cc
 
--- a device that is on when something comes is just turned on, or was left on
-on_or_turned : (b : Bool) (state : State) → is_on (if b then Integrating else state) ≡ true → (b ≡ true) ⊎ (is_on state ≡ true)
-on_or_turned true state e = inl refl
-on_or_turned false state e = inr e
-
 -- ---- events
-
--- an event turns the device on before the time
-record IsTurnedBefore (s : Scenario) (device : DeviceId) (t : ℕ) : Type 0 where
-  pub event : Event
-  pub there : IsIn event s.events
-  pub turns : TurnsOn device event
-  pub early : amount event.time < t
 
 turns_it : (device : DeviceId) (what : What) → turns_on device what ≡ true → what ≡ events.On device
 turns_it device (events.On other) e = ap events.On (same_device device other e)
@@ -78,15 +66,15 @@ turned_at s device t e =
 
 -- ---- a device that begins off stays so
 
-module _ (v : View) (device : DeviceId) (t : ℕ) (is : IsView v) (none : IsTurnedBefore v.scenario device t → ⊥)
+module _ (v : View) (device : DeviceId) (t : ℕ) (is : IsView v) (none : (w : ℕ) → w < t → IsTurnedAt v.scenario device w → ⊥)
     (before : (w : ℕ) → w < t → is_on (state_left v device w) ≡ true → ⊥) where
   never_on : (w : ℕ) (front : List Happening) → AreBeforeCorrections v w front → w < t → is_on (state_before v.scenario front device w) ≡ true → ⊥
   never_on w front split lt e =
-      elim (on_or_turned (is_turned_on_at v.scenario device w) (state_after v.scenario (earlier w front) device) e) [
-        | inl turned ↦ (let x = turned_at v.scenario device w turned in none
-            (record { event = x.event; there = x.there; turns = x.turns; early = omega (arith, x.at, lt) }))
-        | inr on ↦ before w lt (subst (λ (hs : List Happening). is_on (state_after v.scenario hs device) ≡ true) (earlier_before v w front split) on)
-      ]
+      elim (is_turned_on_at v.scenario device w) as (λ b. is_turned_on_at v.scenario device w ≡ b
+      → is_on (if b then Integrating else state_after v.scenario (earlier w front) device) ≡ true → ⊥) [
+        | true ↦ λ turned now. none w lt (turned_at v.scenario device w turned)
+        | false ↦ λ left on. before w lt (subst (λ (hs : List Happening). is_on (state_after v.scenario hs device) ≡ true) (earlier_before v w front split) on)
+      ] refl e
 
   never_joined : (h : Happening) → IsIn h v.records → time_of h < t → is_joined_by device h.note.body ≡ true → ⊥
   never_joined h i lt joined =
@@ -100,7 +88,8 @@ module _ (v : View) (device : DeviceId) (t : ℕ) (is : IsView v) (none : IsTurn
       let i : IsIn h v.records = subst (IsIn h) (sym split.whole) (in_left h front split.rest (numbered_in front cause h c.2.2.there)) in
       let at = founded_at v.scenario v.records h is.run.founded i in
       let r : IsEventRecord v.scenario.events h.note.time c.2.0 (events.On device) = subst (IsCaused v.scenario at.front h.note.time) c.2.3 at.due.cause in
-      none (record { event = r.event; there = in_at v.scenario.events r.before r.event r.is; turns = sym r.same; early = omega (arith, ap amount r.at) })
+      let same : amount r.event.time ≡ w = omega (arith, c.2.2.same_time, ap amount r.at) in
+      none w lt (record { event = r.event; there = in_at v.scenario.events r.before r.event r.is; turns = sym r.same; at = same })
   never_changes w front state cause whys.Frame split lt c =
       let h = c.1.0 in
       let i : IsIn h v.records = subst (IsIn h) (sym split.whole) (in_left h front split.rest (numbered_in front cause h c.1.1.there)) in
@@ -112,8 +101,7 @@ module _ (v : View) (device : DeviceId) (t : ℕ) (is : IsView v) (none : IsTurn
   keeps_off : (h : Happening) (front : List Happening) (body : NoteBody) → IsIn h v.records → time_of h < t → h.note.body ≡ body
       → AreBeforeCorrections v (time_of h) front → IsCaused v.scenario front h.note.time body → Keeps is_on device body
   keeps_off h front (notes.State other state cause why) i lt same split c old e =
-      kept_if is_on (device.0 == other.0) state old
-      (λ own on. never_changes (time_of h) front state cause why split lt
+      kept_if is_on (device.0 == other.0) state old (λ own on. never_changes (time_of h) front state cause why split lt
       (subst (λ (d : DeviceId). ChangesState v.scenario front d (time_of h) state cause why) (same_device device other own) c)) e
   keeps_off h front (notes.Permanent other link cause point Integrates) i lt same split c old e =
       kept_if is_on (device.0 == other.0) Joining old (λ own on. never_joined h i lt (ap (is_joined_by device) same ∙ own)) e
@@ -129,27 +117,18 @@ module _ (v : View) (device : DeviceId) (t : ℕ) (is : IsView v) (none : IsTurn
       keeps_off h at.front h.note.body back.0 back.1 refl (before_of _ _ is at) at.due.cause) (state_at_start (start_of v.scenario.network device)) e
 
 -- a device that begins off and is not turned on before a time is off then
-off_until : (v : View) (device : DeviceId) (bound t : ℕ) → IsView v → t ≤ bound → (IsTurnedBefore v.scenario device t → ⊥)
+off_until : (v : View) (device : DeviceId) (bound t : ℕ) → IsView v → t ≤ bound → ((w : ℕ) → w < t → IsTurnedAt v.scenario device w → ⊥)
     → (is_on (state_at_start (start_of v.scenario.network device)) ≡ true → ⊥) → is_on (state_left v device t) ≡ true → ⊥
 off_until v device zero t is le none begins e = begins (started_on v device t is none (λ w lt on. absurd (omega (arith, lt, le))) e)
 off_until v device (suc bound) t is le none begins e =
     begins (started_on v device t is none (λ w lt on. off_until v device bound w is (omega arith)
-    (λ x. none (record { event = x.event; there = x.there; turns = x.turns; early = omega (arith, x.early, lt) })) begins on) e)
+    (λ x less. none x (omega (arith, less, lt))) begins on) e)
 
 -- ---- a device is turned on once
 
-pub any_of_in : {X : Type 0} (P : X → Type 0) (x : X) (xs : List X) → IsIn x xs → P x → Any P xs
-any_of_in P x [] i p = absurd i
-any_of_in P x (y ∷ xs) (inl same) p = any_first P y xs (subst P same p)
-any_of_in P x (y ∷ xs) (inr i) p = any_later P y xs (any_of_in P x xs i p)
-
 begins_by : (o : Option Device) → is_on (state_at_start (option_and_then (λ d. d.start) o)) ≡ true → IsSomeAnd o (λ d. IsNone d.start → ⊥)
 begins_by None e = absurd cc
-begins_by (Some d) e = start_there d.start e
-  where
-    start_there : (start : Option Units) → is_on (state_at_start start) ≡ true → IsNone start → ⊥
-    start_there None e is = absurd cc
-    start_there (Some x) e is = absurd cc
+begins_by (Some d) e = elim d.start as (λ o. is_on (state_at_start o) ≡ true → IsNone o → ⊥) [ None ↦ λ on off. absurd cc | Some x ↦ λ on off. absurd cc ] e
 
 pub not_turned_on_then : (v : View) (device : DeviceId) (u : ℕ) → IsView v → has_time (state_left v device u) ≡ true
     → is_turned_on_at v.scenario device u ≡ false
@@ -157,11 +136,11 @@ not_turned_on_then v device u is timed =
     false_from_ne_true (is_turned_on_at v.scenario device u) (λ turned.
     let x = turned_at v.scenario device u turned in
     let parts = parted x.event v.scenario.events x.there in
-    off_until v device u u is (omega arith) (λ y. elim (in_parts y.event parts.0 (x.event ∷ parts.1) (subst (IsIn y.event) parts.2 y.there)) [
+    off_until v device u u is (omega arith) (λ w lt y. elim (in_parts y.event parts.0 (x.event ∷ parts.1) (subst (IsIn y.event) parts.2 y.there)) [
       | inl sooner ↦ is.lawful.within parts.0 parts.1 x.event parts.2 NotOff
           (record { device = device; what = x.turns; known = inr (inl (any_of_in (TurnsOn device) y.event parts.0 sooner y.turns)) })
       | inr (inl same) ↦ (let time : amount y.event.time ≡ amount x.event.time = ap (λ (e : Event). amount e.time)
-          same in absurd (omega (arith, time, y.early, x.at)))
+          same in absurd (omega (arith, time, y.at, lt, x.at)))
       | inr (inr later) ↦
           let more = parted y.event parts.1 later in
           let whole = parts.2 ∙ ap (λ (es : List Event). parts.0 ++ x.event ∷ es) more.2 ∙ sym (append_assoc parts.0 (x.event ∷ more.0) (y.event ∷ more.1)) in
@@ -173,8 +152,7 @@ not_turned_on_then v device u is timed =
                 (inl (any_of_in (TurnsOn device) x.event (parts.0 ++ x.event ∷ more.0) (in_right x.event parts.0 (x.event ∷ more.0) (inl refl)) x.turns));
           })
     ]) (λ on. is.lawful.within parts.0 parts.1 x.event parts.2 NotOff
-    (record { device = device; what = x.turns; known = inl (begins_by (device_at v.scenario.network device) on) }))
-    (timed_on (state_left v device u) timed))
+    (record { device = device; what = x.turns; known = inl (begins_by (device_at v.scenario.network device) on) })) (timed_on (state_left v device u) timed))
 
 -- so none that has the common time is
 pub none_turns_on : NoneTurnsOn

@@ -1,7 +1,7 @@
 -- The sound channel: no way of its links is cut, and its switches begin on.
-use Rattle.precision_law.proofs.words.Std.{◌++◌, ◌<◌, ◌==◌, ◌∙◌, ◌∷◌, ◌≡◌, ◌≤◌, ◌⊎◌, Any, Bool, IsNone, List, None, Option, Some, [], and_parts, ap, append_assoc, arith, eqb-true, false, false_from_ne_true, filter, filter-append, if◌then◌else◌, inl, inr, ints, last_or, le-leb, leb-true, length, nat_le, refl, slice_get, subst, suc, sym, true, unwrap_or, zero, ℕ}
-use Rattle.precision_law.proofs.words.Plans.{A, B, Channel, Device, Event, HasOffSwitch, IsSwitchOf, Joints, Link, LinkId, Network, Way, What, amount, closed, device_at, link_at, opened}
-use Rattle.precision_law.proofs.words.Runs.{Cuts, IsFaulty, IsIn, IsLinkOf, Scenario, any_first, any_later, any_of_none, any_parts, cut_set, events_up_to, in_filter, in_left, in_right, is_cut, is_faulty, is_way, is_way_of, parted}
+use Rattle.precision_law.proofs.words.Std.{◌++◌, ◌<◌, ◌∙◌, ◌∷◌, ◌≡◌, ◌≤◌, ◌⊎◌, Any, Bool, IsNone, List, None, Option, Some, [], ap, append_assoc, arith, false, false_from_ne_true, filter, filter-append, if◌then◌else◌, inl, inr, ints, last_or, le-leb, leb-true, length, nat_le, refl, slice_get, subst, suc, sym, true, unwrap_or, zero, ℕ}
+use Rattle.precision_law.proofs.words.Plans.{A, B, Channel, Device, Event, HasOffSwitch, IsSwitchOf, Joints, Link, LinkId, Way, What, amount, closed, device_at, link_at, opened}
+use Rattle.precision_law.proofs.words.Runs.{Cuts, IsFaulty, IsIn, IsLinkOf, Scenario, any_of_none, any_parts, cut_set, events_up_to, in_filter, in_left, in_right, is_cut, is_way_of, parted}
 use Rattle.precision_law.proofs.words.Laws.{IsView, SoundSwitchesBeginOn, SoundWaysAreWhole, View}
 use Rattle.net_plan.specs.declared.event.What.TheVariants as events
 use Rattle.run_law.specs.declared.outside.Outside.TheVariants as outside
@@ -9,7 +9,9 @@ use Rattle.std.proofs.Common.{filter_map}
 use Rattle.precision_law.proofs.records.Behind.{in_filter_map}
 use Rattle.precision_law.proofs.records.Points.{last_in}
 use Rattle.precision_law.proofs.records.Times.{passes}
-use Rattle.precision_law.proofs.trips.Ascents.{event_begins, no_earlier}
+use Rattle.precision_law.proofs.trips.Ascents.{no_earlier}
+use Rattle.precision_law.proofs.Plain.{any_is, any_of_in, some_if}
+use Rattle.run_law.proofs.law.FirstDelays.{given, same_way_link}
 
 -- ---- switches
 
@@ -34,37 +36,13 @@ not_cut e es never (cut_at before behind c link whole cuts none) =
     cut_at (e ∷ before) behind c link (ap (λ (t : List Event). e ∷ t) whole) cuts
     (λ l any. elim (any_parts (Cuts l) e before any) [ inl here ↦ never l here | inr later ↦ none l later ])
 
-never_cuts : (e : Event) (what : What) → e.what ≡ what → ((link : LinkId) (way : Way) → what ≡ events.Cut link way → ⊥) → (link : LinkId) → Cuts link e → ⊥
-never_cuts e what same never link cuts = never link cuts.0 (sym same ∙ cuts.1)
-
 first_cut : (es : List Event) → FirstCut es
 first_cut [] = uncut (λ link any. any_of_none (Cuts link) any)
 first_cut (e ∷ es) = by e.what refl (first_cut es)
   where
     by : (what : What) → e.what ≡ what → FirstCut es → FirstCut (e ∷ es)
     by (events.Cut link way) same more = cut_at [] es e link refl (way, same) (λ l any. any_of_none (Cuts l) any)
-    by (events.Rate device rate) same more = not_cut e es (never_cuts e (events.Rate device rate) same (λ l w x. cc)) more
-    by (events.Wire link way delay) same more = not_cut e es (never_cuts e (events.Wire link way delay) same (λ l w x. cc)) more
-    by (events.Hold link way delay) same more = not_cut e es (never_cuts e (events.Hold link way delay) same (λ l w x. cc)) more
-    by (events.Heal link way) same more = not_cut e es (never_cuts e (events.Heal link way) same (λ l w x. cc)) more
-    by (events.On device) same more = not_cut e es (never_cuts e (events.On device) same (λ l w x. cc)) more
-    by (events.Break device) same more = not_cut e es (never_cuts e (events.Break device) same (λ l w x. cc)) more
-    by (events.Send link octets) same more = not_cut e es (never_cuts e (events.Send link octets) same (λ l w x. cc)) more
-    by events.End same more = not_cut e es (never_cuts e events.End same (λ l w x. cc)) more
-
--- a filter keeps a split
-kept_split : (p : Event → Bool) (before behind : List Event) (e : Event) → p e ≡ true → filter p (before ++ e ∷ behind) ≡ filter p before ++ e ∷ filter p behind
-kept_split p before behind e pass =
-    filter-append p before (e ∷ behind) ∙ ap (λ (b : Bool). filter p before ++ (if b then e ∷ filter p behind else filter p behind)) pass
-
--- where nothing holds of any event it holds of none that is kept
-any_kept : (P : Event → Type 0) (p : Event → Bool) (es : List Event) → Any P (filter p es) → Any P es
-any_kept P p [] any = any
-any_kept P p (e ∷ es) any = by (p e) (any_kept P p es) any
-  where
-    by : (b : Bool) → (Any P (filter p es) → Any P es) → Any P (if b then e ∷ filter p es else filter p es) → Any P (e ∷ es)
-    by true back a = elim (any_parts P e (filter p es) a) [ inl here ↦ any_first P e es here | inr later ↦ any_later P e es (back later) ]
-    by false back a = any_later P e es (back a)
+    by what same more = not_cut e es (λ l cuts. (let wrong : what ≡ events.Cut l cuts.0 = sym same ∙ cuts.1 in absurd cc)) more
 
 -- the event by which a way is cut
 record IsCutBy (s : Scenario) (link : LinkId) (t : ℕ) : Type 0 where
@@ -86,33 +64,12 @@ cut_by s link way t cut =
     some_true None e = absurd cc
     some_true (Some b) e = ap (λ (x : Bool). Some x) e
 
-    true_if : (b : Bool) → (if b then Some true else None) ≡ Some true → b ≡ true
-    true_if true e = refl
-    true_if false e = absurd cc
-
-    never_true : (b : Bool) → (if b then Some false else None) ≡ Some true → ⊥
-    never_true true e = absurd cc
-    never_true false e = absurd cc
-
     set_by : (e : Event) (what : What) → e.what ≡ what → cut_set link way what ≡ Some true → Cuts link e
     set_by e (events.Cut other turned) same set =
-        let parts = and_parts (link.0 == other.0) (is_way way turned) (true_if (is_way_of link way other turned) set) in
-        let one : other ≡ link = ap (λ (n : ℕ). let l : LinkId = record { 0 = n } in l) (sym (eqb-true link.0 other.0 parts.0)) in
+        let one = same_way_link link other way turned (some_if (is_way_of link way other turned) true true set).0 in
         (turned, same ∙ ap (λ (l : LinkId). events.Cut l turned) one)
-    set_by e (events.Heal other turned) same set = absurd (never_true (is_way_of link way other turned) set)
+    set_by e (events.Heal other turned) same set = (let wrong : false ≡ true = (some_if (is_way_of link way other turned) false true set).1 in absurd cc)
     set_by e what same set = absurd cc
-
--- a channel has a switch that begins off, or has none
-off_or_not : (n : Network) (channel : Channel) → HasOffSwitch n channel ⊎ (HasOffSwitch n channel → ⊥)
-off_or_not n channel = elim (is_faulty n [] channel) [
-  | inl (inl off) ↦ inl off
-  | inl (inr cut) ↦ absurd (never_split cut.1.before cut.1.cut cut.1.behind cut.1.order)
-  | inr none ↦ inr (λ off. none (inl off))
-]
-  where
-    never_split : (before : List Event) (cut : Event) (behind : List Event) → [] ≡ before ++ cut ∷ behind → ⊥
-    never_split [] cut behind e = absurd cc
-    never_split (b ∷ before) cut behind e = absurd cc
 
 same_or_not : (c d : Channel) → (c ≡ d) ⊎ (c ≡ d → ⊥)
 same_or_not A B = inr (λ e. absurd cc)
@@ -132,26 +89,11 @@ channel_cut v e link is i cuts =
     there_within (x ∷ xs) zero lt = (x, refl)
     there_within (x ∷ xs) (suc i) lt = there_within xs i (omega (arith, lt))
 
--- a channel other than the sound one that is faulty forbids a cut of the sound one
-other_faulty : (v : View) (link : LinkId) (e : Event) (before behind : List Event) (faulty : Channel) → IsView v → IsLinkOf v.scenario.network v.channel link
-    → v.scenario.events ≡ before ++ e ∷ behind → Cuts link e → IsFaulty v.scenario.network before faulty → (faulty ≡ v.channel → ⊥) → ⊥
-other_faulty v link e before behind faulty is of_channel whole cuts bad other =
-    is.lawful.within before behind e whole outside.Channel
-    (record { link = link; way = cuts.0; channel = v.channel; faulty = faulty; what = cuts.1; on = of_channel; is_faulty = bad; other = other })
-
--- where a switch begins off, its channel is the faulty one
-where_off : (v : View) (link : LinkId) (e : Event) (before behind : List Event) (c : Channel) → IsView v → IsLinkOf v.scenario.network v.channel link
-    → v.scenario.events ≡ before ++ e ∷ behind → Cuts link e → HasOffSwitch v.scenario.network c → ⊥
-where_off v link e before behind c is of_channel whole cuts off = elim (same_or_not c v.channel) [
-  | inl same ↦ is.sound (inl (subst (HasOffSwitch v.scenario.network) same off))
-  | inr other ↦ other_faulty v link e before behind c is of_channel whole cuts (inl off) other
-]
-
--- where none does, it is that of the first cut
-where_first : (v : View) (link : LinkId) (e : Event) (before behind : List Event) → IsView v → IsLinkOf v.scenario.network v.channel link
-    → v.scenario.events ≡ before ++ e ∷ behind → amount e.time ≤ v.until → Cuts link e → ((c : Channel) → HasOffSwitch v.scenario.network c → ⊥)
-    → FirstCut before → ⊥
-where_first v link e before behind is of_channel whole early cuts on (uncut none) =
+-- where no switch begins off, the first cut is not of the sound channel
+sound_cut : (v : View) (before behind : List Event) (e : Event) (link : LinkId) → IsView v → v.scenario.events ≡ before ++ e ∷ behind
+    → amount e.time ≤ v.until → Cuts link e → IsLinkOf v.scenario.network v.channel link → ((c : Channel) → HasOffSwitch v.scenario.network c → ⊥)
+    → ((l : LinkId) → Any (Cuts l) before → ⊥) → ⊥
+sound_cut v before behind e link is whole early cuts of_channel on none =
     let p = λ (x : Event). nat_le (amount x.time) v.until in
     is.sound (inr (
       on,
@@ -159,52 +101,44 @@ where_first v link e before behind is of_channel whole early cuts on (uncut none
         before = filter p before;
         cut = e;
         behind = filter p behind;
-        order = ap (filter p) whole ∙ kept_split p before behind e (le-leb (amount e.time) v.until early);
-        none_before = λ l any. none l (any_kept (Cuts l) p before any);
+        order = ap (filter p) whole ∙ filter-append p before (e ∷ behind)
+            ∙ ap (λ (b : Bool). filter p before ++ (if b then e ∷ filter p behind else filter p behind)) (le-leb (amount e.time) v.until early);
+        none_before = λ l any. (let x = any_is (Cuts l) (filter p before) any in none l (any_of_in (Cuts l) x.0 before (in_filter p before x.0 x.1) x.2));
         cuts = (link, cuts, of_channel);
       },
     ))
-where_first v link e before behind is of_channel whole early cuts on (cut_at b m c l split cuts_c none) =
-    let p = λ (x : Event). nat_le (amount x.time) v.until in
-    let in_before : IsIn c before = subst (IsIn c) (sym split) (in_right c b (c ∷ m) (inl refl)) in
-    let in_all : IsIn c v.scenario.events = subst (IsIn c) (sym whole) (in_left c before (e ∷ behind) in_before) in
-    let order = no_earlier v.scenario.network v.scenario.events before behind c e is.lawful.within whole in_before in
-    let begun = event_begins v c is in_all in
-    let of_c = channel_cut v c l is in_all cuts_c in
-    elim (same_or_not of_c.0 v.channel) [
-      | inl same ↦
-          let parts = whole ∙ ap (λ (t : List Event). t ++ e ∷ behind) split ∙ append_assoc b (c ∷ m) (e ∷ behind) in
-          is.sound (inr (
-            on,
-            record {
-              before = filter p b;
-              cut = c;
-              behind = filter p (m ++ e ∷ behind);
-              order = ap (filter p) parts ∙ kept_split p b (m ++ e ∷ behind) c (le-leb (amount c.time) v.until (omega (arith, ints, order, begun, early)));
-              none_before = λ k any. none k (any_kept (Cuts k) p b any);
-              cuts = (l, cuts_c, subst (λ (x : Channel). IsLinkOf v.scenario.network x l) same of_c.1);
-            },
-          ))
-      | inr other ↦ other_faulty v link e before behind of_c.0 is of_channel whole cuts
-          (inr (on, record { before = b; cut = c; behind = m; order = split; none_before = none; cuts = (l, cuts_c, of_c.1) })) other
-    ]
 
-none_off : (n : Network) → (HasOffSwitch n A → ⊥) → (HasOffSwitch n B → ⊥) → (c : Channel) → HasOffSwitch n c → ⊥
-none_off n a b A off = a off
-none_off n a b B off = b off
+module _ (v : View) (link : LinkId) (e : Event) (before behind : List Event) (is : IsView v) (of_channel : IsLinkOf v.scenario.network v.channel link)
+    (whole : v.scenario.events ≡ before ++ e ∷ behind) (cuts : Cuts link e) where
+  -- a channel other than the sound one that is faulty forbids a cut of the sound one
+  other_faulty : (faulty : Channel) → IsFaulty v.scenario.network before faulty → (faulty ≡ v.channel → ⊥) → ⊥
+  other_faulty faulty bad other =
+      is.lawful.within before behind e whole outside.Channel
+      (record { link = link; way = cuts.0; channel = v.channel; faulty = faulty; what = cuts.1; on = of_channel; is_faulty = bad; other = other })
 
--- no event cuts a link of the sound channel
-never_cut : (v : View) (link : LinkId) (e : Event) → IsView v → IsLinkOf v.scenario.network v.channel link → IsIn e v.scenario.events → amount e.time ≤ v.until
-    → Cuts link e → ⊥
-never_cut v link e is of_channel i early cuts =
-    let at = parted e v.scenario.events i in
-    elim (off_or_not v.scenario.network A) [
-      | inl off ↦ where_off v link e at.0 at.1 A is of_channel at.2 cuts off
-      | inr on_a ↦ elim (off_or_not v.scenario.network B) [
-        | inl off ↦ where_off v link e at.0 at.1 B is of_channel at.2 cuts off
-        | inr on_b ↦ where_first v link e at.0 at.1 is of_channel at.2 early cuts (none_off v.scenario.network on_a on_b) (first_cut at.0)
+  -- where a switch begins off, its channel is the faulty one
+  none_off : (c : Channel) → HasOffSwitch v.scenario.network c → ⊥
+  none_off c off = elim (same_or_not c v.channel) [
+    | inl same ↦ is.sound (inl (subst (HasOffSwitch v.scenario.network) same off))
+    | inr other ↦ other_faulty c (inl off) other
+  ]
+
+  -- where none does, it is that of the first cut
+  never_cut : amount e.time ≤ v.until → FirstCut before → ⊥
+  never_cut early (uncut none) = sound_cut v before behind e link is whole early cuts of_channel none_off none
+  never_cut early (cut_at b m c l split cuts_c none) =
+      let in_before : IsIn c before = subst (IsIn c) (sym split) (in_right c b (c ∷ m) (inl refl)) in
+      let in_all : IsIn c v.scenario.events = subst (IsIn c) (sym whole) (in_left c before (e ∷ behind) in_before) in
+      let order = no_earlier v.scenario.network v.scenario.events before behind c e is.lawful.within whole in_before in
+      let of_c = channel_cut v c l is in_all cuts_c in
+      elim (same_or_not of_c.0 v.channel) [
+        | inl same ↦
+            let parts = whole ∙ ap (λ (t : List Event). t ++ e ∷ behind) split ∙ append_assoc b (c ∷ m) (e ∷ behind) in
+            sound_cut v b (m ++ e ∷ behind) c l is parts (omega (arith, ints, order, (given v.scenario c is.lawful in_all).range.time, early)) cuts_c
+            (subst (λ (x : Channel). IsLinkOf v.scenario.network x l) same of_c.1) none_off none
+        | inr other ↦ other_faulty of_c.0
+            (inr (none_off, record { before = b; cut = c; behind = m; order = split; none_before = none; cuts = (l, cuts_c, of_c.1) })) other
       ]
-    ]
 
 pub sound_ways_are_whole : SoundWaysAreWhole
 sound_ways_are_whole v link way t is of_channel le =
@@ -212,4 +146,5 @@ sound_ways_are_whole v link way t is of_channel le =
     let by_event = cut_by v.scenario link way t cut in
     let e = by_event.event in
     let test = leb-true (amount e.time) t (passes (λ x. nat_le (amount x.time) t) v.scenario.events e by_event.there) in
-    never_cut v link e is of_channel (in_filter (λ x. nat_le (amount x.time) t) v.scenario.events e by_event.there) (omega (arith, test, le)) by_event.cuts)
+    let at = parted e v.scenario.events (in_filter (λ x. nat_le (amount x.time) t) v.scenario.events e by_event.there) in
+    never_cut v link e at.0 at.1 is of_channel at.2 by_event.cuts (omega (arith, test, le)) (first_cut at.0))

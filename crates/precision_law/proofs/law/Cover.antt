@@ -7,18 +7,14 @@ use Rattle.precision_law.proofs.law.Together.{block_ends, follows_before}
 
 -- the last correction comes behind the block before, so it is not before time 0
 pub later_end : (v : View) (n : ℕ) (stands : Stands v n) → IsView v → pos stands.next ≤ℤ last_correction v.sizes stands.hull
-later_end v n stands is = by n stands
-  where
-    by : (n : ℕ) (stands : Stands v n) → pos stands.next ≤ℤ last_correction v.sizes stands.hull
-    by zero stands =
-        let same : start_hull v.sizes ≡ stands.hull = same_some (hull_of v zero) (start_hull v.sizes) stands.hull refl stands.is_hull in
-        omega (arith, ints, stands.is_over, ap (λ (w : Hull). w.greatest) same)
-    by (suc c) stands =
-        let over = stands.is_over in
-        let one = stands.narrow c (omega arith) in
-        let follows = follows_before v c one.0 stands.hull is one.1 stands.is_hull in
-        let space = room v is in
-        omega (arith, ints, block_ends v c stands.next _ one.1 stands.is_over, corrections_come_first v.sizes one.0 stands.hull (room v is) one.2 follows)
+later_end v zero stands is =
+    let same : start_hull v.sizes ≡ stands.hull = same_some (hull_of v zero) (start_hull v.sizes) stands.hull refl stands.is_hull in
+    omega (arith, ints, stands.is_over, ap (λ (w : Hull). w.greatest) same)
+later_end v (suc c) stands is =
+    let one = stands.narrow c (omega arith) in
+    let follows = follows_before v c one.0 stands.hull is one.1 stands.is_hull in
+    let space = room v is in
+    omega (arith, ints, block_ends v c stands.next _ one.1 stands.is_over, corrections_come_first v.sizes one.0 stands.hull (room v is) one.2 follows)
 
 -- the natural number behind an instant
 pub record IsBehind (z : ℤ) (next : ℕ) : Type 0 where

@@ -1,27 +1,22 @@
 -- In the span of a cycle the clocks keep between the ideal clocks of that cycle.
-use Rattle.precision_law.proofs.words.Std.{◌*◌, ◌+ℤ◌, ◌+◌, ◌-ℤ◌, ◌-◌, ◌<ℤ◌, ◌<◌, ◌∙◌, ◌≡◌, ◌≤ℤ◌, ◌≤◌, List, Some, arith, by_lt_z, cases_lt, inl, inr, ints, pos, refl, subst, suc, sym, zero, ℕ, ℤ}
-use Rattle.precision_law.proofs.words.Plans.{DeviceId, Synchronised, amount, clock_error, drift_of}
+use Rattle.precision_law.proofs.words.Std.{◌*◌, ◌+ℤ◌, ◌+◌, ◌-◌, ◌<ℤ◌, ◌<◌, ◌∙◌, ◌≡◌, ◌≤ℤ◌, ◌≤◌, List, Some, arith, by_lt_z, cases_lt, inl, inr, ints, pos, refl, subst, suc, sym, zero, ℕ, ℤ}
+use Rattle.precision_law.proofs.words.Plans.{DeviceId, Synchronised}
 use Rattle.precision_law.proofs.words.Runs.{Happening, Scenario, adjustment_after, earlier, happenings, is_turned_on_at, state_after}
 use Rattle.precision_law.proofs.words.Laws.{AreFromTo, BlocksCover, BlocksGoSo, ClocksKeepTheSpan, HasTimeAt, Hull, IsBehindCorrections, IsBetweenIdeals, IsInBlock, IsView, OneChannelIsSound, ShowsIn, View, adjustment_left, epoch_time, hull_of, last_setting, state_left}
 use Rattle.precision_law.proofs.words.Clocks.{IsCutAt, room}
-use Rattle.precision_law.proofs.words.Blocks.{all_in_hulls, before_narrow, block_ends, corrections_go_on, earlier_in_block, follows_before, hull_is_from_to, known_dispatch, not_integrating, of_cut, old_shows, timed_of, view_of, view_with}
-use Rattle.precision_law.proofs.law.Keeping.{ideal_least, ideal_most}
+use Rattle.precision_law.proofs.words.Blocks.{all_in_hulls, before_narrow, block_ends, corrections_go_on, earlier_in_block, follows_before, from_to_of_cut, hull_is_from_to, known_dispatch, not_integrating, old_shows, timed_of, view_of, view_with}
 use Rattle.precision_law.proofs.law.OnTime.{begins_late, corrected_late}
 
 -- ---- one hull
-
-antisym : (a b : ℤ) → a ≤ℤ b → b ≤ℤ a → a ≡ b
-antisym a b low high = omega (arith, ints, low, high)
 
 -- the first and the last dispatch of a cycle are one
 one_span : (s : Scenario) (hs : List Happening) (t cycle : ℕ) (first last least greatest : ℤ) → AreFromTo s hs t cycle first last
     → AreFromTo s hs t cycle least greatest → (first ≡ least) × (last ≡ greatest)
 one_span s hs t zero first last least greatest a b = (a.0 ∙ sym b.0, a.1 ∙ sym b.1)
 one_span s hs t (suc c) first last least greatest a b =
-    let one = (a.each b.earliest b.is_earliest).0 in
     let four = (b.each a.latest a.is_latest).1 in (
-      antisym first least (omega (arith, ints, one, b.first_is)) (omega (arith, ints, (b.each a.earliest a.is_earliest).0, a.first_is)),
-      antisym last greatest (omega (arith, ints, four, a.last_is)) (let e = b.last_is in omega (arith, ints, (a.each b.latest b.is_latest).1, e)),
+      omega (arith, ints, (a.each b.earliest b.is_earliest).0, b.first_is, (b.each a.earliest a.is_earliest).0, a.first_is),
+      omega (arith, ints, four, a.last_is, (a.each b.latest b.is_latest).1, b.last_is),
     )
 
 -- ---- the block of the span
@@ -74,16 +69,10 @@ not_later cover goes v (suc j) cycle first last block is lie early lt =
 
 -- ---- in the span
 
--- the two bounds of the corrections are one
-early_by : (t reach cycle correction : ℕ) (first least : ℤ) → first ≡ least → (pos t +ℤ pos reach) ≤ℤ (first +ℤ pos (cycle + correction))
-    → pos t ≤ℤ ((((least +ℤ pos cycle) +ℤ pos correction) -ℤ pos (2 * reach)) +ℤ pos reach)
-early_by t reach cycle correction first least same le = omega (arith, ints, same, le)
-
 span_shows : BlocksCover → BlocksGoSo → (v : View) (cycle : ℕ) (first last : ℤ) (device : DeviceId) → IsView v
     → AreFromTo v.scenario v.records v.until cycle first last → ((c : ℕ) → cycle ≡ suc c → ComesBefore v v.until c)
     → (pos v.until +ℤ pos v.sizes.reach) ≤ℤ (first +ℤ pos (v.sizes.cycle + v.sizes.correction)) → HasTimeAt v device v.until
-    → state_left v device v.until ≡ Synchronised
-    → (hull : Hull) × (first ≡ hull.least) × (last ≡ hull.greatest)
+    → state_left v device v.until ≡ Synchronised → (hull : Hull) × (first ≡ hull.least) × (last ≡ hull.greatest)
     × ShowsIn v.sizes (pos (v.scenario.reading device v.until) +ℤ adjustment_left v device v.until) cycle hull v.until
 span_shows cover goes v cycle first last device is lie behind early has synchronised =
     let covered = cover v v.until is (omega arith) in
@@ -97,10 +86,9 @@ span_shows cover goes v cycle first last device is lie behind early has synchron
     (hull_is_from_to cover goes v is k hull block.before.is_hull) in
     let at = one_span v.scenario v.records v.until cycle first last hull.least hull.greatest lie at_hull in
     let shows = by_lt_z {P = ShowsIn v.sizes (pos (v.scenario.reading device v.until) +ℤ adjustment_left v device v.until) k hull v.until}
-    (epoch_time (earlier v.until v.records) device) (pos block.before.next)
-    (λ old. old_shows v k v.until v.until device block is (omega arith) has old)
+    (epoch_time (earlier v.until v.records) device) (pos block.before.next) (λ old. old_shows v k v.until v.until device block is (omega arith) has old)
     (λ late. (let after = corrected_late v k v.until block device (last_setting (earlier v.until v.records) device) goes is has synchronised refl
-    late in absurd (omega (arith, ints, after, early_by v.until v.sizes.reach v.sizes.cycle v.sizes.correction first hull.least at.0 early)))) in (
+    late in absurd (omega (arith, ints, after, at.0, early)))) in (
       hull,
       at.0,
       at.1,
@@ -113,20 +101,6 @@ span_shows cover goes v cycle first last device is lie behind early has synchron
         not_earlier cover goes v (cover v v.until is (omega arith)).0 c (cover v v.until is (omega arith)).1 is (behind c refl) (omega (arith, lt))
 
 -- ---- in a run
-
--- what holds of the dispatches of the run holds of those up to the time
-from_to_of_cut : (s : Scenario) (hs : List Happening) (t cycle : ℕ) (first last : ℤ) (cut : IsCutAt s hs t) → AreFromTo s hs t cycle first last
-    → AreFromTo s cut.front t cycle first last
-from_to_of_cut s hs t zero first last cut at = at
-from_to_of_cut s hs t (suc c) first last cut at = record {
-  earliest = at.earliest;
-  is_earliest = of_cut s hs t (suc c) cut at.earliest at.is_earliest;
-  first_is = at.first_is;
-  latest = at.latest;
-  is_latest = of_cut s hs t (suc c) cut at.latest at.is_latest;
-  last_is = at.last_is;
-  each = λ h d. at.each h (record { there = cut.inside h d.there; master = d.master; is = d.is; correct = d.correct; by_then = d.by_then });
-}
 
 pub clocks_keep_the_span : OneChannelIsSound → BlocksCover → BlocksGoSo → ClocksKeepTheSpan
 clocks_keep_the_span sound cover goes s mark ns until beta up is_beta t cycle first last device le lie behind early step =
@@ -141,16 +115,8 @@ clocks_keep_the_span sound cover goes s mark ns until beta up is_beta t cycle fi
     let shown = span_shows cover goes v cycle first last device at.is (from_to_of_cut s hs t cycle first last at.cut lie) (comes cycle behind at.cut) early has
     synchronised in
     let whole : IsBetweenIdeals s.network beta cycle first last t (pos (s.reading device t) +ℤ adjustment_left v device t) = record {
-      least =
-          subst (λ (z : ℤ). ((pos (cycle * amount s.network.cycle) +ℤ pos t) -ℤ z) ≤ℤ ((pos (s.reading device t) +ℤ adjustment_left v device t)
-          +ℤ pos (clock_error s.network beta + drift_of s.network))) (sym shown.2)
-          (ideal_least (cycle * amount s.network.cycle) t (clock_error s.network beta + drift_of s.network)
-          (pos (s.reading device t) +ℤ adjustment_left v device t) shown.0.greatest shown.3.least);
-      most =
-          subst (λ (z : ℤ). (pos (s.reading device t) +ℤ adjustment_left v device t) ≤ℤ (((pos (cycle * amount s.network.cycle) +ℤ pos t) -ℤ z)
-          +ℤ pos (clock_error s.network beta + drift_of s.network))) (sym shown.1)
-          (ideal_most (cycle * amount s.network.cycle) t (clock_error s.network beta + drift_of s.network)
-          (pos (s.reading device t) +ℤ adjustment_left v device t) shown.0.least shown.3.most);
+      least = omega (arith, ints, shown.2, shown.3.least);
+      most = omega (arith, ints, shown.1, shown.3.most);
     } in
     subst (λ (gs : List Happening). IsBetweenIdeals s.network beta cycle first last t (pos (s.reading device t) +ℤ (adjustment_after s gs device).0)) (sym same)
     whole

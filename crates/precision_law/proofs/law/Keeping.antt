@@ -1,9 +1,9 @@
 -- The clock of a synchronised device keeps between the ideal clocks of a cycle.
-use Rattle.precision_law.proofs.words.Std.{◌*◌, ◌+ℤ◌, ◌+◌, ◌-ℤ◌, ◌∙◌, ◌≡◌, ◌≤ℤ◌, ◌≤◌, Bool, List, None, Option, Some, ap, arith, by_lt_z, false, ints, negsuc, option_map_or, pos, refl, subst, suc, sym, true, ℕ, ℤ}
-use Rattle.precision_law.proofs.words.Plans.{Channel, Corrected, DeviceId, Synchronised, amount, clock_error, drift_of}
-use Rattle.precision_law.proofs.words.Runs.{Happening, IsCaused, IsInStep, IsInStepBefore, NoteBody, Scenario, adjustment_after, cycle_in, earlier, founded_at, happenings, is_joined_by, is_turned_on_at, local, local_before, state_after, time_of, up_to}
-use Rattle.precision_law.proofs.words.Laws.{BlockGoesSo, BlocksCover, BlocksGoSo, ClocksKeepTheirCycles, ComesTo, HasTimeAt, Hull, IsInBlock, IsNarrow, IsView, KeepsCycle, OneChannelIsSound, ShowsIn, View, adjustment_left, cycle_set, epoch_cycle, epoch_time, hull_of, last_setting}
-use Rattle.precision_law.proofs.words.Clocks.{IsCutAt, IsSetting, before_of, point_timed, setting_is, settings_stay, time_stays}
+use Rattle.precision_law.proofs.words.Std.{◌+ℤ◌, ◌+◌, ◌∙◌, ◌≡◌, ◌≤ℤ◌, ◌≤◌, List, None, Option, Some, ap, arith, by_lt_z, false, ints, negsuc, option_map_or, pos, refl, subst, suc, sym, true, ℕ, ℤ}
+use Rattle.precision_law.proofs.words.Plans.{Channel, Corrected, DeviceId, Synchronised}
+use Rattle.precision_law.proofs.words.Runs.{Happening, IsCaused, NoteBody, Scenario, adjustment_after, cycle_in, earlier, founded_at, happenings, is_broken, is_joined_by, is_turned_on_at, state_after, time_of}
+use Rattle.precision_law.proofs.words.Laws.{BlocksCover, BlocksGoSo, ClocksKeepTheirCycles, ComesTo, HasTimeAt, Hull, IsInBlock, IsNarrow, IsView, KeepsCycle, OneChannelIsSound, ShowsIn, View, adjustment_left, cycle_set, epoch_cycle, epoch_time, hull_of, last_setting}
+use Rattle.precision_law.proofs.words.Clocks.{IsCutAt, before_of, point_timed, setting_is, settings_stay, time_stays}
 use Rattle.precision_law.proofs.words.Blocks.{before_narrow, earlier_in_block, from_to_of_run, hull_is_from_to, hulls_are_narrow, new_shows, not_integrating, old_shows, set_shows, timed_of, up_to_is, view_of, view_with}
 use Rattle.run_law.specs.declared.note.NoteBody.TheVariants as notes
 use Rattle.precision_law.proofs.law.OnTime.{corrects_by}
@@ -30,23 +30,22 @@ set_for goes v n t u device block is most has (Some h) e late =
     let at = setting_is v device u h e in
     let from : block.before.next ≤ time_of h = omega (arith, ints, late) in
     let here : IsInBlock v n (time_of h) = earlier_in_block _ _ _ _ block from (omega arith) in
-    by (goes v n (time_of h) here is) at (is_joined_by device h.note.body) refl
-  where
-    by : BlockGoesSo v n block.before.next (time_of h) block.before.hull → IsSetting v device u h → (b : Bool) → is_joined_by device h.note.body ≡ b
-        → cycle_set h h.note.body ≡ suc n
-    by so at true joined = joined_cycle device h h.note.body joined ∙ (so.joins h device at.there joined has.good refl).of_cycle
-    by so at false none =
-        let c = corrects_by device h.note.body at.sets none in
-        let found = founded_at v.scenario v.records h is.run.founded at.there in
-        let cause = subst (IsCaused v.scenario found.front h.note.time) c.is found.due.cause in
-        let split = before_of v h is found in
-        let then_has : HasTimeAt v device (time_of h) = record {
-          good = has.good;
-          timed = point_timed v (time_of h) device c.cycle (Corrected c.by) found.front split cause.corrected;
-        } in
-        let comes : ComesTo v (time_of h) device c.cycle (Corrected c.by) = record { front = found.front; split = split; point = cause.corrected } in
-        let old = so.old_alone device c.cycle (Corrected c.by) then_has comes (λ z. cc) in
-        ap (cycle_set h) c.is ∙ (so.points device c.cycle (Corrected c.by) then_has old comes).of_cycle
+    let so = goes v n (time_of h) here is in
+    elim (is_joined_by device h.note.body) as (λ b. is_joined_by device h.note.body ≡ b → cycle_set h h.note.body ≡ suc n) [
+      | true ↦ λ joined. joined_cycle device h h.note.body joined ∙ (so.joins h device at.there joined has.good refl).of_cycle
+      | false ↦ λ none.
+          let c = corrects_by device h.note.body at.sets none in
+          let found = founded_at v.scenario v.records h is.run.founded at.there in
+          let cause = subst (IsCaused v.scenario found.front h.note.time) c.is found.due.cause in
+          let split = before_of v h is found in
+          let then_has : HasTimeAt v device (time_of h) = record {
+            good = has.good;
+            timed = point_timed v (time_of h) device c.cycle (Corrected c.by) found.front split cause.corrected;
+          } in
+          let comes : ComesTo v (time_of h) device c.cycle (Corrected c.by) = record { front = found.front; split = split; point = cause.corrected } in
+          let old = so.old_alone device c.cycle (Corrected c.by) then_has comes (λ z. cc) in
+          ap (cycle_set h) c.is ∙ (so.points device c.cycle (Corrected c.by) then_has old comes).of_cycle
+    ] refl
 
 -- each clock of a block shows the cycle for which it was last set
 pub shows_cycle : BlocksGoSo → (v : View) (n t u : ℕ) (device : DeviceId) (block : IsInBlock v n t) → IsView v → t ≤ u → u ≤ t + 1 → HasTimeAt v device u
@@ -81,15 +80,6 @@ shows_cycle goes v n t u device block is le most has =
 
 -- ---- of a run
 
--- the same bounds in two forms
-pub ideal_least : (product t error : ℕ) (shown last : ℤ) → (pos product +ℤ pos t) ≤ℤ (shown +ℤ (last +ℤ pos error))
-    → ((pos product +ℤ pos t) -ℤ last) ≤ℤ (shown +ℤ pos error)
-ideal_least product t error shown last le = omega (arith, ints, le)
-
-pub ideal_most : (product t error : ℕ) (shown first : ℤ) → (shown +ℤ first) ≤ℤ (pos product +ℤ (pos t +ℤ pos error))
-    → shown ≤ℤ (((pos product +ℤ pos t) -ℤ first) +ℤ pos error)
-ideal_most product t error shown first le = omega (arith, ints, le)
-
 keeps_by : BlocksCover → BlocksGoSo → (s : Scenario) (hs : List Happening) (t : ℕ) (channel : Channel) (path : ℕ) (cut : IsCutAt s hs t) (cycle : ℕ) (shown : ℤ)
     → IsView (view_of s t channel path cut.front) → ShowsCycle (view_of s t channel path cut.front) t cycle shown → KeepsCycle s hs path t cycle shown
 keeps_by cover goes s hs t channel path cut cycle shown is c = record {
@@ -99,45 +89,33 @@ keeps_by cover goes s hs t channel path cut cycle shown is c = record {
       from_to_of_run s hs t cycle c.hull.least c.hull.greatest cut (hull_is_from_to cover goes (view_of s t channel path cut.front) is cycle c.hull c.is_hull);
   narrow = c.narrow;
   between = record {
-    least = ideal_least (cycle * amount s.network.cycle) t (clock_error s.network path + drift_of s.network) shown c.hull.greatest c.shows.least;
-    most = ideal_most (cycle * amount s.network.cycle) t (clock_error s.network path + drift_of s.network) shown c.hull.least c.shows.most;
+    least = omega (arith, ints, c.shows.least);
+    most = omega (arith, ints, c.shows.most);
   };
 }
 
 pub clocks_keep_their_cycles : OneChannelIsSound → BlocksCover → BlocksGoSo → ClocksKeepTheirCycles
-clocks_keep_their_cycles sound cover goes s mark ns until beta up is_beta t device le = (after, before)
+clocks_keep_their_cycles sound cover goes s mark ns until beta up is_beta t device le =
+    let hs = happenings s.network ns in
+    let same = up_to_is t hs in (
+      λ step. subst (λ (gs : List Happening). KeepsCycle s hs beta t (epoch_cycle gs device) (pos (s.reading device t) +ℤ (adjustment_after s gs device).0))
+          (sym same) (keeps (t + 1) (omega arith) (omega arith) step.correct
+          (subst (λ (gs : List Happening). state_after s gs device ≡ Synchronised) same step.synchronised)),
+      λ step. keeps t (omega arith) (omega arith) step.correct
+          (not_integrating (is_turned_on_at s device t) (state_after s (earlier t hs) device) step.synchronised),
+    )
   where
-    after : IsInStep s (happenings s.network ns) device t
-        → KeepsCycle s (happenings s.network ns) beta t (epoch_cycle (up_to t (happenings s.network ns)) device) (local s (happenings s.network ns) device t)
-    after step =
+    keeps : (u : ℕ) → t ≤ u → u ≤ t + 1 → is_broken s device t ≡ false → state_after s (earlier u (happenings s.network ns)) device ≡ Synchronised
+        → KeepsCycle s (happenings s.network ns) beta t (epoch_cycle (earlier u (happenings s.network ns)) device)
+        (pos (s.reading device t) +ℤ (adjustment_after s (earlier u (happenings s.network ns)) device).0)
+    keeps u from to correct synchronised =
+        let hs = happenings s.network ns in
         let channel = sound s t up.lawful in
         let at = view_with s mark ns until t channel.0 beta up is_beta le channel.1 in
         let v = view_of s t channel.0 beta at.cut.front in
         let block = cover v t at.is (omega arith) in
-        let same = up_to_is t (happenings s.network ns) ∙ sym (at.cut.early (t + 1) (omega arith)) in
-        let has : HasTimeAt v device (t + 1) = record {
-          good = step.correct;
-          timed = timed_of _ (subst (λ (gs : List Happening). state_after s gs device ≡ Synchronised) same step.synchronised);
-        } in
-        let shows = shows_cycle goes v block.0 t (t + 1) device block.1 at.is (omega arith) (omega arith) has in
-        subst (λ (gs : List Happening). KeepsCycle s (happenings s.network ns) beta t (epoch_cycle gs device) (pos (s.reading device t) +ℤ
-        (adjustment_after s gs device).0)) (sym same) (keeps_by cover goes s _ t channel.0 beta at.cut _ _ at.is shows)
-
-    before : IsInStepBefore s (happenings s.network ns) device t
-        → KeepsCycle s (happenings s.network ns) beta t (epoch_cycle (earlier t (happenings s.network ns)) device)
-        (local_before s (happenings s.network ns) device t)
-    before step =
-        let channel = sound s t up.lawful in
-        let at = view_with s mark ns until t channel.0 beta up is_beta le channel.1 in
-        let v = view_of s t channel.0 beta at.cut.front in
-        let block = cover v t at.is (omega arith) in
-        let same : earlier t (happenings s.network ns) ≡ earlier t at.cut.front = sym (at.cut.early t (omega arith)) in
-        let has : HasTimeAt v device t = record {
-          good = step.correct;
-          timed =
-              timed_of _ (subst (λ (gs : List Happening). state_after s gs device ≡ Synchronised) same (not_integrating (is_turned_on_at s device t)
-              (state_after s (earlier t (happenings s.network ns)) device) step.synchronised));
-        } in
-        subst (λ (gs : List Happening). KeepsCycle s (happenings s.network ns) beta t (epoch_cycle gs device) (pos (s.reading device t) +ℤ
-        (adjustment_after s gs device).0)) (sym same)
-        (keeps_by cover goes s _ t channel.0 beta at.cut _ _ at.is (shows_cycle goes v _ t t _ block.1 at.is (omega arith) (omega arith) has))
+        let same = sym (at.cut.early u to) in
+        let timed = timed_of _ (subst (λ (gs : List Happening). state_after s gs device ≡ Synchronised) same synchronised) in
+        let shows = shows_cycle goes v block.0 t u device block.1 at.is from to (record { good = correct; timed = timed }) in
+        subst (λ (gs : List Happening). KeepsCycle s hs beta t (epoch_cycle gs device) (pos (s.reading device t) +ℤ (adjustment_after s gs device).0))
+        (sym same) (keeps_by cover goes s hs t channel.0 beta at.cut _ _ at.is shows)

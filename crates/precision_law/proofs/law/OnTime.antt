@@ -1,9 +1,9 @@
 -- The clocks of synchronised devices reach the values of the schedule on time.
-use Rattle.precision_law.proofs.words.Std.{◌*◌, ◌+ℤ◌, ◌+◌, ◌-ℤ◌, ◌<ℤ◌, ◌<◌, ◌≡◌, ◌≤ℤ◌, ◌≤◌, List, None, Option, Some, ap, arith, both_ways, by_lt_z, cases_lt, false, false_from_ne_true, inl, inr, ints, mul-le-mul_right, negsuc, option_map_or, pos, refl, subst, suc, sym, true, zero, ℕ, ℤ}
-use Rattle.precision_law.proofs.words.Plans.{Corrected, DeviceId, IsReach, Synchronised, Units, amount}
-use Rattle.precision_law.proofs.words.Runs.{Happening, IsCaused, NoteBody, Reaches, Scenario, adjustment_after, changes_adjustment, earlier, founded_at, happenings, is_joined_by, is_synchronised, is_turned_on_at, state_after, time_of}
+use Rattle.precision_law.proofs.words.Std.{◌*◌, ◌+ℤ◌, ◌+◌, ◌<ℤ◌, ◌<◌, ◌≡◌, ◌≤ℤ◌, ◌≤◌, List, None, Option, Some, ap, arith, both_ways, by_lt_z, cases_lt, false, false_from_ne_true, inl, inr, ints, mul-le-mul_right, negsuc, option_map_or, pos, refl, subst, suc, sym, true, zero, ℕ, ℤ}
+use Rattle.precision_law.proofs.words.Plans.{Corrected, DeviceId, Synchronised, Units, amount}
+use Rattle.precision_law.proofs.words.Runs.{Happening, IsCaused, NoteBody, Reaches, changes_adjustment, earlier, founded_at, happenings, is_joined_by, is_synchronised, is_turned_on_at, state_after, time_of}
 use Rattle.precision_law.proofs.words.Laws.{BlocksCover, BlocksGoSo, ComesTo, HasTimeAt, Hull, IsInBlock, IsNarrow, IsView, OneChannelIsSound, ShowsIn, Stands, ValuesAreReachedOnTime, View, adjustment_left, epoch_time, first_correction, hull_of, last_setting, state_left}
-use Rattle.precision_law.proofs.words.Clocks.{before_of, clocks_reach_sharply, instants_are_in_order, joiner_waits, one_more, point_timed, room, same_device, set_clocks_stay_at_correction, setting_is}
+use Rattle.precision_law.proofs.words.Clocks.{before_of, clocks_reach_sharply, instants_are_in_order, joiner_waits, one_more, point_timed, reaches_by, room, same_device, set_clocks_stay_at_correction, setting_is}
 use Rattle.precision_law.proofs.words.Blocks.{before_narrow, block_ends, earlier_in_block, follows_before, from_to_of_run, hull_is_from_to, new_shows, not_integrating, old_shows, set_shows, timed_of, view_of, view_with}
 use Rattle.run_law.specs.declared.note.NoteBody.TheVariants as notes
 
@@ -31,8 +31,7 @@ corrects_by device body sets none = absurd (both_ways _ none sets)
 pub last_corrects : (v : View) (device : DeviceId) (t : ℕ) (h : Happening) → IsView v → state_left v device t ≡ Synchronised
     → last_setting (earlier t v.records) device ≡ Some h → CorrectsClock device h.note.body
 last_corrects v device t h is synchronised last =
-    corrects_by device h.note.body (setting_is v device t h last).sets
-    (false_from_ne_true (is_joined_by device h.note.body)
+    corrects_by device h.note.body (setting_is v device t h last).sets (false_from_ne_true (is_joined_by device h.note.body)
     (λ joined. both_ways (is_synchronised (state_left v device t)) (joiner_waits v device t h is last joined) (ap is_synchronised synchronised)))
 
 -- one whose clock was set in the block was corrected there, not before the first correction
@@ -71,25 +70,6 @@ begins_late v n stands is =
     let order = instants_are_in_order v.sizes there.0 stands.hull (room v is) there.2 (follows_before v n there.0 stands.hull is there.1 stands.is_hull) in
     omega (arith, ints, block_ends v n stands.next there.0 there.1 stands.is_over, order.last_not_early)
 
--- a clock that was set before the block reaches the value in no other cycle
-same_cycle : (v : View) (n k value t : ℕ) (block : IsInBlock v k t) (shown : ℤ) → IsView v → IsInCycle v value → ShowsIn v.sizes shown k block.before.hull t
-    → pos (n * v.sizes.cycle + value) ≤ℤ shown → shown ≤ℤ (pos (n * v.sizes.cycle + value) +ℤ pos (2 * v.sizes.grain)) → k ≡ n
-same_cycle v n k value t block shown is within shows least most =
-    let space = room v is in
-    let ends = block_ends v k block.next block.before.hull block.before.is_hull block.is_over in
-    elim (cases_lt k n) [
-      | inl lt ↦
-          let more : suc k * v.sizes.cycle ≤ n * v.sizes.cycle = mul-le-mul_right v.sizes.cycle (omega (arith, lt)) in
-          absurd (omega (arith, ints, more, one_more k v.sizes.cycle, least, shows.most, block.to, ends, before_narrow v k block.before, within.begins, space))
-      | inr ge ↦ elim (cases_lt n k) [ inl lt ↦ absurd (by k block shows lt) | inr le ↦ omega (arith, ge, le) ]
-    ]
-  where
-    by : (k : ℕ) (block : IsInBlock v k t) → ShowsIn v.sizes shown k block.before.hull t → n < k → ⊥
-    by zero block shows lt = absurd (omega (arith, lt))
-    by (suc j) block shows lt =
-        let more : suc n * v.sizes.cycle ≤ suc j * v.sizes.cycle = mul-le-mul_right v.sizes.cycle (omega (arith, lt)) in
-        absurd (omega (arith, ints, more, one_more n v.sizes.cycle, most, shows.least, block.from, begins_late v j block.before is, within.ends, room v is))
-
 -- the instant lies so far from the hull of the cycle
 pub record IsReachedFrom (v : View) (n value t : ℕ) : Type 0 where
   pub hull : Hull
@@ -98,39 +78,55 @@ pub record IsReachedFrom (v : View) (n value t : ℕ) : Type 0 where
   pub not_early : (hull.least +ℤ pos value) ≤ℤ (pos t +ℤ pos v.sizes.reach)
   pub not_late : pos t ≤ℤ ((hull.greatest +ℤ pos value) +ℤ pos v.sizes.reach)
 
--- one whose clock was set before the block
-old_reaches : (v : View) (n k value t : ℕ) (block : IsInBlock v k t) (shown : ℤ) → IsView v → IsInCycle v value → ShowsIn v.sizes shown k block.before.hull t
-    → pos (n * v.sizes.cycle + value) ≤ℤ shown → shown ≤ℤ (pos (n * v.sizes.cycle + value) +ℤ pos (2 * v.sizes.grain)) → IsReachedFrom v n value t
-old_reaches v n k value t block shown is within shows least most =
-    let space = room v is in
-    let same = same_cycle v n k value t block shown is within shows least most in
-    let whole : n * v.sizes.cycle ≡ k * v.sizes.cycle = ap (λ (m : ℕ). m * v.sizes.cycle) (sym same) in
-    record {
-      hull = block.before.hull;
-      is_hull = subst (λ (m : ℕ). hull_of v m ≡ Some block.before.hull) same block.before.is_hull;
-      narrow = before_narrow v k block.before;
-      not_early = omega (arith, ints, whole, least, shows.most, space.errors.reach_is);
-      not_late = omega (arith, ints, whole, most, shows.least, space.errors.reach_is);
-    }
+module _ (v : View) (is : IsView v) (n value t : ℕ) (within : IsInCycle v value) (shown : ℤ) (least : pos (n * v.sizes.cycle + value) ≤ℤ shown)
+    (most : shown ≤ℤ (pos (n * v.sizes.cycle + value) +ℤ pos (2 * v.sizes.grain))) where
+  -- a clock that was set before the block reaches the value in no earlier cycle
+  never_before : (k : ℕ) (block : IsInBlock v k t) → ShowsIn v.sizes shown k block.before.hull t → n < k → ⊥
+  never_before zero block shows lt = omega (arith, lt)
+  never_before (suc j) block shows lt =
+      let more : suc n * v.sizes.cycle ≤ suc j * v.sizes.cycle = mul-le-mul_right v.sizes.cycle (omega (arith, lt)) in
+      omega (arith, ints, more, one_more n v.sizes.cycle, most, shows.least, block.from, begins_late v j block.before is, within.ends, room v is)
 
--- one whose clock was set in the block reaches none there
-new_reaches_none : (v : View) (n k value t : ℕ) (block : IsInBlock v k t) (shown : ℤ) (hull : Hull) → IsView v → IsInCycle v value
-    → hull_of v (suc k) ≡ Some hull → ShowsIn v.sizes shown (suc k) hull t
-    → (first_correction v.sizes block.before.hull +ℤ pos v.sizes.reach) <ℤ pos t → pos (n * v.sizes.cycle + value) ≤ℤ shown
-    → shown ≤ℤ (pos (n * v.sizes.cycle + value) +ℤ pos (2 * v.sizes.grain)) → ⊥
-new_reaches_none v n k value t block shown hull is within is_hull shows after least most =
-    let space = room v is in
-    let near = set_clocks_stay_at_correction v.sizes shown (suc k) t block.before.hull hull space (before_narrow v k block.before)
-    (follows_before v k block.before.hull hull is block.before.is_hull is_hull)
-    (omega (arith, ints, after)) (omega (arith, ints, block_ends v k block.next block.before.hull block.before.is_hull block.is_over, block.to)) shows in
-    elim (cases_lt k n) [
-      | inl lt ↦
-          let more : suc k * v.sizes.cycle ≤ n * v.sizes.cycle = mul-le-mul_right v.sizes.cycle (omega (arith, lt)) in
-          omega (arith, ints, more, least, near.most, within.begins, space)
-      | inr ge ↦
-          let more : n * v.sizes.cycle ≤ k * v.sizes.cycle = mul-le-mul_right v.sizes.cycle ge in
-          omega (arith, ints, more, one_more k v.sizes.cycle, most, near.least, within.ends, space)
-    ]
+  -- nor in a later one
+  same_cycle : (k : ℕ) (block : IsInBlock v k t) → ShowsIn v.sizes shown k block.before.hull t → k ≡ n
+  same_cycle k block shows = elim (cases_lt k n) [
+    | inl lt ↦
+        let space = room v is in
+        let ends = block_ends v k block.next block.before.hull block.before.is_hull block.is_over in
+        let more : suc k * v.sizes.cycle ≤ n * v.sizes.cycle = mul-le-mul_right v.sizes.cycle (omega (arith, lt)) in
+        absurd (omega (arith, ints, more, one_more k v.sizes.cycle, least, shows.most, block.to, ends, before_narrow v k block.before, within.begins, space))
+    | inr ge ↦ elim (cases_lt n k) [ inl lt ↦ absurd (never_before k block shows lt) | inr le ↦ omega (arith, ge, le) ]
+  ]
+
+  old_reaches : (k : ℕ) (block : IsInBlock v k t) → ShowsIn v.sizes shown k block.before.hull t → IsReachedFrom v n value t
+  old_reaches k block shows =
+      let space = room v is in
+      let same = same_cycle k block shows in
+      let whole : n * v.sizes.cycle ≡ k * v.sizes.cycle = ap (λ (m : ℕ). m * v.sizes.cycle) (sym same) in
+      record {
+        hull = block.before.hull;
+        is_hull = subst (λ (m : ℕ). hull_of v m ≡ Some block.before.hull) same block.before.is_hull;
+        narrow = before_narrow v k block.before;
+        not_early = omega (arith, ints, whole, least, shows.most, space.errors.reach_is);
+        not_late = omega (arith, ints, whole, most, shows.least, space.errors.reach_is);
+      }
+
+  -- one that was set in the block reaches none there
+  new_reaches_none : (k : ℕ) (block : IsInBlock v k t) (hull : Hull) → hull_of v (suc k) ≡ Some hull → ShowsIn v.sizes shown (suc k) hull t
+      → (first_correction v.sizes block.before.hull +ℤ pos v.sizes.reach) <ℤ pos t → ⊥
+  new_reaches_none k block hull is_hull shows after =
+      let space = room v is in
+      let near = set_clocks_stay_at_correction v.sizes shown (suc k) t block.before.hull hull space (before_narrow v k block.before)
+      (follows_before v k block.before.hull hull is block.before.is_hull is_hull)
+      (omega (arith, ints, after)) (omega (arith, ints, block_ends v k block.next block.before.hull block.before.is_hull block.is_over, block.to)) shows in
+      elim (cases_lt k n) [
+        | inl lt ↦
+            let more : suc k * v.sizes.cycle ≤ n * v.sizes.cycle = mul-le-mul_right v.sizes.cycle (omega (arith, lt)) in
+            omega (arith, ints, more, least, near.most, within.begins, space)
+        | inr ge ↦
+            let more : n * v.sizes.cycle ≤ k * v.sizes.cycle = mul-le-mul_right v.sizes.cycle ge in
+            omega (arith, ints, more, one_more k v.sizes.cycle, most, near.least, within.ends, space)
+      ]
 
 pub value_reached : BlocksCover → BlocksGoSo → (v : View) (n value t : ℕ) (device : DeviceId) → IsView v → HasTimeAt v device t
     → state_left v device t ≡ Synchronised → t ≤ v.until → IsInCycle v value → Reaches v.scenario v.records device (pos (n * v.sizes.cycle + value)) t
@@ -144,26 +140,15 @@ value_reached cover goes v n value t device is has synchronised in_run within re
     let least : pos (n * v.sizes.cycle + value) ≤ℤ shown = omega (arith, ints, sharp.least) in
     let most : shown ≤ℤ (pos (n * v.sizes.cycle + value) +ℤ pos (2 * v.sizes.grain)) = omega (arith, ints, sharp.most) in
     by_lt_z {P = IsReachedFrom v n value t} (epoch_time (earlier t v.records) device) (pos block.before.next)
-    (λ old. old_reaches v n k value t block shown is within (old_shows v k t t device block is (omega arith) has old) least most)
+    (λ old. old_reaches v is n value t within shown least most k block (old_shows v k t t device block is (omega arith) has old))
     (λ late.
     let set = new_shows v k t t device block (λ w from lt. goes v k w (earlier_in_block _ _ _ _ block from (omega arith)) is) is (omega arith) has
     (last_setting (earlier t v.records) device) refl late in
-    absurd (new_reaches_none v n k value t block shown set.hull is within set.is_hull (set_shows v k t device (adjustment_left v device t) block is set)
-    (corrected_late v k t block device (last_setting (earlier t v.records) device) goes is has synchronised refl late) least most))
+    absurd (new_reaches_none v is n value t within shown least most k block set.hull set.is_hull
+    (set_shows v k t device (adjustment_left v device t) block is set)
+    (corrected_late v k t block device (last_setting (earlier t v.records) device) goes is has synchronised refl late)))
 
 -- ---- in a run
-
--- what a clock reaches depends on the earlier records
-reaches_by : (s : Scenario) (hs gs : List Happening) (device : DeviceId) (value : ℤ) (t : ℕ) → earlier t hs ≡ earlier t gs → Reaches s hs device value t
-    → Reaches s gs device value t
-reaches_by s hs gs device value t same reaches = record {
-  below =
-      subst (λ (es : List Happening). (pos (s.reading device (option_map_or time_of (last_setting es device) 0)) +ℤ (adjustment_after s es device).0) <ℤ value)
-      same reaches.below;
-  reach =
-      subst (λ (es : List Happening). IsReach (s.reading device) (pos (option_map_or time_of (last_setting es device) 0))
-      (value -ℤ (adjustment_after s es device).0) (pos t)) same reaches.reach;
-}
 
 pub values_are_reached_on_time : OneChannelIsSound → BlocksCover → BlocksGoSo → ValuesAreReachedOnTime
 values_are_reached_on_time sound cover goes s mark ns until beta up is_beta t cycle value device le step within reaches =

@@ -2,7 +2,7 @@
 use Rattle.precision_law.proofs.words.Std.{◌+ℤ◌, ◌+◌, ◌∙◌, ◌≡◌, ◌≤◌, Bool, List, arith, cases_lt, false, if◌then◌else◌, inl, inr, le-leb, le-ltb, lt-leb, lt-ltb, nat_le, nat_lt, pos, refl, subst, sym, true, ℕ}
 use Rattle.precision_law.proofs.words.Plans.{AsyncClique, Channel, Cleared, Corrected, DeviceId, Integrating, IsBeta, IsSwitchOf, State, SyncClique, Synchronised, Units, Verdict, beta_at, beta_exists, rules_give_trees, shape_rules}
 use Rattle.precision_law.proofs.words.Runs.{AreClose, ChangesState, ComesToCorrection, Happening, IsCaused, IsIn, IsInStep, IsInStepBefore, Note, Scenario, Why, adjustment_after, earlier, founded_at, happenings, is_broken, is_end, is_turned_on_at, state_after, time_of, up_to}
-use Rattle.precision_law.proofs.words.Laws.{BlocksCover, BlocksGoSo, ClocksAgreeInBlocks, ClocksStayTogether, ComesTo, FirmDevicesCorrect, HasTimeAt, IsClique, IsFirm, IsRunUpTo, IsSound, IsView, OneChannelIsSound, TimeIsKept, View, has_time, sizes_of}
+use Rattle.precision_law.proofs.words.Laws.{BlocksCover, BlocksGoSo, ClocksAgreeInBlocks, ClocksStayTogether, ComesTo, FirmDevicesCorrect, HasTimeAt, IsClique, IsFirm, IsRunUpTo, IsSound, IsView, OneChannelIsSound, TimeIsKept, View, has_time, sizes_of, state_left}
 use Rattle.precision_law.proofs.words.Clocks.{IsCutAt, before_of, cut_at, point_timed, same_kept}
 use Rattle.run_law.specs.declared.judgement.Why.TheVariants as whys
 use Rattle.run_law.specs.declared.note.NoteBody.TheVariants as notes
@@ -59,34 +59,33 @@ clocks_stay_together sound cover agree s mark ns until up =
     let hs = happenings s.network ns in
     record {
       after = λ t d e le one other.
-          let channel = sound s t up.lawful in
-          let at = view_at s mark ns until t channel.0 up le channel.1 in
-          let v = view_of s hs t channel.0 at in
-          let block = cover v t at.is (omega arith) in
-          let same : up_to t hs ≡ earlier (t + 1) at.cut.front = up_to_is t hs ∙ sym (at.cut.early (t + 1) (omega arith)) in
-          let timed : (x : DeviceId) → IsInStep s hs x t → HasTimeAt v x (t + 1) = λ x step. record {
-            good = step.correct;
-            timed = timed_of _ (subst (λ (gs : List Happening). state_after s gs x ≡ Synchronised) same step.synchronised);
-          } in
-          let near = agree v block.0 t (t + 1) d e block.1 at.is (omega arith) (omega arith) (timed d one) (timed e other) in
+          let same = up_to_is t hs in
+          let left : (x : DeviceId) → IsInStep s hs x t → state_after s (earlier (t + 1) hs) x ≡ Synchronised = λ x step.
+          subst (λ (gs : List Happening). state_after s gs x ≡ Synchronised) same step.synchronised in
           subst (λ (gs : List Happening). AreClose s.network (pos (s.reading d t) +ℤ (adjustment_after s gs d).0)
-          (pos (s.reading e t) +ℤ (adjustment_after s gs e).0)) (sym same) near;
+          (pos (s.reading e t) +ℤ (adjustment_after s gs e).0)) (sym same)
+          (close t (t + 1) d e le (omega arith) (omega arith) one.correct other.correct (left d one) (left e other));
       before = λ t d e le one other.
-          let channel = sound s t up.lawful in
-          let at = view_at s mark ns until t channel.0 up le channel.1 in
-          let v = view_of s hs t channel.0 at in
-          let block = cover v t at.is (omega arith) in
-          let same : earlier t hs ≡ earlier t at.cut.front = sym (at.cut.early t (omega arith)) in
-          let timed : (x : DeviceId) → IsInStepBefore s hs x t → HasTimeAt v x t = λ x step. record {
-            good = step.correct;
-            timed =
-                timed_of _ (subst (λ (gs : List Happening). state_after s gs x ≡ Synchronised) same (not_integrating (is_turned_on_at s x t) (state_after s
-                (earlier t hs) x) step.synchronised));
-          } in
-          let near = agree v block.0 t t d e block.1 at.is (omega arith) (omega arith) (timed d one) (timed e other) in
-          subst (λ (gs : List Happening). AreClose s.network (pos (s.reading d t) +ℤ (adjustment_after s gs d).0)
-          (pos (s.reading e t) +ℤ (adjustment_after s gs e).0)) (sym same) near;
+          let left : (x : DeviceId) → IsInStepBefore s hs x t → state_after s (earlier t hs) x ≡ Synchronised = λ x step.
+          not_integrating (is_turned_on_at s x t) (state_after s (earlier t hs) x) step.synchronised in
+          close t t d e le (omega arith) (omega arith) one.correct other.correct (left d one) (left e other);
     }
+  where
+    close : (t u : ℕ) (d e : DeviceId) → t ≤ until → t ≤ u → u ≤ t + 1 → is_broken s d t ≡ false → is_broken s e t ≡ false
+        → state_after s (earlier u (happenings s.network ns)) d ≡ Synchronised → state_after s (earlier u (happenings s.network ns)) e ≡ Synchronised
+        → AreClose s.network (pos (s.reading d t) +ℤ (adjustment_after s (earlier u (happenings s.network ns)) d).0)
+        (pos (s.reading e t) +ℤ (adjustment_after s (earlier u (happenings s.network ns)) e).0)
+    close t u d e le from to good good' one other =
+        let channel = sound s t up.lawful in
+        let at = view_at s mark ns until t channel.0 up le channel.1 in
+        let v = view_of s (happenings s.network ns) t channel.0 at in
+        let block = cover v t at.is (omega arith) in
+        let same : earlier u (happenings s.network ns) ≡ earlier u at.cut.front = sym (at.cut.early u to) in
+        let timed : (x : DeviceId) → state_after s (earlier u (happenings s.network ns)) x ≡ Synchronised → has_time (state_left v x u) ≡ true = λ x left.
+        timed_of _ (subst (λ (gs : List Happening). state_after s gs x ≡ Synchronised) same left) in
+        subst (λ (gs : List Happening). AreClose s.network (pos (s.reading d t) +ℤ (adjustment_after s gs d).0)
+        (pos (s.reading e t) +ℤ (adjustment_after s gs e).0)) (sym same)
+        (agree v block.0 t u d e block.1 at.is from to (record { good = good; timed = timed d one }) (record { good = good'; timed = timed e other }))
 
 -- ---- the time is kept
 
@@ -100,20 +99,10 @@ pub record IsCliquePoint (s : Scenario) (ps : List Happening) (t : ℕ) (device 
 
 pub clique_point : (s : Scenario) (ps : List Happening) (t : ℕ) (device : DeviceId) (state : State) (cause : ℕ) (why : Why) → IsClique why
     → ChangesState s ps device t state cause why → IsCliquePoint s ps t device
-clique_point s ps t device state cause whys.SyncClique clique c = record {
-  cycle = c.2.0;
-  verdict = SyncClique;
-  point = c.2.1;
-  not_corrected = λ by e. cc;
-  not_cleared = λ e. cc;
-}
-clique_point s ps t device state cause whys.AsyncClique clique c = record {
-  cycle = c.2.0;
-  verdict = AsyncClique;
-  point = c.2.1;
-  not_corrected = λ by e. cc;
-  not_cleared = λ e. cc;
-}
+clique_point s ps t device state cause whys.SyncClique clique c =
+    record { cycle = c.2.0; verdict = SyncClique; point = c.2.1; not_corrected = λ by e. cc; not_cleared = λ e. cc }
+clique_point s ps t device state cause whys.AsyncClique clique c =
+    record { cycle = c.2.0; verdict = AsyncClique; point = c.2.1; not_corrected = λ by e. cc; not_cleared = λ e. cc }
 clique_point s ps t device state cause why clique c = absurd clique
 
 -- no firm device comes to a clique
@@ -151,8 +140,7 @@ time_is_kept sound cover goes correct s mark ns until up h device state cause wh
             (subst (λ (x : Scenario). is_broken x device (time_of h) ≡ false) (sym same) good);
       })),
   λ channel switch quiet.
-      never_lost cover goes correct s mark ns until h device state cause why channel up i le body clique quiet
-      (λ v same at of good. inr
+      never_lost cover goes correct s mark ns until h device state cause why channel up i le body clique quiet (λ v same at of good. inr
       (subst (λ (c : Channel). IsSwitchOf v.scenario.network c device) (sym of)
       (subst (λ (x : Scenario). IsSwitchOf x.network channel device) (sym same) switch))),
 )

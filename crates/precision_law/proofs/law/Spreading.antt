@@ -1,11 +1,11 @@
 -- How near to one another all dispatches of a cycle lie, those of a master that breaks later among them.
 use Rattle.precision_law.proofs.words.Std.{◌*◌, ◌+ℤ◌, ◌+◌, ◌-ℤ◌, ◌<ℤ◌, ◌<◌, ◌∙◌, ◌≡◌, ◌≤ℤ◌, ◌≤◌, List, ap, arith, cases_lt, false, inl, inr, ints, pos, refl, subst, suc, sym, true, zero, ℕ, ℤ}
-use Rattle.precision_law.proofs.words.Plans.{Channel, DeviceId, IsBeta, Units, amount, beta_at, beta_exists, rules_give_trees, shape_rules}
-use Rattle.precision_law.proofs.words.Runs.{Happening, IsCaused, IsIn, Note, Scenario, earlier, founded_at, happenings, is_broken, is_end, is_synchronised, time_of}
-use Rattle.precision_law.proofs.words.Laws.{AreShared, BlocksCover, BlocksGoSo, DispatchesHalve, DispatchesStayNear, IsAnchored, IsDispatch, IsDispatchOf, IsGood, IsInBlock, IsOldAt, IsRunUpTo, IsView, OneChannelIsSound, Stands, View, adjustment_left, epoch_time, last_dispatch, sizes_of, start_hull, state_left}
+use Rattle.precision_law.proofs.words.Plans.{DeviceId, IsBeta, Units, amount, beta_at, beta_exists, rules_give_trees, shape_rules}
+use Rattle.precision_law.proofs.words.Runs.{Happening, IsCaused, Note, Scenario, earlier, founded_at, happenings, is_broken, is_end, is_synchronised, time_of}
+use Rattle.precision_law.proofs.words.Laws.{AreShared, BlocksCover, BlocksGoSo, DispatchesHalve, DispatchesStayNear, IsAnchored, IsDispatch, IsDispatchOf, IsGood, IsInBlock, IsInHull, IsOldAt, IsReachedNear, IsRunUpTo, IsView, OneChannelIsSound, Stands, View, adjustment_left, epoch_time, last_dispatch, sizes_of, start_hull, state_left}
 use Rattle.precision_law.proofs.words.Clocks.{adjustment_stays, anchored_clocks_reach, anchored_clocks_show, one_more, room, shared_clocks_halve, short_by_reading, starts_stay_together, state_stays, steady, within_run}
-use Rattle.precision_law.proofs.words.Blocks.{HasDispatched, IsReachedBy, all_in_hulls, before_narrow, block_of, follows_before, has_dispatched, high_by, hull_lies, low_by, shared_near, start_near, synchronised_is, view_of, view_with}
-use Rattle.precision_law.proofs.law.Breaking.{AreTwo, IsFrontOf, set_before}
+use Rattle.precision_law.proofs.words.Blocks.{IsReachedBy, all_in_hulls, before_narrow, block_of, follows_before, has_dispatched, high_by, hull_lies, low_by, shared_near, start_near, synchronised_is, view_of, view_with}
+use Rattle.precision_law.proofs.law.Breaking.{AreTwo, first_view, second_view, set_before}
 
 -- ---- a clock that reaches the next cycle later
 
@@ -53,66 +53,57 @@ pub record AreWithin (w u : ℕ) (twice : ℤ) : Type 0 where
   pub one : pos (2 * u) ≤ℤ (pos (2 * w) +ℤ twice)
   pub other : pos (2 * w) ≤ℤ (pos (2 * u) +ℤ twice)
 
-module _ (cover : BlocksCover) (goes : BlocksGoSo) (s : Scenario) (path : ℕ) (c d : Channel) (w u : ℕ) (front more : List Happening)
-    (views : IsFrontOf s path c d w u front more) where
+-- a dispatch of the first cycle is near the start
+start_at : BlocksGoSo → (v : View) (g : Happening) (one : DeviceId) → IsView v → IsDispatch v g one 1 → IsInHull v 1 (time_of g)
+    → IsInBlock v 0 (time_of g) → IsReachedNear v.sizes (pos 0 -ℤ pos (2 * v.sizes.settled)) (pos 0) v.sizes.cycle (time_of g)
+start_at goes v g one is sent own block =
+    let old = subst (λ (x : ℕ). epoch_time (earlier (time_of g) v.records) one <ℤ pos x) block.before.is_over
+    ((goes v 0 (time_of g) block is).dispatches g one 1 sent refl).old in
+    let follows = follows_before v 0 (start_hull v.sizes) own.hull is refl own.is in
+    start_near v one (time_of g) is sent.good (has_dispatched v g one 1 is sent) old (omega (arith, ints, own.most, follows.most))
+
+module _ (cover : BlocksCover) (goes : BlocksGoSo) (s : Scenario) (hs : List Happening) (path : ℕ) (g h : Happening) (one other : DeviceId) where
   -- those of a later cycle
-  halve_two : (m : ℕ) (g h : Happening) (one other : DeviceId) → AreTwo cover goes s path c d w u front more views (suc m) g h one other
-      → (block : IsInBlock (view_of s w c path front) (suc m) w) → IsInBlock (view_of s u d path more) (suc m) u
-      → AreWithin w u ((block.before.hull.greatest -ℤ block.before.hull.least) +ℤ pos (view_of s w c path front).sizes.settled)
-  halve_two m g h one other two block later =
-      let v = view_of s w c path front in
-      let is = views.is in
+  halve_two : (m : ℕ) (two : AreTwo s hs path (suc m) g h one other) (block : IsInBlock (first_view two) (suc m) (time_of g))
+      → IsInBlock (second_view two) (suc m) (time_of h)
+      → AreWithin (time_of g) (time_of h) ((block.before.hull.greatest -ℤ block.before.hull.least) +ℤ pos (first_view two).sizes.settled)
+  halve_two m two block later =
+      let v = first_view two in
       let n = suc m in
       let before = block.before in
-      let set = set_before cover goes s path c d w u front more views n g h one other two block later in
+      let set = set_before cover goes s hs path g h one other n two block later in
       let share = before.shared (omega arith) in
-      let has = subst (λ (t : ℕ). HasDispatched v one (suc n) t) two.at_w (has_dispatched v g one (suc n) is two.first) in
-      let end = (has_dispatched (view_of s u d path more) h other (suc n) views.longer two.second).end in
-      let own = all_in_hulls cover goes v is g one (suc n) two.first in
-      let late : pos w ≤ℤ last_dispatch v.sizes before.hull = omega (arith, ints, two.at_w, own.most, (follows_before v n _ _ is before.is_hull own.is).most) in
-      let old = subst (λ (t : ℕ). IsOldAt v before.next one t) two.at_w ((goes v n (time_of g) (subst (IsInBlock v n) (sym two.at_w) block) is).dispatches g one
-      (suc n) two.first refl).old in
-      let x = shared_near v n w before one share is two.first.good has block.from old late in
-      let y = later_near _ _ w u before other share is (record {
+      let own = all_in_hulls cover goes v two.is g one (suc n) two.first in
+      let late : pos (time_of g) ≤ℤ last_dispatch v.sizes before.hull =
+      omega (arith, ints, own.most, (follows_before v n _ _ two.is before.is_hull own.is).most) in
+      let old = ((goes v n (time_of g) block two.is).dispatches g one (suc n) two.first refl).old in
+      let x = shared_near v n (time_of g) before one share two.is two.first.good (has_dispatched v g one (suc n) two.is two.first) block.from old late in
+      let y = later_near _ _ (time_of g) (time_of h) before other share two.is (record {
         good = set.good;
-        end = end;
+        end = (has_dispatched (second_view two) h other (suc n) two.longer two.second).end;
         synchronised = set.synchronised;
         from = block.from;
-        le = views.le;
+        le = two.le;
         old = set.old;
         least = set.least;
         most = set.most;
       }) in
+      let space = room v two.is in
       record {
-        one = shared_clocks_halve v.sizes before.hull share.shared y.other x.other u w (room v is) y.near x.near y.reached x.reached;
-        other = shared_clocks_halve v.sizes before.hull share.shared x.other y.other w u (room v is) x.near y.near x.reached y.reached;
+        one = shared_clocks_halve v.sizes before.hull share.shared y.other x.other (time_of h) (time_of g) space y.near x.near y.reached x.reached;
+        other = shared_clocks_halve v.sizes before.hull share.shared x.other y.other (time_of g) (time_of h) space x.near y.near x.reached y.reached;
       }
 
   -- those of the first cycle
-  start_two : (g h : Happening) (one other : DeviceId) → AreTwo cover goes s path c d w u front more views 0 g h one other
-      → (block : IsInBlock (view_of s w c path front) 0 w) → (later : IsInBlock (view_of s u d path more) 0 u)
-      → AreWithin w u (pos (2 * (view_of s w c path front).sizes.spread))
-  start_two g h one other two block later =
-      let v = view_of s w c path front in
-      let v' = view_of s u d path more in
-      let has = subst (λ (t : ℕ). HasDispatched v one 1 t) two.at_w (has_dispatched v g one 1 views.is two.first) in
-      let has' = subst (λ (t : ℕ). HasDispatched v' other 1 t) two.at_u (has_dispatched v' h other 1 views.longer two.second) in
-      let old = subst (λ (x : ℕ). epoch_time (earlier w front) one <ℤ pos x) block.before.is_over
-      (subst (λ (t : ℕ). IsOldAt v block.before.next one t) two.at_w
-      ((goes v 0 (time_of g) (subst (IsInBlock v 0) (sym two.at_w) block) views.is).dispatches g one 1 two.first refl).old) in
-      let old' = subst (λ (x : ℕ). epoch_time (earlier u more) other <ℤ pos x) later.before.is_over
-      (subst (λ (t : ℕ). IsOldAt v' later.before.next other t) two.at_u
-      ((goes v' 0 (time_of h) (subst (IsInBlock v' 0) (sym two.at_u) later) views.longer).dispatches h other 1 two.second refl).old) in
-      let own = all_in_hulls cover goes v views.is g one 1 two.first in
-      let own' = all_in_hulls cover goes v' views.longer h other 1 two.second in
-      let follows = follows_before v 0 (start_hull v.sizes) own.hull views.is refl own.is in
-      let late : pos w ≤ℤ last_dispatch v.sizes (start_hull v.sizes) = omega (arith, ints, two.at_w, own.most, follows.most) in
-      let late' : pos u ≤ℤ last_dispatch v'.sizes (start_hull v'.sizes) =
-      (omega (arith, ints, two.at_u, own'.most, (follows_before v' 0 (start_hull v'.sizes) own'.hull views.longer refl own'.is).most)) in
-      let x = start_near v one w views.is two.first.good has old late in
-      let y = start_near v' other u views.longer two.second.good has' old' late' in
-      let a = starts_stay_together v.sizes w u (room v views.is) x y in
-      record { one = omega (arith, ints, starts_stay_together v.sizes u w (room v views.is) y x); other = omega (arith, ints, a) }
+  start_two : (two : AreTwo s hs path 0 g h one other) → IsInBlock (first_view two) 0 (time_of g) → IsInBlock (second_view two) 0 (time_of h)
+      → AreWithin (time_of g) (time_of h) (pos (2 * (first_view two).sizes.spread))
+  start_two two block later =
+      let v = first_view two in
+      let v' = second_view two in
+      let x = start_at goes v g one two.is two.first (all_in_hulls cover goes v two.is g one 1 two.first) block in
+      let y = start_at goes v' h other two.longer two.second (all_in_hulls cover goes v' two.longer h other 1 two.second) later in
+      let a = starts_stay_together v.sizes (time_of g) (time_of h) (room v two.is) x y in
+      record { one = omega (arith, ints, starts_stay_together v.sizes (time_of h) (time_of g) (room v two.is) y x); other = omega (arith, ints, a) }
 
 -- ---- in a run
 
@@ -123,44 +114,29 @@ sends_correct s mark ns until cycle up h d =
     let found = founded_at s (happenings s.network ns) h up.run.founded d.there in
     (subst (IsCaused s found.front h.note.time) d.is found.due.cause).up.correct
 
--- the view at a dispatch, and that at a later one
-record HasViews (s : Scenario) (hs : List Happening) (path : ℕ) (g h : Happening) (one other : DeviceId) (cycle : ℕ) : Type 0 where
-  pub c : Channel
-  pub d : Channel
-  pub front : List Happening
-  pub more : List Happening
-  pub views : IsFrontOf s path c d (time_of g) (time_of h) front more
-  pub inside : (e : Happening) → IsIn e front → IsIn e hs
-  pub first : IsDispatch (view_of s (time_of g) c path front) g one cycle
-  pub second : IsDispatch (view_of s (time_of h) d path more) h other cycle
-
-has_views : OneChannelIsSound → (s : Scenario) (mark : List ℕ) (ns : List Note) (until path cycle : ℕ) → (up : IsRunUpTo s mark ns until)
-    → IsBeta s.network (pos path) → (g h : Happening) → (a : IsDispatchOf (happenings s.network ns) until cycle g)
-    → (b : IsDispatchOf (happenings s.network ns) until cycle h) → time_of g ≤ time_of h
-    → HasViews s (happenings s.network ns) path g h a.master b.master cycle
-has_views sound s mark ns until path cycle up beta g h a b le =
-    let hs = happenings s.network ns in
-    let w = time_of g in
-    let u = time_of h in
-    let c = sound s w up.lawful in
-    let d = sound s u up.lawful in
-    let x = view_with s mark ns until w c.0 path up beta a.by_then c.1 in
-    let y = view_with s mark ns until u d.0 path up beta b.by_then d.1 in
+-- the views at a dispatch and at a later one
+two_of : OneChannelIsSound → (s : Scenario) (mark : List ℕ) (ns : List Note) (until path n : ℕ) → (up : IsRunUpTo s mark ns until)
+    → IsBeta s.network (pos path) → (g h : Happening) → (a : IsDispatchOf (happenings s.network ns) until (suc n) g)
+    → (b : IsDispatchOf (happenings s.network ns) until (suc n) h) → time_of g ≤ time_of h → AreTwo s (happenings s.network ns) path n g h a.master b.master
+two_of sound s mark ns until path n up beta g h a b le =
+    let c = sound s (time_of g) up.lawful in
+    let d = sound s (time_of h) up.lawful in
+    let x = view_with s mark ns until (time_of g) c.0 path up beta a.by_then c.1 in
+    let y = view_with s mark ns until (time_of h) d.0 path up beta b.by_then d.1 in
     record {
       c = c.0;
       d = d.0;
       front = x.cut.front;
       more = y.cut.front;
-      views = record {
-        is = x.is;
-        longer = y.is;
-        le = le;
-        early = λ t within. x.cut.early t (omega (arith, within)) ∙ sym (y.cut.early t (omega (arith, within, le)));
-        inside = λ e i. y.cut.has e (x.cut.inside e i) (let in_run = within_run (view_of s w c.0 path x.cut.front) x.is e i in omega (arith, in_run, le));
-      };
-      inside = x.cut.inside;
-      first = record { there = x.cut.has g a.there (omega arith); is = a.is; good = sends_correct s mark ns until cycle up g a };
-      second = record { there = y.cut.has h b.there (omega arith); is = b.is; good = sends_correct s mark ns until cycle up h b };
+      is = x.is;
+      longer = y.is;
+      first = record { there = x.cut.has g a.there (omega arith); is = a.is; good = sends_correct s mark ns until (suc n) up g a };
+      second = record { there = y.cut.has h b.there (omega arith); is = b.is; good = sends_correct s mark ns until (suc n) up h b };
+      le = le;
+      early = λ t within. x.cut.early t (omega (arith, within)) ∙ sym (y.cut.early t (omega (arith, within, le)));
+      inside = λ e i.
+          y.cut.has e (x.cut.inside e i) (omega (arith, within_run (view_of s (time_of g) c.0 path x.cut.front) x.is e i, le));
+      of_run = x.cut.inside;
     }
 
 -- the cycle is 1, or behind a later one; so the dispatches lie so far apart, and in the hull of the cycle before
@@ -169,41 +145,26 @@ record AreApart (s : Scenario) (hs : List Happening) (until k : ℕ) (g h : Happ
   pub halves : (first last : ℤ) → 1 ≤ k → ((e : Happening) → IsDispatchOf hs until k e → (first ≤ℤ pos (time_of e)) × (pos (time_of e) ≤ℤ last))
       → AreWithin (time_of g) (time_of h) ((last -ℤ first) +ℤ pos (amount s.network.settled))
 
--- numbers
-spread_by : (w u settled spread gamma : ℕ) (least greatest : ℤ) → AreWithin w u ((greatest -ℤ least) +ℤ pos settled) → greatest ≤ℤ (least +ℤ pos spread)
-    → spread ≡ settled + 2 * gamma + 2 → AreWithin w u (pos (2 * spread))
-spread_by w u settled spread gamma least greatest near narrow is =
-    (let a = near.one in let b = near.other in record { one = omega (arith, ints, a, narrow, is); other = omega (arith, ints, b, narrow, is) })
-
-wider_by : (w u settled : ℕ) (least greatest first last : ℤ) → AreWithin w u ((greatest -ℤ least) +ℤ pos settled) → first ≤ℤ least → greatest ≤ℤ last
-    → AreWithin w u ((last -ℤ first) +ℤ pos settled)
-wider_by w u settled least greatest first last near low high =
-    (let a = near.one in let b = near.other in record { one = omega (arith, ints, a, low, high); other = omega (arith, ints, b, low, high) })
-
 apart_by : BlocksCover → BlocksGoSo → (s : Scenario) (hs : List Happening) (path until k : ℕ) (g h : Happening) (one other : DeviceId)
-    → (x : HasViews s hs path g h one other (suc k)) → time_of g ≤ until → IsInBlock (view_of s (time_of g) x.c path x.front) k (time_of g)
-    → IsInBlock (view_of s (time_of h) x.d path x.more) k (time_of h) → AreApart s hs until k g h
-apart_by cover goes s hs path until zero g h one other x to block later =
-    record {
-      near =
-          start_two cover goes s path x.c x.d (time_of g) (time_of h) x.front x.more x.views g h one other
-          (record { first = x.first; second = x.second; at_w = refl; at_u = refl }) block later;
-      halves = λ first last begun lie. absurd (omega (arith, begun));
-    }
-apart_by cover goes s hs path until (suc m) g h one other x to block later =
-    let v = view_of s (time_of g) x.c path x.front in
-    let half = halve_two cover goes s path x.c x.d (time_of g) (time_of h) x.front x.more x.views m g h one other
-    (record { first = x.first; second = x.second; at_w = refl; at_u = refl }) block later in
+    → (two : AreTwo s hs path k g h one other) → time_of g ≤ until → IsInBlock (first_view two) k (time_of g) → IsInBlock (second_view two) k (time_of h)
+    → AreApart s hs until k g h
+apart_by cover goes s hs path until zero g h one other two to block later =
+    record { near = start_two cover goes s hs path g h one other two block later; halves = λ first last begun lie. absurd (omega (arith, begun)) }
+apart_by cover goes s hs path until (suc m) g h one other two to block later =
+    let v = first_view two in
+    let half = halve_two cover goes s hs path g h one other m two block later in
     let hull = block.before.hull in
+    let narrow = before_narrow v _ block.before in
+    let spread_is = (room v two.is).errors.spread_is in
     record {
-      near = spread_by _ _ v.sizes.settled _ v.sizes.gamma hull.least hull.greatest half (before_narrow v _ block.before) (room v x.views.is).errors.spread_is;
+      near = record { one = omega (arith, ints, half.one, narrow, spread_is); other = omega (arith, ints, half.other, narrow, spread_is) };
       halves = λ first last begun lie.
-          let ends = hull_lies cover goes v x.views.is m hull block.before.is_hull in
+          let ends = hull_lies cover goes v two.is m hull block.before.is_hull in
           let a = ends.is_earliest in
           let b = ends.is_latest in
-          let low = (lie ends.earliest (record { there = x.inside ends.earliest a.there; master = a.master; is = a.is; by_then = omega arith })).0 in
-          let high = (lie ends.latest (record { there = x.inside ends.latest b.there; master = b.master; is = b.is; by_then = omega arith })).1 in
-          wider_by (time_of g) (time_of h) v.sizes.settled hull.least hull.greatest first last half (omega (arith, ints)) (omega (arith, ints));
+          let low = (lie ends.earliest (record { there = two.of_run ends.earliest a.there; master = a.master; is = a.is; by_then = omega arith })).0 in
+          let high = (lie ends.latest (record { there = two.of_run ends.latest b.there; master = b.master; is = b.is; by_then = omega arith })).1 in
+          record { one = omega (arith, ints, half.one); other = omega (arith, ints, half.other) };
     }
 
 apart : OneChannelIsSound → BlocksCover → BlocksGoSo → (s : Scenario) (mark : List ℕ) (ns : List Note) (until k : ℕ) → IsRunUpTo s mark ns until
@@ -213,24 +174,19 @@ apart sound cover goes s mark ns until k up g h a b le =
     let n = s.network in
     let beta = (beta_exists n (rules_give_trees n (shape_rules n up.lawful.rules))).1 in
     let path = beta_at n beta.jitter beta.links in
-    let x = has_views sound s mark ns until path (suc k) up (subst (IsBeta n) beta.value beta) g h a b le in
-    let one = block_of cover goes (view_of s (time_of g) x.c path x.front) x.views.is g a.master (suc k) x.first in
-    let other = block_of cover goes (view_of s (time_of h) x.d path x.more) x.views.longer h b.master (suc k) x.second in
-    let at : one.n ≡ k = omega (arith, one.of_cycle) in
-    let too : other.n ≡ k = omega (arith, other.of_cycle) in
-    apart_by cover goes s (happenings s.network ns) path until k g h a.master b.master x a.by_then
-    (subst (λ (j : ℕ). IsInBlock (view_of s (time_of g) x.c path x.front) j (time_of g)) at one.block)
-    (subst (λ (j : ℕ). IsInBlock (view_of s (time_of h) x.d path x.more) j (time_of h)) too other.block)
-
--- nothing is dispatched in cycle 0
-none_of_start : (s : Scenario) (mark : List ℕ) (ns : List Note) (until cycle : ℕ) → IsRunUpTo s mark ns until → (h : Happening)
-    → IsDispatchOf (happenings s.network ns) until cycle h → 1 ≤ cycle
-none_of_start s mark ns until cycle up h d =
-    let found = founded_at s (happenings s.network ns) h up.run.founded d.there in
-    (subst (IsCaused s found.front h.note.time) d.is found.due.cause).begun
+    let two = two_of sound s mark ns until path k up (subst (IsBeta n) beta.value beta) g h a b le in
+    let first = block_of cover goes (first_view two) two.is g a.master (suc k) two.first in
+    let second = block_of cover goes (second_view two) two.longer h b.master (suc k) two.second in
+    let at : first.n ≡ k = omega (arith, first.of_cycle) in
+    let too : second.n ≡ k = omega (arith, second.of_cycle) in
+    apart_by cover goes s (happenings s.network ns) path until k g h a.master b.master two a.by_then
+    (subst (λ (j : ℕ). IsInBlock (first_view two) j (time_of g)) at first.block) (subst (λ (j : ℕ). IsInBlock (second_view two) j (time_of h)) too second.block)
 
 pub dispatches_stay_near : OneChannelIsSound → BlocksCover → BlocksGoSo → DispatchesStayNear
-dispatches_stay_near sound cover goes s mark ns until up zero g h a b = (let begun = none_of_start s mark ns until zero up g a in absurd (omega (arith, begun)))
+dispatches_stay_near sound cover goes s mark ns until up zero g h a b = 
+    let found = founded_at s (happenings s.network ns) g up.run.founded a.there in
+    let begun = (subst (IsCaused s found.front g.note.time) a.is found.due.cause).begun in
+    absurd (omega (arith, begun))
 dispatches_stay_near sound cover goes s mark ns until up (suc k) g h a b =
     elim (cases_lt (time_of h) (time_of g)) [
       | inr le ↦ (let near = (apart sound cover goes s mark ns until k up g h a b le).near.other in omega (arith, ints, near))

@@ -102,27 +102,20 @@ set_by v n t d block h (notes.Corrected e number by adjustment) so is good from 
       anchored = subst (λ (a : ℤ). IsAnchoredIn v.sizes (v.scenario.reading d) a (suc n) set.hull set.set_at) (sum ∙ sym shows) set.anchored;
     }
 set_by v n t d block h body so is good from to i same sets =
-    joined_sets v n t d block h so is good from to i body same sets
-  where
-    joined_sets : (v : View) (n t : ℕ) (d : DeviceId) (block : IsInBlock v n t) (h : Happening)
-        → BlockGoesSo v n block.before.next (time_of h) block.before.hull → IsView v → IsGood v d → block.before.next ≤ time_of h → time_of h ≤ t
-        → IsIn h v.records → (body : NoteBody) → h.note.body ≡ body → is_joined_by d body ≡ true
-        → IsSetInBlock v n t d (adjustment_with v.scenario d (cycle_in h) (adjustment_at_start (start_of v.scenario.network d)) body).0
-    joined_sets v n t d block h so is good from to i body same joined =
-        let at : is_joined_by d h.note.body ≡ true = ap (is_joined_by d) same ∙ joined in
-        let join = so.joins h d i at good refl in
-        let changes : changes_adjustment d h.note.body ≡ true = joined_changes d h.note.body at in
-        let one = adjustment_set v.scenario d (cycle_in h) (record { 0 = pos 0 }) (adjustment_at_start (start_of v.scenario.network d)) h.note.body changes in
-        let two = ap (adjustment_with v.scenario d (cycle_in h) (adjustment_at_start (start_of v.scenario.network d))) same in
-        record {
-          hull = join.hull;
-          is_hull = join.is_hull;
-          set_at = time_of h;
-          not_before = join.not_early;
-          not_behind = to;
-          ahead = omega (arith, ints, join.ahead, ap (λ (a : Units). a.0) (one ∙ two), (steady v is d).never_falls (time_of h) t to);
-          anchored = subst (λ (a : Units). IsAnchoredIn v.sizes (v.scenario.reading d) a.0 (suc n) join.hull (time_of h)) (one ∙ two) join.anchored;
-        }
+    let at : is_joined_by d h.note.body ≡ true = ap (is_joined_by d) same ∙ sets in
+    let join = so.joins h d i at good refl in
+    let changes : changes_adjustment d h.note.body ≡ true = joined_changes d h.note.body at in
+    let one = adjustment_set v.scenario d (cycle_in h) (record { 0 = pos 0 }) (adjustment_at_start (start_of v.scenario.network d)) h.note.body changes in
+    let shows = one ∙ ap (adjustment_with v.scenario d (cycle_in h) (adjustment_at_start (start_of v.scenario.network d))) same in
+    record {
+      hull = join.hull;
+      is_hull = join.is_hull;
+      set_at = time_of h;
+      not_before = join.not_early;
+      not_behind = to;
+      ahead = omega (arith, ints, join.ahead, ap (λ (a : Units). a.0) shows, (steady v is d).never_falls (time_of h) t to);
+      anchored = subst (λ (a : Units). IsAnchoredIn v.sizes (v.scenario.reading d) a.0 (suc n) join.hull (time_of h)) shows join.anchored;
+    }
 
 -- a clock that was set in the block
 pub new_shows : (v : View) (n t u : ℕ) (d : DeviceId) (block : IsInBlock v n t)

@@ -1,8 +1,8 @@
 -- A run up to an earlier time.
-use Rattle.precision_law.proofs.words.Std.{◌++◌, ◌+◌, ◌<◌, ◌∙◌, ◌∷◌, ◌≡◌, ◌≤◌, List, [], ap, append-nil, append_assoc, arith, cases_lt, filter-append, inl, inr, le-ltb, lt-ltb, nat_lt, subst, sym, ℕ}
-use Rattle.precision_law.proofs.words.Runs.{Happening, IsBefore, IsDue, IsFounded, IsIn, IsRun, IsSplit, Scenario, chain, earlier, earlier_time, front_founded, in_front_of, in_left, in_parts, key, members_in, none_kept, place_of, rank, split, time_of}
+use Rattle.precision_law.proofs.words.Std.{◌++◌, ◌+◌, ◌<◌, ◌∙◌, ◌∷◌, ◌≡◌, ◌≤◌, List, [], ap, append_assoc, arith, cases_lt, inl, inr, lt-ltb, nat_lt, subst, sym, ℕ}
+use Rattle.precision_law.proofs.words.Runs.{Happening, IsBefore, IsDue, IsFounded, IsIn, IsRun, IsSplit, Scenario, chain, earlier, earlier_time, front_founded, in_front_of, in_left, in_parts, key, members_in, place_of, rank, split, time_of}
 use Rattle.precision_law.proofs.words.Laws.{Covers}
-use Rattle.precision_law.proofs.records.Times.{all_kept}
+use Rattle.precision_law.proofs.records.Times.{all_kept, earlier_front}
 
 -- the records of a run before an earlier place are the run up to this place
 pub cut_run : {N : Type 0} (place : N → List ℕ) (IsDue : List N → N → Type 0) (mark p : List ℕ) (ns : List N) (at : IsSplit place ns p)
@@ -55,12 +55,10 @@ pub cut_at : (s : Scenario) (mark : List ℕ) (hs : List Happening) (until t : �
 cut_at s mark hs until t run covers le =
     let at = split place_of (IsDue s) hs ((t + 1) ∷ []) run.founded in
     let keeps : (u : ℕ) → u ≤ t + 1 → earlier u at.front ≡ earlier u hs = λ u within.
-    let none : earlier u at.rest ≡ [] = none_kept (λ h. nat_lt (time_of h) u) at.rest (λ h i. elim (cases_lt (time_of h) u) [
+    earlier_front u at.front at.rest (λ h i. elim (cases_lt (time_of h) u) [
       | inl lt ↦ absurd (at.none h i (sooner h (t + 1) (omega arith)))
-      | inr ge ↦ le-ltb (time_of h) u ge
-    ]) in
-    sym (append-nil (earlier u at.front)) ∙ ap (λ (gs : List Happening). earlier u at.front ++ gs) (sym none)
-    ∙ sym (filter-append (λ h. nat_lt (time_of h) u) at.front at.rest) ∙ ap (earlier u) (sym at.whole) in
+      | inr ge ↦ ge
+    ]) ∙ ap (earlier u) (sym at.whole) in
     let all = all_kept (λ h. nat_lt (time_of h) (t + 1)) at.front (λ h i. lt-ltb (time_of h) (t + 1) (of_earlier h (t + 1) (at.before h i))) in
     record {
       front = at.front;

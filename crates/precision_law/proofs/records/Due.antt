@@ -1,6 +1,6 @@
 -- What is due is recorded: the frames of clusters, and what is permanent.
-use Rattle.precision_law.proofs.words.Std.{◌+◌, ◌<◌, ◌∙◌, ◌∷◌, ◌≡◌, ◌≤◌, ◌⊎◌, Bool, Contains, List, MatchBool, None, Option, Some, [], ap, arith, cases_lt, false, inl, inr, ints, length, option_and_then, option_map_or, pos, refl, subst, sym, true, unsigned_abs, ℕ, ℤ}
-use Rattle.precision_law.proofs.words.Plans.{AreClusters, Cluster, DeviceId, IsReach, LinkId, Pcf, Point, Taken, amount, emission, one_list_of_clusters, point_at, point_of, role, units_of}
+use Rattle.precision_law.proofs.words.Std.{◌+◌, ◌∙◌, ◌∷◌, ◌≡◌, ◌≤◌, ◌⊎◌, Bool, Contains, List, MatchBool, None, Option, Some, [], ap, arith, false, inl, inr, ints, length, option_and_then, option_map_or, pos, refl, subst, sym, true, unsigned_abs, ℕ, ℤ}
+use Rattle.precision_law.proofs.words.Plans.{AreClusters, Cluster, DeviceId, IsReach, LinkId, Pcf, Taken, amount, emission, one_list_of_clusters, point_at, point_of, role, units_of}
 use Rattle.precision_law.proofs.words.Runs.{AllBefore, BecomesPermanent, Emits, Happening, IsBefore, IsCaused, IsCollectedOrDropped, IsCollectionOutcome, IsDue, IsFounded, IsIn, IsJudgedBy, IsPermanenceOutcome, IsPermanent, IsSplit, Judgement, NoneBefore, Note, NoteBody, Reason, Scenario, adjustment_at_hearing, by_number, due_is_there, front_founded, happening, heard_as, in_front_of, is_cm, key, master_of, members_in, numbered, observation_window, place_of, plan_of, point_fault, points_of, rank, ripe_as, sign, state_at_hearing, time_of, waits_for}
 use Rattle.precision_law.proofs.words.Laws.{IsEmission, IsGood, IsPermanentAt, IsView, Sizes, View}
 use Rattle.compression.specs.declared.taken.Taken.TheVariants as taken
@@ -8,6 +8,7 @@ use Rattle.run_law.specs.declared.judgement.Judgement.TheVariants as judgements
 use Rattle.run_law.specs.declared.note.NoteBody.TheVariants as notes
 use Rattle.precision_law.proofs.faults.Masters.{good_is_correct}
 use Rattle.precision_law.proofs.records.Judged.{all_judge}
+use Rattle.precision_law.proofs.Plain.{ranked}
 
 -- ---- what is sent
 
@@ -17,6 +18,19 @@ next_note ps t body = record { number = length ps + 1; time = units_of t; body =
 pub next_due : (s : Scenario) (ps : List Happening) (t : ℕ) (body : NoteBody) → IsCaused s ps (units_of t) body
     → IsDue s ps (happening s.network ps (next_note ps t body))
 next_due s ps t body cause = record { number = refl; same = refl; begun = omega (arith, ints); cause = cause }
+
+-- what a time of the run brings, given the records before its place, is recorded
+pub due_there : (v : View) (t : ℕ) (body : NoteBody) (p : List ℕ) (at : IsSplit place_of v.records p) → IsView v → t ≤ v.until
+    → place_of (happening v.scenario.network at.front (next_note at.front t body)) ≡ p → IsCaused v.scenario at.front (units_of t) body
+    → IsIn (happening v.scenario.network at.front (next_note at.front t body)) v.records
+due_there v t body p at is within same cause =
+    due_is_there v.scenario ((v.until + 1) ∷ []) v.records (happening v.scenario.network at.front (next_note at.front t body)) (record {
+      front = at.front;
+      rest = at.rest;
+      whole = at.whole;
+      before = subst (AllBefore place_of at.front) (sym same) at.before;
+      none = subst (NoneBefore place_of at.rest) (sym same) at.none;
+    }) is.run (next_due v.scenario at.front t body cause) (inl (omega (arith, within)))
 
 -- the emission reading of a cluster
 abbrev pub sent_at : View → Cluster → ℤ
@@ -38,8 +52,7 @@ pub record IsSentAt (v : View) (cm : DeviceId) (c : Cluster) (t : ℕ) : Type 0 
 pub is_sent : (v : View) (cm : DeviceId) (t : ℕ) (c : Cluster) (clusters : List Cluster) (is : IsView v) → is_cm v.scenario.network cm ≡ true → IsGood v cm
     → t ≤ v.until
     → (at : IsSplit place_of v.records (place_of_sent v cm c t)) → AreClusters (observation_window v.scenario.network) (points_of at.front cm) clusters
-    → Contains clusters c
-    → IsReach (v.scenario.reading cm) (pos 0) (sent_at v c) (pos t) → IsSentAt v cm c t
+    → Contains clusters c → IsReach (v.scenario.reading cm) (pos 0) (sent_at v c) (pos t) → IsSentAt v cm c t
 is_sent v cm t c clusters is one good within at are there reached =
     let s = v.scenario in
     let n = s.network in
@@ -63,7 +76,7 @@ is_sent v cm t c clusters is one good within at are there reached =
     record {
       h = h;
       emission = record {
-        there = due_is_there s ((v.until + 1) ∷ []) v.records h at is.run (next_due s at.front t body emits) (inl (omega (arith, within)));
+        there = due_there v t body (place_of_sent v cm c t) at is within refl emits;
         opened = record { 0 = c.opened };
         at = record { 0 = sent_at v c };
         verdict = verdict;
@@ -99,17 +112,12 @@ pub record IsRipeRecord (v : View) (device : DeviceId) (arrival : Happening) (li
   pub time : time_of h ≡ q
   pub of_frame : h.frame ≡ Some frame
 
-before_ripe : (t q : ℕ) (r : ℕ) (rest more : List ℕ) → t ≤ q → r < 3 → IsBefore (t ∷ r ∷ rest) (q ∷ 3 ∷ more)
-before_ripe t q r rest more le low = elim (cases_lt t q) [ inl lt ↦ inl lt | inr ge ↦ inr (omega (arith, le, ge), inl low) ]
-
 -- given those before its place, it becomes what the law of permanence says: where this is a judgement, there is a
 -- record of it
 pub is_recorded : (v : View) (device : DeviceId) (arrival : Happening) (link : LinkId) (frame : Pcf) (point : ℤ) (q : ℕ) (verdict : Judgement) (is : IsView v)
-    → IsRipeArrival v device arrival link frame point q
-    → (at : IsSplit place_of v.records (place_of_ripe device arrival link frame point q))
+    → IsRipeArrival v device arrival link frame point q → (at : IsSplit place_of v.records (place_of_ripe device arrival link frame point q))
     → IsPermanenceOutcome v.scenario.network device (state_at_hearing v.scenario at.front device q) (adjustment_at_hearing v.scenario at.front device q).0
-    (points_of at.front device) frame point (ripe_as verdict)
-    → IsRipeRecord v device arrival link point q verdict frame
+    (points_of at.front device) frame point (ripe_as verdict) → IsRipeRecord v device arrival link point q verdict frame
 is_recorded v device arrival link frame point q verdict is r at becomes =
     let s = v.scenario in
     let n = s.network in
@@ -117,7 +125,7 @@ is_recorded v device arrival link frame point q verdict is r at becomes =
     let body : NoteBody = notes.Permanent device link number (record { 0 = point }) verdict in
     let p = r.permanent in
     let arrives : arrival.note.body ≡ notes.Arrived device link p.from p.clock = p.is ∙ ap (λ (l : LinkId). notes.Arrived device l p.from p.clock) r.by_link in
-    let sooner : IsBefore (place_of arrival) (place_of_ripe device arrival link frame point q) = before_ripe (time_of arrival) q (rank arrival.note.body)
+    let sooner : IsBefore (place_of arrival) (place_of_ripe device arrival link frame point q) = ranked (time_of arrival) q (rank arrival.note.body) 3
     (key (members_in arrival) arrival.note.body) (device.0 ∷ unsigned_abs point ∷ frame.members.0 ∷ link.0 ∷ number ∷ []) r.later
     (let two : rank arrival.note.body ≡ 2 = ap rank arrives in omega (arith, two)) in
     let front = front_founded place_of (IsDue s) at.front at.rest (subst (IsFounded place_of (IsDue s)) at.whole is.run.founded) in
@@ -144,22 +152,23 @@ is_recorded v device arrival link frame point q verdict is r at becomes =
     let framed : h.frame ≡ Some frame = ap (λ (o : Option Happening). option_and_then (λ x. x.frame) o) found ∙ r.of_frame in
     let members : members_in h ≡ frame.members.0 = ap (λ (o : Option Pcf). option_map_or (λ f. f.members.0) o 0) framed in
     let place = ap (λ (m : ℕ). q ∷ 3 ∷ device.0 ∷ unsigned_abs point ∷ m ∷ link.0 ∷ number ∷ []) members in
-    let moved : IsSplit place_of v.records (place_of h) = record {
-      front = at.front;
-      rest = at.rest;
-      whole = at.whole;
-      before = subst (AllBefore place_of at.front) (sym place) at.before;
-      none = subst (NoneBefore place_of at.rest) (sym place) at.none;
-    } in
     record {
       h = h;
-      there = due_is_there s ((v.until + 1) ∷ []) v.records h moved is.run (next_due s at.front q body ripens) (inl (omega (arith, r.in_run)));
+      there = due_there v q body (place_of_ripe device arrival link frame point q) at is r.in_run place ripens;
       is = refl;
       time = refl;
       of_frame = framed;
     }
 
 -- ---- what a compression master collects
+
+if_true : (b : Bool) (P Q : Type 0) → b ≡ true → P → MatchBool b P Q
+if_true true P Q e p = p
+if_true false P Q e p = absurd cc
+
+if_false : (b : Bool) (P Q : Type 0) → b ≡ false → Q → MatchBool b P Q
+if_false false P Q e p = p
+if_false true P Q e p = absurd cc
 
 -- a frame that is permanent at a compression master, and has no fault, has a record that gives its point, but where it
 -- is dropped since it lies in the time of a cluster of another cycle
@@ -174,15 +183,17 @@ is_collected v cm arrival link frame point q is one r at fine =
     let found = one_list_of_clusters (observation_window v.scenario.network) (points_of at.front cm) in
     by found.0 found.1 (role found.0 (point_at point (master_of frame.members.0) frame.cycle)) refl
   where
-    becomes : (verdict : Judgement) (points : List Point) (o : Option Reason) → o ≡ None
-        → IsCollectionOutcome v.scenario.network points (point_at point (master_of frame.members.0) frame.cycle) (ripe_as verdict)
-        → IsCollectedOrDropped v.scenario.network points (point_at point (master_of frame.members.0) frame.cycle) o (ripe_as verdict)
-    becomes verdict points None e so = so
-    becomes verdict points (Some reason) e so = absurd cc
+    becomes : (o : Option Reason) (verdict : Judgement) → o ≡ None
+        → IsCollectionOutcome v.scenario.network (points_of at.front cm) (point_at point (master_of frame.members.0) frame.cycle) (ripe_as verdict)
+        → IsCollectedOrDropped v.scenario.network (points_of at.front cm) (point_at point (master_of frame.members.0) frame.cycle) o (ripe_as verdict)
+    becomes None verdict e so = so
+    becomes (Some reason) verdict e so = absurd cc
 
-    at_cm : (verdict : Judgement) (b : Bool) (P Q : Type 0) → b ≡ true → P → MatchBool b P Q
-    at_cm verdict true P Q e p = p
-    at_cm verdict false P Q e p = absurd cc
+    kept : (verdict : Judgement)
+        → IsCollectionOutcome v.scenario.network (points_of at.front cm) (point_at point (master_of frame.members.0) frame.cycle) (ripe_as verdict)
+        → (verdict : Judgement) × IsRipeRecord v cm arrival link point q verdict frame
+    kept verdict so =
+        (verdict, is_recorded v cm arrival link frame point q verdict is r at (if_true (is_cm v.scenario.network cm) _ _ one (becomes _ verdict fine so)))
 
     by : (clusters : List Cluster) → AreClusters (observation_window v.scenario.network) (points_of at.front cm) clusters → (t : Taken)
         → role clusters (point_at point (master_of frame.members.0) frame.cycle) ≡ t
@@ -191,31 +202,11 @@ is_collected v cm arrival link frame point q is one r at fine =
         ⊎ ((verdict : Judgement) × IsRipeRecord v cm arrival link point q verdict frame)
     by clusters are taken.OtherCycle e = inl (clusters, are, e)
     by clusters are taken.Opened e =
-        inr (
-          judgements.Opened,
-          is_recorded v cm arrival link frame point q judgements.Opened is r at
-              (at_cm judgements.Opened (is_cm v.scenario.network cm) _ _ one
-              (becomes judgements.Opened (points_of at.front cm) _ fine
-              (record { taken = taken.Opened; collected = record { clusters = clusters; are = are; is = sym e }; becomes = refl }))),
-        )
+        inr (kept judgements.Opened (record { taken = taken.Opened; collected = record { clusters = clusters; are = are; is = sym e }; becomes = refl }))
     by clusters are taken.Joined e =
-        inr (
-          judgements.Joined,
-          is_recorded v cm arrival link frame point q judgements.Joined is r at
-              (at_cm judgements.Joined (is_cm v.scenario.network cm) _ _ one
-              (becomes judgements.Joined (points_of at.front cm) _ fine
-              (record { taken = taken.Joined; collected = record { clusters = clusters; are = are; is = sym e }; becomes = refl }))),
-        )
+        inr (kept judgements.Joined (record { taken = taken.Joined; collected = record { clusters = clusters; are = are; is = sym e }; becomes = refl }))
     by clusters are taken.Repeat e =
-        inr (
-          judgements.Repeat,
-          is_recorded v cm arrival link frame point q judgements.Repeat is r at
-              (at_cm judgements.Repeat (is_cm v.scenario.network cm) _ _ one
-              (becomes judgements.Repeat (points_of at.front cm) _ fine
-              (record { taken = taken.Repeat; collected = record { clusters = clusters; are = are; is = sym e }; becomes = refl }))),
-        )
-
--- ---- what other devices hear
+        inr (kept judgements.Repeat (record { taken = taken.Repeat; collected = record { clusters = clusters; are = are; is = sym e }; becomes = refl }))
 
 -- a frame that is permanent at any other device has a record, by which the device hears it
 pub is_heard_of : (v : View) (device : DeviceId) (arrival : Happening) (link : LinkId) (frame : Pcf) (point : ℤ) (q : ℕ) (is : IsView v)
@@ -224,8 +215,4 @@ pub is_heard_of : (v : View) (device : DeviceId) (arrival : Happening) (link : L
     → IsRipeRecord v device arrival link point q (heard_as (plan_of v.scenario.network device) (observation_window v.scenario.network)
     (state_at_hearing v.scenario at.front device q) (adjustment_at_hearing v.scenario at.front device q).0 point frame.cycle frame.members) frame
 is_heard_of v device arrival link frame point q is other r at =
-    is_recorded v device arrival link frame point q _ is r at (elsewhere (is_cm v.scenario.network device) _ _ other refl)
-  where
-    elsewhere : (b : Bool) (P Q : Type 0) → b ≡ false → Q → MatchBool b P Q
-    elsewhere false P Q e p = p
-    elsewhere true P Q e p = absurd cc
+    is_recorded v device arrival link frame point q _ is r at (if_false (is_cm v.scenario.network device) _ _ other refl)

@@ -1,5 +1,5 @@
 -- The records by which a frame that is permanent is judged.
-use Rattle.precision_law.proofs.words.Std.{◌&&◌, ◌==◌, ◌||◌, ◌∙◌, ◌∷◌, ◌≡◌, Bool, List, [], ap, arith, eq-eqb, false, filter, if◌then◌else◌, inl, inr, le-ltb, lt-ltb, nat_lt, or_left, refl, true, ℕ}
+use Rattle.precision_law.proofs.words.Std.{◌&&◌, ◌==◌, ◌||◌, ◌∙◌, ◌∷◌, ◌≡◌, Bool, List, [], ap, arith, both_ways, cases_Bool, eq-eqb, false_from_ne_true, filter, if◌then◌else◌, inl, inr, le-ltb, lt-ltb, nat_lt, or_left, refl, sym, true, ℕ}
 use Rattle.precision_law.proofs.words.Plans.{DeviceId, LinkId, Pcf, Units, amount}
 use Rattle.precision_law.proofs.words.Runs.{AllBefore, Happening, IsBefore, before_permanence, earlier, is_before, place_of, time_of}
 use Rattle.precision_law.proofs.records.Times.{all_kept}
@@ -25,15 +25,15 @@ all_judge hs t device link cause frame point all =
 earlier_kept : (t : ℕ) (q : Happening → Bool) (hs : List Happening) → ((h : Happening) → nat_lt (time_of h) t ≡ true → q h ≡ true)
     → earlier t (filter q hs) ≡ earlier t hs
 earlier_kept t q [] all = refl
-earlier_kept t q (h ∷ hs) all = by (q h) (nat_lt (time_of h) t) refl refl (earlier_kept t q hs all)
-  where
-    by : (b c : Bool) → q h ≡ b → nat_lt (time_of h) t ≡ c → earlier t (filter q hs) ≡ earlier t hs
-        → earlier t (if b then h ∷ filter q hs else filter q hs) ≡ (if c then h ∷ earlier t hs else earlier t hs)
-    by true c is at more =
-        ap (λ (d : Bool). if d then h ∷ earlier t (filter q hs) else earlier t (filter q hs)) at
-        ∙ ap (λ (l : List Happening). if c then h ∷ l else l) more
-    by false true is at more = (let kept = all h at in absurd cc)
-    by false false is at more = more
+earlier_kept t q (h ∷ hs) all =
+    let more = earlier_kept t q hs all in
+    let keeps = λ (b : Bool) (l : List Happening). if b then h ∷ l else l in
+    elim (cases_Bool (q h)) [
+      | inl kept ↦ ap (λ (b : Bool). earlier t (keeps b (filter q hs))) kept ∙ ap (keeps (nat_lt (time_of h) t)) more
+      | inr dropped ↦
+          let late = false_from_ne_true (nat_lt (time_of h) t) (λ early. both_ways (q h) dropped (all h early)) in
+          ap (λ (b : Bool). earlier t (keeps b (filter q hs))) dropped ∙ more ∙ ap (λ (b : Bool). keeps b (earlier t hs)) (sym late)
+    ]
 
 -- all records of earlier times count
 pub earlier_judge : (hs : List Happening) (t : ℕ) (device : DeviceId) (link : LinkId) (cause : ℕ) (frame : Pcf) (point : Units)

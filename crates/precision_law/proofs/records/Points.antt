@@ -1,11 +1,12 @@
 -- The records of a view with those before them, and the correction points that they come of.
-use Rattle.precision_law.proofs.words.Std.{◌++◌, ◌+ℤ◌, ◌+◌, ◌-ℤ◌, ◌<ℤ◌, ◌<◌, ◌∙◌, ◌∷◌, ◌≡◌, ◌≤◌, ◌⊎◌, Bool, List, None, Option, Some, [], ap, append-nil, arith, false, filter, filter-append, if◌then◌else◌, inl, inr, last_or, le-ltb, nat_lt, option_map_or, pos, refl, subst, sym, true, ℕ, ℤ}
-use Rattle.precision_law.proofs.words.Plans.{DeviceId, Integrating, IsReach, Off, State, Units, Verdict, point_in}
-use Rattle.precision_law.proofs.words.Runs.{ComesToCorrection, Happening, IsFoundedAt, IsIn, Reaches, adjustment_after, adjustment_before, changed_at, changes_adjustment, earlier, in_filter, is_turned_on_at, none_kept, state_after, state_before, time_of}
+use Rattle.precision_law.proofs.words.Std.{◌++◌, ◌+ℤ◌, ◌+◌, ◌-ℤ◌, ◌<ℤ◌, ◌<◌, ◌∙◌, ◌∷◌, ◌≡◌, ◌≤◌, ◌⊎◌, Bool, List, None, Option, Some, [], ap, arith, cases_lt, false, filter, if◌then◌else◌, inl, inr, last_or, option_map_or, pos, refl, subst, sym, true, ℕ, ℤ}
+use Rattle.precision_law.proofs.words.Plans.{DeviceId, Integrating, IsReach, Off, State, Verdict, point_in}
+use Rattle.precision_law.proofs.words.Runs.{ComesToCorrection, Happening, IsDue, IsFounded, IsFoundedAt, IsIn, IsSplit, Reaches, Scenario, adjustment_after, adjustment_before, changes_adjustment, earlier, front_founded, in_filter, in_right, is_turned_on_at, key, members_in, place_of, rank, state_after, state_before, time_of}
 use Rattle.precision_law.proofs.words.Laws.{AreBeforeCorrections, IsView, View, has_time, last_setting, state_left}
 use Rattle.precision_law.proofs.records.Cutting.{of_earlier}
-use Rattle.precision_law.proofs.records.Times.{AreSorted, in_earlier, passes}
+use Rattle.precision_law.proofs.records.Times.{AreSorted, earlier_front, in_earlier, passes}
 use Rattle.precision_law.proofs.records.Views.{in_order}
+use Rattle.precision_law.proofs.Plain.{no_later}
 
 -- ---- records with those before them
 
@@ -20,15 +21,11 @@ sorted_parts [] qs x order = (λ y i. absurd i, order.0)
 sorted_parts (p ∷ ps) qs x order =
     let more = sorted_parts ps qs x order.1 in (
       λ y i. elim i [
-        | inl same ↦ (let up = order.0 x (in_middle ps qs x) in rw same up)
+        | inl same ↦ (let up = order.0 x (in_right x ps (x ∷ qs) (inl refl)) in rw same up)
         | inr later ↦ more.0 y later
       ],
       more.1,
     )
-  where
-    in_middle : (ps qs : List Happening) (x : Happening) → IsIn x (ps ++ x ∷ qs)
-    in_middle [] qs x = inl refl
-    in_middle (p ∷ ps) qs x = inr (in_middle ps qs x)
 
 -- those before a record are the records before corrections at its time
 pub before_of : (v : View) (h : Happening) → IsView v → (at : IsFoundedAt v.scenario v.records h) → AreBeforeCorrections v (time_of h) at.front
@@ -36,12 +33,19 @@ before_of v h is at =
     let parts = sorted_parts at.front at.rest h (subst AreSorted at.whole (in_order v is)) in
     record { rest = h ∷ at.rest; whole = at.whole; later = λ g i. elim i [ inl same ↦ (rw same (omega arith)) | inr more ↦ parts.1 g more ]; only = parts.0 }
 
+-- a record at a place of the view, with those before it
+abbrev pub founded_by : (v : View) (front rest : List Happening) (h : Happening) → IsView v → v.records ≡ front ++ h ∷ rest → IsFoundedAt v.scenario v.records h
+founded_by v front rest h is whole = record {
+  front = front;
+  rest = rest;
+  whole = whole;
+  due = (is.run.founded front rest h whole).1;
+  founded = front_founded place_of (IsDue v.scenario) front (h ∷ rest) (subst (IsFounded place_of (IsDue v.scenario)) whole is.run.founded);
+}
+
 -- they have all earlier records
 pub earlier_before : (v : View) (t : ℕ) (front : List Happening) → AreBeforeCorrections v t front → earlier t front ≡ earlier t v.records
-earlier_before v t front split =
-    let none : earlier t split.rest ≡ [] = none_kept (λ h. nat_lt (time_of h) t) split.rest (λ h i. le-ltb (time_of h) t (split.later h i)) in
-    sym (append-nil (earlier t front)) ∙ ap (λ (gs : List Happening). earlier t front ++ gs) (sym none)
-    ∙ sym (filter-append (λ h. nat_lt (time_of h) t) front split.rest) ∙ ap (earlier t) (sym split.whole)
+earlier_before v t front split = earlier_front t front split.rest split.later ∙ ap (earlier t) (sym split.whole)
 
 -- ---- correction points
 
@@ -62,18 +66,13 @@ not_turned_on : (b : Bool) (state : State) → has_time (if b then Integrating e
 not_turned_on true state e = absurd cc
 not_turned_on false state e = e
 
--- before t a device has the time where it does when something comes at t
-pub left_with_time : (v : View) (device : DeviceId) (t : ℕ) (front : List Happening) → AreBeforeCorrections v t front
-    → has_time (state_before v.scenario front device t) ≡ true → has_time (state_left v device t) ≡ true
-left_with_time v device t front split e =
-    let here = not_turned_on (is_turned_on_at v.scenario device t) (state_after v.scenario (earlier t front) device) e in
-    subst (λ (hs : List Happening). has_time (state_after v.scenario hs device) ≡ true) (earlier_before v t front split) here
-
--- so does one that comes to a correction point
+-- one that comes to a correction point has the time
 pub point_timed : (v : View) (t : ℕ) (device : DeviceId) (cycle : ℕ) (verdict : Verdict) (front : List Happening) → AreBeforeCorrections v t front
     → ComesToCorrection v.scenario front device t cycle verdict → has_time (state_left v device t) ≡ true
 point_timed v t device cycle verdict front split point =
-    left_with_time v device t front split (point_has_time (state_before v.scenario front device t) _ cycle point.next)
+    let now = point_has_time (state_before v.scenario front device t) _ cycle point.next in
+    let here = not_turned_on (is_turned_on_at v.scenario device t) (state_after v.scenario (earlier t front) device) now in
+    subst (λ (hs : List Happening). has_time (state_after v.scenario hs device) ≡ true) (earlier_before v t front split) here
 
 -- the adjustment is that which the earlier records leave
 pub same_adjustment : (v : View) (device : DeviceId) (t : ℕ) (front : List Happening) → AreBeforeCorrections v t front
@@ -107,19 +106,37 @@ setting_is v device t h e =
           record { there = back.0; early = back.1; sets = passes sets (earlier t v.records) h i }
     ]
 
--- ---- what a clock reaches, given the records before
+-- ---- what a clock reaches
+
+-- it depends on the earlier records
+pub reaches_by : (s : Scenario) (hs gs : List Happening) (device : DeviceId) (value : ℤ) (t : ℕ) → earlier t hs ≡ earlier t gs
+    → Reaches s hs device value t → Reaches s gs device value t
+reaches_by s hs gs device value t same reaches = record {
+  below =
+      subst (λ (es : List Happening). (pos (s.reading device (option_map_or time_of (last_setting es device) 0)) +ℤ (adjustment_after s es device).0) <ℤ value)
+      same reaches.below;
+  reach =
+      subst (λ (es : List Happening). IsReach (s.reading device) (pos (option_map_or time_of (last_setting es device) 0))
+      (value -ℤ (adjustment_after s es device).0) (pos t)) same reaches.reach;
+}
 
 -- where a clock reaches a value given the records before, it does given all
 pub reaches_whole : (v : View) (device : DeviceId) (value : ℤ) (t : ℕ) (front : List Happening) → AreBeforeCorrections v t front
     → Reaches v.scenario front device value t → Reaches v.scenario v.records device value t
-reaches_whole v device value t front split reaches =
-    let time = ap (λ (hs : List Happening). option_map_or time_of (last_setting hs device) 0) (earlier_before v t front split) in
-    let left = ap (λ (a : Units). a.0) (same_adjustment v device t front split) in
-    record {
-      below =
-          subst (λ (x : ℕ). (pos (v.scenario.reading device x) +ℤ (adjustment_before v.scenario v.records device t).0) <ℤ value) time
-          (subst (λ (a : ℤ). (pos (v.scenario.reading device (changed_at front device t)) +ℤ a) <ℤ value) left reaches.below);
-      reach =
-          subst (λ (x : ℕ). IsReach (v.scenario.reading device) (pos x) (value -ℤ (adjustment_before v.scenario v.records device t).0) (pos t)) time
-          (subst (λ (a : ℤ). IsReach (v.scenario.reading device) (pos (changed_at front device t)) (value -ℤ a) (pos t)) left reaches.reach);
-    }
+reaches_whole v device value t front split = reaches_by v.scenario front v.records device value t (earlier_before v t front split)
+
+-- ---- the records before a place of a time
+
+-- where records part at a place of a time
+pub before_place : (v : View) (t : ℕ) (more : List ℕ) (at : IsSplit place_of v.records (t ∷ more)) → AreBeforeCorrections v t at.front
+before_place v t more at = record {
+  rest = at.rest;
+  whole = at.whole;
+  later = λ h i. elim (cases_lt (time_of h) t) [ inl lt ↦ absurd (at.none h i (inl lt)) | inr ge ↦ ge ];
+  only = λ h i. no_later (time_of h) t (rank h.note.body ∷ key (members_in h) h.note.body) more (at.before h i);
+}
+
+-- what a clock reaches given all records it reaches given those before
+pub reaches_front : (v : View) (device : DeviceId) (value : ℤ) (t : ℕ) (front : List Happening) → AreBeforeCorrections v t front
+    → Reaches v.scenario v.records device value t → Reaches v.scenario front device value t
+reaches_front v device value t front before = reaches_by v.scenario v.records front device value t (sym (earlier_before v t front before))

@@ -1,34 +1,12 @@
 -- The correction points of good devices are recorded.
-use Rattle.precision_law.proofs.words.Std.{◌&&◌, ◌++◌, ◌+ℤ◌, ◌+◌, ◌<◌, ◌||◌, ◌∙◌, ◌∷◌, ◌≡◌, ◌≤◌, Bool, List, None, Option, Some, [], after_last, ap, append-nil, append_assoc, arith, cons_option, false, filter, filter-append, filter_map, filter_map-append, if◌then◌else◌, inl, inr, ints, le-ltb, length, nat_lt, not, pos, refl, subst, sym, true, ℕ}
+use Rattle.precision_law.proofs.words.Std.{◌&&◌, ◌++◌, ◌+ℤ◌, ◌+◌, ◌<◌, ◌||◌, ◌∙◌, ◌∷◌, ◌≡◌, ◌≤◌, Bool, List, None, Option, Some, [], after_last, ap, append-nil, append_assoc, arith, cons_option, filter, filter-append, filter_map, filter_map-append, if◌then◌else◌, inl, inr, le-ltb, nat_lt, not, refl, subst, sym, true, ℕ}
 use Rattle.precision_law.proofs.words.Plans.{AsyncClique, Corrected, DeviceId, HasVerdict, Hearing, Integrating, IsAtIntegration, Off, Standing, State, Summarizes, Summary, SyncClique, Units, Verdict, point_in}
-use Rattle.precision_law.proofs.words.Runs.{ChangesState, ComesToCorrection, Happening, IsBefore, IsDue, IsFounded, IsIn, IsSplit, Note, NoteBody, Reaches, Why, adjustment_after, adjustment_before, chain, changes_adjustment, correction_value, due_is_there, earlier, front_founded, happening, has_cleared, heard_since, hearing_by, in_filter, in_parts, in_right, integration_cycle, is_turned_on_at, next_cycle, place_of, plan_of, rank, recorded_cycle, split, standing_before, state_after, time_of}
+use Rattle.precision_law.proofs.words.Runs.{ChangesState, ComesToCorrection, Happening, IsBefore, IsDue, IsFounded, IsIn, IsSplit, NoteBody, Reaches, Why, adjustment_after, adjustment_before, chain, changes_adjustment, correction_value, earlier, front_founded, happening, has_cleared, heard_since, hearing_by, in_filter, in_parts, in_right, integration_cycle, is_turned_on_at, next_cycle, place_of, plan_of, rank, recorded_cycle, split, standing_before, state_after, time_of}
 use Rattle.precision_law.proofs.words.Laws.{AreBeforeCorrections, HasTimeAt, IsPointRecord, IsView, NoneTurnsOn, PointsAreRecorded, View, has_time}
-use Rattle.precision_law.proofs.words.Clocks.{PartsAtLast, after_last_at, after_last_none, all_of, before_place, cleared_by, earlier_before, good_is_correct, none, parts_at_last, reaches_front, same_cleared, same_kept, same_next, some}
+use Rattle.precision_law.proofs.words.Clocks.{after_more, before_place, cleared_by, due_there, earlier_before, good_is_correct, next_note, parts_at_last, reaches_front, same_cleared, same_kept, same_next}
 use Rattle.run_law.specs.declared.judgement.Why.TheVariants as whys
 use Rattle.run_law.specs.declared.note.NoteBody.TheVariants as notes
 use Rattle.precision_law.proofs.verdict.Verdicts.{summary_of, verdict_of}
-
--- ---- lists
-
--- what ends no part may be added behind the last that does
-after_more : {X : Type 0} (p : X → Bool) (xs ys : List X) → ((y : X) → IsIn y ys → p y ≡ false) → after_last p (xs ++ ys) ≡ after_last p xs ++ ys
-after_more {X} p xs ys quiet = by (parts_at_last p xs)
-  where
-    in_two : (ls rs : List X) → ((x : X) → IsIn x ls → p x ≡ false) → ((x : X) → IsIn x rs → p x ≡ false) → (x : X) → IsIn x (ls ++ rs) → not (p x) ≡ true
-    in_two ls rs a b x i = elim (in_parts x ls rs i) [ inl l ↦ ap not (a x l) | inr r ↦ ap not (b x r) ]
-
-    alone : (ls : List X) → ((x : X) → IsIn x ls → p x ≡ false) → (x : X) → IsIn x ls → not (p x) ≡ true
-    alone ls a x i = ap not (a x i)
-
-    by : PartsAtLast p xs → after_last p (xs ++ ys) ≡ after_last p xs ++ ys
-    by (none all) =
-        after_last_none p (xs ++ ys) (all_of (λ (x : X). not (p x) ≡ true) (xs ++ ys) (in_two xs ys all quiet))
-        ∙ ap (λ (t : List X). t ++ ys) (sym (after_last_none p xs (all_of (λ (x : X). not (p x) ≡ true) xs (alone xs all))))
-    by (some front rest last whole hit all) =
-        ap (λ (t : List X). after_last p (t ++ ys)) whole ∙ ap (after_last p) (append_assoc front (last ∷ rest) ys)
-        ∙ after_last_at p front last (rest ++ ys) hit (all_of (λ (x : X). not (p x) ≡ true) (rest ++ ys) (in_two rest ys all quiet))
-        ∙ ap (λ (t : List X). t ++ ys)
-        (sym (ap (after_last p) whole ∙ after_last_at p front last rest hit (all_of (λ (x : X). not (p x) ≡ true) rest (alone rest all))))
 
 -- what makes nothing of each makes nothing
 makes_none : {X Y : Type 0} (f : X → Option Y) (xs : List X) → ((x : X) → IsIn x xs → f x ≡ None) → filter_map f xs ≡ []
@@ -55,16 +33,14 @@ heard_more v device u front mid cleared cleared_at at high =
     let late = λ (h : Happening). not (has_cleared s front device u u) || has_cleared s front device u (time_of h) in
     let late_more = λ (h : Happening). not (has_cleared s (front ++ mid) device u u) || has_cleared s (front ++ mid) device u (time_of h) in
     let since = after_more set front mid
-    (λ m i. ap (λ (b : Bool). b && changes_adjustment device m.note.body) (le-ltb (time_of m) u (let e = at m i in omega (arith, e)))) in
+    (λ m i. ap (λ (b : Bool). b && changes_adjustment device m.note.body) (le-ltb (time_of m) u (let e = at m i in omega (arith, e))))
+    (parts_at_last set front) in
     let quiet = makes_none f (filter late mid) (λ m i. (let back = in_filter late mid m i in high_quiet v device u m m.note.body (at m back) (high m back))) in
-    ap (λ (hs : List Happening). filter_map f (filter late_more hs)) since
-    ∙ ap (filter_map f)
+    ap (λ (hs : List Happening). filter_map f (filter late_more hs)) since ∙ ap (filter_map f)
     (same_kept late_more late (after_last set front ++ mid) (λ h i. ap (λ (b : Bool). not b || has_cleared s (front ++ mid) device u (time_of h)) cleared
     ∙ ap (λ (b : Bool). not (has_cleared s front device u u) || b) (cleared_at (time_of h))))
-    ∙ ap (filter_map f) (filter-append late (after_last set front) mid)
-    ∙ filter_map-append f (filter late (after_last set front)) (filter late mid)
-    ∙ ap (λ (t : List Hearing). filter_map f (filter late (after_last set front)) ++ t) quiet
-    ∙ append-nil (filter_map f (filter late (after_last set front)))
+    ∙ ap (filter_map f) (filter-append late (after_last set front) mid) ∙ filter_map-append f (filter late (after_last set front)) (filter late mid)
+    ∙ ap (λ (t : List Hearing). filter_map f (filter late (after_last set front)) ++ t) quiet ∙ append-nil (filter_map f (filter late (after_last set front)))
 
 -- ---- the point
 
@@ -153,24 +129,23 @@ parts_of v device u is =
 corrected_there : (v : View) (device : DeviceId) (u : ℕ) (cycle : ℕ) (by : Units) (at : IsSplit place_of v.records (u ∷ 6 ∷ device.0 ∷ [])) → IsView v
     → u ≤ v.until → ComesToCorrection v.scenario at.front device u cycle (Corrected by) → (h : Happening) × IsPointRecord v device u h
 corrected_there v device u cycle by at is le comes =
-    let s = v.scenario in
-    let adjustment : Units = record { 0 = (adjustment_before s at.front device u).0 +ℤ by.0 } in
-    let note : Note = record { number = length at.front + 1; time = record { 0 = pos u }; body = notes.Corrected device cycle by adjustment } in
-    let x : Happening = happening s.network at.front note in
-    let due : IsDue s at.front x = record { number = refl; same = refl; begun = omega (arith, ints); cause = record { corrected = comes; sum = refl } } in (
-      x,
-      record { there = due_is_there s ((v.until + 1) ∷ []) v.records x at is.run due (inl (omega arith)); at = refl; says = inl (cycle, by, adjustment, refl) },
+    let adjustment : Units = record { 0 = (adjustment_before v.scenario at.front device u).0 +ℤ by.0 } in
+    let body : NoteBody = notes.Corrected device cycle by adjustment in (
+      happening v.scenario.network at.front (next_note at.front u body),
+      record {
+        there = due_there v u body (u ∷ 6 ∷ device.0 ∷ []) at is le refl (record { corrected = comes; sum = refl });
+        at = refl;
+        says = inl (cycle, by, adjustment, refl);
+      },
     )
 
 -- and that of the loss of the time
 lost_there : (v : View) (device : DeviceId) (u : ℕ) (why : Why) (at : IsSplit place_of v.records (u ∷ 7 ∷ device.0 ∷ 0 ∷ [])) → IsView v → u ≤ v.until
     → ChangesState v.scenario at.front device u Integrating 0 why → (h : Happening) × IsPointRecord v device u h
 lost_there v device u why at is le changes =
-    let note : Note = record { number = length at.front + 1; time = record { 0 = pos u }; body = notes.State device Integrating 0 why } in
-    let x : Happening = happening v.scenario.network at.front note in
-    let due : IsDue v.scenario at.front x = record { number = refl; same = refl; begun = omega (arith, ints); cause = changes } in (
-      x,
-      record { there = due_is_there v.scenario ((v.until + 1) ∷ []) v.records x at is.run due (inl (omega (arith, le))); at = refl; says = inr (0, why, refl) },
+    let body : NoteBody = notes.State device Integrating 0 why in (
+      happening v.scenario.network at.front (next_note at.front u body),
+      record { there = due_there v u body (u ∷ 7 ∷ device.0 ∷ 0 ∷ []) at is le refl changes; at = refl; says = inr (0, why, refl) },
     )
 
 pub points_are_recorded : NoneTurnsOn → PointsAreRecorded
@@ -186,21 +161,13 @@ points_are_recorded steady_on v device u is le timed reaches never =
     let heard : heard_since s p.seven.front device u ≡ heard_since s p.six.front device u = ap (λ (hs : List Happening). heard_since s hs device u) p.whole
     ∙ heard_more v device u p.six.front p.mid (cleared u) cleared (λ m i. (p.at m i).0) (λ m i. (p.at m i).1) in
     let summary = summary_of (heard_since s p.seven.front device u) in
+    let comes = λ (verdict : Verdict) (has : HasVerdict (standing_before s p.seven.front device u) summary.0 verdict).
+    comes_given v device u p.seven.front summary.0 verdict is steady_on le timed seven reaches summary.1 has in
     elim (verdict_of (standing_before s p.seven.front device u) summary.0 (not_at v device u p.seven.front seven never)) [
       | inl correct ↦
           corrected_there v device u (next_cycle s v.records device u) correct.0 p.six is le
           (comes_given v device u p.six.front summary.0 (Corrected correct.0) is steady_on le timed six reaches (subst (Summarizes summary.0) heard summary.1)
           (subst (λ (st : Standing). HasVerdict st summary.0 (Corrected correct.0)) standing correct.1))
-      | inr (inl sync) ↦
-          lost_there v device u whys.SyncClique p.seven is le (
-            refl,
-            refl,
-            (next_cycle s v.records device u, comes_given v device u p.seven.front summary.0 SyncClique is steady_on le timed seven reaches summary.1 sync),
-          )
-      | inr (inr async) ↦
-          lost_there v device u whys.AsyncClique p.seven is le (
-            refl,
-            refl,
-            (next_cycle s v.records device u, comes_given v device u p.seven.front summary.0 AsyncClique is steady_on le timed seven reaches summary.1 async),
-          )
+      | inr (inl sync) ↦ lost_there v device u whys.SyncClique p.seven is le (refl, refl, (next_cycle s v.records device u, comes SyncClique sync))
+      | inr (inr async) ↦ lost_there v device u whys.AsyncClique p.seven is le (refl, refl, (next_cycle s v.records device u, comes AsyncClique async))
     ]

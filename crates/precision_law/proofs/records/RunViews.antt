@@ -87,18 +87,30 @@ pub of_cut : (s : Scenario) (hs : List Happening) (t cycle : ℕ) (cut : IsCutAt
     → IsDispatchedBy s cut.front t cycle h
 of_cut s hs t cycle cut h d = record { there = cut.has h d.there d.by_then; master = d.master; is = d.is; correct = d.correct; by_then = d.by_then }
 
-pub from_to_of_run : (s : Scenario) (hs : List Happening) (t cycle : ℕ) (first last : ℤ) (cut : IsCutAt s hs t) → AreFromTo s cut.front t cycle first last
-    → AreFromTo s hs t cycle first last
-from_to_of_run s hs t zero first last cut at = at
-from_to_of_run s hs t (suc c) first last cut at = record {
+-- so the first and the last of the one are those of the other
+pub from_to_by : (s : Scenario) (hs gs : List Happening) (t cycle : ℕ) (first last : ℤ)
+    → ((c : ℕ) (h : Happening) → IsDispatchedBy s hs t c h → IsDispatchedBy s gs t c h)
+    → ((c : ℕ) (h : Happening) → IsDispatchedBy s gs t c h → IsDispatchedBy s hs t c h) → AreFromTo s hs t cycle first last → AreFromTo s gs t cycle first last
+from_to_by s hs gs t zero first last there back at = at
+from_to_by s hs gs t (suc c) first last there back at = record {
   earliest = at.earliest;
-  is_earliest = of_run s hs t (suc c) cut at.earliest at.is_earliest;
+  is_earliest = there (suc c) at.earliest at.is_earliest;
   first_is = at.first_is;
   latest = at.latest;
-  is_latest = of_run s hs t (suc c) cut at.latest at.is_latest;
+  is_latest = there (suc c) at.latest at.is_latest;
   last_is = at.last_is;
-  each = λ h d. at.each h (of_cut s hs t (suc c) cut h d);
+  each = λ h d. at.each h (back (suc c) h d);
 }
+
+pub from_to_of_run : (s : Scenario) (hs : List Happening) (t cycle : ℕ) (first last : ℤ) (cut : IsCutAt s hs t) → AreFromTo s cut.front t cycle first last
+    → AreFromTo s hs t cycle first last
+from_to_of_run s hs t cycle first last cut =
+    from_to_by s cut.front hs t cycle first last (λ c h. of_run s hs t c cut h) (λ c h. of_cut s hs t c cut h)
+
+pub from_to_of_cut : (s : Scenario) (hs : List Happening) (t cycle : ℕ) (first last : ℤ) (cut : IsCutAt s hs t) → AreFromTo s hs t cycle first last
+    → AreFromTo s cut.front t cycle first last
+from_to_of_cut s hs t cycle first last cut =
+    from_to_by s hs cut.front t cycle first last (λ c h. of_cut s hs t c cut h) (λ c h. of_run s hs t c cut h)
 
 -- ---- blocks of dispatches
 

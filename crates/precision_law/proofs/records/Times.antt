@@ -1,5 +1,5 @@
 -- The records of a run in the order of their times.
-use Rattle.precision_law.proofs.words.Std.{◌++◌, ◌<◌, ◌∙◌, ◌∷◌, ◌≡◌, ◌≤◌, Bool, List, Option, Some, [], ap, append_assoc, arith, cases_lt, false, filter, if◌then◌else◌, inl, inr, last_or, le-ltb, lt-ltb, ltb-true, nat_lt, not, refl, subst, sym, true, ℕ}
+use Rattle.precision_law.proofs.words.Std.{Bool, List, Option, Some, [], ap, append-nil, append_assoc, arith, cases_lt, false, filter, filter-append, if◌then◌else◌, inl, inr, last_or, le-ltb, lt-ltb, ltb-true, nat_lt, not, refl, subst, sym, true, ℕ, ◌++◌, ◌<◌, ◌∙◌, ◌∷◌, ◌≡◌, ◌≤◌}
 use Rattle.precision_law.proofs.words.Runs.{Happening, IsDue, IsFounded, IsIn, Scenario, behind_first, earlier, in_filter, key, members_in, none_kept, place_of, rank, time_of}
 use Rattle.precision_law.proofs.Plain.{no_later}
 
@@ -64,6 +64,13 @@ in_earlier t hs h i = (in_filter (λ x. nat_lt (time_of x) t) hs h i, ltb-true (
 
 pub is_earlier : (t : ℕ) (hs : List Happening) (h : Happening) → IsIn h hs → time_of h < t → IsIn h (earlier t hs)
 is_earlier t hs h i lt = in_kept (λ x. nat_lt (time_of x) t) hs h i (lt-ltb (time_of h) t lt)
+
+-- records that are not before t add no earlier ones
+pub earlier_front : (t : ℕ) (front rest : List Happening) → ((h : Happening) → IsIn h rest → t ≤ time_of h) → earlier t front ≡ earlier t (front ++ rest)
+earlier_front t front rest late =
+    let test = λ (h : Happening). nat_lt (time_of h) t in
+    let none : earlier t rest ≡ [] = none_kept test rest (λ h i. le-ltb (time_of h) t (late h i)) in
+    sym (append-nil (earlier t front)) ∙ ap (λ (gs : List Happening). earlier t front ++ gs) (sym none) ∙ sym (filter-append test front rest)
 
 -- the records from u on and before t
 abbrev pub between : ℕ → ℕ → List Happening → List Happening

@@ -1,5 +1,5 @@
 -- The order of the instants of a cycle.
-use Rattle.precision_law.proofs.words.Std.{◌*◌, ◌+◌, ◌^◌, ◌≤◌, arith, cases_lt, inl, inr, ints, mul-le-mul_left, mul-le-mul_right, ℕ}
+use Rattle.precision_law.proofs.words.Std.{◌*◌, ◌+◌, ◌^◌, ◌≤◌, arith, cases_lt, inl, inr, ints, mul-le-mul_left, mul-le-mul_right}
 use Rattle.precision_law.proofs.words.Laws.{CorrectionsComeFirst, CyclesAreFew, DispatchesComeLater, FramesComeFirst, HullsGoOn, InstantsAreInOrder, SetClocksShowCorrection, SetClocksStayAtCorrection}
 
 pub corrections_come_first : CorrectionsComeFirst
@@ -36,18 +36,12 @@ set_clocks_stay_at_correction n shown cycle t before hull room narrow follows fr
 pub hulls_go_on : HullsGoOn
 hulls_go_on n cycle before hull not_before follows = omega (arith, ints, not_before, follows.least)
 
--- the numbers alone
-few : (cycle length reach settled until : ℕ) → 144 * reach ≤ length → 18 * settled ≤ length → 1 ≤ length → until ≤ 2 ^ 20 * length
-    → cycle * length ≤ until + cycle * reach + settled → cycle ≤ 2 ^ 20 + 2 ^ 17
-few cycle length reach settled until errors starts some short late =
+pub cycles_are_few : CyclesAreFew
+cycles_are_few n cycle until hull room not_before early short =
     elim (cases_lt (2 ^ 20 + 2 ^ 17) cycle) [
       | inr le ↦ le
       | inl lt ↦
-          let product : cycle * (144 * reach) ≤ cycle * length = mul-le-mul_left cycle errors in
-          let more : (2 ^ 20 + 2 ^ 17 + 1) * length ≤ cycle * length = mul-le-mul_right length (omega arith) in
-          absurd (omega arith)
+          let product : cycle * (144 * n.reach) ≤ cycle * n.cycle = mul-le-mul_left cycle room.many_errors in
+          let more : (2 ^ 20 + 2 ^ 17 + 1) * n.cycle ≤ cycle * n.cycle = mul-le-mul_right n.cycle (omega (arith, lt)) in
+          absurd (omega (arith, ints, product, more, room, short, not_before, early))
     ]
-
-pub cycles_are_few : CyclesAreFew
-cycles_are_few n cycle until hull room not_before early short =
-    few cycle n.cycle n.reach n.settled until room.many_errors room.many_starts (omega (arith, room)) short (omega (arith, ints, not_before, early))

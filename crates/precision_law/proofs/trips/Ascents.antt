@@ -1,21 +1,25 @@
--- Frames of masters go up.
-use Rattle.precision_law.proofs.words.Std.{◌&&◌, ◌++◌, ◌+◌, ◌<◌, ◌==◌, ◌^◌, ◌∙◌, ◌∷◌, ◌≡◌, ◌≤ℤ◌, ◌≤◌, ◌⊎◌, Any, Bool, Err, List, None, Ok, Option, Result, Some, [], ap, append_assoc, arith, both_ways, by_lt_z, eq-eqb, eqb-true, false, if◌then◌else◌, inl, inr, ints, le-leb, nat_le, nat_lt, not, not-false, option_and_then, option_map, option_map_or, pos, refl, slice_get, subst, suc, sym, true, true_from_ne_false, unwrap_or, zero, ℕ}
+-- Where frames come from, leg by leg; those that go up are of masters.
+use Rattle.precision_law.proofs.words.Std.{◌&&◌, ◌++◌, ◌+◌, ◌<◌, ◌==◌, ◌^◌, ◌∙◌, ◌∷◌, ◌≡◌, ◌≤ℤ◌, ◌≤◌, ◌⊎◌, Any, Bool, Err, List, None, Ok, Option, Some, [], ap, append_assoc, arith, both_ways, by_lt_z, eq-eqb, eqb-true, false, if◌then◌else◌, inl, inr, ints, le-leb, length, nat_le, not-false, option_and_then, option_map_or, refl, subst, suc, sym, true, true_from_ne_false, unwrap_or, zero, ℕ}
 use Rattle.precision_law.proofs.words.Plans.{Device, DeviceId, Down, Event, IsDeviceInRange, Link, LinkId, Members, Network, Pcf, Up, Way, all_at, amount, device_at, field, is_end_system, is_master, link_at, opened}
-use Rattle.precision_law.proofs.words.Runs.{AreWithinHypothesis, Arrival, ArrivesAs, Breaks, ColdStart, Domain, Gate, Gives, Happening, IsArrivedRecord, IsCaused, IsIn, IsParentOf, Launch, Member, NotBroken, NoteBody, Old, Order, Reason, Signal, Standpoint, are_others, arrival_of, breaks_at, clock_on_arrival, control, cycle_in, events_up_to, first_reason, founded_at, frame_by, frame_fault, frame_in, frame_or_fault, has_role, in_at, in_left, is_broken, is_cold_start, is_cut, is_end, is_gate_shut, is_of_other_domain, is_of_other_member, is_parent_of, launched, member_of, members_in, numbered, numbered_in, parted, receiver_of, same_some, signal_of, standpoint, time_of, timed, way_from, way_to, with_clock}
-use Rattle.precision_law.proofs.words.Laws.{FramesUpAreOfMasters, IsBad, IsOfBad, IsOfGood, IsView, View}
+use Rattle.precision_law.proofs.words.Runs.{AreWithinHypothesis, Arrival, ArrivesAs, Breaks, Gives, Happening, IsCaused, IsIn, Launch, NotBroken, NoteBody, Order, Reason, Signal, Standpoint, are_others, arrival_of, breaks_at, channel_of, channel_of_link, control, cycle_in, events_up_to, founded_at, frame_in, has_role, in_at, in_left, is_broken, is_cut, is_end, is_of_other_member, last_taken, launched, member_of, members_in, numbered, numbered_in, parted, receiver_of, same_some, signal_of, standpoint, time_of, timed, way_from, way_to}
+use Rattle.precision_law.proofs.words.Laws.{FramesUpAreOfMasters, IsBad, IsOfBad, IsOfGood, IsTrip, IsView, Leg, View}
 use Rattle.net_plan.specs.declared.event.What.TheVariants as events
 use Rattle.pcf_codec.specs.Decoding.{decoded}
 use Rattle.pcf_codec.specs.EtherType.{pcf_type}
-use Rattle.pcf_codec.specs.declared.refusal.PcfRefusal.{PcfRefusal}
-use Rattle.run_law.specs.declared.judgement.Reason.TheVariants.{Off}
 use Rattle.run_law.specs.declared.note.NoteBody.TheVariants as notes
 use Rattle.run_law.specs.declared.steps.Arrival.TheVariants as arrivals
-use Rattle.run_law.specs.law.FirstLaws.{IsEventInRange}
 use Rattle.precision_law.proofs.faults.Masters.{bad_is_master, in_any, master_ends}
 use Rattle.precision_law.proofs.records.Points.{within_run}
 use Rattle.precision_law.proofs.records.Times.{in_kept}
-use Rattle.precision_law.proofs.trips.Descents.{HasLeg, IsCarried, IsPutAs, child_down, has_leg, never_timed, put_left, receiver_down, same_cycle, trip_more}
 use Rattle.precision_law.proofs.Plain.{any_is, device_of, mapped, some_of}
+use Rattle.precision_law.proofs.trips.Legs.{HasLeg, IsPutAs, child_channel, child_not_parent, child_ways, gives_down, has_leg, parent_channel, parent_ways, receiver_way, same_cycle, shown_parent, trip_more}
+use Rattle.precision_law.proofs.trips.Paths.{TakesWith, clocked, frame_is, taken_as, taken_sound}
+use Rattle.net_plan.specs.declared.ids.VlId.{VlId}
+use Rattle.schedule_tables.specs.declared.entry.Entry.{Entry}
+use Rattle.run_law.specs.timed.Arrivals.{entry_arrival, entry_entering, octets_fault, octets_or_fault, taken_or_fault}
+use Rattle.run_law.specs.control.Leaving.{Passes}
+use Rattle.run_law.specs.records.Causes.{GoesBackTo}
+use Rattle.run_law.proofs.law.FirstDelays.{given}
 
 -- ---- masters
 
@@ -34,12 +38,6 @@ bad_role v device is bad =
     true_from_ne_false (has_role v.scenario.network is_master device) (λ other. bad_is_master v device is bad (λ master.
     let d = opened (λ (x : Device). is_master x.role ≡ true) (device_at v.scenario.network device) master in
     both_ways (has_role v.scenario.network is_master device) other (ap (λ (o : Option Device). option_map_or (λ x. is_master x.role) o false) d.1 ∙ d.2)))
-
--- it is an end system
-bad_ends : (v : View) (device : DeviceId) → IsView v → IsBad v device → is_end v.scenario.network device ≡ true
-bad_ends v device is bad =
-    let d = device_of is_master (device_at v.scenario.network device) (bad_role v device is bad) in
-    ap (λ (o : Option Device). option_map_or (λ x. is_end_system x.role) o false) d.1 ∙ master_ends d.0.role d.2
 
 -- ---- events in order
 
@@ -65,17 +63,6 @@ no_earlier n all before behind e event within whole i =
     let at = parted e before i in
     in_turn n all within at.1 at.0 behind e event (whole ∙ ap (λ (t : List Event). t ++ event ∷ behind) at.2 ∙ append_assoc at.0 (e ∷ at.1) (event ∷ behind))
 
-index_of : (x : Event) (xs : List Event) → IsIn x xs → (n : ℕ) × (slice_get xs n ≡ Some x)
-index_of x [] j = absurd j
-index_of x (y ∷ ys) (inl same) = (0, ap (λ (e : Event). Some e) (sym same))
-index_of x (y ∷ ys) (inr more) = (let r = index_of x ys more in (suc r.0, r.1))
-
--- no event is of a time before 0
-pub event_begins : (v : View) (x : Event) → IsView v → IsIn x v.scenario.events → pos 0 ≤ℤ x.time.0
-event_begins v x is j =
-    let at = index_of x v.scenario.events j in
-    (all_at IsEventInRange v.scenario.events at.0 x is.lawful.events at.1).time
-
 -- what sends by an event is broken
 sender_broken : (v : View) (e : Event) (link : LinkId) (l : Link) (octets : List ℕ) → IsView v → IsIn e v.scenario.events → e.what ≡ events.Send link octets
     → link_at v.scenario.network link ≡ Some l → amount e.time ≤ v.until → IsBad v l.child
@@ -94,28 +81,36 @@ sender_broken v e link l octets is i what there early =
           let in_all : IsIn found.0 s.events = subst (IsIn found.0) (sym split.2) (in_left found.0 split.0 (e ∷ split.1) found.1) in
           let place = parted found.0 s.events in_all in
           let kept = in_kept (λ x. nat_le (amount x.time) v.until) s.events found.0 in_all
-          (le-leb (amount found.0.time) v.until (omega (arith, ints, order, event_begins v found.0 is in_all, early))) in
+          (le-leb (amount found.0.time) v.until (omega (arith, ints, order, (given s found.0 is.lawful in_all).range.time, early))) in
           let breaks : breaks_at l.child.0 found.0.what ≡ true = ap (breaks_at l.child.0) found.2 ∙ eq-eqb l.child.0 l.child.0 refl in
           both_ways (is_broken s l.child v.until) at (in_any (λ (x : Event). breaks_at l.child.0 x.what) (events_up_to s v.until) found.0 kept breaks);
     }))
 
--- ---- what was put on a way up
+-- ---- what was put on a wire
 
--- a frame whose first fault is none is its sender's
-not_other : (a b c d e f : Bool) (p q r s t u : Reason) → first_reason ((a, p) ∷ (b, q) ∷ (c, r) ∷ (d, s) ∷ (e, t) ∷ (f, u) ∷ []) ≡ None → d ≡ false
-not_other false false false false e f p q r s t u none = refl
-not_other a b c d e f p q r s t u none = absurd cc
+-- no scheduled frame is taken as a control frame
+never_taken : (end : Bool) (vl : VlId) (cycle : ℕ) (taken : Pcf) → TakesWith (if end then arrivals.Delivered vl cycle else arrivals.Accepted vl cycle) taken → ⊥
+never_taken true vl cycle taken c = c
+never_taken false vl cycle taken c = c
 
-carried_mine : (n : Network) (device : DeviceId) (link : LinkId) (at : Standpoint) (frame : Pcf)
-    → IsCarried (frame_or_fault n device link at frame (frame_fault n device link at frame)) → is_of_other_member n device link frame.members ≡ false
-carried_mine n device link at frame c = by (frame_fault n device link at frame) refl c
-  where
-    by : (o : Option Reason) → frame_fault n device link at frame ≡ o → IsCarried (frame_or_fault n device link at frame o)
-        → is_of_other_member n device link frame.members ≡ false
-    by (Some reason) e t = absurd t
-    by None e t =
-        not_other (not at.takes_part) (is_cold_start frame.kind) (is_of_other_domain n frame) (is_of_other_member n device link frame.members)
-        (nat_lt (amount n.dmax) (clock_on_arrival n link frame)) (is_gate_shut n device at) Off ColdStart Domain Member Old Gate e
+never_fault : (n : Network) (device : DeviceId) (at : Standpoint) (entry : Entry) (fault : Option Reason) (taken : Pcf)
+    → TakesWith (taken_or_fault n device at entry fault) taken → ⊥
+never_fault n device at entry (Some reason) taken c = c
+never_fault n device at entry None taken c = never_taken (is_end n device) _ _ taken c
+
+pub never_timed : (v : View) (ps : List Happening) (t : ℕ) (device : DeviceId) (link : LinkId) (cause : ℕ) (octets : List ℕ) (taken : Pcf)
+    → TakesWith (arrival_of v.scenario ps device t link cause (timed octets)) taken → ⊥
+never_timed v ps t device link cause octets taken takes =
+    let n = v.scenario.network in
+    let at : Standpoint = standpoint v.scenario ps device t in
+    let last = last_taken ps device t link cause in
+    elim (octets_fault n at octets) as (λ o. TakesWith (octets_or_fault n device link at octets last o) taken → ⊥) [
+      | Some reason ↦ λ c. c
+      | None ↦ elim (entry_entering n device link (field 4 2 octets)) as (λ o. TakesWith (entry_arrival n device at (length octets) last o) taken → ⊥) [
+        | None ↦ λ c. c
+        | Some entry ↦ λ c. never_fault n device at entry _ taken c
+      ]
+    ] takes
 
 -- the members are those of one whose frame is its own
 mine_is : (relay end : Bool) (o : Option ℕ) (members : Members) → (relay && end && are_others o members) ≡ false → relay ≡ true → end ≡ true → (m : ℕ)
@@ -134,106 +129,84 @@ pub record IsSentUp (v : View) (ps : List Happening) (device : DeviceId) (link :
   pub decodes : decoded octets ≡ Ok frame
   pub mine : is_of_other_member v.scenario.network device link frame.members ≡ false
 
-receives_up : (n : Network) (link : LinkId) (device : DeviceId) → receiver_of n link Up ≡ Some device → (l : Link) × (link_at n link ≡ Some l)
-    × (l.parent ≡ device)
-receives_up n link device e = mapped (λ (l : Link). l.parent) (link_at n link) device e
+-- what arrives as a control frame by octets was decoded, and is its sender's
+abbrev IsDecoded : Network → DeviceId → LinkId → List ℕ → Type 0
+IsDecoded n device link octets = (frame : Pcf) × (decoded octets ≡ Ok frame) × (is_of_other_member n device link frame.members ≡ false)
 
--- what arrives as a control frame by octets was decoded
-decoded_as : (v : View) (ps : List Happening) (t : ℕ) (device : DeviceId) (link : LinkId) (cause : ℕ) (octets : List ℕ)
-    → IsCarried (arrival_of v.scenario ps device t link cause (signal_of octets)) → (frame : Pcf) × (decoded octets ≡ Ok frame)
-    × (is_of_other_member v.scenario.network device link frame.members ≡ false)
-decoded_as v ps t device link cause octets c = by (field 12 2 octets == pcf_type) c
-  where
-    as_frame : (r : Result Pcf PcfRefusal) → decoded octets ≡ r → IsCarried (arrival_of v.scenario ps device t link cause (control r)) → (frame : Pcf)
-        × (decoded octets ≡ Ok frame) × (is_of_other_member v.scenario.network device link frame.members ≡ false)
-    as_frame (Err refusal) e c = absurd c
-    as_frame (Ok frame) e c = (frame, e, carried_mine v.scenario.network device link (standpoint v.scenario ps device t) frame c)
+decoded_as : (v : View) (ps : List Happening) (t : ℕ) (device : DeviceId) (link : LinkId) (cause : ℕ) (octets : List ℕ) (taken : Pcf)
+    → TakesWith (arrival_of v.scenario ps device t link cause (signal_of octets)) taken → IsDecoded v.scenario.network device link octets
+decoded_as v ps t device link cause octets taken takes =
+    let n = v.scenario.network in
+    elim (field 12 2 octets == pcf_type) as (λ b. TakesWith (arrival_of v.scenario ps device t link cause (if b then control (decoded octets) else timed
+    octets)) taken → IsDecoded n device link octets) [
+      | false ↦ λ c. absurd (never_timed v ps t device link cause octets taken c)
+      | true ↦ elim (decoded octets) as (λ r. decoded octets ≡ r → TakesWith (arrival_of v.scenario ps device t link cause (control r)) taken
+          → IsDecoded n device link octets) [
+            | Err refusal ↦ λ e c. absurd c
+            | Ok frame ↦ λ e c. (frame, e, (taken_sound n device link (standpoint v.scenario ps device t) frame taken c).0)
+          ] refl
+    ] takes
 
-    by : (b : Bool) → IsCarried (arrival_of v.scenario ps device t link cause (if b then control (decoded octets) else timed octets)) → (frame : Pcf)
-        × (decoded octets ≡ Ok frame) × (is_of_other_member v.scenario.network device link frame.members ≡ false)
-    by true c = as_frame (decoded octets) refl c
-    by false c = absurd (never_timed v ps t device link cause octets c)
-
-put_up : (v : View) (ps : List Happening) (t : ℕ) (device : DeviceId) (link : LinkId) (cause : ℕ) (a : Arrival) → IsView v
-    → ArrivesAs v.scenario ps device t link cause a → IsCarried a → way_to v.scenario.network device link ≡ Up
-    → (IsPutAs v ps device link cause Up ⊎ IsSentUp v ps device link cause) × (receiver_of v.scenario.network link Up ≡ Some device)
-put_up v ps t device link cause a is comes carried up =
+-- what is taken from a way left its sender, or an event sent it up
+put_on : (v : View) (ps : List Happening) (t : ℕ) (device : DeviceId) (link : LinkId) (cause : ℕ) (a : Arrival) (taken : Pcf) (way : Way) → IsView v
+    → ArrivesAs v.scenario ps device t link cause a → TakesWith a taken → way_to v.scenario.network device link ≡ way
+    → (IsPutAs v ps device link cause way ⊎ ((way ≡ Up) × IsSentUp v ps device link cause)) × (receiver_of v.scenario.network link way ≡ Some device)
+put_on v ps t device link cause a taken way is comes takes on =
     let put = comes.arrives in
-    let way_up : put.way ≡ Up = which put.way put.receiver in (
-      by comes.putting.note.body refl put.put comes.there way_up (subst IsCarried comes.becomes carried),
-      subst (λ (w : Way). receiver_of v.scenario.network link w ≡ Some device) way_up put.receiver,
+    let same : put.way ≡ way = sym (receiver_way v link device put.way is put.receiver) ∙ on in (
+      by comes.putting.note.body refl put.put same (subst (λ (x : Arrival). TakesWith x taken) comes.becomes takes),
+      subst (λ (w : Way). receiver_of v.scenario.network link w ≡ Some device) same put.receiver,
     )
   where
-    which : (w : Way) → receiver_of v.scenario.network link w ≡ Some device → w ≡ Up
-    which Up e = refl
-    which Down e = (let wrong : Down ≡ Up = sym (child_down v device link is (receiver_down v.scenario.network link device e)) ∙ up in absurd cc)
+    never : (signal : Signal) → signal ≡ timed comes.putting.octets → TakesWith (arrival_of v.scenario ps device t link cause signal) taken → ⊥
+    never signal e c = never_timed v ps t device link cause comes.putting.octets taken
+        (subst (λ (x : Signal). TakesWith (arrival_of v.scenario ps device t link cause x) taken) e c)
+
+    sent : (cut : Bool) (out : LinkId) (signal : Signal) (l : Launch) → (if cut then None else Some (record { link = out; way = Up; signal = signal })) ≡ Some l
+        → (record { link = out; way = Up; signal = signal }) ≡ l
+    sent true out signal l e = absurd cc
+    sent false out signal l e = cc
 
     by : (body : NoteBody) → comes.putting.note.body ≡ body → launched v.scenario comes.putting (time_of comes.putting)
-        body ≡ Some (record { link = link; way = comes.arrives.way; signal = comes.signal }) → numbered ps cause ≡ Some comes.putting → comes.arrives.way ≡ Up
-        → IsCarried (arrival_of v.scenario ps device t link cause comes.signal) → IsPutAs v ps device link cause Up ⊎ IsSentUp v ps device link cause
-    by (notes.Left sender out given clock) same put there way c =
-        let l = put_left comes.putting.frame out (way_from v.scenario.network sender out) _ put in
+        body ≡ Some (record { link = link; way = comes.arrives.way; signal = comes.signal }) → comes.arrives.way ≡ way
+        → TakesWith (arrival_of v.scenario ps device t link cause comes.signal) taken
+        → IsPutAs v ps device link cause way ⊎ ((way ≡ Up) × IsSentUp v ps device link cause)
+    by (notes.Left sender out given clock) same put along c =
+        let l = (mapped (λ (f : Pcf). let x : Launch = record { link = out; way = way_from v.scenario.network sender out; signal = control (Ok f) } in x)
+        comes.putting.frame _ put).2 in
+        let link_is : out ≡ link = ap (λ (x : Launch). x.link) l in
         inl (record {
           putting = comes.putting;
-          there = there;
+          there = comes.there;
           sender = sender;
           given = given;
           clock = clock;
-          left = same ∙ ap (λ (x : LinkId). notes.Left sender x given clock) (sym l.0);
-          from_way = ap (way_from v.scenario.network sender) l.0 ∙ sym l.1 ∙ way;
+          left = same ∙ ap (λ (x : LinkId). notes.Left sender x given clock) link_is;
+          from_way = ap (way_from v.scenario.network sender) (sym link_is) ∙ ap (λ (x : Launch). x.way) l ∙ along;
         })
-    by (notes.TtSent sender out from vl cycle) same put there way c =
+    by (notes.TtSent sender out from vl cycle) same put along c =
         let l = same_some _ (record { link = out; way = way_from v.scenario.network sender out; signal = timed comes.putting.octets }) _ refl put in
-        let signal : comes.signal ≡ timed comes.putting.octets = ap (λ (x : Launch). x.signal) (sym l) in
-        absurd (never_timed v ps t device link cause comes.putting.octets (subst (λ (x : Signal). IsCarried (arrival_of v.scenario ps device t link cause x))
-        signal c))
-    by (notes.Event line (events.Send out octets)) same put there way c =
-        let l = put_event_is (is_cut v.scenario out Up (time_of comes.putting)) out (signal_of octets)
-        (record { link = link; way = comes.arrives.way; signal = comes.signal }) put in
-        let d = decoded_as v ps t device link cause octets (subst (λ (x : Signal). IsCarried (arrival_of v.scenario ps device t link cause x)) l.1 c) in
-        inr (record {
-          putting = comes.putting;
-          there = there;
-          line = line;
-          octets = octets;
-          sends = same ∙ ap (λ (x : LinkId). notes.Event line (events.Send x octets)) (sym l.0);
-          frame = d.0;
-          decodes = d.1;
-          mine = d.2;
-        })
-      where
-        put_event_is : (cut : Bool) (link : LinkId) (signal : Signal) (l : Launch)
-            → (if cut then None else Some (record { link = link; way = Up; signal = signal })) ≡ Some l → (l.link ≡ link) × (l.signal ≡ signal)
-        put_event_is true link signal l e = absurd cc
-        put_event_is false link signal l e =
-            let same = same_some (Some (record { link = link; way = Up; signal = signal })) (record { link = link; way = Up; signal = signal }) l refl e in
-            (ap (λ (x : Launch). x.link) (sym same), ap (λ (x : Launch). x.signal) (sym same))
-    by body same put there way c = absurd cc
+        absurd (never comes.signal (ap (λ (x : Launch). x.signal) (sym l)) c)
+    by (notes.Event line (events.Send out octets)) same put along c =
+        let l = sent (is_cut v.scenario out Up (time_of comes.putting)) out (signal_of octets) _ put in
+        let d = decoded_as v ps t device link cause octets taken (subst (λ (x : Signal). TakesWith (arrival_of v.scenario ps device t link cause x) taken)
+        (ap (λ (x : Launch). x.signal) (sym l)) c) in
+        inr (
+          sym along ∙ ap (λ (x : Launch). x.way) (sym l),
+          record {
+            putting = comes.putting;
+            there = comes.there;
+            line = line;
+            octets = octets;
+            sends = same ∙ ap (λ (x : LinkId). notes.Event line (events.Send x octets)) (ap (λ (x : Launch). x.link) l);
+            frame = d.0;
+            decodes = d.1;
+            mine = d.2;
+          },
+        )
+    by body same put along c = absurd cc
 
--- ---- legs up
-
-pub child_by : (b : Bool) → (if b then Down else Up) ≡ Up → b ≡ false
-child_by false e = refl
-child_by true e = absurd cc
-
--- a link's parent shows as one
-pub shown_parent : (v : View) (device : DeviceId) (link : LinkId) → IsParentOf v.scenario.network device link
-    → is_parent_of v.scenario.network device link ≡ true
-shown_parent v device link parent =
-    let l = opened (λ (k : Link). k.parent ≡ device) (link_at v.scenario.network link) parent in
-    ap (λ (o : Option Link). option_map_or (λ k. k.parent.0 == device.0) o false) l.1 ∙ eq-eqb l.0.parent.0 device.0 (ap (λ (d : DeviceId). d.0) l.2)
-
--- ---- from the master
-
--- the frame of a dispatch is that of its master
-pub dispatch_shows : (v : View) (g : Happening) (master : DeviceId) (cycle m : ℕ) → IsView v → IsIn g v.records → g.note.body ≡ notes.Sent master cycle
-    → member_of v.scenario.network master ≡ Some m → (cycle ≡ cycle_in g) × (members_in g ≡ 2 ^ m)
-dispatch_shows v g master cycle m is i body member =
-    let found = founded_at v.scenario v.records g is.run.founded i in
-    let framed = ap (λ (x : Happening). x.frame) found.due.same ∙ ap (frame_by v.scenario.network found.front) body in (
-      ap (λ (o : Option Pcf). option_map_or (λ f. f.cycle) o 0) (sym framed),
-      ap (λ (o : Option Pcf). option_map_or (λ f. f.members.0) o 0) framed ∙ ap (λ (o : Option ℕ). 2 ^ unwrap_or o 0) member,
-    )
+-- ---- leg by leg
 
 -- what an event sent up is a broken master's
 sent_by_bad : (v : View) (h : Happening) (device : DeviceId) (link : LinkId) (cause clock : ℕ) (is : IsView v) → (i : IsIn h v.records)
@@ -251,15 +224,16 @@ sent_by_bad v h device link cause clock is i body to put =
     let event = subst (IsCaused s at_e.front putting.note.time) put.sends at_e.due.cause in
     let in_events : IsIn event.event s.events = in_at s.events event.before event.event event.is in
     let time : amount event.event.time ≡ time_of putting = ap amount (sym event.at) in
-    let l = receives_up n link device to in
+    let l = mapped (λ (x : Link). x.parent) (link_at n link) device to in
     let bad = sender_broken v event.event link l.0 put.octets is in_events (sym event.same) l.1 (omega (arith, within_run v is putting in_all, time)) in
-    let framed = ap (λ (x : Happening). x.frame) at_e.due.same ∙ ap (frame_by n at_e.front) put.sends ∙ ap frame_in put.decodes in
-    let frame_h = ap (λ (x : Happening). x.frame) at.due.same ∙ ap (frame_by n at.front) body ∙ ap
-    (λ (o : Option Happening). option_map (with_clock clock) (option_and_then (λ x. x.frame) o)) put.there ∙ ap (option_map (with_clock clock)) framed in
+    let framed = frame_is at_e _ put.sends ∙ ap frame_in put.decodes in
+    let frame_h = frame_is at _ body ∙ clocked clock _ putting put.frame put.there framed in
     let mine = sym (ap (λ (o : Option Link). option_map_or (λ k. k.parent.0 == device.0 && is_end n k.child && are_others
     (member_of n k.child) put.frame.members) o false) l.1) ∙ put.mine in
+    let d = device_of is_master (device_at n l.0.child) (bad_role v l.0.child is bad) in
     let is_mine = mine_is (l.0.parent.0 == device.0) (is_end n l.0.child) (member_of n l.0.child) put.frame.members mine
-    (eq-eqb l.0.parent.0 device.0 (ap (λ (d : DeviceId). d.0) l.2)) (bad_ends v l.0.child is bad) in
+    (eq-eqb l.0.parent.0 device.0 (ap (λ (d : DeviceId). d.0) l.2))
+    (ap (λ (o : Option Device). option_map_or (λ x. is_end_system x.role) o false) d.1 ∙ master_ends d.0.role d.2) in
     record {
       master = l.0.child;
       bad = bad;
@@ -268,80 +242,145 @@ sent_by_bad v h device link cause clock is i body to put =
       members = ap (λ (o : Option Pcf). option_map_or (λ f. f.members.0) o 0) frame_h ∙ is_mine.2;
     }
 
-comes_up : (v : View) (n : ℕ) (h : Happening) (device : DeviceId) (link : LinkId) (cause clock : ℕ) → IsView v → IsIn h v.records → h.note.number < n
-    → h.note.body ≡ notes.Arrived device link cause clock → way_to v.scenario.network device link ≡ Up → IsOfGood v h ⊎ IsOfBad v h
-comes_up v zero h device link cause clock is i small body up = absurd (omega (arith, small))
-comes_up v (suc n) h device link cause clock is i small body up =
+-- a record that gives a frame to a way, and is no arrival
+pub record IsStart (v : View) (way : Way) (first : Happening) : Type 0 where
+  pub there : IsIn first v.records
+  pub sender : DeviceId
+  pub by : LinkId
+  pub gives : Gives v.scenario.network first.note.body sender by
+  pub from_way : way_from v.scenario.network sender by ≡ way
+  pub no_arrival : (d : DeviceId) (k : LinkId) (c t : ℕ) → first.note.body ≡ notes.Arrived d k c t → ⊥
+
+-- the frame came leg by leg from such a record
+pub record ComesSo (v : View) (way : Way) (h : Happening) (link : LinkId) : Type 0 where
+  pub first : Happening
+  pub start : IsStart v way first
+  pub legs : List Leg
+  pub trip : IsTrip v way first legs h
+  pub back : GoesBackTo v.records h first
+  pub in_order : time_of first < time_of h
+  pub cycle : cycle_in first ≡ cycle_in h
+  pub members : members_in first ≡ members_in h
+  pub same_channel : way ≡ Down → channel_of_link v.scenario.network link ≡ channel_of v.scenario.network start.sender
+
+-- what arrives did so, or a broken master sent it by an event
+pub comes : (v : View) (n : ℕ) (way : Way) (h : Happening) (device : DeviceId) (link : LinkId) (cause clock : ℕ) → IsView v → IsIn h v.records
+    → h.note.number < n → h.note.body ≡ notes.Arrived device link cause clock → way_to v.scenario.network device link ≡ way
+    → ComesSo v way h link ⊎ ((way ≡ Up) × IsOfBad v h)
+comes v zero way h device link cause clock is i small body on = absurd (omega (arith, small))
+comes v (suc n) way h device link cause clock is i small body on =
     let at = founded_at v.scenario v.records h is.run.founded i in
-    let put = put_of at.front (subst (IsCaused v.scenario at.front h.note.time) body at.due.cause) in
+    let a = subst (IsCaused v.scenario at.front h.note.time) body at.due.cause in
+    let x = taken_as a in
+    let put = put_on v at.front (amount h.note.time) device link cause x.0 a.frame way is x.1 x.2 on in
     elim put.0 [
-      | inr sent ↦ inr (sent_by_bad v h device link cause clock is i body put.1 sent)
+      | inr sent ↦ inr (
+        sent.0,
+        sent_by_bad v h device link cause clock is i body (subst (λ (w : Way). receiver_of v.scenario.network link w ≡ Some device) sent.0 put.1) sent.1,
+      )
       | inl left ↦
-          let l = has_leg v Up h device link cause clock is i body up put.1 left in
-          given_by v h device link is l (λ g d k c t j less at way. comes_up v n g d k c t is j (omega (arith, less, l.sooner, small)) at way)
-          l.giving.note.body refl l.leg.gives
+          let l = has_leg v way h device link cause clock is i body on put.1 left in
+          given_by l (λ g d k c t j less at to. comes v n way g d k c t is j (omega (arith, less, l.sooner, small)) at to) l.giving.note.body refl l.leg.gives
     ]
   where
-    put_of : (front : List Happening) → IsArrivedRecord v.scenario front device (amount h.note.time) link cause clock
-        → (IsPutAs v front device link cause Up ⊎ IsSentUp v front device link cause) × (receiver_of v.scenario.network link Up ≡ Some device)
-    put_of front a = elim a.taken [
-      | inl waits ↦ put_up v front (amount h.note.time) device link cause (arrivals.Waits a.frame a.point) is waits tt up
-      | inr (inl passes) ↦ put_up v front (amount h.note.time) device link cause (arrivals.Passes a.frame a.way) is passes tt up
-      | inr (inr both) ↦ put_up v front (amount h.note.time) device link cause (arrivals.PassesAndWaits a.frame a.way a.point) is both tt up
-    ]
+    on_way : (sender relay : DeviceId) (by : LinkId) → Passes v.scenario.network sender by link → sender ≡ relay → way_from v.scenario.network sender link ≡ way
+        → way_to v.scenario.network relay by ≡ way
+    on_way sender relay by passes same from =
+        let n = v.scenario.network in
+        subst (λ (d : DeviceId). way_to n d by ≡ way) same (elim passes.on [
+          | inl up ↦ (parent_ways n sender by up.0).0 ∙ sym (child_ways v sender link is up.1).1 ∙ from
+          | inr down ↦ (child_ways v sender by is down.0).0 ∙ sym (parent_ways n sender link down.1).1 ∙ from
+        ])
 
-    given_by : (v : View) (h : Happening) (device : DeviceId) (link : LinkId) → IsView v → (l : HasLeg v Up h device link)
+    given_by : (l : HasLeg v way h device link)
         → ((g : Happening) (d : DeviceId) (k : LinkId) (c t : ℕ) → IsIn g v.records → g.note.number < l.giving.note.number + 1
-        → g.note.body ≡ notes.Arrived d k c t → way_to v.scenario.network d k ≡ Up → IsOfGood v g ⊎ IsOfBad v g)
-        → (b : NoteBody) → l.giving.note.body ≡ b → Gives v.scenario.network b l.leg.sender link → IsOfGood v h ⊎ IsOfBad v h
-    given_by v h device link is l back (notes.Sent master cycle) same gives =
-        let at = founded_at v.scenario v.records l.giving is.run.founded l.leg.given in
-        let m = master_member v master is (subst (IsCaused v.scenario at.front l.giving.note.time) same at.due.cause).master in
-        let shown = dispatch_shows v l.giving master cycle m.0 is l.leg.given same m.1 in
+        → g.note.body ≡ notes.Arrived d k c t → way_to v.scenario.network d k ≡ way → ComesSo v way g k ⊎ ((way ≡ Up) × IsOfBad v g))
+        → (b : NoteBody) → l.giving.note.body ≡ b → Gives v.scenario.network b l.leg.sender link → ComesSo v way h link ⊎ ((way ≡ Up) × IsOfBad v h)
+    given_by l back (notes.Arrived relay by from t) same gives =
         let kept = same_cycle h l.giving l.of_frame l.clock l.frame l.shows in
-        elim (is_broken v.scenario master v.until) as (λ b. is_broken v.scenario master v.until ≡ b → IsOfGood v h ⊎ IsOfBad v h) [
-          | true ↦ λ bad. inr (record { master = master; bad = bad; member = m.0; is_member = m.1; members = sym kept.1 ∙ shown.1 })
-          | false ↦ λ good. inl (record {
-            first = l.giving;
-            master = master;
-            dispatch = record { there = l.leg.given; is = same ∙ ap (notes.Sent master) (shown.0 ∙ kept.0); good = good };
-            member = m.0;
-            is_member = m.1;
-            members = sym kept.1 ∙ shown.1;
-            legs = record { link = link; giving = l.giving; leaving = l.leaving; arriving = h } ∷ [];
-            trip = (refl, l.leg, refl);
-            in_order = l.in_time;
+        elim (back l.giving relay by from t l.leg.given (omega arith) same (on_way l.leg.sender relay by gives.1 gives.0 l.leg.from_way)) [
+          | inr bad ↦ inr (
+            bad.0,
+            record { master = bad.1.master; bad = bad.1.bad; member = bad.1.member; is_member = bad.1.is_member; members = sym kept.1 ∙ bad.1.members },
+          )
+          | inl c ↦ inl (record {
+            first = c.first;
+            start = c.start;
+            legs = c.legs ++ record { link = link; giving = l.giving; leaving = l.leaving; arriving = h } ∷ [];
+            trip = trip_more v way c.first l.giving h c.legs _ c.trip refl refl l.leg;
+            back = record { causes = l.leaving ∷ l.giving ∷ c.back.causes; chain = (l.left, (l.given, c.back.chain)); begins = c.back.begins };
+            in_order = omega (arith, c.in_order, l.in_time);
+            cycle = c.cycle ∙ kept.0;
+            members = c.members ∙ kept.1;
+            same_channel = λ down.
+                let parent = gives_down v.scenario.network l.leg.sender link (l.leg.from_way ∙ down) in
+                elim gives.1.on [
+                  | inl up ↦ absurd (child_not_parent v l.leg.sender link is up.1 (shown_parent v.scenario.network l.leg.sender link parent))
+                  | inr both ↦ parent_channel v l.leg.sender link parent ∙ child_channel v l.leg.sender by is gives.1.relay both.0 ∙ c.same_channel down
+                ];
           })
-        ] refl
-    given_by v h device link is l back (notes.Compressed cm opened at cycle members verdict) same gives =
-        absurd (both_ways (is_parent_of v.scenario.network l.leg.sender link) (child_by (is_parent_of v.scenario.network l.leg.sender link) l.leg.from_way)
-        (shown_parent v l.leg.sender link gives.1))
-    given_by v h device link is l back (notes.Arrived relay by from t) same gives =
-        elim gives.1.on [
-          | inr down ↦
-              absurd (both_ways (is_parent_of v.scenario.network l.leg.sender link) (child_by
-              (is_parent_of v.scenario.network l.leg.sender link) l.leg.from_way) (shown_parent v l.leg.sender link down.1))
-          | inl up ↦
-              let way : way_to v.scenario.network relay by ≡ Up = ap (λ (b : Bool). if b then Up else Down)
-              (shown_parent v relay by (subst (λ (d : DeviceId). IsParentOf v.scenario.network d by) gives.0 up.0)) in
-              let kept = same_cycle h l.giving l.of_frame l.clock l.frame l.shows in
-              elim (back l.giving relay by from t l.leg.given (omega arith) same way) [
-                | inr bad ↦ inr
-                    (record { master = bad.master; bad = bad.bad; member = bad.member; is_member = bad.is_member; members = sym kept.1 ∙ bad.members })
-                | inl good ↦ inl (record {
-                  first = good.first;
-                  master = good.master;
-                  dispatch = record { there = good.dispatch.there; is = good.dispatch.is ∙ ap (notes.Sent good.master) kept.0; good = good.dispatch.good };
-                  member = good.member;
-                  is_member = good.is_member;
-                  members = sym kept.1 ∙ good.members;
-                  legs = good.legs ++ record { link = link; giving = l.giving; leaving = l.leaving; arriving = h } ∷ [];
-                  trip = trip_more v Up good.first l.giving h good.legs _ good.trip refl refl l.leg;
-                  in_order = omega (arith, good.in_order, l.in_time);
-                })
-              ]
         ]
-    given_by v h device link is l back body same gives = absurd gives
+    given_by l back body same gives =
+        let kept = same_cycle h l.giving l.of_frame l.clock l.frame l.shows in
+        inl (record {
+          first = l.giving;
+          start = record {
+            there = l.leg.given;
+            sender = l.leg.sender;
+            by = link;
+            gives = l.leg.gives;
+            from_way = l.leg.from_way;
+            no_arrival = λ d k c t e. (let wrong : body ≡ notes.Arrived d k c t = sym same ∙ e in absurd cc);
+          };
+          legs = record { link = link; giving = l.giving; leaving = l.leaving; arriving = h } ∷ [];
+          trip = (refl, l.leg, refl);
+          back = record { causes = l.leaving ∷ l.giving ∷ []; chain = (l.left, (l.given, tt)); begins = refl };
+          in_order = l.in_time;
+          cycle = kept.0;
+          members = kept.1;
+          same_channel = λ down. parent_channel v l.leg.sender link (gives_down v.scenario.network l.leg.sender link (l.leg.from_way ∙ down));
+        })
+
+-- ---- up from a master
+
+-- the frame of a dispatch is that of its master
+pub dispatch_shows : (v : View) (g : Happening) (master : DeviceId) (cycle m : ℕ) → IsView v → IsIn g v.records → g.note.body ≡ notes.Sent master cycle
+    → member_of v.scenario.network master ≡ Some m → (cycle ≡ cycle_in g) × (members_in g ≡ 2 ^ m)
+dispatch_shows v g master cycle m is i body member =
+    let found = founded_at v.scenario v.records g is.run.founded i in
+    let framed = frame_is found _ body in (
+      ap (λ (o : Option Pcf). option_map_or (λ f. f.cycle) o 0) (sym framed),
+      ap (λ (o : Option Pcf). option_map_or (λ f. f.members.0) o 0) framed ∙ ap (λ (o : Option ℕ). 2 ^ unwrap_or o 0) member,
+    )
 
 pub frames_up_are_of_masters : FramesUpAreOfMasters
-frames_up_are_of_masters v h switch link cause clock is i body up = comes_up v (h.note.number + 1) h switch link cause clock is i (omega arith) body up
+frames_up_are_of_masters v h switch link cause clock is i body up =
+    elim (comes v (h.note.number + 1) Up h switch link cause clock is i (omega arith) body up) [
+      | inr bad ↦ inr bad.1
+      | inl c ↦ of_master c c.first.note.body refl c.start.gives
+    ]
+  where
+    of_master : (c : ComesSo v Up h link) (b : NoteBody) → c.first.note.body ≡ b → Gives v.scenario.network b c.start.sender c.start.by
+        → IsOfGood v h ⊎ IsOfBad v h
+    of_master c (notes.Sent master cycle) same gives =
+        let at = founded_at v.scenario v.records c.first is.run.founded c.start.there in
+        let m = master_member v master is (subst (IsCaused v.scenario at.front c.first.note.time) same at.due.cause).master in
+        let shown = dispatch_shows v c.first master cycle m.0 is c.start.there same m.1 in
+        elim (is_broken v.scenario master v.until) as (λ b. is_broken v.scenario master v.until ≡ b → IsOfGood v h ⊎ IsOfBad v h) [
+          | true ↦ λ bad. inr (record { master = master; bad = bad; member = m.0; is_member = m.1; members = sym c.members ∙ shown.1 })
+          | false ↦ λ good. inl (record {
+            first = c.first;
+            master = master;
+            dispatch = record { there = c.start.there; is = same ∙ ap (notes.Sent master) (shown.0 ∙ c.cycle); good = good };
+            member = m.0;
+            is_member = m.1;
+            members = sym c.members ∙ shown.1;
+            legs = c.legs;
+            trip = c.trip;
+            in_order = c.in_order;
+          })
+        ] refl
+    of_master c (notes.Compressed cm opened at cycle members verdict) same gives =
+        (let wrong : Down ≡ Up = sym (parent_ways v.scenario.network c.start.sender c.start.by gives.1).1 ∙ c.start.from_way in absurd cc)
+    of_master c (notes.Arrived relay by from t) same gives = absurd (c.start.no_arrival relay by from t same)
+    of_master c body same gives = absurd gives

@@ -1,8 +1,8 @@
 -- The gates of the sound channel are open while the frames of a cycle come.
-use Rattle.precision_law.proofs.words.Std.{◌%◌, ◌&&◌, ◌*◌, ◌+ℤ◌, ◌+◌, ◌-◌, ◌<ℤ◌, ◌<◌, ◌∙◌, ◌≡◌, ◌≤ℤ◌, ◌≤◌, Bool, and_right, ap, arith, false, inr, int_lt, int_rem_euclid_is, ints, le-ltb, mod-mul-add, pos, suc, ℕ, ℤ}
+use Rattle.precision_law.proofs.words.Std.{◌%◌, ◌&&◌, ◌*◌, ◌+ℤ◌, ◌+◌, ◌-◌, ◌<◌, ◌∙◌, ◌≡◌, ◌≤ℤ◌, ◌≤◌, and_right, ap, arith, false, inr, int_lt, int_rem_euclid_is, ints, le-ltb, mod-mul-add, pos, suc, ℕ, ℤ}
 use Rattle.precision_law.proofs.words.Plans.{DeviceId, Network, amount}
 use Rattle.precision_law.proofs.words.Runs.{is_relay, is_synchronised, offset_in_cycle, standpoint}
-use Rattle.precision_law.proofs.words.Laws.{AreOpenFrom, BlocksGoSo, HasTimeAt, HaveRoom, Hull, IsInBlock, IsNarrow, IsOpen, IsSoundSwitch, IsView, ShowsIn, Sizes, Stands, View, adjustment_left, first_correction, first_dispatch, has_time, last_correction, last_dispatch}
+use Rattle.precision_law.proofs.words.Laws.{AreOpenFrom, BlocksGoSo, HasTimeAt, HaveRoom, Hull, IsInBlock, IsNarrow, IsOpen, IsSoundSwitch, IsView, ShowsIn, Sizes, View, adjustment_left, first_correction, first_dispatch, has_time, last_dispatch}
 use Rattle.precision_law.proofs.words.Clocks.{frames_come_first, natural, natural_of, one_more, room, sizes_are, sound_switches_begin_on, switches_are_good}
 use Rattle.precision_law.proofs.words.Blocks.{before_narrow, block_ends, old_shows}
 use Rattle.precision_law.proofs.block.Dispatched.{IsCalm, old_then, synchronised_then}
@@ -30,51 +30,26 @@ in_window s shown n u hull space narrow shows low high =
 
 -- ---- gates
 
-and_third : (a b c : Bool) → c ≡ false → (a && b && c) ≡ false
-and_third a b c e = and_right (a && b) c e
-
 -- then the gate is open
 open_by : (v : View) (cycle : ℕ) (shown : ℤ) → IsView v → IsInWindow v.sizes cycle shown
     → int_lt (pos (amount v.scenario.network.correction + 2 * amount v.scenario.network.precision))
     (offset_in_cycle v.scenario.network (shown +ℤ pos (2 * amount v.scenario.network.precision))) ≡ false
 open_by v cycle shown is window =
     let n = v.scenario.network in
-    let space = room v is in
     let precision = (sizes_are v is).precision in
     let correction = (sizes_are v is).correction in
     let length = (sizes_are v is).cycle in
     let product : cycle * v.sizes.cycle ≡ cycle * amount n.cycle = ap (λ (x : ℕ). cycle * x) length in
     let z = shown +ℤ pos (2 * amount n.precision) in
-    let from = from_by (cycle * v.sizes.cycle) (cycle * amount n.cycle) shown v.sizes.precision (amount n.precision) product precision window.least in
+    let from : pos (cycle * amount n.cycle) ≤ℤ z = omega (arith, ints, product, precision, window.least) in
     let m = natural_of z (cycle * amount n.cycle) from in
-    let rest = behind (cycle * amount n.cycle) m.0 z from m.1 in
-    let top = top_by (cycle * v.sizes.cycle) (cycle * amount n.cycle) shown v.sizes.precision (amount n.precision) v.sizes.correction (amount n.correction)
-    rest.0 m.0 product precision correction window.most m.1 rest.1 in
-    let small : rest.0 < amount n.cycle = small_by v.sizes.precision (amount n.precision) v.sizes.correction (amount n.correction) v.sizes.cycle
-    (amount n.cycle) v.sizes.dmax v.sizes.spread v.sizes.reach v.sizes.clock v.sizes.path v.sizes.drift v.sizes.grain rest.0 precision correction length
-    top space.cycles space.eight_errors space.errors.reach_is space.grain in
+    let rest : ℕ = m.0 - cycle * amount n.cycle in
+    let is_rest : m.0 ≡ cycle * amount n.cycle + rest = omega (arith, ints, from, m.1) in
+    let top : rest ≤ amount n.correction + 2 * amount n.precision = omega (arith, ints, product, precision, correction, window.most, m.1, is_rest) in
+    let small : rest < amount n.cycle = omega (arith, top, precision, correction, length, room v is) in
     let some : 0 < amount n.cycle = omega (arith, small) in
-    let place = placed n cycle rest.0 m.0 z some (begun v is) small rest.1 m.1 in
-    ap (int_lt (pos (amount n.correction + 2 * amount n.precision))) place ∙ not_less (amount n.correction + 2 * amount n.precision) rest.0 top
-  where
-    from_by : (a b : ℕ) (shown : ℤ) (p q : ℕ) → a ≡ b → p ≡ q → pos a ≤ℤ (shown +ℤ pos (2 * p)) → pos b ≤ℤ (shown +ℤ pos (2 * q))
-    from_by a b shown p q x y le = omega (arith, ints, x, y, le)
-
-    behind : (a m : ℕ) (z : ℤ) → pos a ≤ℤ z → z ≡ pos m → (r : ℕ) × (m ≡ a + r)
-    behind a m z le same = (m - a, omega (arith, ints, le, same))
-
-    top_by : (a b : ℕ) (shown : ℤ) (p q c d r m : ℕ) → a ≡ b → p ≡ q → c ≡ d → shown ≤ℤ pos (a + c) → (shown +ℤ pos (2 * q)) ≡ pos m → m ≡ b + r → r ≤ d + 2 * q
-    top_by a b shown p q c d r m x y z le same is = omega (arith, ints, x, y, z, le, same, is)
-
-    small_by : (p q c d l k dmax spread reach clock path drift grain r : ℕ) → p ≡ q → c ≡ d → l ≡ k → r ≤ d + 2 * q → c + dmax + 8 * p ≤ l
-        → spread + 8 * reach ≤ p → reach ≡ clock + drift + 2 * grain → 1 ≤ grain → r < k
-    small_by p q c d l k dmax spread reach clock path drift grain r x y z le cycles errors reach_is some = omega arith
-
-    not_less : (a b : ℕ) → b ≤ a → int_lt (pos a) (pos b) ≡ false
-    not_less a b le = le-ltb a b le
-
-    begun : (v : View) → IsView v → pos 0 ≤ℤ v.scenario.network.cycle.0
-    begun v is = omega (arith, ints, is.lawful.range.cycle.least)
+    let place = placed n cycle rest m.0 z some (omega (arith, ints, is.lawful.range.cycle.least)) small is_rest m.1 in
+    ap (int_lt (pos (amount n.correction + 2 * amount n.precision))) place ∙ le-ltb (amount n.correction + 2 * amount n.precision) rest top
 
 -- a switch of the sound channel is calm
 switch_calm : (v : View) (n u : ℕ) (block : IsInBlock v n u) (switch : DeviceId) → IsView v → IsSoundSwitch v switch
@@ -97,7 +72,7 @@ gate_is_open goes v n u block switch is sound low high =
     let has : HasTimeAt v switch u = record { good = calm.good; timed = ap has_time (synchronised_then goes v n u block switch u u is calm (omega arith)) } in
     let window = in_window v.sizes (pos (s.reading switch u) +ℤ adjustment_left v switch u) n u block.before.hull (room v is) (before_narrow v n block.before)
     (old_shows v n u u switch block is (omega arith) has (old_then goes v n u block switch u u is calm (omega arith))) low high in
-    and_third (is_relay s.network switch) (is_synchronised (standpoint s v.records switch u).state) _ (open_by v _ _ is window)
+    and_right (is_relay s.network switch && is_synchronised (standpoint s v.records switch u).state) _ (open_by v _ _ is window)
 
 -- so they are while a frame that is given then may travel
 pub are_open_from : BlocksGoSo → (v : View) (n w : ℕ) (block : IsInBlock v n w) → IsView v → first_dispatch v.sizes block.before.hull ≤ℤ pos w
@@ -110,22 +85,14 @@ are_open_from goes v n w block is low high in_run switch u sound from to =
       next = block.next;
       is_over = block.is_over;
       from = omega (arith, block.from, from);
-      to = omega (arith, ints, block_ends v n block.next _ block.before.is_hull block.is_over, high, to, corrections_ordered v n block.before is);
+      to = omega (arith, ints, block_ends v n block.next _ block.before.is_hull block.is_over, high, to, hull_ordered v n block.before is);
       in_run = omega (arith, to, in_run);
     } in
     gate_is_open goes v n u at switch is sound (omega (arith, ints, low, from)) (omega (arith, ints, high, to))
-  where
-    corrections_ordered : (v : View) (n : ℕ) (before : Stands v n) → IsView v → first_correction v.sizes before.hull ≤ℤ last_correction v.sizes before.hull
-    corrections_ordered v n before is = (let ordered = hull_ordered v n before is in omega (arith, ints, ordered))
 
 -- so they are for the dispatches of the block's cycle
 pub dispatches_pass : BlocksGoSo → (v : View) (n w : ℕ) (block : IsInBlock v n w) → IsView v → first_dispatch v.sizes block.before.hull ≤ℤ pos w
     → pos w ≤ℤ last_dispatch v.sizes block.before.hull → w + v.sizes.dmax ≤ v.until + v.sizes.path → AreOpenFrom v w
 dispatches_pass goes v n w block is low high in_run =
     let first = frames_come_first v.sizes block.before.hull (room v is) (before_narrow v n block.before) in
-    are_open_from goes v n w block is low (early w v.sizes.dmax v.sizes.compression v.sizes.base v.sizes.path v.sizes.precision
-    (last_dispatch v.sizes block.before.hull) (first_correction v.sizes block.before.hull) high first) in_run
-  where
-    early : (w dmax compression base path precision : ℕ) (last first : ℤ) → pos w ≤ℤ last
-        → ((last +ℤ pos (2 * dmax + compression + base + path + precision)) +ℤ pos (5 * precision)) <ℤ first → pos (w + dmax) ≤ℤ first
-    early w dmax compression base path precision last first le lt = omega (arith, ints, le, lt)
+    are_open_from goes v n w block is low (omega (arith, ints, high, first)) in_run

@@ -1,14 +1,13 @@
 -- A frame goes over a link: it leaves, and it arrives.
-use Rattle.precision_law.proofs.words.Std.{◌&&◌, ◌*◌, ◌+◌, ◌-◌, ◌<◌, ◌^◌, ◌∙◌, ◌∷◌, ◌≡◌, ◌≤◌, ◌⊎◌, Bool, List, None, Ok, Option, Some, [], ap, arith, cases_lt, false, if◌then◌else◌, inl, inr, le-ltb, mul-le-mul_left, nat_lt, not, option_and_then, option_map, option_map_or, refl, subst, sym, true, ℕ}
+use Rattle.precision_law.proofs.words.Std.{◌&&◌, ◌*◌, ◌+◌, ◌-◌, ◌<◌, ◌^◌, ◌∙◌, ◌∷◌, ◌≡◌, ◌≤◌, Bool, List, None, Ok, Option, Some, [], ap, arith, false, if◌then◌else◌, inl, inr, le-ltb, mul-le-mul_left, nat_lt, not, option_map, option_map_or, refl, subst, sym, true, ℕ}
 use Rattle.precision_law.proofs.words.Plans.{DeviceId, Down, Integrating, IsLinkInRange, Link, LinkId, Measures, Network, Pcf, Units, Up, Way, all_at, amount, delay_by, link_at}
-use Rattle.precision_law.proofs.words.Runs.{Arrival, Arrives, ArrivesAs, Departs, Gives, Happening, IsArrivedRecord, IsBefore, IsDue, IsFounded, IsIn, Launch, NoteBody, Reason, Scenario, Standpoint, adjustment_after, by_number, clock_at_leaving, clock_on_arrival, control, control_arrival, delay_at, delay_least, due_is_there, frame_fault, frame_or_fault, front_founded, happening, hold_at, hold_most, in_front_of, is_broken, is_cut, is_off, is_parent_of, is_relay, is_turned_on_at, key, leaves, members_in, numbered, on_cut_way, place_of, point_on_arrival, rank, receiver_of, same_earlier, split, standpoint, state_after, time_of, too_old, way_from, way_to, wire_of, with_clock}
+use Rattle.precision_law.proofs.words.Runs.{Arrives, ArrivesAs, Departs, Gives, Happening, IsArrivedRecord, IsBefore, IsDue, IsFounded, IsIn, Launch, NoteBody, Scenario, Standpoint, adjustment_after, by_number, clock_at_leaving, control, delay_at, delay_least, frame_fault, frame_or_fault, front_founded, happening, hold_at, hold_most, in_front_of, is_broken, is_cut, is_off, is_parent_of, is_relay, is_turned_on_at, key, leaves, members_in, numbered, on_cut_way, place_of, point_on_arrival, rank, receiver_of, same_earlier, split, standpoint, state_after, time_of, too_old, way_from, way_to, wire_of, with_clock}
 use Rattle.precision_law.proofs.words.Laws.{IsLeg, IsView, View}
 use Rattle.run_law.specs.declared.note.NoteBody.TheVariants as notes
 use Rattle.run_law.specs.declared.steps.Arrival.TheVariants as arrivals
-use Rattle.precision_law.proofs.trips.Paths.{delay_is}
-use Rattle.precision_law.proofs.records.Due.{next_due, next_note}
-
--- ---- records that are due
+use Rattle.precision_law.proofs.trips.Paths.{clocked, delay_is}
+use Rattle.precision_law.proofs.records.Due.{due_there, next_note}
+use Rattle.precision_law.proofs.Plain.{ranked}
 
 -- what gives a frame has a low rank
 gives_low : (n : Network) (body : NoteBody) (device : DeviceId) (link : LinkId) → Gives n body device link → rank body < 8
@@ -17,28 +16,16 @@ gives_low n (notes.Compressed cm opened at cycle members verdict) device link g 
 gives_low n (notes.Arrived relay by cause clock) device link g = omega arith
 gives_low n other device link g = absurd g
 
-before_leaving : (u held r : ℕ) (rest more : List ℕ) → r < 8 → IsBefore (u ∷ r ∷ rest) ((u + held) ∷ 8 ∷ more)
-before_leaving u held r rest more low = elim (cases_lt u (u + held)) [ inl lt ↦ inl lt | inr ge ↦ inr (omega (arith, ge), inl low) ]
-
 -- ---- what is taken
 
-record TakenWith (a : Arrival) (frame : Pcf) : Type 0 where
-  pub point : Units
-  pub way : Way
-  pub is : (a ≡ arrivals.Waits frame point) ⊎ ((a ≡ arrivals.Passes frame way) ⊎ (a ≡ arrivals.PassesAndWaits frame way point))
-
-taken_with : (relay parent : Bool) (frame : Pcf) (point : Units)
-    → TakenWith (if relay then (if parent then arrivals.Passes frame Up else arrivals.PassesAndWaits frame Down point) else arrivals.Waits frame point) frame
-taken_with true true frame point = record { point = point; way = Up; is = inr (inl refl) }
-taken_with true false frame point = record { point = point; way = Down; is = inr (inr refl) }
-taken_with false parent frame point = record { point = point; way = Up; is = inl refl }
-
-taken_without : (n : Network) (device : DeviceId) (link : LinkId) (at : Standpoint) (frame : Pcf) (fault : Option Reason) → fault ≡ None
-    → TakenWith (frame_or_fault n device link at frame fault) (with_clock (clock_on_arrival n link frame) frame)
-taken_without n device link at frame (Some reason) e = absurd cc
-taken_without n device link at frame None e =
-    taken_with (is_relay n device) (is_parent_of n device link) (with_clock (clock_on_arrival n link frame) frame)
-    (point_on_arrival n at (clock_on_arrival n link frame))
+-- what is taken without a fault waits, is passed on, or both
+taken_by : (s : Scenario) (hs : List Happening) (device : DeviceId) (t : ℕ) (link : LinkId) (cause : ℕ) (frame : Pcf) (point : Units) (relay parent : Bool)
+    → ArrivesAs s hs device t link cause
+    (if relay then (if parent then arrivals.Passes frame Up else arrivals.PassesAndWaits frame Down point) else arrivals.Waits frame point)
+    → IsArrivedRecord s hs device t link cause frame.clock
+taken_by s hs device t link cause frame point true true a = record { frame = frame; point = point; way = Up; taken = inr (inl a); shows = refl }
+taken_by s hs device t link cause frame point true false a = record { frame = frame; point = point; way = Down; taken = inr (inr a); shows = refl }
+taken_by s hs device t link cause frame point false parent a = record { frame = frame; point = point; way = Up; taken = inl a; shows = refl }
 
 abbrev standpoint_by : Scenario → DeviceId → ℕ → List Happening → Standpoint
 standpoint_by s device t es = record {
@@ -57,7 +44,7 @@ leaves_at s link way t = t + hold_at s link way t
 abbrev pub arrives_at : Scenario → LinkId → Way → ℕ → ℕ
 arrives_at s link way t = leaves_at s link way t + delay_at s link way (leaves_at s link way t)
 
--- a frame is given to a way that is whole
+-- a frame is given to a way of a link
 pub record IsGivenOn (v : View) (way : Way) (r : Happening) (frame : Pcf) (sender receiver : DeviceId) (link : LinkId) (l : Link) : Type 0 where
   pub given : IsIn r v.records
   pub of_frame : r.frame ≡ Some frame
@@ -66,8 +53,6 @@ pub record IsGivenOn (v : View) (way : Way) (r : Happening) (frame : Pcf) (sende
   pub from_way : way_from v.scenario.network sender link ≡ way
   pub on_way : way_to v.scenario.network receiver link ≡ way
   pub comes_to : receiver_of v.scenario.network link way ≡ Some receiver
-  pub correct : is_broken v.scenario sender (leaves_at v.scenario link way (time_of r)) ≡ false
-  pub whole : is_cut v.scenario link way (leaves_at v.scenario link way (time_of r)) ≡ false
 
 -- it has come
 pub record HasGone (v : View) (way : Way) (r : Happening) (frame : Pcf) (receiver : DeviceId) (link : LinkId) (l : Link) : Type 0 where
@@ -90,27 +75,19 @@ takes_at_most v way link l t is there =
     let delay = delay_is v link l way (leaves_at v.scenario link way t) is there in
     (omega (arith, hold, delay.1), omega (arith, delay_least v.scenario link l way (leaves_at v.scenario link way t) is.lawful there known.wire.least))
 
--- what the clock of the frame grows by
-grown : (rho grain held hold wire jitter clock seen : ℕ) → Measures rho grain held seen → held ≤ hold
-    → 10 ^ 9 * (clock + seen + wire) ≤ 10 ^ 9 * clock + 10 ^ 9 * (wire + jitter + hold) + rho * (wire + jitter + hold) + 2 * grain * 10 ^ 9
-grown rho grain held hold wire jitter clock seen measures short =
-    let drift : rho * held ≤ rho * (wire + jitter + hold) = mul-le-mul_left rho (omega (arith, short)) in
-    omega (arith, measures, drift, short)
-
+-- over a way that is whole a frame comes from a correct sender
 pub goes_over : (v : View) (way : Way) (r : Happening) (frame : Pcf) (sender receiver : DeviceId) (link : LinkId) (l : Link) → IsView v
-    → IsGivenOn v way r frame sender receiver link l
+    → IsGivenOn v way r frame sender receiver link l → is_broken v.scenario sender (leaves_at v.scenario link way (time_of r)) ≡ false
+    → is_cut v.scenario link way (leaves_at v.scenario link way (time_of r)) ≡ false
     → ((clock : ℕ) → 10 ^ 9 * clock ≤ 10 ^ 9 * frame.clock + 10 ^ 9 * delay_by l + v.scenario.network.rho * delay_by l + 2 * amount
     v.scenario.network.grain * 10 ^ 9 → clock ≤ amount v.scenario.network.dmax)
     → ((clock : ℕ) → clock + wire_of v.scenario.network link ≤ amount v.scenario.network.dmax
     → frame_fault v.scenario.network receiver link (standpoint v.scenario v.records receiver (arrives_at v.scenario link way (time_of r)))
-    (with_clock clock frame) ≡ None)
-    → arrives_at v.scenario link way (time_of r) ≤ v.until
-    → HasGone v way r frame receiver link l
-goes_over v way r frame sender receiver link l is g young fair in_run =
+    (with_clock clock frame) ≡ None) → arrives_at v.scenario link way (time_of r) ≤ v.until → HasGone v way r frame receiver link l
+goes_over v way r frame sender receiver link l is g correct uncut young fair in_run =
     let s = v.scenario in
     let n = s.network in
     let hs = v.records in
-    let mark : List ℕ = (v.until + 1) ∷ [] in
     let t : ℕ = leaves_at s link way (time_of r) in
     let u : ℕ = arrives_at s link way (time_of r) in
     let takes = takes_at_most v way link l (time_of r) is g.there in
@@ -121,19 +98,18 @@ goes_over v way r frame sender receiver link l is g young fair in_run =
     let clock : ℕ = clock_at_leaving s sender frame (time_of r) t in
     let hold_is : t - time_of r ≡ hold_at s link way (time_of r) = omega arith in
     let measures = subst (λ (x : ℕ). Measures n.rho (amount n.grain) x seen) hold_is ((is.lawful.clocks sender).drifts (time_of r) t (omega arith)) in
-    let grows = grown n.rho (amount n.grain) (hold_at s link way (time_of r)) (amount l.hold) (amount l.wire) (amount l.jitter) frame.clock seen measures held
-    in
+    let drift : n.rho * hold_at s link way (time_of r) ≤ n.rho * delay_by l = mul-le-mul_left n.rho (omega (arith, held)) in
     let then_clock : ℕ = clock + wire_of n link in
-    let grows_so = subst (λ (x : ℕ). 10 ^ 9 * (clock + x) ≤ 10 ^ 9 * frame.clock + 10 ^ 9 * delay_by l + n.rho * delay_by l + 2 * amount n.grain * 10 ^ 9)
-    (sym nominal) grows in
+    let grows_so : 10 ^ 9 * then_clock ≤ 10 ^ 9 * frame.clock + 10 ^ 9 * delay_by l + n.rho * delay_by l + 2 * amount n.grain * 10 ^ 9 =
+    omega (arith, measures, drift, held, nominal) in
     let small : then_clock ≤ amount n.dmax = young then_clock grows_so in
     let at = split place_of (IsDue s) hs (t ∷ 8 ∷ sender.0 ∷ link.0 ∷ r.note.number ∷ []) is.run.founded in
-    let sooner : IsBefore (place_of r) (t ∷ 8 ∷ sender.0 ∷ link.0 ∷ r.note.number ∷ []) = before_leaving (time_of r) (hold_at s link way (time_of r))
-    (rank r.note.body) (key (members_in r) r.note.body) (sender.0 ∷ link.0 ∷ r.note.number ∷ []) (gives_low n r.note.body sender link g.gives) in
+    let sooner : IsBefore (place_of r) (t ∷ 8 ∷ sender.0 ∷ link.0 ∷ r.note.number ∷ []) = ranked (time_of r) t (rank r.note.body) 8
+    (key (members_in r) r.note.body) (sender.0 ∷ link.0 ∷ r.note.number ∷ []) (omega arith) (gives_low n r.note.body sender link g.gives) in
     let front = front_founded place_of (IsDue s) at.front at.rest (subst (IsFounded place_of (IsDue s)) at.whole is.run.founded) in
     let found = by_number s at.front r front (in_front_of place_of hs (t ∷ 8 ∷ sender.0 ∷ link.0 ∷ r.note.number ∷ []) at r g.given sooner) in
     let old : nat_lt (amount n.dmax) clock ≡ false = le-ltb (amount n.dmax) clock (omega (arith, small)) in
-    let cut : is_cut s link (way_from n sender link) t ≡ false = ap (λ (w : Way). is_cut s link w t) g.from_way ∙ g.whole in
+    let cut : is_cut s link (way_from n sender link) t ≡ false = ap (λ (w : Way). is_cut s link w t) g.from_way ∙ uncut in
     let departs : Departs s at.front sender t link r.note.number (leaves clock) = record {
       giving = r;
       there = found;
@@ -141,16 +117,14 @@ goes_over v way r frame sender receiver link l is g young fair in_run =
       frame = frame;
       of_frame = g.of_frame;
       held = ap (λ (w : Way). time_of r + hold_at s link w (time_of r)) (sym g.from_way);
-      correct = g.correct;
+      correct = correct;
       becomes =
           sym (ap (λ (b : Bool). if b then too_old else (if is_cut s link (way_from n sender link) t then on_cut_way else leaves clock)) old
           ∙ ap (λ (b : Bool). if b then on_cut_way else leaves clock) cut);
     } in
     let leaving : Happening = happening n at.front (next_note at.front t (notes.Left sender link r.note.number clock)) in
-    let left_there : IsIn leaving hs = due_is_there s mark hs leaving at is.run (next_due s at.front t (notes.Left sender link r.note.number clock) departs)
-    (inl (omega (arith, takes.1, in_run))) in
-    let left_frame : leaving.frame ≡ Some (with_clock clock frame) =
-    ap (λ (o : Option Happening). option_map (with_clock clock) (option_and_then (λ x. x.frame) o)) found ∙ ap (option_map (with_clock clock)) g.of_frame in
+    let left_there = due_there v t (notes.Left sender link r.note.number clock) _ at is (omega (arith, takes.1, in_run)) refl departs in
+    let left_frame : leaving.frame ≡ Some (with_clock clock frame) = clocked clock _ r frame found g.of_frame in
     let by = split place_of (IsDue s) hs (u ∷ 2 ∷ receiver.0 ∷ link.0 ∷ leaving.note.number ∷ []) is.run.founded in
     let front_by = front_founded place_of (IsDue s) by.front by.rest (subst (IsFounded place_of (IsDue s)) by.whole is.run.founded) in
     let found_by : numbered by.front leaving.note.number ≡ Some leaving = by_number s by.front leaving front_by
@@ -166,24 +140,17 @@ goes_over v way r frame sender receiver link l is g young fair in_run =
     } in
     let stands = ap (standpoint_by s receiver u) (same_earlier u (2 ∷ receiver.0 ∷ link.0 ∷ leaving.note.number ∷ []) hs by) in
     let no_fault = ap (λ (p : Standpoint). frame_fault n receiver link p (with_clock clock frame)) stands ∙ fair clock small in
-    let taken = taken_without n receiver link (standpoint s by.front receiver u) (with_clock clock frame) _ no_fault in
-    let as_taken : (a : Arrival) → control_arrival n receiver link (standpoint s by.front receiver u) (Ok (with_clock clock frame)) ≡ a
-    → ArrivesAs s by.front receiver u link leaving.note.number a =
-    λ a e. record { putting = leaving; there = found_by; signal = control (Ok (with_clock clock frame)); arrives = arrives; becomes = sym e } in
-    let arrived : IsArrivedRecord s by.front receiver u link leaving.note.number then_clock = record {
-      frame = with_clock then_clock frame;
-      point = taken.point;
-      way = taken.way;
-      taken = elim taken.is [
-        | inl e ↦ inl (as_taken (arrivals.Waits (with_clock then_clock frame) taken.point) e)
-        | inr (inl e) ↦ inr (inl (as_taken (arrivals.Passes (with_clock then_clock frame) taken.way) e))
-        | inr (inr e) ↦ inr (inr (as_taken (arrivals.PassesAndWaits (with_clock then_clock frame) taken.way taken.point) e))
-      ];
-      shows = refl;
-    } in
+    let arrived : IsArrivedRecord s by.front receiver u link leaving.note.number then_clock =
+    taken_by s by.front receiver u link leaving.note.number (with_clock then_clock frame) (point_on_arrival n (standpoint s by.front receiver u) then_clock)
+    (is_relay n receiver) (is_parent_of n receiver link) (record {
+      putting = leaving;
+      there = found_by;
+      signal = control (Ok (with_clock clock frame));
+      arrives = arrives;
+      becomes = ap (frame_or_fault n receiver link (standpoint s by.front receiver u) (with_clock clock frame)) (sym no_fault);
+    }) in
     let arriving : Happening = happening n by.front (next_note by.front u (notes.Arrived receiver link leaving.note.number then_clock)) in
-    let there : IsIn arriving hs = due_is_there s mark hs arriving by is.run (next_due s by.front u (notes.Arrived receiver link leaving.note.number then_clock)
-    arrived) (inl (omega (arith, in_run))) in
+    let there = due_there v u (notes.Arrived receiver link leaving.note.number then_clock) _ by is in_run refl arrived in
     record {
       leaving = leaving;
       arriving = arriving;
@@ -205,9 +172,7 @@ goes_over v way r frame sender receiver link l is g young fair in_run =
       cause = leaving.note.number;
       clock = then_clock;
       body = refl;
-      of_frame =
-          ap (λ (o : Option Happening). option_map (with_clock then_clock) (option_and_then (λ x. x.frame) o)) found_by
-          ∙ ap (option_map (with_clock then_clock)) left_frame;
+      of_frame = clocked then_clock _ leaving (with_clock clock frame) found_by left_frame;
       at = refl;
       grows = grows_so;
     }

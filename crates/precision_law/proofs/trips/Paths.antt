@@ -1,13 +1,30 @@
--- The links of a trip down are the path of the device that it leads to.
+-- A leg of a frame, by its records: a hop, and what arrives is what was given but for its clock.
 use Rattle.precision_law.proofs.words.Std.{◌+ℤ◌, ◌+◌, ◌-◌, ◌<ℤ◌, ◌∙◌, ◌∷◌, ◌≡◌, ◌≤◌, ◌⊎◌, Bool, List, None, Ok, Option, Some, [], ap, arith, by_lt_z, false, if◌then◌else◌, inl, inr, ints, ltb-false, nat_lt, not, option_and_then, option_map, option_map_or, refl, subst, sym, true, ℕ}
 use Rattle.precision_law.proofs.words.Plans.{DeviceId, Down, Event, Hop, IsHop, IsLinkInRange, Link, LinkId, Measures, Network, Pcf, Units, Up, Way, all_at, amount, closed, delay_by, delay_of, link_at}
-use Rattle.precision_law.proofs.words.Runs.{Arrival, ArrivesAs, ColdStart, Domain, Gate, Happening, IsCaused, IsIn, Launch, Member, NoteBody, Old, Reason, Standpoint, Wire, arrival_of, by_number, clock_at_leaving, clock_on_arrival, control, control_arrival, delay_at, first_reason, founded_at, frame_by, frame_fault, frame_or_fault, hold_at, hold_most, is_cold_start, is_cut, is_gate_shut, is_of_other_domain, is_of_other_member, is_parent_of, is_relay, last_is, launched, leaves, numbered, numbered_front, on_cut_way, parted, point_on_arrival, same_some, standpoint, time_of, time_on_port, too_old, way_from, wire_of, wire_set, with_clock}
-use Rattle.precision_law.proofs.words.Laws.{IsLeg, IsView, Leg, View, clock_in}
+use Rattle.precision_law.proofs.words.Runs.{Arrival, ArrivesAs, ColdStart, Domain, Gate, Happening, IsArrivedRecord, IsCaused, IsFoundedAt, IsIn, Launch, Member, NoteBody, Old, Reason, Scenario, Standpoint, Wire, arrival_of, by_number, clock_at_leaving, clock_on_arrival, control, control_arrival, delay_at, first_reason, founded_at, frame_by, frame_fault, frame_or_fault, hold_at, hold_most, is_cold_start, is_cut, is_gate_shut, is_of_other_domain, is_of_other_member, is_parent_of, is_relay, last_is, launched, leaves, numbered, numbered_front, on_cut_way, point_on_arrival, same_some, standpoint, time_of, time_on_port, too_old, way_from, wire_of, wire_set, with_clock}
+use Rattle.precision_law.proofs.words.Laws.{IsLeg, IsTrip, IsView, Leg, View, clock_in}
 use Rattle.run_law.specs.declared.judgement.Reason.TheVariants.{Off}
 use Rattle.run_law.specs.declared.steps.Arrival.TheVariants as arrivals
-use Rattle.run_law.proofs.law.FirstDelays.{sets_wire}
+use Rattle.run_law.proofs.law.FirstDelays.{given, sets_wire}
+use Rattle.precision_law.proofs.Plain.{mapped}
 
--- ---- one leg as a hop
+-- ---- records and their frames
+
+-- the frame of a record is that of its body
+pub frame_is : {s : Scenario} {hs : List Happening} {h : Happening} (at : IsFoundedAt s hs h) (body : NoteBody) → h.note.body ≡ body
+    → h.frame ≡ frame_by s.network at.front body
+frame_is {s} at body same = ap (λ (x : Happening). x.frame) at.due.same ∙ ap (frame_by s.network at.front) same
+
+-- a frame with a new clock
+pub clocked : (clock : ℕ) (o : Option Happening) (g : Happening) (frame : Pcf) → o ≡ Some g → g.frame ≡ Some frame
+    → option_map (with_clock clock) (option_and_then (λ x. x.frame) o) ≡ Some (with_clock clock frame)
+clocked clock o g frame there framed =
+    ap (λ (x : Option Happening). option_map (with_clock clock) (option_and_then (λ h. h.frame) x)) there ∙ ap (option_map (with_clock clock)) framed
+
+-- the record of a number before another one is that of all
+pub numbered_all : {s : Scenario} {hs : List Happening} {h : Happening} (at : IsFoundedAt s hs h) (n : ℕ) (g : Happening) → numbered at.front n ≡ Some g
+    → numbered hs n ≡ Some g
+numbered_all {h = h} at n g there = subst (λ (hs : List Happening). numbered hs n ≡ Some g) (sym at.whole) (numbered_front at.front (h ∷ at.rest) n g there)
 
 -- the leg of a frame, as a hop: what it is held and what of this is measured, the wire and the delay
 pub record HasHop (v : View) (leg : Leg) : Type 0 where
@@ -30,31 +47,20 @@ set_delay : (v : View) (link : LinkId) (l : Link) (way : Way) → IsView v → l
 set_delay v link l way is there e i d set =
     let n = v.scenario.network in
     let w = sets_wire link way e.what d set in
-    let at = parted e v.scenario.events i in
-    let known = is.lawful.within at.0 at.1 e at.2 in
     let range : IsLinkInRange n l = all_at (IsLinkInRange n) n.link link.0 l is.lawful.range.links there in
-    by_lt_z {P = IsDelay l d} w.delay.0 l.wire.0
-    (λ short. absurd
-    (known Wire
-    (record {
+    let never = λ (other : (w.delay.0 <ℤ l.wire.0) ⊎ ((l.wire.0 +ℤ l.jitter.0) <ℤ w.delay.0)). (given v.scenario e is.lawful i).within Wire (record {
       link = link;
       way = w.way;
       delay = w.delay;
       what = w.is;
-      other = closed (λ (k : Link). (w.delay.0 <ℤ k.wire.0) ⊎ ((k.wire.0 +ℤ k.jitter.0) <ℤ w.delay.0)) (link_at n link) l there (inl short);
-    })))
-    (λ enough. by_lt_z {P = IsDelay l d} (l.wire.0 +ℤ l.jitter.0) w.delay.0
-    (λ long. absurd
-    (known Wire
-    (record {
-      link = link;
-      way = w.way;
-      delay = w.delay;
-      what = w.is;
-      other = closed (λ (k : Link). (w.delay.0 <ℤ k.wire.0) ⊎ ((k.wire.0 +ℤ k.jitter.0) <ℤ w.delay.0)) (link_at n link) l there (inr long);
-    })))
-    (λ small. (let a = range.wire.least in let b = range.jitter.least in let c =
-    w.sets in (omega (arith, ints, enough, a, b, c), omega (arith, ints, small, enough, a, b, c)))))
+      other = closed (λ (k : Link). (w.delay.0 <ℤ k.wire.0) ⊎ ((k.wire.0 +ℤ k.jitter.0) <ℤ w.delay.0)) (link_at n link) l there other;
+    }) in
+    by_lt_z {P = IsDelay l d} w.delay.0 l.wire.0 (λ short. absurd (never (inl short))) (λ enough.
+    by_lt_z {P = IsDelay l d} (l.wire.0 +ℤ l.jitter.0) w.delay.0 (λ long. absurd (never (inr long))) (λ small.
+    let a = range.wire.least in
+    let b = range.jitter.least in
+    let c = w.sets in
+    (omega (arith, ints, enough, a, b, c), omega (arith, ints, small, enough, a, b, c))))
 
 pub delay_is : (v : View) (link : LinkId) (l : Link) (way : Way) (t : ℕ) → IsView v → link_at v.scenario.network link ≡ Some l
     → IsDelay l (delay_at v.scenario link way t)
@@ -64,10 +70,11 @@ delay_is v link l way t is there =
 
 -- ---- arrivals
 
--- a frame whose first fault is none is not too old
-not_old : (a b c d e f : Bool) (p q r s t u : Reason) → first_reason ((a, p) ∷ (b, q) ∷ (c, r) ∷ (d, s) ∷ (e, t) ∷ (f, u) ∷ []) ≡ None → e ≡ false
-not_old false false false false false f p q r s t u none = refl
-not_old a b c d e f p q r s t u none = absurd cc
+-- a frame whose first fault is none is its sender's, and not too old
+none_of : (a b c d e f : Bool) (p q r s t u : Reason) → first_reason ((a, p) ∷ (b, q) ∷ (c, r) ∷ (d, s) ∷ (e, t) ∷ (f, u) ∷ []) ≡ None
+    → (d ≡ false) × (e ≡ false)
+none_of false false false false false f p q r s t u none = (refl, refl)
+none_of a b c d e f p q r s t u none = absurd cc
 
 -- the frame with which an arrival is taken
 abbrev pub TakesWith : Arrival → Pcf → Type 0
@@ -76,6 +83,15 @@ TakesWith (arrivals.Passes frame way) taken = frame ≡ taken
 TakesWith (arrivals.PassesAndWaits frame way point) taken = frame ≡ taken
 TakesWith other taken = ⊥
 
+-- what an arrival record says: as what the frame is taken
+pub taken_as : {s : Scenario} {hs : List Happening} {device : DeviceId} {t : ℕ} {link : LinkId} {cause clock : ℕ}
+    (a : IsArrivedRecord s hs device t link cause clock) → (x : Arrival) × ArrivesAs s hs device t link cause x × TakesWith x a.frame
+taken_as a = elim a.taken [
+  | inl waits ↦ (arrivals.Waits a.frame a.point, waits, refl)
+  | inr (inl passes) ↦ (arrivals.Passes a.frame a.way, passes, refl)
+  | inr (inr both) ↦ (arrivals.PassesAndWaits a.frame a.way a.point, both, refl)
+]
+
 taken_frame : (relay parent : Bool) (frame taken : Pcf) (point : Units)
     → TakesWith (if relay then (if parent then arrivals.Passes frame Up else arrivals.PassesAndWaits frame Down point) else arrivals.Waits frame point) taken
     → frame ≡ taken
@@ -83,21 +99,22 @@ taken_frame true true frame taken point e = e
 taken_frame true false frame taken point e = e
 taken_frame false parent frame taken point e = e
 
--- a frame that is taken is not too old, and has its clock at the arrival
-pub taken_young : (n : Network) (device : DeviceId) (link : LinkId) (at : Standpoint) (frame taken : Pcf)
-    → TakesWith (control_arrival n device link at (Ok frame)) taken → (clock_on_arrival n link frame ≤ amount n.dmax)
-    × (taken.clock ≡ clock_on_arrival n link frame)
-taken_young n device link at frame taken takes = by (frame_fault n device link at frame) refl takes
+-- a frame that is taken is its sender's, is not too old, and has its clock at the arrival
+pub taken_sound : (n : Network) (device : DeviceId) (link : LinkId) (at : Standpoint) (frame taken : Pcf)
+    → TakesWith (control_arrival n device link at (Ok frame)) taken → (is_of_other_member n device link frame.members ≡ false)
+    × (clock_on_arrival n link frame ≤ amount n.dmax) × (taken.clock ≡ clock_on_arrival n link frame)
+taken_sound n device link at frame taken takes = by (frame_fault n device link at frame) refl takes
   where
     by : (o : Option Reason) → frame_fault n device link at frame ≡ o → TakesWith (frame_or_fault n device link at frame o) taken
-        → (clock_on_arrival n link frame ≤ amount n.dmax) × (taken.clock ≡ clock_on_arrival n link frame)
+        → (is_of_other_member n device link frame.members ≡ false) × (clock_on_arrival n link frame ≤ amount n.dmax)
+        × (taken.clock ≡ clock_on_arrival n link frame)
     by (Some reason) e t = absurd t
     by None e t =
-        let old = not_old (not at.takes_part) (is_cold_start frame.kind) (is_of_other_domain n frame) (is_of_other_member n device link frame.members)
+        let none = none_of (not at.takes_part) (is_cold_start frame.kind) (is_of_other_domain n frame) (is_of_other_member n device link frame.members)
         (nat_lt (amount n.dmax) (clock_on_arrival n link frame)) (is_gate_shut n device at) Off ColdStart Domain Member Old Gate e in
         let same = taken_frame (is_relay n device) (is_parent_of n device link) (with_clock (clock_on_arrival n link frame) frame) taken
         (point_on_arrival n at (clock_on_arrival n link frame)) t in
-        (ltb-false (amount n.dmax) (clock_on_arrival n link frame) old, ap (λ (f : Pcf). f.clock) (sym same))
+        (none.0, ltb-false (amount n.dmax) (clock_on_arrival n link frame) none.1, ap (λ (f : Pcf). f.clock) (sym same))
 
 -- ---- legs
 
@@ -121,8 +138,7 @@ leaving_is v way leg is l =
     let s = v.scenario in
     let at = founded_at s v.records leg.leaving is.run.founded l.left in
     let departs = subst (IsCaused s at.front leg.leaving.note.time) l.leaves at.due.cause in
-    let in_all = subst (λ (hs : List Happening). numbered hs leg.giving.note.number ≡ Some departs.giving) (sym at.whole)
-    (numbered_front at.front (leg.leaving ∷ at.rest) leg.giving.note.number departs.giving departs.there) in
+    let in_all = numbered_all at leg.giving.note.number departs.giving departs.there in
     let same : departs.giving ≡ leg.giving = same_some _ _ _ in_all (by_number s v.records leg.giving is.run.founded l.given) in
     let given : time_of departs.giving ≡ time_of leg.giving = ap time_of same in
     let clock = left_with (nat_lt (amount s.network.dmax) (clock_at_leaving s l.sender departs.frame (time_of departs.giving) (time_of leg.leaving)))
@@ -137,9 +153,7 @@ leaving_is v way leg is l =
           λ k at_k. hold_most s leg.link k (way_from s.network l.sender leg.link) (time_of departs.giving) is.lawful at_k
           (all_at (IsLinkInRange s.network) s.network.link leg.link.0 k is.lawful.range.links at_k).hold.least;
       clock = clock ∙ ap (λ (t : ℕ). departs.frame.clock + (s.reading l.sender (time_of leg.leaving) - s.reading l.sender t)) given;
-      left_frame = ap (λ (x : Happening). x.frame) at.due.same ∙ ap (frame_by s.network at.front) l.leaves
-          ∙ ap (λ (o : Option Happening). option_map (with_clock l.left_clock) (option_and_then (λ x. x.frame) o)) departs.there
-          ∙ ap (option_map (with_clock l.left_clock)) departs.of_frame;
+      left_frame = frame_is at _ l.leaves ∙ clocked l.left_clock _ departs.giving departs.frame departs.there departs.of_frame;
     }
 
 -- the record of an arrival, read
@@ -150,14 +164,6 @@ record ArrivingIs (v : View) (leg : Leg) (left arrived_clock : ℕ) : Type 0 whe
   pub at : time_of leg.arriving ≡ time_of leg.leaving + delay
   pub clock : arrived_clock ≡ left + wire_of v.scenario.network leg.link
   pub young : arrived_clock ≤ amount v.scenario.network.dmax
-
--- what was put on the wire
-put_is : (o : Option Pcf) (frame : Pcf) (link : LinkId) (way : Way) (l : Launch) → o ≡ Some frame
-    → option_map (λ f. record { link = link; way = way; signal = control (Ok f) }) o ≡ Some l → l.signal ≡ control (Ok frame)
-put_is o frame link way l e put =
-    ap (λ (x : Launch). x.signal)
-    (sym (same_some (Some (record { link = link; way = way; signal = control (Ok frame) })) (record { link = link; way = way; signal = control (Ok frame) })
-    l refl (sym (ap (option_map (λ f. record { link = link; way = way; signal = control (Ok f) })) e) ∙ put)))
 
 arriving_by : (v : View) (way : Way) (leg : Leg) (is : IsView v) (l : IsLeg v way leg) (frame taken : Pcf) (front : List Happening) (a : Arrival)
     → ((n : ℕ) (h : Happening) → numbered front n ≡ Some h → numbered v.records n ≡ Some h) → leg.leaving.frame ≡ Some frame
@@ -170,9 +176,12 @@ arriving_by v way leg is l frame taken front a in_all framed comes takes shows =
     let launch : Launch = record { link = leg.link; way = comes.arrives.way; signal = comes.signal } in
     let put = subst (λ (h : Happening). launched s h (time_of h) h.note.body ≡ Some launch) same comes.arrives.put in
     let put_left = subst (λ (b : NoteBody). launched s leg.leaving (time_of leg.leaving) b ≡ Some launch) l.leaves put in
-    let signal : comes.signal ≡ control (Ok frame) = put_is leg.leaving.frame frame leg.link (way_from s.network l.sender leg.link) launch framed put_left in
+    let on_wire = mapped (λ (f : Pcf). let x : Launch = record { link = leg.link; way = way_from s.network l.sender leg.link; signal = control (Ok f) } in x)
+    leg.leaving.frame launch put_left in
+    let signal : comes.signal ≡ control (Ok frame) =
+    ap (λ (x : Launch). x.signal) (sym on_wire.2) ∙ ap (λ (f : Pcf). control (Ok f)) (same_some _ _ _ on_wire.1 framed) in
     let arrival = comes.becomes ∙ ap (arrival_of s front l.receiver (time_of leg.arriving) leg.link leg.leaving.note.number) signal in
-    let young = taken_young s.network l.receiver leg.link (standpoint s front l.receiver (time_of leg.arriving)) frame taken
+    let young = taken_sound s.network l.receiver leg.link (standpoint s front l.receiver (time_of leg.arriving)) frame taken
     (subst (λ (x : Arrival). TakesWith x taken) arrival takes) in
     let put_time : time_of comes.putting ≡ time_of leg.leaving = ap time_of same in
     record {
@@ -180,7 +189,7 @@ arriving_by v way leg is l frame taken front a in_all framed comes takes shows =
       way = comes.arrives.way;
       is_delay = refl;
       at = omega (arith, comes.arrives.at, ap (time_on_port s.network leg.link) signal, put_time, ap (delay_at s leg.link comes.arrives.way) put_time);
-      clock = shows ∙ young.1;
+      clock = shows ∙ young.2;
       young = omega (arith, young, shows);
     }
 
@@ -189,14 +198,8 @@ arriving_is : (v : View) (way : Way) (leg : Leg) (is : IsView v) (l : IsLeg v wa
 arriving_is v way leg is l frame framed =
     let at = founded_at v.scenario v.records leg.arriving is.run.founded l.arrived in
     let a = subst (IsCaused v.scenario at.front leg.arriving.note.time) l.arrives at.due.cause in
-    let in_all : (n : ℕ) (h : Happening) → numbered at.front n ≡ Some h
-    → numbered v.records n ≡ Some h = λ n h e. subst (λ (hs : List Happening). numbered hs n ≡ Some h) (sym at.whole)
-    (numbered_front at.front (leg.arriving ∷ at.rest) n h e) in
-    elim a.taken [
-      | inl waits ↦ arriving_by v way leg is l frame a.frame at.front (arrivals.Waits a.frame a.point) in_all framed waits refl a.shows
-      | inr (inl passes) ↦ arriving_by v way leg is l frame a.frame at.front (arrivals.Passes a.frame a.way) in_all framed passes refl a.shows
-      | inr (inr both) ↦ arriving_by v way leg is l frame a.frame at.front (arrivals.PassesAndWaits a.frame a.way a.point) in_all framed both refl a.shows
-    ]
+    let x = taken_as a in
+    arriving_by v way leg is l frame a.frame at.front x.0 (numbered_all at) framed x.1 x.2 a.shows
 
 -- the frame that arrived
 pub arrived_frame : (v : View) (way : Way) (leg : Leg) (frame : Pcf) → IsView v → (l : IsLeg v way leg) → leg.leaving.frame ≡ Some frame
@@ -205,20 +208,10 @@ arrived_frame v way leg frame is l framed =
     let s = v.scenario in
     let at = founded_at s v.records leg.arriving is.run.founded l.arrived in
     let a = subst (IsCaused s at.front leg.arriving.note.time) l.arrives at.due.cause in
-    let put = elim a.taken as (λ _. (h : Happening) × (numbered at.front leg.leaving.note.number ≡ Some h))
-    [ inl w ↦ (w.putting, w.there) | inr (inl p) ↦ (p.putting, p.there) | inr (inr b) ↦ (b.putting, b.there) ] in
-    let in_all : numbered v.records leg.leaving.note.number ≡ Some put.0 = subst (λ (hs : List Happening). numbered hs leg.leaving.note.number ≡ Some put.0)
-    (sym at.whole) (numbered_front at.front (leg.arriving ∷ at.rest) leg.leaving.note.number put.0 put.1) in
-    let same = same_some (numbered v.records leg.leaving.note.number) put.0 leg.leaving in_all (by_number s v.records leg.leaving is.run.founded l.left) in
-    let of_put : put.0.frame ≡ Some frame = ap (λ (h : Happening). h.frame) same ∙ framed in
-    ap (λ (x : Happening). x.frame) at.due.same ∙ ap (frame_by s.network at.front) l.arrives
-    ∙ ap (λ (o : Option Happening). option_map (with_clock l.arrived_clock) (option_and_then (λ x. x.frame) o)) put.1
-    ∙ ap (option_map (with_clock l.arrived_clock)) of_put
-
--- its clock
-arrived_clock_is : (v : View) (way : Way) (leg : Leg) (frame : Pcf) → IsView v → (l : IsLeg v way leg) → leg.leaving.frame ≡ Some frame
-    → clock_in leg.arriving ≡ l.arrived_clock
-arrived_clock_is v way leg frame is l framed = ap (λ (o : Option Pcf). option_map_or (λ f. f.clock) o 0) (arrived_frame v way leg frame is l framed)
+    let put = (taken_as a).1 in
+    let in_all = numbered_all at leg.leaving.note.number put.putting put.there in
+    let same = same_some _ _ _ in_all (by_number s v.records leg.leaving is.run.founded l.left) in
+    frame_is at _ l.arrives ∙ clocked l.arrived_clock _ put.putting frame put.there (ap (λ (h : Happening). h.frame) same ∙ framed)
 
 -- what a leg brings is what was given, but for its clock
 pub leg_frame : (v : View) (way : Way) (leg : Leg) (frame : Pcf) → IsView v → IsLeg v way leg → leg.giving.frame ≡ Some frame → (clock : ℕ)
@@ -233,7 +226,7 @@ leg_hop v way leg link is l there =
     let n = v.scenario.network in
     let d = leaving_is v way leg is l in
     let a = arriving_is v way leg is l (with_clock l.left_clock d.frame) d.left_frame in
-    let clock = arrived_clock_is v way leg (with_clock l.left_clock d.frame) is l d.left_frame in
+    let clock = ap (λ (o : Option Pcf). option_map_or (λ f. f.clock) o 0) (arrived_frame v way leg (with_clock l.left_clock d.frame) is l d.left_frame) in
     let given : clock_in leg.giving ≡ d.frame.clock = ap (λ (o : Option Pcf). option_map_or (λ f. f.clock) o 0) d.of_frame in
     let reading = v.scenario.reading l.sender in
     let drifts = (is.lawful.clocks l.sender).drifts (time_of leg.giving) (time_of leg.leaving) (omega (arith, d.held)) in
@@ -262,3 +255,26 @@ leg_hop v way leg link is l there =
           (arith, h, within.1, all));
       jitter = refl;
     }
+
+-- ---- What a frame says stays as it is on a trip
+
+-- the frame of the record is of the cycle and of the members of the other frame
+pub record SaysSo (h : Happening) (frame : Pcf) : Type 0 where
+  pub carried : Pcf
+  pub is : h.frame ≡ Some carried
+  pub of_cycle : carried.cycle ≡ frame.cycle
+  pub of_members : carried.members ≡ frame.members
+
+-- so is that of the last record of a trip
+pub trip_says : (v : View) (way : Way) (first last : Happening) (legs : List Leg) (frame : Pcf) → IsView v → IsTrip v way first legs last
+    → first.frame ≡ Some frame → SaysSo last frame
+trip_says v way first last [] frame is trip framed = record {
+  carried = frame;
+  is = ap (λ (h : Happening). h.frame) (sym trip) ∙ framed;
+  of_cycle = refl;
+  of_members = refl;
+}
+trip_says v way first last (leg ∷ legs) frame is trip framed =
+    let one = leg_frame v way leg frame is trip.1 (ap (λ (h : Happening). h.frame) trip.0 ∙ framed) in
+    let more = trip_says v way leg.arriving last legs (with_clock one.0 frame) is trip.2 one.1 in
+    record { carried = more.carried; is = more.is; of_cycle = more.of_cycle; of_members = more.of_members }

@@ -1,6 +1,6 @@
 -- The sound channel delivers: up to its compression master, and down from it.
-use Rattle.precision_law.proofs.words.Std.{◌&&◌, ◌*◌, ◌+◌, ◌/◌, ◌<◌, ◌==◌, ◌^◌, ◌∙◌, ◌∷◌, ◌≡◌, ◌≤◌, Bool, IsNone, IsSomeAnd, List, None, Option, Some, [], ap, arith, by_lt_z, eq-eqb, false, fold, if◌then◌else◌, inl, inr, ints, le-ltb, mul-le-mul_left, nat_lt, not, option_and_then, pos, refl, subst, suc, true, ℕ, ℤ}
-use Rattle.precision_law.proofs.words.Plans.{Device, DeviceId, Integrating, IsReach, Joining, LinkId, Network, Pcf, State, Units, amount, device_at, opened, point_of, state_at_start}
+use Rattle.precision_law.proofs.words.Std.{◌&&◌, ◌+◌, ◌==◌, ◌∙◌, ◌∷◌, ◌≡◌, ◌≤◌, Bool, IsNone, IsSomeAnd, List, None, Option, Some, [], ap, arith, by_lt_z, eq-eqb, false, fold, if◌then◌else◌, inl, inr, ints, le-ltb, nat_lt, not, option_and_then, pos, refl, subst, true, ℕ, ℤ}
+use Rattle.precision_law.proofs.words.Plans.{Device, DeviceId, Integrating, IsReach, Joining, LinkId, Network, Pcf, State, amount, device_at, point_of, state_at_start}
 use Rattle.precision_law.proofs.words.Runs.{BeginsOn, ChangesState, ColdStart, Domain, Gate, Happening, IsCaused, IsIn, Member, NoteBody, Old, Reason, Standpoint, Why, earlier, first_reason, founded_at, frame_fault, in_filter, is_cold_start, is_joined_by, is_of_other_member, is_off, is_turned_on_at, standpoint, start_of, state_after, state_before, state_with, time_of, wire_of, with_clock}
 use Rattle.precision_law.proofs.words.Laws.{IsGood, IsOpen, IsPermanentAt, IsSoundSwitch, IsView, View}
 use Rattle.pcf_values.specs.declared.pcf.PcfKind.TheVariants.{Integration}
@@ -28,15 +28,10 @@ stays_on : (v : View) (device : DeviceId) (h : Happening) (old : State) (body : 
 stays_on v device h old (notes.State other state cause why) is i same on =
     let at = founded_at v.scenario v.records h is.run.founded i in
     let changes : ChangesState v.scenario at.front other (time_of h) state cause why = subst (IsCaused v.scenario at.front h.note.time) same at.due.cause in
-    by (device.0 == other.0) (state_is_on v.scenario at.front (time_of h) other state cause why changes)
-  where
-    by : (b : Bool) → is_off state ≡ false → is_off (if b then state else old) ≡ false
-    by true new = new
-    by false new = on
-stays_on v device h old (notes.Permanent other link cause point verdict) is i same on =
-    joined_or (is_joined_by device (notes.Permanent other link cause point verdict)) old on
-stays_on v device h old (notes.Compressed other opened at cycle members verdict) is i same on =
-    joined_or (is_joined_by device (notes.Compressed other opened at cycle members verdict)) old on
+    elim (device.0 == other.0) as (λ b. is_off (if b then state else old) ≡ false) [
+      | true ↦ state_is_on v.scenario at.front (time_of h) other state cause why changes
+      | false ↦ on
+    ]
 stays_on v device h old body is i same on = joined_or (is_joined_by device body) old on
 
 fold_on : (v : View) (device : DeviceId) (hs : List Happening) (old : State) → IsView v → ((h : Happening) → IsIn h hs → IsIn h v.records) → is_off old ≡ false
@@ -48,23 +43,19 @@ fold_on v device (h ∷ hs) old is all on =
 starts_on : (network : Network) (device : DeviceId) → BeginsOn network device → is_off (state_at_start (start_of network device)) ≡ false
 starts_on network device on = by (device_at network device) on
   where
-    by_start : (o : Option Units) → (IsNone o → ⊥) → is_off (state_at_start o) ≡ false
-    by_start None not_none = absurd (not_none refl)
-    by_start (Some start) not_none = refl
-
     by : (o : Option Device) → IsSomeAnd o (λ d. IsNone d.start → ⊥) → is_off (state_at_start (option_and_then (λ d. d.start) o)) ≡ false
     by None on = absurd on
-    by (Some d) on = by_start d.start on
+    by (Some d) on =
+        elim d.start as (λ o. (IsNone o → ⊥) → is_off (state_at_start o) ≡ false) [ None ↦ λ never. absurd (never refl) | Some x ↦ λ never. refl ] on
 
 pub sound_switch_on : (v : View) (device : DeviceId) (t : ℕ) → IsView v → IsSoundSwitch v device → is_off (state_before v.scenario v.records device t) ≡ false
 sound_switch_on v device t is switch =
-    by (is_turned_on_at v.scenario device t) (fold_on v device (earlier t v.records) (state_at_start (start_of v.scenario.network device)) is
-    (λ h i. in_filter (λ h. nat_lt (time_of h) t) v.records h i) (starts_on v.scenario.network device (sound_switches_begin_on v device is switch)))
-  where
-    by : (b : Bool) → is_off (state_after v.scenario (earlier t v.records) device) ≡ false
-        → is_off (if b then Integrating else state_after v.scenario (earlier t v.records) device) ≡ false
-    by true e = refl
-    by false e = e
+    let starts = starts_on v.scenario.network device (sound_switches_begin_on v device is switch) in
+    elim (is_turned_on_at v.scenario device t) as (λ b. is_off (if b then Integrating else state_after v.scenario (earlier t v.records) device) ≡ false) [
+      | true ↦ refl
+      | false ↦ fold_on v device (earlier t v.records) (state_at_start (start_of v.scenario.network device)) is
+          (λ h i. in_filter (λ h. nat_lt (time_of h) t) v.records h i) starts
+    ]
 
 -- ---- no fault
 
@@ -100,18 +91,6 @@ no_fault v device link u clock frame is clean good within on is_open member smal
     let at : Standpoint = standpoint v.scenario v.records device u in
     none_holds _ _ _ _ _ _ IsOffReason ColdStart Domain Member Old Gate (taking_part _ _ on (good_is_correct v device u good within))
     (ap is_cold_start clean.kind) (same_domain _ _ _ _ clean.priority clean.domain) member (le-ltb (amount n.dmax) (clock + wire_of n link) small) is_open
-
--- ---- the budget of a path
-
-pub budget : (rho g dmax path jitter links d e more k m clock next : ℕ) → path ≡ jitter + 4 * rho * dmax / 10 ^ 9 + 8 * g * (links + 2)
-    → path + (d + (e + more)) ≤ dmax → k + suc m ≤ links
-    → 10 ^ 9 * clock ≤ 10 ^ 9 * d + rho * d + 2 * g * 10 ^ 9 * k → 10 ^ 9 * next ≤ 10 ^ 9 * clock + 10 ^ 9 * e + rho * e + 2 * g * 10 ^ 9
-    → (next ≤ dmax) × (10 ^ 9 * next ≤ 10 ^ 9 * (d + e) + rho * (d + e) + 2 * g * 10 ^ 9 * (k + 1))
-budget rho g dmax path jitter links d e more k m clock next is fits few before grows =
-    let drift : rho * (d + e) ≤ rho * dmax = mul-le-mul_left rho (omega (arith, fits)) in
-    let grains : g * (k + 1) ≤ g * (links + 2) = mul-le-mul_left g (omega (arith, few)) in
-    let floor : 4 * rho * dmax < 10 ^ 9 * (4 * rho * dmax / 10 ^ 9 + 1) = omega arith in
-    (omega (arith, is, fits, before, grows, drift, grains, floor), omega (arith, before, grows))
 
 -- ---- permanence
 

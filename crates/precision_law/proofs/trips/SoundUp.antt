@@ -1,12 +1,13 @@
 -- The sound channel brings dispatches up to its compression master.
-use Rattle.precision_law.proofs.words.Std.{◌&&◌, ◌*◌, ◌+◌, ◌==◌, ◌^◌, ◌∙◌, ◌∷◌, ◌≡◌, ◌≤◌, ◌⊎◌, Bool, List, None, Option, Some, [], ap, arith, both_ways, eq-eqb, false, if◌then◌else◌, inl, inr, ints, is_some, length, not, not-true, option_map, option_map_or, refl, subst, suc, sum_by-cons, sym, true, unwrap_or, ℕ}
-use Rattle.precision_law.proofs.words.Plans.{A, B, Channel, Cm, CompressionMasters, Device, DeviceId, Down, IsChildOf, IsCmOf, IsDeviceInRange, IsDeviceOf, IsPath, IsSwitchOf, Joints, Link, LinkId, Master, Pcf, Relay, Role, Up, all_at, amount, beta_at, closed, delay_by, delay_of, delay_on, device_at, is_end_system, is_master, link_at, margins, opened, rules_give_trees, shape_rules, target_by}
-use Rattle.precision_law.proofs.words.Runs.{Gives, Happening, IsCaused, IsIn, IsParentOf, NoteBody, are_others, dispatched_frame, founded_at, frame_by, is_end, is_of_other_member, is_parent_of, is_relay, is_relay_role, member_of, receiver_of, same_some, time_of, with_clock}
+use Rattle.precision_law.proofs.words.Std.{◌&&◌, ◌+◌, ◌==◌, ◌^◌, ◌∙◌, ◌∷◌, ◌≡◌, ◌≤◌, ◌⊎◌, Bool, List, Option, Some, [], ap, arith, both_ways, eq-eqb, false, inl, inr, is_some, length, not, not-true, option_map, option_map_or, refl, subst, suc, sym, true, ℕ}
+use Rattle.precision_law.proofs.words.Plans.{A, B, Channel, Cm, CompressionMasters, Device, DeviceId, IsChildOf, IsCmOf, IsDeviceInRange, IsDeviceOf, IsPath, IsSwitchOf, Joints, Link, LinkId, Master, Pcf, Relay, Role, Up, all_at, amount, closed, delay_by, delay_on, device_at, is_end_system, is_master, link_at, margins, opened, rules_give_trees, shape_rules, target_by}
+use Rattle.precision_law.proofs.words.Runs.{Gives, Happening, IsCaused, IsIn, IsParentOf, NoteBody, are_others, dispatched_frame, founded_at, frame_by, is_end, is_of_other_member, is_relay, is_relay_role, member_of, receiver_of, same_some, time_of, with_clock}
 use Rattle.precision_law.proofs.words.Laws.{AreOpenFrom, IsBrought, IsGood, IsSoundSwitch, IsTrip, IsView, Leg, SoundFramesGoUp, View, clock_in}
-use Rattle.precision_law.proofs.words.Clocks.{HasGone, IsClean, IsGivenOn, arrives_at, budget, child_down, device_of, goes_over, good_is_correct, leaves_at, master_ends, master_member, no_fault, receiver_up, sizes_are, sound_switch_on, sound_ways_are_whole, switches_are_good, takes_at_most, will_be_permanent}
+use Rattle.precision_law.proofs.words.Clocks.{IsClean, child_ways, device_of, master_ends, master_member, receiver_way, sizes_are, sound_switch_on, switches_are_good, will_be_permanent}
 use Rattle.run_law.specs.declared.note.NoteBody.TheVariants as notes
 use Rattle.precision_law.proofs.compression.Made.{dispatch_clock}
 use Rattle.precision_law.proofs.trips.Upward.{path_up, trips_up_take_dmax}
+use Rattle.precision_law.proofs.trips.SoundLinks.{HasCome, HasGrown, comes_over, delay_more}
 
 -- ---- roles
 
@@ -36,10 +37,6 @@ child_relays v device channel link l is at child switch =
     ] in
     ap (is_relay n) (sym child) ∙ relays
 
-turned : (b : Bool) → (if b then Up else Down) ≡ Down → (if b then Down else Up) ≡ Up
-turned true e = absurd cc
-turned false e = refl
-
 last_false : (a b c : Bool) → (b ≡ true → c ≡ false) → (a && b && c) ≡ false
 last_false true true c f = f refl
 last_false a b c f = refl
@@ -51,7 +48,7 @@ one_cm v B a b is x y = (let one = (is.lawful.rules CompressionMasters 1).on_b r
 
 -- ---- one link up
 
--- a frame that is given to the first link of a path, and has been on its way for this long over so many links
+-- a frame that is given to the first link of a path, and has been on its way for so long over so many links
 record CanGoUp (v : View) (t0 : ℕ) (link : LinkId) (rest : List LinkId) (r : Happening) (frame : Pcf) (sender : DeviceId) (d k links : ℕ) : Type 0 where
   pub path : IsPath v.scenario.network v.channel sender (link ∷ rest)
   pub there : IsIn r v.records
@@ -60,87 +57,64 @@ record CanGoUp (v : View) (t0 : ℕ) (link : LinkId) (rest : List LinkId) (r : H
   pub gives : Gives v.scenario.network r.note.body sender link
   pub good : IsGood v sender
   pub member : is_end v.scenario.network sender ≡ true → are_others (member_of v.scenario.network sender) frame.members ≡ false
-  pub clock : 10 ^ 9 * frame.clock ≤ 10 ^ 9 * d + v.scenario.network.rho * d + 2 * amount v.scenario.network.grain * 10 ^ 9 * k
+  pub clock : HasGrown v frame.clock d k
   pub time : time_of r ≤ t0 + d
   pub after : t0 ≤ time_of r
   pub fits : v.sizes.path + (d + delay_on v.scenario.network (link ∷ rest)) ≤ v.sizes.dmax
   pub few : k + suc (length rest) ≤ links
 
-record Stepped (v : View) (t0 : ℕ) (link : LinkId) (rest : List LinkId) (r : Happening) (frame : Pcf) (d k links : ℕ) : Type 0 where
+-- it has come up the link, to a switch that has the rest of the path
+record Stepped (v : View) (t0 : ℕ) (link : LinkId) (rest : List LinkId) (r : Happening) (frame : Pcf) (d k : ℕ) : Type 0 where
   pub l : Link
   pub at : link_at v.scenario.network link ≡ Some l
   pub switch : IsSoundSwitch v l.parent
   pub path : IsPath v.scenario.network v.channel l.parent rest
-  pub gone : HasGone v Up r frame l.parent link l
-  pub small : gone.clock ≤ amount v.scenario.network.dmax
-  pub clock : 10 ^ 9 * gone.clock ≤ 10 ^ 9 * (d + delay_by l) + v.scenario.network.rho * (d + delay_by l) + 2 * amount v.scenario.network.grain * 10 ^
-      9 * (k + 1)
-  pub time : time_of gone.arriving ≤ t0 + (d + delay_by l)
-  pub after : t0 ≤ time_of gone.arriving
-  pub fits : v.sizes.path + ((d + delay_by l) + delay_on v.scenario.network rest) ≤ v.sizes.dmax
+  pub come : HasCome v Up t0 r frame l.parent link l d k
 
 step_up : (v : View) (t0 : ℕ) (link : LinkId) (rest : List LinkId) (r : Happening) (frame : Pcf) (sender : DeviceId) (d k : ℕ) (is : IsView v)
     → CanGoUp v t0 link rest r frame sender d k is.beta.links → AreOpenFrom v t0 → t0 + v.sizes.dmax + v.sizes.path ≤ v.until
-    → Stepped v t0 link rest r frame d k is.beta.links
+    → Stepped v t0 link rest r frame d k
 step_up v t0 link rest r frame sender d k is c opens in_run =
     let n = v.scenario.network in
     let l = opened (λ (x : Link). (x.child ≡ sender) × IsSwitchOf n v.channel x.parent × IsPath n v.channel x.parent rest) (link_at n link) c.path in
     let receiver : DeviceId = l.0.parent in
     let child : IsChildOf n sender link = closed (λ (x : Link). x.child ≡ sender) (link_at n link) l.0 l.1 l.2.0 in
     let to : receiver_of n link Up ≡ Some receiver = ap (λ (o : Option Link). option_map (target_by Up) o) l.1 in
-    let delay = sum_by-cons (delay_of n) link rest ∙ ap (λ (x : ℕ). x + delay_on n rest) (ap (λ (o : Option Link). option_map_or delay_by o 0) l.1) in
-    let takes = takes_at_most v Up link l.0 (time_of r) is l.1 in
-    let value : v.sizes.path ≡ beta_at n is.beta.jitter is.beta.links = omega (arith, ints, is.beta.value) in
-    let fits : v.sizes.path + ((d + delay_by l.0) + delay_on n rest) ≤ v.sizes.dmax = omega (arith, c.fits, delay) in
-    let fits_so : v.sizes.path + (d + (delay_by l.0 + delay_on n rest)) ≤ amount n.dmax = omega (arith, fits, (sizes_are v is).dmax) in
-    let u : ℕ = arrives_at v.scenario link Up (time_of r) in
-    let soon : u ≤ t0 + (d + delay_by l.0) = omega (arith, takes.0, c.time) in
-    let within : u ≤ v.until = omega (arith, soon, fits, in_run) in
-    let behind : t0 ≤ u = omega (arith, c.after) in
-    let g : IsGivenOn v Up r frame sender receiver link l.0 = record {
-      given = c.there;
-      of_frame = c.of_frame;
-      gives = c.gives;
-      there = l.1;
-      from_way = turned (is_parent_of n sender link) (child_down v sender link is child);
-      on_way = receiver_up n link receiver to;
-      comes_to = to;
-      correct = good_is_correct v sender (leaves_at v.scenario link Up (time_of r)) c.good (omega (arith, takes.1, within));
-      whole =
-          sound_ways_are_whole v link Up (leaves_at v.scenario link Up (time_of r)) is
-          (closed (λ (x : Link). IsSwitchOf n v.channel x.parent) (link_at n link) l.0 l.1 l.2.1) (omega (arith, takes.1, within));
-    } in
-    let spend : (next : ℕ) → 10 ^ 9 * next ≤ 10 ^ 9 * frame.clock + 10 ^ 9 * delay_by l.0 + n.rho * delay_by l.0 + 2 * amount n.grain * 10 ^ 9
-    → (next ≤ amount n.dmax) × (10 ^ 9 * next ≤ 10 ^ 9 * (d + delay_by l.0) + n.rho * (d + delay_by l.0) + 2 * amount n.grain * 10 ^ 9 * (k + 1)) =
-    λ next grows. budget n.rho (amount n.grain) (amount n.dmax) _ is.beta.jitter is.beta.links d (delay_by l.0) (delay_on n rest) k
-    (length rest) frame.clock next value fits_so c.few c.clock grows in
     let member : is_of_other_member n receiver link frame.members ≡ false =
     ap (λ (o : Option Link). option_map_or (λ x. x.parent.0 == receiver.0 && is_end n x.child && are_others (member_of n x.child) frame.members) o false) l.1
     ∙ last_false (l.0.parent.0 == receiver.0) (is_end n l.0.child) (are_others (member_of n l.0.child) frame.members)
     (subst (λ (x : DeviceId). is_end n x ≡ true → are_others (member_of n x) frame.members ≡ false) (sym l.2.0) c.member) in
-    let gone = goes_over v Up r frame sender receiver link l.0 is g (λ next grows. (spend next grows).0)
-    (λ next small. no_fault v receiver link u next frame is c.clean (switches_are_good v v.channel receiver is l.2.1) within
-    (sound_switch_on v receiver u is l.2.1) (opens receiver u l.2.1 behind (omega (arith, soon, fits))) member small) within in
-    let spent = spend gone.clock gone.grows in
     record {
       l = l.0;
       at = l.1;
       switch = l.2.1;
       path = l.2.2;
-      gone = gone;
-      small = spent.0;
-      clock = spent.1;
-      time = omega (arith, gone.at, soon);
-      after = omega (arith, gone.at, behind);
-      fits = fits;
+      come = comes_over v Up t0 r frame sender receiver link l.0 d k is (record {
+        given = record {
+          given = c.there;
+          of_frame = c.of_frame;
+          gives = c.gives;
+          there = l.1;
+          from_way = (child_ways v sender link is child).1;
+          on_way = receiver_way v link receiver Up is to;
+          comes_to = to;
+        };
+        switch = l.2.1;
+        clean = c.clean;
+        good = c.good;
+        taken_by = switches_are_good v v.channel receiver is l.2.1;
+        ready = λ u from till. (sound_switch_on v receiver u is l.2.1, opens receiver u l.2.1 from till);
+        mine = member;
+        clock = c.clock;
+        time = c.time;
+        after = c.after;
+      }) (omega (arith, c.fits, delay_more n link l.0 rest l.1)) (omega (arith, c.few)) in_run;
     }
 
 -- ---- up to the compression master
 
-record GoesUp (v : View) (r : Happening) : Type 0 where
-  pub legs : List Leg
-  pub last : Happening
-  pub trip : IsTrip v Up r legs last
+-- the frame has arrived at the compression master
+record IsAtCm (v : View) (last : Happening) : Type 0 where
   pub cm : DeviceId
   pub is_cm : IsCmOf v.scenario.network v.channel cm
   pub link : LinkId
@@ -150,57 +124,60 @@ record GoesUp (v : View) (r : Happening) : Type 0 where
   pub clock_is : clock_in last ≡ clock
   pub small : clock ≤ amount v.scenario.network.dmax
 
+record GoesUp (v : View) (r : Happening) : Type 0 where
+  pub legs : List Leg
+  pub last : Happening
+  pub trip : IsTrip v Up r legs last
+  pub come : IsAtCm v last
+
 go_up : (v : View) (t0 : ℕ) (link : LinkId) (rest : List LinkId) (r : Happening) (frame : Pcf) (sender : DeviceId) (d k : ℕ) (is : IsView v)
     → CanGoUp v t0 link rest r frame sender d k is.beta.links → AreOpenFrom v t0 → t0 + v.sizes.dmax + v.sizes.path ≤ v.until → GoesUp v r
 go_up v t0 link [] r frame sender d k is c opens in_run =
     let p = step_up v t0 link [] r frame sender d k is c opens in_run in
+    let gone = p.come.gone in
     record {
-      legs = record { link = link; giving = r; leaving = p.gone.leaving; arriving = p.gone.arriving } ∷ [];
-      last = p.gone.arriving;
-      trip = (refl, p.gone.is, refl);
-      cm = p.l.parent;
-      is_cm = p.path;
-      link = link;
-      cause = p.gone.cause;
-      clock = p.gone.clock;
-      body = p.gone.body;
-      clock_is = ap (λ (o : Option Pcf). option_map_or (λ f. f.clock) o 0) p.gone.of_frame;
-      small = p.small;
+      legs = record { link = link; giving = r; leaving = gone.leaving; arriving = gone.arriving } ∷ [];
+      last = gone.arriving;
+      trip = (refl, gone.is, refl);
+      come = record {
+        cm = p.l.parent;
+        is_cm = p.path;
+        link = link;
+        cause = gone.cause;
+        clock = gone.clock;
+        body = gone.body;
+        clock_is = ap (λ (o : Option Pcf). option_map_or (λ f. f.clock) o 0) gone.of_frame;
+        small = p.come.small;
+      };
     }
 go_up v t0 link (next ∷ rest) r frame sender d k is c opens in_run =
     let n = v.scenario.network in
     let p = step_up v t0 link (next ∷ rest) r frame sender d k is c opens in_run in
+    let gone = p.come.gone in
     let device : DeviceId = p.l.parent in
     let m = opened (λ (x : Link). (x.child ≡ device) × IsSwitchOf n v.channel x.parent × IsPath n v.channel x.parent rest) (link_at n next) p.path in
     let relay = child_relays v device v.channel next m.0 is m.1 m.2.0 p.switch in
     let parent : IsParentOf n device link = closed (λ (x : Link). x.parent ≡ device) (link_at n link) p.l p.at refl in
     let child : IsChildOf n device next = closed (λ (x : Link). x.child ≡ device) (link_at n next) m.0 m.1 m.2.0 in
-    let more = go_up v t0 next rest p.gone.arriving (with_clock p.gone.clock frame) device (d + delay_by p.l) (k + 1) is (record {
+    let more = go_up v t0 next rest gone.arriving (with_clock gone.clock frame) device (d + delay_by p.l) (suc k) is (record {
       path = p.path;
-      there = p.gone.is.arrived;
-      of_frame = p.gone.of_frame;
+      there = gone.is.arrived;
+      of_frame = gone.of_frame;
       clean = record { kind = c.clean.kind; priority = c.clean.priority; domain = c.clean.domain };
-      gives = subst (λ (b : NoteBody). Gives n b device next) (sym p.gone.body) (refl, record { relay = relay; on = inl (parent, child) });
+      gives = subst (λ (b : NoteBody). Gives n b device next) (sym gone.body) (refl, record { relay = relay; on = inl (parent, child) });
       good = switches_are_good v v.channel device is p.switch;
       member = λ ends. absurd (both_ways (is_end n device) (switch_ends v device v.channel is p.switch) ends);
-      clock = p.clock;
-      time = p.time;
-      after = p.after;
-      fits = p.fits;
+      clock = p.come.clock;
+      time = p.come.time;
+      after = p.come.after;
+      fits = omega (arith, c.fits, delay_more n link p.l (next ∷ rest) p.at);
       few = omega (arith, c.few);
     }) opens in_run in
     record {
-      legs = record { link = link; giving = r; leaving = p.gone.leaving; arriving = p.gone.arriving } ∷ more.legs;
+      legs = record { link = link; giving = r; leaving = gone.leaving; arriving = gone.arriving } ∷ more.legs;
       last = more.last;
-      trip = (refl, p.gone.is, more.trip);
-      cm = more.cm;
-      is_cm = more.is_cm;
-      link = more.link;
-      cause = more.cause;
-      clock = more.clock;
-      body = more.body;
-      clock_is = more.clock_is;
-      small = more.small;
+      trip = (refl, gone.is, more.trip);
+      come = more.come;
     }
 
 -- ---- the law
@@ -208,10 +185,6 @@ go_up v t0 link (next ∷ rest) r frame sender d k is c opens in_run =
 master_no_cm : (role : Role) → is_master role ≡ true → role ≡ Cm → ⊥
 master_no_cm Master e f = cc
 master_no_cm role e f = cc
-
-own_member : (o : Option ℕ) (m : ℕ) → o ≡ Some m → are_others o (record { 0 = 2 ^ unwrap_or o 0 }) ≡ false
-own_member None m e = absurd cc
-own_member (Some x) m e = ap not (eq-eqb (2 ^ x) (2 ^ x) refl)
 
 -- the delays of a path leave room for its error
 pub path_fits : (v : View) (channel : Channel) (device : DeviceId) (links : List LinkId) (is : IsView v) → IsDeviceOf v.scenario.network channel device
@@ -230,46 +203,43 @@ sound_frames_go_up v h master cm cycle is d one opens in_run =
     role.0 role.1 (inl (master_ends role.0.role role.2)) in
     let reach = (rules_give_trees n (shape_rules n is.lawful.rules)).reach v.channel master of_channel in
     let framed : h.frame ≡ Some (dispatched_frame n master cycle) = ap (λ (x : Happening). x.frame) at.due.same ∙ ap (frame_by n at.front) d.is in
-    by reach.0 reach.2 role of_channel (master_member v master is sends.master) framed
-  where
-    by : (links : List LinkId) → IsPath v.scenario.network v.channel master links
-        → (role : (x : Device) × (device_at v.scenario.network master ≡ Some x) × (is_master x.role ≡ true)) → IsDeviceOf v.scenario.network v.channel master
-        → (m : (x : ℕ) × (member_of v.scenario.network master ≡ Some x)) → h.frame ≡ Some (dispatched_frame v.scenario.network master cycle)
-        → IsBrought v Up h cm
-    by [] path role of_channel m framed =
-        let e = opened (λ (x : Device). (x.role ≡ Cm) × (x.channel ≡ Some v.channel)) (device_at v.scenario.network master) path in
-        let same : e.0 ≡ role.0 = same_some (device_at v.scenario.network master) e.0 role.0 e.1 role.1 in
-        absurd (master_no_cm role.0.role role.2 (ap (λ (x : Device). x.role) (sym same) ∙ e.2.0))
-    by (link ∷ rest) path role of_channel m framed =
-        let n = v.scenario.network in
-        let l = opened (λ (x : Link). (x.child ≡ master) × IsSwitchOf n v.channel x.parent × IsPath n v.channel x.parent rest) (link_at n link) path in
-        let child : IsChildOf n master link = closed (λ (x : Link). x.child ≡ master) (link_at n link) l.0 l.1 l.2.0 in
-        let fits = path_fits v v.channel master (link ∷ rest) is of_channel path in
-        let goes = go_up v (time_of h) link rest h (dispatched_frame n master cycle) master 0 0 is (record {
-          path = path;
-          there = d.there;
-          of_frame = framed;
-          clean = record { kind = refl; priority = refl; domain = refl };
-          gives = subst (λ (b : NoteBody). Gives n b master link) (sym d.is) (refl, child);
-          good = d.good;
-          member = λ ends. own_member (member_of n master) m.0 m.1;
-          clock = omega arith;
-          time = omega arith;
-          after = omega arith;
-          fits = omega (arith, fits.0);
-          few = omega (arith, fits.1);
-        }) opens in_run in
-        let body = goes.body ∙ ap (λ (x : DeviceId). notes.Arrived x goes.link goes.cause goes.clock) (one_cm v v.channel goes.cm cm is goes.is_cm one) in
-        let will = will_be_permanent v goes.last cm goes.link goes.cause goes.clock is body (omega (arith, goes.small, sizes_are v is)) in
-        let up = path_up v v.channel h goes.last goes.legs master cm cycle goes.link goes.cause goes.clock is one goes.trip body d.is in
-        record {
-          legs = goes.legs;
-          last = goes.last;
-          trip = goes.trip;
-          point = will.point;
-          q = will.q;
-          permanent = will.permanent;
-          in_time =
-              trips_up_take_dmax v h goes.last goes.legs v.channel master cm will.point will.q is of_channel up (dispatch_clock v h master cycle is d) goes.trip
-              will.permanent (goes.clock_is ∙ sym will.same);
-        }
+    let m = master_member v master is sends.master in
+    elim reach.0 as (λ links. IsPath n v.channel master links → IsBrought v Up h cm) [
+      | [] ↦ λ path.
+          let e = opened (λ (x : Device). (x.role ≡ Cm) × (x.channel ≡ Some v.channel)) (device_at n master) path in
+          let same : e.0 ≡ role.0 = same_some (device_at n master) e.0 role.0 e.1 role.1 in
+          absurd (master_no_cm role.0.role role.2 (ap (λ (x : Device). x.role) (sym same) ∙ e.2.0))
+      | link ∷ rest ↦ λ path.
+          let l = opened (λ (x : Link). (x.child ≡ master) × IsSwitchOf n v.channel x.parent × IsPath n v.channel x.parent rest) (link_at n link) path in
+          let child : IsChildOf n master link = closed (λ (x : Link). x.child ≡ master) (link_at n link) l.0 l.1 l.2.0 in
+          let fits = path_fits v v.channel master (link ∷ rest) is of_channel path in
+          let goes = go_up v (time_of h) link rest h (dispatched_frame n master cycle) master 0 0 is (record {
+            path = path;
+            there = d.there;
+            of_frame = framed;
+            clean = record { kind = refl; priority = refl; domain = refl };
+            gives = subst (λ (b : NoteBody). Gives n b master link) (sym d.is) (refl, child);
+            good = d.good;
+            member = λ ends. rw m.1 (ap not (eq-eqb (2 ^ m.0) (2 ^ m.0) refl));
+            clock = omega arith;
+            time = omega arith;
+            after = omega arith;
+            fits = omega (arith, fits.0);
+            few = omega (arith, fits.1);
+          }) opens in_run in
+          let come = goes.come in
+          let body = come.body ∙ ap (λ (x : DeviceId). notes.Arrived x come.link come.cause come.clock) (one_cm v v.channel come.cm cm is come.is_cm one) in
+          let will = will_be_permanent v goes.last cm come.link come.cause come.clock is body (omega (arith, come.small, sizes_are v is)) in
+          let up = path_up v v.channel h goes.last goes.legs master cm cycle come.link come.cause come.clock is one goes.trip body d.is in
+          record {
+            legs = goes.legs;
+            last = goes.last;
+            trip = goes.trip;
+            point = will.point;
+            q = will.q;
+            permanent = will.permanent;
+            in_time =
+                trips_up_take_dmax v h goes.last goes.legs v.channel master cm will.point will.q is of_channel up (dispatch_clock v h master cycle is d)
+                goes.trip will.permanent (come.clock_is ∙ sym will.same);
+          }
+    ] reach.2

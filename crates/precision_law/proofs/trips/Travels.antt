@@ -1,12 +1,11 @@
 -- What the legs of a trip add up to, and the path that they go.
-use Rattle.precision_law.proofs.words.Std.{◌+◌, ◌==◌, ◌∙◌, ◌∷◌, ◌≡◌, ◌≤◌, All, All-cons, All-nil, List, Option, Some, [], ap, arith, eqb-true, false, fold, length, option_and_then, option_map, option_map_or, refl, subst, suc, sum_by, sum_by-cons, sym, true, ℕ}
-use Rattle.precision_law.proofs.words.Plans.{Channel, Device, DeviceId, Down, Hop, IsHop, IsPath, IsSwitchOf, Link, LinkId, Network, Way, amount, closed, device_at, growth, jitter_of, jitter_on, link_at, target_by, travel}
-use Rattle.precision_law.proofs.words.Runs.{Gives, Happening, IsCaused, NoteBody, channel_of, founded_at, is_parent_of, is_relay, time_of}
+use Rattle.precision_law.proofs.words.Std.{◌+◌, ◌∙◌, ◌∷◌, ◌≡◌, ◌≤◌, All, All-cons, All-nil, List, Option, Some, [], ap, arith, fold, length, option_and_then, option_map, refl, subst, suc, sum_by, sum_by-cons, sym, true, ℕ}
+use Rattle.precision_law.proofs.words.Plans.{Channel, Device, DeviceId, Down, Hop, IsHop, IsPath, IsSwitchOf, Link, LinkId, Network, Pcf, Way, amount, closed, device_at, growth, jitter_of, jitter_on, link_at, opened, target_by, travel}
+use Rattle.precision_law.proofs.words.Runs.{Gives, Happening, IsCaused, NoteBody, channel_of, channel_of_link, cycle_in, founded_at, is_relay, members_in, same_some, time_of, with_clock}
 use Rattle.precision_law.proofs.words.Laws.{IsLeg, IsTrip, IsView, Leg, View, clock_in, links_back}
-use Rattle.precision_law.proofs.words.Clocks.{child_channel, leg_hop, parent_by}
+use Rattle.precision_law.proofs.words.Clocks.{arrived_frame, child_channel, gives_down, leaving_is, leg_hop, reached, same_cycle}
 use Rattle.run_law.specs.declared.note.NoteBody.TheVariants as notes
 use Rattle.precision_law.proofs.block.Joins.{arrival_link}
-use Rattle.precision_law.proofs.Plain.{reached}
 
 -- ---- sums
 
@@ -52,21 +51,17 @@ adds_up v way first last (leg ∷ legs) is trip =
       jitter = omega (arith, sum_by-cons (λ (h : Hop). h.jitter) hop.hop more.hops, sum_by-cons (λ (x : Leg). jitter_of v.scenario.network x.link) leg legs);
     }
 
--- what a trip's last leg brings is not too old
+-- what a trip brings is not too old
+stays_young : (v : View) (way : Way) (first last : Happening) (legs : List Leg) → IsView v → IsTrip v way first legs last
+    → clock_in first ≤ amount v.scenario.network.dmax → clock_in last ≤ amount v.scenario.network.dmax
+stays_young v way first last [] is trip young = (let same : clock_in first ≡ clock_in last = ap clock_in trip in omega (arith, same, young))
+stays_young v way first last (leg ∷ legs) is trip young =
+    let link = leg_link v way leg is trip.1 in
+    stays_young v way leg.arriving last legs is trip.2 (leg_hop v way leg link.0 is trip.1 link.1).young
+
 pub last_young : (v : View) (way : Way) (first last : Happening) (legs : List Leg) → IsView v → IsTrip v way first legs last → clock_in first ≡ 0
     → clock_in last ≤ amount v.scenario.network.dmax
-last_young v way first last [] is trip zero_clock = (let c : clock_in first ≡ clock_in last = ap clock_in trip in omega (arith, c, zero_clock))
-last_young v way first last (leg ∷ []) is trip zero_clock =
-    let link = leg_link v way leg is trip.1 in
-    (omega (arith, ap clock_in trip.2, (leg_hop v way leg link.0 is trip.1 link.1).young))
-last_young v way first last (leg ∷ next ∷ legs) is trip zero_clock = last_of_more v way leg.arriving last next legs is trip.2
-  where
-    last_of_more : (v : View) (way : Way) (first last : Happening) (leg : Leg) (legs : List Leg) → IsView v → IsTrip v way first (leg ∷ legs) last
-        → clock_in last ≤ amount v.scenario.network.dmax
-    last_of_more v way first last leg [] is trip =
-        let link = leg_link v way leg is trip.1 in
-        (omega (arith, ap clock_in trip.2, (leg_hop v way leg link.0 is trip.1 link.1).young))
-    last_of_more v way first last leg (next ∷ legs) is trip = last_of_more v way leg.arriving last next legs is trip.2
+last_young v way first last legs is trip zero_clock = stays_young v way first last legs is trip (omega (arith, zero_clock))
 
 -- ---- links from the last to the first
 
@@ -99,9 +94,8 @@ pub leg_down : (v : View) (leg : Leg) → IsView v → (l : IsLeg v Down leg) �
 leg_down v leg is l =
     let link = leg_link v Down leg is l in
     let to : Some link.0.child ≡ Some l.receiver = ap (λ (o : Option Link). option_map (target_by Down) o) (sym link.1) ∙ l.comes_to in
-    let parent = parent_by (is_parent_of v.scenario.network l.sender leg.link) l.from_way in
-    let shown = sym (ap (λ (o : Option Link). option_map_or (λ k. k.parent.0 == l.sender.0) o false) link.1) ∙ parent in
-    (link.0, link.1, cc, ap (λ (i : ℕ). let d : DeviceId = record { 0 = i } in d) (eqb-true link.0.parent.0 l.sender.0 shown))
+    let p = opened (λ (k : Link). k.parent ≡ l.sender) (link_at v.scenario.network leg.link) (gives_down v.scenario.network l.sender leg.link l.from_way) in
+    (link.0, link.1, cc, ap (λ (k : Link). k.parent) (same_some _ _ _ link.1 p.1) ∙ p.2)
 
 -- what gives a frame down is of the channel, and has this path
 pub record GivesDown (v : View) (channel : Channel) (first : Happening) (giver : DeviceId) (links : List LinkId) : Type 0 where
@@ -120,8 +114,7 @@ through v channel leg is l m at child parent of_sender relay =
 
 pub path_down : (v : View) (channel : Channel) (first last : Happening) (legs : List Leg) (giver : DeviceId) (links : List LinkId) → IsView v
     → GivesDown v channel first giver links → IsTrip v Down first legs last → (device : DeviceId) (link : LinkId) (cause clock : ℕ)
-    → last.note.body ≡ notes.Arrived device link cause clock
-    → IsPath v.scenario.network channel device (fold (λ links leg. leg.link ∷ links) links legs)
+    → last.note.body ≡ notes.Arrived device link cause clock → IsPath v.scenario.network channel device (fold (λ links leg. leg.link ∷ links) links legs)
 path_down v channel first last [] giver links is g trip device link cause clock body =
     let at : first.note.body ≡ notes.Arrived device link cause clock = ap (λ (h : Happening). h.note.body) trip ∙ body in
     subst (λ (d : DeviceId). IsPath v.scenario.network channel d links) (sym (g.arrived device link cause clock at)) g.path
@@ -146,3 +139,67 @@ path_down v channel first last (leg ∷ legs) giver links is g trip device link 
           λ d k c t e. (let one : notes.Arrived l.receiver leg.link leg.leaving.note.number l.arrived_clock ≡ notes.Arrived d k c t = sym l.arrives
           ∙ e in let same : d ≡ l.receiver = cc in same);
     }) trip.2 device link cause clock body
+
+-- ---- A frame keeps its cycle and its members on its way down, and stays on the channel
+
+-- the later record is of the same frame as the earlier one, but for its clock
+pub record KeepsFrame (g h : Happening) : Type 0 where
+  pub frame : Pcf
+  pub of_frame : h.frame ≡ Some frame
+  pub cycle : cycle_in g ≡ cycle_in h
+  pub members : members_in g ≡ members_in h
+
+leg_keeps : (v : View) (way : Way) (leg : Leg) → IsView v → IsLeg v way leg → KeepsFrame leg.giving leg.arriving
+leg_keeps v way leg is l =
+    let left = leaving_is v way leg is l in
+    let arrived = arrived_frame v way leg (with_clock l.left_clock left.frame) is l left.left_frame in
+    let first = same_cycle leg.leaving leg.giving left.frame l.left_clock left.of_frame left.left_frame in
+    let second = same_cycle leg.arriving leg.leaving (with_clock l.left_clock left.frame) l.arrived_clock left.left_frame arrived in
+    record {
+      frame = with_clock l.arrived_clock (with_clock l.left_clock left.frame);
+      of_frame = arrived;
+      cycle = first.0 ∙ second.0;
+      members = first.1 ∙ second.1;
+    }
+
+-- the last leg of a way down, and what came by it
+pub record EndsSo (v : View) (channel : Channel) (first last : Happening) : Type 0 where
+  pub leg : Leg
+  pub is : IsLeg v Down leg
+  pub ends : leg.arriving ≡ last
+  pub keeps : KeepsFrame first last
+  pub of_channel : channel_of_link v.scenario.network leg.link ≡ Some channel
+
+pub ends_so : (v : View) (channel : Channel) (first last : Happening) (leg : Leg) (legs : List Leg) → IsView v
+    → ((d : DeviceId) (k : LinkId) → Gives v.scenario.network first.note.body d k → channel_of v.scenario.network d ≡ Some channel)
+    → IsTrip v Down first (leg ∷ legs) last → EndsSo v channel first last
+ends_so v channel first last leg [] is of_channel trip =
+    let n = v.scenario.network in
+    let l = trip.1 in
+    let gives : Gives n first.note.body l.sender leg.link = subst (λ (h : Happening). Gives n h.note.body l.sender leg.link) trip.0 l.gives in
+    let at = leg_down v leg is l in
+    record {
+      leg = leg;
+      is = l;
+      ends = trip.2;
+      keeps = subst (λ (h : Happening). KeepsFrame first h) trip.2 (subst (λ (h : Happening). KeepsFrame h leg.arriving) trip.0 (leg_keeps v Down leg is l));
+      of_channel = ap (λ (o : Option Link). option_and_then (λ x. channel_of n x.parent) o) at.1 ∙ ap (channel_of n) at.3 ∙ of_channel l.sender leg.link gives;
+    }
+ends_so v channel first last leg (next ∷ more) is of_channel trip =
+    let n = v.scenario.network in
+    let l = trip.1 in
+    let gives : Gives n first.note.body l.sender leg.link = subst (λ (h : Happening). Gives n h.note.body l.sender leg.link) trip.0 l.gives in
+    let at = leg_down v leg is l in
+    let channel_s = of_channel l.sender leg.link gives in
+    let later = ends_so v channel leg.arriving last next more is (λ d k passes.
+    let p = subst (λ (b : NoteBody). Gives n b d k) l.arrives passes in
+    ap (channel_of n) p.0 ∙ through v channel leg is l at.0 at.1 at.2 at.3 channel_s (subst (λ (x : DeviceId). is_relay n x ≡ true) p.0 p.1.relay)) trip.2 in
+    let here = subst (λ (h : Happening). KeepsFrame h leg.arriving) trip.0 (leg_keeps v Down leg is l) in
+    let k = later.keeps in
+    record {
+      leg = later.leg;
+      is = later.is;
+      ends = later.ends;
+      keeps = record { frame = k.frame; of_frame = k.of_frame; cycle = here.cycle ∙ k.cycle; members = here.members ∙ k.members };
+      of_channel = later.of_channel;
+    }

@@ -1,12 +1,13 @@
 -- A trip up takes dmax.
-use Rattle.precision_law.proofs.words.Std.{◌∙◌, ◌∷◌, ◌≡◌, List, Option, Some, [], ap, arith, both_ways, inl, inr, length, option_and_then, option_map, pos, refl, subst, suc, sum_by-cons, sym, true, ℕ, ℤ}
+use Rattle.precision_law.proofs.words.Std.{◌∙◌, ◌∷◌, ◌≡◌, List, Option, Some, [], ap, arith, inl, inr, length, option_and_then, option_map, pos, refl, subst, sum_by-cons, sym, true, ℕ, ℤ}
 use Rattle.precision_law.proofs.words.Plans.{Channel, Cm, Device, DeviceId, Down, IsChildOf, IsCmOf, IsPath, IsReach, IsSwitchOf, Link, LinkId, Network, Up, Way, amount, closed, device_at, jitter_of, jitter_on, link_at, opened, point_of, target_by, waits_for_point}
-use Rattle.precision_law.proofs.words.Runs.{Gives, Happening, NoteBody, channel_of, is_parent_of, is_relay, same_some, time_of}
+use Rattle.precision_law.proofs.words.Runs.{Gives, Happening, NoteBody, channel_of, is_relay, same_some, time_of}
 use Rattle.precision_law.proofs.words.Laws.{IsInTime, IsLeg, IsPermanentAt, IsTrip, IsView, Leg, TripsDownTakeDmax, TripsUpTakeDmax, View, clock_in, links_back, links_of}
-use Rattle.precision_law.proofs.words.Clocks.{child_by, child_channel, shown_parent, sizes_are}
+use Rattle.precision_law.proofs.words.Clocks.{child_channel, parent_ways, sizes_are}
 use Rattle.run_law.specs.declared.note.NoteBody.TheVariants as notes
 use Rattle.precision_law.proofs.hearing.Timely.{trip_in_time}
 use Rattle.precision_law.proofs.trips.Travels.{jitter_back, jitter_of_legs, last_young, leg_link, many_back, switch_of}
+use Rattle.std.proofs.lemmas.List.{length-map}
 
 -- ---- sums
 
@@ -14,10 +15,6 @@ pub jitter_up : (n : Network) (legs : List Leg) → jitter_on n (links_of legs) 
 jitter_up n [] = refl
 jitter_up n (leg ∷ legs) =
     omega (arith, jitter_up n legs, sum_by-cons (jitter_of n) leg.link (links_of legs), sum_by-cons (λ (x : Leg). jitter_of n x.link) leg legs)
-
-pub many_up : (legs : List Leg) → length (links_of legs) ≡ length legs
-many_up [] = refl
-many_up (leg ∷ legs) = ap suc (many_up legs)
 
 -- ---- the path up
 
@@ -66,7 +63,10 @@ path_from v channel g last (leg ∷ legs) cm relay by to c d t u is one trip end
     let l = trip.1 in
     let up = path_from v channel leg.arriving last legs cm l.receiver leg.link to leg.leaving.note.number d l.arrived_clock u is one trip.2 ends l.arrives in
     let gives = subst (λ (b : NoteBody). Gives n b l.sender leg.link) (ap (λ (h : Happening). h.note.body) trip.0 ∙ body) l.gives in
-    let child : IsChildOf n l.sender leg.link = passes_up v leg relay by is l gives in
+    let child : IsChildOf n l.sender leg.link = elim gives.1.on [
+      | inl up ↦ up.1
+      | inr down ↦ (let wrong : Down ≡ Up = sym (parent_ways n l.sender leg.link down.1).1 ∙ l.from_way in absurd cc)
+    ] in
     let path = leg_up v channel leg (links_of legs) is l (λ link at. child_is n l.sender leg.link link child at) up in
     let link = leg_link v Up leg is l in
     let recv : Some link.0.parent ≡ Some l.receiver = ap (λ (o : Option Link). option_map (target_by Up) o) (sym link.1) ∙ l.comes_to in
@@ -78,14 +78,6 @@ path_from v channel g last (leg ∷ legs) cm relay by to c d t u is one trip end
       path = subst (λ (x : DeviceId). IsPath n channel x (leg.link ∷ links_of legs)) gives.0 path;
       switch = subst (IsSwitchOf n channel) gives.0 (switch_of n channel l.sender of_link);
     }
-  where
-    passes_up : (v : View) (leg : Leg) (relay : DeviceId) (by : LinkId) → IsView v → (l : IsLeg v Up leg)
-        → Gives v.scenario.network (notes.Arrived relay by c t) l.sender leg.link → IsChildOf v.scenario.network l.sender leg.link
-    passes_up v leg relay by is l gives = elim gives.1.on [
-      | inl up ↦ up.1
-      | inr down ↦ absurd (both_ways (is_parent_of v.scenario.network l.sender leg.link)
-          (child_by (is_parent_of v.scenario.network l.sender leg.link) l.from_way) (shown_parent v l.sender leg.link down.1))
-    ]
 
 -- the links of a trip up from a master are its path
 pub path_up : (v : View) (channel : Channel) (first last : Happening) (legs : List Leg) (master cm : DeviceId) (cycle : ℕ) (to : LinkId) (d u : ℕ) → IsView v
@@ -119,7 +111,8 @@ trip_takes_dmax v way first last legs links channel device at point q is jitters
 
 pub trips_up_take_dmax : TripsUpTakeDmax
 trips_up_take_dmax v first last legs channel device cm point q is member path fresh trip p clock =
-    trip_takes_dmax v Up first last legs (links_of legs) channel device cm point q is (jitter_up v.scenario.network legs) (many_up legs) path fresh trip p clock
+    trip_takes_dmax v Up first last legs (links_of legs) channel device cm point q is (jitter_up v.scenario.network legs)
+    (length-map legs (λ (leg : Leg). leg.link)) path fresh trip p clock
 
 pub trips_down_take_dmax : TripsDownTakeDmax
 trips_down_take_dmax v first last legs channel device point q is member path fresh trip p clock =

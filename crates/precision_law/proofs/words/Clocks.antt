@@ -1,30 +1,28 @@
 -- What is proved of records, clocks, faults and frames, and is cited further on, passed on from one place. Declares nothing.
-pub use Rattle.precision_law.proofs.Plain.{any_is, cm_is_no_end, device_of, made_in, never_some, no_later, some_of, synchronised_has_time}
+pub use Rattle.precision_law.proofs.Plain.{any_is, any_of_in, cm_is_no_end, device_of, higher_before, made_in, never_some, no_later, reached, some_if, some_of, synchronised_has_time}
 pub use Rattle.precision_law.proofs.block.Hulls.{has_before, in_hull, int_le-is, over, tested}
 pub use Rattle.precision_law.proofs.clocks.Anchored.{anchored_clocks_reach, anchored_clocks_show, anchors_widen, clocks_of_one_cycle, clocks_of_two_cycles, natural, natural_of, one_frame_anchors, one_frame_sets, one_more, set_clocks_have_reached, set_clocks_show, shared_clocks_halve, starts_are_set, starts_stay_together, two_frames_anchor, two_frames_set}
-pub use Rattle.precision_law.proofs.clocks.Epochs.{Keeps, adjustment_is_last, adjustment_set, adjustment_stays, clocks_have_reached, clocks_reach_sharply, fold_last, joined_changes, keeps, kept_by_all, kept_if, next_cycle_is_of_last, none_between, same_device, settings_stay, state_stays, time_stays}
+pub use Rattle.precision_law.proofs.clocks.Epochs.{Keeps, adjustment_is_last, adjustment_set, adjustment_stays, clocks_have_reached, clocks_reach_sharply, fold_last, joined_changes, keeps, kept_by_all, kept_if, next_cycle_is_of_last, none_between, same_device, sets_none, settings_stay, state_stays, time_stays}
 pub use Rattle.precision_law.proofs.clocks.Joiners.{joiner_waits}
 pub use Rattle.precision_law.proofs.clocks.Readings.{permanence_is_sharp, reach_is_sharp, reach_is_there, ripe_in_order, short_by_reading}
-pub use Rattle.precision_law.proofs.compression.Counted.{Apart, all_but_one, all_by, ascending_from, contains, firsts_apart, firsts_in, firsts_ordered, has_one, middle_near, opened_by, ordered_filter}
-pub use Rattle.precision_law.proofs.compression.Origins.{few_members, has_is_member, member_has, within_ordered}
+pub use Rattle.precision_law.proofs.compression.Counted.{Apart, IsClusterOf, all_but_one, all_by, ascending_from, cluster_from, contains, few_members, firsts_apart, firsts_in, firsts_ordered, has_firsts, has_is_member, has_one, in_all, member_has, middle_near, opened_by, ordered_filter}
 pub use Rattle.precision_law.proofs.faults.Broken.{has_member, one_bad, one_member}
 pub use Rattle.precision_law.proofs.faults.Enough.{enough_masters, sets_within}
 pub use Rattle.precision_law.proofs.faults.Masters.{any_in, device_of_place, good_is_correct, in_any, master_ends, one_channel_is_sound, switches_are_good}
 pub use Rattle.precision_law.proofs.faults.Ways.{sound_switches_begin_on, sound_ways_are_whole}
 pub use Rattle.precision_law.proofs.hearing.Heard.{HearsThis, IsHearingOf, best_is_heard, cleared_by, hearing_of, hears_by, same_cleared, same_next}
 pub use Rattle.precision_law.proofs.hearing.Hearings.{hearer_not_cm, hearings_are_of_frames}
-pub use Rattle.precision_law.proofs.records.Behind.{PartsAtLast, after_last_at, after_last_none, all_of, behind_last, in_filter_map, none, parts_at_last, some}
+pub use Rattle.precision_law.proofs.records.Behind.{PartsAtLast, after_last_at, after_last_none, after_more, all_of, behind_last, in_filter_map, none, not_each, parts_at_last, some}
 pub use Rattle.precision_law.proofs.records.Cutting.{IsCutAt, cut_at}
-pub use Rattle.precision_law.proofs.records.Due.{IsRipeArrival, IsRipeRecord, IsSentAt, is_collected, is_heard_of, is_sent, place_of_ripe, place_of_sent, sent_at}
+pub use Rattle.precision_law.proofs.records.Due.{IsRipeArrival, IsRipeRecord, IsSentAt, due_there, is_collected, is_heard_of, is_sent, next_due, next_note, place_of_ripe, place_of_sent, sent_at}
 pub use Rattle.precision_law.proofs.records.Judged.{earlier_judge}
-pub use Rattle.precision_law.proofs.records.PlacedFronts.{before_place, reaches_front}
-pub use Rattle.precision_law.proofs.records.Points.{IsSetting, before_of, earlier_before, last_in, point_has_time, point_is, point_timed, reaches_whole, same_adjustment, setting_is, sorted_parts, within_run}
+pub use Rattle.precision_law.proofs.records.Points.{IsSetting, before_of, before_place, earlier_before, founded_by, last_in, point_has_time, point_is, point_timed, reaches_by, reaches_front, reaches_whole, same_adjustment, setting_is, sorted_parts, within_run}
 pub use Rattle.precision_law.proofs.records.Times.{AreSorted, between, in_earlier, in_kept, is_between, last_some, passes, same_kept}
 pub use Rattle.precision_law.proofs.records.Views.{in_order, room, sizes_are, steady}
 pub use Rattle.precision_law.proofs.sizes.Instants.{corrections_come_first, cycles_are_few, frames_come_first, hulls_go_on, instants_are_in_order, set_clocks_stay_at_correction}
-pub use Rattle.precision_law.proofs.trips.Ascents.{child_by, frames_up_are_of_masters, master_member, shown_parent}
-pub use Rattle.precision_law.proofs.trips.Carried.{trip_says}
-pub use Rattle.precision_law.proofs.trips.Descents.{IsCarried, child_channel, child_down, child_not_parent, emission_shows, frames_down_are_of_cms, never_timed, parent_by, receiver_down, receiver_up, same_cycle, trip_more}
+pub use Rattle.precision_law.proofs.trips.Ascents.{frames_up_are_of_masters, master_member, never_timed}
+pub use Rattle.precision_law.proofs.trips.Descents.{emission_shows, frames_down_are_of_cms}
+pub use Rattle.precision_law.proofs.trips.Legs.{child_channel, child_not_parent, child_ways, gives_down, parent_ways, receiver_down, receiver_up, receiver_way, same_cycle, trip_more}
 pub use Rattle.precision_law.proofs.trips.Links.{HasGone, IsGivenOn, arrives_at, goes_over, leaves_at, takes_at_most}
-pub use Rattle.precision_law.proofs.trips.Paths.{TakesWith, arrived_frame, leaving_is, leg_hop, taken_young}
-pub use Rattle.precision_law.proofs.trips.Sound.{IsClean, IsReady, budget, no_fault, sound_switch_on, will_be_permanent}
+pub use Rattle.precision_law.proofs.trips.Paths.{TakesWith, arrived_frame, clocked, frame_is, leaving_is, leg_hop, numbered_all, taken_as, taken_sound, trip_says}
+pub use Rattle.precision_law.proofs.trips.Sound.{IsClean, IsReady, no_fault, sound_switch_on, will_be_permanent}

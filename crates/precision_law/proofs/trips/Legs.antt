@@ -1,0 +1,219 @@
+-- A frame that arrives came over a link: who gives and who receives on its ways, and the leg before a record.
+use Rattle.precision_law.proofs.words.Std.{◌++◌, ◌<◌, ◌==◌, ◌∙◌, ◌∷◌, ◌≡◌, ◌⊎◌, Bool, List, Option, Some, [], ap, arith, eq-eqb, eqb-true, false, false_from_ne_true, if◌then◌else◌, inl, inr, option_and_then, option_map_or, refl, subst, sym, true, ℕ}
+use Rattle.precision_law.proofs.words.Plans.{Channel, Device, DeviceId, Down, IsChildOf, IsPath, IsSwitchOf, IsTree, IsUplink, Joints, Link, LinkId, Master, Network, Pcf, Relay, Role, Up, Way, closed, device_at, is_end_system, link_at, opened, rules_give_trees, shape_rules}
+use Rattle.precision_law.proofs.words.Runs.{Happening, IsCaused, IsIn, IsParentOf, NoteBody, cause_of, channel_of, channel_of_link, cycle_in, founded_at, in_left, is_parent_of, is_relay, is_relay_role, members_in, number_is, numbered, numbered_in, numbered_within, rank, receiver_of, same_some, time_of, way_from, way_to, with_clock}
+use Rattle.precision_law.proofs.words.Laws.{IsLeg, IsTrip, IsView, Leg, View}
+use Rattle.run_law.specs.declared.note.NoteBody.TheVariants as notes
+use Rattle.precision_law.proofs.Plain.{device_of, higher_before, mapped, passed}
+use Rattle.precision_law.proofs.faults.Masters.{device_of_place}
+use Rattle.precision_law.proofs.trips.Paths.{clocked, frame_is, numbered_all}
+
+-- ---- no link leads from a device to itself
+
+-- a path never goes through a link that leads to its own device
+no_loop_on : (n : Network) (channel : Channel) (device : DeviceId) (link : LinkId) (l : Link) → IsTree n → link_at n link ≡ Some l
+    → IsUplink n channel device link → l.parent ≡ device → (links : List LinkId) → IsPath n channel device links → ⊥
+no_loop_on n channel device link l tree at up parent [] path = tree.root channel device link path up
+no_loop_on n channel device link l tree at up parent (first ∷ links) path =
+    let m = opened (λ (k : Link). (k.child ≡ device) × IsSwitchOf n channel k.parent × IsPath n channel k.parent links) (link_at n first) path in
+    let one : first ≡ link = tree.one_uplink channel device first link
+    (closed (λ (k : Link). (k.child ≡ device) × IsSwitchOf n channel k.parent) (link_at n first) m.0 m.1 (m.2.0, m.2.1)) up in
+    let same : m.0 ≡ l = same_some (link_at n link) m.0 l (subst (λ (x : LinkId). link_at n x ≡ Some m.0) one m.1) at in
+    no_loop_on n channel device link l tree at up parent links
+    (subst (λ (d : DeviceId). IsPath n channel d links) (ap (λ (k : Link). k.parent) same ∙ parent) m.2.2)
+
+-- so no link's child is its parent
+no_loop : (v : View) (link : LinkId) (l : Link) → IsView v → link_at v.scenario.network link ≡ Some l → l.child ≡ l.parent → ⊥
+no_loop v link l is at same =
+    let n = v.scenario.network in
+    let tree = rules_give_trees n (shape_rules n is.lawful.rules) in
+    let joint = is.lawful.rules Joints link.0 l at in
+    let p = opened (λ (d : Device). d.channel ≡ Some joint.0) (device_at n l.parent) joint.1 in
+    let member = closed (λ (d : Device). (is_end_system d.role ≡ true) ⊎ (d.channel ≡ Some joint.0)) (device_at n l.parent) p.0 p.1 (inr p.2) in
+    let path = tree.reach joint.0 l.parent member in
+    let up = closed (λ (k : Link). (k.child ≡ l.parent) × IsSwitchOf n joint.0 k.parent) (link_at n link) l at (same, joint.1) in
+    no_loop_on n joint.0 l.parent link l tree at up refl path.0 path.2
+
+-- ---- parents and children
+
+-- a link's parent shows as one
+pub shown_parent : (n : Network) (device : DeviceId) (link : LinkId) → IsParentOf n device link → is_parent_of n device link ≡ true
+shown_parent n device link parent =
+    let l = opened (λ (k : Link). k.parent ≡ device) (link_at n link) parent in
+    ap (λ (o : Option Link). option_map_or (λ k. k.parent.0 == device.0) o false) l.1 ∙ eq-eqb l.0.parent.0 device.0 (ap (λ (d : DeviceId). d.0) l.2)
+
+-- and what shows as one is
+parent_shown : (n : Network) (device : DeviceId) (link : LinkId) → is_parent_of n device link ≡ true → IsParentOf n device link
+parent_shown n device link shown =
+    let l = passed (λ (k : Link). k.parent.0 == device.0) (link_at n link) shown in
+    closed (λ (k : Link). k.parent ≡ device) (link_at n link) l.0 l.1 (device_of_place l.0.parent device (eqb-true l.0.parent.0 device.0 l.2))
+
+-- a child of a link is not its parent
+pub child_not_parent : (v : View) (device : DeviceId) (link : LinkId) → IsView v → IsChildOf v.scenario.network device link
+    → is_parent_of v.scenario.network device link ≡ true → ⊥
+child_not_parent v device link is child shown =
+    let n = v.scenario.network in
+    let l = opened (λ (k : Link). k.child ≡ device) (link_at n link) child in
+    let p = opened (λ (k : Link). k.parent ≡ device) (link_at n link) (parent_shown n device link shown) in
+    no_loop v link l.0 is l.1 (l.2 ∙ sym (ap (λ (k : Link). k.parent) (same_some _ _ _ l.1 p.1) ∙ p.2))
+
+-- the parent of a link receives on its way up, and gives on its way down
+pub parent_ways : (n : Network) (device : DeviceId) (link : LinkId) → IsParentOf n device link → (way_to n device link ≡ Up) × (way_from n device link ≡ Down)
+parent_ways n device link parent =
+    let shown = shown_parent n device link parent in
+    (ap (λ (b : Bool). if b then Up else Down) shown, ap (λ (b : Bool). if b then Down else Up) shown)
+
+-- its child receives on its way down, and gives on its way up
+pub child_ways : (v : View) (device : DeviceId) (link : LinkId) → IsView v → IsChildOf v.scenario.network device link
+    → (way_to v.scenario.network device link ≡ Down) × (way_from v.scenario.network device link ≡ Up)
+child_ways v device link is child =
+    let hidden = false_from_ne_true (is_parent_of v.scenario.network device link) (child_not_parent v device link is child) in
+    (ap (λ (b : Bool). if b then Up else Down) hidden, ap (λ (b : Bool). if b then Down else Up) hidden)
+
+-- who gives on a way down is the parent
+pub gives_down : (n : Network) (device : DeviceId) (link : LinkId) → way_from n device link ≡ Down → IsParentOf n device link
+gives_down n device link way = parent_shown n device link (by (is_parent_of n device link) way)
+  where
+    by : (b : Bool) → (if b then Down else Up) ≡ Down → b ≡ true
+    by true e = refl
+    by false e = absurd cc
+
+-- what a device receives on a way up it receives as the parent
+pub receiver_up : (n : Network) (link : LinkId) (device : DeviceId) → receiver_of n link Up ≡ Some device → IsParentOf n device link
+receiver_up n link device e =
+    (let l = mapped (λ (l : Link). l.parent) (link_at n link) device e in closed (λ (k : Link). k.parent ≡ device) (link_at n link) l.0 l.1 l.2)
+
+-- and on a way down as the child
+pub receiver_down : (n : Network) (link : LinkId) (device : DeviceId) → receiver_of n link Down ≡ Some device → IsChildOf n device link
+receiver_down n link device e =
+    (let l = mapped (λ (l : Link). l.child) (link_at n link) device e in closed (λ (k : Link). k.child ≡ device) (link_at n link) l.0 l.1 l.2)
+
+-- it receives it on the way that it was given to
+pub receiver_way : (v : View) (link : LinkId) (device : DeviceId) (way : Way) → IsView v → receiver_of v.scenario.network link way ≡ Some device
+    → way_to v.scenario.network device link ≡ way
+receiver_way v link device Up is e = (parent_ways v.scenario.network device link (receiver_up v.scenario.network link device e)).0
+receiver_way v link device Down is e = (child_ways v device link is (receiver_down v.scenario.network link device e)).0
+
+-- ---- channels
+
+-- a link is of its parent's channel
+pub parent_channel : (v : View) (device : DeviceId) (link : LinkId) → IsParentOf v.scenario.network device link
+    → channel_of_link v.scenario.network link ≡ channel_of v.scenario.network device
+parent_channel v device link parent =
+    let l = opened (λ (k : Link). k.parent ≡ device) (link_at v.scenario.network link) parent in
+    ap (λ (o : Option Link). option_and_then (λ k. channel_of v.scenario.network k.parent) o) l.1 ∙ ap (channel_of v.scenario.network) l.2
+
+pub relay_not_end : (role : Role) → is_relay_role role ≡ true → is_end_system role ≡ true → ⊥
+relay_not_end Master e end = absurd cc
+relay_not_end role e end = absurd cc
+
+-- a relay is of the channel of the link whose child it is
+pub child_channel : (v : View) (device : DeviceId) (link : LinkId) → IsView v → is_relay v.scenario.network device ≡ true
+    → IsChildOf v.scenario.network device link → channel_of v.scenario.network device ≡ channel_of_link v.scenario.network link
+child_channel v device link is relay child =
+    let n = v.scenario.network in
+    let l = opened (λ (k : Link). k.child ≡ device) (link_at n link) child in
+    let joint = is.lawful.rules Joints link.0 l.0 l.1 in
+    let r = device_of is_relay_role (device_at n device) relay in
+    let p = opened (λ (d : Device). d.channel ≡ Some joint.0) (device_at n l.0.parent) joint.1 in
+    let of_link : channel_of_link n link ≡ Some joint.0 = ap (λ (o : Option Link). option_and_then (λ k. channel_of n k.parent) o) l.1
+    ∙ ap (λ (o : Option Device). option_and_then (λ d. d.channel) o) p.1 ∙ p.2 in
+    elim joint.2 [
+      | inl end ↦
+          let e = opened (λ (d : Device). is_end_system d.role ≡ true) (device_at n l.0.child) end in
+          absurd (relay_not_end r.0.role r.2 (ap (λ (d : Device). is_end_system d.role) (sym (same_some _ _ _ (ap (device_at n) (sym l.2) ∙ e.1) r.1)) ∙ e.2))
+      | inr role ↦
+          let e = opened (λ (d : Device). (d.role ≡ Relay) × (d.channel ≡ Some joint.0)) (device_at n l.0.child) role in
+          ap (λ (o : Option Device). option_and_then (λ d. d.channel) o) (ap (device_at n) (sym l.2) ∙ e.1) ∙ e.2.1 ∙ sym of_link
+    ]
+
+-- ---- trips
+
+-- a trip with one more leg
+pub trip_more : (v : View) (way : Way) (first last next : Happening) (legs : List Leg) (leg : Leg) → IsTrip v way first legs last → leg.giving ≡ last
+    → leg.arriving ≡ next → IsLeg v way leg → IsTrip v way first (legs ++ leg ∷ []) next
+trip_more v way first last next [] leg trip giving arriving is = (giving ∙ sym trip, is, arriving)
+trip_more v way first last next (l ∷ legs) leg trip giving arriving is =
+    (trip.0, trip.1, trip_more v way l.arriving last next legs leg trip.2 giving arriving is)
+
+-- the frame keeps its cycle and members
+pub same_cycle : (h g : Happening) (frame : Pcf) (clock : ℕ) → g.frame ≡ Some frame → h.frame ≡ Some (with_clock clock frame) → (cycle_in g ≡ cycle_in h)
+    × (members_in g ≡ members_in h)
+same_cycle h g frame clock a b = (
+  ap (λ (o : Option Pcf). option_map_or (λ f. f.cycle) o 0) a ∙ sym (ap (λ (o : Option Pcf). option_map_or (λ f. f.cycle) o 0) b),
+  ap (λ (o : Option Pcf). option_map_or (λ f. f.members.0) o 0) a ∙ sym (ap (λ (o : Option Pcf). option_map_or (λ f. f.members.0) o 0) b),
+)
+
+-- ---- the leg before a record
+
+-- what arrives is a control frame that left
+pub record IsPutAs (v : View) (ps : List Happening) (device : DeviceId) (link : LinkId) (cause : ℕ) (way : Way) : Type 0 where
+  pub putting : Happening
+  pub there : numbered ps cause ≡ Some putting
+  pub sender : DeviceId
+  pub given : ℕ
+  pub clock : ℕ
+  pub left : putting.note.body ≡ notes.Left sender link given clock
+  pub from_way : way_from v.scenario.network sender link ≡ way
+
+-- the record of what arrived, with that of its leaving and that of its giving
+pub record HasLeg (v : View) (way : Way) (h : Happening) (device : DeviceId) (link : LinkId) : Type 0 where
+  pub leaving : Happening
+  pub giving : Happening
+  pub leg : IsLeg v way (record { link = link; giving = giving; leaving = leaving; arriving = h })
+  pub left : numbered v.records (cause_of h.note.body) ≡ Some leaving
+  pub given : numbered v.records (cause_of leaving.note.body) ≡ Some giving
+  pub sooner : giving.note.number < h.note.number
+  pub in_time : time_of giving < time_of h
+  pub of_frame : Pcf
+  pub frame : giving.frame ≡ Some of_frame
+  pub clock : ℕ
+  pub shows : h.frame ≡ Some (with_clock clock of_frame)
+
+pub has_leg : (v : View) (way : Way) (h : Happening) (device : DeviceId) (link : LinkId) (cause clock : ℕ) (is : IsView v) → (i : IsIn h v.records)
+    → h.note.body ≡ notes.Arrived device link cause clock → way_to v.scenario.network device link ≡ way
+    → receiver_of v.scenario.network link way ≡ Some device → IsPutAs v (founded_at v.scenario v.records h is.run.founded i).front device link cause way
+    → HasLeg v way h device link
+has_leg v way h device link cause clock is i body on to put =
+    let s = v.scenario in
+    let at = founded_at s v.records h is.run.founded i in
+    let putting = put.putting in
+    let in_front : IsIn putting at.front = numbered_in at.front cause putting put.there in
+    let in_all : IsIn putting v.records = subst (IsIn putting) (sym at.whole) (in_left putting at.front (h ∷ at.rest) in_front) in
+    let at_l = founded_at s v.records putting is.run.founded in_all in
+    let departs = subst (IsCaused s at_l.front putting.note.time) put.left at_l.due.cause in
+    let giving = departs.giving in
+    let in_giving : IsIn giving v.records = subst (IsIn giving) (sym at_l.whole)
+    (in_left giving at_l.front (putting ∷ at_l.rest) (numbered_in at_l.front put.given giving departs.there)) in
+    let number_l = number_is s at.front cause putting at.founded put.there in
+    let number_g = number_is s at_l.front put.given giving at_l.founded departs.there in
+    let frame_l = frame_is at_l _ put.left ∙ clocked put.clock _ giving departs.frame departs.there departs.of_frame in
+    let placed = (is.run.founded at.front at.rest h at.whole).0 putting in_front in
+    let later = higher_before putting h placed (omega (arith, ap rank put.left, ap rank body)) in
+    record {
+      leaving = putting;
+      giving = giving;
+      leg = record {
+        sender = put.sender;
+        receiver = device;
+        given = in_giving;
+        gives = departs.gives;
+        left = in_all;
+        left_clock = put.clock;
+        leaves = put.left ∙ ap (λ (n : ℕ). notes.Left put.sender link n put.clock) (sym number_g);
+        arrived = i;
+        arrived_clock = clock;
+        arrives = body ∙ ap (λ (n : ℕ). notes.Arrived device link n clock) (sym number_l);
+        from_way = put.from_way;
+        on_way = on;
+        comes_to = to;
+      };
+      left = ap (λ (b : NoteBody). numbered v.records (cause_of b)) body ∙ numbered_all at cause putting put.there;
+      given = ap (λ (b : NoteBody). numbered v.records (cause_of b)) put.left ∙ numbered_all at_l put.given giving departs.there;
+      sooner = omega (arith, numbered_within at.front cause _ put.there, numbered_within at_l.front put.given _ departs.there);
+      in_time = omega (arith, departs.held, later);
+      of_frame = departs.frame;
+      frame = departs.of_frame;
+      clock = clock;
+      shows = frame_is at _ body ∙ clocked clock _ putting (with_clock put.clock departs.frame) put.there frame_l;
+    }
