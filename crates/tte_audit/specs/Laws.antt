@@ -1,13 +1,17 @@
 -- What holds of audits.
-use Rattle.std.specs.Prelude.{◌≡◌, ℕ, ◌↔◌, List, [], ◌∷◌, ◌++◌}
+use Rattle.std.specs.Prelude.{◌≡◌, ℕ, ◌+◌, ◌↔◌, List, [], ◌∷◌, ◌++◌}
 use Rattle.run_law.specs.records.Happenings.{Happening}
 use Rattle.run_law.specs.records.Order.{behind}
 use Rattle.run_law.specs.records.Ranks.{place_of}
 use Rattle.run_law.specs.runs.DueRecords.{IsDue}
-use Rattle.run_law.specs.runs.Runs.{IsNextOf, IsRun}
+use Rattle.run_law.specs.runs.Runs.{IsFounded, IsNextOf, IsRun}
 use Rattle.run_law.specs.scenario.Scenarios.{Scenario}
+use Rattle.net_plan.specs.declared.ids.LinkId.{LinkId}
 use Rattle.net_plan.specs.declared.network.Network.{Network}
 use Rattle.tte_audit.specs.Answers.{IsAudited, IsOfFormOrEvents, IsRefusedBy}
+use Rattle.tte_audit.specs.Arrivals.{IsDueByArrival, OwesArrival, TellsArrival}
+use Rattle.tte_audit.specs.Debts.{AreDebts}
+use Rattle.tte_audit.specs.Departures.{IsDueByLeaving, OwesDeparture, TellsDeparture}
 use Rattle.tte_audit.specs.Named.{IsNamed}
 use Rattle.tte_audit.specs.declared.refusal.AuditRefusal.{AuditRefusal}
 use Rattle.tte_audit.specs.declared.refusal.AuditRefusal.TheVariants as refusals
@@ -69,3 +73,21 @@ pub record HasOneAnswer (network : Network) (octets : List ℕ) : Type 0 where
 -- so it is of every text, over a network without two things of one name
 abbrev pub AnswerLaw : Type 0
 AnswerLaw = (network : Network) (octets : List ℕ) → IsNamed network → HasOneAnswer network octets
+
+-- what a list of records owes up to a time: these are its debts that are paid by what is due so
+abbrev pub AreOwed : {O : Type 0} → Scenario → List Happening → ℕ → (List Happening → Happening → Type 0)
+    → (O → Type 0) → (Happening → O → Type 0) → Type 0
+AreOwed {O} s hs until IsDueSo IsOwed Pays = AreDebts place_of (IsDue s) IsDueSo ((until + 1) ∷ []) hs IsOwed Pays
+
+-- every list of records that are due owes for each frame that is given to a link its leaving, its loss or its drop
+abbrev pub DepartureLaw : Type 0
+DepartureLaw =
+    (s : Scenario) (hs : List Happening) (until : ℕ) → IsFounded place_of (IsDue s) hs
+    → AreOwed s hs until (IsDueByLeaving s) (λ (given : ℕ × LinkId). OwesDeparture s hs until given.0 given.1)
+    (λ x given. TellsDeparture given.0 given.1 x.note.body)
+
+-- and for each frame that is put on a wire its arrival
+abbrev pub ArrivalLaw : Type 0
+ArrivalLaw =
+    (s : Scenario) (hs : List Happening) (until : ℕ) → IsFounded place_of (IsDue s) hs
+    → AreOwed s hs until (IsDueByArrival s) (OwesArrival s hs until) (λ x cause. TellsArrival cause x.note.body)
