@@ -353,7 +353,8 @@ due_place s before x h =
 
 -- where the list parts at it
 due_split : (s : Scenario) (hs : List Happening) (x : Happening) → (h : IsDueIn place_of (IsDueByArrival s) hs x)
-    → (at : IsSplit place_of hs (arrival_place (time_of x) (rank (arrival_record h.due.device h.due.link h.due.cause h.due.is)) h.due.device h.due.link h.due.cause))
+    → (at : IsSplit place_of hs (arrival_place (time_of x) (rank (arrival_record h.due.device h.due.link h.due.cause h.due.is))
+    h.due.device h.due.link h.due.cause))
     × (at.front ≡ h.before)
 due_split s hs x h =
     subst (λ (p : List ℕ). (at : IsSplit place_of hs p) × (at.front ≡ h.before)) (due_place s h.before x h.due) (split_at (IsDueByArrival s) hs x h, refl)
@@ -448,7 +449,8 @@ by_arrival s before x cause due put other is c e = absurd e
 same_coming : (s : Scenario) (h : Happening) (d e : DeviceId) (l m : LinkId) (t u : ℕ) (v w : Signal) → Arrives s h d l t v → Arrives s h e m u w
     → (d ≡ e) × (l ≡ m) × (t ≡ u)
 same_coming s h d e l m t u v w a b =
-    let one : (let x : Launch = record { link = l; way = a.way; signal = v } in x) ≡ record { link = m; way = b.way; signal = w } =
+    let one : (let x : Launch = record { link = l; way = a.way; signal = v } in x)
+    ≡ record { link = m; way = b.way; signal = w } =
     same_some (launched s h (time_of h) h.note.body) (record { link = l; way = a.way; signal = v }) (record { link = m; way = b.way; signal = w }) a.put b.put in
     let links : l ≡ m = ap (λ (x : Launch). x.link) one in
     let ways : a.way ≡ b.way = ap (λ (x : Launch). x.way) one in

@@ -1,5 +1,5 @@
 -- What is owed of leavings is due.
-use Rattle.std.proofs.Common.{◌≡◌, ℕ, zero, suc, ◌+◌, ◌<◌, ◌≤◌, false, List, [], ◌∷◌, ◌++◌, Some, inl, inr, refl, sym, ap, subst, ◌∙◌, arith}
+use Rattle.std.proofs.Common.{◌≡◌, ℕ, ◌+◌, ◌<◌, ◌≤◌, false, List, [], ◌∷◌, ◌++◌, Some, inl, inr, refl, sym, ap, subst, ◌∙◌, arith}
 use Rattle.net_plan.specs.declared.ids.DeviceId.{DeviceId}
 use Rattle.net_plan.specs.declared.ids.LinkId.{LinkId}
 use Rattle.net_plan.specs.declared.ids.VlId.{VlId}
@@ -17,15 +17,14 @@ use Rattle.run_law.specs.runs.DueRecords.{IsCaused, IsDue}
 use Rattle.run_law.specs.runs.Runs.{IsFounded}
 use Rattle.run_law.specs.scenario.Scenarios.{Scenario, is_broken}
 use Rattle.run_law.specs.timed.Dispatching.{HasAccepted}
-use Rattle.run_law.proofs.law.FirstPlaces.{by_number, split}
-use Rattle.run_law.proofs.law.FirstDeliveries.{accepted_in}
+use Rattle.run_law.proofs.law.FirstPlaces.{split}
 use Rattle.run_law.proofs.runs.SameSteps.{same_departure, same_some}
 use Rattle.tte_units.specs.Amount.{units_of}
 use Rattle.tte_audit.specs.Debts.{IsDueIn}
 use Rattle.tte_audit.specs.Departures.{IsDueByLeaving, OwesDeparture, TellsDeparture, leaves_at, leaving_record}
 use Rattle.tte_audit.specs.Laws.{DepartureLaw}
 use Rattle.tte_audit.proofs.PermanentDrops.{not_old}
-use Rattle.tte_audit.proofs.Owing.{split_at, ahead, due_there, found_before, front_of, in_whole, next_is_due, next_of, timely, within}
+use Rattle.tte_audit.proofs.Owing.{ahead, due_there, found_before, from_one, front_of, in_whole, next_is_due, next_of, split_at, taken_there, timely, within}
 
 -- a frame is given by a record of a lower rank than that of its leaving
 given_before : (network : Network) (body : NoteBody) (device : DeviceId) (link : LinkId) (cause : ℕ) (d : Departure) → Gives network body device link
@@ -163,13 +162,8 @@ accepted_gives_none body device link from vl cycle is g = subst IsGiving is g
 from_accepted : (s : Scenario) (before : List Happening) (device : DeviceId) (vl : VlId) (t cause cycle : ℕ) → IsFounded place_of (IsDue s) before
     → ((g : Happening) → numbered before cause ≡ Some g → IsGiving g.note.body) → HasAccepted before device vl t cause cycle → ⊥
 from_accepted s before device vl t cause cycle founded giving has =
-    let found = by_number s before has.taken founded (accepted_in before device vl t cause cycle has) in
-    let there = subst (λ (n : ℕ). numbered before n ≡ Some has.taken) (sym has.number) found in
-    accepted_gives_none has.taken.note.body device has.link has.from vl cycle has.is (giving has.taken there)
-
-numbered_from_one : (before : List Happening) (n : ℕ) (g : Happening) → numbered before n ≡ Some g → n ≡ 0 → ⊥
-numbered_from_one before zero g there e = cc
-numbered_from_one before (suc n) g there e = cc
+    accepted_gives_none has.taken.note.body device has.link has.from vl cycle has.is
+    (giving has.taken (taken_there s before device vl t cause cycle founded has))
 
 -- a record that is due and tells of a leaving is due by it, where its cause gives a frame to a link
 by_leaving : (s : Scenario) (before : List Happening) (x : Happening) (cause : ℕ) (link : LinkId) → IsDue s before x → IsFounded place_of (IsDue s) before
@@ -224,7 +218,8 @@ same_place s hs t u device other link by cause from d e causes links a b =
     ∙ ap (λ (x : DeviceId). leaves_at s x link a.giving) devices
     ∙ ap (λ (h : Happening). leaves_at s other link h) (sym one)
     ∙ sym there.held in
-    let moved = subst (λ (k : DeviceId). Departs s hs k t link cause e) (sym devices) (subst (λ (n : ℕ). Departs s hs other n link cause e) (sym times) there) in
+    let moved = subst (λ (k : DeviceId). Departs s hs k t link cause e) (sym devices)
+    (subst (λ (n : ℕ). Departs s hs other n link cause e) (sym times) there) in
     let outcomes : d ≡ e = same_departure s hs t device link cause d e a moved in
     ap (λ (o : Departure). leaving_place t device link cause o) outcomes
     ∙ ap (λ (n : ℕ). leaving_place n device link cause e) times
@@ -248,7 +243,7 @@ due_so s hs until cause link x founded o h tells =
     let all : (g : Happening) → numbered h.before cause ≡ Some g → IsGiving g.note.body = λ g there.
     subst (λ (k : Happening). IsGiving k.note.body)
     (same_some (numbered hs cause) o.giving g o.there (in_whole hs h.before h.behind cause g h.parts there)) gives in
-    by_leaving s h.before x cause link h.due front (numbered_from_one hs cause o.giving o.there) all x.note.body refl h.due.cause tells
+    by_leaving s h.before x cause link h.due front (from_one hs cause o.giving o.there) all x.note.body refl h.due.cause tells
 
 -- it departs by the list
 due_departs : (s : Scenario) (hs : List Happening) (x : Happening) → (h : IsDueIn place_of (IsDue s) hs x) → (d : IsDueByLeaving s h.before x)

@@ -1,7 +1,11 @@
 -- What is due in a founded list, by its places.
 use Rattle.std.proofs.lemmas.Bool.{cases_order}
 use Rattle.std.proofs.lemmas.Int.{ints}
-use Rattle.std.proofs.Common.{◌≡◌, ℕ, ◌+◌, ◌<◌, ◌≤◌, List, [], ◌∷◌, ◌++◌, Some, length, inl, inr, refl, sym, subst, arith}
+use Rattle.std.proofs.Common.{◌≡◌, ℕ, zero, suc, ◌+◌, ◌<◌, ◌≤◌, List, [], ◌∷◌, ◌++◌, Some, length, inl, inr, refl, sym, subst, arith}
+use Rattle.net_plan.specs.declared.ids.DeviceId.{DeviceId}
+use Rattle.net_plan.specs.declared.ids.VlId.{VlId}
+use Rattle.run_law.specs.timed.Dispatching.{HasAccepted}
+use Rattle.run_law.proofs.law.FirstDeliveries.{accepted_in}
 use Rattle.run_law.specs.records.Happenings.{Happening, earlier, happening, numbered, time_of}
 use Rattle.run_law.specs.records.Order.{IsBefore}
 use Rattle.run_law.specs.records.Ranks.{key, members_in, place_of, rank}
@@ -78,3 +82,15 @@ within t until ks le = inl (omega (arith, le))
 pub timely : (t until : ℕ) (ks : List ℕ) → IsBefore (t ∷ ks) ((until + 1) ∷ []) → t ≤ until
 timely t until ks (inl lt) = omega (arith, lt)
 timely t until ks (inr h) = absurd h.1
+
+-- no record has the number 0
+pub from_one : (hs : List Happening) (n : ℕ) (g : Happening) → numbered hs n ≡ Some g → n ≡ 0 → ⊥
+from_one hs zero g there e = cc
+from_one hs (suc n) g there e = cc
+
+-- what a switch took last is found by its number
+pub taken_there : (s : Scenario) (before : List Happening) (device : DeviceId) (vl : VlId) (t cause cycle : ℕ) → IsFounded place_of (IsDue s) before
+    → (has : HasAccepted before device vl t cause cycle) → numbered before cause ≡ Some has.taken
+taken_there s before device vl t cause cycle founded has =
+    let found = by_number s before has.taken founded (accepted_in before device vl t cause cycle has) in
+    subst (λ (n : ℕ). numbered before n ≡ Some has.taken) (sym has.number) found

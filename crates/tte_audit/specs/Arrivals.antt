@@ -32,8 +32,8 @@ pub record IsDueByArrival (s : Scenario) (before : List Happening) (x : Happenin
   pub arrives : ArrivesAs s before device (time_of x) link cause is
   pub says : x.note.body ≡ arrival_record device link cause is
 
--- what the record of this number put on a wire arrives by the time, behind that record: judged by the list, this becomes
--- of it
+-- what the record of this number put on a wire arrives by the time, behind that record; judged by the list, this
+-- becomes of it
 pub record OwesArrival (s : Scenario) (hs : List Happening) (until cause : ℕ) : Type 0 where
   pub device : DeviceId
   pub link : LinkId

@@ -11,11 +11,11 @@ pub record IsDueIn {N : Type 0} (place : N → List ℕ) (IsDue : List N → N �
   pub none_before : NoneBefore place behind (place x)
   pub due : IsDue before x
 
--- these are the debts of the list that are paid by what is due so (`IsDueSo`), a part of what is due: each such record that
--- is due before the mark pays one, each is to be paid by one that is due before the mark, and what pays one that is owed
--- has one place
-pub record AreDebts {N O : Type 0} (place : N → List ℕ) (IsDue IsDueSo : List N → N → Type 0) (mark : List ℕ) (ns : List N)
-    (IsOwed : O → Type 0) (Pays : N → O → Type 0) : Type 0 where
+-- these are the debts of the list that are paid by what is due so (`IsDueSo`), a part of what is due: each such record
+-- that is due before the mark pays one, each is to be paid by one that is due before the mark, and what pays one that
+-- is owed has one place
+pub record AreDebts {N O : Type 0} (place : N → List ℕ) (IsDue IsDueSo : List N → N → Type 0) (mark : List ℕ)
+    (ns : List N) (IsOwed : O → Type 0) (Pays : N → O → Type 0) : Type 0 where
   pub each : (x : N) → IsDueIn place IsDueSo ns x → IsBefore (place x) mark → (o : O) × IsOwed o × Pays x o
   pub some : (o : O) → IsOwed o → (x : N) × IsDueIn place IsDueSo ns x × IsBefore (place x) mark × Pays x o
   pub one : (o : O) (x y : N) → IsOwed o → IsDueIn place IsDue ns x → IsDueIn place IsDue ns y → Pays x o → Pays y o

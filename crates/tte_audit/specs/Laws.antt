@@ -10,6 +10,10 @@ use Rattle.net_plan.specs.declared.ids.LinkId.{LinkId}
 use Rattle.net_plan.specs.declared.network.Network.{Network}
 use Rattle.tte_audit.specs.Answers.{IsAudited, IsOfFormOrEvents, IsRefusedBy}
 use Rattle.tte_audit.specs.Arrivals.{IsDueByArrival, OwesArrival, TellsArrival}
+use Rattle.tte_audit.specs.Changes.{IsDueByChange, OwesChange, TellsChange}
+use Rattle.tte_audit.specs.LostSends.{IsDueBySend, OwesLoss, TellsLoss}
+use Rattle.tte_audit.specs.EndClocks.{IsDueByEnd, OwesClock, TellsClock}
+use Rattle.net_plan.specs.declared.ids.DeviceId.{DeviceId}
 use Rattle.tte_audit.specs.Debts.{AreDebts}
 use Rattle.tte_audit.specs.Departures.{IsDueByLeaving, OwesDeparture, TellsDeparture}
 use Rattle.tte_audit.specs.Named.{IsNamed}
@@ -91,3 +95,22 @@ abbrev pub ArrivalLaw : Type 0
 ArrivalLaw =
     (s : Scenario) (hs : List Happening) (until : ℕ) → IsFounded place_of (IsDue s) hs
     → AreOwed s hs until (IsDueByArrival s) (OwesArrival s hs until) (λ x cause. TellsArrival cause x.note.body)
+
+-- for each record that changes a device's state, by an event, a frame or a correction, the record of that state
+abbrev pub ChangeLaw : Type 0
+ChangeLaw =
+    (s : Scenario) (hs : List Happening) (until : ℕ) → IsFounded place_of (IsDue s) hs
+    → AreOwed s hs until (IsDueByChange s) (OwesChange s hs until) (λ x cause. TellsChange cause x.note.body)
+
+-- for each `send` event on a way that is cut its loss
+abbrev pub LossLaw : Type 0
+LossLaw =
+    (s : Scenario) (hs : List Happening) (until : ℕ) → IsFounded place_of (IsDue s) hs
+    → AreOwed s hs until (IsDueBySend s) (OwesLoss s hs until) (λ x cause. TellsLoss cause x.note.body)
+
+-- and for each device, where the events end, its clock
+abbrev pub ClockLaw : Type 0
+ClockLaw =
+    (s : Scenario) (hs : List Happening) (until : ℕ) → IsFounded place_of (IsDue s) hs
+    → AreOwed s hs until (IsDueByEnd s) (λ (at : DeviceId × ℕ). OwesClock s until at.0 at.1)
+    (λ x at. TellsClock at.0 at.1 x)
