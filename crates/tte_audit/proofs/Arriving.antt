@@ -1,15 +1,14 @@
 -- What is owed of arrivals is due.
-use Rattle.std.proofs.lemmas.Bool.{and_parts, both_ways, cases_lt, eqb-true, false_from_ne_true, le-ltb, ltb-true, or_cases}
-use Rattle.std.proofs.Common.{◌≡◌, ℕ, ◌+◌, ◌<◌, ◌≤◌, Bool, true, false, List, [], ◌∷◌, ◌++◌, Option, Some, None, filter, inl, inr, refl, sym, ap, subst, ◌∙◌, arith}
+use Rattle.std.proofs.lemmas.Bool.{and_parts, both_ways, cases_lt, eqb-true, false_from_ne_true, ltb-true, or_cases}
+use Rattle.std.proofs.Common.{◌≡◌, ℕ, ◌+◌, ◌≤◌, Bool, true, false, List, [], ◌∷◌, ◌++◌, Option, Some, None, filter, inl, inr, refl, sym, ap, subst, ◌∙◌, arith}
 use Rattle.std.specs.List.{last_or}
-use Rattle.std.specs.Prelude.{◌==◌, ◌&&◌, ◌||◌, Result, Ok, Err, length, nat_lt, not, option_and_then, option_map, if◌then◌else◌}
+use Rattle.std.specs.Prelude.{◌==◌, ◌&&◌, ◌||◌, Ok, Err, length, nat_lt, not, option_and_then, if◌then◌else◌}
 use Rattle.net_plan.specs.declared.ids.DeviceId.{DeviceId}
 use Rattle.net_plan.specs.declared.ids.LinkId.{LinkId}
 use Rattle.net_plan.specs.declared.ids.VlId.{VlId}
 use Rattle.net_plan.specs.declared.network.Network.{Network}
 use Rattle.net_plan.specs.declared.tables.Way.TheVariants.{Up, Down}
 use Rattle.net_plan.specs.declared.tables.Way.{Way}
-use Rattle.net_plan.specs.declared.event.What.TheVariants.{Send}
 use Rattle.pcf_values.specs.declared.pcf.Pcf.{Pcf}
 use Rattle.run_law.specs.control.Arrivals.{control_arrival, frame_fault, frame_or_fault}
 use Rattle.run_law.specs.control.Leaving.{Gives}
@@ -29,7 +28,7 @@ use Rattle.run_law.specs.runs.Runs.{IsFounded}
 use Rattle.run_law.specs.scenario.Devices.{is_end, is_parent_of, is_relay}
 use Rattle.run_law.specs.scenario.Scenarios.{Scenario, is_broken, is_turned_on_at}
 use Rattle.run_law.specs.scenario.Ways.{delay_at, receiver_of}
-use Rattle.run_law.specs.timed.Arrivals.{entry_arrival, entry_entering, octets_fault, octets_or_fault, row_fault, taken_or_fault, timed_arrival}
+use Rattle.run_law.specs.timed.Arrivals.{entry_arrival, octets_fault, octets_or_fault, row_fault, taken_or_fault, timed_arrival}
 use Rattle.run_law.specs.timed.Receptions.{ArrivesAs, arrival_of, comes_before, is_taken_before, last_taken, taken_cycle}
 use Rattle.schedule_tables.specs.declared.entry.Entry.{Entry}
 use Rattle.sync_state.specs.declared.state.State.TheVariants.{Integrating}
@@ -43,7 +42,7 @@ use Rattle.tte_units.specs.declared.units.Units.{Units}
 use Rattle.tte_audit.specs.Arrivals.{IsDueByArrival, OwesArrival, TellsArrival, arrival_record}
 use Rattle.tte_audit.specs.Debts.{IsDueIn}
 use Rattle.tte_audit.specs.Laws.{ArrivalLaw}
-use Rattle.tte_audit.proofs.Owing.{due_there, earlier_in, found_before, in_whole, next_is_due, next_of, split_at, timely, within}
+use Rattle.tte_audit.proofs.Owing.{due_there, found_before, in_whole, next_is_due, next_of, split_at, timely, within}
 
 -- ---- one judgement, by a front or by the whole list
 
@@ -396,13 +395,13 @@ arrival_owed s hs until x founded h here =
 -- ---- what pays for one is at one place
 
 -- the record may put a frame on a wire
-abbrev IsPutting : NoteBody → Type 0
+abbrev pub IsPutting : NoteBody → Type 0
 IsPutting (notes.Left device link cause clock) = Unit {0}
 IsPutting (notes.TtSent device link cause vl cycle) = Unit {0}
 IsPutting (notes.Event line what) = Unit {0}
 IsPutting other = ⊥
 
-puts : (s : Scenario) (h : Happening) (t : ℕ) (body : NoteBody) (l : Launch) → launched s h t body ≡ Some l → IsPutting body
+pub puts : (s : Scenario) (h : Happening) (t : ℕ) (body : NoteBody) (l : Launch) → launched s h t body ≡ Some l → IsPutting body
 puts s h t (notes.Left device link cause clock) l e = tt
 puts s h t (notes.TtSent device link cause vl cycle) l e = tt
 puts s h t (notes.Event line what) l e = tt

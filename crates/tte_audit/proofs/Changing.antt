@@ -1,6 +1,6 @@
 -- What is owed of changes of state is due.
 use Rattle.std.proofs.lemmas.Bool.{eqb-true}
-use Rattle.std.proofs.Common.{◌≡◌, ℕ, ◌+◌, ◌<◌, ◌≤◌, true, List, [], ◌∷◌, ◌++◌, Option, Some, None, inl, inr, refl, sym, ap, subst, ◌∙◌, arith, if◌then◌else◌}
+use Rattle.std.proofs.Common.{◌≡◌, ℕ, ◌+◌, ◌<◌, true, List, [], ◌∷◌, Option, Some, None, refl, sym, ap, subst, ◌∙◌, arith, if◌then◌else◌}
 use Rattle.net_plan.specs.declared.event.What.TheVariants.{On}
 use Rattle.net_plan.specs.declared.ids.DeviceId.{DeviceId}
 use Rattle.run_law.specs.declared.judgement.Judgement.TheVariants.{Integrates}
@@ -21,7 +21,6 @@ use Rattle.sync_state.specs.declared.state.State.TheVariants.{Integrating, Joini
 use Rattle.sync_state.specs.declared.state.State.{State}
 use Rattle.run_law.proofs.law.FirstPlaces.{same_earlier, split}
 use Rattle.run_law.proofs.runs.SameSteps.{same_some}
-use Rattle.tte_units.specs.Amount.{units_of}
 use Rattle.tte_audit.specs.Changes.{IsBrought, IsDueByChange, OwesChange, TellsChange}
 use Rattle.tte_audit.specs.Debts.{IsDueIn}
 use Rattle.tte_audit.specs.Laws.{ChangeLaw}

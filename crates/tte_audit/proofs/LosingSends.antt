@@ -1,5 +1,5 @@
 -- What is owed of `send` events on ways that are cut is due.
-use Rattle.std.proofs.Common.{◌≡◌, ℕ, ◌+◌, ◌<◌, ◌≤◌, List, [], ◌∷◌, ◌++◌, Option, Some, None, inl, inr, refl, sym, ap, subst, ◌∙◌, arith}
+use Rattle.std.proofs.Common.{◌≡◌, ℕ, ◌+◌, List, [], ◌∷◌, Some, inl, inr, refl, sym, ap, subst, ◌∙◌, arith}
 use Rattle.std.specs.Prelude.{slice_get}
 use Rattle.net_plan.specs.declared.event.What.TheVariants.{Send}
 use Rattle.net_plan.specs.declared.ids.DeviceId.{DeviceId}
@@ -10,7 +10,6 @@ use Rattle.run_law.specs.control.Leaving.{Gives}
 use Rattle.run_law.specs.control.Losses.{IsSendLost}
 use Rattle.run_law.specs.declared.note.NoteBody.TheVariants as notes
 use Rattle.run_law.specs.declared.note.NoteBody.{NoteBody}
-use Rattle.run_law.specs.records.Causes.{IsOfThisTime}
 use Rattle.run_law.specs.records.Happenings.{Happening, numbered, time_of}
 use Rattle.run_law.specs.records.Order.{IsBefore}
 use Rattle.run_law.specs.records.Ranks.{key, members_in, place_at, place_of, rank}

@@ -11,6 +11,7 @@ use Rattle.net_plan.specs.declared.network.Network.{Network}
 use Rattle.tte_audit.specs.Answers.{IsAudited, IsOfFormOrEvents, IsRefusedBy}
 use Rattle.tte_audit.specs.Arrivals.{IsDueByArrival, OwesArrival, TellsArrival}
 use Rattle.tte_audit.specs.Changes.{IsDueByChange, OwesChange, TellsChange}
+use Rattle.tte_audit.specs.Permanences.{IsDueByPermanence, OwesPermanence, TellsPermanence}
 use Rattle.tte_audit.specs.LostSends.{IsDueBySend, OwesLoss, TellsLoss}
 use Rattle.tte_audit.specs.EndClocks.{IsDueByEnd, OwesClock, TellsClock}
 use Rattle.net_plan.specs.declared.ids.DeviceId.{DeviceId}
@@ -114,3 +115,10 @@ ClockLaw =
     (s : Scenario) (hs : List Happening) (until : ℕ) → IsFounded place_of (IsDue s) hs
     → AreOwed s hs until (IsDueByEnd s) (λ (at : DeviceId × ℕ). OwesClock s until at.0 at.1)
     (λ x at. TellsClock at.0 at.1 x)
+
+-- for each frame that has arrived and waits, what becomes of it at its point
+abbrev pub PermanenceLaw : Type 0
+PermanenceLaw =
+    (s : Scenario) (hs : List Happening) (until : ℕ) → IsFounded place_of (IsDue s) hs
+    → AreOwed s hs until (IsDueByPermanence s) (OwesPermanence s hs until)
+    (λ x cause. TellsPermanence cause x.note.body)
