@@ -46,7 +46,7 @@ use Rattle.tte_audit.proofs.PermanentDrops.{not_old}
 
 -- ---- places
 
-is_before_true : (p q : List ℕ) → is_before p q ≡ true → IsBefore p q
+pub is_before_true : (p q : List ℕ) → is_before p q ≡ true → IsBefore p q
 is_before_true p [] e = absurd cc
 is_before_true [] (y ∷ ys) e = tt
 is_before_true (x ∷ xs) (y ∷ ys) e =
@@ -299,7 +299,7 @@ arrived_clock (notes.Arrived device link from clock) = clock
 arrived_clock body = 0
 
 -- a reading reaches a value at one time
-one_reach : (reading : ℕ → ℕ) (from v : ℤ) (t u : ℕ) → IsReach reading from v (pos t) → IsReach reading from v (pos u) → t ≡ u
+pub one_reach : (reading : ℕ → ℕ) (from v : ℤ) (t u : ℕ) → IsReach reading from v (pos t) → IsReach reading from v (pos u) → t ≡ u
 one_reach reading from v t u a b =
     elim (cases_order t u) [
       | inl same ↦ same

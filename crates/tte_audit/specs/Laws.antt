@@ -13,6 +13,9 @@ use Rattle.tte_audit.specs.Arrivals.{IsDueByArrival, OwesArrival, TellsArrival}
 use Rattle.tte_audit.specs.Changes.{IsDueByChange, OwesChange, TellsChange}
 use Rattle.tte_audit.specs.Permanences.{IsDueByPermanence, OwesPermanence, TellsPermanence}
 use Rattle.tte_audit.specs.LostSends.{IsDueBySend, OwesLoss, TellsLoss}
+use Rattle.compression.specs.declared.compressed.Compressed.{Compressed}
+use Rattle.tte_audit.specs.Dispatched.{IsDueByDispatch, IsDueBySending, OwesDispatch, OwesSending, TellsDispatch, TellsSending}
+use Rattle.tte_audit.specs.Emitted.{IsDueByEmission, OwesEmission, TellsEmission}
 use Rattle.tte_audit.specs.EndClocks.{IsDueByEnd, OwesClock, TellsClock}
 use Rattle.net_plan.specs.declared.ids.DeviceId.{DeviceId}
 use Rattle.tte_audit.specs.Debts.{AreDebts}
@@ -122,3 +125,22 @@ PermanenceLaw =
     (s : Scenario) (hs : List Happening) (until : ℕ) → IsFounded place_of (IsDue s) hs
     → AreOwed s hs until (IsDueByPermanence s) (OwesPermanence s hs until)
     (λ x cause. TellsPermanence cause x.note.body)
+
+-- for each cluster of a compression master, the frame that it sends
+abbrev pub EmissionLaw : Type 0
+EmissionLaw =
+    (s : Scenario) (hs : List Happening) (until : ℕ) → IsFounded place_of (IsDue s) hs
+    → AreOwed s hs until (IsDueByEmission s) (λ (o : DeviceId × Compressed). OwesEmission s hs until o.0 o.1)
+    (λ x o. TellsEmission o.0 o.1 x.note.body)
+
+-- for each cycle that a synchronised master begins, the frame that it sends
+abbrev pub SendingLaw : Type 0
+SendingLaw =
+    (s : Scenario) (hs : List Happening) (until : ℕ) → IsFounded place_of (IsDue s) hs
+    → AreOwed s hs until (IsDueBySending s) (OwesSending s hs until) (λ x o. TellsSending o x)
+
+-- and for each row's frame that a synchronised device has at hand at its offset, its dispatch, or its loss
+abbrev pub DispatchLaw : Type 0
+DispatchLaw =
+    (s : Scenario) (hs : List Happening) (until : ℕ) → IsFounded place_of (IsDue s) hs
+    → AreOwed s hs until (IsDueByDispatch s) (OwesDispatch s hs until) (λ x o. TellsDispatch s o x)
