@@ -18,6 +18,7 @@ use Rattle.tte_audit.specs.Dispatched.{IsDueByDispatch, IsDueBySending, OwesDisp
 use Rattle.tte_audit.specs.Emitted.{IsDueByEmission, OwesEmission, TellsEmission}
 use Rattle.tte_audit.specs.EndClocks.{IsDueByEnd, OwesClock, TellsClock}
 use Rattle.net_plan.specs.declared.ids.DeviceId.{DeviceId}
+use Rattle.tte_audit.specs.CorrectionPoints.{IsDueByPoint, OwesPoint, TellsPoint}
 use Rattle.tte_audit.specs.Debts.{AreDebts}
 use Rattle.tte_audit.specs.Departures.{IsDueByLeaving, OwesDeparture, TellsDeparture}
 use Rattle.tte_audit.specs.Named.{IsNamed}
@@ -144,3 +145,10 @@ abbrev pub DispatchLaw : Type 0
 DispatchLaw =
     (s : Scenario) (hs : List Happening) (until : ℕ) → IsFounded place_of (IsDue s) hs
     → AreOwed s hs until (IsDueByDispatch s) (OwesDispatch s hs until) (λ x o. TellsDispatch s o x)
+
+-- for each correction point at which a device does not only clear, its correction, or its state by a clique
+abbrev pub PointLaw : Type 0
+PointLaw =
+    (s : Scenario) (hs : List Happening) (until : ℕ) → IsFounded place_of (IsDue s) hs
+    → AreOwed s hs until (IsDueByPoint s) (λ (at : DeviceId × ℕ). OwesPoint s hs until at.0 at.1)
+    (λ x at. TellsPoint at.0 at.1 x)
