@@ -293,7 +293,7 @@ point_owed s hs until x h here =
     )
 
 -- a record that is due and tells of a device's correction point is due by it
-by_point : (s : Scenario) (before : List Happening) (x : Happening) (device : DeviceId) → IsDue s before x → (body : NoteBody) → x.note.body ≡ body
+pub by_point : (s : Scenario) (before : List Happening) (x : Happening) (device : DeviceId) → IsDue s before x → (body : NoteBody) → x.note.body ≡ body
     → IsCaused s before x.note.time body → IsPointOf device body → (d : IsDueByPoint s before x) × (d.device ≡ device)
 by_point s before x device due (notes.Corrected other cycle by adjustment) is c e = (
   record {

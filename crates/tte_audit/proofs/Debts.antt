@@ -20,7 +20,7 @@ one_split {N} place p (x ∷ ps) qs (l ∷ ls) rs e a n b m =
     ap (λ (t : N). t ∷ ps) head ∙ ap (λ (t : List N). l ∷ t) (one_split place p ps qs ls rs tail (λ y i. a y (inr i)) n (λ y i. b y (inr i)) m)
 
 -- each record of a founded list is due in it
-due_in : {N : Type 0} (place : N → List ℕ) (IsDue : List N → N → Type 0) (ns : List N) (m : N) → IsFounded place IsDue ns → IsIn m ns → IsDueIn place IsDue ns m
+pub due_in : {N : Type 0} (place : N → List ℕ) (IsDue : List N → N → Type 0) (ns : List N) (m : N) → IsFounded place IsDue ns → IsIn m ns → IsDueIn place IsDue ns m
 due_in {N} place IsDue ns m founded i =
     let at = parted m ns i in
     let here = founded at.0 at.1 m at.2 in
@@ -38,7 +38,7 @@ due_in {N} place IsDue ns m founded i =
     }
 
 -- two records that are due in a list at one place are one
-one_due : {N : Type 0} (place : N → List ℕ) (IsDue : List N → N → Type 0) (ns : List N) (x y : N) → IsDetermined place IsDue → IsDueIn place IsDue ns x
+pub one_due : {N : Type 0} (place : N → List ℕ) (IsDue : List N → N → Type 0) (ns : List N) (x y : N) → IsDetermined place IsDue → IsDueIn place IsDue ns x
     → IsDueIn place IsDue ns y → place x ≡ place y → x ≡ y
 one_due {N} place IsDue ns x y one a b same =
     let fronts = one_split place (place x) a.before a.behind b.before b.behind (sym a.parts ∙ b.parts) a.all_before a.none_before

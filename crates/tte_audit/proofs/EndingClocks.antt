@@ -1,6 +1,5 @@
 -- What is owed at the end of the events is due.
-use Rattle.std.proofs.lemmas.Int.{ints}
-use Rattle.std.proofs.Common.{◌≡◌, ℕ, ◌+◌, ℤ, pos, negsuc, ◌≤ℤ◌, List, [], ◌∷◌, refl, sym, ap, subst, ◌∙◌, arith, unsigned_abs}
+use Rattle.std.proofs.Common.{◌≡◌, ℕ, ◌+◌, List, [], ◌∷◌, refl, sym, ap, subst, ◌∙◌}
 use Rattle.net_plan.specs.declared.ids.DeviceId.{DeviceId}
 use Rattle.run_law.specs.declared.note.NoteBody.TheVariants as notes
 use Rattle.run_law.specs.declared.note.NoteBody.{NoteBody}
@@ -12,12 +11,11 @@ use Rattle.run_law.specs.runs.DueRecords.{EndsAt, IsClockRecord, IsDue}
 use Rattle.run_law.specs.runs.Runs.{IsFounded}
 use Rattle.run_law.specs.scenario.Scenarios.{Scenario}
 use Rattle.run_law.proofs.law.FirstPlaces.{split}
-use Rattle.tte_units.specs.Amount.{amount, units_of}
-use Rattle.tte_units.specs.declared.units.Units.{Units}
+use Rattle.tte_units.specs.Amount.{units_of}
 use Rattle.tte_audit.specs.Debts.{IsDueIn}
 use Rattle.tte_audit.specs.EndClocks.{IsClockOf, IsDueByEnd, OwesClock, TellsClock}
 use Rattle.tte_audit.specs.Laws.{ClockLaw}
-use Rattle.tte_audit.proofs.Owing.{due_there, next_is_due, next_of, timely, within}
+use Rattle.tte_audit.proofs.Owing.{due_there, next_is_due, next_of, of_amount, timely, within}
 
 some_clock : (s : Scenario) (hs : List Happening) (until : ℕ) (device : DeviceId) (time : ℕ) → IsFounded place_of (IsDue s) hs
     → OwesClock s until device time
@@ -42,14 +40,6 @@ some_clock s hs until device time founded o =
       says = refl;
     } in
     (x, due_there (IsDueByEnd s) hs p at x refl due, within time until (14 ∷ device.0 ∷ []) o.timely, (refl, refl))
-
-whole : (a : ℤ) → pos 0 ≤ℤ a → a ≡ pos (unsigned_abs a)
-whole (pos n) begun = refl
-whole (negsuc n) begun = absurd (omega (arith, ints))
-
--- a time from 0 on is of its amount
-of_amount : (t : Units) → pos 0 ≤ℤ t.0 → t ≡ units_of (amount t)
-of_amount t begun = ap (λ (n : ℤ). let u : Units = record { 0 = n } in u) (whole t.0 begun)
 
 clock_owed : (s : Scenario) (hs : List Happening) (until : ℕ) (x : Happening) → IsDueIn place_of (IsDueByEnd s) hs x
     → IsBefore (place_of x) ((until + 1) ∷ []) → (at : DeviceId × ℕ) × OwesClock s until at.0 at.1 × TellsClock at.0 at.1 x

@@ -1,7 +1,7 @@
 -- What is due in a founded list, by its places.
 use Rattle.std.proofs.lemmas.Bool.{cases_order}
 use Rattle.std.proofs.lemmas.Int.{ints}
-use Rattle.std.proofs.Common.{◌≡◌, ℕ, zero, suc, ◌+◌, ◌<◌, ◌≤◌, List, [], ◌∷◌, ◌++◌, Some, length, inl, inr, refl, sym, subst, arith}
+use Rattle.std.proofs.Common.{◌≡◌, ℕ, zero, suc, ℤ, pos, negsuc, ◌≤ℤ◌, unsigned_abs, ◌+◌, ◌<◌, ◌≤◌, List, [], ◌∷◌, ◌++◌, Some, length, inl, inr, refl, sym, ap, subst, arith}
 use Rattle.net_plan.specs.declared.ids.DeviceId.{DeviceId}
 use Rattle.net_plan.specs.declared.ids.VlId.{VlId}
 use Rattle.run_law.specs.timed.Dispatching.{HasAccepted}
@@ -15,7 +15,8 @@ use Rattle.run_law.specs.scenario.Scenarios.{Scenario}
 use Rattle.run_law.specs.declared.note.Note.{Note}
 use Rattle.run_law.specs.declared.note.NoteBody.{NoteBody}
 use Rattle.run_law.proofs.law.FirstPlaces.{IsSplit, by_number, front_founded, in_front_of, number_is, numbered_front, numbered_in, same_earlier}
-use Rattle.tte_units.specs.Amount.{units_of}
+use Rattle.tte_units.specs.Amount.{amount, units_of}
+use Rattle.tte_units.specs.declared.units.Units.{Units}
 use Rattle.tte_audit.specs.Debts.{IsDueIn}
 
 -- a place of a lower rank, at a time that is not later, is before
@@ -94,3 +95,11 @@ pub taken_there : (s : Scenario) (before : List Happening) (device : DeviceId) (
 taken_there s before device vl t cause cycle founded has =
     let found = by_number s before has.taken founded (accepted_in before device vl t cause cycle has) in
     subst (λ (n : ℕ). numbered before n ≡ Some has.taken) (sym has.number) found
+
+whole : (a : ℤ) → pos 0 ≤ℤ a → a ≡ pos (unsigned_abs a)
+whole (pos n) begun = refl
+whole (negsuc n) begun = absurd (omega (arith, ints))
+
+-- a time from 0 on is of its amount
+pub of_amount : (t : Units) → pos 0 ≤ℤ t.0 → t ≡ units_of (amount t)
+of_amount t begun = ap (λ (n : ℤ). let u : Units = record { 0 = n } in u) (whole t.0 begun)

@@ -367,7 +367,7 @@ same_place s hs t u device other link by cause from p q a b causes x y =
     ∙ ap (λ (l : LinkId). record_place u other l cause y.frame q b) same.links
     ∙ ap (λ (n : ℕ). record_place u other by n y.frame q b) causes
 
-recorded : (device : DeviceId) (link : LinkId) (cause : ℕ) (point : Units) (v : Judgement)
+pub recorded : (device : DeviceId) (link : LinkId) (cause : ℕ) (point : Units) (v : Judgement)
     → permanence_record device link cause point (ripe_as v) ≡ notes.Permanent device link cause point v
 recorded device link cause point judgements.Opened = refl
 recorded device link cause point judgements.Joined = refl

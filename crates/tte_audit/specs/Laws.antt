@@ -1,7 +1,7 @@
 -- What holds of audits.
 use Rattle.std.specs.Prelude.{◌≡◌, ℕ, ◌+◌, ◌↔◌, List, [], ◌∷◌, ◌++◌}
 use Rattle.run_law.specs.records.Happenings.{Happening}
-use Rattle.run_law.specs.records.Order.{behind}
+use Rattle.run_law.specs.records.Order.{IsBefore, behind}
 use Rattle.run_law.specs.records.Ranks.{place_of}
 use Rattle.run_law.specs.runs.DueRecords.{IsDue}
 use Rattle.run_law.specs.runs.Runs.{IsFounded, IsNextOf, IsRun}
@@ -19,7 +19,9 @@ use Rattle.tte_audit.specs.Emitted.{IsDueByEmission, OwesEmission, TellsEmission
 use Rattle.tte_audit.specs.EndClocks.{IsDueByEnd, OwesClock, TellsClock}
 use Rattle.net_plan.specs.declared.ids.DeviceId.{DeviceId}
 use Rattle.tte_audit.specs.CorrectionPoints.{IsDueByPoint, OwesPoint, TellsPoint}
-use Rattle.tte_audit.specs.Debts.{AreDebts}
+use Rattle.tte_audit.specs.Debts.{AreDebts, IsPaid}
+use Rattle.tte_audit.specs.Owed.{Debt, IsOwed, Pays}
+use Rattle.tte_audit.specs.TracedEvents.{IsDueByEvent, OwesEvent, TellsEvent}
 use Rattle.tte_audit.specs.Departures.{IsDueByLeaving, OwesDeparture, TellsDeparture}
 use Rattle.tte_audit.specs.Named.{IsNamed}
 use Rattle.tte_audit.specs.declared.refusal.AuditRefusal.{AuditRefusal}
@@ -88,14 +90,20 @@ abbrev pub AreOwed : {O : Type 0} → Scenario → List Happening → ℕ → (L
     → (O → Type 0) → (Happening → O → Type 0) → Type 0
 AreOwed {O} s hs until IsDueSo IsOwed Pays = AreDebts place_of (IsDue s) IsDueSo ((until + 1) ∷ []) hs IsOwed Pays
 
--- every list of records that are due owes for each frame that is given to a link its leaving, its loss or its drop
+-- every list of records that are due owes for each event its record
+abbrev pub EventLaw : Type 0
+EventLaw =
+    (s : Scenario) (hs : List Happening) (until : ℕ) → IsFounded place_of (IsDue s) hs
+    → AreOwed s hs until (IsDueByEvent s) (OwesEvent s until) (λ x line. TellsEvent line x.note.body)
+
+-- for each frame that is given to a link its leaving, its loss or its drop
 abbrev pub DepartureLaw : Type 0
 DepartureLaw =
     (s : Scenario) (hs : List Happening) (until : ℕ) → IsFounded place_of (IsDue s) hs
     → AreOwed s hs until (IsDueByLeaving s) (λ (given : ℕ × LinkId). OwesDeparture s hs until given.0 given.1)
     (λ x given. TellsDeparture given.0 given.1 x.note.body)
 
--- and for each frame that is put on a wire its arrival
+-- for each frame that is put on a wire its arrival
 abbrev pub ArrivalLaw : Type 0
 ArrivalLaw =
     (s : Scenario) (hs : List Happening) (until : ℕ) → IsFounded place_of (IsDue s) hs
@@ -113,7 +121,7 @@ LossLaw =
     (s : Scenario) (hs : List Happening) (until : ℕ) → IsFounded place_of (IsDue s) hs
     → AreOwed s hs until (IsDueBySend s) (OwesLoss s hs until) (λ x cause. TellsLoss cause x.note.body)
 
--- and for each device, where the events end, its clock
+-- for each device, where the events end, its clock
 abbrev pub ClockLaw : Type 0
 ClockLaw =
     (s : Scenario) (hs : List Happening) (until : ℕ) → IsFounded place_of (IsDue s) hs
@@ -140,15 +148,29 @@ SendingLaw =
     (s : Scenario) (hs : List Happening) (until : ℕ) → IsFounded place_of (IsDue s) hs
     → AreOwed s hs until (IsDueBySending s) (OwesSending s hs until) (λ x o. TellsSending o x)
 
--- and for each row's frame that a synchronised device has at hand at its offset, its dispatch, or its loss
+-- for each row's frame that a synchronised device has at hand at its offset, its dispatch, or its loss
 abbrev pub DispatchLaw : Type 0
 DispatchLaw =
     (s : Scenario) (hs : List Happening) (until : ℕ) → IsFounded place_of (IsDue s) hs
     → AreOwed s hs until (IsDueByDispatch s) (OwesDispatch s hs until) (λ x o. TellsDispatch s o x)
 
--- for each correction point at which a device does not only clear, its correction, or its state by a clique
+-- and for each correction point at which a device does not only clear, its correction, or its state by a clique
 abbrev pub PointLaw : Type 0
 PointLaw =
     (s : Scenario) (hs : List Happening) (until : ℕ) → IsFounded place_of (IsDue s) hs
     → AreOwed s hs until (IsDueByPoint s) (λ (at : DeviceId × ℕ). OwesPoint s hs until at.0 at.1)
     (λ x at. TellsPoint at.0 at.1 x)
+
+-- a list whose records are sound up to a time lacks what its unpaid debts want, and is the run where each is paid
+pub record ShowsInDebts (s : Scenario) (hs : List Happening) (until : ℕ) : Type 0 where
+  pub lacking : (x : Happening) → IsLacking place_of (IsDue s) hs x → IsBefore (place_of x) ((until + 1) ∷ [])
+      → (o : Debt) × IsOwed s hs until o × Pays s x o × (IsPaid hs (Pays s) o → ⊥)
+  pub unpaid : (o : Debt) → IsOwed s hs until o → (IsPaid hs (Pays s) o → ⊥)
+      → (x : Happening) × IsLacking place_of (IsDue s) hs x × IsBefore (place_of x) ((until + 1) ∷ []) × Pays s x o
+  pub run : IsRun place_of (IsDue s) ((until + 1) ∷ []) hs ↔ ((o : Debt) → IsOwed s hs until o → IsPaid hs (Pays s) o)
+
+-- so it is of every list whose records are all sound
+abbrev pub DebtLaw : Type 0
+DebtLaw =
+    (s : Scenario) (hs : List Happening) (until : ℕ) → AreSound place_of (IsDue s) ((until + 1) ∷ []) hs
+    → ShowsInDebts s hs until
