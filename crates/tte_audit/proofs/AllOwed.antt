@@ -26,9 +26,9 @@ use Rattle.tte_audit.specs.Departures.{IsDueByLeaving}
 use Rattle.tte_audit.specs.Dispatched.{Dispatch, IsDueByDispatch, IsDueBySending, dispatch_record}
 use Rattle.tte_audit.specs.Emitted.{IsDueByEmission}
 use Rattle.tte_audit.specs.EndClocks.{IsDueByEnd}
-use Rattle.tte_audit.specs.Laws.{DebtLaw}
+use Rattle.tte_audit.specs.DebtLaws.{DebtLaw}
 use Rattle.tte_audit.specs.LostSends.{IsDueBySend}
-use Rattle.tte_audit.specs.Owed.{Debt, IsOwed, Pays}
+use Rattle.tte_audit.specs.Owed.{Debt, IsOwed, Pays, falls_due}
 use Rattle.tte_audit.specs.Owed as debts
 use Rattle.tte_audit.specs.Permanences.{IsDueByPermanence}
 use Rattle.tte_audit.specs.TracedEvents.{IsDueByEvent}
@@ -41,6 +41,7 @@ use Rattle.tte_audit.proofs.Dispatching.{dispatch_law, sending_law}
 use Rattle.tte_audit.proofs.Emitting.{emission_law}
 use Rattle.tte_audit.proofs.EndingClocks.{clock_law}
 use Rattle.tte_audit.proofs.LosingSends.{loss_law}
+use Rattle.tte_audit.proofs.Owing.{PaidAt}
 use Rattle.tte_audit.proofs.Ripening.{permanence_law, recorded}
 use Rattle.tte_audit.proofs.Sound.{founded_of_sound, run_exactly}
 use Rattle.tte_audit.proofs.TracingEvents.{event_law}
@@ -53,7 +54,7 @@ part_in s IsDueSo hs x h d =
 
 -- a record that pays a debt of the list
 abbrev PaysOne : Scenario → List Happening → ℕ → Happening → Type 0
-PaysOne s hs until x = (o : Debt) × IsOwed s hs until o × Pays s x o
+PaysOne s hs until x = (o : Debt) × (owed : IsOwed s hs until o) × Pays s x o × (time_of x ≡ falls_due s hs until o owed)
 
 -- a record that is due in a founded list, up to a time
 record IsDueUpTo (s : Scenario) (hs : List Happening) (until : ℕ) (x : Happening) : Type 0 where
@@ -65,37 +66,37 @@ for_arrival : (s : Scenario) (hs : List Happening) (until : ℕ) (x : Happening)
     → PaysOne s hs until x
 for_arrival s hs until x h d =
     let r = (arrival_law s hs until h.founded).each x (part_in s (IsDueByArrival s) hs x h.due d) h.here in
-    (debts.arrival r.0, r.1, r.2)
+    (debts.arrival r.0, r.1, r.2, r.3)
 
 for_permanence : (s : Scenario) (hs : List Happening) (until : ℕ) (x : Happening) → (h : IsDueUpTo s hs until x) → IsDueByPermanence s h.due.before x
     → PaysOne s hs until x
 for_permanence s hs until x h d =
     let r = (permanence_law s hs until h.founded).each x (part_in s (IsDueByPermanence s) hs x h.due d) h.here in
-    (debts.permanence r.0, r.1, r.2)
+    (debts.permanence r.0, r.1, r.2, r.3)
 
 for_point : (s : Scenario) (hs : List Happening) (until : ℕ) (x : Happening) → (h : IsDueUpTo s hs until x) → IsDueByPoint s h.due.before x
     → PaysOne s hs until x
 for_point s hs until x h d =
     let r = (point_law s hs until h.founded).each x (part_in s (IsDueByPoint s) hs x h.due d) h.here in
-    (debts.point r.0.0 r.0.1, r.1, r.2)
+    (debts.point r.0.0 r.0.1, r.1, r.2, r.3)
 
 for_change : (s : Scenario) (hs : List Happening) (until : ℕ) (x : Happening) → (h : IsDueUpTo s hs until x) → IsDueByChange s h.due.before x
     → PaysOne s hs until x
 for_change s hs until x h d =
     let r = (change_law s hs until h.founded).each x (part_in s (IsDueByChange s) hs x h.due d) h.here in
-    (debts.change r.0, r.1, r.2)
+    (debts.change r.0, r.1, r.2, r.3)
 
 for_leaving : (s : Scenario) (hs : List Happening) (until : ℕ) (x : Happening) → (h : IsDueUpTo s hs until x) → IsDueByLeaving s h.due.before x
     → PaysOne s hs until x
 for_leaving s hs until x h d =
     let r = (departure_law s hs until h.founded).each x (part_in s (IsDueByLeaving s) hs x h.due d) h.here in
-    (debts.departure r.0.0 r.0.1, r.1, r.2)
+    (debts.departure r.0.0 r.0.1, r.1, r.2, r.3)
 
 for_dispatch : (s : Scenario) (hs : List Happening) (until : ℕ) (x : Happening) → (h : IsDueUpTo s hs until x) → IsDueByDispatch s h.due.before x
     → PaysOne s hs until x
 for_dispatch s hs until x h d =
     let r = (dispatch_law s hs until h.founded).each x (part_in s (IsDueByDispatch s) hs x h.due d) h.here in
-    (debts.dispatch r.0, r.1, r.2)
+    (debts.dispatch r.0, r.1, r.2, r.3)
 
 -- each record that is due pays a debt
 pays_one : (s : Scenario) (hs : List Happening) (until : ℕ) (x : Happening) → (h : IsDueUpTo s hs until x) → (body : NoteBody) → x.note.body ≡ body
@@ -103,7 +104,7 @@ pays_one : (s : Scenario) (hs : List Happening) (until : ℕ) (x : Happening) �
 pays_one s hs until x h (notes.Event line what) is c =
     let d : IsDueByEvent s h.due.before x = record { due = h.due.due; line = line; what = what; befalls = c; says = is } in
     let r = (event_law s hs until h.founded).each x (part_in s (IsDueByEvent s) hs x h.due d) h.here in
-    (debts.event r.0, r.1, r.2)
+    (debts.event r.0, r.1, r.2, r.3)
 pays_one s hs until x h (notes.Arrived device link cause clock) is c =
     let shown : x.note.body ≡ notes.Arrived device link cause c.frame.clock = is ∙ ap (λ (k : ℕ). notes.Arrived device link cause k) c.shows in
     let of : (a : Arrival) → ArrivesAs s h.due.before device (time_of x) link cause a → x.note.body ≡ arrival_record device link cause a → PaysOne s hs until x
@@ -135,11 +136,11 @@ pays_one s hs until x h (notes.Compressed device opened at cycle members verdict
       says = is;
     } in
     let r = (emission_law s hs until h.founded).each x (part_in s (IsDueByEmission s) hs x h.due d) h.here in
-    (debts.emission r.0.0 r.0.1, r.1, r.2)
+    (debts.emission r.0.0 r.0.1, r.1, r.2, r.3)
 pays_one s hs until x h (notes.Sent device cycle) is c =
     let d : IsDueBySending s h.due.before x = record { due = h.due.due; device = device; cycle = cycle; sends = c; says = is } in
     let r = (sending_law s hs until h.founded).each x (part_in s (IsDueBySending s) hs x h.due d) h.here in
-    (debts.sending r.0, r.1, r.2)
+    (debts.sending r.0, r.1, r.2, r.3)
 pays_one s hs until x h (notes.Corrected device cycle by adjustment) is c =
     for_point s hs until x h (by_point s h.due.before x device h.due.due (notes.Corrected device cycle by adjustment) is c refl).0
 pays_one s hs until x h (notes.State device state cause whys.SyncClique) is c =
@@ -167,7 +168,7 @@ pays_one s hs until x h (notes.Lost device link cause) is c =
       | inr (inr lost) ↦
           let d : IsDueBySend s h.due.before x = record { due = h.due.due; device = device; link = link; cause = cause; lost = lost; says = is } in
           let r = (loss_law s hs until h.founded).each x (part_in s (IsDueBySend s) hs x h.due d) h.here in
-          (debts.loss r.0, r.1, r.2)
+          (debts.loss r.0, r.1, r.2, r.3)
     ]
 pays_one s hs until x h (notes.TtSent device link cause vl cycle) is c =
     let o : Dispatch = record { device = device; link = link; cause = cause; vl = vl; cycle = cycle; time = time_of x } in
@@ -195,44 +196,44 @@ pays_one s hs until x h (notes.Clock device shown adjustment state) is c =
     let d : IsDueByEnd s h.due.before x =
     record { due = h.due.due; device = device; shown = shown; adjustment = adjustment; state = state; clock = c; says = is } in
     let r = (clock_law s hs until h.founded).each x (part_in s (IsDueByEnd s) hs x h.due d) h.here in
-    (debts.clock r.0.0 r.0.1, r.1, r.2)
+    (debts.clock r.0.0 r.0.1, r.1, r.2, r.3)
 
 -- each debt is to be paid by a record that is due
-is_payable : (s : Scenario) (hs : List Happening) (until : ℕ) → IsFounded place_of (IsDue s) hs → (o : Debt) → IsOwed s hs until o
-    → (x : Happening) × IsDueIn place_of (IsDue s) hs x × IsBefore (place_of x) ((until + 1) ∷ []) × Pays s x o
+is_payable : (s : Scenario) (hs : List Happening) (until : ℕ) → IsFounded place_of (IsDue s) hs → (o : Debt) → (owed : IsOwed s hs until o)
+    → PaidAt s hs until (IsDue s) (falls_due s hs until o owed) (λ x. Pays s x o)
 is_payable s hs until founded (debts.event line) o =
     let r = (event_law s hs until founded).some line o in
-    (r.0, due_by_part place_of (IsDue s) (IsDueByEvent s) hs r.0 (λ ps x d. d.due) r.1, r.2, r.3)
+    (r.0, due_by_part place_of (IsDue s) (IsDueByEvent s) hs r.0 (λ ps x d. d.due) r.1, r.2, r.3, r.4)
 is_payable s hs until founded (debts.arrival cause) o =
     let r = (arrival_law s hs until founded).some cause o in
-    (r.0, due_by_part place_of (IsDue s) (IsDueByArrival s) hs r.0 (λ ps x d. d.due) r.1, r.2, r.3)
+    (r.0, due_by_part place_of (IsDue s) (IsDueByArrival s) hs r.0 (λ ps x d. d.due) r.1, r.2, r.3, r.4)
 is_payable s hs until founded (debts.permanence cause) o =
     let r = (permanence_law s hs until founded).some cause o in
-    (r.0, due_by_part place_of (IsDue s) (IsDueByPermanence s) hs r.0 (λ ps x d. d.due) r.1, r.2, r.3)
+    (r.0, due_by_part place_of (IsDue s) (IsDueByPermanence s) hs r.0 (λ ps x d. d.due) r.1, r.2, r.3, r.4)
 is_payable s hs until founded (debts.emission device sent) o =
     let r = (emission_law s hs until founded).some (device, sent) o in
-    (r.0, due_by_part place_of (IsDue s) (IsDueByEmission s) hs r.0 (λ ps x d. d.due) r.1, r.2, r.3)
+    (r.0, due_by_part place_of (IsDue s) (IsDueByEmission s) hs r.0 (λ ps x d. d.due) r.1, r.2, r.3, r.4)
 is_payable s hs until founded (debts.sending given) o =
     let r = (sending_law s hs until founded).some given o in
-    (r.0, due_by_part place_of (IsDue s) (IsDueBySending s) hs r.0 (λ ps x d. d.due) r.1, r.2, r.3)
+    (r.0, due_by_part place_of (IsDue s) (IsDueBySending s) hs r.0 (λ ps x d. d.due) r.1, r.2, r.3, r.4)
 is_payable s hs until founded (debts.point device time) o =
     let r = (point_law s hs until founded).some (device, time) o in
-    (r.0, due_by_part place_of (IsDue s) (IsDueByPoint s) hs r.0 (λ ps x d. d.due) r.1, r.2, r.3)
+    (r.0, due_by_part place_of (IsDue s) (IsDueByPoint s) hs r.0 (λ ps x d. d.due) r.1, r.2, r.3, r.4)
 is_payable s hs until founded (debts.change cause) o =
     let r = (change_law s hs until founded).some cause o in
-    (r.0, due_by_part place_of (IsDue s) (IsDueByChange s) hs r.0 (λ ps x d. d.due) r.1, r.2, r.3)
+    (r.0, due_by_part place_of (IsDue s) (IsDueByChange s) hs r.0 (λ ps x d. d.due) r.1, r.2, r.3, r.4)
 is_payable s hs until founded (debts.departure cause link) o =
     let r = (departure_law s hs until founded).some (cause, link) o in
-    (r.0, due_by_part place_of (IsDue s) (IsDueByLeaving s) hs r.0 (λ ps x d. d.due) r.1, r.2, r.3)
+    (r.0, due_by_part place_of (IsDue s) (IsDueByLeaving s) hs r.0 (λ ps x d. d.due) r.1, r.2, r.3, r.4)
 is_payable s hs until founded (debts.dispatch given) o =
     let r = (dispatch_law s hs until founded).some given o in
-    (r.0, due_by_part place_of (IsDue s) (IsDueByDispatch s) hs r.0 (λ ps x d. d.due) r.1, r.2, r.3)
+    (r.0, due_by_part place_of (IsDue s) (IsDueByDispatch s) hs r.0 (λ ps x d. d.due) r.1, r.2, r.3, r.4)
 is_payable s hs until founded (debts.loss cause) o =
     let r = (loss_law s hs until founded).some cause o in
-    (r.0, due_by_part place_of (IsDue s) (IsDueBySend s) hs r.0 (λ ps x d. d.due) r.1, r.2, r.3)
+    (r.0, due_by_part place_of (IsDue s) (IsDueBySend s) hs r.0 (λ ps x d. d.due) r.1, r.2, r.3, r.4)
 is_payable s hs until founded (debts.clock device time) o =
     let r = (clock_law s hs until founded).some (device, time) o in
-    (r.0, due_by_part place_of (IsDue s) (IsDueByEnd s) hs r.0 (λ ps x d. d.due) r.1, r.2, r.3)
+    (r.0, due_by_part place_of (IsDue s) (IsDueByEnd s) hs r.0 (λ ps x d. d.due) r.1, r.2, r.3, r.4)
 
 -- and what pays for one has one place
 has_one_place : (s : Scenario) (hs : List Happening) (until : ℕ) → IsFounded place_of (IsDue s) hs → (o : Debt) → (x y : Happening) → IsOwed s hs until o
@@ -251,7 +252,7 @@ has_one_place s hs until founded (debts.clock device time) x y = (clock_law s hs
 
 -- these are the debts of a founded list
 all_debts : (s : Scenario) (hs : List Happening) (until : ℕ) → IsFounded place_of (IsDue s) hs
-    → AreDebts place_of (IsDue s) (IsDue s) ((until + 1) ∷ []) hs (IsOwed s hs until) (Pays s)
+    → AreDebts place_of (IsDue s) (IsDue s) ((until + 1) ∷ []) hs (IsOwed s hs until) (falls_due s hs until) (Pays s)
 all_debts s hs until founded = record {
   each = λ x h here.
       let up : IsDueUpTo s hs until x = record { founded = founded; due = h; here = here } in
@@ -276,14 +277,16 @@ debt_law s hs until sound =
     let all = all_debts s hs until founded in
     record {
       lacking = λ x lack here.
-          unpaid_of_lack place_of (IsDue s) (IsDue s) ((until + 1) ∷ []) hs (IsOwed s hs until) (Pays s) (λ ps y d. d) all sound x lack here;
+          unpaid_of_lack place_of (IsDue s) (IsDue s) ((until + 1) ∷ []) hs (IsOwed s hs until) (falls_due s hs until) (Pays s)
+          (λ ps y d. d) all sound x lack here;
       unpaid = λ o owed not.
-          lack_of_unpaid place_of (IsDue s) (IsDue s) ((until + 1) ∷ []) hs (IsOwed s hs until) (Pays s) (due_is_determined s) (λ ps y d. d) all sound o owed not;
+          lack_of_unpaid place_of (IsDue s) (IsDue s) ((until + 1) ∷ []) hs (IsOwed s hs until) (falls_due s hs until) (Pays s)
+          (due_is_determined s) (λ ps y d. d) all sound o owed not;
       run = (
         λ run o owed. paid_in_run s hs until run o owed,
         λ paid. (run_exactly place_of (IsDue s) ((until + 1) ∷ []) hs).1 (
           sound,
-          lacks_nothing place_of (IsDue s) (IsDue s) ((until + 1) ∷ []) hs (IsOwed s hs until) (Pays s) (λ ps y d. d) all sound paid,
+          lacks_nothing place_of (IsDue s) (IsDue s) ((until + 1) ∷ []) hs (IsOwed s hs until) (falls_due s hs until) (Pays s) (λ ps y d. d) all sound paid,
         ),
       );
     }

@@ -41,8 +41,8 @@ use Rattle.tte_units.specs.Amount.{amount, units_of}
 use Rattle.tte_units.specs.declared.units.Units.{Units}
 use Rattle.tte_audit.specs.Arrivals.{IsDueByArrival, OwesArrival, TellsArrival, arrival_record}
 use Rattle.tte_audit.specs.Debts.{IsDueIn}
-use Rattle.tte_audit.specs.Laws.{ArrivalLaw}
-use Rattle.tte_audit.proofs.Owing.{due_there, found_before, in_whole, next_is_due, next_of, split_at, timely, within}
+use Rattle.tte_audit.specs.DebtLaws.{ArrivalLaw}
+use Rattle.tte_audit.proofs.Owing.{PaidAt, due_there, found_before, in_whole, next_is_due, next_of, split_at, timely, within}
 
 -- ---- one judgement, by a front or by the whole list
 
@@ -317,8 +317,8 @@ tells device link cause (arrivals.Waits frame point) = refl
 tells device link cause (arrivals.Passes frame way) = refl
 tells device link cause (arrivals.PassesAndWaits frame way point) = refl
 
-some_arrival : (s : Scenario) (hs : List Happening) (until cause : ℕ) → IsFounded place_of (IsDue s) hs → OwesArrival s hs until cause
-    → (x : Happening) × IsDueIn place_of (IsDueByArrival s) hs x × IsBefore (place_of x) ((until + 1) ∷ []) × TellsArrival cause x.note.body
+some_arrival : (s : Scenario) (hs : List Happening) (until cause : ℕ) → IsFounded place_of (IsDue s) hs → (o : OwesArrival s hs until cause)
+    → PaidAt s hs until (IsDueByArrival s) o.time (λ x. TellsArrival cause x.note.body)
 some_arrival s hs until cause founded o =
     let body = arrival_record o.device o.link cause o.is in
     let p = arrival_place o.time (rank body) o.device o.link cause in
@@ -340,6 +340,7 @@ some_arrival s hs until cause founded o =
       due_there (IsDueByArrival s) hs p at x place due,
       within o.time until (rank body ∷ key (members_in x) body) o.timely,
       tells o.device o.link cause o.is,
+      refl,
     )
 
 -- ---- what is due was owed
@@ -371,7 +372,7 @@ tells_its s before x h = subst (TellsArrival h.cause) (sym h.says) (tells h.devi
 
 arrival_owed : (s : Scenario) (hs : List Happening) (until : ℕ) (x : Happening) → IsFounded place_of (IsDue s) hs
     → IsDueIn place_of (IsDueByArrival s) hs x → IsBefore (place_of x) ((until + 1) ∷ [])
-    → (cause : ℕ) × OwesArrival s hs until cause × TellsArrival cause x.note.body
+    → (cause : ℕ) × (o : OwesArrival s hs until cause) × TellsArrival cause x.note.body × (time_of x ≡ o.time)
 arrival_owed s hs until x founded h here =
     let d = h.due in
     let arrives = due_arrives s hs x founded h in
@@ -390,7 +391,7 @@ arrival_owed s hs until x founded h here =
           (subst (IsBefore (place_of d.arrives.putting)) place first);
       timely = timely (time_of x) until (rank x.note.body ∷ key (members_in x) x.note.body) here;
     } in
-    (d.cause, owed, tells_its s h.before x d)
+    (d.cause, owed, tells_its s h.before x d, refl)
 
 -- ---- what pays for one is at one place
 
@@ -450,7 +451,8 @@ same_coming : (s : Scenario) (h : Happening) (d e : DeviceId) (l m : LinkId) (t 
 same_coming s h d e l m t u v w a b =
     let one : (let x : Launch = record { link = l; way = a.way; signal = v } in x)
     ≡ record { link = m; way = b.way; signal = w } =
-    same_some (launched s h (time_of h) h.note.body) (record { link = l; way = a.way; signal = v }) (record { link = m; way = b.way; signal = w }) a.put b.put in
+    same_some (launched s h (time_of h) h.note.body) (record { link = l; way = a.way; signal = v }) (record { link = m; way = b.way; signal = w })
+    a.put b.put in
     let links : l ≡ m = ap (λ (x : Launch). x.link) one in
     let ways : a.way ≡ b.way = ap (λ (x : Launch). x.way) one in
     let signals : v ≡ w = ap (λ (x : Launch). x.signal) one in

@@ -23,8 +23,8 @@ use Rattle.run_law.proofs.law.FirstPlaces.{same_earlier, split}
 use Rattle.run_law.proofs.runs.SameSteps.{same_some}
 use Rattle.tte_audit.specs.Changes.{IsBrought, IsDueByChange, OwesChange, TellsChange}
 use Rattle.tte_audit.specs.Debts.{IsDueIn}
-use Rattle.tte_audit.specs.Laws.{ChangeLaw}
-use Rattle.tte_audit.proofs.Owing.{ahead, due_there, earlier_in, found_before, from_one, in_whole, next_is_due, next_of, timely, within}
+use Rattle.tte_audit.specs.DebtLaws.{ChangeLaw}
+use Rattle.tte_audit.proofs.Owing.{PaidAt, ahead, due_there, earlier_in, found_before, from_one, in_whole, next_is_due, next_of, timely, within}
 
 -- ---- what brings a change
 
@@ -91,8 +91,8 @@ moved s gs hs device t state cause whys.AsyncClique b same there c = absurd b
 
 -- ---- the law
 
-some_change : (s : Scenario) (hs : List Happening) (until cause : ℕ) → IsFounded place_of (IsDue s) hs → OwesChange s hs until cause
-    → (x : Happening) × IsDueIn place_of (IsDueByChange s) hs x × IsBefore (place_of x) ((until + 1) ∷ []) × TellsChange cause x.note.body
+some_change : (s : Scenario) (hs : List Happening) (until cause : ℕ) → IsFounded place_of (IsDue s) hs → (o : OwesChange s hs until cause)
+    → PaidAt s hs until (IsDueByChange s) o.time (λ x. TellsChange cause x.note.body)
 some_change s hs until cause founded o =
     let body = notes.State o.device o.state cause o.why in
     let p = place_at o.time 0 body in
@@ -111,10 +111,10 @@ some_change s hs until cause founded o =
       changes = changes;
       says = refl;
     } in
-    (x, due_there (IsDueByChange s) hs p at x refl due, within o.time until (7 ∷ o.device.0 ∷ cause ∷ []) o.timely, refl)
+    (x, due_there (IsDueByChange s) hs p at x refl due, within o.time until (7 ∷ o.device.0 ∷ cause ∷ []) o.timely, refl, refl)
 
 change_owed : (s : Scenario) (hs : List Happening) (until : ℕ) (x : Happening) → IsDueIn place_of (IsDueByChange s) hs x
-    → IsBefore (place_of x) ((until + 1) ∷ []) → (cause : ℕ) × OwesChange s hs until cause × TellsChange cause x.note.body
+    → IsBefore (place_of x) ((until + 1) ∷ []) → (cause : ℕ) × (o : OwesChange s hs until cause) × TellsChange cause x.note.body × (time_of x ≡ o.time)
 change_owed s hs until x h here =
     let d = h.due in
     let owed : OwesChange s hs until d.cause = record {
@@ -127,7 +127,7 @@ change_owed s hs until x h here =
           (λ g is low. in_whole hs h.before h.behind d.cause g h.parts is.there) d.changes;
       timely = timely (time_of x) until (rank x.note.body ∷ key (members_in x) x.note.body) here;
     } in
-    (d.cause, owed, subst (TellsChange d.cause) (sym d.says) refl)
+    (d.cause, owed, subst (TellsChange d.cause) (sym d.says) refl, refl)
 
 -- what the record of a change says, where its cause is a record
 record IsTold (hs : List Happening) (cause : ℕ) (x : Happening) : Type 0 where

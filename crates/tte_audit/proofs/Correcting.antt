@@ -36,10 +36,10 @@ use Rattle.tte_units.specs.Amount.{units_of}
 use Rattle.tte_units.specs.declared.units.Units.{Units}
 use Rattle.tte_audit.specs.CorrectionPoints.{IsDueByPoint, IsPointOf, OwesPoint, ShowsVerdict, TellsPoint}
 use Rattle.tte_audit.specs.Debts.{IsDueIn}
-use Rattle.tte_audit.specs.Laws.{PointLaw}
+use Rattle.tte_audit.specs.DebtLaws.{PointLaw}
 use Rattle.tte_audit.proofs.Dispatching.{reaches_by}
 use Rattle.tte_audit.proofs.LastParts.{after_more, all_kept, has_passed, makes_none}
-use Rattle.tte_audit.proofs.Owing.{due_there, next_is_due, next_of, split_at, timely, within}
+use Rattle.tte_audit.proofs.Owing.{PaidAt, due_there, next_is_due, next_of, split_at, timely, within}
 
 -- ---- what the records of earlier times tell
 
@@ -230,13 +230,14 @@ shown_more s gs device t cycle Cleared body h e = h
 
 some_point : (s : Scenario) (hs : List Happening) (until : ℕ) (device : DeviceId) (time : ℕ) → IsFounded place_of (IsDue s) hs
     → OwesPoint s hs until device time
-    → (x : Happening) × IsDueIn place_of (IsDueByPoint s) hs x × IsBefore (place_of x) ((until + 1) ∷ []) × TellsPoint device time x
+    → PaidAt s hs until (IsDueByPoint s) time (λ x. TellsPoint device time x)
 some_point s hs until device time founded o =
     let v = o.verdict in
     let p = point_place time device v in
     let at = split place_of (IsDue s) hs p founded in
     let late = late_part hs time (point_rank v) (point_key device v) (high_rank v) at in
-    let comes = comes_by s (up_to time hs) at.front device time o.cycle v (late_earlier hs time at.front late) (late_heard s hs device time at.front late) o.comes in
+    let comes = comes_by s (up_to time hs) at.front device time o.cycle v (late_earlier hs time at.front late)
+    (late_heard s hs device time at.front late) o.comes in
     let adjustment = adjusted s at.front device time v in
     let body = point_record device o.cycle adjustment v in
     let x = next_of s at.front time body in
@@ -252,6 +253,7 @@ some_point s hs until device time founded o =
       due_there (IsDueByPoint s) hs p at x (record_place time (members_in x) device o.cycle adjustment v) due,
       within time until (rank body ∷ key (members_in x) body) o.timely,
       record { at = refl; of_point = is_of_point device o.cycle adjustment v },
+      refl,
     )
 
 -- the place of what is due by a correction point
@@ -266,10 +268,11 @@ due_comes s hs x h d =
     let at = subst (λ (p : List ℕ). (at : IsSplit place_of hs p) × (at.front ≡ h.before)) (due_place s h.before x d) (split_at (IsDue s) hs x h, refl) in
     let late = late_part hs t (point_rank d.verdict) (point_key d.device d.verdict) (high_rank d.verdict) at.0 in
     let here = subst (λ (gs : List Happening). ComesToCorrection s gs d.device t d.cycle d.verdict) (sym at.1) d.comes in
-    comes_by s at.0.front (up_to t hs) d.device t d.cycle d.verdict (sym (late_earlier hs t at.0.front late)) (sym (late_heard s hs d.device t at.0.front late)) here
+    comes_by s at.0.front (up_to t hs) d.device t d.cycle d.verdict (sym (late_earlier hs t at.0.front late))
+    (sym (late_heard s hs d.device t at.0.front late)) here
 
 point_owed : (s : Scenario) (hs : List Happening) (until : ℕ) (x : Happening) → IsDueIn place_of (IsDueByPoint s) hs x
-    → IsBefore (place_of x) ((until + 1) ∷ []) → (at : DeviceId × ℕ) × OwesPoint s hs until at.0 at.1 × TellsPoint at.0 at.1 x
+    → IsBefore (place_of x) ((until + 1) ∷ []) → (at : DeviceId × ℕ) × OwesPoint s hs until at.0 at.1 × TellsPoint at.0 at.1 x × (time_of x ≡ at.1)
 point_owed s hs until x h here =
     let d = h.due in
     let part : IsDueIn place_of (IsDue s) hs x = record {
@@ -290,6 +293,7 @@ point_owed s hs until x h here =
       (d.device, time_of x),
       owed,
       record { at = refl; of_point = shown_device s h.before d.device (time_of x) d.cycle d.verdict x.note.body d.shows },
+      refl,
     )
 
 -- a record that is due and tells of a device's correction point is due by it

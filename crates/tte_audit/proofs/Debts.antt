@@ -4,7 +4,7 @@ use Rattle.run_law.specs.records.Order.{IsBefore, IsIn, AllBefore, NoneBefore}
 use Rattle.run_law.specs.runs.Runs.{IsDetermined, IsFounded}
 use Rattle.run_law.proofs.runs.Lacking.{behind_first}
 use Rattle.run_law.proofs.runs.Places.{never_self, chain, parted}
-use Rattle.tte_audit.specs.Debts.{AreDebts, IsDueIn, IsPaid, IsPartOf}
+use Rattle.tte_audit.specs.Debts.{AreDebts, IsDueIn, IsOfTime, IsPaid, IsPartOf}
 use Rattle.tte_audit.specs.Findings.{AreSound, IsLacking, LacksNothing}
 use Rattle.tte_audit.proofs.Sound.{founded_of_sound}
 
@@ -63,16 +63,17 @@ due_by_part place IsDue IsDueSo ns x part h =
 
 -- what is lacking before the mark owes a debt that nothing pays
 pub unpaid_of_lack : {N O : Type 0} (place : N → List ℕ) (IsDue IsDueSo : List N → N → Type 0) (mark : List ℕ) (ns : List N) (IsOwed : O → Type 0)
-    (Pays : N → O → Type 0)
-    → IsPartOf IsDueSo IsDue → AreDebts place IsDue IsDueSo mark ns IsOwed Pays → AreSound place IsDue mark ns → (x : N) → IsLacking place IsDueSo ns x
+    (falls : (o : O) → IsOwed o → ℕ) (Pays : N → O → Type 0)
+    → IsPartOf IsDueSo IsDue → AreDebts place IsDue IsDueSo mark ns IsOwed falls Pays → AreSound place IsDue mark ns → (x : N) → IsLacking place IsDueSo ns x
     → IsBefore (place x) mark
-    → (o : O) × IsOwed o × Pays x o × (IsPaid ns Pays o → ⊥)
-unpaid_of_lack place IsDue IsDueSo mark ns IsOwed Pays part debts sound x lack here =
+    → (o : O) × (owed : IsOwed o) × Pays x o × IsOfTime (falls o owed) (place x) × (IsPaid ns Pays o → ⊥)
+unpaid_of_lack place IsDue IsDueSo mark ns IsOwed falls Pays part debts sound x lack here =
     let so = due_of_lack place IsDueSo ns x lack in
     let o = debts.each x so here in (
       o.0,
       o.1,
       o.2,
+      o.3,
       λ paid.
           lack.absent paid.0 paid.1
           (debts.one o.0 paid.0 x o.1 (due_in place IsDue ns paid.0 (founded_of_sound place IsDue mark ns sound) paid.1)
@@ -81,11 +82,11 @@ unpaid_of_lack place IsDue IsDueSo mark ns IsOwed Pays part debts sound x lack h
 
 -- a debt that nothing pays is lacking its record
 pub lack_of_unpaid : {N O : Type 0} (place : N → List ℕ) (IsDue IsDueSo : List N → N → Type 0) (mark : List ℕ) (ns : List N) (IsOwed : O → Type 0)
-    (Pays : N → O → Type 0)
-    → IsDetermined place IsDue → IsPartOf IsDueSo IsDue → AreDebts place IsDue IsDueSo mark ns IsOwed Pays → AreSound place IsDue mark ns → (o : O)
-    → IsOwed o → (IsPaid ns Pays o → ⊥)
-    → (x : N) × IsLacking place IsDueSo ns x × IsBefore (place x) mark × Pays x o
-lack_of_unpaid {N} place IsDue IsDueSo mark ns IsOwed Pays one part debts sound o owed unpaid =
+    (falls : (o : O) → IsOwed o → ℕ) (Pays : N → O → Type 0)
+    → IsDetermined place IsDue → IsPartOf IsDueSo IsDue → AreDebts place IsDue IsDueSo mark ns IsOwed falls Pays → AreSound place IsDue mark ns → (o : O)
+    → (owed : IsOwed o) → (IsPaid ns Pays o → ⊥)
+    → (x : N) × IsLacking place IsDueSo ns x × IsBefore (place x) mark × Pays x o × IsOfTime (falls o owed) (place x)
+lack_of_unpaid {N} place IsDue IsDueSo mark ns IsOwed falls Pays one part debts sound o owed unpaid =
     let x = debts.some o owed in (
       x.0,
       lacking_of place IsDueSo ns x.0 x.1 (λ m i same.
@@ -97,13 +98,14 @@ lack_of_unpaid {N} place IsDue IsDueSo mark ns IsOwed Pays one part debts sound 
           )),
       x.2,
       x.3,
+      x.4,
     )
 
 -- the list lacks nothing that is due so where each debt is paid
 pub lacks_nothing : {N O : Type 0} (place : N → List ℕ) (IsDue IsDueSo : List N → N → Type 0) (mark : List ℕ) (ns : List N) (IsOwed : O → Type 0)
-    (Pays : N → O → Type 0)
-    → IsPartOf IsDueSo IsDue → AreDebts place IsDue IsDueSo mark ns IsOwed Pays → AreSound place IsDue mark ns → ((o : O) → IsOwed o → IsPaid ns Pays o)
+    (falls : (o : O) → IsOwed o → ℕ) (Pays : N → O → Type 0)
+    → IsPartOf IsDueSo IsDue → AreDebts place IsDue IsDueSo mark ns IsOwed falls Pays → AreSound place IsDue mark ns → ((o : O) → IsOwed o → IsPaid ns Pays o)
     → LacksNothing place IsDueSo mark ns
-lacks_nothing place IsDue IsDueSo mark ns IsOwed Pays part debts sound all x lack here =
-    let h = unpaid_of_lack place IsDue IsDueSo mark ns IsOwed Pays part debts sound x lack here in
-    h.3 (all h.0 h.1)
+lacks_nothing place IsDue IsDueSo mark ns IsOwed falls Pays part debts sound all x lack here =
+    let h = unpaid_of_lack place IsDue IsDueSo mark ns IsOwed falls Pays part debts sound x lack here in
+    h.4 (all h.0 h.1)

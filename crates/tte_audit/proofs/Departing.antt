@@ -22,9 +22,9 @@ use Rattle.run_law.proofs.runs.SameSteps.{same_departure, same_some}
 use Rattle.tte_units.specs.Amount.{units_of}
 use Rattle.tte_audit.specs.Debts.{IsDueIn}
 use Rattle.tte_audit.specs.Departures.{IsDueByLeaving, OwesDeparture, TellsDeparture, leaves_at, leaving_record}
-use Rattle.tte_audit.specs.Laws.{DepartureLaw}
+use Rattle.tte_audit.specs.DebtLaws.{DepartureLaw}
 use Rattle.tte_audit.proofs.PermanentDrops.{not_old}
-use Rattle.tte_audit.proofs.Owing.{ahead, due_there, found_before, from_one, front_of, in_whole, next_is_due, next_of, split_at, taken_there, timely, within}
+use Rattle.tte_audit.proofs.Owing.{PaidAt, ahead, due_there, found_before, from_one, front_of, in_whole, next_is_due, next_of, split_at, taken_there, timely, within}
 
 -- a frame is given by a record of a lower rank than that of its leaving
 given_before : (network : Network) (body : NoteBody) (device : DeviceId) (link : LinkId) (cause : ℕ) (d : Departure) → Gives network body device link
@@ -62,8 +62,8 @@ record_place t m device link cause on_cut_way = refl
 record_place t m device link cause too_old = refl
 
 some_departure : (s : Scenario) (hs : List Happening) (until cause : ℕ) (link : LinkId) → IsFounded place_of (IsDue s) hs
-    → OwesDeparture s hs until cause link
-    → (x : Happening) × IsDueIn place_of (IsDueByLeaving s) hs x × IsBefore (place_of x) ((until + 1) ∷ []) × TellsDeparture cause link x.note.body
+    → (o : OwesDeparture s hs until cause link)
+    → PaidAt s hs until (IsDueByLeaving s) (leaves_at s o.device link o.giving) (λ x. TellsDeparture cause link x.note.body)
 some_departure s hs until cause link founded o =
     let t = leaves_at s o.device link o.giving in
     let d = departure s o.device link o.frame (time_of o.giving) t in
@@ -97,6 +97,7 @@ some_departure s hs until cause link founded o =
       due_there (IsDueByLeaving s) hs p at x (record_place t (members_in x) o.device link cause d) due,
       within t until (rank body ∷ key (members_in x) body) o.timely,
       tells o.device link cause d,
+      refl,
     )
 
 -- ---- what leaves was owed
@@ -117,7 +118,8 @@ departs_in_whole s hs before rest t device link cause d e h = record {
 
 departure_owed : (s : Scenario) (hs : List Happening) (until : ℕ) (x : Happening) → IsDueIn place_of (IsDueByLeaving s) hs x
     → IsBefore (place_of x) ((until + 1) ∷ [])
-    → (given : ℕ × LinkId) × OwesDeparture s hs until given.0 given.1 × TellsDeparture given.0 given.1 x.note.body
+    → (given : ℕ × LinkId) × (o : OwesDeparture s hs until given.0 given.1) × TellsDeparture given.0 given.1 x.note.body
+    × (time_of x ≡ leaves_at s o.device given.1 o.giving)
 departure_owed s hs until x h here =
     let d = h.due.departs in
     let owed : OwesDeparture s hs until h.due.cause h.due.link = record {
@@ -131,7 +133,7 @@ departure_owed s hs until x h here =
       timely = subst (λ (u : ℕ). u ≤ until) d.held (timely (time_of x) until (rank x.note.body ∷ key (members_in x) x.note.body) here);
     } in
     let told = subst (TellsDeparture h.due.cause h.due.link) (sym h.due.says) (tells h.due.device h.due.link h.due.cause h.due.is) in
-    ((h.due.cause, h.due.link), owed, told)
+    ((h.due.cause, h.due.link), owed, told, d.held)
 
 -- ---- what pays for one is at one place
 

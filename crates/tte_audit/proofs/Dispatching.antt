@@ -25,8 +25,8 @@ use Rattle.run_law.proofs.law.FirstPlaces.{same_earlier, split}
 use Rattle.tte_units.specs.Amount.{amount, units_of}
 use Rattle.tte_audit.specs.Debts.{IsDueIn}
 use Rattle.tte_audit.specs.Dispatched.{Dispatch, IsDueByDispatch, IsDueBySending, OwesDispatch, OwesSending, Sending, TellsDispatch, TellsSending, dispatch_record, is_cut_then}
-use Rattle.tte_audit.specs.Laws.{DispatchLaw, SendingLaw}
-use Rattle.tte_audit.proofs.Owing.{due_there, earlier_in, next_is_due, next_of, timely, within}
+use Rattle.tte_audit.specs.DebtLaws.{DispatchLaw, SendingLaw}
+use Rattle.tte_audit.proofs.Owing.{PaidAt, due_there, earlier_in, next_is_due, next_of, timely, within}
 
 -- ---- what the records of earlier times tell
 
@@ -42,7 +42,8 @@ reaches_by s gs hs device v t same h =
 
 up_by : (s : Scenario) (gs hs : List Happening) (device : DeviceId) (t : ℕ) → earlier t gs ≡ earlier t hs → IsUp s gs device t → IsUp s hs device t
 up_by s gs hs device t same h = record {
-  synchronised = subst (λ (es : List Happening). (if is_turned_on_at s device t then Integrating else state_after s es device) ≡ Synchronised) same h.synchronised;
+  synchronised =
+      subst (λ (es : List Happening). (if is_turned_on_at s device t then Integrating else state_after s es device) ≡ Synchronised) same h.synchronised;
   correct = h.correct;
 }
 
@@ -89,7 +90,7 @@ dispatches_by s gs hs device t link cause vl cycle same h = record {
 -- ---- sendings
 
 some_sending : (s : Scenario) (hs : List Happening) (until : ℕ) (o : Sending) → IsFounded place_of (IsDue s) hs → OwesSending s hs until o
-    → (x : Happening) × IsDueIn place_of (IsDueBySending s) hs x × IsBefore (place_of x) ((until + 1) ∷ []) × TellsSending o x
+    → PaidAt s hs until (IsDueBySending s) o.time (λ x. TellsSending o x)
 some_sending s hs until o founded owed =
     let body = notes.Sent o.device o.cycle in
     let p = place_at o.time 0 body in
@@ -98,10 +99,11 @@ some_sending s hs until o founded owed =
     let x = next_of s at.front o.time body in
     let due : IsDueBySending s at.front x =
     record { due = next_is_due s at.front o.time body sends; device = o.device; cycle = o.cycle; sends = sends; says = refl } in
-    (x, due_there (IsDueBySending s) hs p at x refl due, within o.time until (5 ∷ o.device.0 ∷ o.cycle ∷ []) owed.timely, record { at = refl; says = refl })
+    let here = within o.time until (5 ∷ o.device.0 ∷ o.cycle ∷ []) owed.timely in
+    (x, due_there (IsDueBySending s) hs p at x refl due, here, record { at = refl; says = refl }, refl)
 
 sending_owed : (s : Scenario) (hs : List Happening) (until : ℕ) (x : Happening) → IsDueIn place_of (IsDueBySending s) hs x
-    → IsBefore (place_of x) ((until + 1) ∷ []) → (o : Sending) × OwesSending s hs until o × TellsSending o x
+    → IsBefore (place_of x) ((until + 1) ∷ []) → (o : Sending) × OwesSending s hs until o × TellsSending o x × (time_of x ≡ o.time)
 sending_owed s hs until x h here =
     let d = h.due in
     let o : Sending = record { device = d.device; cycle = d.cycle; time = time_of x } in
@@ -109,7 +111,7 @@ sending_owed s hs until x h here =
       sends = sends_by s h.before hs d.device (time_of x) d.cycle (earlier_in (IsDueBySending s) hs x h) d.sends;
       timely = timely (time_of x) until (rank x.note.body ∷ key (members_in x) x.note.body) here;
     } in
-    (o, owed, record { at = refl; says = d.says })
+    (o, owed, record { at = refl; says = d.says }, refl)
 
 sending_place : (o : Sending) (x : Happening) → TellsSending o x → place_of x ≡ place_at o.time 0 (notes.Sent o.device o.cycle)
 sending_place o x h =
@@ -135,7 +137,7 @@ causes_record s gs o true is h = inr (inl (o.vl, o.cycle, h, is))
 causes_record s gs o false is h = record { dispatches = h; whole = is }
 
 some_dispatch : (s : Scenario) (hs : List Happening) (until : ℕ) (o : Dispatch) → IsFounded place_of (IsDue s) hs → OwesDispatch s hs until o
-    → (x : Happening) × IsDueIn place_of (IsDueByDispatch s) hs x × IsBefore (place_of x) ((until + 1) ∷ []) × TellsDispatch s o x
+    → PaidAt s hs until (IsDueByDispatch s) o.time (λ x. TellsDispatch s o x)
 some_dispatch s hs until o founded owed =
     let cut = is_cut_then s o in
     let body = dispatch_record o cut in
@@ -154,10 +156,11 @@ some_dispatch s hs until o founded owed =
       due_there (IsDueByDispatch s) hs p at x (record_place o.time (members_in x) o cut) due,
       within o.time until (rank body ∷ key (members_in x) body) owed.timely,
       record { at = refl; says = refl },
+      refl,
     )
 
 dispatch_owed : (s : Scenario) (hs : List Happening) (until : ℕ) (x : Happening) → IsDueIn place_of (IsDueByDispatch s) hs x
-    → IsBefore (place_of x) ((until + 1) ∷ []) → (o : Dispatch) × OwesDispatch s hs until o × TellsDispatch s o x
+    → IsBefore (place_of x) ((until + 1) ∷ []) → (o : Dispatch) × OwesDispatch s hs until o × TellsDispatch s o x × (time_of x ≡ o.time)
 dispatch_owed s hs until x h here =
     let d = h.due in
     let same : earlier d.is.time h.before ≡ earlier d.is.time hs =
@@ -166,7 +169,7 @@ dispatch_owed s hs until x h here =
       dispatches = dispatches_by s h.before hs d.is.device d.is.time d.is.link d.is.cause d.is.vl d.is.cycle same d.dispatches;
       timely = subst (λ (t : ℕ). t ≤ until) d.at (timely (time_of x) until (rank x.note.body ∷ key (members_in x) x.note.body) here);
     } in
-    (d.is, owed, record { at = d.at; says = d.says })
+    (d.is, owed, record { at = d.at; says = d.says }, d.at)
 
 dispatch_place : (s : Scenario) (o : Dispatch) (x : Happening) → TellsDispatch s o x → place_of x ≡ place_at o.time 0 (dispatch_record o (is_cut_then s o))
 dispatch_place s o x h =

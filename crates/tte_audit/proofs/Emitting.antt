@@ -21,8 +21,8 @@ use Rattle.run_law.proofs.law.FirstPlaces.{IsSplit, none_kept, split}
 use Rattle.tte_units.specs.declared.units.Units.{Units}
 use Rattle.tte_audit.specs.Debts.{IsDueIn}
 use Rattle.tte_audit.specs.Emitted.{IsDueByEmission, OwesEmission, TellsEmission, before_place, emission_place, emission_record}
-use Rattle.tte_audit.specs.Laws.{EmissionLaw}
-use Rattle.tte_audit.proofs.Owing.{due_there, next_is_due, next_of, split_at, timely, within}
+use Rattle.tte_audit.specs.DebtLaws.{EmissionLaw}
+use Rattle.tte_audit.proofs.Owing.{PaidAt, due_there, next_is_due, next_of, split_at, timely, within}
 use Rattle.tte_audit.proofs.Ripening.{is_before_true, one_reach}
 
 -- ---- the records before a place
@@ -55,8 +55,8 @@ before_is_front hs p at =
 -- ---- the law
 
 some_emission : (s : Scenario) (hs : List Happening) (until : ℕ) (device : DeviceId) (sent : Compressed) → IsFounded place_of (IsDue s) hs
-    → OwesEmission s hs until device sent
-    → (x : Happening) × IsDueIn place_of (IsDueByEmission s) hs x × IsBefore (place_of x) ((until + 1) ∷ []) × TellsEmission device sent x.note.body
+    → (o : OwesEmission s hs until device sent)
+    → PaidAt s hs until (IsDueByEmission s) o.time (λ x. TellsEmission device sent x.note.body)
 some_emission s hs until device sent founded o =
     let body = emission_record device sent o.verdict in
     let p = emission_place o.time device sent in
@@ -71,7 +71,8 @@ some_emission s hs until device sent founded o =
       emits = emits;
       says = refl;
     } in
-    (x, due_there (IsDueByEmission s) hs p at x refl due, within o.time until (rank body ∷ key (members_in x) body) o.timely, (refl, refl, refl, refl, refl))
+    let here = within o.time until (rank body ∷ key (members_in x) body) o.timely in
+    (x, due_there (IsDueByEmission s) hs p at x refl due, here, (refl, refl, refl, refl, refl), refl)
 
 -- the place of what is due by an emission
 due_place : (s : Scenario) (before : List Happening) (x : Happening) → (h : IsDueByEmission s before x)
@@ -80,7 +81,7 @@ due_place s before x h = ap (λ (b : NoteBody). place_at (time_of x) (members_in
 
 emission_owed : (s : Scenario) (hs : List Happening) (until : ℕ) (x : Happening) → IsDueIn place_of (IsDueByEmission s) hs x
     → IsBefore (place_of x) ((until + 1) ∷ [])
-    → (o : DeviceId × Compressed) × OwesEmission s hs until o.0 o.1 × TellsEmission o.0 o.1 x.note.body
+    → (given : DeviceId × Compressed) × (o : OwesEmission s hs until given.0 given.1) × TellsEmission given.0 given.1 x.note.body × (time_of x ≡ o.time)
 emission_owed s hs until x h here =
     let d = h.due in
     let front : before_place hs (emission_place (time_of x) d.device d.sent) ≡ h.before =
@@ -91,7 +92,7 @@ emission_owed s hs until x h here =
       emits = subst (λ (gs : List Happening). Emits s gs d.device (time_of x) d.sent d.verdict) (sym front) d.emits;
       timely = timely (time_of x) until (rank x.note.body ∷ key (members_in x) x.note.body) here;
     } in
-    ((d.device, d.sent), owed, subst (TellsEmission d.device d.sent) (sym d.says) (refl, refl, refl, refl, refl))
+    ((d.device, d.sent), owed, subst (TellsEmission d.device d.sent) (sym d.says) (refl, refl, refl, refl, refl), refl)
 
 -- a record that is due and tells of an emission
 record IsEmitted (s : Scenario) (device : DeviceId) (sent : Compressed) (x : Happening) : Type 0 where

@@ -14,12 +14,12 @@ use Rattle.run_law.proofs.law.FirstPlaces.{split}
 use Rattle.tte_units.specs.Amount.{units_of}
 use Rattle.tte_audit.specs.Debts.{IsDueIn}
 use Rattle.tte_audit.specs.EndClocks.{IsClockOf, IsDueByEnd, OwesClock, TellsClock}
-use Rattle.tte_audit.specs.Laws.{ClockLaw}
-use Rattle.tte_audit.proofs.Owing.{due_there, next_is_due, next_of, of_amount, timely, within}
+use Rattle.tte_audit.specs.DebtLaws.{ClockLaw}
+use Rattle.tte_audit.proofs.Owing.{PaidAt, due_there, next_is_due, next_of, of_amount, timely, within}
 
 some_clock : (s : Scenario) (hs : List Happening) (until : ℕ) (device : DeviceId) (time : ℕ) → IsFounded place_of (IsDue s) hs
     → OwesClock s until device time
-    → (x : Happening) × IsDueIn place_of (IsDueByEnd s) hs x × IsBefore (place_of x) ((until + 1) ∷ []) × TellsClock device time x
+    → PaidAt s hs until (IsDueByEnd s) time (λ x. TellsClock device time x)
 some_clock s hs until device time founded o =
     let p = time ∷ 14 ∷ device.0 ∷ [] in
     let at = split place_of (IsDue s) hs p founded in
@@ -39,10 +39,10 @@ some_clock s hs until device time founded o =
       clock = clock;
       says = refl;
     } in
-    (x, due_there (IsDueByEnd s) hs p at x refl due, within time until (14 ∷ device.0 ∷ []) o.timely, (refl, refl))
+    (x, due_there (IsDueByEnd s) hs p at x refl due, within time until (14 ∷ device.0 ∷ []) o.timely, (refl, refl), refl)
 
 clock_owed : (s : Scenario) (hs : List Happening) (until : ℕ) (x : Happening) → IsDueIn place_of (IsDueByEnd s) hs x
-    → IsBefore (place_of x) ((until + 1) ∷ []) → (at : DeviceId × ℕ) × OwesClock s until at.0 at.1 × TellsClock at.0 at.1 x
+    → IsBefore (place_of x) ((until + 1) ∷ []) → (at : DeviceId × ℕ) × OwesClock s until at.0 at.1 × TellsClock at.0 at.1 x × (time_of x ≡ at.1)
 clock_owed s hs until x h here =
     let d = h.due in
     let owed : OwesClock s until d.device (time_of x) = record {
@@ -51,7 +51,7 @@ clock_owed s hs until x h here =
       ends = subst (EndsAt s.events) (of_amount x.note.time d.due.begun) d.clock.ends;
       timely = timely (time_of x) until (rank x.note.body ∷ key (members_in x) x.note.body) here;
     } in
-    ((d.device, time_of x), owed, (refl, subst (IsClockOf d.device) (sym d.says) refl))
+    ((d.device, time_of x), owed, (refl, subst (IsClockOf d.device) (sym d.says) refl), refl)
 
 place_of_clock : (t m : ℕ) (device : DeviceId) (body : NoteBody) → IsClockOf device body → place_at t m body ≡ t ∷ 14 ∷ device.0 ∷ []
 place_of_clock t m device (notes.Clock other shown adjustment state) e = ap (λ (d : DeviceId). t ∷ 14 ∷ d.0 ∷ []) e

@@ -19,9 +19,9 @@ use Rattle.run_law.specs.scenario.Scenarios.{Scenario}
 use Rattle.run_law.proofs.law.FirstPlaces.{split}
 use Rattle.run_law.proofs.runs.SameSteps.{same_some}
 use Rattle.tte_audit.specs.Debts.{IsDueIn}
-use Rattle.tte_audit.specs.Laws.{LossLaw}
+use Rattle.tte_audit.specs.DebtLaws.{LossLaw}
 use Rattle.tte_audit.specs.LostSends.{IsDueBySend, OwesLoss, TellsLoss}
-use Rattle.tte_audit.proofs.Owing.{ahead, due_there, found_before, from_one, front_of, in_whole, next_is_due, next_of, split_at, taken_there, timely, within}
+use Rattle.tte_audit.proofs.Owing.{PaidAt, ahead, due_there, found_before, from_one, front_of, in_whole, next_is_due, next_of, split_at, taken_there, timely, within}
 
 -- a loss is one by other records that have its event
 moved : (s : Scenario) (gs hs : List Happening) (device : DeviceId) (t : ℕ) (link : LinkId) (cause : ℕ) → (h : IsSendLost s gs device t link cause)
@@ -38,8 +38,8 @@ moved s gs hs device t link cause h there = record {
   cut = h.cut;
 }
 
-some_loss : (s : Scenario) (hs : List Happening) (until cause : ℕ) → IsFounded place_of (IsDue s) hs → OwesLoss s hs until cause
-    → (x : Happening) × IsDueIn place_of (IsDueBySend s) hs x × IsBefore (place_of x) ((until + 1) ∷ []) × TellsLoss cause x.note.body
+some_loss : (s : Scenario) (hs : List Happening) (until cause : ℕ) → IsFounded place_of (IsDue s) hs → (o : OwesLoss s hs until cause)
+    → PaidAt s hs until (IsDueBySend s) o.time (λ x. TellsLoss cause x.note.body)
 some_loss s hs until cause founded o =
     let body = notes.Lost o.device o.link cause in
     let p = place_at o.time 0 body in
@@ -58,10 +58,10 @@ some_loss s hs until cause founded o =
       lost = lost;
       says = refl;
     } in
-    (x, due_there (IsDueBySend s) hs p at x refl due, within o.time until (9 ∷ o.device.0 ∷ o.link.0 ∷ cause ∷ []) o.timely, refl)
+    (x, due_there (IsDueBySend s) hs p at x refl due, within o.time until (9 ∷ o.device.0 ∷ o.link.0 ∷ cause ∷ []) o.timely, refl, refl)
 
 loss_owed : (s : Scenario) (hs : List Happening) (until : ℕ) (x : Happening) → IsDueIn place_of (IsDueBySend s) hs x
-    → IsBefore (place_of x) ((until + 1) ∷ []) → (cause : ℕ) × OwesLoss s hs until cause × TellsLoss cause x.note.body
+    → IsBefore (place_of x) ((until + 1) ∷ []) → (cause : ℕ) × (o : OwesLoss s hs until cause) × TellsLoss cause x.note.body × (time_of x ≡ o.time)
 loss_owed s hs until x h here =
     let d = h.due in
     let owed : OwesLoss s hs until d.cause = record {
@@ -71,7 +71,7 @@ loss_owed s hs until x h here =
       lost = moved s h.before hs d.device (time_of x) d.link d.cause d.lost (in_whole hs h.before h.behind d.cause d.lost.event h.parts d.lost.is.there);
       timely = timely (time_of x) until (rank x.note.body ∷ key (members_in x) x.note.body) here;
     } in
-    (d.cause, owed, subst (TellsLoss d.cause) (sym d.says) refl)
+    (d.cause, owed, subst (TellsLoss d.cause) (sym d.says) refl, refl)
 
 -- an event gives no frame, and is no taking
 abbrev IsSending : NoteBody → Type 0

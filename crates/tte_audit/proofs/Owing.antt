@@ -103,3 +103,8 @@ whole (negsuc n) begun = absurd (omega (arith, ints))
 -- a time from 0 on is of its amount
 pub of_amount : (t : Units) → pos 0 ≤ℤ t.0 → t ≡ units_of (amount t)
 of_amount t begun = ap (λ (n : ℤ). let u : Units = record { 0 = n } in u) (whole t.0 begun)
+
+-- a record that is due so in the list, and before the end of the time, tells this at the time at which it is owed
+abbrev pub PaidAt : Scenario → List Happening → ℕ → (List Happening → Happening → Type 0) → ℕ → (Happening → Type 0) → Type 0
+PaidAt s hs until IsDueSo time Tells =
+    (x : Happening) × IsDueIn place_of IsDueSo hs x × IsBefore (place_of x) ((until + 1) ∷ []) × Tells x × (time_of x ≡ time)

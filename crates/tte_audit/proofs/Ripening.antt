@@ -38,10 +38,10 @@ use Rattle.run_law.proofs.runs.SameSteps.{same_ripening, same_some}
 use Rattle.tte_units.specs.Amount.{units_of}
 use Rattle.tte_units.specs.declared.units.Units.{Units}
 use Rattle.tte_audit.specs.Debts.{IsDueIn}
-use Rattle.tte_audit.specs.Laws.{PermanenceLaw}
+use Rattle.tte_audit.specs.DebtLaws.{PermanenceLaw}
 use Rattle.tte_audit.specs.Permanences.{IsDueByPermanence, OwesPermanence, TellsPermanence, permanence_record}
 use Rattle.tte_audit.proofs.Arriving.{IsPutting, puts}
-use Rattle.tte_audit.proofs.Owing.{ahead, due_there, found_before, in_whole, next_is_due, next_of, split_at, timely, within}
+use Rattle.tte_audit.proofs.Owing.{PaidAt, ahead, due_there, found_before, in_whole, next_is_due, next_of, split_at, timely, within}
 use Rattle.tte_audit.proofs.PermanentDrops.{not_old}
 
 -- ---- places
@@ -193,8 +193,8 @@ tells s gs t device link cause point ripe.Integrates h = refl
 tells s gs t device link cause point ripe.Ignored h = refl
 tells s gs t device link cause point (ripe.Dropped reason) h = (refl, not_old s gs t device link cause point reason h)
 
-some_permanence : (s : Scenario) (hs : List Happening) (until cause : ℕ) → IsFounded place_of (IsDue s) hs → OwesPermanence s hs until cause
-    → (x : Happening) × IsDueIn place_of (IsDueByPermanence s) hs x × IsBefore (place_of x) ((until + 1) ∷ []) × TellsPermanence cause x.note.body
+some_permanence : (s : Scenario) (hs : List Happening) (until cause : ℕ) → IsFounded place_of (IsDue s) hs → (o : OwesPermanence s hs until cause)
+    → PaidAt s hs until (IsDueByPermanence s) o.time (λ x. TellsPermanence cause x.note.body)
 some_permanence s hs until cause founded o =
     let judged = before_permanence hs o.device o.time o.link cause o.frame o.point in
     let found = some_outcome s.network o.device (state_at_hearing s judged o.device o.time) (adjustment_at_hearing s judged o.device o.time).0
@@ -233,12 +233,13 @@ some_permanence s hs until cause founded o =
       due_there (IsDueByPermanence s) hs p at x place due,
       within o.time until (rank body ∷ key (members_in x) body) o.timely,
       tells s at.front o.time o.device o.link cause o.point is becomes,
+      refl,
     )
 
 -- ---- what is due was owed
 
 permanence_owed : (s : Scenario) (hs : List Happening) (until : ℕ) (x : Happening) → IsDueIn place_of (IsDueByPermanence s) hs x
-    → IsBefore (place_of x) ((until + 1) ∷ []) → (cause : ℕ) × OwesPermanence s hs until cause × TellsPermanence cause x.note.body
+    → IsBefore (place_of x) ((until + 1) ∷ []) → (cause : ℕ) × (o : OwesPermanence s hs until cause) × TellsPermanence cause x.note.body × (time_of x ≡ o.time)
 permanence_owed s hs until x h here =
     let d = h.due in
     let permanent = d.becomes.permanent in
@@ -252,7 +253,7 @@ permanence_owed s hs until x h here =
           (in_whole hs h.before h.behind d.cause permanent.arrival h.parts permanent.there);
       timely = timely (time_of x) until (rank x.note.body ∷ key (members_in x) x.note.body) here;
     } in
-    (d.cause, owed, subst (TellsPermanence d.cause) (sym d.says) (tells s h.before (time_of x) d.device d.link d.cause d.point d.is d.becomes))
+    (d.cause, owed, subst (TellsPermanence d.cause) (sym d.says) (tells s h.before (time_of x) d.device d.link d.cause d.point d.is d.becomes), refl)
 
 -- ---- what pays for one is at one place
 
@@ -275,8 +276,9 @@ due_becomes s hs x h d =
     let permanent = d.becomes.permanent in
     let frame = d.becomes.frame in
     let at = subst (λ (p : List ℕ). (at : IsSplit place_of hs p) × (at.front ≡ h.before)) (due_place s h.before x d) (split_at (IsDue s) hs x h, refl) in
-    let same : before_permanence h.before d.device (time_of x) d.link d.cause frame d.point ≡ before_permanence hs d.device (time_of x) d.link d.cause frame d.point
-    = ap (λ (gs : List Happening). before_permanence gs d.device (time_of x) d.link d.cause frame d.point) (sym at.1)
+    let same : before_permanence h.before d.device (time_of x) d.link d.cause frame d.point
+    ≡ before_permanence hs d.device (time_of x) d.link d.cause frame d.point =
+    ap (λ (gs : List Happening). before_permanence gs d.device (time_of x) d.link d.cause frame d.point) (sym at.1)
     ∙ same_judged hs (time_of x) d.device d.link d.cause frame d.point d.is at.0 in
     let becomes : BecomesPermanent s hs d.device (time_of x) d.link d.cause d.point d.is = record {
       frame = frame;
@@ -440,7 +442,8 @@ permanence_law s hs until founded = record {
       let there = due_becomes s hs y b j in
       due_place s a.before x i
       ∙ ap (λ (f : Pcf). record_place (time_of x) i.device i.link i.cause f i.point i.is) (sym here.1)
-      ∙ same_place s hs (time_of x) (time_of y) i.device j.device i.link j.link i.cause j.cause i.point j.point i.is j.is (first.1 ∙ sym second.1) here.0 there.0
+      ∙ same_place s hs (time_of x) (time_of y) i.device j.device i.link j.link i.cause j.cause i.point j.point i.is j.is
+      (first.1 ∙ sym second.1) here.0 there.0
       ∙ ap (λ (f : Pcf). record_place (time_of y) j.device j.link j.cause f j.point j.is) there.1
       ∙ sym (due_place s b.before y j);
 }

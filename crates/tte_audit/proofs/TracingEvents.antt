@@ -14,12 +14,12 @@ use Rattle.run_law.proofs.runs.SameSteps.{same_some}
 use Rattle.tte_units.specs.Amount.{amount, units_of}
 use Rattle.tte_units.specs.declared.units.Units.{Units}
 use Rattle.tte_audit.specs.Debts.{IsDueIn}
-use Rattle.tte_audit.specs.Laws.{EventLaw}
+use Rattle.tte_audit.specs.DebtLaws.{EventLaw}
 use Rattle.tte_audit.specs.TracedEvents.{IsDueByEvent, OwesEvent, TellsEvent}
-use Rattle.tte_audit.proofs.Owing.{due_there, next_is_due, next_of, of_amount, timely, within}
+use Rattle.tte_audit.proofs.Owing.{PaidAt, due_there, next_is_due, next_of, of_amount, timely, within}
 
-some_event : (s : Scenario) (hs : List Happening) (until line : ℕ) → IsFounded place_of (IsDue s) hs → OwesEvent s until line
-    → (x : Happening) × IsDueIn place_of (IsDueByEvent s) hs x × IsBefore (place_of x) ((until + 1) ∷ []) × TellsEvent line x.note.body
+some_event : (s : Scenario) (hs : List Happening) (until line : ℕ) → IsFounded place_of (IsDue s) hs → (o : OwesEvent s until line)
+    → PaidAt s hs until (IsDueByEvent s) (amount o.event.time) (λ x. TellsEvent line x.note.body)
 some_event s hs until line founded o =
     let time = amount o.event.time in
     let body = notes.Event line o.event.what in
@@ -30,10 +30,10 @@ some_event s hs until line founded o =
     let x = next_of s at.front time body in
     let due : IsDueByEvent s at.front x =
     record { due = next_is_due s at.front time body befalls; line = line; what = o.event.what; befalls = befalls; says = refl } in
-    (x, due_there (IsDueByEvent s) hs p at x refl due, within time until (1 ∷ line ∷ []) o.timely, refl)
+    (x, due_there (IsDueByEvent s) hs p at x refl due, within time until (1 ∷ line ∷ []) o.timely, refl, refl)
 
 event_owed : (s : Scenario) (hs : List Happening) (until : ℕ) (x : Happening) → IsDueIn place_of (IsDueByEvent s) hs x
-    → IsBefore (place_of x) ((until + 1) ∷ []) → (line : ℕ) × OwesEvent s until line × TellsEvent line x.note.body
+    → IsBefore (place_of x) ((until + 1) ∷ []) → (line : ℕ) × (o : OwesEvent s until line) × TellsEvent line x.note.body × (time_of x ≡ amount o.event.time)
 event_owed s hs until x h here =
     let d = h.due in
     let b = d.befalls in
@@ -46,7 +46,7 @@ event_owed s hs until x h here =
       begun = subst (λ (u : Units). pos 0 ≤ℤ u.0) b.at d.due.begun;
       timely = subst (λ (u : Units). amount u ≤ until) b.at le;
     } in
-    (d.line, owed, subst (TellsEvent d.line) (sym d.says) refl)
+    (d.line, owed, subst (TellsEvent d.line) (sym d.says) refl, ap amount b.at)
 
 -- the time and the place of the record of an event
 record IsAtLine (s : Scenario) (line : ℕ) (x : Happening) : Type 0 where

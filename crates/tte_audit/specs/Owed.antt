@@ -5,10 +5,11 @@ use Rattle.net_plan.specs.declared.ids.DeviceId.{DeviceId}
 use Rattle.net_plan.specs.declared.ids.LinkId.{LinkId}
 use Rattle.run_law.specs.records.Happenings.{Happening}
 use Rattle.run_law.specs.scenario.Scenarios.{Scenario}
+use Rattle.tte_units.specs.Amount.{amount}
 use Rattle.tte_audit.specs.Arrivals.{OwesArrival, TellsArrival}
 use Rattle.tte_audit.specs.Changes.{OwesChange, TellsChange}
 use Rattle.tte_audit.specs.CorrectionPoints.{OwesPoint, TellsPoint}
-use Rattle.tte_audit.specs.Departures.{OwesDeparture, TellsDeparture}
+use Rattle.tte_audit.specs.Departures.{OwesDeparture, TellsDeparture, leaves_at}
 use Rattle.tte_audit.specs.Dispatched.{Dispatch, OwesDispatch, OwesSending, Sending, TellsDispatch, TellsSending}
 use Rattle.tte_audit.specs.Emitted.{OwesEmission, TellsEmission}
 use Rattle.tte_audit.specs.EndClocks.{OwesClock, TellsClock}
@@ -16,8 +17,8 @@ use Rattle.tte_audit.specs.LostSends.{OwesLoss, TellsLoss}
 use Rattle.tte_audit.specs.Permanences.{OwesPermanence, TellsPermanence}
 use Rattle.tte_audit.specs.TracedEvents.{OwesEvent, TellsEvent}
 
--- what a record is owed for: an event by its line; what a record brings, by its number; or what a clock comes to, by the
--- device and the time or the frame
+-- what a record is owed for: an event by its line; what a record brings, by its number; or what a clock comes to, by
+-- the device and the time or the frame
 pub data Debt : Type 0 where
   event : ℕ → Debt
   arrival : ℕ → Debt
@@ -58,3 +59,17 @@ Pays s x (departure cause link) = TellsDeparture cause link x.note.body
 Pays s x (dispatch o) = TellsDispatch s o x
 Pays s x (loss cause) = TellsLoss cause x.note.body
 Pays s x (clock device time) = TellsClock device time x
+
+-- when it falls due
+abbrev pub falls_due : (s : Scenario) (hs : List Happening) (until : ℕ) (o : Debt) → IsOwed s hs until o → ℕ
+falls_due s hs until (event line) o = amount o.event.time
+falls_due s hs until (arrival cause) o = o.time
+falls_due s hs until (permanence cause) o = o.time
+falls_due s hs until (emission device sent) o = o.time
+falls_due s hs until (sending given) o = given.time
+falls_due s hs until (point device time) o = time
+falls_due s hs until (change cause) o = o.time
+falls_due s hs until (departure cause link) o = leaves_at s o.device link o.giving
+falls_due s hs until (dispatch given) o = given.time
+falls_due s hs until (loss cause) o = o.time
+falls_due s hs until (clock device time) o = time

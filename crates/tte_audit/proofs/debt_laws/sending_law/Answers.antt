@@ -1,5 +1,5 @@
 use Rattle.tte_audit.proofs.Dispatching.{sending_law}
-use Rattle.tte_audit.proofs.laws.sending_law.Goals as goal
+use Rattle.tte_audit.proofs.debt_laws.sending_law.Goals as goal
 
 pub returns : goal.returns
 returns c = sending_law
