@@ -43,7 +43,7 @@ use Rattle.tte_audit.proofs.EndingClocks.{clock_law}
 use Rattle.tte_audit.proofs.LosingSends.{loss_law}
 use Rattle.tte_audit.proofs.Owing.{PaidAt}
 use Rattle.tte_audit.proofs.Ripening.{permanence_law, recorded}
-use Rattle.tte_audit.proofs.Sound.{founded_of_sound, run_exactly}
+use Rattle.tte_audit.proofs.Sound.{founded_of_sound, run_exactly, within_of_sound}
 use Rattle.tte_audit.proofs.TracingEvents.{event_law}
 
 -- what is due in a list is due in it so, where it is due so given its front
@@ -271,11 +271,25 @@ paid_in_run s hs until run o owed =
     there.2 in
     (there.0, there.1, subst (λ (m : Happening). Pays s m o) (sym same) x.3)
 
+abbrev first_of : List ℕ → ℕ
+first_of [] = 0
+first_of (t ∷ rest) = t
+
+-- records at one place are of one time
+same_time : (x y : Happening) → place_of x ≡ place_of y → time_of x ≡ time_of y
+same_time x y same = ap first_of same
+
 pub debt_law : DebtLaw
 debt_law s hs until sound =
     let founded = founded_of_sound place_of (IsDue s) ((until + 1) ∷ []) hs sound in
     let all = all_debts s hs until founded in
+    let inside = within_of_sound place_of (IsDue s) ((until + 1) ∷ []) hs sound in
     record {
+      pays = λ x i. let r = all.each x (due_in place_of (IsDue s) hs x founded i) (inside x i) in (r.0, r.1, r.2);
+      paid = λ x i o owed pays.
+          let y = is_payable s hs until founded o owed in
+          let same = all.one o x y.0 owed (due_in place_of (IsDue s) hs x founded i) y.1 pays y.3 in
+          same_time x y.0 same ∙ y.4;
       lacking = λ x lack here.
           unpaid_of_lack place_of (IsDue s) (IsDue s) ((until + 1) ∷ []) hs (IsOwed s hs until) (falls_due s hs until) (Pays s)
           (λ ps y d. d) all sound x lack here;

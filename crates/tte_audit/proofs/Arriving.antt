@@ -47,7 +47,7 @@ use Rattle.tte_audit.proofs.Owing.{PaidAt, due_there, found_before, in_whole, ne
 -- ---- one judgement, by a front or by the whole list
 
 -- the device stands in one place by all records of earlier times
-same_standpoint : (s : Scenario) (device : DeviceId) (t : ℕ) (ps hs : List Happening) → earlier t ps ≡ earlier t hs
+pub same_standpoint : (s : Scenario) (device : DeviceId) (t : ℕ) (ps hs : List Happening) → earlier t ps ≡ earlier t hs
     → standpoint s ps device t ≡ standpoint s hs device t
 same_standpoint s device t ps hs same =
     ap (λ (es : List Happening). let p : Standpoint = record {
@@ -64,7 +64,8 @@ by_entry network device at size last other None same = refl
 by_entry network device at size last other (Some entry) same =
     ap (λ (o : Option ℕ). taken_or_fault network device at entry (row_fault network at entry size o)) (same entry.row.vl)
 
-by_octets : (network : Network) (device : DeviceId) (link : LinkId) (at : Standpoint) (octets : List ℕ) (last other : VlId → Option ℕ) (fault : Option Reason)
+pub by_octets : (network : Network) (device : DeviceId) (link : LinkId) (at : Standpoint) (octets : List ℕ) (last other : VlId → Option ℕ)
+    (fault : Option Reason)
     → ((vl : VlId) → last vl ≡ other vl) → octets_or_fault network device link at octets last fault ≡ octets_or_fault network device link at octets other fault
 by_octets network device link at octets last other (Some reason) same = refl
 by_octets network device link at octets last other None same =

@@ -73,7 +73,7 @@ of_this_time : (hs : List Happening) (t cause : ℕ) (h : Happening) (gs : List 
 of_this_time hs t cause h gs is there = record { there = there; same_time = is.same_time }
 
 -- a change is one by other records that have what brings it, and the same earlier ones
-moved : (s : Scenario) (gs hs : List Happening) (device : DeviceId) (t : ℕ) (state : State) (cause : ℕ) (why : Why) → IsBrought why
+pub moved : (s : Scenario) (gs hs : List Happening) (device : DeviceId) (t : ℕ) (state : State) (cause : ℕ) (why : Why) → IsBrought why
     → earlier t gs ≡ earlier t hs
     → ((h : Happening) → IsOfThisTime gs t cause h → rank h.note.body < 7 → numbered hs cause ≡ Some h)
     → ChangesState s gs device t state cause why → ChangesState s hs device t state cause why

@@ -64,7 +64,7 @@ standing_by s gs hs device t same =
     } in st) same
 
 -- a correction point is one by other records that have the same earlier ones, and tell the same to be heard
-comes_by : (s : Scenario) (gs hs : List Happening) (device : DeviceId) (t cycle : ℕ) (v : Verdict) → earlier t gs ≡ earlier t hs
+pub comes_by : (s : Scenario) (gs hs : List Happening) (device : DeviceId) (t cycle : ℕ) (v : Verdict) → earlier t gs ≡ earlier t hs
     → heard_since s gs device t ≡ heard_since s hs device t → ComesToCorrection s gs device t cycle v → ComesToCorrection s hs device t cycle v
 comes_by s gs hs device t cycle v same heard h =
     let standing = standing_by s gs hs device t same in

@@ -47,7 +47,7 @@ up_by s gs hs device t same h = record {
   correct = h.correct;
 }
 
-sends_by : (s : Scenario) (gs hs : List Happening) (device : DeviceId) (t cycle : ℕ) → earlier t gs ≡ earlier t hs → Sends s gs device t cycle
+pub sends_by : (s : Scenario) (gs hs : List Happening) (device : DeviceId) (t cycle : ℕ) → earlier t gs ≡ earlier t hs → Sends s gs device t cycle
     → Sends s hs device t cycle
 sends_by s gs hs device t cycle same h = record {
   master = h.master;
@@ -72,7 +72,7 @@ at_hand_by : (network : Network) (gs hs : List Happening) (device : DeviceId) (e
 at_hand_by network gs hs device entry t cause cycle same (inl own) = inl own
 at_hand_by network gs hs device entry t cause cycle same (inr taken) = inr (taken.0, accepted_by gs hs device entry.row.vl t cause cycle same taken.1)
 
-dispatches_by : (s : Scenario) (gs hs : List Happening) (device : DeviceId) (t : ℕ) (link : LinkId) (cause : ℕ) (vl : VlId) (cycle : ℕ)
+pub dispatches_by : (s : Scenario) (gs hs : List Happening) (device : DeviceId) (t : ℕ) (link : LinkId) (cause : ℕ) (vl : VlId) (cycle : ℕ)
     → earlier t gs ≡ earlier t hs → Dispatches s gs device t link cause vl cycle → Dispatches s hs device t link cause vl cycle
 dispatches_by s gs hs device t link cause vl cycle same h = record {
   place = h.place;

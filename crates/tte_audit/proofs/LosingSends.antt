@@ -24,7 +24,7 @@ use Rattle.tte_audit.specs.LostSends.{IsDueBySend, OwesLoss, TellsLoss}
 use Rattle.tte_audit.proofs.Owing.{PaidAt, ahead, due_there, found_before, from_one, front_of, in_whole, next_is_due, next_of, split_at, taken_there, timely, within}
 
 -- a loss is one by other records that have its event
-moved : (s : Scenario) (gs hs : List Happening) (device : DeviceId) (t : ℕ) (link : LinkId) (cause : ℕ) → (h : IsSendLost s gs device t link cause)
+pub moved : (s : Scenario) (gs hs : List Happening) (device : DeviceId) (t : ℕ) (link : LinkId) (cause : ℕ) → (h : IsSendLost s gs device t link cause)
     → numbered hs cause ≡ Some h.event → IsSendLost s hs device t link cause
 moved s gs hs device t link cause h there = record {
   event = h.event;

@@ -133,7 +133,7 @@ same_judged hs t device link cause frame point is at =
     ∙ ap (filter test) (sym at.whole)
 
 -- a permanence is one by other records that have the arrival
-permanent_by : (s : Scenario) (gs hs : List Happening) (device : DeviceId) (t : ℕ) (link : LinkId) (cause : ℕ) (frame : Pcf) (point : Units)
+pub permanent_by : (s : Scenario) (gs hs : List Happening) (device : DeviceId) (t : ℕ) (link : LinkId) (cause : ℕ) (frame : Pcf) (point : Units)
     → (h : IsPermanent s gs device t link cause frame point) → numbered hs cause ≡ Some h.arrival → IsPermanent s hs device t link cause frame point
 permanent_by s gs hs device t link cause frame point h there = record {
   arrival = h.arrival;

@@ -1,12 +1,12 @@
 -- What holds of the debts of records.
-use Rattle.std.specs.Prelude.{◌≡◌, ℕ, ◌+◌, ◌≤◌, ◌↔◌, List, [], ◌∷◌}
+use Rattle.std.specs.Prelude.{◌≡◌, ℕ, ◌+◌, ◌<◌, ◌≤◌, ◌↔◌, List, [], ◌∷◌, ◌++◌}
 use Rattle.compression.specs.declared.compressed.Compressed.{Compressed}
 use Rattle.net_plan.specs.declared.ids.DeviceId.{DeviceId}
 use Rattle.net_plan.specs.declared.ids.LinkId.{LinkId}
 use Rattle.net_plan.specs.declared.network.Network.{Network}
 use Rattle.run_law.specs.declared.note.Note.{Note}
 use Rattle.run_law.specs.records.Happenings.{Happening, happenings, time_of}
-use Rattle.run_law.specs.records.Order.{IsBefore}
+use Rattle.run_law.specs.records.Order.{IsBefore, IsIn}
 use Rattle.run_law.specs.records.Ranks.{place_of}
 use Rattle.run_law.specs.runs.DueRecords.{IsDue}
 use Rattle.run_law.specs.runs.Runs.{IsFounded, IsRun}
@@ -116,9 +116,12 @@ PointLaw =
     (λ at o. at.1)
     (λ x at. TellsPoint at.0 at.1 x)
 
--- a list whose records are sound up to a time lacks what its unpaid debts want, each at its time, and is the run where
--- each is paid
+-- in a list whose records are sound up to a time each pays a debt, at its time; the list lacks what its unpaid debts
+-- want, each at its time; and it is the run where each is paid
 pub record ShowsInDebts (s : Scenario) (hs : List Happening) (until : ℕ) : Type 0 where
+  pub pays : (x : Happening) → IsIn x hs → (o : Debt) × IsOwed s hs until o × Pays s x o
+  pub paid : (x : Happening) → IsIn x hs → (o : Debt) (owed : IsOwed s hs until o) → Pays s x o
+      → time_of x ≡ falls_due s hs until o owed
   pub lacking : (x : Happening) → IsLacking place_of (IsDue s) hs x → IsBefore (place_of x) ((until + 1) ∷ [])
       → (o : Debt) × (owed : IsOwed s hs until o) × Pays s x o × (time_of x ≡ falls_due s hs until o owed)
       × (IsPaid hs (Pays s) o → ⊥)
@@ -148,3 +151,10 @@ LackLaw =
     (network : Network) (ns : List Note) (end : Units) (time : ℕ) → AreSoundNotes network ns end
     → IsFirstLack network ns end (units_of time)
     ↔ IsFirstDebt (scenario_of network ns) (happenings network ns) (amount end) time
+
+-- what a list owes up to a time, its front does behind which all is later
+abbrev pub SettledLaw : Type 0
+SettledLaw =
+    (s : Scenario) (before behind : List Happening) (until : ℕ) → IsFounded place_of (IsDue s) (before ++ behind)
+    → ((h : Happening) → IsIn h behind → until < time_of h) → (o : Debt)
+    → IsOwed s before until o ↔ IsOwed s (before ++ behind) until o

@@ -1,4 +1,6 @@
-ghost use Rattle.tte_audit.specs.DebtLaws.{ArrivalLaw, ChangeLaw, ClockLaw, DebtLaw, DepartureLaw, DispatchLaw, EmissionLaw, EventLaw, LackLaw, LossLaw, PermanenceLaw, PointLaw, SendingLaw};
+ghost use Rattle.tte_audit.specs.DebtLaws.{ArrivalLaw, ChangeLaw, ClockLaw, DepartureLaw, DispatchLaw, EmissionLaw};
+ghost use Rattle.tte_audit.specs.DebtLaws.{EventLaw, LossLaw, PermanenceLaw, PointLaw, SendingLaw};
+ghost use Rattle.tte_audit.specs.DebtLaws.{DebtLaw, LackLaw, SettledLaw};
 
 /// A founded list of records owes, for each frame that a record gives to a link, one record of its leaving: that it left,
 /// met a cut way or was too old. What is due by a leaving is so owed, and what is so owed is due.
@@ -61,8 +63,9 @@ pub fn event_law()
     ensures { EventLaw }
 {}
 
-/// A list whose records are all sound lacks exactly what its unpaid debts want: a record that is lacking pays a debt that
-/// none of the list pays, and for each such debt a record is lacking. It is the run exactly where each debt is paid.
+/// In a list whose records are all sound each pays a debt, at the time at which it falls due. The list lacks exactly what
+/// its unpaid debts want: a record that is lacking pays a debt that none of the list pays, and for each such debt a
+/// record is lacking. It is the run exactly where each debt is paid.
 pub fn debt_law()
     ensures { DebtLaw }
 {}
@@ -71,4 +74,9 @@ pub fn debt_law()
 /// due that none of them pays.
 pub fn lack_law()
     ensures { LackLaw }
+{}
+
+/// What a list of records owes up to a time is told by its records up to then: later ones change none of it.
+pub fn settled_law()
+    ensures { SettledLaw }
 {}
