@@ -1,10 +1,10 @@
--- A sound list lacks nothing exactly where its debts are paid.
+-- A sound list lacks nothing that is due so exactly where its debts are paid.
 use Rattle.std.proofs.Common.{◌≡◌, ℕ, List, [], ◌∷◌, ◌++◌, inl, inr, refl, sym, ap, subst, ◌∙◌}
 use Rattle.run_law.specs.records.Order.{IsBefore, IsIn, AllBefore, NoneBefore}
 use Rattle.run_law.specs.runs.Runs.{IsDetermined, IsFounded}
 use Rattle.run_law.proofs.runs.Lacking.{behind_first}
 use Rattle.run_law.proofs.runs.Places.{never_self, chain, parted}
-use Rattle.tte_audit.specs.Debts.{AreDebts, IsDueIn, IsPaid}
+use Rattle.tte_audit.specs.Debts.{AreDebts, IsDueIn, IsOfTime, IsPaid, IsPartOf}
 use Rattle.tte_audit.specs.Findings.{AreSound, IsLacking, LacksNothing}
 use Rattle.tte_audit.proofs.Sound.{founded_of_sound}
 
@@ -20,7 +20,7 @@ one_split {N} place p (x ∷ ps) qs (l ∷ ls) rs e a n b m =
     ap (λ (t : N). t ∷ ps) head ∙ ap (λ (t : List N). l ∷ t) (one_split place p ps qs ls rs tail (λ y i. a y (inr i)) n (λ y i. b y (inr i)) m)
 
 -- each record of a founded list is due in it
-due_in : {N : Type 0} (place : N → List ℕ) (IsDue : List N → N → Type 0) (ns : List N) (m : N) → IsFounded place IsDue ns → IsIn m ns → IsDueIn place IsDue ns m
+pub due_in : {N : Type 0} (place : N → List ℕ) (IsDue : List N → N → Type 0) (ns : List N) (m : N) → IsFounded place IsDue ns → IsIn m ns → IsDueIn place IsDue ns m
 due_in {N} place IsDue ns m founded i =
     let at = parted m ns i in
     let here = founded at.0 at.1 m at.2 in
@@ -38,7 +38,7 @@ due_in {N} place IsDue ns m founded i =
     }
 
 -- two records that are due in a list at one place are one
-one_due : {N : Type 0} (place : N → List ℕ) (IsDue : List N → N → Type 0) (ns : List N) (x y : N) → IsDetermined place IsDue → IsDueIn place IsDue ns x
+pub one_due : {N : Type 0} (place : N → List ℕ) (IsDue : List N → N → Type 0) (ns : List N) (x y : N) → IsDetermined place IsDue → IsDueIn place IsDue ns x
     → IsDueIn place IsDue ns y → place x ≡ place y → x ≡ y
 one_due {N} place IsDue ns x y one a b same =
     let fronts = one_split place (place x) a.before a.behind b.before b.behind (sym a.parts ∙ b.parts) a.all_before a.none_before
@@ -55,45 +55,57 @@ due_of_lack : {N : Type 0} (place : N → List ℕ) (IsDue : List N → N → Ty
 due_of_lack place IsDue ns x h =
     record { before = h.before; behind = h.behind; parts = h.parts; all_before = h.all_before; none_before = h.none_before; due = h.due }
 
+-- what is due so in a list is due in it
+pub due_by_part : {N : Type 0} (place : N → List ℕ) (IsDue IsDueSo : List N → N → Type 0) (ns : List N) (x : N) → IsPartOf IsDueSo IsDue
+    → IsDueIn place IsDueSo ns x → IsDueIn place IsDue ns x
+due_by_part place IsDue IsDueSo ns x part h =
+    record { before = h.before; behind = h.behind; parts = h.parts; all_before = h.all_before; none_before = h.none_before; due = part h.before x h.due }
+
 -- what is lacking before the mark owes a debt that nothing pays
-pub unpaid_of_lack : {N O : Type 0} (place : N → List ℕ) (IsDue : List N → N → Type 0) (mark : List ℕ) (ns : List N) (IsOwed : O → Type 0)
-    (Pays : N → O → Type 0)
-    → AreDebts place IsDue mark ns IsOwed Pays → AreSound place IsDue mark ns → (x : N) → IsLacking place IsDue ns x → IsBefore (place x) mark
-    → (o : O) × IsOwed o × Pays x o × (IsPaid ns Pays o → ⊥)
-unpaid_of_lack place IsDue mark ns IsOwed Pays debts sound x lack here =
-    let due = due_of_lack place IsDue ns x lack in
-    let o = debts.each x due here in (
+pub unpaid_of_lack : {N O : Type 0} (place : N → List ℕ) (IsDue IsDueSo : List N → N → Type 0) (mark : List ℕ) (ns : List N) (IsOwed : O → Type 0)
+    (falls : (o : O) → IsOwed o → ℕ) (Pays : N → O → Type 0)
+    → IsPartOf IsDueSo IsDue → AreDebts place IsDue IsDueSo mark ns IsOwed falls Pays → AreSound place IsDue mark ns → (x : N) → IsLacking place IsDueSo ns x
+    → IsBefore (place x) mark
+    → (o : O) × (owed : IsOwed o) × Pays x o × IsOfTime (falls o owed) (place x) × (IsPaid ns Pays o → ⊥)
+unpaid_of_lack place IsDue IsDueSo mark ns IsOwed falls Pays part debts sound x lack here =
+    let so = due_of_lack place IsDueSo ns x lack in
+    let o = debts.each x so here in (
       o.0,
       o.1,
       o.2,
+      o.3,
       λ paid.
           lack.absent paid.0 paid.1
-          (debts.one o.0 paid.0 x (due_in place IsDue ns paid.0 (founded_of_sound place IsDue mark ns sound) paid.1) due paid.2 o.2),
+          (debts.one o.0 paid.0 x o.1 (due_in place IsDue ns paid.0 (founded_of_sound place IsDue mark ns sound) paid.1)
+          (due_by_part place IsDue IsDueSo ns x part so) paid.2 o.2),
     )
 
 -- a debt that nothing pays is lacking its record
-pub lack_of_unpaid : {N O : Type 0} (place : N → List ℕ) (IsDue : List N → N → Type 0) (mark : List ℕ) (ns : List N) (IsOwed : O → Type 0)
-    (Pays : N → O → Type 0)
-    → IsDetermined place IsDue → AreDebts place IsDue mark ns IsOwed Pays → AreSound place IsDue mark ns → (o : O) → IsOwed o → (IsPaid ns Pays o → ⊥)
-    → (x : N) × IsLacking place IsDue ns x × IsBefore (place x) mark × Pays x o
-lack_of_unpaid {N} place IsDue mark ns IsOwed Pays one debts sound o owed unpaid =
+pub lack_of_unpaid : {N O : Type 0} (place : N → List ℕ) (IsDue IsDueSo : List N → N → Type 0) (mark : List ℕ) (ns : List N) (IsOwed : O → Type 0)
+    (falls : (o : O) → IsOwed o → ℕ) (Pays : N → O → Type 0)
+    → IsDetermined place IsDue → IsPartOf IsDueSo IsDue → AreDebts place IsDue IsDueSo mark ns IsOwed falls Pays → AreSound place IsDue mark ns → (o : O)
+    → (owed : IsOwed o) → (IsPaid ns Pays o → ⊥)
+    → (x : N) × IsLacking place IsDueSo ns x × IsBefore (place x) mark × Pays x o × IsOfTime (falls o owed) (place x)
+lack_of_unpaid {N} place IsDue IsDueSo mark ns IsOwed falls Pays one part debts sound o owed unpaid =
     let x = debts.some o owed in (
       x.0,
-      lacking_of place IsDue ns x.0 x.1 (λ m i same.
+      lacking_of place IsDueSo ns x.0 x.1 (λ m i same.
           unpaid (
             m,
             i,
             subst (λ (t : N). Pays t o) (sym (one_due place IsDue ns m x.0 one
-                (due_in place IsDue ns m (founded_of_sound place IsDue mark ns sound) i) x.1 same)) x.3,
+                (due_in place IsDue ns m (founded_of_sound place IsDue mark ns sound) i) (due_by_part place IsDue IsDueSo ns x.0 part x.1) same)) x.3,
           )),
       x.2,
       x.3,
+      x.4,
     )
 
--- the list lacks nothing where each debt is paid
-pub lacks_nothing : {N O : Type 0} (place : N → List ℕ) (IsDue : List N → N → Type 0) (mark : List ℕ) (ns : List N) (IsOwed : O → Type 0)
-    (Pays : N → O → Type 0)
-    → AreDebts place IsDue mark ns IsOwed Pays → AreSound place IsDue mark ns → ((o : O) → IsOwed o → IsPaid ns Pays o) → LacksNothing place IsDue mark ns
-lacks_nothing place IsDue mark ns IsOwed Pays debts sound all x lack here =
-    let h = unpaid_of_lack place IsDue mark ns IsOwed Pays debts sound x lack here in
-    h.3 (all h.0 h.1)
+-- the list lacks nothing that is due so where each debt is paid
+pub lacks_nothing : {N O : Type 0} (place : N → List ℕ) (IsDue IsDueSo : List N → N → Type 0) (mark : List ℕ) (ns : List N) (IsOwed : O → Type 0)
+    (falls : (o : O) → IsOwed o → ℕ) (Pays : N → O → Type 0)
+    → IsPartOf IsDueSo IsDue → AreDebts place IsDue IsDueSo mark ns IsOwed falls Pays → AreSound place IsDue mark ns → ((o : O) → IsOwed o → IsPaid ns Pays o)
+    → LacksNothing place IsDueSo mark ns
+lacks_nothing place IsDue IsDueSo mark ns IsOwed falls Pays part debts sound all x lack here =
+    let h = unpaid_of_lack place IsDue IsDueSo mark ns IsOwed falls Pays part debts sound x lack here in
+    h.4 (all h.0 h.1)

@@ -1,37 +1,34 @@
 -- What is owed of leavings is due.
-use Rattle.std.proofs.lemmas.Bool.{cases_order}
-use Rattle.std.proofs.lemmas.Int.{ints}
-use Rattle.std.proofs.Common.{◌≡◌, ℕ, ◌+◌, ◌<◌, ◌≤◌, false, List, [], ◌∷◌, ◌++◌, Some, length, inl, inr, refl, sym, ap, subst, ◌∙◌, arith}
+use Rattle.std.proofs.Common.{◌≡◌, ℕ, ◌+◌, ◌<◌, ◌≤◌, false, List, [], ◌∷◌, ◌++◌, Some, inl, inr, refl, sym, ap, subst, ◌∙◌, arith}
 use Rattle.net_plan.specs.declared.ids.DeviceId.{DeviceId}
 use Rattle.net_plan.specs.declared.ids.LinkId.{LinkId}
+use Rattle.net_plan.specs.declared.ids.VlId.{VlId}
 use Rattle.net_plan.specs.declared.network.Network.{Network}
-use Rattle.pcf_values.specs.declared.pcf.Pcf.{Pcf}
-use Rattle.run_law.specs.records.Happenings.{Happening, happening, numbered, time_of}
 use Rattle.run_law.specs.control.Leaving.{Departs, Departure, Gives, departure, leaves, on_cut_way, too_old}
+use Rattle.run_law.specs.control.Wires.{Launch, launched}
+use Rattle.run_law.specs.declared.judgement.Reason.TheVariants.{Old}
+use Rattle.run_law.specs.declared.judgement.Reason.{Reason}
+use Rattle.run_law.specs.declared.note.NoteBody.{NoteBody}
+use Rattle.run_law.specs.declared.note.NoteBody.TheVariants as notes
+use Rattle.run_law.specs.records.Happenings.{Happening, numbered, time_of}
 use Rattle.run_law.specs.records.Order.{IsBefore}
-use Rattle.run_law.specs.records.Ranks.{key, place_of, rank}
+use Rattle.run_law.specs.records.Ranks.{key, members_in, place_at, place_of, rank}
 use Rattle.run_law.specs.runs.DueRecords.{IsCaused, IsDue}
 use Rattle.run_law.specs.runs.Runs.{IsFounded}
 use Rattle.run_law.specs.scenario.Scenarios.{Scenario, is_broken}
-use Rattle.run_law.specs.declared.judgement.Reason.TheVariants.{Old}
-use Rattle.run_law.specs.declared.note.Note.{Note}
-use Rattle.run_law.specs.declared.note.NoteBody.{NoteBody}
-use Rattle.run_law.specs.declared.note.NoteBody.TheVariants as notes
-use Rattle.run_law.proofs.law.FirstPlaces.{by_number, front_founded, in_front_of, number_is, numbered_front, numbered_in, split}
-use Rattle.run_law.proofs.runs.SameSteps.{same_some}
+use Rattle.run_law.specs.timed.Dispatching.{HasAccepted}
+use Rattle.run_law.proofs.law.FirstPlaces.{split}
+use Rattle.run_law.proofs.runs.SameSteps.{same_departure, same_some}
 use Rattle.tte_units.specs.Amount.{units_of}
 use Rattle.tte_audit.specs.Debts.{IsDueIn}
-use Rattle.tte_audit.specs.Departures.{OwesDeparture, TellsDeparture, leaves_at}
-
--- what the record of a leaving says
-abbrev departed : DeviceId → LinkId → ℕ → Departure → NoteBody
-departed device link cause (leaves clock) = notes.Left device link cause clock
-departed device link cause on_cut_way = notes.Lost device link cause
-departed device link cause too_old = notes.Dropped device link cause Old
+use Rattle.tte_audit.specs.Departures.{IsDueByLeaving, OwesDeparture, TellsDeparture, leaves_at, leaving_record}
+use Rattle.tte_audit.specs.DebtLaws.{DepartureLaw}
+use Rattle.tte_audit.proofs.PermanentDrops.{not_old}
+use Rattle.tte_audit.proofs.Owing.{PaidAt, ahead, due_there, found_before, from_one, front_of, in_whole, next_is_due, next_of, split_at, taken_there, timely, within}
 
 -- a frame is given by a record of a lower rank than that of its leaving
 given_before : (network : Network) (body : NoteBody) (device : DeviceId) (link : LinkId) (cause : ℕ) (d : Departure) → Gives network body device link
-    → rank body < rank (departed device link cause d)
+    → rank body < rank (leaving_record device link cause d)
 given_before network (notes.Sent master cycle) device link cause (leaves clock) g = omega arith
 given_before network (notes.Sent master cycle) device link cause on_cut_way g = omega arith
 given_before network (notes.Sent master cycle) device link cause too_old g = omega arith
@@ -44,59 +41,41 @@ given_before network (notes.Arrived relay by from clock) device link cause too_o
 given_before network other device link cause d g = absurd g
 
 caused : (s : Scenario) (before : List Happening) (t : ℕ) (device : DeviceId) (link : LinkId) (cause : ℕ) (d : Departure)
-    → Departs s before device t link cause d → IsCaused s before (units_of t) (departed device link cause d)
+    → Departs s before device t link cause d → IsCaused s before (units_of t) (leaving_record device link cause d)
 caused s before t device link cause (leaves clock) h = h
 caused s before t device link cause on_cut_way h = inl h
 caused s before t device link cause too_old h = inr (inr (h, refl))
 
-tells : (device : DeviceId) (link : LinkId) (cause : ℕ) (d : Departure) → TellsDeparture cause link (departed device link cause d)
+tells : (device : DeviceId) (link : LinkId) (cause : ℕ) (d : Departure) → TellsDeparture cause link (leaving_record device link cause d)
 tells device link cause (leaves clock) = (refl, refl)
 tells device link cause on_cut_way = (refl, refl)
-tells device link cause too_old = (refl, refl)
+tells device link cause too_old = (refl, refl, refl)
 
--- the key of such a record does not have the members of its frame
-same_key : (m n : ℕ) (device : DeviceId) (link : LinkId) (cause : ℕ) (d : Departure)
-    → key m (departed device link cause d) ≡ key n (departed device link cause d)
-same_key m n device link cause (leaves clock) = refl
-same_key m n device link cause on_cut_way = refl
-same_key m n device link cause too_old = refl
+-- the place of a leaving
+abbrev leaving_place : ℕ → DeviceId → LinkId → ℕ → Departure → List ℕ
+leaving_place t device link cause d = t ∷ rank (leaving_record device link cause d) ∷ device.0 ∷ link.0 ∷ cause ∷ []
 
-ahead : (a b r q : ℕ) (ks ls : List ℕ) → a ≤ b → r < q → IsBefore (a ∷ r ∷ ks) (b ∷ q ∷ ls)
-ahead a b r q ks ls le lt =
-    elim (cases_order a b) [
-      | inl e ↦ inr (e, inl lt)
-      | inr (inl less) ↦ inl less
-      | inr (inr more) ↦ absurd (omega arith)
-    ]
+record_place : (t m : ℕ) (device : DeviceId) (link : LinkId) (cause : ℕ) (d : Departure)
+    → place_at t m (leaving_record device link cause d) ≡ leaving_place t device link cause d
+record_place t m device link cause (leaves clock) = refl
+record_place t m device link cause on_cut_way = refl
+record_place t m device link cause too_old = refl
 
--- the record that is due
-pub record IsDeparting (s : Scenario) (hs : List Happening) (until cause : ℕ) (link : LinkId) : Type 0 where
-  pub x : Happening
-  pub due : IsDueIn place_of (IsDue s) hs x
-  pub within : IsBefore (place_of x) ((until + 1) ∷ [])
-  pub tells : TellsDeparture cause link x.note.body
-
-pub some_departure : (s : Scenario) (hs : List Happening) (until cause : ℕ) (link : LinkId) → IsFounded place_of (IsDue s) hs
-    → OwesDeparture s hs until cause link → IsDeparting s hs until cause link
+some_departure : (s : Scenario) (hs : List Happening) (until cause : ℕ) (link : LinkId) → IsFounded place_of (IsDue s) hs
+    → (o : OwesDeparture s hs until cause link)
+    → PaidAt s hs until (IsDueByLeaving s) (leaves_at s o.device link o.giving) (λ x. TellsDeparture cause link x.note.body)
 some_departure s hs until cause link founded o =
     let t = leaves_at s o.device link o.giving in
     let d = departure s o.device link o.frame (time_of o.giving) t in
-    let body = departed o.device link cause d in
-    let p = t ∷ rank body ∷ key 0 body in
+    let body = leaving_record o.device link cause d in
+    let p = leaving_place t o.device link cause d in
     let at = split place_of (IsDue s) hs p founded in
-    let note : Note = record { number = length at.front + 1; time = units_of t; body = body } in
-    let x = happening s.network at.front note in
-    let place : place_of x ≡ p = ap (λ (ks : List ℕ). t ∷ rank body ∷ ks) (same_key _ 0 o.device link cause d) in
-    let front = front_founded place_of (IsDue s) at.front at.rest (subst (IsFounded place_of (IsDue s)) at.whole founded) in
-    let sooner : IsBefore (place_of o.giving) p = ahead (time_of o.giving) t (rank o.giving.note.body) (rank body) _ _ (omega arith)
+    let sooner : IsBefore (place_of o.giving) p = ahead (time_of o.giving) t (rank o.giving.note.body) (rank body)
+    (key (members_in o.giving) o.giving.note.body) (o.device.0 ∷ link.0 ∷ cause ∷ []) (omega arith)
     (given_before s.network o.giving.note.body o.device link cause d o.gives) in
-    let there = in_front_of place_of hs p at o.giving (numbered_in hs cause o.giving o.there) sooner in
-    let number = number_is s hs cause o.giving founded o.there in
-    let numbered_there : numbered at.front cause ≡ Some o.giving = subst (λ (n : ℕ). numbered at.front n ≡ Some o.giving) number
-    (by_number s at.front o.giving front there) in
     let departs : Departs s at.front o.device t link cause d = record {
       giving = o.giving;
-      there = numbered_there;
+      there = found_before s hs p founded at cause o.giving o.there sooner;
       gives = o.gives;
       frame = o.frame;
       of_frame = o.of_frame;
@@ -104,35 +83,120 @@ some_departure s hs until cause link founded o =
       correct = o.correct;
       becomes = refl;
     } in
-    record {
-      x = x;
-      due = record {
-        before = at.front;
-        behind = at.rest;
-        parts = at.whole;
-        all_before = λ n i. subst (IsBefore (place_of n)) (sym place) (at.before n i);
-        none_before = λ n i b. at.none n i (subst (IsBefore (place_of n)) place b);
-        due = record { number = refl; same = refl; begun = omega (arith, ints); cause = caused s at.front t o.device link cause d departs };
-      };
-      within = inl (let timely = o.timely in omega (arith, timely));
-      tells = tells o.device link cause d;
-    }
+    let x = next_of s at.front t body in
+    let due : IsDueByLeaving s at.front x = record {
+      due = next_is_due s at.front t body (caused s at.front t o.device link cause d departs);
+      device = o.device;
+      link = link;
+      cause = cause;
+      is = d;
+      departs = departs;
+      says = refl;
+    } in (
+      x,
+      due_there (IsDueByLeaving s) hs p at x (record_place t (members_in x) o.device link cause d) due,
+      within t until (rank body ∷ key (members_in x) body) o.timely,
+      tells o.device link cause d,
+      refl,
+    )
 
--- ---- what leaves was owed, and becomes one thing
+-- ---- what leaves was owed
 
--- a frame that departs, given a front of the list, was owed by the list
-pub departure_owed : (s : Scenario) (hs before rest : List Happening) (t : ℕ) (device : DeviceId) (link : LinkId) (cause : ℕ) (d : Departure) (until : ℕ)
-    → hs ≡ before ++ rest → Departs s before device t link cause d → t ≤ until → OwesDeparture s hs until cause link
-departure_owed s hs before rest t device link cause d until e h le = record {
+-- a frame that departs, given a front of the list, departs by the list
+departs_in_whole : (s : Scenario) (hs before rest : List Happening) (t : ℕ) (device : DeviceId) (link : LinkId) (cause : ℕ) (d : Departure)
+    → hs ≡ before ++ rest → Departs s before device t link cause d → Departs s hs device t link cause d
+departs_in_whole s hs before rest t device link cause d e h = record {
   giving = h.giving;
-  there = subst (λ (gs : List Happening). numbered gs cause ≡ Some h.giving) (sym e) (numbered_front before rest cause h.giving h.there);
-  device = device;
+  there = in_whole hs before rest cause h.giving e h.there;
   gives = h.gives;
   frame = h.frame;
   of_frame = h.of_frame;
-  correct = subst (λ (u : ℕ). is_broken s device u ≡ false) h.held h.correct;
-  timely = subst (λ (u : ℕ). u ≤ until) h.held le;
+  held = h.held;
+  correct = h.correct;
+  becomes = h.becomes;
 }
+
+departure_owed : (s : Scenario) (hs : List Happening) (until : ℕ) (x : Happening) → IsDueIn place_of (IsDueByLeaving s) hs x
+    → IsBefore (place_of x) ((until + 1) ∷ [])
+    → (given : ℕ × LinkId) × (o : OwesDeparture s hs until given.0 given.1) × TellsDeparture given.0 given.1 x.note.body
+    × (time_of x ≡ leaves_at s o.device given.1 o.giving)
+departure_owed s hs until x h here =
+    let d = h.due.departs in
+    let owed : OwesDeparture s hs until h.due.cause h.due.link = record {
+      giving = d.giving;
+      there = in_whole hs h.before h.behind h.due.cause d.giving h.parts d.there;
+      device = h.due.device;
+      gives = d.gives;
+      frame = d.frame;
+      of_frame = d.of_frame;
+      correct = subst (λ (u : ℕ). is_broken s h.due.device u ≡ false) d.held d.correct;
+      timely = subst (λ (u : ℕ). u ≤ until) d.held (timely (time_of x) until (rank x.note.body ∷ key (members_in x) x.note.body) here);
+    } in
+    let told = subst (TellsDeparture h.due.cause h.due.link) (sym h.due.says) (tells h.due.device h.due.link h.due.cause h.due.is) in
+    ((h.due.cause, h.due.link), owed, told, d.held)
+
+-- ---- what pays for one is at one place
+
+-- the record may give a frame to a link
+abbrev IsGiving : NoteBody → Type 0
+IsGiving (notes.Sent master cycle) = Unit {0}
+IsGiving (notes.Compressed cm opened at cycle members verdict) = Unit {0}
+IsGiving (notes.Arrived relay by from clock) = Unit {0}
+IsGiving other = ⊥
+
+gives_so : (network : Network) (body : NoteBody) (device : DeviceId) (link : LinkId) → Gives network body device link → IsGiving body
+gives_so network (notes.Sent master cycle) device link g = tt
+gives_so network (notes.Compressed cm opened at cycle members verdict) device link g = tt
+gives_so network (notes.Arrived relay by from clock) device link g = tt
+gives_so network other device link g = absurd g
+
+puts_none : (s : Scenario) (h : Happening) (t : ℕ) (body : NoteBody) (l : Launch) → IsGiving body → launched s h t body ≡ Some l → ⊥
+puts_none s h t (notes.Sent master cycle) l g e = cc
+puts_none s h t (notes.Compressed cm opened at cycle members verdict) l g e = cc
+puts_none s h t (notes.Arrived relay by from clock) l g e = cc
+puts_none s h t other l g e = absurd g
+
+accepted_gives_none : (body : NoteBody) (device : DeviceId) (link : LinkId) (from : ℕ) (vl : VlId) (cycle : ℕ)
+    → body ≡ notes.Accepted device link from vl cycle → IsGiving body → ⊥
+accepted_gives_none body device link from vl cycle is g = subst IsGiving is g
+
+-- what is taken from a switch's last frame is of a record of a taking
+from_accepted : (s : Scenario) (before : List Happening) (device : DeviceId) (vl : VlId) (t cause cycle : ℕ) → IsFounded place_of (IsDue s) before
+    → ((g : Happening) → numbered before cause ≡ Some g → IsGiving g.note.body) → HasAccepted before device vl t cause cycle → ⊥
+from_accepted s before device vl t cause cycle founded giving has =
+    accepted_gives_none has.taken.note.body device has.link has.from vl cycle has.is
+    (giving has.taken (taken_there s before device vl t cause cycle founded has))
+
+-- a record that is due and tells of a leaving is due by it, where its cause gives a frame to a link
+by_leaving : (s : Scenario) (before : List Happening) (x : Happening) (cause : ℕ) (link : LinkId) → IsDue s before x → IsFounded place_of (IsDue s) before
+    → (cause ≡ 0 → ⊥) → ((g : Happening) → numbered before cause ≡ Some g → IsGiving g.note.body)
+    → (body : NoteBody) → x.note.body ≡ body → IsCaused s before x.note.time body → TellsDeparture cause link body
+    → (h : IsDueByLeaving s before x) × (h.cause ≡ cause) × (h.link ≡ link)
+by_leaving s before x cause link due founded some gives (notes.Left device by from clock) is c e =
+    (record { due = due; device = device; link = by; cause = from; is = leaves clock; departs = c; says = is }, e.1, e.0)
+by_leaving s before x cause link due founded some gives (notes.Lost device by from) is c e =
+    let all : (g : Happening) → numbered before from ≡ Some g → IsGiving g.note.body = λ g here.
+    gives g (subst (λ (n : ℕ). numbered before n ≡ Some g) e.1 here) in
+    elim c [
+      | inl d ↦ (record { due = due; device = device; link = by; cause = from; is = on_cut_way; departs = d; says = is }, e.1, e.0)
+      | inr (inl row) ↦
+          elim row.2.at_hand [
+            | inl own ↦ absurd (some (sym e.1 ∙ own.1))
+            | inr taken ↦ absurd (from_accepted s before device _ _ from _ founded all taken.1)
+          ]
+      | inr (inr send) ↦ absurd (subst IsGiving send.sends (all send.event send.is.there))
+    ]
+by_leaving s before x cause link due founded some gives (notes.Dropped device by from reason) is c e =
+    let all : (g : Happening) → numbered before from ≡ Some g → IsGiving g.note.body = λ g here.
+    gives g (subst (λ (n : ℕ). numbered before n ≡ Some g) e.1 here) in
+    elim c [
+      | inl a ↦ absurd (puts_none s a.putting (time_of a.putting) a.putting.note.body _ (all a.putting a.there) a.arrives.put)
+      | inr (inl r) ↦ absurd (not_old s before _ device by from r.0 reason r.1 e.2)
+      | inr (inr l) ↦
+          let old : x.note.body ≡ notes.Dropped device by from Old = is ∙ ap (λ (r : Reason). notes.Dropped device by from r) l.1 in
+          (record { due = due; device = device; link = by; cause = from; is = too_old; departs = l.0; says = old }, e.1, e.0)
+    ]
+by_leaving s before x cause link due founded some gives other is c e = absurd e
 
 -- a record gives its frame for one device
 one_giver : (network : Network) (body : NoteBody) (device other : DeviceId) (link : LinkId) → Gives network body device link → Gives network body other link
@@ -142,35 +206,63 @@ one_giver network (notes.Compressed cm opened at cycle members verdict) device o
 one_giver network (notes.Arrived relay by from clock) device other link a b = a.0 ∙ sym b.0
 one_giver network body device other link a b = absurd a
 
-pub record IsOneDeparture (t u : ℕ) (device other : DeviceId) (d e : Departure) : Type 0 where
-  pub times : t ≡ u
-  pub devices : device ≡ other
-  pub outcomes : d ≡ e
-
--- one frame departs by one link once, whatever fronts of the list it is judged by
-pub one_departure : (s : Scenario) (hs ps qs ls rs : List Happening) (t u : ℕ) (device other : DeviceId) (link : LinkId) (cause : ℕ) (d e : Departure)
-    → hs ≡ ps ++ qs → hs ≡ ls ++ rs
-    → Departs s ps device t link cause d → Departs s ls other u link cause e → IsOneDeparture t u device other d e
-one_departure s hs ps qs ls rs t u device other link cause d e whole parts a b =
-    let here = subst (λ (gs : List Happening). numbered gs cause ≡ Some a.giving) (sym whole) (numbered_front ps qs cause a.giving a.there) in
-    let there = subst (λ (gs : List Happening). numbered gs cause ≡ Some b.giving) (sym parts) (numbered_front ls rs cause b.giving b.there) in
-    let one : b.giving ≡ a.giving = same_some (numbered hs cause) b.giving a.giving there here in
-    let frames : b.frame ≡ a.frame = same_some a.giving.frame b.frame a.frame (ap (λ (h : Happening). h.frame) (sym one) ∙ b.of_frame) a.of_frame in
+-- where two leavings of one frame by one link stand
+same_place : (s : Scenario) (hs : List Happening) (t u : ℕ) (device other : DeviceId) (link by : LinkId) (cause from : ℕ) (d e : Departure)
+    → cause ≡ from → link ≡ by
+    → Departs s hs device t link cause d → Departs s hs other u by from e → leaving_place t device link cause d ≡ leaving_place u other by from e
+same_place s hs t u device other link by cause from d e causes links a b =
+    let there = subst (λ (k : LinkId). Departs s hs other u k cause e) (sym links) (subst (λ (n : ℕ). Departs s hs other u by n e) (sym causes) b) in
+    let one : there.giving ≡ a.giving = same_some (numbered hs cause) there.giving a.giving there.there a.there in
     let devices : device ≡ other = one_giver s.network a.giving.note.body device other link a.gives
-    (subst (λ (h : Happening). Gives s.network h.note.body other link) one b.gives) in
+    (subst (λ (h : Happening). Gives s.network h.note.body other link) one there.gives) in
     let times : t ≡ u =
     a.held
     ∙ ap (λ (x : DeviceId). leaves_at s x link a.giving) devices
     ∙ ap (λ (h : Happening). leaves_at s other link h) (sym one)
-    ∙ sym b.held in
-    record {
-      times = times;
-      devices = devices;
-      outcomes =
-          a.becomes
-          ∙ ap (λ (x : DeviceId). departure s x link a.frame (time_of a.giving) t) devices
-          ∙ ap (λ (f : Pcf). departure s other link f (time_of a.giving) t) (sym frames)
-          ∙ ap (λ (h : Happening). departure s other link b.frame (time_of h) t) (sym one)
-          ∙ ap (λ (v : ℕ). departure s other link b.frame (time_of b.giving) v) times
-          ∙ sym b.becomes;
-    }
+    ∙ sym there.held in
+    let moved = subst (λ (k : DeviceId). Departs s hs k t link cause e) (sym devices)
+    (subst (λ (n : ℕ). Departs s hs other n link cause e) (sym times) there) in
+    let outcomes : d ≡ e = same_departure s hs t device link cause d e a moved in
+    ap (λ (o : Departure). leaving_place t device link cause o) outcomes
+    ∙ ap (λ (n : ℕ). leaving_place n device link cause e) times
+    ∙ ap (λ (k : DeviceId). leaving_place u k link cause e) devices
+    ∙ ap (λ (k : LinkId). leaving_place u other k cause e) links
+    ∙ ap (λ (n : ℕ). leaving_place u other by n e) causes
+
+-- the place of what is due by a leaving
+due_place : (s : Scenario) (before : List Happening) (x : Happening) → (h : IsDueByLeaving s before x)
+    → place_of x ≡ leaving_place (time_of x) h.device h.link h.cause h.is
+due_place s before x h =
+    ap (λ (b : NoteBody). place_at (time_of x) (members_in x) b) h.says ∙ record_place (time_of x) (members_in x) h.device h.link h.cause h.is
+
+-- what is due and tells of a leaving that is owed is due by it in the list
+due_so : (s : Scenario) (hs : List Happening) (until cause : ℕ) (link : LinkId) (x : Happening) → IsFounded place_of (IsDue s) hs
+    → OwesDeparture s hs until cause link → (h : IsDueIn place_of (IsDue s) hs x) → TellsDeparture cause link x.note.body
+    → (d : IsDueByLeaving s h.before x) × (d.cause ≡ cause) × (d.link ≡ link)
+due_so s hs until cause link x founded o h tells =
+    let front = front_of s hs (place_of x) founded (split_at (IsDue s) hs x h) in
+    let gives = gives_so s.network o.giving.note.body o.device link o.gives in
+    let all : (g : Happening) → numbered h.before cause ≡ Some g → IsGiving g.note.body = λ g there.
+    subst (λ (k : Happening). IsGiving k.note.body)
+    (same_some (numbered hs cause) o.giving g o.there (in_whole hs h.before h.behind cause g h.parts there)) gives in
+    by_leaving s h.before x cause link h.due front (from_one hs cause o.giving o.there) all x.note.body refl h.due.cause tells
+
+-- it departs by the list
+due_departs : (s : Scenario) (hs : List Happening) (x : Happening) → (h : IsDueIn place_of (IsDue s) hs x) → (d : IsDueByLeaving s h.before x)
+    → Departs s hs d.device (time_of x) d.link d.cause d.is
+due_departs s hs x h d = departs_in_whole s hs h.before h.behind (time_of x) d.device d.link d.cause d.is h.parts d.departs
+
+pub departure_law : DepartureLaw
+departure_law s hs until founded = record {
+  each = λ x h here. departure_owed s hs until x h here;
+  some = λ given o. some_departure s hs until given.0 given.1 founded o;
+  one = λ given x y o a b p q.
+      let first = due_so s hs until given.0 given.1 x founded o a p in
+      let second = due_so s hs until given.0 given.1 y founded o b q in
+      let i = first.0 in
+      let j = second.0 in
+      due_place s a.before x i
+      ∙ same_place s hs (time_of x) (time_of y) i.device j.device i.link j.link i.cause j.cause i.is j.is (first.1 ∙ sym second.1)
+      (first.2 ∙ sym second.2) (due_departs s hs x a i) (due_departs s hs y b j)
+      ∙ sym (due_place s b.before y j);
+}

@@ -12,7 +12,7 @@ pub founded_of_sound : {N : Type 0} (place : N → List ℕ) (IsDue : List N →
     → IsFounded place IsDue ns
 founded_of_sound place IsDue mark ns sound ps qs x e = let h = sound ps qs x e in (h.behind_all, h.due)
 
-within_of_sound : {N : Type 0} (place : N → List ℕ) (IsDue : List N → N → Type 0) (mark : List ℕ) (ns : List N) → AreSound place IsDue mark ns
+pub within_of_sound : {N : Type 0} (place : N → List ℕ) (IsDue : List N → N → Type 0) (mark : List ℕ) (ns : List N) → AreSound place IsDue mark ns
     → AllBefore place ns mark
 within_of_sound place IsDue mark ns sound n i = let at = parted n ns i in (sound at.0 at.1 n at.2).within
 
