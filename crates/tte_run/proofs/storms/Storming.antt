@@ -153,7 +153,6 @@ judged_well (Err e) P Q R well never is = absurd (never e is)
 
 module _ (events : List Event) (notes : List Note) (run : Storming) (is : IsStorming run.accepted.now run.storm.seed run.storm.cycles events notes run)
     (event : Event) (d : IsDrawnFor run event) where
-
   abbrev own : Network
   own = run.accepted.now
 
@@ -175,7 +174,6 @@ module _ (events : List Event) (notes : List Note) (run : Storming) (is : IsStor
   -- the world has come to the event
   module _ (next : ExactWorld) (seen : Seen) (reached : Reaches run.world next event.time)
       (sees : SeesUntil run.accepted.now events notes event.time run.world next seen) where
-
     reached_now : HasReached run.world next event.time
     reached_now = reached unended order d.range.time.most
 
@@ -202,7 +200,6 @@ module _ (events : List Event) (notes : List Note) (run : Storming) (is : IsStor
     module _ (after : ExactWorld) (note : Note) (number line : ℕ)
         (stands : StandsExact run.accepted.now after (events ++ event ∷ []) ((notes ++ sees.more) ++ note ∷ []))
         (note_is : note ≡ event_note number line event) (still : (after.now ≡ next.now) × (after.early ≡ next.early)) where
-
       pub room : seen.tally.records + 1 < 2 ^ 64
       room = room_for own (events ++ event ∷ []) (notes ++ sees.more) note after seen.tally sees.is.counted.tallied stands
 

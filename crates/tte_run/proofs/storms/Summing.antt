@@ -90,8 +90,11 @@ pub lines_fail : (lines : List (List ℕ)) (count : ℕ) (old now new : Shown) (
     → Gives (record { status = Done; lines = lines }) WriteFault old new
 lines_fail lines count old now new line h is front puts =
     let next = next_of lines count old now line h is in
-    inr (inl (refl, subst (λ (l : List (List ℕ)). WriteFails l old new) (sym next.1)
-    (inl (PutsLines-fails h.done line next.0 old now new h.puts front puts))))
+    inr (inl (
+      refl,
+      subst (λ (l : List (List ℕ)). WriteFails l old new) (sym next.1)
+          (inl (PutsLines-fails h.done line next.0 old now new h.puts front puts)),
+    ))
 
 none_left : (done left : List (List ℕ)) → length (done ++ left) ≡ length done → left ≡ []
 none_left done [] is = refl
