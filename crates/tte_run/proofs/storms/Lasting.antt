@@ -114,7 +114,6 @@ alike_event network events event hs tail t lt later =
 
 module _ (s other : Scenario) (hs tail : List Happening) (c : ℕ) (past : (h : Happening) → IsIn h hs → IsCorrection h → time_of h < c)
     (alike : (t : ℕ) → t < c → Alike s hs other (hs ++ tail) t) where
-
   seen_on : (apart : ℤ) → AreSeenApart s hs apart → AreSeenApart other (hs ++ tail) apart
   seen_on apart a = record {
     seen_at = a.seen_at;

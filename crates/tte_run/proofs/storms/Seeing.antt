@@ -93,7 +93,7 @@ near_way from world next until lt (inr past) =
     ]
   where
     le_cases : (n : ℕ) (z : ℤ) → pos n ≤ℤ z → (pos n <ℤ z) ⊎ (pos n ≡ z)
-    le_cases n (pos m) le = elim (cases_lt n m) [ | inl lt ↦ inl (omega (arith, ints, lt)) | inr ge ↦ inr (omega (arith, ints, le, ge)) ]
+    le_cases n (pos m) le = elim (cases_lt n m) [ inl lt ↦ inl (omega (arith, ints, lt)) | inr ge ↦ inr (omega (arith, ints, le, ge)) ]
     le_cases n (Rattle.std.proofs.Common.negsuc m) le = absurd (omega (arith, ints, le))
 
 pub way_reached : (network : Network) (until : Units) (from world next : ExactWorld) (events : List Event) (notes others : List Note)

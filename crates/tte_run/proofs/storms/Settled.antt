@@ -103,7 +103,6 @@ pub record IsSettled (network : Network) (events : List Event) (notes : List Not
 
 module _ (network : Network) (events : List Event) (notes : List Note) (note : Note) (world next : ExactWorld) (seen : Seen) (until : Units) (counts : Counts)
     (is : IsSettled network events notes note world next seen until counts) where
-
   now_is : amount note.time ≡ world.now
   now_is = ap amount is.open_.given.at
 

@@ -153,21 +153,20 @@ judged_well (Err e) P Q R well never is = absurd (never e is)
 
 module _ (events : List Event) (notes : List Note) (run : Storming) (is : IsStorming run.accepted.now run.storm.seed run.storm.cycles events notes run)
     (event : Event) (d : IsDrawnFor run event) where
+  abbrev own : Network
+  own = run.accepted.now
 
-  abbrev network : Network
-  network = run.accepted.now
+  later : AreNoLater events (time_of own run.storm.given)
+  later = none_later own run.storm.seed run.storm.cycles events run.storm.given is.each (sym is.given_is)
 
-  later : AreNoLater events (time_of network run.storm.given)
-  later = none_later network run.storm.seed run.storm.cycles events run.storm.given is.each (sym is.given_is)
-
-  pub within : IsWithinHypothesis network events event
+  pub within : IsWithinHypothesis own events event
   within = d.within events is.watches later
 
   few : length events ≤ 8 * run.storm.cycles
   few = let early = d.early in let count = is.given_is in omega (arith, early, count)
 
   pub unended : run.world.ended ≡ false
-  unended = none_ended network run.storm.seed run.storm.cycles events notes run.world is.each few is.seen.counted.stands
+  unended = none_ended own run.storm.seed run.storm.cycles events notes run.world is.each few is.seen.counted.stands
 
   pub order : pos run.world.now ≤ℤ event.time.0
   order = in_order events event run is.time is.reached (subst (AreNoLater events) (sym d.at) later) d.range.time.least
@@ -175,13 +174,12 @@ module _ (events : List Event) (notes : List Note) (run : Storming) (is : IsStor
   -- the world has come to the event
   module _ (next : ExactWorld) (seen : Seen) (reached : Reaches run.world next event.time)
       (sees : SeesUntil run.accepted.now events notes event.time run.world next seen) where
-
     reached_now : HasReached run.world next event.time
     reached_now = reached unended order d.range.time.most
 
     next_unended : next.ended ≡ false
     next_unended =
-        (go_on network run.world next events notes (notes ++ sees.more) is.seen.counted.stands sees.is.counted.stands).unended unended
+        (go_on own run.world next events notes (notes ++ sees.more) is.seen.counted.stands sees.is.counted.stands).unended unended
 
     pub open_to : IsOpenTo next event
     open_to = record { time = sym reached_now.time; early = reached_now.early (inr is.reached.early); unended = next_unended }
@@ -202,15 +200,14 @@ module _ (events : List Event) (notes : List Note) (run : Storming) (is : IsStor
     module _ (after : ExactWorld) (note : Note) (number line : ℕ)
         (stands : StandsExact run.accepted.now after (events ++ event ∷ []) ((notes ++ sees.more) ++ note ∷ []))
         (note_is : note ≡ event_note number line event) (still : (after.now ≡ next.now) × (after.early ≡ next.early)) where
-
       pub room : seen.tally.records + 1 < 2 ^ 64
-      room = room_for network (events ++ event ∷ []) (notes ++ sees.more) note after seen.tally sees.is.counted.tallied stands
+      room = room_for own (events ++ event ∷ []) (notes ++ sees.more) note after seen.tally sees.is.counted.tallied stands
 
       abbrev y : Happening
-      y = last_of network (notes ++ sees.more) note
+      y = last_of own (notes ++ sees.more) note
 
       abbrev hs : List Happening
-      hs = happenings network (notes ++ sees.more)
+      hs = happenings own (notes ++ sees.more)
 
       y_time : time_of_note y ≡ amount event.time
       y_time = ap (λ (n : Note). amount n.time) note_is
@@ -240,19 +237,19 @@ module _ (events : List Event) (notes : List Note) (run : Storming) (is : IsStor
           → new.seen.tally ≡ counts_of ((notes ++ sees.more) ++ note ∷ []) → new.seen.spread ≡ seen.spread → new.lines ≡ run.lines + 1 → new.time ≡ event.time
           → StormsOn run.accepted.now run.storm.seed run.storm.cycles events new
       storms_on new over watches storm world tally spread lines time =
-          let more = one_more network run.storm.seed run.storm.cycles events run.storm.given event is.each (sym is.given_is) (d.is events is.watches) in
-          let joined = one_more_note network (notes ++ sees.more) note in
-          let s = exact_scenario network events in
-          let other = exact_scenario network (events ++ event ∷ []) in
+          let more = one_more own run.storm.seed run.storm.cycles events run.storm.given event is.each (sym is.given_is) (d.is events is.watches) in
+          let joined = one_more_note own (notes ++ sees.more) note in
+          let s = exact_scenario own events in
+          let other = exact_scenario own (events ++ event ∷ []) in
           let widest =
-          spread_stays s other hs (y ∷ []) (amount event.time) past (λ t lt. alike_event network events event hs (y ∷ []) t lt behind) (record { 0 = seen.spread })
+          spread_stays s other hs (y ∷ []) (amount event.time) past (λ t lt. alike_event own events event hs (y ∷ []) t lt behind) (record { 0 = seen.spread })
           none sees.is.widest in
           let now = still.0 in
           let long = length-append events (event ∷ []) in
           let counted = is.lines in
           let early = reached_now.early (inr is.reached.early) in
           let at = reached_now.time in
-          let all : AreSeen network after new.seen (events ++ event ∷ []) ((notes ++ sees.more) ++ note ∷ []) = record {
+          let all : AreSeen own after new.seen (events ++ event ∷ []) ((notes ++ sees.more) ++ note ∷ []) = record {
             counted = record { stands = stands; tallied = tally };
             widest =
                 subst (λ (l : List Happening). IsGreatestSpread other l (record { 0 = new.seen.spread })) (sym joined)
@@ -275,7 +272,7 @@ module _ (events : List Event) (notes : List Note) (run : Storming) (is : IsStor
               cycles_is = ap (λ (p : Progress). p.cycles) storm;
               given_is = ap (λ (p : Progress). p.given) storm ∙ sym more.1;
               lines = omega (arith, lines, counted, long);
-              seen = subst (λ (w : ExactWorld). AreSeen network w new.seen (events ++ event ∷ []) ((notes ++ sees.more) ++ note ∷ [])) (sym world) all;
+              seen = subst (λ (w : ExactWorld). AreSeen own w new.seen (events ++ event ∷ []) ((notes ++ sees.more) ++ note ∷ [])) (sym world) all;
               time = time ∙ sym (last_is events event);
               reached =
                   subst (λ (w : ExactWorld). IsReached w new.time) (sym world)

@@ -65,10 +65,10 @@ exact_steps = record {
   drifts = advances;
 }
 
-exact_laws : AlwaysKeepsClockLaws fresh_segment stepped_segment segment_reading
+pub exact_laws : AlwaysKeepsClockLaws fresh_segment stepped_segment segment_reading
 exact_laws = keeps_clock_laws fresh_segment stepped_segment segment_reading (λ c. c.grain) segment_count exact_steps
 
-exact_begins : AlwaysBeginsAtZero fresh_segment stepped_segment segment_reading
+pub exact_begins : AlwaysBeginsAtZero fresh_segment stepped_segment segment_reading
 exact_begins = begins_at_zero fresh_segment stepped_segment segment_reading (λ c. c.grain) segment_count exact_steps
 
 -- ---- what an answer's lines are

@@ -18,7 +18,6 @@ notes-init c = record {
   way = inl refl;
 }
 
-
 pub count-requires : goal.count-requires
 count-requires c =
     let u = c.requires.counting in

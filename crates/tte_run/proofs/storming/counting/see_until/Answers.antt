@@ -75,7 +75,7 @@ notes-preserved c =
     if_some c.in-Ok-Some.field-0 note (λ (n : Note). (n.time ≡ units_of next.now) × (n.time.0 <ℤ until.0)) c.in-Ok-Some.field-0-is
     c.in-Ok-Some.ensures.before in
     let more : (events : List Event) (notes : List Note) (are : AreSeen network c.args.world.now c.args.seen.now events notes)
-        → SeesOn network c.see.new.world c.see.new.seen events ((notes ++ (c.notes.invariant.sees events notes are).more) ++ note ∷ []) =
+    → SeesOn network c.see.new.world c.see.new.seen events ((notes ++ (c.notes.invariant.sees events notes are).more) ++ note ∷ []) =
     λ events notes are.
     (let h = c.notes.invariant.sees events notes are in
     let ns = notes ++ h.more in
