@@ -4,6 +4,8 @@ use Rattle.net_plan.specs.declared.network.Network.{Network}
 use Rattle.run_law.specs.declared.note.Note.{Note}
 use Rattle.std.proofs.Common.{List}
 use Rattle.drift_world.specs.Running.{Reaches, left_of}
+use Rattle.drift_clock.specs.Segment.{fresh_segment, segment_reading, stepped_segment}
+use Rattle.safe_runs.specs.Headline.{IsSafeFront}
 use Rattle.tte_run.proofs.storms.Given.{counted_all, counted_more, counted_none, room_for}
 use Rattle.tte_run.proofs.traces.PuttingRecords.{given_none, given_some, if_none, if_some, is_before, reached_by, still_ended}
 use Rattle.tte_run.specs.traces.Answer.{AreRecordsBefore}
@@ -67,11 +69,12 @@ returns-in-Ok-None-clause-counts c network events notes is =
     let stands = given_none network events (notes ++ h.more) next c.in-Ok-None.field-0 c.in-Ok-None.field-0-is
     (c.in-Ok-None.ensures.stands network events (notes ++ h.more) h.is.stands) in
     let all : pos c.args.world.now.now <ℤ until.0 → AreRecordsBefore network events (amount until ∷ []) (notes ++ h.more) =
-    λ later. if_none c.in-Ok-None.field-0 (AreRecordsBefore network events (amount until ∷ []) (notes ++ h.more)) c.in-Ok-None.field-0-is
+    λ later. (if_none c.in-Ok-None.field-0 (IsSafeFront fresh_segment stepped_segment segment_reading network events (amount until) (notes ++ h.more))
+    c.in-Ok-None.field-0-is
     (c.in-Ok-None.ensures.complete network events (notes ++ h.more) h.is.stands (elim c.notes.invariant.way [
       | inl same ↦ subst (λ w. pos w.now <ℤ until.0) (sym same) later
       | inr lt ↦ lt
-    ])) in
+    ]))).run in
     counted_all network events notes until c.args.world.now c.notes.world next c.notes.tally h stands all
 
 pub returns-in-Ok-None-clause-reached : goal.returns-in-Ok-None-clause-reached

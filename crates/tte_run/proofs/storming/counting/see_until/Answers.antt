@@ -2,6 +2,8 @@ use Rattle.std.proofs.Common.{◌≡◌, ◌<◌, ◌+◌, pos, ◌<ℤ◌, List
 use Rattle.net_plan.specs.declared.event.Event.{Event}
 use Rattle.run_law.specs.declared.note.Note.{Note}
 use Rattle.drift_world.specs.Running.{Reaches}
+use Rattle.drift_clock.specs.Segment.{fresh_segment, segment_reading, stepped_segment}
+use Rattle.safe_runs.specs.Headline.{IsSafeFront}
 use Rattle.tte_run.proofs.storms.Given.{fewer}
 use Rattle.tte_run.proofs.storms.Seeing.{near_way, new_of, sees_all, sees_more, sees_none, still_asked, way_reached}
 use Rattle.tte_run.proofs.traces.PuttingRecords.{given_none, given_some, if_none, if_some, is_before}
@@ -111,8 +113,8 @@ returns-in-Ok-None-clause-sees c events notes are =
     sees_all network events notes until c.args.world.now c.notes.world next c.notes.seen are.counted.stands h stands c.requires.order
     c.notes.invariant.way
     (if_none c.in-Ok-None.field-0 (Reaches c.notes.world next until) c.in-Ok-None.field-0-is c.in-Ok-None.ensures.reached) c.notes.invariant.asked
-    (λ lt. if_none c.in-Ok-None.field-0 (AreRecordsBefore network events (amount until ∷ []) ns) c.in-Ok-None.field-0-is
-    (c.in-Ok-None.ensures.complete network events ns h.is.counted.stands lt))
+    (λ lt. (if_none c.in-Ok-None.field-0 (IsSafeFront fresh_segment stepped_segment segment_reading network events (amount until) ns)
+    c.in-Ok-None.field-0-is (c.in-Ok-None.ensures.complete network events ns h.is.counted.stands lt)).run)
 
 pub returns-in-Ok-None-clause-reached : goal.returns-in-Ok-None-clause-reached
 returns-in-Ok-None-clause-reached c =
