@@ -1,13 +1,11 @@
 -- The greatest spread of records.
-use Rattle.std.proofs.Common.{◌≡◌, ◌⊎◌, ℕ, ℤ, pos, ◌≤◌, ◌-ℤ◌, ◌≤ℤ◌, List, inl, inr, refl, sym, ap, subst, ◌∙◌, arith}
+use Rattle.std.proofs.Common.{◌≡◌, ℤ, pos, ◌≤ℤ◌, List, inl, inr, ap, arith}
 use Rattle.std.proofs.lemmas.Int.{ints}
 use Rattle.run_law.specs.device.LocalClocks.{local}
-use Rattle.run_law.specs.law.Safety.{ClocksAgree}
 use Rattle.run_law.specs.records.Happenings.{Happening, time_of}
-use Rattle.run_law.specs.records.Order.{IsIn}
 use Rattle.run_law.specs.scenario.Scenarios.{Scenario}
 use Rattle.storm_summary.specs.Laws.{SpreadIsOne, SpreadIsWithinPrecision}
-use Rattle.storm_summary.specs.Spread.{AreApart, AreSeenApart, IsGreatestSpread}
+use Rattle.storm_summary.specs.Spread.{AreSeenApart, IsGreatestSpread}
 use Rattle.tte_units.specs.declared.units.Units.{Units}
 
 -- where two devices are seen, one is seen with itself
