@@ -43,16 +43,12 @@ later_point v cm point t q is r lt =
 
 -- ---- order
 
--- of two records at one place but for points, the first has no greater one
-key_order : (a b : ℕ) (xs ys : List ℕ) (d : ℕ) → IsBefore (d ∷ a ∷ xs) (d ∷ b ∷ ys) → a ≤ b
-key_order a b xs ys d (inl lt) = absurd (omega (arith, lt))
-key_order a b xs ys d (inr (same, inl lt)) = omega (arith, lt)
-key_order a b xs ys d (inr (same, inr (e, more))) = omega (arith, e)
-
 pub place_order : (t u d a b : ℕ) (xs ys : List ℕ) → IsBefore (t ∷ 3 ∷ d ∷ a ∷ xs) (u ∷ 3 ∷ d ∷ b ∷ ys) → (t < u) ⊎ (a ≤ b)
 place_order t u d a b xs ys (inl lt) = inl lt
 place_order t u d a b xs ys (inr (same, inl lt)) = absurd (omega (arith, lt))
-place_order t u d a b xs ys (inr (same, inr (e, more))) = inr (key_order a b xs ys d more)
+place_order t u d a b xs ys (inr (same, inr (e, inl lt))) = absurd (omega (arith, lt))
+place_order t u d a b xs ys (inr (same, inr (e, inr (f, inl lt)))) = inr (omega (arith, lt))
+place_order t u d a b xs ys (inr (same, inr (e, inr (f, inr more)))) = inr (omega (arith, more.0))
 
 points_in_order : (v : View) (cm : DeviceId) (k l : Happening) (p q : Point) → IsView v → IsIn k v.records → IsIn l v.records → GivesPoint cm k p
     → GivesPoint cm l q → IsBefore (place_of k) (place_of l) → p.reading ≤ℤ q.reading
