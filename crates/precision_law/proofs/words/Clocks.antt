@@ -22,7 +22,7 @@ pub use Rattle.precision_law.proofs.records.Views.{in_order, room, sizes_are, st
 pub use Rattle.precision_law.proofs.sizes.Instants.{corrections_come_first, cycles_are_few, frames_come_first, hulls_go_on, instants_are_in_order, set_clocks_stay_at_correction}
 pub use Rattle.precision_law.proofs.trips.Ascents.{frames_up_are_of_masters, master_member, never_timed}
 pub use Rattle.precision_law.proofs.trips.Descents.{emission_shows, frames_down_are_of_cms}
-pub use Rattle.precision_law.proofs.trips.Legs.{child_channel, child_not_parent, child_ways, gives_down, parent_ways, receiver_down, receiver_up, receiver_way, same_cycle, trip_more}
+pub use Rattle.precision_law.proofs.trips.Legs.{child_channel, child_kind, child_not_parent, child_ways, gives_down, parent_ways, receiver_down, receiver_up, receiver_way, same_cycle, trip_more}
 pub use Rattle.precision_law.proofs.trips.Links.{HasGone, IsGivenOn, arrives_at, goes_over, leaves_at, takes_at_most}
 pub use Rattle.precision_law.proofs.trips.Paths.{TakesWith, arrived_frame, clocked, frame_is, leaving_is, leg_hop, numbered_all, taken_as, taken_sound, trip_says}
 pub use Rattle.precision_law.proofs.trips.Sound.{IsClean, IsReady, no_fault, sound_switch_on, will_be_permanent}
