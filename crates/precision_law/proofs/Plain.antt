@@ -26,6 +26,13 @@ pub some_if : {X : Type 0} (b : Bool) (x y : X) → (if b then Some x else None)
 some_if true x y e = (refl, cc)
 some_if false x y e = absurd cc
 
+-- a number is below another, or at most it, where the contrary is not
+pub lt_by : {a b : ℕ} → (b ≤ a → ⊥) → a < b
+lt_by {a} {b} never = elim (cases_lt a b) [ inl lt ↦ lt | inr ge ↦ absurd (never ge) ]
+
+pub le_by : {a b : ℕ} → (b < a → ⊥) → a ≤ b
+le_by {a} {b} never = elim (cases_lt b a) [ inl lt ↦ absurd (never lt) | inr ge ↦ ge ]
+
 -- ---- lists
 
 -- a place that is before another is of no later time

@@ -66,14 +66,11 @@ number_kept device old h (notes.Permanent d link cause point Integrates) e = rw 
 number_kept device old h (notes.Compressed d opened own of_cycle members Integrates) e = rw e refl
 number_kept device old h body e = refl
 
-next_of_option : (o : Option Happening) → option_map_or number_by o 1 ≡ next_of o
-next_of_option None = refl
-next_of_option (Some h) = refl
-
 pub next_cycle_is_of_last : NextCycleIsOfLast
 next_cycle_is_of_last hs device =
     fold_last (λ (n : ℕ) (h : Happening). cycle_after device n h h.note.body) number_by (λ (h : Happening). changes_adjustment device h.note.body) None 1 hs
-    (λ n h e. number_set device n h h.note.body e) (λ n h e. number_kept device n h h.note.body e) ∙ next_of_option (last_setting hs device)
+    (λ n h e. number_set device n h h.note.body e) (λ n h e. number_kept device n h h.note.body e)
+    ∙ elim (last_setting hs device) as (λ o. option_map_or number_by o 1 ≡ next_of o) [ None ↦ refl | Some h ↦ refl ]
 
 -- ---- settings stay
 
@@ -197,11 +194,6 @@ time_stays v device u t is le early timed = state_stays has_time refl v device u
 
 -- ---- reaching
 
--- when the clock was set last, by its time and as an instant
-time_and_instant : (o : Option Happening) (x : ℕ) → option_map_or time_of o 0 ≤ x → time_of_last o <ℤ pos (x + 1)
-time_and_instant None x le = omega (arith, ints)
-time_and_instant (Some h) x le = omega (arith, ints, le)
-
 pub clocks_reach_sharply : ClocksReachSharply
 clocks_reach_sharply v device value t is reaches =
     reach_is_sharp v.sizes (v.scenario.reading device) (changed_at v.records device t) (value -ℤ adjustment_left v device t) t (steady v is device)
@@ -214,7 +206,10 @@ clocks_have_reached v device value x t is le lt below above =
     (omega (arith, ints, below)) (omega (arith, ints, above)) in
     let u = r.0 in
     let early : epoch_time (earlier t v.records) device <ℤ pos u =
-    (let one = time_and_instant (last_setting (earlier t v.records) device) x le in omega (arith, ints, one, r.1)) in
+    elim (last_setting (earlier t v.records) device) as (λ o. option_map_or time_of o 0 ≤ x → time_of_last o <ℤ pos u) [
+      | None ↦ λ set. omega (arith, ints)
+      | Some h ↦ λ set. omega (arith, ints, set, r.1)
+    ] le in
     let same_last = settings_stay v device u t is r.2 early in
     let same_time : changed_at v.records device u ≡ changed_at v.records device t = ap (λ (o : Option Happening). option_map_or time_of o 0) same_last in
     let same_adjustment : adjustment_left v device u ≡ adjustment_left v device t = ap (λ (a : Units). a.0) (adjustment_stays v device u t is r.2 early) in

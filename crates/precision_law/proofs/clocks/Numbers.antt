@@ -1,9 +1,9 @@
 -- The next correction point of a device whose clock was set before a block.
-use Rattle.precision_law.proofs.words.Std.{◌+ℤ◌, ◌+◌, ◌-◌, ◌<ℤ◌, ◌<◌, ◌==◌, ◌∙◌, ◌∷◌, ◌≡◌, ◌≤◌, ◌⊎◌, Bool, List, None, Option, Some, [], and_from, and_parts, ap, arith, both_ways, cases_Bool, cases_lt, eq-eqb, eqb-true, false, filter, if◌then◌else◌, inl, inr, int_le, int_lt, ints, last_or, negsuc, option_map_or, pos, refl, subst, suc, sym, true, zero, ℕ, ℤ}
+use Rattle.precision_law.proofs.words.Std.{◌+ℤ◌, ◌+◌, ◌-◌, ◌<ℤ◌, ◌<◌, ◌==◌, ◌∙◌, ◌∷◌, ◌≡◌, ◌≤◌, ◌⊎◌, Bool, List, None, Option, Some, [], and_from, and_parts, ap, arith, both_ways, cases_Bool, eq-eqb, eqb-true, false, filter, if◌then◌else◌, inl, inr, int_le, int_lt, ints, last_or, negsuc, option_map_or, pos, refl, subst, suc, sym, true, zero, ℕ, ℤ}
 use Rattle.precision_law.proofs.words.Plans.{DeviceId, Units, int_le-true}
 use Rattle.precision_law.proofs.words.Runs.{Happening, IsIn, NoteBody, adjustment_before, changed_at, changes_adjustment, correction_value, cycle_in, earlier, had_come, has_cleared, in_filter, integration_cycle, is_integration_cycle, is_joined_by, local_at_change, next_cycle, recorded_cycle, time_of}
 use Rattle.precision_law.proofs.words.Laws.{HasTimeAt, IsGood, IsOldAt, IsView, Stands, View, cycle_set, epoch_time, is_corrected, is_correction, last_setting, next_of}
-use Rattle.precision_law.proofs.words.Clocks.{adjustment_stays, fold_last, in_earlier, int_le-is, joined_changes, last_some, next_cycle_is_of_last, passes, sets_none, setting_is, settings_stay, steady, time_stays}
+use Rattle.precision_law.proofs.words.Clocks.{adjustment_stays, fold_last, in_earlier, int_le-is, joined_changes, last_some, lt_by, next_cycle_is_of_last, passes, sets_none, setting_is, settings_stay, steady, time_stays}
 use Rattle.run_law.specs.declared.note.NoteBody.TheVariants as notes
 
 -- ---- the last joining
@@ -158,11 +158,8 @@ earlier_join v n t device before is from good old at =
     let hs = earlier t v.records in
     let j = joining_from hs device (recorded_cycle hs device) (integration_by (recorded_cycle hs device) (integration_cycle hs device) at) in
     let back = in_earlier t v.records j.h j.there in
-    let early : time_of j.h < before.next = elim (cases_lt (time_of j.h) before.next) [
-      | inl lt ↦ lt
-      | inr ge ↦ absurd (both_ways (changes_adjustment device j.h.note.body) (sets_none v device before.next t is from old j.h back.0 ge back.1)
-          (joined_changes device j.h.note.body j.joins))
-    ] in
+    let early : time_of j.h < before.next = lt_by (λ ge. both_ways (changes_adjustment device j.h.note.body)
+    (sets_none v device before.next t is from old j.h back.0 ge back.1) (joined_changes device j.h.note.body j.joins)) in
     omega (arith, before.joined j.h device back.0 j.joins good early, j.of_cycle)
 
 -- the number of an old device is that of the block's cycle

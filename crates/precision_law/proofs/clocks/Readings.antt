@@ -2,6 +2,7 @@
 use Rattle.precision_law.proofs.words.Std.{◌*◌, ◌+◌, ◌-◌, ◌/◌, ◌<ℤ◌, ◌<◌, ◌^◌, ◌≡◌, ◌≤ℤ◌, ◌≤◌, arith, by_lt_z, cases_lt, inl, inr, ints, mul-le-mul_left, pos, suc, zero, ℕ, ℤ}
 use Rattle.precision_law.proofs.words.Plans.{IsReach, amount}
 use Rattle.precision_law.proofs.words.Laws.{ClocksAreSteady, IsSteady, PermanenceIsSharp, ReachIsSharp, ReachIsThere, RipeInOrder, ShortByReading, Sizes}
+use Rattle.precision_law.proofs.Plain.{lt_by}
 
 -- ---- what the clock laws give
 
@@ -32,10 +33,7 @@ clocks_are_steady s path device lawful =
 
 pub short_by_reading : ShortByReading
 short_by_reading n reading s t steady le less =
-    elim (cases_lt t (s + 2 * n.cycle)) [
-      | inl lt ↦ lt
-      | inr ge ↦ absurd (omega (arith, steady.never_falls (s + 2 * n.cycle) t ge, steady.slow s (s + 2 * n.cycle) (omega arith) (omega arith), less))
-    ]
+    lt_by (λ ge. omega (arith, steady.never_falls (s + 2 * n.cycle) t ge, steady.slow s (s + 2 * n.cycle) (omega arith) (omega arith), less))
 
 -- ---- reaching a value
 
@@ -50,13 +48,10 @@ step_back n reading (suc t) steady after =
 
 pub reach_is_sharp : ReachIsSharp
 reach_is_sharp n reading from v t steady below reach =
-    let after : from < t = elim (cases_lt from t) [
-      | inl lt ↦ lt
-      | inr ge ↦
-          let same : t ≡ from = omega (arith, ints, reach.from_on, ge) in
-          let there = rw same at reach.reached in
-          absurd (omega (arith, ints, there, below))
-    ] in
+    let after : from < t = lt_by (λ ge.
+    let same : t ≡ from = omega (arith, ints, reach.from_on, ge) in
+    let there = rw same at reach.reached in
+    omega (arith, ints, there, below)) in
     let before = reach.not_before (t - 1) (omega (arith, ints, after)) (omega (arith, ints, after)) in
     record { after = after; before = before; least = reach.reached; most = omega (arith, ints, before, step_back n reading t steady (omega (arith, after))) }
 

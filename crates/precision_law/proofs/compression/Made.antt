@@ -1,9 +1,9 @@
 -- What compressed frames are made of.
-use Rattle.precision_law.proofs.words.Std.{◌*ℤ◌, ◌*◌, ◌++◌, ◌+ℤ◌, ◌<◌, ◌==◌, ◌^◌, ◌∙◌, ◌∷◌, ◌≡◌, ◌≤ℤ◌, ◌≤◌, ◌⊎◌, Bool, List, Option, Some, [], ap, arith, bit_at, bit_at-zero, both_ways, cases_lt, eq-eqb, eqb-true, false, if◌then◌else◌, inl, inr, ints, length, map, nat_le, option_map_or, pos, refl, subst, sym, true, zero_from_ones, ℕ, ℤ}
+use Rattle.precision_law.proofs.words.Std.{◌*ℤ◌, ◌*◌, ◌++◌, ◌+ℤ◌, ◌<◌, ◌==◌, ◌^◌, ◌∙◌, ◌∷◌, ◌≡◌, ◌≤ℤ◌, ◌≤◌, ◌⊎◌, Bool, List, Option, Some, [], ap, arith, bit_at, bit_at-zero, both_ways, eq-eqb, eqb-true, false, if◌then◌else◌, inl, inr, ints, length, map, nat_le, option_map_or, pos, refl, subst, sym, true, zero_from_ones, ℕ, ℤ}
 use Rattle.precision_law.proofs.words.Plans.{Cluster, Compressed, DeviceId, IsMember, Members, Ordered, Pcf, Point, amount, count_of, emission, end_of, firsts, members_of, middle_of, of_cycle_within, relative}
 use Rattle.precision_law.proofs.words.Runs.{Happening, IsCaused, IsFoundedAt, IsIn, cycle_in, founded_at, frame_by, in_left, is_broken, is_cm, master_of, member_of, observation_window, points_of, same_some, time_of}
 use Rattle.precision_law.proofs.words.Laws.{EmissionsAreOfDispatches, HasGood, IsBad, IsDispatch, IsEmission, IsGood, IsGoodMember, IsInTime, IsView, MembersAreMasters, ThreeHaveGood, View, clock_in, links_of}
-use Rattle.precision_law.proofs.words.Clocks.{Apart, any_in, before_of, cluster_from, few_members, frames_up_are_of_masters, has_firsts, has_is_member, has_member, in_all, in_any, member_has, one_bad, one_member, sizes_are}
+use Rattle.precision_law.proofs.words.Clocks.{Apart, any_in, before_of, cluster_from, few_members, frames_up_are_of_masters, has_firsts, has_is_member, has_member, in_all, in_any, le_by, member_has, one_bad, one_member, sizes_are}
 use Rattle.precision_law.proofs.block.Joins.{cm_channel}
 use Rattle.precision_law.proofs.compression.Emitted.{in_cluster, point_record}
 use Rattle.precision_law.proofs.compression.Ripenings.{master_of_bit, ripening}
@@ -208,12 +208,9 @@ module _ (v : View) (h : Happening) (cm : DeviceId) (cycle : ℕ) (members : Mem
           ]
 
   one_at_least : 1 ≤ count_of members
-  one_at_least = elim (cases_lt 0 (count_of members)) [
-    | inl some ↦ omega (arith, some)
-    | inr none ↦
-        let bit = ap (λ (x : ℕ). bit_at x made.first.master) (zero_from_ones members.0 (omega (arith, none))) in
-        absurd (omega (arith, is_of_member made.first (inl refl), bit, bit_at-zero made.first.master))
-  ]
+  one_at_least = le_by (λ none.
+      let bit = ap (λ (x : ℕ). bit_at x made.first.master) (zero_from_ones members.0 (omega (arith, none))) in
+      omega (arith, is_of_member made.first (inl refl), bit, bit_at-zero made.first.master))
 
   -- one point makes one member
   one_at_most : made.more ≡ [] → count_of members ≤ 1

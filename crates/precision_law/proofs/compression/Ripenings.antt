@@ -1,9 +1,9 @@
 -- What is permanent at a compression master: a master's frame, in the order of the points.
-use Rattle.precision_law.proofs.words.Std.{◌^◌, ◌∙◌, ◌∷◌, ◌≡◌, ◌≤ℤ◌, ◌≤◌, List, Option, Some, ap, arith, bit_at-pow_other, bit_at-trailing_zeros, cases_eq, inl, inr, ints, option_and_then, option_map_or, pos, pow_below, pow_pos, subst, sym, trailing_zeros, true, w32, ℕ, ℤ}
-use Rattle.precision_law.proofs.words.Plans.{Device, DeviceId, Down, IsChildOf, Joints, Link, LinkId, Master, Pcf, Relay, Role, Units, Up, Way, amount, device_at, is_end_system, link_at, opened, point_of}
+use Rattle.precision_law.proofs.words.Std.{◌^◌, ◌∙◌, ◌∷◌, ◌≡◌, ◌≤ℤ◌, ◌≤◌, List, Option, Some, ap, arith, bit_at-pow_other, bit_at-trailing_zeros, cases_eq, false, inl, inr, ints, option_and_then, option_map_or, pos, pow_below, pow_pos, subst, sym, trailing_zeros, true, w32, ℕ, ℤ}
+use Rattle.precision_law.proofs.words.Plans.{Device, DeviceId, Down, IsChildOf, LinkId, Master, Pcf, Relay, Role, Units, Up, Way, amount, device_at, is_end_system, point_of}
 use Rattle.precision_law.proofs.words.Runs.{Happening, IsArrivedRecord, IsCaused, IsIn, Judgement, cycle_in, founded_at, frame_by, in_left, is_cm, is_cm_role, master_of, members_in, numbered_in, receiver_of, same_some, time_of, way_to}
 use Rattle.precision_law.proofs.words.Laws.{IsPermanentAt, IsRipe, IsView, View, clock_in}
-use Rattle.precision_law.proofs.words.Clocks.{cm_is_no_end, device_of, natural, permanence_is_sharp, receiver_down, receiver_way, sizes_are, steady, taken_as}
+use Rattle.precision_law.proofs.words.Clocks.{child_kind, cm_is_no_end, device_of, natural, permanence_is_sharp, receiver_down, receiver_way, sizes_are, steady, taken_as}
 use Rattle.run_law.specs.declared.note.NoteBody.TheVariants as notes
 use Rattle.precision_law.proofs.compression.Emitted.{arrival_young}
 use Rattle.precision_law.proofs.hearing.Timely.{arrived_clock}
@@ -17,19 +17,10 @@ cm_role_relays role a b = absurd cc
 -- a compression master is no link's child
 cm_no_child : (v : View) (cm : DeviceId) (link : LinkId) → IsView v → is_cm v.scenario.network cm ≡ true → IsChildOf v.scenario.network cm link → ⊥
 cm_no_child v cm link is one child =
-    let n = v.scenario.network in
-    let l = opened (λ (k : Link). k.child ≡ cm) (link_at n link) child in
-    let joint = is.lawful.rules Joints link.0 l.0 l.1 in
-    let d = device_of is_cm_role (device_at n cm) one in
-    elim joint.2 [
-      | inl end ↦
-          let e = opened (λ (x : Device). is_end_system x.role ≡ true) (device_at n l.0.child) end in
-          let same : e.0 ≡ d.0 = same_some (device_at n cm) e.0 d.0 (ap (device_at n) (sym l.2) ∙ e.1) d.1 in
-          cm_is_no_end d.0.role d.2 (ap (λ (x : Device). is_end_system x.role) (sym same) ∙ e.2)
-      | inr role ↦
-          let e = opened (λ (x : Device). (x.role ≡ Relay) × (x.channel ≡ Some joint.0)) (device_at n l.0.child) role in
-          let same : e.0 ≡ d.0 = same_some (device_at n cm) e.0 d.0 (ap (device_at n) (sym l.2) ∙ e.1) d.1 in
-          cm_role_relays d.0.role d.2 (ap (λ (x : Device). x.role) (sym same) ∙ e.2.0)
+    let d = device_of is_cm_role (device_at v.scenario.network cm) one in
+    elim (child_kind v cm link is child) [
+      | inl end ↦ cm_is_no_end d.0.role d.2 (sym (ap (λ (o : Option Device). option_map_or (λ x. is_end_system x.role) o false) d.1) ∙ end)
+      | inr x ↦ cm_role_relays d.0.role d.2 (ap (λ (y : Device). y.role) (same_some _ _ _ d.1 x.1) ∙ x.2)
     ]
 
 arrives_up : (v : View) (hs : List Happening) (t : ℕ) (cm : DeviceId) (link : LinkId) (cause clock : ℕ) → IsView v → is_cm v.scenario.network cm ≡ true

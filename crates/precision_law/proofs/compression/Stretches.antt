@@ -1,11 +1,12 @@
 -- The points of a compression master as records come.
 use Rattle.precision_law.proofs.words.Std.{◌++◌, ◌-◌, ◌<◌, ◌∙◌, ◌∷◌, ◌≡◌, ◌≤ℤ◌, ◌≤◌, ◌⊎◌, Bool, List, None, Option, Some, [], after_last, ap, append_assoc, arith, cons_option, filter_map, filter_map-append, inl, inr, ints, pos, refl, subst, sym, ℕ, ℤ}
 use Rattle.precision_law.proofs.words.Plans.{DeviceId, Ordered, Point, amount}
-use Rattle.precision_law.proofs.words.Runs.{Happening, IsBefore, IsCaused, IsDue, IsFounded, IsIn, behind_first, ends_stretch, founded_at, in_left, in_right, members_in, numbered_in, place_of, point_by, points_of, time_of}
+use Rattle.precision_law.proofs.words.Runs.{Happening, IsBefore, IsDue, IsFounded, IsIn, behind_first, ends_stretch, in_left, in_right, members_in, place_of, point_by, points_of, time_of}
 use Rattle.precision_law.proofs.words.Laws.{IsRipe, IsView, View}
-use Rattle.precision_law.proofs.words.Clocks.{PartsAtLast, after_last_at, after_more, all_by, behind_last, in_filter_map, not_each, parts_at_last, permanence_is_sharp, ripe_in_order, steady}
-use Rattle.precision_law.proofs.compression.Emitted.{GivesPoint, arrival_young, gives_point}
+use Rattle.precision_law.proofs.words.Clocks.{PartsAtLast, after_last_at, after_more, all_by, behind_last, in_filter_map, not_each, parts_at_last, ripe_in_order, steady}
+use Rattle.precision_law.proofs.compression.Emitted.{GivesPoint, gives_point}
 use Rattle.precision_law.proofs.records.Behind.PartsAtLast.{none, some}
+use Rattle.precision_law.proofs.compression.Ripenings.{ripening}
 
 -- ---- points and their records
 
@@ -17,19 +18,11 @@ pub record IsReadAt (v : View) (cm : DeviceId) (point : ℤ) (q : ℕ) : Type 0 
 
 pub read_at : (v : View) (cm : DeviceId) (k : Happening) (p : Point) → IsView v → IsIn k v.records → GivesPoint cm k p → IsReadAt v cm p.reading (time_of k)
 read_at v cm k p is i g =
-    let s = v.scenario in
-    let at = founded_at s v.records k is.run.founded i in
-    let q = (subst (IsCaused s at.front k.note.time) g.is at.due.cause).permanent in
-    let at_a = founded_at s at.front q.arrival at.founded (numbered_in at.front g.cause q.arrival q.there) in
-    let young = arrival_young v _ _ cm _ _ _ (subst (IsCaused s at_a.front q.arrival.note.time) q.arrived at_a.due.cause) in
-    let dmax = is.lawful.range.dmax.least in
-    let point = q.at_point in
-    let sharp = permanence_is_sharp v.sizes (s.reading cm) (time_of q.arrival) g.point.0 (time_of k) (steady v is cm) (omega (arith, ints, point, young, dmax))
-    q.reached in
+    let r = ripening v cm k g.link g.cause g.point g.verdict is i g.is in
     record {
-      arrived = time_of q.arrival;
-      ripe = subst (λ (z : ℤ). IsRipe v.sizes (s.reading cm) (time_of q.arrival) z (time_of k)) (sym g.reads) sharp;
-      not_negative = omega (arith, ints, g.reads, point, young, dmax);
+      arrived = time_of r.arrival;
+      ripe = subst (λ (z : ℤ). IsRipe v.sizes (v.scenario.reading cm) (time_of r.arrival) z (time_of k)) (sym g.reads) r.sharp;
+      not_negative = omega (arith, ints, g.reads, r.not_negative);
     }
 
 -- a point that is permanent later is not below an earlier reading
@@ -43,16 +36,12 @@ later_point v cm point t q is r lt =
 
 -- ---- order
 
--- of two records at one place but for points, the first has no greater one
-key_order : (a b : ℕ) (xs ys : List ℕ) (d : ℕ) → IsBefore (d ∷ a ∷ xs) (d ∷ b ∷ ys) → a ≤ b
-key_order a b xs ys d (inl lt) = absurd (omega (arith, lt))
-key_order a b xs ys d (inr (same, inl lt)) = omega (arith, lt)
-key_order a b xs ys d (inr (same, inr (e, more))) = omega (arith, e)
-
 pub place_order : (t u d a b : ℕ) (xs ys : List ℕ) → IsBefore (t ∷ 3 ∷ d ∷ a ∷ xs) (u ∷ 3 ∷ d ∷ b ∷ ys) → (t < u) ⊎ (a ≤ b)
 place_order t u d a b xs ys (inl lt) = inl lt
 place_order t u d a b xs ys (inr (same, inl lt)) = absurd (omega (arith, lt))
-place_order t u d a b xs ys (inr (same, inr (e, more))) = inr (key_order a b xs ys d more)
+place_order t u d a b xs ys (inr (same, inr (e, inl lt))) = absurd (omega (arith, lt))
+place_order t u d a b xs ys (inr (same, inr (e, inr (f, inl lt)))) = inr (omega (arith, lt))
+place_order t u d a b xs ys (inr (same, inr (e, inr (f, inr more)))) = inr (omega (arith, more.0))
 
 points_in_order : (v : View) (cm : DeviceId) (k l : Happening) (p q : Point) → IsView v → IsIn k v.records → IsIn l v.records → GivesPoint cm k p
     → GivesPoint cm l q → IsBefore (place_of k) (place_of l) → p.reading ≤ℤ q.reading

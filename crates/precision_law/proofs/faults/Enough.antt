@@ -1,5 +1,5 @@
 -- Enough masters began on and are good.
-use Rattle.precision_law.proofs.words.Std.{◌&&◌, ◌++◌, ◌+◌, ◌/◌, ◌<◌, ◌∙◌, ◌∷◌, ◌≡◌, ◌≤◌, ◌⊎◌, Bool, IsNone, List, None, Option, Some, [], and_parts, ap, arith, bit_at, bit_at-pow_other, bit_at-suc, bit_at-zero, bit_at_lowest, bit_at_or, both_ways, cases_eq, cases_lt, cond, count_by, count_ones, enumerate_from, eq-eqb, false, false_from_ne_true, filter, if◌then◌else◌, inl, inr, is_some, length, list_any, not, not-true, ones_le_self, ones_step, option_map_or, refl, slice_get, subst, suc, sum_by-cons, sym, true, zero, ℕ}
+use Rattle.precision_law.proofs.words.Std.{◌&&◌, ◌++◌, ◌+◌, ◌/◌, ◌<◌, ◌∙◌, ◌∷◌, ◌≡◌, ◌≤◌, ◌⊎◌, Bool, IsNone, List, None, Option, Some, [], and_parts, ap, arith, bit_at, bit_at-pow_other, bit_at-suc, bit_at-zero, bit_at_lowest, bit_at_or, both_ways, cases_eq, cond, count_by, count_ones, enumerate_from, eq-eqb, false, false_from_ne_true, filter, if◌then◌else◌, inl, inr, is_some, length, list_any, not, not-true, ones_le_self, ones_step, option_map_or, refl, slice_get, subst, suc, sum_by-cons, sym, true, zero, ℕ}
 use Rattle.precision_law.proofs.words.Plans.{Device, DeviceId, Event, IsMember, Masters, Members, closed, count_of, device_at, is_master, none, single, union}
 use Rattle.precision_law.proofs.words.Runs.{Breaks, TooFewMasters, breaks_at, in_right, is_broken, is_sound_master, member_of, parted, sound_masters}
 use Rattle.precision_law.proofs.words.Laws.{EnoughMasters, IsBad, IsFirstMaster, IsGood, IsView, View}
@@ -8,6 +8,7 @@ use Rattle.precision_law.proofs.faults.Broken.{broke_by, one_bad, one_member}
 use Rattle.precision_law.proofs.faults.Masters.{in_any}
 use Rattle.std.proofs.lemmas.Option.{slice_get_within}
 use Rattle.precision_law.proofs.trips.Ascents.{master_member}
+use Rattle.precision_law.proofs.Plain.{le_by}
 
 -- ---- bits
 
@@ -149,10 +150,9 @@ enough_masters v members is all =
           let at = parted b.event v.scenario.events b.there in
           let befallen = at.0 ++ b.event ∷ [] in
           let enough = enough_by v befallen members is all (λ device d place none_breaks. spared v bad.0 b.event at.0 device is bad.1 b.breaks none_breaks) in
-          elim (cases_lt (sound_masters n befallen) n.sync_threshold) [
-            | inl few ↦ absurd (is.lawful.within at.0 at.1 b.event at.2 TooFewMasters (record { device = bad.0; breaks = b.breaks; few = few }))
-            | inr many ↦ omega (arith, many, enough)
-          ]
+          let many : n.sync_threshold ≤ sound_masters n befallen =
+          le_by (λ few. is.lawful.within at.0 at.1 b.event at.2 TooFewMasters (record { device = bad.0; breaks = b.breaks; few = few })) in
+          omega (arith, many, enough)
     ]
   where
     spared : (v : View) (broken : DeviceId) (e : Event) (before : List Event) (device : DeviceId) → IsView v → IsBad v broken → Breaks broken e

@@ -95,10 +95,6 @@ link_of_one n c d link one other =
     let q = opened (λ (x : Device). x.channel ≡ Some d) (device_at n l.0.parent) at in
     same_some p.0.channel c d p.2 (subst (λ (x : Device). x.channel ≡ Some d) (same_some (device_at n l.0.parent) q.0 p.0 q.1 p.1) q.2)
 
--- the link that an event cuts
-pub cut_link : (link other : LinkId) (e : Event) → Cuts link e → Cuts other e → other ≡ link
-cut_link link other e a b = (let same : events.Cut other b.0 ≡ events.Cut link a.0 = sym b.1 ∙ a.1 in cc)
-
 -- no two channels are faulty
 pub one_is_faulty : (n : Network) (es : List Event) (c d : Channel) → ((x y : Channel) → HasOffSwitch n x → HasOffSwitch n y → x ≡ y) → IsFaulty n es c
     → IsFaulty n es d → c ≡ d
@@ -110,7 +106,9 @@ one_is_faulty n es c d off (inr a) (inr b) =
     let y = b.1 in
     let same : x.cut ≡ y.cut = first_cut_is_one x.before y.before x.behind y.behind x.cut y.cut x.cuts.0 y.cuts.0 (sym x.order ∙ y.order) x.cuts.1 y.cuts.1
     x.none_before y.none_before in
-    let link : y.cuts.0 ≡ x.cuts.0 = cut_link x.cuts.0 y.cuts.0 y.cut (subst (Cuts x.cuts.0) same x.cuts.1) y.cuts.1 in
+    let mine = subst (Cuts x.cuts.0) same x.cuts.1 in
+    let both : events.Cut y.cuts.0 y.cuts.1.0 ≡ events.Cut x.cuts.0 mine.0 = sym y.cuts.1.1 ∙ mine.1 in
+    let link : y.cuts.0 ≡ x.cuts.0 = cc in
     link_of_one n c d x.cuts.0 x.cuts.2 (subst (λ (l : LinkId). IsLinkOf n d l) link y.cuts.2)
 
 pub one_channel_is_sound : OneChannelIsSound

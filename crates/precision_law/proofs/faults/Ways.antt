@@ -44,20 +44,15 @@ first_cut (e ∷ es) = by e.what refl (first_cut es)
     by (events.Cut link way) same more = cut_at [] es e link refl (way, same) (λ l any. any_of_none (Cuts l) any)
     by what same more = not_cut e es (λ l cuts. (let wrong : what ≡ events.Cut l cuts.0 = sym same ∙ cuts.1 in absurd cc)) more
 
--- the event by which a way is cut
-record IsCutBy (s : Scenario) (link : LinkId) (t : ℕ) : Type 0 where
-  pub event : Event
-  pub there : IsIn event (events_up_to s t)
-  pub cuts : Cuts link event
-
-cut_by : (s : Scenario) (link : LinkId) (way : Way) (t : ℕ) → is_cut s link way t ≡ true → IsCutBy s link t
+-- a way is cut by an event
+cut_by : (s : Scenario) (link : LinkId) (way : Way) (t : ℕ) → is_cut s link way t ≡ true → (e : Event) × IsIn e (events_up_to s t) × Cuts link e
 cut_by s link way t cut =
     let sets = λ (e : Event). cut_set link way e.what in
     elim (last_in None (filter_map sets (events_up_to s t)) true (some_true (last_or None (filter_map sets (events_up_to s t))) cut)) [
       | inl none ↦ absurd cc
       | inr i ↦
           let made = in_filter_map sets (events_up_to s t) true i in
-          record { event = made.0; there = made.1; cuts = set_by made.0 made.0.what refl made.2 }
+          (made.0, made.1, set_by made.0 made.0.what refl made.2)
     ]
   where
     some_true : (o : Option Bool) → unwrap_or o false ≡ true → o ≡ Some true
@@ -144,7 +139,7 @@ pub sound_ways_are_whole : SoundWaysAreWhole
 sound_ways_are_whole v link way t is of_channel le =
     false_from_ne_true (is_cut v.scenario link way t) (λ cut.
     let by_event = cut_by v.scenario link way t cut in
-    let e = by_event.event in
-    let test = leb-true (amount e.time) t (passes (λ x. nat_le (amount x.time) t) v.scenario.events e by_event.there) in
-    let at = parted e v.scenario.events (in_filter (λ x. nat_le (amount x.time) t) v.scenario.events e by_event.there) in
-    never_cut v link e at.0 at.1 is of_channel at.2 by_event.cuts (omega (arith, test, le)) (first_cut at.0))
+    let e = by_event.0 in
+    let test = leb-true (amount e.time) t (passes (λ x. nat_le (amount x.time) t) v.scenario.events e by_event.1) in
+    let at = parted e v.scenario.events (in_filter (λ x. nat_le (amount x.time) t) v.scenario.events e by_event.1) in
+    never_cut v link e at.0 at.1 is of_channel at.2 by_event.2 (omega (arith, test, le)) (first_cut at.0))

@@ -1,9 +1,9 @@
 -- Two dispatches of one cycle, of which the master of the first may break before the second.
-use Rattle.precision_law.proofs.words.Std.{◌*◌, ◌+ℤ◌, ◌<ℤ◌, ◌<◌, ◌∙◌, ◌≡◌, ◌≤ℤ◌, ◌≤◌, List, ap, arith, by_lt_z, cases_lt, inl, inr, ints, ones_le_self, pos, refl, subst, suc, sym, true, zero, ℕ, ℤ}
+use Rattle.precision_law.proofs.words.Std.{◌*◌, ◌+ℤ◌, ◌<ℤ◌, ◌<◌, ◌∙◌, ◌≡◌, ◌≤ℤ◌, ◌≤◌, List, ap, arith, by_lt_z, ints, ones_le_self, pos, refl, subst, suc, sym, true, zero, ℕ, ℤ}
 use Rattle.precision_law.proofs.words.Plans.{Channel, DeviceId, Masters, Units, none}
 use Rattle.precision_law.proofs.words.Runs.{Happening, IsIn, Scenario, adjustment_after, earlier, is_synchronised, same_some, state_after, time_of}
 use Rattle.precision_law.proofs.words.Laws.{BlocksCover, BlocksGoSo, HasTimeAt, Hull, IsDispatch, IsFirstMaster, IsGood, IsInBlock, IsOldAt, IsView, Stands, View, adjustment_left, epoch_time, hull_of, last_dispatch, last_setting, state_left}
-use Rattle.precision_law.proofs.words.Clocks.{adjustment_stays, enough_masters, good_is_correct, instants_are_in_order, natural_of, room, state_stays, steady, synchronised_has_time}
+use Rattle.precision_law.proofs.words.Clocks.{adjustment_stays, enough_masters, good_is_correct, instants_are_in_order, le_by, natural_of, room, state_stays, steady, synchronised_has_time}
 use Rattle.precision_law.proofs.words.Blocks.{all_in_hulls, before_narrow, block_ends, block_of, earlier_in_block, follows_before, has_dispatched, hull_lies, in_next, new_shows, view_of}
 use Rattle.precision_law.proofs.block.Dispatched.{masters_dispatch}
 use Rattle.precision_law.proofs.block.Halving as halving
@@ -83,12 +83,9 @@ module _ (cover : BlocksCover) (goes : BlocksGoSo) (s : Scenario) (hs : List Hap
   set_early : (n : ℕ) (two : AreTwo s hs path n g h one other) (block : IsInBlock (first_view two) n (time_of g))
       (later : IsInBlock (second_view two) n (time_of h)) → later.before.next ≤ time_of g
   set_early zero two block later = (let start : later.before.next ≡ 0 = later.before.is_over in omega (arith, start))
-  set_early (suc m) two block later = elim (cases_lt (time_of g) later.before.next) [
-    | inr le ↦ le
-    | inl lt ↦
-        let enough = enough_masters (second_view two) none two.longer (λ k i first member. absurd (set_early_by m two block later k first lt)) in
-        absurd (omega (arith, enough, (two.longer.lawful.rules Masters 2).threshold_least refl, ones_le_self 0))
-  ]
+  set_early (suc m) two block later = le_by (λ lt.
+      let enough = enough_masters (second_view two) none two.longer (λ k i first member. absurd (set_early_by m two block later k first lt)) in
+      omega (arith, enough, (two.longer.lawful.rules Masters 2).threshold_least refl, ones_le_self 0))
 
   pub set_before : (n : ℕ) (two : AreTwo s hs path n g h one other) (block : IsInBlock (first_view two) n (time_of g))
       (later : IsInBlock (second_view two) n (time_of h)) → IsSetBefore (first_view two) n (time_of h) other block.before.next

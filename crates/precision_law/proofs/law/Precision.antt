@@ -34,14 +34,10 @@ view_of s hs t channel at = record { scenario = s; until = t; records = at.cut.f
 -- ---- the records up to a time are those before the next
 
 pub up_to_is : (t : ℕ) (hs : List Happening) → up_to t hs ≡ earlier (t + 1) hs
-up_to_is t hs = same_kept (λ h. nat_le (time_of h) t) (λ h. nat_lt (time_of h) (t + 1)) hs (λ h i. same_test (time_of h) t)
-  where
-    same_test : (a t : ℕ) → nat_le a t ≡ nat_lt a (t + 1)
-    same_test a t =
-        elim (cases_lt a (t + 1)) [
-          | inl lt ↦ le-leb a t (omega arith) ∙ sym (lt-ltb a (t + 1) lt)
-          | inr ge ↦ lt-leb a t (omega arith) ∙ sym (le-ltb a (t + 1) ge)
-        ]
+up_to_is t hs = same_kept (λ h. nat_le (time_of h) t) (λ h. nat_lt (time_of h) (t + 1)) hs (λ h i. elim (cases_lt (time_of h) (t + 1)) [
+  | inl lt ↦ le-leb (time_of h) t (omega arith) ∙ sym (lt-ltb (time_of h) (t + 1) lt)
+  | inr ge ↦ lt-leb (time_of h) t (omega arith) ∙ sym (le-ltb (time_of h) (t + 1) ge)
+])
 
 -- ---- clocks stay together
 

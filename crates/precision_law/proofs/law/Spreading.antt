@@ -183,7 +183,7 @@ apart sound cover goes s mark ns until k up g h a b le =
     (subst (λ (j : ℕ). IsInBlock (first_view two) j (time_of g)) at first.block) (subst (λ (j : ℕ). IsInBlock (second_view two) j (time_of h)) too second.block)
 
 pub dispatches_stay_near : OneChannelIsSound → BlocksCover → BlocksGoSo → DispatchesStayNear
-dispatches_stay_near sound cover goes s mark ns until up zero g h a b = 
+dispatches_stay_near sound cover goes s mark ns until up zero g h a b =
     let found = founded_at s (happenings s.network ns) g up.run.founded a.there in
     let begun = (subst (IsCaused s found.front g.note.time) a.is found.due.cause).begun in
     absurd (omega (arith, begun))

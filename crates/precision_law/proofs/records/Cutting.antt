@@ -3,6 +3,7 @@ use Rattle.precision_law.proofs.words.Std.{◌++◌, ◌+◌, ◌<◌, ◌∙◌
 use Rattle.precision_law.proofs.words.Runs.{Happening, IsBefore, IsDue, IsFounded, IsIn, IsRun, IsSplit, Scenario, chain, earlier, earlier_time, front_founded, in_front_of, in_left, in_parts, key, members_in, place_of, rank, split, time_of}
 use Rattle.precision_law.proofs.words.Laws.{Covers}
 use Rattle.precision_law.proofs.records.Times.{all_kept, earlier_front}
+use Rattle.precision_law.proofs.Plain.{le_by}
 
 -- the records of a run before an earlier place are the run up to this place
 pub cut_run : {N : Type 0} (place : N → List ℕ) (IsDue : List N → N → Type 0) (mark p : List ℕ) (ns : List N) (at : IsSplit place ns p)
@@ -55,10 +56,7 @@ pub cut_at : (s : Scenario) (mark : List ℕ) (hs : List Happening) (until t : �
 cut_at s mark hs until t run covers le =
     let at = split place_of (IsDue s) hs ((t + 1) ∷ []) run.founded in
     let keeps : (u : ℕ) → u ≤ t + 1 → earlier u at.front ≡ earlier u hs = λ u within.
-    earlier_front u at.front at.rest (λ h i. elim (cases_lt (time_of h) u) [
-      | inl lt ↦ absurd (at.none h i (sooner h (t + 1) (omega arith)))
-      | inr ge ↦ ge
-    ]) ∙ ap (earlier u) (sym at.whole) in
+    earlier_front u at.front at.rest (λ h i. le_by (λ lt. at.none h i (sooner h (t + 1) (omega (arith, lt, within))))) ∙ ap (earlier u) (sym at.whole) in
     let all = all_kept (λ h. nat_lt (time_of h) (t + 1)) at.front (λ h i. lt-ltb (time_of h) (t + 1) (of_earlier h (t + 1) (at.before h i))) in
     record {
       front = at.front;

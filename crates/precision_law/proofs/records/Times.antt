@@ -1,7 +1,7 @@
 -- The records of a run in the order of their times.
-use Rattle.precision_law.proofs.words.Std.{Bool, List, Option, Some, [], ap, append-nil, append_assoc, arith, cases_lt, false, filter, filter-append, if◌then◌else◌, inl, inr, last_or, le-ltb, lt-ltb, ltb-true, nat_lt, not, refl, subst, sym, true, ℕ, ◌++◌, ◌<◌, ◌∙◌, ◌∷◌, ◌≡◌, ◌≤◌}
+use Rattle.precision_law.proofs.words.Std.{◌++◌, ◌<◌, ◌∙◌, ◌∷◌, ◌≡◌, ◌≤◌, Bool, List, Option, Some, [], ap, append-nil, append_assoc, arith, cases_lt, false, filter, filter-append, if◌then◌else◌, inl, inr, last_or, le-ltb, lt-ltb, ltb-true, nat_lt, not, refl, subst, sym, true, ℕ}
 use Rattle.precision_law.proofs.words.Runs.{Happening, IsDue, IsFounded, IsIn, Scenario, behind_first, earlier, in_filter, key, members_in, none_kept, place_of, rank, time_of}
-use Rattle.precision_law.proofs.Plain.{no_later}
+use Rattle.precision_law.proofs.Plain.{le_by, no_later}
 
 -- ---- order
 
@@ -81,10 +81,7 @@ in_between u t hs h i =
     let back = in_earlier t hs h (in_filter (λ x. not (nat_lt (time_of x) u)) (earlier t hs) h i) in
     let late = passes (λ x. not (nat_lt (time_of x) u)) (earlier t hs) h i in (
       back.0,
-      elim (cases_lt (time_of h) u) [
-        | inl lt ↦ (let e = lt-ltb (time_of h) u lt in let wrong : not true ≡ true = rw e at late in absurd cc)
-        | inr ge ↦ ge
-      ],
+      le_by (λ lt. (let e = lt-ltb (time_of h) u lt in let wrong : not true ≡ true = rw e at late in absurd cc)),
       back.1,
     )
 

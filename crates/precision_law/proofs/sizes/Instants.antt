@@ -1,6 +1,7 @@
 -- The order of the instants of a cycle.
-use Rattle.precision_law.proofs.words.Std.{◌*◌, ◌+◌, ◌^◌, ◌≤◌, arith, cases_lt, inl, inr, ints, mul-le-mul_left, mul-le-mul_right}
+use Rattle.precision_law.proofs.words.Std.{◌*◌, ◌+◌, ◌^◌, ◌≤◌, arith, ints, mul-le-mul_left, mul-le-mul_right}
 use Rattle.precision_law.proofs.words.Laws.{CorrectionsComeFirst, CyclesAreFew, DispatchesComeLater, FramesComeFirst, HullsGoOn, InstantsAreInOrder, SetClocksShowCorrection, SetClocksStayAtCorrection}
+use Rattle.precision_law.proofs.Plain.{le_by}
 
 pub corrections_come_first : CorrectionsComeFirst
 corrections_come_first n before hull room narrow follows = omega (arith, ints, narrow, follows, room)
@@ -38,10 +39,7 @@ hulls_go_on n cycle before hull not_before follows = omega (arith, ints, not_bef
 
 pub cycles_are_few : CyclesAreFew
 cycles_are_few n cycle until hull room not_before early short =
-    elim (cases_lt (2 ^ 20 + 2 ^ 17) cycle) [
-      | inr le ↦ le
-      | inl lt ↦
-          let product : cycle * (144 * n.reach) ≤ cycle * n.cycle = mul-le-mul_left cycle room.many_errors in
-          let more : (2 ^ 20 + 2 ^ 17 + 1) * n.cycle ≤ cycle * n.cycle = mul-le-mul_right n.cycle (omega (arith, lt)) in
-          absurd (omega (arith, ints, product, more, room, short, not_before, early))
-    ]
+    le_by (λ lt.
+    let product : cycle * (144 * n.reach) ≤ cycle * n.cycle = mul-le-mul_left cycle room.many_errors in
+    let more : (2 ^ 20 + 2 ^ 17 + 1) * n.cycle ≤ cycle * n.cycle = mul-le-mul_right n.cycle (omega (arith, lt)) in
+    omega (arith, ints, product, more, room, short, not_before, early))

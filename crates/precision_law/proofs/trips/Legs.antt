@@ -1,7 +1,7 @@
 -- A frame that arrives came over a link: who gives and who receives on its ways, and the leg before a record.
 use Rattle.precision_law.proofs.words.Std.{◌++◌, ◌<◌, ◌==◌, ◌∙◌, ◌∷◌, ◌≡◌, ◌⊎◌, Bool, List, Option, Some, [], ap, arith, eq-eqb, eqb-true, false, false_from_ne_true, if◌then◌else◌, inl, inr, option_and_then, option_map_or, refl, subst, sym, true, ℕ}
 use Rattle.precision_law.proofs.words.Plans.{Channel, Device, DeviceId, Down, IsChildOf, IsPath, IsSwitchOf, IsTree, IsUplink, Joints, Link, LinkId, Master, Network, Pcf, Relay, Role, Up, Way, closed, device_at, is_end_system, link_at, opened, rules_give_trees, shape_rules}
-use Rattle.precision_law.proofs.words.Runs.{Happening, IsCaused, IsIn, IsParentOf, NoteBody, cause_of, channel_of, channel_of_link, cycle_in, founded_at, in_left, is_parent_of, is_relay, is_relay_role, members_in, number_is, numbered, numbered_in, numbered_within, rank, receiver_of, same_some, time_of, way_from, way_to, with_clock}
+use Rattle.precision_law.proofs.words.Runs.{Happening, IsCaused, IsIn, IsParentOf, NoteBody, cause_of, channel_of, channel_of_link, cycle_in, founded_at, in_left, is_end, is_parent_of, is_relay, is_relay_role, members_in, number_is, numbered, numbered_in, numbered_within, rank, receiver_of, same_some, time_of, way_from, way_to, with_clock}
 use Rattle.precision_law.proofs.words.Laws.{IsLeg, IsTrip, IsView, Leg, View}
 use Rattle.run_law.specs.declared.note.NoteBody.TheVariants as notes
 use Rattle.precision_law.proofs.Plain.{device_of, higher_before, mapped, passed}
@@ -107,25 +107,35 @@ pub relay_not_end : (role : Role) → is_relay_role role ≡ true → is_end_sys
 relay_not_end Master e end = absurd cc
 relay_not_end role e end = absurd cc
 
--- a relay is of the channel of the link whose child it is
-pub child_channel : (v : View) (device : DeviceId) (link : LinkId) → IsView v → is_relay v.scenario.network device ≡ true
-    → IsChildOf v.scenario.network device link → channel_of v.scenario.network device ≡ channel_of_link v.scenario.network link
-child_channel v device link is relay child =
+-- a child of a link is an end system, or a relay of the link's channel
+pub child_kind : (v : View) (device : DeviceId) (link : LinkId) → IsView v → IsChildOf v.scenario.network device link
+    → (is_end v.scenario.network device ≡ true) ⊎ ((x : Device) × (device_at v.scenario.network device ≡ Some x) × (x.role ≡ Relay)
+    × (x.channel ≡ channel_of_link v.scenario.network link))
+child_kind v device link is child =
     let n = v.scenario.network in
     let l = opened (λ (k : Link). k.child ≡ device) (link_at n link) child in
     let joint = is.lawful.rules Joints link.0 l.0 l.1 in
-    let r = device_of is_relay_role (device_at n device) relay in
     let p = opened (λ (d : Device). d.channel ≡ Some joint.0) (device_at n l.0.parent) joint.1 in
     let of_link : channel_of_link n link ≡ Some joint.0 = ap (λ (o : Option Link). option_and_then (λ k. channel_of n k.parent) o) l.1
     ∙ ap (λ (o : Option Device). option_and_then (λ d. d.channel) o) p.1 ∙ p.2 in
     elim joint.2 [
       | inl end ↦
           let e = opened (λ (d : Device). is_end_system d.role ≡ true) (device_at n l.0.child) end in
-          absurd (relay_not_end r.0.role r.2 (ap (λ (d : Device). is_end_system d.role) (sym (same_some _ _ _ (ap (device_at n) (sym l.2) ∙ e.1) r.1)) ∙ e.2))
+          inl (ap (is_end n) (sym l.2) ∙ ap (λ (o : Option Device). option_map_or (λ d. is_end_system d.role) o false) e.1 ∙ e.2)
       | inr role ↦
           let e = opened (λ (d : Device). (d.role ≡ Relay) × (d.channel ≡ Some joint.0)) (device_at n l.0.child) role in
-          ap (λ (o : Option Device). option_and_then (λ d. d.channel) o) (ap (device_at n) (sym l.2) ∙ e.1) ∙ e.2.1 ∙ sym of_link
+          inr (e.0, ap (device_at n) (sym l.2) ∙ e.1, e.2.0, e.2.1 ∙ sym of_link)
     ]
+
+-- so a relay is of it
+pub child_channel : (v : View) (device : DeviceId) (link : LinkId) → IsView v → is_relay v.scenario.network device ≡ true
+    → IsChildOf v.scenario.network device link → channel_of v.scenario.network device ≡ channel_of_link v.scenario.network link
+child_channel v device link is relay child = elim (child_kind v device link is child) [
+  | inr x ↦ ap (λ (o : Option Device). option_and_then (λ d. d.channel) o) x.1 ∙ x.3
+  | inl end ↦
+      let r = device_of is_relay_role (device_at v.scenario.network device) relay in
+      absurd (relay_not_end r.0.role r.2 (sym (ap (λ (o : Option Device). option_map_or (λ d. is_end_system d.role) o false) r.1) ∙ end))
+]
 
 -- ---- trips
 

@@ -165,14 +165,16 @@ record ArrivingIs (v : View) (leg : Leg) (left arrived_clock : ℕ) : Type 0 whe
   pub clock : arrived_clock ≡ left + wire_of v.scenario.network leg.link
   pub young : arrived_clock ≤ amount v.scenario.network.dmax
 
-arriving_by : (v : View) (way : Way) (leg : Leg) (is : IsView v) (l : IsLeg v way leg) (frame taken : Pcf) (front : List Happening) (a : Arrival)
-    → ((n : ℕ) (h : Happening) → numbered front n ≡ Some h → numbered v.records n ≡ Some h) → leg.leaving.frame ≡ Some frame
-    → ArrivesAs v.scenario front l.receiver (time_of leg.arriving) leg.link leg.leaving.note.number a → TakesWith a taken → l.arrived_clock ≡ taken.clock
+arriving_is : (v : View) (way : Way) (leg : Leg) (is : IsView v) (l : IsLeg v way leg) (frame : Pcf) → leg.leaving.frame ≡ Some frame
     → ArrivingIs v leg frame.clock l.arrived_clock
-arriving_by v way leg is l frame taken front a in_all framed comes takes shows =
+arriving_is v way leg is l frame framed =
     let s = v.scenario in
+    let at = founded_at s v.records leg.arriving is.run.founded l.arrived in
+    let a = subst (IsCaused s at.front leg.arriving.note.time) l.arrives at.due.cause in
+    let x = taken_as a in
+    let comes = x.1 in
     let same : comes.putting ≡ leg.leaving = same_some (numbered v.records leg.leaving.note.number) comes.putting leg.leaving
-    (in_all leg.leaving.note.number comes.putting comes.there) (by_number s v.records leg.leaving is.run.founded l.left) in
+    (numbered_all at leg.leaving.note.number comes.putting comes.there) (by_number s v.records leg.leaving is.run.founded l.left) in
     let launch : Launch = record { link = leg.link; way = comes.arrives.way; signal = comes.signal } in
     let put = subst (λ (h : Happening). launched s h (time_of h) h.note.body ≡ Some launch) same comes.arrives.put in
     let put_left = subst (λ (b : NoteBody). launched s leg.leaving (time_of leg.leaving) b ≡ Some launch) l.leaves put in
@@ -180,26 +182,18 @@ arriving_by v way leg is l frame taken front a in_all framed comes takes shows =
     leg.leaving.frame launch put_left in
     let signal : comes.signal ≡ control (Ok frame) =
     ap (λ (x : Launch). x.signal) (sym on_wire.2) ∙ ap (λ (f : Pcf). control (Ok f)) (same_some _ _ _ on_wire.1 framed) in
-    let arrival = comes.becomes ∙ ap (arrival_of s front l.receiver (time_of leg.arriving) leg.link leg.leaving.note.number) signal in
-    let young = taken_sound s.network l.receiver leg.link (standpoint s front l.receiver (time_of leg.arriving)) frame taken
-    (subst (λ (x : Arrival). TakesWith x taken) arrival takes) in
+    let arrival = comes.becomes ∙ ap (arrival_of s at.front l.receiver (time_of leg.arriving) leg.link leg.leaving.note.number) signal in
+    let young = taken_sound s.network l.receiver leg.link (standpoint s at.front l.receiver (time_of leg.arriving)) frame a.frame
+    (subst (λ (y : Arrival). TakesWith y a.frame) arrival x.2) in
     let put_time : time_of comes.putting ≡ time_of leg.leaving = ap time_of same in
     record {
       delay = delay_at s leg.link comes.arrives.way (time_of leg.leaving);
       way = comes.arrives.way;
       is_delay = refl;
       at = omega (arith, comes.arrives.at, ap (time_on_port s.network leg.link) signal, put_time, ap (delay_at s leg.link comes.arrives.way) put_time);
-      clock = shows ∙ young.2;
-      young = omega (arith, young, shows);
+      clock = a.shows ∙ young.2;
+      young = omega (arith, young, a.shows);
     }
-
-arriving_is : (v : View) (way : Way) (leg : Leg) (is : IsView v) (l : IsLeg v way leg) (frame : Pcf) → leg.leaving.frame ≡ Some frame
-    → ArrivingIs v leg frame.clock l.arrived_clock
-arriving_is v way leg is l frame framed =
-    let at = founded_at v.scenario v.records leg.arriving is.run.founded l.arrived in
-    let a = subst (IsCaused v.scenario at.front leg.arriving.note.time) l.arrives at.due.cause in
-    let x = taken_as a in
-    arriving_by v way leg is l frame a.frame at.front x.0 (numbered_all at) framed x.1 x.2 a.shows
 
 -- the frame that arrived
 pub arrived_frame : (v : View) (way : Way) (leg : Leg) (frame : Pcf) → IsView v → (l : IsLeg v way leg) → leg.leaving.frame ≡ Some frame

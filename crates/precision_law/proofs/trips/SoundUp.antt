@@ -1,9 +1,9 @@
 -- The sound channel brings dispatches up to its compression master.
 use Rattle.precision_law.proofs.words.Std.{◌&&◌, ◌+◌, ◌==◌, ◌^◌, ◌∙◌, ◌∷◌, ◌≡◌, ◌≤◌, ◌⊎◌, Bool, List, Option, Some, [], ap, arith, both_ways, eq-eqb, false, inl, inr, is_some, length, not, not-true, option_map, option_map_or, refl, subst, suc, sym, true, ℕ}
-use Rattle.precision_law.proofs.words.Plans.{A, B, Channel, Cm, CompressionMasters, Device, DeviceId, IsChildOf, IsCmOf, IsDeviceInRange, IsDeviceOf, IsPath, IsSwitchOf, Joints, Link, LinkId, Master, Pcf, Relay, Role, Up, all_at, amount, closed, delay_by, delay_on, device_at, is_end_system, is_master, link_at, margins, opened, rules_give_trees, shape_rules, target_by}
+use Rattle.precision_law.proofs.words.Plans.{A, B, Channel, Cm, CompressionMasters, Device, DeviceId, IsChildOf, IsCmOf, IsDeviceInRange, IsDeviceOf, IsPath, IsSwitchOf, Link, LinkId, Master, Pcf, Role, Up, all_at, amount, closed, delay_by, delay_on, device_at, is_end_system, is_master, link_at, margins, opened, rules_give_trees, shape_rules, target_by}
 use Rattle.precision_law.proofs.words.Runs.{Gives, Happening, IsCaused, IsIn, IsParentOf, NoteBody, are_others, dispatched_frame, founded_at, frame_by, is_end, is_of_other_member, is_relay, is_relay_role, member_of, receiver_of, same_some, time_of, with_clock}
 use Rattle.precision_law.proofs.words.Laws.{AreOpenFrom, IsBrought, IsGood, IsSoundSwitch, IsTrip, IsView, Leg, SoundFramesGoUp, View, clock_in}
-use Rattle.precision_law.proofs.words.Clocks.{IsClean, child_ways, device_of, master_ends, master_member, receiver_way, sizes_are, sound_switch_on, switches_are_good, will_be_permanent}
+use Rattle.precision_law.proofs.words.Clocks.{IsClean, child_kind, child_ways, device_of, master_ends, master_member, receiver_way, sizes_are, sound_switch_on, switches_are_good, will_be_permanent}
 use Rattle.run_law.specs.declared.note.NoteBody.TheVariants as notes
 use Rattle.precision_law.proofs.compression.Made.{dispatch_clock}
 use Rattle.precision_law.proofs.trips.Upward.{path_up, trips_up_take_dmax}
@@ -24,18 +24,10 @@ switch_ends v device channel is switch =
 pub child_relays : (v : View) (device : DeviceId) (channel : Channel) (link : LinkId) (l : Link) → IsView v → link_at v.scenario.network link ≡ Some l
     → l.child ≡ device → IsSwitchOf v.scenario.network channel device → is_relay v.scenario.network device ≡ true
 child_relays v device channel link l is at child switch =
-    let n = v.scenario.network in
-    let joint = is.lawful.rules Joints link.0 l at in
-    let relays : is_relay n l.child ≡ true = elim joint.2 [
-      | inl end ↦
-          let e = opened (λ (x : Device). is_end_system x.role ≡ true) (device_at n l.child) end in
-          let ends : is_end n l.child ≡ true = ap (λ (o : Option Device). option_map_or (λ x. is_end_system x.role) o false) e.1 ∙ e.2 in
-          absurd (both_ways (is_end n l.child) (ap (is_end n) child ∙ switch_ends v device channel is switch) ends)
-      | inr role ↦
-          let e = opened (λ (x : Device). (x.role ≡ Relay) × (x.channel ≡ Some joint.0)) (device_at n l.child) role in
-          ap (λ (o : Option Device). option_map_or (λ x. is_relay_role x.role) o false) e.1 ∙ ap is_relay_role e.2.0
-    ] in
-    ap (is_relay n) (sym child) ∙ relays
+    elim (child_kind v device link is (closed (λ (k : Link). k.child ≡ device) (link_at v.scenario.network link) l at child)) [
+      | inl end ↦ absurd (both_ways (is_end v.scenario.network device) (switch_ends v device channel is switch) end)
+      | inr x ↦ ap (λ (o : Option Device). option_map_or (λ d. is_relay_role d.role) o false) x.1 ∙ ap is_relay_role x.2
+    ]
 
 last_false : (a b c : Bool) → (b ≡ true → c ≡ false) → (a && b && c) ≡ false
 last_false true true c f = f refl

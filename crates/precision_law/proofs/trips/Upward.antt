@@ -30,20 +30,17 @@ channel_is n channel device switch =
 
 -- one leg more
 leg_up : (v : View) (channel : Channel) (leg : Leg) (links : List LinkId) → IsView v → (l : IsLeg v Up leg)
-    → (child : (link : Link) → link_at v.scenario.network leg.link ≡ Some link → link.child ≡ l.sender) → LeadsUp v channel l.receiver links
+    → IsChildOf v.scenario.network l.sender leg.link → LeadsUp v channel l.receiver links
     → IsPath v.scenario.network channel l.sender (leg.link ∷ links)
 leg_up v channel leg links is l child up =
     let n = v.scenario.network in
     let link = leg_link v Up leg is l in
     let to : Some link.0.parent ≡ Some l.receiver = ap (λ (o : Option Link). option_map (target_by Up) o) (sym link.1) ∙ l.comes_to in
     let parent : link.0.parent ≡ l.receiver = cc in
+    let k = opened (λ (x : Link). x.child ≡ l.sender) (link_at n leg.link) child in
+    let own : link.0.child ≡ l.sender = ap (λ (x : Link). x.child) (same_some _ _ _ link.1 k.1) ∙ k.2 in
     closed (λ (k : Link). (k.child ≡ l.sender) × IsSwitchOf n channel k.parent × IsPath n channel k.parent links) (link_at n leg.link) link.0 link.1
-    (child link.0 link.1, subst (IsSwitchOf n channel) (sym parent) up.switch, subst (λ (d : DeviceId). IsPath n channel d links) (sym parent) up.path)
-
-child_is : (n : Network) (device : DeviceId) (link : LinkId) (l : Link) → IsChildOf n device link → link_at n link ≡ Some l → l.child ≡ device
-child_is n device link l child at =
-    let k = opened (λ (x : Link). x.child ≡ device) (link_at n link) child in
-    ap (λ (x : Link). x.child) (sym (same_some (link_at n link) k.0 l k.1 at)) ∙ k.2
+    (own, subst (IsSwitchOf n channel) (sym parent) up.switch, subst (λ (d : DeviceId). IsPath n channel d links) (sym parent) up.path)
 
 -- from what arrived at a switch
 path_from : (v : View) (channel : Channel) (g last : Happening) (legs : List Leg) (cm relay : DeviceId) (by to : LinkId) (c d t u : ℕ) → IsView v
@@ -67,7 +64,7 @@ path_from v channel g last (leg ∷ legs) cm relay by to c d t u is one trip end
       | inl up ↦ up.1
       | inr down ↦ (let wrong : Down ≡ Up = sym (parent_ways n l.sender leg.link down.1).1 ∙ l.from_way in absurd cc)
     ] in
-    let path = leg_up v channel leg (links_of legs) is l (λ link at. child_is n l.sender leg.link link child at) up in
+    let path = leg_up v channel leg (links_of legs) is l child up in
     let link = leg_link v Up leg is l in
     let recv : Some link.0.parent ≡ Some l.receiver = ap (λ (o : Option Link). option_map (target_by Up) o) (sym link.1) ∙ l.comes_to in
     let parent : link.0.parent ≡ l.receiver = cc in
@@ -89,7 +86,7 @@ path_up v channel first last (leg ∷ legs) master cm cycle to d u is one trip e
     let l = trip.1 in
     let up = path_from v channel leg.arriving last legs cm l.receiver leg.link to leg.leaving.note.number d l.arrived_clock u is one trip.2 ends l.arrives in
     let gives = subst (λ (b : NoteBody). Gives v.scenario.network b l.sender leg.link) (ap (λ (h : Happening). h.note.body) trip.0 ∙ body) l.gives in
-    let path = leg_up v channel leg (links_of legs) is l (λ link at. child_is v.scenario.network l.sender leg.link link gives.1 at) up in
+    let path = leg_up v channel leg (links_of legs) is l gives.1 up in
     subst (λ (x : DeviceId). IsPath v.scenario.network channel x (leg.link ∷ links_of legs)) gives.0 path
 
 -- ---- the time of a trip

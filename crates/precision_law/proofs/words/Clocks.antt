@@ -1,5 +1,5 @@
 -- What is proved of records, clocks, faults and frames, and is cited further on, passed on from one place. Declares nothing.
-pub use Rattle.precision_law.proofs.Plain.{any_is, any_of_in, cm_is_no_end, device_of, higher_before, made_in, never_some, no_later, reached, some_if, some_of, synchronised_has_time}
+pub use Rattle.precision_law.proofs.Plain.{any_is, any_of_in, cm_is_no_end, device_of, higher_before, le_by, lt_by, made_in, never_some, no_later, reached, some_if, some_of, synchronised_has_time}
 pub use Rattle.precision_law.proofs.block.Hulls.{has_before, in_hull, int_le-is, over, tested}
 pub use Rattle.precision_law.proofs.clocks.Anchored.{anchored_clocks_reach, anchored_clocks_show, anchors_widen, clocks_of_one_cycle, clocks_of_two_cycles, natural, natural_of, one_frame_anchors, one_frame_sets, one_more, set_clocks_have_reached, set_clocks_show, shared_clocks_halve, starts_are_set, starts_stay_together, two_frames_anchor, two_frames_set}
 pub use Rattle.precision_law.proofs.clocks.Epochs.{Keeps, adjustment_is_last, adjustment_set, adjustment_stays, clocks_have_reached, clocks_reach_sharply, fold_last, joined_changes, keeps, kept_by_all, kept_if, next_cycle_is_of_last, none_between, same_device, sets_none, settings_stay, state_stays, time_stays}
@@ -22,7 +22,7 @@ pub use Rattle.precision_law.proofs.records.Views.{in_order, room, sizes_are, st
 pub use Rattle.precision_law.proofs.sizes.Instants.{corrections_come_first, cycles_are_few, frames_come_first, hulls_go_on, instants_are_in_order, set_clocks_stay_at_correction}
 pub use Rattle.precision_law.proofs.trips.Ascents.{frames_up_are_of_masters, master_member, never_timed}
 pub use Rattle.precision_law.proofs.trips.Descents.{emission_shows, frames_down_are_of_cms}
-pub use Rattle.precision_law.proofs.trips.Legs.{child_channel, child_not_parent, child_ways, gives_down, parent_ways, receiver_down, receiver_up, receiver_way, same_cycle, trip_more}
+pub use Rattle.precision_law.proofs.trips.Legs.{child_channel, child_kind, child_not_parent, child_ways, gives_down, parent_ways, receiver_down, receiver_up, receiver_way, same_cycle, trip_more}
 pub use Rattle.precision_law.proofs.trips.Links.{HasGone, IsGivenOn, arrives_at, goes_over, leaves_at, takes_at_most}
 pub use Rattle.precision_law.proofs.trips.Paths.{TakesWith, arrived_frame, clocked, frame_is, leaving_is, leg_hop, numbered_all, taken_as, taken_sound, trip_says}
 pub use Rattle.precision_law.proofs.trips.Sound.{IsClean, IsReady, no_fault, sound_switch_on, will_be_permanent}
