@@ -140,8 +140,8 @@ module _ {C M : Type 0} (last_step : C → ℕ) (reading : C → ℕ → ℕ) (s
         };
       }
 
-  pub turn_with : (now mid : State C M) (acts : ℕ) → mid ≡ record now { settled = mid.settled; spare = mid.spare } → mid.settled.items ≡ now.settled.items → Turn now acts
-      → Turn mid acts
+  pub turn_with : (now mid : State C M) (acts : ℕ) → mid ≡ record now { settled = mid.settled; spare = mid.spare }
+      → mid.settled.items ≡ now.settled.items → Turn now acts → Turn mid acts
   turn_with now mid acts is same turn =
       subst (λ (x : State C M). Turn x acts) (sym is)
       (record {

@@ -7,8 +7,6 @@ use Rattle.net_plan.specs.declared.network.Network.{Network}
 use Rattle.run_law.proofs.runs.Places.{before_later, before_later_time, chain, never_self}
 use Rattle.net_plan.specs.declared.ids.LinkId.{LinkId}
 use Rattle.run_law.specs.declared.note.Note.{Note}
-use Rattle.run_law.specs.declared.note.NoteBody.TheVariants.{Event, Arrived, Permanent, Compressed, Sent, Corrected, State as Changed, Left, Lost, TtSent, Accepted, Delivered, Dropped, Clock as Shown}
-use Rattle.run_law.specs.declared.note.NoteBody.{NoteBody}
 use Rattle.run_law.specs.machines.Nodes.{Node}
 use Rattle.run_law.specs.records.Happenings.{Happening, happenings}
 use Rattle.run_law.specs.records.Order.{IsBefore, IsIn}
@@ -18,7 +16,7 @@ use Rattle.drift_world.proofs.HiddenCauses.{InOrder, settled_in_order}
 use Rattle.drift_world.proofs.Sources.{of_world, sooner_too}
 use Rattle.drift_world.proofs.Foremost.{timers_later}
 use Rattle.drift_world.proofs.Timings.{passed, rekeyed, unchanged}
-use Rattle.drift_world.specs.Giving.{HasItsOctets, changed_device}
+use Rattle.drift_world.specs.Giving.{HasItsOctets}
 use Rattle.drift_world.specs.Keeping.{keeps}
 use Rattle.drift_world.specs.Places.{own_place}
 use Rattle.drift_world.specs.Sound.{IsSound}
@@ -332,24 +330,6 @@ pub same_records : {C M : Type 0} (reading : C → ℕ → ℕ) (stands : M → 
 same_records reading stands s world notes more none is =
     subst (λ (l : List Note). Stands reading stands s world (notes ++ l)) (sym none)
     (subst (Stands reading stands s world) (sym (append-nil notes)) is)
-
--- no device of a network is the one that a record of no arrival changes
-pub far_device : (body : NoteBody)
-    → ((device : DeviceId) (link : LinkId) (cause clock : ℕ) → body ≡ Arrived device link cause clock → ⊥) → changed_device body ≡ 2 ^ 32
-far_device (Event line what) none = refl
-far_device (Arrived device link cause clock) none = absurd (none device link cause clock refl)
-far_device (Permanent device link cause point verdict) none = refl
-far_device (Compressed device opened at cycle members verdict) none = refl
-far_device (Sent device cycle) none = refl
-far_device (Corrected device cycle by adjustment) none = refl
-far_device (Changed device state cause why) none = refl
-far_device (Left device link cause clock) none = refl
-far_device (Lost device link cause) none = refl
-far_device (TtSent device link cause vl cycle) none = refl
-far_device (Accepted device link cause vl cycle) none = refl
-far_device (Delivered device link cause vl cycle) none = refl
-far_device (Dropped device link cause reason) none = refl
-far_device (Shown device reading adjustment state) none = refl
 
 -- one of two clauses of a result serves
 pub either_end : {A E : Type 0} (result : Result A E) (P Q R : Type 0) → OnOk result P → OnErr result Q → (P → R) → (Q → R) → R

@@ -109,7 +109,8 @@ fn hear_signal<M: Machine + Drop>(
 
 /// What the record of it says.
 fn kind_of(place: Place, arrival: &Arrival) -> Kind
-    ensures { body_of result ≡ arrival_body (record { 0 = place.device }) (record { 0 = place.link }) place.cause arrival.now }
+    ensures { body_of result
+        ≡ arrival_body (record { 0 = place.device }) (record { 0 = place.link }) place.cause arrival.now }
 {
     let device = DeviceId(place.device);
     let link = LinkId(place.link);
@@ -214,7 +215,13 @@ impl<C: Clock, M: Machine + Drop> State<C, M> {
             → ComesFirst C.reading (keeps M.stands) s (world_of network.now self.old) notes old (numbers_of place)
             → StandsBehind C.reading (keeps M.stands) s (world_of network.now self.new) notes (behind (numbers_of place)) }
         ensures others { ChangesOnly place.device self.old self.new }
-        ensures same { self.new ≡ record self.old { machines = self.new.machines; under_way = self.new.under_way; settled = self.new.settled; made = self.new.made; early = false } }
+        ensures same { self.new ≡ record self.old {
+          machines = self.new.machines;
+          under_way = self.new.under_way;
+          settled = self.new.settled;
+          made = self.new.made;
+          early = false;
+        } }
         ensures given { self.new.given ≡ self.old.given }
         ensures shorter { length self.old.under_way.entries ≡ length self.new.under_way.entries + 1 }
     {

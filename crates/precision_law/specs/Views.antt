@@ -1,10 +1,8 @@
 -- What the precision is of: a run up to a time, with a channel that loses nothing.
-use Rattle.std.specs.Prelude.{◌≡◌, ◌⊎◌, ℕ, ◌+◌, ◌*◌, ◌^◌, ◌≤◌, pos, false, true, List, [], ◌∷◌, ◌<◌, length}
+use Rattle.std.specs.Prelude.{◌≡◌, ◌⊎◌, ℕ, ◌+◌, ◌*◌, ◌^◌, ◌≤◌, pos, false, true, List, [], ◌∷◌}
 use Rattle.net_plan.specs.Bounds.{IsBeta}
 use Rattle.net_plan.specs.Places.{IsSwitchOf}
-use Rattle.net_plan.specs.declared.event.Event.{Event}
 use Rattle.net_plan.specs.declared.ids.DeviceId.{DeviceId}
-use Rattle.net_plan.specs.declared.ids.LinkId.{LinkId}
 use Rattle.pcf_values.specs.declared.channel.Channel.{Channel}
 use Rattle.precision_law.specs.Sizes.{Sizes, sizes_of}
 use Rattle.run_law.specs.declared.note.NoteBody.TheVariants as notes
@@ -15,7 +13,7 @@ use Rattle.run_law.specs.records.Ranks.{place_of}
 use Rattle.run_law.specs.runs.DueRecords.{IsDue}
 use Rattle.run_law.specs.runs.Runs.{IsRun}
 use Rattle.run_law.specs.scenario.Devices.{is_end}
-use Rattle.run_law.specs.scenario.Faults.{IsFaulty, Cuts}
+use Rattle.run_law.specs.scenario.Faults.{IsFaulty}
 use Rattle.run_law.specs.scenario.Scenarios.{Scenario, events_up_to, is_broken}
 use Rattle.tte_units.specs.Amount.{amount}
 

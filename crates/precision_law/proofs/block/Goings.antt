@@ -1,7 +1,7 @@
 -- What each instant of a block brings, from what frames are heard.
 use Rattle.precision_law.proofs.words.Std.{◌*◌, ◌+ℤ◌, ◌+◌, ◌-◌, ◌<ℤ◌, ◌<◌, ◌∙◌, ◌∷◌, ◌≡◌, ◌≤ℤ◌, ◌≤◌, ◌⊎◌, List, Some, [], ap, arith, cases_lt, inl, inr, ints, pos, refl, subst, suc, sym, true, zero, ℕ, ℤ}
 use Rattle.precision_law.proofs.words.Plans.{Channel, Cleared, Corrected, DeviceId, LinkId, Members, Pcf, State, Units, Verdict, amount, count_of}
-use Rattle.precision_law.proofs.words.Runs.{ComesToCorrection, Happening, IsCaused, IsFoundedAt, IsIn, Judgement, NoteBody, Scenario, Why, adjustment_at_hearing, before_permanence, changes_adjustment, channel_of, cycle_in, earlier, expected_by, founded_at, heard_as, in_filter, in_left, in_parts, is_before, members_in, observation_window, place_of, plan_of, same_some, state_at_hearing, time_of, timed}
+use Rattle.precision_law.proofs.words.Runs.{ComesToCorrection, Happening, IsCaused, IsFoundedAt, IsIn, Judgement, NoteBody, Scenario, Why, adjustment_at_hearing, before_permanence, changes_adjustment, channel_of, cycle_in, earlier, expected_by, founded_at, heard_as, in_filter, in_left, in_parts, is_before, members_in, observation_window, place_of, plan_of, same_some, state_at_hearing, time_of}
 use Rattle.precision_law.proofs.words.Laws.{AreBeforeCorrections, AreGood, BasesAreInHulls, BlockGoesSo, ComesTo, EmissionsAreOfDispatches, HasGood, HasTimeAt, HeardFramesAreTimely, HeardInTheirBlocks, HearingsAreOfFrames, HearsBy, Hull, IsClique, IsDispatch, IsEmission, IsGood, IsInHull, IsNarrow, IsNearHull, IsOfHearer, IsOldAt, IsPointOf, IsTidyBefore, IsTimely, IsView, Stands, ThreeHaveGood, View, adjustment_left, base_of, epoch_time, first_correction, first_dispatch, hull_of, is_correction, start_hull}
 use Rattle.precision_law.proofs.words.Clocks.{before_of, earlier_before, earlier_judge, instants_are_in_order, point_timed, room, same_adjustment, same_device, time_stays}
 use Rattle.run_law.specs.declared.note.NoteBody.TheVariants as notes

@@ -36,7 +36,8 @@ fn put_given<K: Sink>(
     requires in_range { IsInRange network.now }
     requires of_network { IsNoteOf network.now note.now }
     ensures all { OnOk result (Appends (K.written out.old) (K.written out.new) (note_line network.now note.now)) }
-    ensures front { OnErr result (AppendsFront (K.written out.old) (K.written out.new) (note_line network.now note.now)) }
+    ensures front { OnErr result
+        (AppendsFront (K.written out.old) (K.written out.new) (note_line network.now note.now)) }
     ensures counted { K.puts out.new ≡ next_count (K.puts out.old) }
     ensures never_falls { K.faults out.old ≤ K.faults out.new }
     ensures ok_unchanged { OnOk result (K.faults out.new ≡ K.faults out.old) }
@@ -55,7 +56,8 @@ fn put_event_note<K: Sink>(
     requires in_range { IsInRange network.now }
     requires of_network { IsNoteOf network.now note.now }
     ensures all { OnOk result (Appends (K.written out.old) (K.written out.new) (note_line network.now note.now)) }
-    ensures front { OnErr result (AppendsFront (K.written out.old) (K.written out.new) (note_line network.now note.now)) }
+    ensures front { OnErr result
+        (AppendsFront (K.written out.old) (K.written out.new) (note_line network.now note.now)) }
     ensures counted { K.puts out.new ≡ next_count (K.puts out.old) }
     ensures never_falls { K.faults out.old ≤ K.faults out.new }
     ensures ok_unchanged { OnOk result (K.faults out.new ≡ K.faults out.old) }

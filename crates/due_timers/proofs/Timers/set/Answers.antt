@@ -41,10 +41,12 @@ loop-node-preserved c =
     let whole = tree.whole in
     let left : c.index-in-loop-node.result.now ≡ node_at b.nodes.items (2 * up) = get_or_read b.nodes.items (2 * up) c.index-in-loop-node.result.now
     (omega (arith, whole, inside, more)) c.index-in-loop-node.ensures _ in
-    let right : c.index-in-loop-node-2.result.now ≡ node_at b.nodes.items (2 * up + 1) = get_or_read b.nodes.items (2 * up + 1) c.index-in-loop-node-2.result.now
+    let right : c.index-in-loop-node-2.result.now ≡ node_at b.nodes.items (2 * up + 1) =
+    get_or_read b.nodes.items (2 * up + 1) c.index-in-loop-node-2.result.now
     (omega (arith, whole, inside, more)) c.index-in-loop-node-2.ensures _ in
     let is : c.sooner.result ≡ sooner (node_at b.nodes.items (2 * up)) (node_at b.nodes.items (2 * up + 1)) =
-    c.sooner.ensures ∙ ap (λ (d : Due). sooner d c.index-in-loop-node-2.result.now) left ∙ ap (λ (d : Due). sooner (node_at b.nodes.items (2 * up)) d) right in (
+    c.sooner.ensures ∙ ap (λ (d : Due). sooner d c.index-in-loop-node-2.result.now) left
+    ∙ ap (λ (d : Due). sooner (node_at b.nodes.items (2 * up)) d) right in (
       one_up b.nodes.items b.slots c.loop-node.node c.sooner.result tree more is,
       times_still b.nodes.items b.slots up c.sooner.result (omega (arith, inside)) ∙ c.loop-node.invariant.1,
     )

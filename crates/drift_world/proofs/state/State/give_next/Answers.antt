@@ -47,7 +47,8 @@ returns-in-Ok-clause-well g c =
       sound = subst (IsSound g.C.Clock.last_step c.args.network.now) (sym c.rekey_after.ensures.same) (sound_so g.C.Clock.last_step g.C.Clock.reading g.M.Machine.stands c.args.network.now mid new.timers E.sound);
       running = record { s = run.s; notes = run.notes ++ c.in-Ok.note ∷ []; is = returns-in-Ok-clause-stands g c run.s run.notes run.is };
       timed = c.rekey_after.ensures.timed c.args.self.now r.well.timed
-          (subst (λ (b : NoteBody). ChangesOnly (changed_device b) c.args.self.now mid) (sym c.body.ensures) E.others) (ap (λ (t : State _ _). t.timers) E.same);
+          (subst (λ (b : NoteBody). ChangesOnly (changed_device b) c.args.self.now mid) (sym c.body.ensures) E.others)
+          (ap (λ (t : State _ _). t.timers) E.same);
     }
 
 pub returns-in-Ok-clause-says : goal.returns-in-Ok-clause-says

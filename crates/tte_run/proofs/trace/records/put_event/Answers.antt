@@ -36,7 +36,8 @@ returns-in-Ok-put_event_note-clause-puts g c events notes stands comes =
     c.put_until.new.world.now (shown c.args.out.now) (shown c.put_until.new.out) (shown c.put_event_note.new.out)
     p (c.in-Ok-befall.ensures.stands c.args.network.now events (notes ++ p.more) p.stands comes.within)
     (now_is c.requires.next c.in-Ok.ensures.puts c.in-Ok.ensures.reached)
-    (c.in-Ok-befall.ensures.run c.args.network.now events (notes ++ p.more) p.stands comes.within) c.in-Ok-put_event_note.ensures.all c.put_event_note.ensures.counted
+    (c.in-Ok-befall.ensures.run c.args.network.now events (notes ++ p.more) p.stands comes.within)
+    c.in-Ok-put_event_note.ensures.all c.put_event_note.ensures.counted
 
 pub returns-in-Err-put_event_note-clause-puts : goal.returns-in-Err-put_event_note-clause-puts
 returns-in-Err-put_event_note-clause-puts g c events notes stands comes =
@@ -46,4 +47,5 @@ returns-in-Err-put_event_note-clause-puts g c events notes stands comes =
     c.put_until.new.world.now (shown c.args.out.now) (shown c.put_until.new.out) (shown c.put_event_note.new.out)
     p (c.in-Ok-befall.ensures.stands c.args.network.now events (notes ++ p.more) p.stands comes.within)
     (now_is c.requires.next c.in-Ok.ensures.puts c.in-Ok.ensures.reached)
-    (c.in-Ok-befall.ensures.run c.args.network.now events (notes ++ p.more) p.stands comes.within) c.in-Err-put_event_note.ensures.front c.put_event_note.ensures.counted
+    (c.in-Ok-befall.ensures.run c.args.network.now events (notes ++ p.more) p.stands comes.within)
+    c.in-Err-put_event_note.ensures.front c.put_event_note.ensures.counted

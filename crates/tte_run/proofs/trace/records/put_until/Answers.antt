@@ -45,7 +45,8 @@ pub notes-preserved : goal.notes-preserved
 notes-preserved g c =
     let network = c.args.network.now in
     let shown = shown_by g.K.Sink in
-    let before = is_before c.in-Ok-Some.field-0 c.in-Ok-Some.note c.next_given.new.self.now c.args.until.0 c.in-Ok-Some.field-0-is c.in-Ok-Some.ensures.before in
+    let before = is_before c.in-Ok-Some.field-0 c.in-Ok-Some.note c.next_given.new.self.now c.args.until.0 c.in-Ok-Some.field-0-is
+    c.in-Ok-Some.ensures.before in
     let u =
     underway_still network c.args.until c.args.world.now c.notes.world (shown c.args.out.now) (shown c.notes.out) c.requires.underway
     c.notes.invariant.puts in
@@ -68,7 +69,8 @@ returns-in-Err-put_given-clause-puts g c events notes stands =
     let network = c.args.network.now in
     let shown = shown_by g.K.Sink in
     let h = c.notes.invariant.puts events notes stands in
-    let before = is_before c.in-Ok-Some.field-0 c.in-Ok-Some.note c.next_given.new.self.now c.args.until.0 c.in-Ok-Some.field-0-is c.in-Ok-Some.ensures.before in
+    let before = is_before c.in-Ok-Some.field-0 c.in-Ok-Some.note c.next_given.new.self.now c.args.until.0 c.in-Ok-Some.field-0-is
+    c.in-Ok-Some.ensures.before in
     let more =
     given_some network events (notes ++ h.more) c.next_given.new.self c.in-Ok-Some.field-0 c.in-Ok-Some.note c.in-Ok-Some.field-0-is
     (c.in-Ok-Some.ensures.stands network events (notes ++ h.more) h.stands) in

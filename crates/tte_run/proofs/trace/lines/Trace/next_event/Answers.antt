@@ -13,7 +13,8 @@ returns-in-Ok-clause-follows g c network events f =
     let reader = c.next_line.new.reader in
     let found = some_found before (g.B.Source.left c.args.source.now) reader (g.B.Source.left c.next_line.new.source) c.in-Ok.found c.in-Ok.ensures.next in
     let judged = c.judge.ensures.judged network events found.0 (followed_with network events c.args.self.now reader f) found.1 in
-    let of_network = subst (λ (n : Network). IfOk c.judge.result (λ event. IfSome event (λ (e : Event). IsOfNetwork n e.what))) f.over c.judge.ensures.of_network in
+    let of_network = subst (λ (n : Network). IfOk c.judge.result (λ event. IfSome event (λ (e : Event). IsOfNetwork n e.what))) f.over
+    c.judge.ensures.of_network in
     goes_so network events found.0 c.judge.result c.judge.new.self judged of_network c.judge.ensures.range
 
 pub returns-in-Ok-clause-takes : goal.returns-in-Ok-clause-takes

@@ -1,7 +1,6 @@
-use Rattle.std.proofs.Common.{◌≡◌, ◌↔◌, ℕ, List, true, Ok, Err, subst, sym, refl, ◌∙◌}
+use Rattle.std.proofs.Common.{◌≡◌, ◌↔◌, true, Ok, Err, subst, sym, refl, ◌∙◌}
 use Rattle.fault_hypothesis.specs.Watching.{Watches}
 use Rattle.fault_hypothesis.specs.declared.watch.Watch.{Watch}
-use Rattle.net_plan.specs.declared.event.Event.{Event}
 use Rattle.net_plan.specs.declared.network.Network.{Network}
 use Rattle.net_plan.specs.declared.event.What.TheVariants.{End}
 use Rattle.net_plan.specs.Belonging.{IsOfNetwork}
