@@ -1,7 +1,6 @@
 -- What comes of the events of an instant is settled, as its law asks for it.
-use Rattle.std.proofs.Common.{◌≡◌, ◌⊎◌, ◌↔◌, ℕ, ◌+◌, ◌<◌, Bool, true, false, if◌then◌else◌, List, [], ◌∷◌, ◌++◌, length, map, Option, Some, None, slice_get, option_map, option_and_then, inl, inr, refl, sym, ap, subst, ◌∙◌, All, arith}
+use Rattle.std.proofs.Common.{◌≡◌, ◌⊎◌, ◌↔◌, ℕ, ◌+◌, ◌<◌, Bool, true, false, if◌then◌else◌, List, [], ◌∷◌, length, map, Option, Some, None, slice_get, option_map, option_and_then, inl, inr, refl, sym, ap, subst, ◌∙◌, All, arith}
 use Rattle.std.specs.List.{filter_map}
-use Rattle.std.specs.List.Sorted.{IsPermutation}
 use Rattle.std.specs.Option.{option_map_or}
 use Rattle.std.proofs.lemmas.List.{length-map}
 use Rattle.std.proofs.lemmas.List.Sorted.{IsPermutation-sym}
@@ -53,7 +52,7 @@ use Rattle.world_law.proofs.runs.Worlds.{length_is}
 use Rattle.world_law.proofs.steps.Applied.{no_coming}
 use Rattle.world_law.specs.world.Befalling.{ArePutBy, befell_bodies, bodies_of}
 use Rattle.world_law.specs.world.Steps.{ArePutIn, StandsBehind}
-use Rattle.world_law.specs.world.World.{AreWays, Befell, OnWire, Stands, WayNow, World, hidden, none_yet, way_now}
+use Rattle.world_law.specs.world.World.{AreWays, OnWire, Stands, WayNow, World, hidden, none_yet, way_now}
 
 none_mapped : {X Y : Type 0} (f : X → Y) (xs : List X) → map f xs ≡ [] → xs ≡ []
 none_mapped f [] e = refl

@@ -1,23 +1,17 @@
 -- What comes of the events of an instant is settled: the world stands again.
-use Rattle.std.proofs.Common.{◌≡◌, ◌⊎◌, ◌↔◌, ℕ, zero, suc, ◌+◌, ◌≤◌, ◌<◌, Bool, true, false, if◌then◌else◌, List, [], ◌∷◌, ◌++◌, length, map, take, get_or, Option, Some, None, slice_get, option_map, option_and_then, inl, inr, refl, sym, ap, subst, ◌∙◌, All, arith}
+use Rattle.std.proofs.Common.{◌≡◌, ◌↔◌, ℕ, zero, suc, ◌+◌, ◌≤◌, ◌<◌, Bool, true, false, if◌then◌else◌, List, [], ◌∷◌, ◌++◌, length, map, take, get_or, Option, Some, None, slice_get, option_and_then, inl, inr, refl, sym, ap, subst, ◌∙◌, arith}
 use Rattle.std.specs.List.{filter_map}
-use Rattle.std.specs.List.Sorted.{IsPermutation}
-use Rattle.std.specs.Option.{option_map_or}
 use Rattle.std.proofs.lemmas.List.Sorted.{IsPermutation-sym}
-use Rattle.std.proofs.lemmas.Option.{get_or_from_slice_get, slice_get-get_or, slice_get-map, slice_get_within}
-use Rattle.due_queue.proofs.Bags.{given_of, in_permuted, is_given}
-use Rattle.due_queue.specs.Places.{numbers_of}
+use Rattle.std.proofs.lemmas.Option.{get_or_from_slice_get, slice_get-get_or, slice_get_within}
+use Rattle.due_queue.proofs.Bags.{in_permuted}
 use Rattle.due_queue.specs.declared.Entry.{Entry}
 use Rattle.net_plan.specs.Places.{link_at}
 use Rattle.net_plan.specs.declared.event.What.TheVariants as events
 use Rattle.net_plan.specs.declared.event.What.{What}
-use Rattle.net_plan.specs.declared.ids.DeviceId.{DeviceId}
 use Rattle.net_plan.specs.declared.ids.LinkId.{LinkId}
 use Rattle.net_plan.specs.declared.network.Network.{Network}
 use Rattle.net_plan.specs.declared.tables.Link.{Link}
-use Rattle.run_law.specs.declared.note.NoteBody.TheVariants as kinds
-use Rattle.run_law.specs.records.Happenings.{Happening, happenings}
-use Rattle.run_law.specs.records.Order.{IsIn, behind}
+use Rattle.run_law.specs.records.Order.{IsIn}
 use Rattle.net_plan.specs.Ranges.{IsInRange, IsLinkInRange}
 use Rattle.run_law.specs.control.Wires.{signal_of, time_on_port}
 use Rattle.std.specs.Prelude.{IfSome}
@@ -25,10 +19,10 @@ use Rattle.drift_world.proofs.Apart.{ports_kept}
 use Rattle.drift_world.proofs.Made.{in_all}
 use Rattle.drift_world.proofs.UnderWays.{some_is, sound_with}
 use Rattle.drift_world.specs.Sound.{AreBelow, AreUnderWay, rank_of}
-use Rattle.drift_world.specs.Views.{at_port, befell_as, on_wire, settled_at}
+use Rattle.drift_world.specs.Views.{at_port, befell_as}
 use Rattle.drift_world.specs.declared.contents.Content.TheVariants.{Wire}
 use Rattle.drift_world.specs.declared.contents.Signal.TheVariants as signals
-use Rattle.world_law.specs.world.World.{AreInOrder, AtPort, OnWire}
+use Rattle.world_law.specs.world.World.{AreInOrder, AtPort}
 use Rattle.drift_world.specs.Befalling.{AreSettledBy, entry_of, record_of, sent_up}
 use Rattle.drift_world.specs.Giving.{IsPutOn}
 use Rattle.drift_world.specs.Places.{IsSomePut}

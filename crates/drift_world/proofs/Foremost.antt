@@ -1,6 +1,6 @@
 -- What comes first of all that a state has under way.
-use Rattle.std.proofs.Common.{◌≡◌, ◌⊎◌, ℕ, ◌+◌, ◌-◌, ◌*◌, ◌<◌, ◌≤◌, ◌^◌, pos, ◌≤ℤ◌, true, false, List, [], ◌∷◌, All, length, get_or, Option, Some, None, slice_get, inl, inr, refl, sym, ap, subst, ◌∙◌, arith}
-use Rattle.std.specs.Prelude.{IfSome, IfNone}
+use Rattle.std.proofs.Common.{◌≡◌, ◌⊎◌, ℕ, ◌+◌, ◌-◌, ◌<◌, ◌≤◌, ◌^◌, pos, ◌≤ℤ◌, true, false, List, [], ◌∷◌, All, length, get_or, Option, Some, None, slice_get, inl, inr, refl, sym, ap, subst, ◌∙◌, arith}
+use Rattle.std.specs.Prelude.{IfSome}
 use Rattle.std.proofs.lemmas.Bool.{both_ways, cases_lt}
 use Rattle.std.proofs.lemmas.Option.{get_or_from_slice_get, slice_get-get_or}
 use Rattle.due_queue.proofs.Bags.{is_given}
@@ -12,23 +12,20 @@ use Rattle.due_timers.specs.Times.{IsFirst as IsFirstDue, never}
 use Rattle.net_plan.specs.declared.ids.DeviceId.{DeviceId}
 use Rattle.net_plan.specs.declared.network.Network.{Network}
 use Rattle.run_law.proofs.runs.Places.{never_self}
-use Rattle.run_law.specs.declared.note.Note.{Note}
 use Rattle.run_law.specs.machines.Nodes.{Node}
-use Rattle.run_law.specs.records.Happenings.{happenings}
 use Rattle.run_law.specs.records.Order.{IsBefore, IsIn}
-use Rattle.run_law.specs.scenario.Scenarios.{Scenario}
 use Rattle.drift_world.proofs.Sources.{due_time, slot_high, slot_low}
 use Rattle.drift_world.specs.Keeping.{keeps}
 use Rattle.drift_world.specs.Sound.{AreUnderWay, IsSized, rank_of}
 use Rattle.drift_world.specs.Sourcing.{AreFirsts, AreNotBefore, AreTimed, HasNothingBefore, IsRipePlace, due_place}
-use Rattle.drift_world.specs.Stepping.{IsRunning, IsTimed}
+use Rattle.drift_world.specs.Stepping.{IsRunning}
 use Rattle.drift_world.specs.Views.{at_port, on_wire, port_at, waiting_as, wire_at, world_of}
 use Rattle.drift_world.specs.declared.contents.Content.TheVariants.{Wire, Port}
 use Rattle.drift_world.specs.declared.contents.Content.{Content}
 use Rattle.drift_world.specs.declared.contents.Waits.{Waits}
 use Rattle.drift_world.specs.declared.kept.Kept.{Kept}
 use Rattle.drift_world.specs.declared.state.State.{State}
-use Rattle.world_law.specs.world.World.{AtPort, IsHeld, OnWire, Stands, act_place, port_place, ripe_place, wire_place}
+use Rattle.world_law.specs.world.World.{AtPort, OnWire, port_place, ripe_place, wire_place}
 
 -- ---- places of one time, or of a later one
 

@@ -1,5 +1,5 @@
 -- What is on a wire arrives: its device may hear it, and the world stands again.
-use Rattle.std.proofs.Common.{◌≡◌, ℕ, zero, suc, ◌≤◌, ◌<◌, ◌==◌, pos, Bool, set, true, false, if◌then◌else◌, List, [], ◌∷◌, length, map, Option, Some, None, Ok, Err, Result, slice_get, option_map, inl, inr, refl, sym, ap, subst, ◌∙◌, arith}
+use Rattle.std.proofs.Common.{◌≡◌, ℕ, zero, suc, ◌==◌, pos, Bool, set, true, false, if◌then◌else◌, List, [], ◌∷◌, map, Option, Some, Ok, Err, Result, slice_get, option_map, inl, inr, refl, sym, ap, subst, ◌∙◌, arith}
 use Rattle.std.specs.List.{filter_map}
 use Rattle.std.specs.List.Sorted.{IsPermutation}
 use Rattle.std.proofs.lemmas.List.Sorted.{IsPermutation-sym}
@@ -45,7 +45,6 @@ use Rattle.drift_world.specs.declared.contents.Content.{Content}
 use Rattle.drift_world.specs.declared.contents.Settled.{Settled}
 use Rattle.drift_world.specs.declared.contents.Signal.TheVariants as signals
 use Rattle.drift_world.specs.declared.contents.Signal.{Signal as SignalSent}
-use Rattle.drift_world.specs.declared.contents.Timed.{Timed}
 use Rattle.drift_world.specs.declared.kept.Kept.{Kept}
 use Rattle.drift_world.specs.declared.state.State.{State}
 use Rattle.world_law.proofs.giving.Given.{some_same}

@@ -1,5 +1,5 @@
 -- The least point of frames that wait.
-use Rattle.std.proofs.Common.{◌≡◌, ℕ, ◌≤ℤ◌, List, [], ◌∷◌, ◌++◌, Option, Some, None, inl, inr, refl, sym, ap, subst, arith}
+use Rattle.std.proofs.Common.{◌≡◌, ℕ, ◌≤ℤ◌, List, [], ◌∷◌, ◌++◌, Option, Some, None, inl, inr, refl, sym, subst, arith}
 use Rattle.std.proofs.lemmas.Int.{ints}
 use Rattle.run_law.proofs.runs.Places.{in_left, in_parts, in_right}
 use Rattle.run_law.specs.records.Order.{IsIn}

@@ -1,5 +1,5 @@
 -- The local clock of a device, as a world shows it, is that of the records.
-use Rattle.std.proofs.Common.{◌≡◌, ◌⊎◌, ℕ, suc, ◌+◌, ◌≤◌, ◌<◌, ℤ, pos, ◌+ℤ◌, Bool, true, false, List, [], ◌∷◌, ◌++◌, Option, Some, None, length, map, inl, inr, refl, sym, ap, subst, ◌∙◌, arith}
+use Rattle.std.proofs.Common.{◌≡◌, ℕ, suc, ◌+◌, ◌≤◌, ◌<◌, ℤ, pos, ◌+ℤ◌, Bool, true, false, List, [], ◌∷◌, ◌++◌, Option, length, inl, inr, refl, sym, ap, subst, ◌∙◌, arith}
 use Rattle.std.specs.Prelude.{if◌then◌else◌, nat_le, filter}
 use Rattle.std.proofs.lemmas.Bool.{le-leb}
 use Rattle.std.proofs.lemmas.List.{append-nil}
@@ -11,16 +11,14 @@ use Rattle.net_plan.specs.declared.network.Network.{Network}
 use Rattle.run_law.proofs.law.FirstPlaces.{numbered_in}
 use Rattle.run_law.proofs.runs.Places.{chain, either_way, never_self}
 use Rattle.run_law.specs.declared.note.Note.{Note}
-use Rattle.run_law.specs.device.LocalClocks.{local}
 use Rattle.run_law.specs.device.States.{adjustment_after, state_after}
-use Rattle.run_law.specs.law.Safety.{IsInStep}
 use Rattle.run_law.specs.machines.Nodes.{Node}
-use Rattle.run_law.specs.records.Happenings.{Happening, happenings, numbered, time_of, up_to}
+use Rattle.run_law.specs.records.Happenings.{Happening, happenings, time_of, up_to}
 use Rattle.run_law.specs.records.Order.{IsBefore, IsIn}
 use Rattle.run_law.specs.records.Ranks.{place_of}
 use Rattle.run_law.specs.runs.DueRecords.{IsDue, IsScenarioRun}
 use Rattle.run_law.specs.scenario.Hypothesis.{breaks_at}
-use Rattle.run_law.specs.scenario.Scenarios.{Scenario, events_up_to, is_broken}
+use Rattle.run_law.specs.scenario.Scenarios.{Scenario, is_broken}
 use Rattle.run_law.specs.scenario.Rates.{rate_steps}
 use Rattle.std.specs.List.{All, list_any}
 use Rattle.sync_state.specs.declared.state.State.TheVariants as states
@@ -35,7 +33,7 @@ use Rattle.drift_world.specs.Views.{world_of}
 use Rattle.drift_world.specs.declared.kept.Kept.{Kept}
 use Rattle.drift_world.specs.declared.state.State.{State}
 use Rattle.world_law.proofs.devices.Resting.{IsWorked}
-use Rattle.world_law.proofs.devices.Shown.{ShowsAll, all_past, held_shows}
+use Rattle.world_law.proofs.devices.Shown.{all_past, held_shows}
 use Rattle.world_law.proofs.devices.TurnedOn.{all_up_to}
 use Rattle.world_law.proofs.giving.Given.{some_same}
 use Rattle.world_law.specs.source.Agreeing.{scenario}

@@ -1,5 +1,5 @@
 -- A frame that waits is permanent: its machine may be asked, and the state stands behind it.
-use Rattle.std.proofs.Common.{◌≡◌, ◌⊎◌, ℕ, ◌+◌, ◌<◌, ◌≤◌, pos, ◌≤ℤ◌, ◌^◌, List, [], ◌∷◌, length, map, slice_set, All, Option, Some, None, false, inl, inr, refl, sym, ap, subst, ◌∙◌, arith}
+use Rattle.std.proofs.Common.{◌≡◌, ℕ, ◌+◌, ◌<◌, ◌≤◌, pos, ◌≤ℤ◌, ◌^◌, List, [], ◌∷◌, length, map, slice_set, All, Option, Some, false, refl, sym, ap, subst, ◌∙◌, arith}
 use Rattle.std.specs.List.{slice_get}
 use Rattle.std.specs.Prelude.{◌↔◌}
 use Rattle.std.specs.Option.{option_and_then}
@@ -12,7 +12,6 @@ use Rattle.run_law.specs.declared.judgement.Judgement.{Judgement}
 use Rattle.run_law.specs.declared.judgement.Why.TheVariants as whys
 use Rattle.run_law.specs.declared.note.Note.{Note}
 use Rattle.run_law.specs.declared.note.NoteBody.TheVariants as kinds
-use Rattle.run_law.specs.declared.note.NoteBody.{NoteBody}
 use Rattle.run_law.specs.declared.steps.Moment.{Moment}
 use Rattle.run_law.specs.declared.steps.Ripe.TheVariants as ripe
 use Rattle.run_law.specs.declared.steps.Ripe.{Ripe}
@@ -38,13 +37,13 @@ use Rattle.drift_world.specs.declared.contents.Waits.{Waits}
 use Rattle.drift_world.specs.declared.kept.Kept.{Kept}
 use Rattle.drift_world.specs.declared.state.State.{State}
 use Rattle.world_law.proofs.giving.Given.{some_same}
-use Rattle.world_law.proofs.ripening.Asking.{MayAsk, may_ask}
+use Rattle.world_law.proofs.ripening.Asking.{may_ask}
 use Rattle.world_law.proofs.ripening.Ripens.{all_in}
 use Rattle.world_law.proofs.ripening.RipenedSteps.{ripened_step, waits_within}
 use Rattle.world_law.specs.world.Calls.{moment_of}
 use Rattle.world_law.specs.world.Ripening.{HasRipened, ripe_bodies}
 use Rattle.world_law.specs.world.Steps.{ArePutIn, ComesFirst, IsWithout, StandsBehind, settled_as}
-use Rattle.world_law.specs.world.World.{Stands, Waiting, World, none_yet, ripe_place}
+use Rattle.world_law.specs.world.World.{Stands, Waiting, none_yet, ripe_place}
 
 -- ---- what waits is apart by its cause
 

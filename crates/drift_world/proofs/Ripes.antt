@@ -1,11 +1,11 @@
 -- The first of the frames that wait at a device and are reached.
-use Rattle.std.proofs.Common.{◌≡◌, ◌+◌, ◌<◌, ℕ, pos, ◌≤ℤ◌, List, Option, Some, None, IfSome, IfNone, slice_get, length, arith, ap, refl, sym, subst, inl, inr, ◌∙◌}
+use Rattle.std.proofs.Common.{◌≡◌, ◌+◌, ℕ, pos, ◌≤ℤ◌, List, Option, Some, None, IfSome, IfNone, slice_get, length, arith, ap, sym, subst, inl, inr, ◌∙◌}
 use Rattle.std.proofs.lemmas.Bool.{cases_lt}
 use Rattle.std.proofs.lemmas.Option.{slice_get_within}
 use Rattle.net_plan.specs.declared.ids.DeviceId.{DeviceId}
 use Rattle.run_law.specs.records.Order.{IsBefore, IsIn}
 use Rattle.drift_world.proofs.Swaps.{in_at}
-use Rattle.drift_world.specs.Ripening.{IsFirstReached, IsFirstRipe, IsReached, ripe_numbers}
+use Rattle.drift_world.specs.Ripening.{IsFirstReached, IsFirstRipe, ripe_numbers}
 use Rattle.drift_world.specs.Views.{waiting_as}
 use Rattle.drift_world.specs.declared.contents.Waits.{Waits}
 use Rattle.drift_world.specs.declared.state.State.{State}

@@ -1,6 +1,5 @@
 -- What is on a wire, by the record that put it there.
-use Rattle.std.proofs.Common.{◌≡◌, ◌⊎◌, ℕ, zero, suc, ◌+◌, ◌≤◌, ◌<◌, Bool, true, false, ◌==◌, if◌then◌else◌, List, [], ◌∷◌, ◌++◌, length, filter, Option, Some, None, Result, Ok, Err, slice_get, option_map, option_and_then, inl, inr, refl, sym, ap, subst, ◌∙◌, arith}
-use Rattle.std.specs.List.{last_or}
+use Rattle.std.proofs.Common.{◌≡◌, ◌⊎◌, ℕ, zero, suc, ◌+◌, ◌≤◌, Bool, true, false, ◌==◌, if◌then◌else◌, List, [], ◌∷◌, filter, Option, Some, None, Result, Ok, Err, option_map, option_and_then, inl, inr, refl, sym, ap, subst, ◌∙◌, arith}
 use Rattle.std.specs.Prelude.{nat_lt}
 use Rattle.std.proofs.lemmas.Bool.{eq-eqb, ne_eqb}
 use Rattle.std.specs.Option.{option_map_or}
@@ -21,7 +20,6 @@ use Rattle.run_law.specs.control.Wires.{Launch, Signal, control, launched, signa
 use Rattle.run_law.specs.declared.note.NoteBody.TheVariants as kinds
 use Rattle.run_law.specs.declared.note.NoteBody.{NoteBody}
 use Rattle.run_law.specs.declared.steps.Arrival.TheVariants as arrivals
-use Rattle.run_law.specs.declared.steps.Arrival.{Arrival}
 use Rattle.run_law.specs.records.Happenings.{Happening, earlier, frame_by, frame_from, frame_in, numbered, octets_by, octets_from, time_of}
 use Rattle.run_law.specs.records.Order.{IsIn}
 use Rattle.run_law.specs.records.Ranks.{place_of}
@@ -29,7 +27,7 @@ use Rattle.run_law.specs.runs.DueRecords.{IsCaused, IsDue}
 use Rattle.run_law.specs.runs.Runs.{IsFounded}
 use Rattle.run_law.specs.scenario.Scenarios.{Scenario}
 use Rattle.run_law.specs.scenario.Ways.{is_cut, way_from}
-use Rattle.run_law.specs.timed.Dispatching.{is_accepted, last_accepted}
+use Rattle.run_law.specs.timed.Dispatching.{is_accepted}
 use Rattle.run_law.specs.timed.Receptions.{ArrivesAs, arrival_of}
 use Rattle.run_law.specs.device.Standpoints.{standpoint}
 use Rattle.run_law.specs.records.Frames.{tt_frame}

@@ -1,6 +1,6 @@
 -- What comes first of what a state has under way.
-use Rattle.std.proofs.Common.{◌≡◌, ◌⊎◌, ℕ, ◌+◌, ◌-◌, ◌*◌, ◌<◌, ◌≤◌, ◌^◌, pos, ◌≤ℤ◌, Bool, true, false, List, [], ◌∷◌, All, length, map, get_or, Option, Some, None, slice_get, inl, inr, refl, sym, ap, subst, ◌∙◌, arith}
-use Rattle.std.specs.Prelude.{IfSome, IfNone, nat_lt, if◌then◌else◌}
+use Rattle.std.proofs.Common.{◌≡◌, ◌⊎◌, ℕ, ◌+◌, ◌-◌, ◌<◌, ◌≤◌, ◌^◌, pos, ◌≤ℤ◌, Bool, List, [], ◌∷◌, All, length, map, Option, Some, None, slice_get, inl, inr, refl, sym, ap, subst, ◌∙◌, arith}
+use Rattle.std.specs.Prelude.{IfSome, IfNone, if◌then◌else◌}
 use Rattle.std.proofs.lemmas.Bool.{cases_lt, cases_eq, le-ltb, lt-ltb}
 use Rattle.std.proofs.lemmas.Option.{get_or_from_slice_get, slice_get_within}
 use Rattle.due_queue.proofs.Bags.{given_of}
@@ -30,7 +30,6 @@ use Rattle.drift_world.specs.Keeping.{keeps}
 use Rattle.drift_world.proofs.UnderWays.{port_numbers, some_is}
 use Rattle.drift_world.specs.Sound.{AreUnderWay, IsSized, rank_of}
 use Rattle.drift_world.specs.Sourcing.{AreFirsts, AreNotBefore, AreTimed, HasNothingBefore, IsRipePlace, due_place}
-use Rattle.drift_world.specs.Stepping.{IsTimed}
 use Rattle.drift_world.specs.Views.{at_port, on_wire, waiting_as, wire_at, world_of}
 use Rattle.drift_world.specs.declared.contents.Content.TheVariants.{Wire, Port}
 use Rattle.drift_world.specs.declared.contents.Content.{Content}

@@ -1,8 +1,7 @@
 -- Timers that are right, and stay so.
-use Rattle.std.proofs.Common.{◌≡◌, ◌⊎◌, ◌↔◌, ℕ, zero, suc, ◌+◌, ◌*◌, ◌<◌, ◌≤◌, ◌^◌, pos, ◌<ℤ◌, ◌≤ℤ◌, Bool, List, [], ◌∷◌, All, length, Option, Some, None, slice_get, slice_set, inl, inr, refl, sym, ap, subst, ◌∙◌, arith}
+use Rattle.std.proofs.Common.{◌≡◌, ◌↔◌, ℕ, zero, suc, ◌+◌, ◌*◌, ◌<◌, ◌≤◌, ◌^◌, pos, ◌≤ℤ◌, Bool, List, [], ◌∷◌, All, length, Option, Some, None, slice_get, slice_set, inl, inr, refl, sym, ap, subst, ◌∙◌, arith}
 use Rattle.std.proofs.lemmas.Bool.{cases_eq, cases_lt}
 use Rattle.std.proofs.lemmas.Int.{ints}
-use Rattle.std.proofs.lemmas.List.Elements.{All-set}
 use Rattle.due_timers.specs.Times.{never}
 use Rattle.net_plan.specs.declared.ids.DeviceId.{DeviceId}
 use Rattle.net_plan.specs.declared.network.Network.{Network}
@@ -14,7 +13,7 @@ use Rattle.drift_world.specs.Keeping.{keeps}
 use Rattle.drift_world.specs.Sourcing.{AreTimed}
 use Rattle.drift_world.specs.Sound.{IsSized}
 use Rattle.drift_world.specs.Stepping.{ActsAt, ChangesOnly, IsRipeAt, IsRunning, IsTimed}
-use Rattle.drift_world.specs.Timing.{IsLeastPoint, IsReachedAt, IsTimeFor}
+use Rattle.drift_world.specs.Timing.{IsLeastPoint, IsTimeFor}
 use Rattle.drift_world.specs.declared.contents.Waits.{Waits}
 use Rattle.drift_world.specs.declared.kept.Kept.{Kept}
 use Rattle.drift_world.specs.declared.state.State.{State}

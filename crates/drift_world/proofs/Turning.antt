@@ -1,11 +1,10 @@
 -- A turn of a world: what comes first, and what the steps keep.
-use Rattle.std.proofs.Common.{◌≡◌, ◌⊎◌, ℕ, ◌+◌, ◌-◌, ◌*◌, ◌<◌, ◌≤◌, ◌^◌, pos, List, [], ◌∷◌, ◌++◌, All, length, map, Option, Some, None, Bool, true, Result, Ok, Err, slice_get, inl, inr, refl, sym, ap, subst, ◌∙◌, arith}
+use Rattle.std.proofs.Common.{◌≡◌, ℕ, ◌+◌, ◌<◌, ◌≤◌, ◌^◌, List, [], ◌∷◌, ◌++◌, All, length, map, Option, Some, true, Result, Ok, Err, slice_get, inl, inr, refl, sym, ap, subst, ◌∙◌, arith}
 use Rattle.std.proofs.lemmas.List.{append-nil, length-map}
 use Rattle.std.specs.Prelude.{◌↔◌, IfOk, OnErr, OnOk}
 use Rattle.net_plan.specs.declared.ids.DeviceId.{DeviceId}
 use Rattle.net_plan.specs.declared.network.Network.{Network}
 use Rattle.run_law.proofs.runs.Places.{before_later, before_later_time, chain, never_self}
-use Rattle.net_plan.specs.declared.ids.LinkId.{LinkId}
 use Rattle.run_law.specs.declared.note.Note.{Note}
 use Rattle.run_law.specs.machines.Nodes.{Node}
 use Rattle.run_law.specs.records.Happenings.{Happening, happenings}
@@ -22,7 +21,7 @@ use Rattle.drift_world.specs.Places.{own_place}
 use Rattle.drift_world.specs.Sound.{IsSound}
 use Rattle.drift_world.specs.Sourcing.{AreTimed, HasNothingBefore}
 use Rattle.drift_world.specs.Stepping.{ChangesOnly, IsAt, IsRunning, IsTimed}
-use Rattle.drift_world.specs.Turns.{HasRoom, IsAfter, IsAhead, IsForemost, IsNow, IsStep, IsThere, PassSays, SettledFirst, SourceFirst, TurnSays, given_in, own_numbers, source_place}
+use Rattle.drift_world.specs.Turns.{HasRoom, IsAfter, IsAhead, IsForemost, IsNow, IsStep, IsThere, PassSays, SourceFirst, TurnSays, given_in, own_numbers, source_place}
 use Rattle.drift_world.specs.Views.{settled_at, world_of}
 use Rattle.drift_world.specs.Wells.{IsWell}
 use Rattle.drift_world.specs.declared.contents.Settled.{Settled}

@@ -1,8 +1,6 @@
 -- What comes of the events of an instant.
-use Rattle.std.specs.Prelude.{◌≡◌, ℕ, ◌+◌, Bool, List, [], ◌∷◌, Option, Some, None, option_map, option_and_then, slice_get, if◌then◌else◌}
-use Rattle.std.specs.List.Sorted.{IsPermutation}
+use Rattle.std.specs.Prelude.{◌≡◌, ℕ, ◌+◌, Bool, List, [], ◌∷◌, Option, Some, None, option_and_then, slice_get, if◌then◌else◌}
 use Rattle.due_queue.specs.declared.Entry.{Entry}
-use Rattle.due_queue.specs.declared.Place.{Place}
 use Rattle.net_plan.specs.Places.{link_at}
 use Rattle.net_plan.specs.declared.event.What.TheVariants as events
 use Rattle.net_plan.specs.declared.event.What.{What}

@@ -1,5 +1,5 @@
 -- When a clock reaches what a device waits for.
-use Rattle.std.specs.Prelude.{◌≡◌, ◌⊎◌, ℕ, ◌<◌, ◌≤◌, ◌^◌, pos, ◌<ℤ◌, ◌≤ℤ◌, List, Option, Some, None, if◌then◌else◌, ◌==◌}
+use Rattle.std.specs.Prelude.{◌≡◌, ◌⊎◌, ℕ, ◌<◌, ◌≤◌, ◌^◌, pos, ◌<ℤ◌, ◌≤ℤ◌, List, Option, Some, None}
 use Rattle.due_timers.specs.Times.{never}
 use Rattle.run_law.specs.records.Order.{IsIn}
 use Rattle.tte_units.specs.declared.units.Units.{Units}

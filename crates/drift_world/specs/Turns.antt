@@ -1,5 +1,5 @@
 -- How a world goes on, one source after the other.
-use Rattle.std.specs.Prelude.{◌≡◌, ◌⊎◌, ℕ, ◌+◌, ◌<◌, ◌≤◌, ◌^◌, ◌-◌, pos, ◌≤ℤ◌, ◌<ℤ◌, true, false, List, [], ◌∷◌, ◌++◌, length, slice_get, Some, None, Option, Result, Ok, Err}
+use Rattle.std.specs.Prelude.{◌≡◌, ◌⊎◌, ℕ, ◌+◌, ◌<◌, ◌≤◌, ◌^◌, ◌-◌, pos, ◌≤ℤ◌, true, false, List, [], ◌∷◌, length, slice_get, Some, None, Option, Result, Ok, Err}
 use Rattle.due_queue.specs.declared.Place.{Place}
 use Rattle.due_timers.specs.declared.Due.{Due}
 use Rattle.drift_world.specs.Sourcing.{HasNothingBefore, IsRipePlace, due_place}

@@ -1,9 +1,8 @@
-use Rattle.std.proofs.Common.{◌≡◌, ◌⊎◌, ◌<◌, ◌≤◌, ◌+◌, ◌^◌, ℕ, List, [], ◌∷◌, arith, false, inl, inr, subst, sym, true}
+use Rattle.std.proofs.Common.{◌≡◌, ◌⊎◌, ◌<◌, ◌≤◌, ◌+◌, ◌^◌, ℕ, [], ◌∷◌, arith, false, inl, inr, subst, true}
 use Rattle.run_law.specs.runs.DueRecords.{IsScenarioRun}
 use Rattle.drift_world.proofs.Sources.{of_world}
 use Rattle.drift_world.proofs.Nearings.{passing_nears}
 use Rattle.drift_world.proofs.Turning.{passes, whole_run}
-use Rattle.drift_world.specs.Sourcing.{HasNothingBefore}
 use Rattle.drift_world.proofs.state.State.pass_on.Goals as goal
 
 -- where no time may pass, the time is the last

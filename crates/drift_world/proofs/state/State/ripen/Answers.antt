@@ -1,11 +1,11 @@
-use Rattle.std.proofs.Common.{ap, subst, sym, ◌≡◌, ◌∙◌, pos, ℕ, slice_get, Some}
+use Rattle.std.proofs.Common.{ap, subst, ◌≡◌, ◌∙◌, pos, slice_get}
 use Rattle.drift_world.specs.declared.source.Source.TheVariants.{Ripening}
 use Rattle.drift_world.specs.declared.state.State.{State}
 use Rattle.drift_world.proofs.Turning.{comes_first, is_at, rekeyed_step, runs_on}
 use Rattle.drift_world.proofs.state.State.ripen.Goals as goal
 use Rattle.std.specs.Prelude.{◌≤ℤ◌}
 use Rattle.std.proofs.lemmas.Option.{slice_get_within}
-use Rattle.drift_world.specs.Stepping.{ChangesOnly, IsAt}
+use Rattle.drift_world.specs.Stepping.{IsAt}
 use Rattle.drift_world.specs.Views.{waiting_as}
 use Rattle.drift_world.specs.declared.contents.Waits.{Waits}
 use Rattle.world_law.proofs.giving.Given.{some_same}

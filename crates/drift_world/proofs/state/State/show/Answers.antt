@@ -1,9 +1,8 @@
-use Rattle.std.proofs.Common.{ap, subst, sym, ℕ}
+use Rattle.std.proofs.Common.{ap, subst, ℕ}
 use Rattle.drift_world.specs.declared.source.Source.TheVariants.{Clock}
 use Rattle.drift_world.specs.declared.state.State.{State}
 use Rattle.drift_world.proofs.Turning.{comes_first, plain_step}
 use Rattle.drift_world.proofs.state.State.show.Goals as goal
-use Rattle.net_plan.specs.declared.ids.DeviceId.{DeviceId}
 use Rattle.drift_world.specs.Keeping.{keeps}
 use Rattle.drift_world.specs.Views.{world_of}
 use Rattle.world_law.specs.world.Steps.{ComesFirst}

@@ -1,4 +1,4 @@
-use Rattle.std.proofs.Common.{◌≡◌, List, [], ◌++◌, ap, refl, subst, sym, arith}
+use Rattle.std.proofs.Common.{[], refl, subst, arith}
 use Rattle.drift_world.proofs.Nearings.{less_nears}
 use Rattle.drift_world.proofs.Turning.{none_given, none_settled, now_so, same_records}
 use Rattle.drift_world.specs.Keeping.{keeps}

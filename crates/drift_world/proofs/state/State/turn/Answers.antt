@@ -1,4 +1,4 @@
-use Rattle.std.proofs.Common.{◌≡◌, List, [], ◌++◌, ap, arith, refl, sym, ◌∙◌}
+use Rattle.std.proofs.Common.{[], arith, refl, sym, ◌∙◌}
 use Rattle.drift_world.proofs.Nearings.{nears_then}
 use Rattle.drift_world.proofs.Turning.{after_then, roomier, same_records, says_then}
 use Rattle.drift_world.specs.Keeping.{keeps}

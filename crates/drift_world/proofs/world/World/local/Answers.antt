@@ -1,16 +1,11 @@
-use Rattle.std.proofs.Common.{ℕ, ◌<◌, ◌≤◌, ◌∙◌, length, pos, sym, ap, subst, arith}
+use Rattle.std.proofs.Common.{◌<◌, ◌≤◌, ◌∙◌, length, sym, ap, subst, arith}
 use Rattle.std.proofs.lemmas.Int.{ints}
-use Rattle.net_plan.specs.declared.ids.DeviceId.{DeviceId}
-use Rattle.net_plan.specs.declared.network.Network.{Network}
 use Rattle.tte_units.specs.Amount.{amount}
 use Rattle.drift_world.proofs.Locals.{clock_stepped, local_is}
 use Rattle.drift_world.specs.Locals.{IsComplete}
-use Rattle.drift_world.specs.Running.{clock_of}
-use Rattle.drift_world.specs.Views.{world_of}
 use Rattle.drift_world.specs.declared.kept.Kept.{Kept}
 use Rattle.world_law.proofs.giving.Given.{some_same}
 use Rattle.world_law.specs.world.World.{World}
-use Rattle.drift_world.proofs.world.World.local.Given as given
 use Rattle.drift_world.proofs.world.World.local.Goals as goal
 
 pub local_of-requires-clause-stepped : goal.local_of-requires-clause-stepped

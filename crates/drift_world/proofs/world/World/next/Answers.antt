@@ -1,9 +1,9 @@
-use Rattle.std.proofs.Common.{◌++◌, ◌<◌, ◌≡◌, ◌<ℤ◌, [], ◌∷◌, Option, Result, sym, subst}
+use Rattle.std.proofs.Common.{◌++◌, ◌<◌, ◌≡◌, ◌<ℤ◌, Option, Result, sym, subst}
 use Rattle.std.specs.Prelude.{IfNone, IfOk, IfSome}
 use Rattle.run_law.specs.declared.note.Note.{Note}
 use Rattle.safe_runs.specs.Headline.{IsSafeFront}
 use Rattle.tte_units.specs.Amount.{amount, units_of}
-use Rattle.drift_world.specs.Running.{Reaches, StandsUnder, given_by, left_of, reading_of}
+use Rattle.drift_world.specs.Running.{Reaches, StandsUnder, given_by, left_of}
 use Rattle.drift_world.specs.declared.memory.OutOfMemory.{OutOfMemory}
 use Rattle.drift_world.proofs.world.World.next.Goals as goal
 
