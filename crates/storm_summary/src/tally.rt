@@ -47,7 +47,13 @@ impl Tally {
             NoteBody::Accepted { .. } => self.counts.accepted += 1,
             NoteBody::Delivered { .. } => self.counts.delivered += 1,
             NoteBody::Dropped { reason, .. } => count_drop(&mut self.counts.dropped, *reason),
-            _ => (),
+            NoteBody::Event { .. } => (),
+            NoteBody::Arrived { .. } => (),
+            NoteBody::Permanent { .. } => (),
+            NoteBody::Sent { .. } => (),
+            NoteBody::State { .. } => (),
+            NoteBody::Left { .. } => (),
+            NoteBody::Clock { .. } => (),
         }
     }
 

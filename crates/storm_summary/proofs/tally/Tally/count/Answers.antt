@@ -1,5 +1,5 @@
 use Rattle.std.proofs.Common.{refl, ◌∙◌}
-use Rattle.storm_summary.proofs.Counting.{IsOther, counted, counted_alone}
+use Rattle.storm_summary.proofs.Counting.{counted}
 use Rattle.storm_summary.proofs.tally.Tally.count.Goals as goal
 
 pub returns-in-Compressed : goal.returns-in-Compressed
@@ -23,16 +23,23 @@ returns-in-Delivered c notes so_far = counted c.self.inside.counts _ c.args.note
 pub returns-in-Dropped : goal.returns-in-Dropped
 returns-in-Dropped c notes so_far = counted c.self.inside.counts _ c.args.note.now (rw (c.in-Dropped.is, c.count_drop.ensures.more) refl) notes (c.self.view_is ∙ so_far)
 
-pub returns-in_default : goal.returns-in_default
-returns-in_default c notes so_far =
-    let d = c.in_default in
-    let other : IsOther c.args.note.now.body = record {
-      not_compressed = d.not-Compressed;
-      not_corrected = d.not-Corrected;
-      not_lost = d.not-Lost;
-      not_tt_sent = d.not-TtSent;
-      not_accepted = d.not-Accepted;
-      not_delivered = d.not-Delivered;
-      not_dropped = d.not-Dropped;
-    } in
-    counted c.self.inside.counts _ c.args.note.now (counted_alone c.args.note.now.body c.self.inside.counts other) notes (c.self.view_is ∙ so_far)
+pub returns-in-Event : goal.returns-in-Event
+returns-in-Event c notes so_far = counted c.self.inside.counts _ c.args.note.now (rw c.in-Event.is refl) notes (c.self.view_is ∙ so_far)
+
+pub returns-in-Arrived : goal.returns-in-Arrived
+returns-in-Arrived c notes so_far = counted c.self.inside.counts _ c.args.note.now (rw c.in-Arrived.is refl) notes (c.self.view_is ∙ so_far)
+
+pub returns-in-Permanent : goal.returns-in-Permanent
+returns-in-Permanent c notes so_far = counted c.self.inside.counts _ c.args.note.now (rw c.in-Permanent.is refl) notes (c.self.view_is ∙ so_far)
+
+pub returns-in-Sent : goal.returns-in-Sent
+returns-in-Sent c notes so_far = counted c.self.inside.counts _ c.args.note.now (rw c.in-Sent.is refl) notes (c.self.view_is ∙ so_far)
+
+pub returns-in-State : goal.returns-in-State
+returns-in-State c notes so_far = counted c.self.inside.counts _ c.args.note.now (rw c.in-State.is refl) notes (c.self.view_is ∙ so_far)
+
+pub returns-in-Left : goal.returns-in-Left
+returns-in-Left c notes so_far = counted c.self.inside.counts _ c.args.note.now (rw c.in-Left.is refl) notes (c.self.view_is ∙ so_far)
+
+pub returns-in-Clock : goal.returns-in-Clock
+returns-in-Clock c notes so_far = counted c.self.inside.counts _ c.args.note.now (rw c.in-Clock.is refl) notes (c.self.view_is ∙ so_far)
