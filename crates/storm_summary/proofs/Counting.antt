@@ -3,18 +3,10 @@ use Rattle.std.proofs.Common.{◌≡◌, ℕ, ◌+◌, Bool, true, false, List, 
 use Rattle.std.specs.Prelude.{codes, if◌then◌else◌}
 use Rattle.std.proofs.lemmas.List.Elements.{filter-append}
 use Rattle.run_law.specs.declared.note.Note.{Note}
-use Rattle.net_plan.specs.declared.ids.DeviceId.{DeviceId}
-use Rattle.net_plan.specs.declared.ids.LinkId.{LinkId}
-use Rattle.net_plan.specs.declared.ids.VlId.{VlId}
-use Rattle.pcf_values.specs.declared.members.Members.{Members}
-use Rattle.run_law.specs.declared.judgement.Judgement.{Judgement}
-use Rattle.run_law.specs.declared.judgement.Reason.{Reason}
-use Rattle.run_law.specs.declared.note.NoteBody.TheVariants as notes
 use Rattle.run_law.specs.declared.note.NoteBody.{NoteBody}
 use Rattle.storm_summary.specs.Counting.{count_where, counts_of, drops_for, drops_of, is_drop_for, is_of_kind, raised, records_of}
 use Rattle.storm_summary.specs.declared.counts.Counts.{Counts}
 use Rattle.storm_summary.specs.declared.counts.Drops.{Drops}
-use Rattle.tte_units.specs.declared.units.Units.{Units}
 
 raised_by : (b : Bool) (n : ℕ) (note : Note) → n + length (if b then note ∷ [] else []) ≡ raised b n
 raised_by true n note = refl
