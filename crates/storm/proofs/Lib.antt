@@ -6,3 +6,4 @@ pub mod SameOctets
 pub mod Storms
 pub mod OneStorm
 pub mod Ends
+pub mod Naming

@@ -1,5 +1,5 @@
 ghost use Rattle.std.specs.Prelude.{◌≡◌, ◌≤◌};
-ghost use Rattle.tte_run.specs.Answering.{AnswersOne};
+ghost use Rattle.tte_run.specs.Answering.{AnswersOne, GivesOne};
 ghost use Rattle.tte_run.specs.Faults.{HasCause, PutFailed, ReadFailed};
 ghost use Rattle.tte_run.specs.Putting.{Over};
 ghost use Rattle.tte_run.specs.networks.Accepting.{IsNetworkAnswer};
@@ -8,6 +8,9 @@ ghost use Rattle.tte_run.specs.storms.Answer.{IsStormAnswer};
 ghost use Rattle.tte_run.specs.storms.Safely.{SummarisesSafely};
 
 use crate::Status;
+use crate::accepting::{accept, put_no_network};
+use schedule_checker::refusal_is_one;
+use schedule_tables::Accepted;
 use std::alloc::Global;
 use tte_io::{Sink, Source};
 
@@ -29,6 +32,26 @@ pub fn storm_run<A: Source, K: Sink>(
     // Where the source failed, nothing was written.
     ensures faults { HasCause result (ReadFailed A.Source source.old source.new × (out.new ≡ out.old))
         (PutFailed K.Sink out.old out.new) }
+{
+    refusal_is_one();
+    match accept(alloc, source) {
+        Ok(accepted) => storm_network(alloc, &accepted, seed, cycles, out),
+        Err(cause) => put_no_network(cause, out),
+    }
+}
+
+fn storm_network<K: Sink>(
+    _alloc: Global,
+    accepted: &Accepted,
+    seed: u64,
+    cycles: u32,
+    out: &mut K,
+) -> Status
+    requires least { 1 ≤ cycles }
+    requires most { cycles ≤ 100000 }
+    ensures gives { Over K.Sink out.old out.new (GivesOne (IsStormAnswer seed cycles accepted.now) result) }
+    ensures statuses { IsCheckStatus result }
+    ensures cause { HasCause result ⊥ (PutFailed K.Sink out.old out.new) }
 {
     Status::OutOfMemory
 }

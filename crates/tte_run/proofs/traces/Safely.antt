@@ -36,7 +36,7 @@ use Rattle.tte_run.specs.traces.Safely.{PutsRunBefore, PutsSafely, PutsWholeRun,
 
 -- ---- what the laws on runs ask
 
-all_parts : {X : Type 0} (P : X → Type 0) (xs : List X) → ((before behind : List X) (x : X) → xs ≡ before ++ x ∷ behind → P x) → All P xs
+pub all_parts : {X : Type 0} (P : X → Type 0) (xs : List X) → ((before behind : List X) (x : X) → xs ≡ before ++ x ∷ behind → P x) → All P xs
 all_parts P [] h = All-nil P
 all_parts P (x ∷ xs) h = All-cons P x xs (h [] xs x refl) (all_parts P xs (λ before behind y e. h (x ∷ before) behind y (ap (λ t. x ∷ t) e)))
 
@@ -55,7 +55,7 @@ admitted_under octets trace network events range accepted all = record {
   within = λ before behind e order. (all before behind e order).within;
 }
 
-exact_steps : IsLawful fresh_segment stepped_segment segment_reading (λ c. c.grain) segment_count
+pub exact_steps : IsLawful fresh_segment stepped_segment segment_reading (λ c. c.grain) segment_count
 exact_steps = record {
   has_grain = λ g. refl;
   keeps_grain = λ c t r. refl;
@@ -65,10 +65,10 @@ exact_steps = record {
   drifts = advances;
 }
 
-exact_laws : AlwaysKeepsClockLaws fresh_segment stepped_segment segment_reading
+pub exact_laws : AlwaysKeepsClockLaws fresh_segment stepped_segment segment_reading
 exact_laws = keeps_clock_laws fresh_segment stepped_segment segment_reading (λ c. c.grain) segment_count exact_steps
 
-exact_begins : AlwaysBeginsAtZero fresh_segment stepped_segment segment_reading
+pub exact_begins : AlwaysBeginsAtZero fresh_segment stepped_segment segment_reading
 exact_begins = begins_at_zero fresh_segment stepped_segment segment_reading (λ c. c.grain) segment_count exact_steps
 
 -- ---- what an answer's lines are
