@@ -3,3 +3,4 @@ pub mod Ends
 pub mod OneAnswer
 pub mod Sources
 pub mod Safely
+pub mod Lines

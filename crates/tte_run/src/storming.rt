@@ -7,6 +7,8 @@ ghost use Rattle.tte_run.specs.networks.Checking.{IsCheckStatus};
 ghost use Rattle.tte_run.specs.storms.Answer.{IsStormAnswer};
 ghost use Rattle.tte_run.specs.storms.Safely.{SummarisesSafely};
 
+mod summing;
+
 use crate::Status;
 use crate::accepting::{accept, put_no_network};
 use schedule_checker::refusal_is_one;
