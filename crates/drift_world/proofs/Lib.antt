@@ -30,6 +30,7 @@ pub mod Histories
 pub mod Holdings
 pub mod Launches
 pub mod LeastPoints
+pub mod Locals
 pub mod Made
 pub mod Mapped
 pub mod Leading

@@ -8,6 +8,7 @@ pub mod Giving
 pub mod Hearing
 pub mod Keeping
 pub mod Leaving
+pub mod Locals
 pub mod Naming
 pub mod Nearing
 pub mod Places

@@ -12,6 +12,7 @@ mod giving;
 mod hear;
 mod kept;
 mod leaving;
+mod local;
 mod memory;
 mod naming;
 mod next;

@@ -1,16 +1,19 @@
-ghost use Rattle.std.specs.Prelude.{true, ◌≡◌, ◌+◌, ◌<◌, ◌^◌, pos, ◌≤ℤ◌, ◌<ℤ◌, List, [], ◌∷◌, ◌++◌, IfOk, IfSome, IfNone, OnErr};
+ghost use Rattle.std.specs.Prelude.{true, ◌≡◌, ◌+◌, ◌<◌, ◌^◌, pos, ◌≤ℤ◌, ◌<ℤ◌, List, [], ◌∷◌, ◌++◌, IfOk, IfSome, IfNone, OnErr, length};
 ghost use Rattle.net_plan.specs.declared.event.Event.{Event as EventValue};
 ghost use Rattle.net_plan.specs.declared.network.Network.{Network};
 ghost use Rattle.run_law.specs.declared.note.Note.{Note as NoteValue};
+ghost use Rattle.run_law.specs.records.Happenings.{happenings};
 ghost use Rattle.run_law.specs.runs.DueRecords.{IsRunOf};
 ghost use Rattle.run_law.specs.scenario.Hypothesis.{IsWithinHypothesis};
 ghost use Rattle.tte_units.specs.Amount.{amount, units_of};
+ghost use Rattle.world_law.specs.source.Agreeing.{scenario};
 
 use crate::OutOfMemory;
 use crate::begin::fresh_state;
+use crate::local::local_of;
 use crate::state::State;
 use drift_clock::Clock;
-use net_plan::Event;
+use net_plan::{DeviceId, Event};
 use run_law::{Machine, Note};
 use schedule_tables::Accepted;
 use std::alloc::Global;
@@ -40,6 +43,7 @@ impl<'a, C: Clock, M: Machine + Drop> Model for World<'a, C, M> {
 
 impl<'a, C: Clock, M: Machine + Drop> World<'a, C, M> {
     ghost use Rattle.drift_world.specs.Beginning.{AreFresh};
+    ghost use Rattle.drift_world.specs.Locals.{IsComplete, IsLocalClock, IsWide, MayShow};
     ghost use Rattle.drift_world.specs.Running.{HoldsATime, IsOpenTo, MayBefall, Reaches, StandsUnder, behind_events, event_note, given_by, left_of, reading_of};
 
     /// The world of a network at time 0: nothing has befallen it, and its machines have just begun.
@@ -115,5 +119,23 @@ impl<'a, C: Clock, M: Machine + Drop> World<'a, C, M> {
             return Ok(None);
         }
         self.state.next(self.accepted.network(), until.amount())
+    }
+    /// A device's local clock at a time: its reading and its adjustment by all records up to the time, in units of
+    /// 2^-16 ns. It is None exactly where the device is broken, or not synchronised by these records.
+    ///
+    /// The time is from 0 to 2^60. No event so far is later, and the records given are all of the run up to the time:
+    /// the world has come behind it, or is at the end, with the clocks shown.
+    pub fn local(&self, device: DeviceId, t: Units) -> Option<i128>
+        requires there { device.0 < length self.now.network.device }
+        requires begun { pos 0 ≤ℤ t.0 }
+        requires limit { t.0 ≤ℤ pos (2 ^ 60) }
+        requires complete { MayShow C.fresh C.after_step C.reading M.stands self.now (amount t) }
+        ensures local { (network : Network) (events : List EventValue) (notes : List NoteValue)
+            → IsComplete C.fresh C.after_step C.reading M.stands network self.now (amount t) events notes
+            → IsLocalClock (scenario network (reading_of C.fresh C.after_step C.reading network events) events)
+            (happenings network notes) device (amount t) result }
+        ensures range { IfSome result IsWide }
+    {
+        local_of(&self.state, self.accepted.network(), device, t)
     }
 }

@@ -6,4 +6,3 @@ pub mod SameOctets
 pub mod Storms
 pub mod OneStorm
 pub mod Ends
-pub mod Naming

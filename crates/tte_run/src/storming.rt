@@ -1,12 +1,16 @@
-ghost use Rattle.std.specs.Prelude.{◌≡◌, ◌≤◌};
-ghost use Rattle.tte_run.specs.Answering.{AnswersOne, GivesOne};
-ghost use Rattle.tte_run.specs.Faults.{HasCause, PutFailed, ReadFailed};
+ghost use Rattle.std.specs.Prelude.{◌≡◌, ◌⊎◌, ◌≤◌};
+ghost use Rattle.tte_run.specs.Answering.{AnswersOne};
+ghost use Rattle.tte_run.specs.Faults.{HasCause, IsWanted, PutFailed, ReadFailed};
 ghost use Rattle.tte_run.specs.Putting.{Over};
 ghost use Rattle.tte_run.specs.networks.Accepting.{IsNetworkAnswer};
 ghost use Rattle.tte_run.specs.networks.Checking.{IsCheckStatus};
 ghost use Rattle.tte_run.specs.storms.Answer.{IsStormAnswer};
 ghost use Rattle.tte_run.specs.storms.Safely.{SummarisesSafely};
+ghost use Rattle.tte_run.specs.storms.Steps.{EndsStorm};
 
+mod counting;
+mod spreads;
+mod steps;
 mod summing;
 
 use crate::Status;
@@ -14,6 +18,7 @@ use crate::accepting::{accept, put_no_network};
 use schedule_checker::refusal_is_one;
 use schedule_tables::Accepted;
 use std::alloc::Global;
+use summing::{put_summary, summary_of};
 use tte_io::{Sink, Source};
 
 /// Runs the network of a file under the storm of the seed over 1 to 100,000 cycles, and puts the summary of the run. It
@@ -37,13 +42,13 @@ pub fn storm_run<A: Source, K: Sink>(
 {
     refusal_is_one();
     match accept(alloc, source) {
-        Ok(accepted) => storm_network(alloc, &accepted, seed, cycles, out),
+        Ok(accepted) => run_storm(alloc, &accepted, seed, cycles, out),
         Err(cause) => put_no_network(cause, out),
     }
 }
 
-fn storm_network<K: Sink>(
-    _alloc: Global,
+fn run_storm<K: Sink>(
+    alloc: Global,
     accepted: &Accepted,
     seed: u64,
     cycles: u32,
@@ -51,9 +56,11 @@ fn storm_network<K: Sink>(
 ) -> Status
     requires least { 1 ≤ cycles }
     requires most { cycles ≤ 100000 }
-    ensures gives { Over K.Sink out.old out.new (GivesOne (IsStormAnswer seed cycles accepted.now) result) }
-    ensures statuses { IsCheckStatus result }
-    ensures cause { HasCause result ⊥ (PutFailed K.Sink out.old out.new) }
+    ensures ends { Over K.Sink out.old out.new (EndsStorm accepted.now seed cycles result) }
+    ensures status { (result ≡ Status.OutOfMemory) ⊎ IsWanted Status.Done result (PutFailed K.Sink out.old out.new) }
 {
-    Status::OutOfMemory
+    match summary_of(alloc, accepted, seed, cycles) {
+        Ok(summary) => put_summary(&summary, out),
+        Err(_) => Status::OutOfMemory,
+    }
 }

@@ -4,6 +4,6 @@ pub(crate) mod fault;
 mod fault_line;
 pub(crate) mod lines;
 mod reading;
-mod records;
+pub(crate) mod records;
 mod refusing;
 pub(crate) mod steps;

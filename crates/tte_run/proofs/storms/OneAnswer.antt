@@ -1,5 +1,5 @@
 -- An accepted network has one answer under a storm.
-use Rattle.std.proofs.Common.{◌≡◌, ℕ, ◌+◌, ◌≤◌, List, [], ◌∷◌, inr, refl, sym, ap, subst, ◌∙◌}
+use Rattle.std.proofs.Common.{◌≡◌, ℕ, ◌+◌, ◌≤◌, List, [], ◌∷◌, sym, ap, subst, ◌∙◌}
 use Rattle.net_plan.specs.declared.event.Event.{Event}
 use Rattle.net_plan.specs.declared.network.Network.{Network}
 use Rattle.run_law.proofs.runs.NetworkRuns.{run_is_one}
@@ -12,15 +12,11 @@ use Rattle.storm.specs.Events.{IsStorm}
 use Rattle.storm_summary.proofs.Spreads.{spread_is_one}
 use Rattle.storm_summary.specs.Counting.{counts_of}
 use Rattle.storm_summary.specs.Lines.{summary_lines}
-use Rattle.tte_run.specs.Answering.{Answer, Gives, GivesOne}
-use Rattle.tte_run.specs.Putting.{Shown}
-use Rattle.tte_run.specs.declared.status.Status.{Status}
-use Rattle.tte_run.specs.declared.status.Status.TheVariants.{Done, OutOfMemory}
+use Rattle.tte_run.specs.Answering.{Answer}
+use Rattle.tte_run.specs.declared.status.Status.TheVariants.{Done}
 use Rattle.tte_run.specs.networks.Accepting.{IsNetworkAnswer}
 use Rattle.tte_run.specs.storms.Answer.{IsStormAnswer, IsWidest, exact_scenario}
 use Rattle.tte_run.specs.traces.Answer.{AreAllRecords, AreRecordsBefore, clock_reading}
-use Rattle.tte_run.proofs.OneAnswers.{none_put, one_given}
-use Rattle.tte_run.proofs.Puts.{PutsLines-none}
 use Rattle.tte_run.proofs.networks.Answers.{network_answer_one}
 use Rattle.tte_run.proofs.storms.Ends.{storm_ends}
 use Rattle.tte_units.specs.Amount.{amount}
@@ -56,15 +52,3 @@ pub storm_one : RefusalIsOne → (seed cycles : ℕ) → cycles ≤ 100000 → (
     → IsNetworkAnswer (IsStormAnswer seed cycles) octets b → a ≡ b
 storm_one one seed cycles few octets a b p q =
     network_answer_one one (IsStormAnswer seed cycles) octets (λ network accepted. storm_answer_one seed cycles network few accepted.rules) a b p q
-
--- ---- what was answered for an accepted network
-
--- its answer was given
-pub storm_given : (seed cycles : ℕ) (network : Network) (a : Answer) (status : Status) (old new : Shown) → cycles ≤ 100000 → KeepsRules network
-    → IsStormAnswer seed cycles network a → Gives a status old new → GivesOne (IsStormAnswer seed cycles network) status old new
-storm_given seed cycles network a status old new few rules is g =
-    one_given (IsStormAnswer seed cycles network) a status old new is (λ b h. storm_answer_one seed cycles network few rules b a h is) g
-
--- memory ran out before any line was put
-pub storm_no_memory : (seed cycles : ℕ) (network : Network) (s : Shown) → GivesOne (IsStormAnswer seed cycles network) OutOfMemory s s
-storm_no_memory seed cycles network s = inr (inr (inr refl, λ a is. none_put a.lines s s (PutsLines-none s)))

@@ -36,7 +36,7 @@ use Rattle.tte_run.specs.traces.Safely.{PutsRunBefore, PutsSafely, PutsWholeRun,
 
 -- ---- what the laws on runs ask
 
-pub all_parts : {X : Type 0} (P : X → Type 0) (xs : List X) → ((before behind : List X) (x : X) → xs ≡ before ++ x ∷ behind → P x) → All P xs
+all_parts : {X : Type 0} (P : X → Type 0) (xs : List X) → ((before behind : List X) (x : X) → xs ≡ before ++ x ∷ behind → P x) → All P xs
 all_parts P [] h = All-nil P
 all_parts P (x ∷ xs) h = All-cons P x xs (h [] xs x refl) (all_parts P xs (λ before behind y e. h (x ∷ before) behind y (ap (λ t. x ∷ t) e)))
 

@@ -1,0 +1,186 @@
+-- The local clock of a device, as a world shows it, is that of the records.
+use Rattle.std.proofs.Common.{◌≡◌, ◌⊎◌, ℕ, suc, ◌+◌, ◌≤◌, ◌<◌, ℤ, pos, ◌+ℤ◌, Bool, true, false, List, [], ◌∷◌, ◌++◌, Option, Some, None, length, map, inl, inr, refl, sym, ap, subst, ◌∙◌, arith}
+use Rattle.std.specs.Prelude.{if◌then◌else◌, nat_le, filter}
+use Rattle.std.proofs.lemmas.Bool.{le-leb}
+use Rattle.std.proofs.lemmas.List.{append-nil}
+use Rattle.drift_clock.specs.RateSteps.{RateStep}
+use Rattle.drift_clock.specs.Readings.{value_after}
+use Rattle.net_plan.specs.declared.event.Event.{Event}
+use Rattle.net_plan.specs.declared.ids.DeviceId.{DeviceId}
+use Rattle.net_plan.specs.declared.network.Network.{Network}
+use Rattle.run_law.proofs.law.FirstPlaces.{numbered_in}
+use Rattle.run_law.proofs.runs.Places.{chain, either_way, never_self}
+use Rattle.run_law.specs.declared.note.Note.{Note}
+use Rattle.run_law.specs.device.LocalClocks.{local}
+use Rattle.run_law.specs.device.States.{adjustment_after, state_after}
+use Rattle.run_law.specs.law.Safety.{IsInStep}
+use Rattle.run_law.specs.machines.Nodes.{Node}
+use Rattle.run_law.specs.records.Happenings.{Happening, happenings, numbered, time_of, up_to}
+use Rattle.run_law.specs.records.Order.{IsBefore, IsIn}
+use Rattle.run_law.specs.records.Ranks.{place_of}
+use Rattle.run_law.specs.runs.DueRecords.{IsDue, IsScenarioRun}
+use Rattle.run_law.specs.scenario.Hypothesis.{breaks_at}
+use Rattle.run_law.specs.scenario.Scenarios.{Scenario, events_up_to, is_broken}
+use Rattle.run_law.specs.scenario.Rates.{rate_steps}
+use Rattle.std.specs.List.{All, list_any}
+use Rattle.sync_state.specs.declared.state.State.TheVariants as states
+use Rattle.sync_state.specs.declared.state.State.{State as DeviceState}
+use Rattle.tte_units.specs.Amount.{amount}
+use Rattle.tte_units.specs.declared.units.Units.{Units}
+use Rattle.drift_world.proofs.Agreements.{all_come, reads_value}
+use Rattle.drift_world.specs.Keeping.{keeps}
+use Rattle.drift_world.specs.Locals.{HasCome, IsComplete, IsLocalClock, Shows, local_shown}
+use Rattle.drift_world.specs.Running.{clock_of, reading_of}
+use Rattle.drift_world.specs.Views.{world_of}
+use Rattle.drift_world.specs.declared.kept.Kept.{Kept}
+use Rattle.drift_world.specs.declared.state.State.{State}
+use Rattle.world_law.proofs.devices.Resting.{IsWorked}
+use Rattle.world_law.proofs.devices.Shown.{ShowsAll, all_past, held_shows}
+use Rattle.world_law.proofs.devices.TurnedOn.{all_up_to}
+use Rattle.world_law.proofs.giving.Given.{some_same}
+use Rattle.world_law.specs.source.Agreeing.{scenario}
+use Rattle.world_law.specs.world.World.{Stands, World}
+
+-- ---- what has been up to a time
+
+-- all events have befallen up to then
+all_befallen : (t : ℕ) (events : List Event) → ((e : Event) → IsIn e events → amount e.time ≤ t)
+    → filter (λ (e : Event). nat_le (amount e.time) t) events ≡ events
+all_befallen t [] past = refl
+all_befallen t (e ∷ events) past =
+    let rest = filter (λ (d : Event). nat_le (amount d.time) t) events in
+    ap (λ (b : Bool). if b then e ∷ rest else rest) (le-leb (amount e.time) t (past e (inl refl)))
+    ∙ ap (λ (l : List Event). e ∷ l) (all_befallen t events (λ d i. past d (inr i)))
+
+-- so no device breaks between then and a later time
+still_broken : (s : Scenario) (device : DeviceId) (t now : ℕ) → t ≤ now → ((e : Event) → IsIn e s.events → amount e.time ≤ t)
+    → is_broken s device now ≡ is_broken s device t
+still_broken s device t now le past =
+    ap (list_any (λ (e : Event). breaks_at device.0 e.what))
+    (all_befallen now s.events (λ e i. (let at = past e i in omega (arith, at, le))) ∙ sym (all_befallen t s.events past))
+
+-- the records of a run up to a time are no later
+no_later : (s : Scenario) (t : ℕ) (notes : List Note) → IsScenarioRun s ((t + 1) ∷ []) notes → (h : Happening)
+    → IsIn h (happenings s.network notes) → time_of h ≤ t
+no_later s t notes run h i = elim (run.within h i) [ inl lt ↦ omega (arith, lt) | inr bad ↦ absurd bad.1 ]
+
+-- ---- nothing is to come
+
+no_first : {M : Type 0} (coming : List M) → ((z : M) (rest : List M) → coming ≡ z ∷ rest → ⊥) → coming ≡ []
+no_first [] none = refl
+no_first (z ∷ rest) none = absurd (none z rest refl)
+
+module _ {C M : Type 0} (reading : C → ℕ → ℕ) (stands : M → Network → DeviceId → Node → Type 0) (s : Scenario) (world : World C M) (notes : List Note)
+    (old : Stands reading stands s world notes) (t : ℕ) (run : IsScenarioRun s ((t + 1) ∷ []) notes) where
+  -- where the world has come behind the time, only events of its instant are worked off
+  none_early : world.early ≡ true → old.coming ≡ []
+  none_early early = no_first old.coming (λ z rest same.
+      let begun = old.are.begun z (subst (λ (l : List Happening). IsIn z l) (sym same) (inl refl)) in
+      never_self (world.now ∷ 2 ∷ []) (old.early early (world.now ∷ 2 ∷ []) begun))
+
+  -- where it is at the time still, what is to come would be a record of the run
+  none_now : world.now ≡ t → old.coming ≡ []
+  none_now at = no_first old.coming (λ z rest same.
+      let hs = happenings s.network notes in
+      let there : IsIn z old.coming = subst (λ (l : List Happening). IsIn z l) (sym same) (inl refl) in
+      let due = subst (λ (l : List Happening). IsDue s l z) (append-nil hs) (old.are.founded [] rest z same).1 in
+      let behind = old.are.behind_mark z there in
+      let of_now = old.are.of_now z there in
+      let before : (h : Happening) → IsIn h hs → IsBefore (place_of h) (place_of z) = λ h i.
+      (let marked = old.run.within h i in elim (either_way (place_of h) (place_of z)) [
+        | inl lt ↦ lt
+        | inr (inl e) ↦ absurd (behind (subst (λ (p : List ℕ). IsBefore p old.mark) e marked))
+        | inr (inr gt) ↦ absurd (behind (chain (place_of z) (place_of h) old.mark gt marked))
+      ]) in
+      let other = run.full hs [] z (sym (append-nil hs)) before (λ h none. absurd none) due (inl (omega (arith, of_now, at))) in
+      behind (subst (λ (p : List ℕ). IsBefore p old.mark) other.2 (old.run.within other.0 other.1)))
+
+  none_left : HasCome world (happenings s.network notes) t → old.coming ≡ []
+  none_left (inl past) = none_early past.1
+  none_left (inr here) = none_now here.0
+
+  -- what follows events of the instant is settled
+  worked : HasCome world (happenings s.network notes) t → IsWorked (happenings s.network notes) old.cursor world.now
+  worked (inl past) number h is =
+      let le = no_later s t notes run h (numbered_in (happenings s.network notes) number h is.there) in
+      let at = is.same_time in
+      let lt = past.0 in
+      absurd (omega (arith, le, at, lt))
+  worked (inr here) number h is =
+      let by = here.1 in
+      subst (λ (n : ℕ). IsBefore (n ∷ 2 ∷ []) old.cursor) (sym here.0)
+      (chain (t ∷ 2 ∷ []) (place_of by.0) old.cursor by.2 (old.ahead (place_of by.0) (old.run.within by.0 by.1)))
+
+  come : HasCome world (happenings s.network notes) t → t ≤ world.now
+  come (inl past) = let lt = past.0 in omega (arith, lt)
+  come (inr here) = let at = here.0 in omega (arith, at)
+
+-- ---- the clock
+
+-- a clock's last step is none later than the steps were
+stepped_up : {C : Type 0} (after_step : C → ℕ → ℤ → C) (last_step : C → ℕ) → ((c : C) (t : ℕ) (r : ℤ) → last_step (after_step c t r) ≤ t)
+    → (t : ℕ) (clock : C) (steps : List RateStep) → last_step clock ≤ t → All (λ x. x.at ≤ t) steps → last_step (value_after after_step clock steps) ≤ t
+stepped_up after_step last_step by t clock [] first all = first
+stepped_up after_step last_step by t clock (x ∷ steps) first all =
+    let here = all 0 x (omega arith) in
+    let last = by clock x.at x.rate in
+    stepped_up after_step last_step by t (after_step clock x.at x.rate) steps (omega (arith, here, last)) (λ k d lt. all (suc k) d (omega (arith, lt)))
+
+pub clock_stepped : {C : Type 0} (fresh : ℕ → C) (after_step : C → ℕ → ℤ → C) (last_step : C → ℕ) → ((g : ℕ) → last_step (fresh g) ≡ 0)
+    → ((c : C) (t : ℕ) (r : ℤ) → last_step (after_step c t r) ≤ t) → (network : Network) (events : List Event) (device : DeviceId) (t : ℕ)
+    → ((e : Event) → IsIn e events → amount e.time ≤ t) → last_step (clock_of fresh after_step network events device) ≤ t
+clock_stepped fresh after_step last_step begins by network events device t past =
+    let first = begins (amount network.grain) in
+    stepped_up after_step last_step by t (fresh (amount network.grain)) (rate_steps events device) (omega (arith, first)) (all_come events device t past)
+
+-- ---- what is shown
+
+shown_is : (s : Scenario) (hs : List Happening) (device : DeviceId) (t : ℕ) (broken : Bool) (state : DeviceState) (x : ℕ) (a : Units)
+    → is_broken s device t ≡ broken → state_after s (up_to t hs) device ≡ state → x ≡ s.reading device t → a ≡ adjustment_after s (up_to t hs) device
+    → IsLocalClock s hs device t (local_shown broken state x a)
+shown_is s hs device t true state x a broken in_state reads adjusts = λ step. no_bool (sym broken ∙ step.correct)
+  where
+    no_bool : true ≡ false → ⊥
+    no_bool e = cc
+shown_is s hs device t false states.Synchronised x a broken in_state reads adjusts = (
+  record { correct = broken; synchronised = in_state },
+  ap (λ (n : ℕ). pos n +ℤ a.0) reads ∙ ap (λ (u : Units). pos (s.reading device t) +ℤ u.0) adjusts,
+)
+shown_is s hs device t false states.Off x a broken in_state reads adjusts = λ step. (let no : ◌≡◌ {A = DeviceState} states.Off states.Synchronised = sym in_state ∙ step.synchronised in cc)
+shown_is s hs device t false states.Integrating x a broken in_state reads adjusts = λ step. (let no : ◌≡◌ {A = DeviceState} states.Integrating states.Synchronised = sym in_state ∙ step.synchronised in cc)
+shown_is s hs device t false states.Joining x a broken in_state reads adjusts = λ step. (let no : ◌≡◌ {A = DeviceState} states.Joining states.Synchronised = sym in_state ∙ step.synchronised in cc)
+
+pub local_is : {C M : Type 0} (fresh : ℕ → C) (after_step : C → ℕ → ℤ → C) (reading : C → ℕ → ℕ) (stands : M → Network → DeviceId → Node → Type 0)
+    (own network : Network) (state : State C M) (t : ℕ) (events : List Event) (notes : List Note) (device : DeviceId) (shown : Option ℤ)
+    → device.0 < length own.device → IsComplete fresh after_step reading stands network (world_of own state) t events notes
+    → Shows reading stands state device t shown
+    → IsLocalClock (scenario network (reading_of fresh after_step reading network events) events) (happenings network notes) device t shown
+local_is fresh after_step reading stands own network state t events notes device shown lt complete shows =
+    let s = scenario network (reading_of fresh after_step reading network events) events in
+    let world = world_of own state in
+    let hs = happenings network notes in
+    let old = complete.is.is in
+    let now = world.now in
+    let there : device.0 < length network.device = subst (λ (n : Network). device.0 < length n.device) old.same lt in
+    let le = come reading (keeps stands) s world notes old t complete.all complete.come in
+    let held = old.devices device there in
+    let empty = none_left reading (keeps stands) s world notes old t complete.all complete.come in
+    let at = held_shows (keeps stands) s hs old.coming old.mark old.cursor now device held.0 held.2
+    (worked reading (keeps stands) s world notes old t complete.all complete.come)
+    (all_past reading (keeps stands) s world notes old) old.befallen in
+    let all : hs ++ old.coming ≡ hs = ap (λ (l : List Happening). hs ++ l) empty ∙ append-nil hs in
+    let past = no_later s t notes complete.all in
+    let same : up_to now (hs ++ old.coming) ≡ up_to t hs =
+    ap (up_to now) all ∙ all_up_to now hs (λ h i. (let was = past h i in omega (arith, was, le))) ∙ sym (all_up_to t hs past) in
+    let node = at.0 in
+    let machine : held.0 ≡ shows.kept = some_same held.0 shows.kept _ held.1 shows.kept_is in
+    let is = shows.is network node (subst (λ (k : Kept _). keeps stands k network device node) machine at.1) in
+    let broken : is_broken s device t ≡ shows.broken =
+    sym (still_broken s device t now le complete.past) ∙ some_same _ _ _ (old.broken device there) shows.broken_is in
+    let clock : shows.clock ≡ clock_of fresh after_step network events device = some_same _ _ _ shows.clock_is (complete.is.clocks device there) in
+    let reads : reading shows.clock t ≡ s.reading device t =
+    ap (λ c. reading c t) clock ∙ sym (reads_value fresh after_step reading network events device t complete.past) in
+    subst (IsLocalClock s hs device t) (sym is)
+    (shown_is s hs device t shows.broken node.standing.state (reading shows.clock t) node.standing.adjustment broken
+    (sym (at.2.state ∙ ap (λ (l : List Happening). state_after s l device) same)) reads
+    (at.2.adjustment ∙ ap (λ (l : List Happening). adjustment_after s l device) same))

@@ -1,0 +1,41 @@
+use Rattle.std.proofs.Common.{ℕ, ◌<◌, ◌≤◌, ◌∙◌, length, pos, sym, ap, subst, arith}
+use Rattle.std.proofs.lemmas.Int.{ints}
+use Rattle.net_plan.specs.declared.ids.DeviceId.{DeviceId}
+use Rattle.net_plan.specs.declared.network.Network.{Network}
+use Rattle.tte_units.specs.Amount.{amount}
+use Rattle.drift_world.proofs.Locals.{clock_stepped, local_is}
+use Rattle.drift_world.specs.Locals.{IsComplete}
+use Rattle.drift_world.specs.Running.{clock_of}
+use Rattle.drift_world.specs.Views.{world_of}
+use Rattle.drift_world.specs.declared.kept.Kept.{Kept}
+use Rattle.world_law.proofs.giving.Given.{some_same}
+use Rattle.world_law.specs.world.World.{World}
+use Rattle.drift_world.proofs.world.World.local.Given as given
+use Rattle.drift_world.proofs.world.World.local.Goals as goal
+
+pub local_of-requires-clause-stepped : goal.local_of-requires-clause-stepped
+local_of-requires-clause-stepped g c = λ clock found.
+    let K = g.C.Clock in
+    let world = c.args.self.now in
+    let network = world.network in
+    let may = c.requires.complete in
+    let device = c.args.device in
+    let was = may.is.is.clocks device c.requires.there in
+    let viewed = ap (λ (w : World _ (Kept _)). Rattle.std.specs.List.slice_get w.clocks device.0) c.self.view_is in
+    let same = some_same _ _ _ found (viewed ∙ was) in
+    let least = clock_stepped K.fresh K.after_step K.last_step g.met.C.Clock.begins_unstepped g.met.C.Clock.steps_by network may.events device (amount c.args.t)
+    may.is.past in
+    let le : K.last_step clock ≤ amount c.args.t = subst (λ k. K.last_step k ≤ amount c.args.t) (sym same) least in
+    let begun = c.requires.begun in
+    omega (arith, ints, le, begun)
+
+pub returns-clause-local : goal.returns-clause-local
+returns-clause-local g c = λ network events notes complete.
+    let K = g.C.Clock in
+    let world = c.args.self.now in
+    let own = c.self.inside.accepted.now in
+    local_is K.fresh K.after_step K.reading g.M.Machine.stands own network c.self.inside.state (amount c.args.t) events notes c.args.device c.local_of.result
+    (subst (λ (w : World _ (Kept _)). c.args.device.0 < length w.network.device) (sym c.self.view_is) c.requires.there)
+    (subst (λ (w : World _ (Kept _)). IsComplete K.fresh K.after_step K.reading g.M.Machine.stands network w (amount c.args.t) events notes) (sym c.self.view_is)
+    complete)
+    c.local_of.ensures.shows

@@ -1,0 +1,74 @@
+-- The local clock of a device, as a world shows it.
+use Rattle.std.specs.Prelude.{◌≡◌, ◌⊎◌, ℕ, ◌+◌, ◌^◌, ◌≤◌, ◌<◌, ℤ, pos, neg_ℤ, ◌+ℤ◌, ◌≤ℤ◌, Bool, true, false, List, [], ◌∷◌, slice_get, Option, Some, None, MatchOption}
+use Rattle.net_plan.specs.declared.event.Event.{Event}
+use Rattle.net_plan.specs.declared.ids.DeviceId.{DeviceId}
+use Rattle.net_plan.specs.declared.network.Network.{Network}
+use Rattle.run_law.specs.declared.note.Note.{Note}
+use Rattle.run_law.specs.device.LocalClocks.{local}
+use Rattle.run_law.specs.law.Safety.{IsInStep}
+use Rattle.run_law.specs.machines.Nodes.{Node}
+use Rattle.run_law.specs.records.Happenings.{Happening, happenings}
+use Rattle.run_law.specs.records.Order.{IsBefore, IsIn}
+use Rattle.run_law.specs.records.Ranks.{place_of}
+use Rattle.run_law.specs.runs.DueRecords.{IsRunOf}
+use Rattle.run_law.specs.scenario.Scenarios.{Scenario}
+use Rattle.sync_state.specs.declared.state.State.TheVariants.{Synchronised}
+use Rattle.sync_state.specs.declared.state.State.{State as DeviceState}
+use Rattle.tte_units.specs.Amount.{amount}
+use Rattle.tte_units.specs.declared.units.Units.{Units}
+use Rattle.drift_world.specs.Keeping.{keeps}
+use Rattle.drift_world.specs.Running.{StandsUnder, reading_of}
+use Rattle.drift_world.specs.declared.kept.Kept.{Kept}
+use Rattle.drift_world.specs.declared.state.State.{State}
+use Rattle.world_law.specs.world.World.{World}
+
+-- the local clock of a device in this state with this reading and this adjustment, or None where it is broken or not
+-- synchronised
+abbrev pub local_shown : Bool → DeviceState → ℕ → Units → Option ℤ
+local_shown false Synchronised reading adjustment = Some (pos reading +ℤ adjustment.0)
+local_shown broken state reading adjustment = None
+
+-- the state shows so much of the device's local clock at the time
+pub record Shows {C M : Type 0} (reading : C → ℕ → ℕ) (stands : M → Network → DeviceId → Node → Type 0) (state : State C M)
+    (device : DeviceId) (t : ℕ) (shown : Option ℤ) : Type 0 where
+  pub clock : C
+  pub clock_is : slice_get state.clocks.items device.0 ≡ Some clock
+  pub kept : Kept M
+  pub kept_is : slice_get state.machines.items device.0 ≡ Some kept
+  pub broken : Bool
+  pub broken_is : slice_get state.broken.items device.0 ≡ Some broken
+  pub is : (network : Network) (node : Node) → keeps stands kept network device node
+      → shown ≡ local_shown broken node.standing.state (reading clock t) node.standing.adjustment
+
+-- the world has come behind the time; or it is at the time still, and gave a record of it behind those of its events
+abbrev pub HasCome : {C M : Type 0} → World C M → List Happening → ℕ → Type 0
+HasCome world hs t =
+    ((t < world.now) × (world.early ≡ true))
+    ⊎ ((world.now ≡ t) × ((h : Happening) × IsIn h hs × IsBefore (t ∷ 2 ∷ []) (place_of h)))
+
+-- the world stands for these events, of which none is later than the time, and for these records, which are all of the
+-- run up to the time
+pub record IsComplete {C M : Type 0} (fresh : ℕ → C) (after_step : C → ℕ → ℤ → C) (reading : C → ℕ → ℕ)
+    (stands : M → Network → DeviceId → Node → Type 0) (network : Network) (world : World C (Kept M)) (t : ℕ)
+    (events : List Event) (notes : List Note) : Type 0 where
+  pub is : StandsUnder fresh after_step reading stands network world events notes
+  pub past : (e : Event) → IsIn e events → amount e.time ≤ t
+  pub all : IsRunOf network (reading_of fresh after_step reading network events) events ((t + 1) ∷ []) notes
+  pub come : HasCome world (happenings network notes) t
+
+-- it does for some events and records
+pub record MayShow {C M : Type 0} (fresh : ℕ → C) (after_step : C → ℕ → ℤ → C) (reading : C → ℕ → ℕ)
+    (stands : M → Network → DeviceId → Node → Type 0) (world : World C (Kept M)) (t : ℕ) : Type 0 where
+  pub events : List Event
+  pub notes : List Note
+  pub is : IsComplete fresh after_step reading stands world.network world t events notes
+
+-- it is the device's local clock at the time, or None where the device is not correct and synchronised
+abbrev pub IsLocalClock : Scenario → List Happening → DeviceId → ℕ → Option ℤ → Type 0
+IsLocalClock s hs device t shown =
+    MatchOption shown (IsInStep s hs device t → ⊥) (λ l. IsInStep s hs device t × (l ≡ local s hs device t))
+
+-- a sum of two numbers of 64 bits
+pub record IsWide (l : ℤ) : Type 0 where
+  pub low : neg_ℤ (pos (2 ^ 64)) ≤ℤ l
+  pub high : l ≤ℤ pos (2 ^ 64)

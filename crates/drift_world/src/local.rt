@@ -1,0 +1,35 @@
+ghost use Rattle.std.specs.Prelude.{◌≡◌, ◌^◌, ◌<◌, pos, ◌≤ℤ◌, length, Some, slice_get, IfSome};
+ghost use Rattle.drift_world.specs.Locals.{IsWide, Shows};
+ghost use Rattle.drift_world.specs.Sound.{IsSized};
+ghost use Rattle.tte_units.specs.Amount.{amount};
+
+use crate::state::State;
+use drift_clock::Clock;
+use net_plan::{DeviceId, Network};
+use run_law::Machine;
+use sync_state::State as DeviceState;
+use tte_units::Units;
+
+/// The local clock of a device at a time from its last rate step on: its reading and its adjustment.
+/// None stands for one that is broken or not synchronised.
+pub fn local_of<C: Clock, M: Machine + Drop>(
+    state: &State<C, M>,
+    network: &Network,
+    device: DeviceId,
+    t: Units,
+) -> Option<i128>
+    requires sized { IsSized C.last_step network.now state.now }
+    requires there { device.0 < length network.now.device }
+    requires stepped { (clock : C) → slice_get state.now.clocks.items device.0 ≡ Some clock → pos (C.last_step clock) ≤ℤ t.0 }
+    requires limit { t.0 ≤ℤ pos (2 ^ 60) }
+    ensures shows { Shows C.reading M.stands state.now device (amount t) result }
+    ensures range { IfSome result IsWide }
+{
+    let index = device.0 as usize;
+    let kept = &state.machines[index];
+    let reading = state.clocks[index].read(t);
+    if state.broken[index] || kept.state() != DeviceState::Synchronised {
+        return None;
+    }
+    Some(i128::from(reading.0) + i128::from(kept.adjustment().0))
+}

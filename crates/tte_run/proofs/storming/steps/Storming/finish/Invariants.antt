@@ -1,0 +1,14 @@
+use Rattle.std.proofs.Common.{ℕ, [], List}
+use Rattle.net_plan.specs.declared.network.Network.{Network}
+use Rattle.tte_run.proofs.storms.Storming.{IsUnderStorm, events_left}
+use Rattle.tte_run.specs.storms.Steps.{IsStorming, MayStorm}
+use Rattle.tte_run.proofs.storming.steps.Storming.finish.Given as goal
+
+abbrev pub invariant-events : goal.invariant-events
+invariant-events l = record {
+  under : (network : Network) (seed cycles : ℕ) → IsStorming network seed cycles [] [] l.fn.self → IsUnderStorm network seed cycles l.self;
+  may : MayStorm l.self;
+}
+
+abbrev pub decreases-events : goal.decreases-events
+decreases-events l = events_left l.self
