@@ -7,6 +7,7 @@ mod grown;
 mod rules;
 mod running;
 mod showing;
+mod storming;
 mod tracing;
 mod verdicts;
 mod words;

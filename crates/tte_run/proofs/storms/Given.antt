@@ -1,5 +1,5 @@
 -- The records that a world gives one after another.
-use Rattle.std.proofs.Common.{◌≡◌, ◌⊎◌, ℕ, ◌+◌, ◌-◌, ◌^◌, ◌≤◌, ◌<◌, ℤ, pos, ◌<ℤ◌, ◌≤ℤ◌, true, List, [], ◌∷◌, ◌++◌, length, length-append, append_assoc, inl, inr, refl, sym, ap, subst, ◌∙◌, arith}
+use Rattle.std.proofs.Common.{◌≡◌, ℕ, ◌+◌, ◌^◌, ◌≤◌, ◌<◌, pos, ◌<ℤ◌, true, List, [], ◌∷◌, ◌++◌, length, length-append, append_assoc, inl, inr, refl, sym, ap, subst, ◌∙◌, arith}
 use Rattle.std.proofs.lemmas.Bool.{cases_lt}
 use Rattle.std.proofs.lemmas.Int.{ints}
 use Rattle.std.proofs.lemmas.List.{append-nil}
@@ -16,7 +16,7 @@ use Rattle.run_law.specs.runs.DueRecords.{IsScenarioRun}
 use Rattle.run_law.specs.scenario.Scenarios.{Scenario}
 use Rattle.storm_summary.specs.Counting.{counts_of}
 use Rattle.storm_summary.specs.declared.counts.Counts.{Counts}
-use Rattle.tte_run.proofs.traces.Worlds.{below_amount, go_on}
+use Rattle.tte_run.proofs.traces.Worlds.{below_amount}
 use Rattle.tte_run.specs.storms.Answer.{exact_scenario}
 use Rattle.tte_run.specs.storms.Counts.{AreCounted, CountsUntil, GoOnBy}
 use Rattle.tte_run.specs.traces.Answer.{AreRecordsBefore}

@@ -10,7 +10,6 @@ use Rattle.run_law.specs.device.LocalClocks.{local}
 use Rattle.run_law.specs.law.Safety.{IsInStep}
 use Rattle.run_law.specs.records.Happenings.{Happening}
 use Rattle.run_law.specs.scenario.Scenarios.{Scenario}
-use Rattle.storm_summary.specs.Spread.{AreApart}
 use Rattle.tte_run.specs.declared.storming.spreads.Ends.{Ends}
 use Rattle.tte_run.specs.storms.Spreads.{AreEnds, AreEndsOf, IsOfOne, IsSpreadAt, Widens}
 

@@ -7,14 +7,11 @@ use Rattle.drift_world.specs.Running.{Reaches}
 use Rattle.net_plan.specs.declared.event.Event.{Event}
 use Rattle.net_plan.specs.declared.network.Network.{Network}
 use Rattle.run_law.specs.declared.note.Note.{Note}
-use Rattle.run_law.specs.records.Happenings.{Happening, happenings, time_of}
-use Rattle.run_law.specs.records.Order.{IsIn}
-use Rattle.storm_summary.specs.Spread.{IsCorrection}
 use Rattle.tte_run.proofs.storms.Given.{end_stays, given_behind, given_from}
 use Rattle.tte_run.proofs.traces.PuttingRecords.{still_ended}
 use Rattle.tte_run.proofs.traces.Worlds.{go_on}
 use Rattle.tte_run.specs.declared.storming.counting.Seen.{Seen}
-use Rattle.tte_run.specs.storms.Counts.{AreCounted, AreSeen, IsNear, IsNew, SeesOn, SeesUntil}
+use Rattle.tte_run.specs.storms.Counts.{AreSeen, IsNew, SeesOn, SeesUntil}
 use Rattle.tte_run.specs.traces.Answer.{AreRecordsBefore}
 use Rattle.tte_run.specs.traces.Records.{ExactWorld, StandsExact}
 use Rattle.tte_units.specs.Amount.{amount, units_of}

@@ -1,22 +1,20 @@
 -- The spread of a time of a correction, and what is seen with it.
-use Rattle.std.proofs.Common.{◌≡◌, ◌⊎◌, ℕ, suc, ◌+◌, ◌^◌, ◌≤◌, ◌<◌, ℤ, pos, ◌+ℤ◌, ◌<ℤ◌, ◌≤ℤ◌, true, false, List, [], ◌∷◌, ◌++◌, Some, append_assoc, inl, inr, refl, sym, ap, subst, ◌∙◌, arith}
+use Rattle.std.proofs.Common.{◌≡◌, ◌⊎◌, ℕ, suc, ◌+◌, ◌^◌, ◌≤◌, ◌<◌, ℤ, pos, ◌+ℤ◌, ◌≤ℤ◌, true, false, List, [], ◌∷◌, ◌++◌, Some, append_assoc, inl, inr, refl, sym, ap, subst, ◌∙◌, arith}
 use Rattle.std.specs.Prelude.{slice_get}
 use Rattle.std.proofs.lemmas.Bool.{cases_Bool}
 use Rattle.std.proofs.lemmas.Int.{ints}
 use Rattle.std.proofs.lemmas.List.{append-nil}
-use Rattle.drift_world.specs.Locals.{HasCome}
 use Rattle.drift_world.specs.Running.{Reaches}
 use Rattle.net_plan.specs.declared.event.Event.{Event}
-use Rattle.net_plan.specs.declared.ids.DeviceId.{DeviceId}
 use Rattle.net_plan.specs.declared.network.Network.{Network}
 use Rattle.run_law.proofs.runs.NetworkRuns.{one_more}
-use Rattle.run_law.proofs.runs.Places.{in_left, in_parts, in_right}
+use Rattle.run_law.proofs.runs.Places.{in_parts, in_right}
 use Rattle.run_law.specs.declared.note.Note.{Note}
 use Rattle.run_law.specs.declared.note.NoteBody.{NoteBody}
 use Rattle.run_law.specs.declared.note.NoteBody.TheVariants as kinds
 use Rattle.run_law.specs.records.Happenings.{Happening, happenings, time_of}
-use Rattle.run_law.specs.records.Order.{IsBefore, IsIn}
-use Rattle.run_law.specs.records.Ranks.{place_of, rank}
+use Rattle.run_law.specs.records.Order.{IsIn}
+use Rattle.run_law.specs.records.Ranks.{rank}
 use Rattle.storm_summary.specs.Counting.{counts_of}
 use Rattle.storm_summary.specs.Spread.{IsCorrection, IsGreatestSpread}
 use Rattle.storm_summary.specs.declared.counts.Counts.{Counts}
@@ -25,11 +23,11 @@ use Rattle.tte_run.proofs.storms.Lasting.{alike_more, spread_grows, spread_stays
 use Rattle.tte_run.proofs.traces.PuttingRecords.{amount_after}
 use Rattle.tte_run.specs.declared.storming.counting.Seen.{Seen}
 use Rattle.tte_run.specs.storms.Answer.{exact_scenario}
-use Rattle.tte_run.specs.storms.Counts.{AreCounted, AreSeen, CountsUntil, IsGiven, IsNear, IsNew, IsOpenCorrection, MayCount, SeesOn, corrects}
+use Rattle.tte_run.specs.storms.Counts.{AreCounted, AreSeen, CountsUntil, IsGiven, IsNear, IsOpenCorrection, MayCount, SeesOn, corrects}
 use Rattle.tte_run.specs.storms.Spreads.{IsCompleteExact, IsSpreadAt}
 use Rattle.tte_run.specs.traces.Answer.{AreRecordsBefore}
-use Rattle.tte_run.specs.traces.Records.{ExactWorld, StandsExact}
-use Rattle.tte_units.specs.Amount.{amount, units_of}
+use Rattle.tte_run.specs.traces.Records.{ExactWorld}
+use Rattle.tte_units.specs.Amount.{amount}
 use Rattle.tte_units.specs.declared.units.Units.{Units}
 
 -- ---- corrections

@@ -1,7 +1,6 @@
 -- A run under a storm, event by event.
-use Rattle.std.proofs.Common.{◌≡◌, ◌⊎◌, ℕ, ◌+◌, ◌-◌, ◌*◌, ◌^◌, ◌≤◌, ◌<◌, ℤ, pos, ◌<ℤ◌, ◌≤ℤ◌, ◌+ℤ◌, Bool, true, false, List, [], ◌∷◌, ◌++◌, length, length-append, Result, Ok, Err, Some, Option, inl, inr, refl, sym, ap, subst, ◌∙◌, arith}
-use Rattle.std.specs.Prelude.{MatchResult, MatchOption}
-use Rattle.std.specs.List.{All}
+use Rattle.std.proofs.Common.{◌≡◌, ℕ, ◌+◌, ◌-◌, ◌*◌, ◌^◌, ◌≤◌, ◌<◌, pos, ◌≤ℤ◌, ◌+ℤ◌, Bool, true, false, List, [], ◌∷◌, ◌++◌, length, length-append, Result, Ok, Err, inl, inr, refl, sym, ap, subst, ◌∙◌, arith}
+use Rattle.std.specs.Prelude.{MatchResult}
 use Rattle.std.proofs.lemmas.Bool.{cases_Bool}
 use Rattle.std.proofs.lemmas.Int.{ints}
 use Rattle.std.proofs.lemmas.List.Elements.{All-nil, All-push}
@@ -14,9 +13,7 @@ use Rattle.net_plan.specs.Belonging.{IsOfNetwork}
 use Rattle.net_plan.specs.declared.event.Event.{Event}
 use Rattle.net_plan.specs.declared.event.What.TheVariants as kinds
 use Rattle.net_plan.specs.declared.event.What.{What}
-use Rattle.net_plan.specs.declared.ids.LinkId.{LinkId}
 use Rattle.net_plan.specs.declared.network.Network.{Network}
-use Rattle.net_plan.specs.declared.tables.Way.{Way}
 use Rattle.run_law.proofs.runs.NetworkRuns.{one_more as one_more_note}
 use Rattle.run_law.proofs.runs.Places.{in_parts}
 use Rattle.run_law.specs.declared.note.Note.{Note}
@@ -27,11 +24,10 @@ use Rattle.run_law.specs.runs.DueRecords.{EndsAt}
 use Rattle.run_law.specs.scenario.Hypothesis.{IsWithinHypothesis}
 use Rattle.storm.proofs.Ends.{end_is_behind}
 use Rattle.storm.proofs.Storms.{none_later, one_more, storm_number, storm_time}
-use Rattle.storm.specs.Events.{AreNoLater, AreStormEvents, IsStorm, IsStormEvent, time_of}
+use Rattle.storm.specs.Events.{AreNoLater, AreStormEvents, IsStormEvent, time_of}
 use Rattle.storm.specs.Progress.{Progress}
 use Rattle.storm_summary.specs.Counting.{counts_of}
 use Rattle.storm_summary.specs.Spread.{IsCorrection, IsGreatestSpread}
-use Rattle.storm_summary.specs.declared.counts.Counts.{Counts}
 use Rattle.trace_text.specs.Ranges.{IsEventInRange, IsTime, IsWhatInRange}
 use Rattle.tte_run.proofs.storms.Ends.{storm_ends}
 use Rattle.tte_run.proofs.storms.Given.{last_of, room_for}
@@ -44,7 +40,7 @@ use Rattle.tte_run.specs.declared.storming.counting.Seen.{Seen}
 use Rattle.tte_run.specs.declared.storming.steps.Storming.{Storming}
 use Rattle.tte_run.specs.storms.Answer.{exact_scenario}
 use Rattle.tte_run.specs.storms.Counts.{AreSeen, MaySee, SeesUntil}
-use Rattle.tte_run.specs.storms.Steps.{HasStormed, IsStorming, MayStorm, StormsOn}
+use Rattle.tte_run.specs.storms.Steps.{HasStormed, IsStorming, StormsOn}
 use Rattle.tte_run.specs.traces.Answer.{AreRecordsBefore}
 use Rattle.tte_run.specs.traces.Lines.{HaveEnded}
 use Rattle.tte_run.specs.traces.Records.{ExactWorld, IsReached, StandsExact}

@@ -1,5 +1,5 @@
 -- How far apart the local clocks of a run are at a time.
-use Rattle.std.specs.Prelude.{◌≡◌, ◌⊎◌, ℕ, ◌<◌, ℤ, pos, ◌-ℤ◌, ◌≤ℤ◌, List, length, Option, Some, None, IfSome, IsSomeAnd}
+use Rattle.std.specs.Prelude.{◌≡◌, ◌⊎◌, ℕ, ◌<◌, ℤ, pos, ◌≤ℤ◌, List, length, Option, Some, None, IfSome, IsSomeAnd}
 use Rattle.device_machines.specs.Standing.{StandsAsDevice}
 use Rattle.drift_clock.specs.Segment.{fresh_segment, stepped_segment, segment_reading}
 use Rattle.drift_world.specs.Locals.{IsComplete, MayShow}

@@ -1,4 +1,4 @@
-use Rattle.std.proofs.Common.{◌≡◌, arith, rules, refl, sym, ap, ◌∙◌}
+use Rattle.std.proofs.Common.{◌≡◌, arith, rules, sym, ap, ◌∙◌}
 use Rattle.std.specs.Prelude.{decimal}
 use Rattle.tte_run.proofs.Numbers.{none_spelled, number_spelled, parsed_none, parsed_one}
 use Rattle.tte_run.proofs.form.number_up_to.Goals as goal

@@ -1,4 +1,4 @@
-use Rattle.std.proofs.Common.{◌≡◌, length, arith, rules, refl, sym, ◌∙◌}
+use Rattle.std.proofs.Common.{arith, rules, refl, sym, ◌∙◌}
 use Rattle.tte_run.proofs.FormLemmas.{no_words, other_count, one_file, storm_words, two_files}
 use Rattle.tte_run.proofs.form.read_form.Goals as goal
 

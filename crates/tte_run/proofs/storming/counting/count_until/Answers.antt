@@ -1,15 +1,11 @@
-use Rattle.std.proofs.Common.{◌≡◌, ◌<◌, ◌+◌, pos, ◌<ℤ◌, [], ◌∷◌, ◌++◌, inl, inr, refl, sym, subst, arith}
-use Rattle.net_plan.specs.declared.event.Event.{Event}
-use Rattle.net_plan.specs.declared.network.Network.{Network}
+use Rattle.std.proofs.Common.{◌≡◌, ◌<◌, pos, ◌<ℤ◌, [], ◌∷◌, ◌++◌, inl, inr, refl, sym, subst, arith}
 use Rattle.run_law.specs.declared.note.Note.{Note}
-use Rattle.std.proofs.Common.{List}
 use Rattle.drift_world.specs.Running.{Reaches, left_of}
 use Rattle.drift_clock.specs.Segment.{fresh_segment, segment_reading, stepped_segment}
 use Rattle.safe_runs.specs.Headline.{IsSafeFront}
 use Rattle.tte_run.proofs.storms.Given.{counted_all, counted_more, counted_none, room_for}
 use Rattle.tte_run.proofs.traces.PuttingRecords.{given_none, given_some, if_none, if_some, is_before, reached_by, still_ended}
 use Rattle.tte_run.specs.traces.Answer.{AreRecordsBefore}
-use Rattle.tte_run.specs.traces.Records.{StandsExact}
 use Rattle.tte_units.specs.Amount.{amount, units_of}
 use Rattle.tte_run.proofs.storming.counting.count_until.Goals as goal
 

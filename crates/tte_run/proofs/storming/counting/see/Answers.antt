@@ -1,4 +1,4 @@
-use Rattle.std.proofs.Common.{◌≡◌, ◌++◌, ◌∷◌, [], false, true, inl, refl, sym, subst, ◌∙◌}
+use Rattle.std.proofs.Common.{refl, sym, ◌∙◌}
 use Rattle.tte_run.proofs.storms.Given.{room_for}
 use Rattle.tte_run.proofs.storms.Settled.{seen_plain}
 use Rattle.tte_run.proofs.storming.counting.see.Goals as goal

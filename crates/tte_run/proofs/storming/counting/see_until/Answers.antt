@@ -1,4 +1,4 @@
-use Rattle.std.proofs.Common.{◌≡◌, ◌<◌, ◌+◌, pos, ◌<ℤ◌, List, [], ◌∷◌, ◌++◌, inl, inr, refl, sym, subst, arith}
+use Rattle.std.proofs.Common.{◌≡◌, ◌<ℤ◌, List, [], ◌∷◌, ◌++◌, inl, refl}
 use Rattle.net_plan.specs.declared.event.Event.{Event}
 use Rattle.run_law.specs.declared.note.Note.{Note}
 use Rattle.drift_world.specs.Running.{Reaches}
@@ -8,7 +8,7 @@ use Rattle.tte_run.proofs.storms.Given.{fewer}
 use Rattle.tte_run.proofs.storms.Seeing.{near_way, new_of, sees_all, sees_more, sees_none, still_asked, way_reached}
 use Rattle.tte_run.proofs.traces.PuttingRecords.{given_none, given_some, if_none, if_some, is_before}
 use Rattle.tte_run.proofs.traces.Worlds.{go_on}
-use Rattle.tte_run.specs.storms.Counts.{AreSeen, IsNew, SeesOn}
+use Rattle.tte_run.specs.storms.Counts.{AreSeen, SeesOn}
 use Rattle.tte_run.specs.traces.Answer.{AreRecordsBefore}
 use Rattle.tte_units.specs.Amount.{amount, units_of}
 use Rattle.tte_run.proofs.storming.counting.see_until.Goals as goal

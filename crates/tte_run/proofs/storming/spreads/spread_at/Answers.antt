@@ -2,7 +2,6 @@ use Rattle.std.proofs.Common.{◌≡◌, ◌+◌, ◌<◌, ◌-ℤ◌, FitsSigne
 use Rattle.std.specs.Int.{w128}
 use Rattle.std.specs.Prelude.{IfSome}
 use Rattle.drift_world.specs.Locals.{IsLocalClock, IsWide}
-use Rattle.net_plan.specs.declared.network.Network.{Network}
 use Rattle.run_law.specs.records.Happenings.{happenings}
 use Rattle.tte_run.specs.declared.storming.spreads.Ends.{Ends}
 use Rattle.tte_run.specs.storms.Answer.{exact_scenario}

@@ -1,7 +1,6 @@
-use Rattle.std.proofs.Common.{◌≡◌, ◌≤◌, ◌<◌, Some, List, ℕ, sym, ap, ◌∙◌, refl, subst, arith}
-use Rattle.std.specs.Prelude.{slice_get}
+use Rattle.std.proofs.Common.{Some, sym, ap, ◌∙◌, arith}
 use Rattle.storm_summary.specs.Lines.{lines_of}
-use Rattle.tte_run.proofs.storms.Summing.{lines_all, lines_fail, lines_more, lines_none}
+use Rattle.tte_run.proofs.storms.Summing.{lines_all, lines_fail, lines_more}
 use Rattle.tte_run.specs.Putting.{shown_by}
 use Rattle.tte_run.proofs.storming.summing.put_summary.Goals as goal
 

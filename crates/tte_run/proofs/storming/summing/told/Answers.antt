@@ -1,9 +1,7 @@
-use Rattle.std.proofs.Common.{◌≡◌, FitsSigned, to_z, of_z, ℤ, ap, refl, subst, sym, ◌∙◌, arith}
+use Rattle.std.proofs.Common.{FitsSigned, to_z, of_z, ℤ, ap, refl, subst, sym, ◌∙◌, arith}
 use Rattle.std.specs.Int.{w64, w128}
 use Rattle.std.proofs.lemmas.Int.{ints, to_z-of_z}
-use Rattle.net_plan.specs.Ranges.{IsInRange}
 use Rattle.net_plan.specs.declared.network.Network.{Network}
-use Rattle.schedule_tables.specs.Rules.{KeepsRules}
 use Rattle.tte_run.proofs.storms.Summing.{is_fine, spread_fits, sums_up}
 use Rattle.tte_run.proofs.storming.summing.told.Goals as goal
 

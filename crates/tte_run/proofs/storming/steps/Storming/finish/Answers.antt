@@ -1,9 +1,7 @@
-use Rattle.std.proofs.Common.{◌≡◌, ◌+◌, ◌*◌, ◌≤ℤ◌, ◌+ℤ◌, ℤ, pos, FitsSigned, to_z, of_z, List, [], Bool, true, false, length, subst, sym, ◌∙◌, ap, refl, arith}
+use Rattle.std.proofs.Common.{◌+◌, ◌≤ℤ◌, ◌+ℤ◌, ℤ, pos, FitsSigned, to_z, of_z, Bool, subst, sym, ◌∙◌, arith}
 use Rattle.std.specs.Int.{w64}
 use Rattle.std.proofs.lemmas.Int.{ints, to_z-of_z}
-use Rattle.net_plan.specs.declared.event.Event.{Event}
 use Rattle.net_plan.specs.declared.network.Network.{Network}
-use Rattle.run_law.specs.declared.note.Note.{Note}
 use Rattle.tte_run.proofs.storms.Storming.{all_ended, fewer_left, goes_on, has_stormed}
 use Rattle.tte_run.proofs.storms.Summing.{on_ok_more, plus_fits, plus_is}
 use Rattle.tte_run.specs.declared.storming.steps.Storming.{Storming}

@@ -1,4 +1,4 @@
-use Rattle.std.proofs.Common.{ℕ, [], List}
+use Rattle.std.proofs.Common.{ℕ, []}
 use Rattle.net_plan.specs.declared.network.Network.{Network}
 use Rattle.tte_run.proofs.storms.Storming.{IsUnderStorm, events_left}
 use Rattle.tte_run.specs.storms.Steps.{IsStorming, MayStorm}

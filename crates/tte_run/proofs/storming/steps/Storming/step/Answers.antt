@@ -1,8 +1,5 @@
-use Rattle.std.proofs.Common.{◌≡◌, ◌++◌, ◌∷◌, [], List, Some, subst, sym, ap, refl, ◌∙◌, true, arith}
-use Rattle.std.proofs.lemmas.Int.{ints}
+use Rattle.std.proofs.Common.{◌++◌, ◌∷◌, [], subst, sym, refl}
 use Rattle.fault_hypothesis.specs.Watching.{Watches}
-use Rattle.net_plan.specs.declared.event.Event.{Event}
-use Rattle.run_law.specs.declared.note.Note.{Note}
 use Rattle.tte_run.proofs.storms.Storming.{IsDrawnFor, back_run, befalls, judged_well, line_is, open_to, order, own_run, room, storms_on, unended, within}
 use Rattle.net_plan.specs.declared.network.Network.{Network}
 use Rattle.tte_run.specs.storms.Counts.{AreSeen, SeesUntil}
