@@ -57,7 +57,8 @@ fn run_storm<K: Sink>(
     requires least { 1 ≤ cycles }
     requires most { cycles ≤ 100000 }
     ensures ends { Over K.Sink out.old out.new (EndsStorm accepted.now seed cycles result) }
-    ensures status { (result ≡ Status.OutOfMemory) ⊎ IsWanted Status.Done result (PutFailed K.Sink out.old out.new) }
+    ensures status { (result ≡ Status.OutOfMemory)
+        ⊎ IsWanted Status.Done result (PutFailed K.Sink out.old out.new) }
 {
     match summary_of(alloc, accepted, seed, cycles) {
         Ok(summary) => put_summary(&summary, out),

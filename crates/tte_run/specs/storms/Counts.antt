@@ -124,4 +124,5 @@ pub record SeesUntil (network : Network) (events : List Event) (notes : List Not
     (from world : ExactWorld) (seen : Seen) : Type 0 where
   pub more : List Note
   pub is : AreSeen network world seen events (notes ++ more)
-  pub all : from.ended ≡ true → pos from.now <ℤ until.0 → AreRecordsBefore network events (amount until ∷ []) (notes ++ more)
+  pub all : from.ended ≡ true → pos from.now <ℤ until.0
+      → AreRecordsBefore network events (amount until ∷ []) (notes ++ more)

@@ -31,7 +31,8 @@ pub record IsOfOne (s : Scenario) (hs : List Happening) (t : ℕ) (value : ℤ) 
   pub in_step : IsInStep s hs device t
   pub is : value ≡ local s hs device t
 
--- the least and the greatest of the local clocks of those of the first so many devices that are correct and synchronised
+-- the least and the greatest of the local clocks of those of the first so many devices that are correct and
+-- synchronised
 pub record AreEndsOf (s : Scenario) (hs : List Happening) (t count : ℕ) (ends : Ends) : Type 0 where
   pub least : IsOfOne s hs t ends.least
   pub greatest : IsOfOne s hs t ends.greatest

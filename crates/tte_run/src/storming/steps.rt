@@ -70,8 +70,9 @@ impl<'a> Storming<'a> {
     /// The error is that memory ran out.
     fn step(&mut self) -> Result<bool, OutOfMemory>
         requires { MayStorm self.old }
-        ensures { IfOk result (λ on. (network : NetworkValue) (seed cycles : ℕ) (events : List EventValue) (notes : List NoteValue)
-            → IsStorming network seed cycles events notes self.old → Steps network seed cycles events notes on self.old self.new) }
+        ensures { IfOk result (λ on. (network : NetworkValue) (seed cycles : ℕ) (events : List EventValue)
+            (notes : List NoteValue) → IsStorming network seed cycles events notes self.old
+            → Steps network seed cycles events notes on self.old self.new) }
     {
         let Some(event) = self.storm.next_event(self.accepted, &self.watch) else {
             return Ok(false);

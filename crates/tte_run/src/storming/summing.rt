@@ -57,7 +57,8 @@ fn told(accepted: &Accepted, seed: u64, cycles: u32, seen: &Seen) -> Summary
 
 /// Puts the lines of a summary, and passes them on.
 pub(crate) fn put_summary<K: Sink>(summary: &Summary, out: &mut K) -> Status
-    ensures gives { Over K.Sink out.old out.new (Gives (record { status = Status.Done; lines = lines_of summary.now }) result) }
+    ensures gives { Over K.Sink out.old out.new
+        (Gives (record { status = Status.Done; lines = lines_of summary.now }) result) }
     ensures status { IsWanted Status.Done result (PutFailed K.Sink out.old out.new) }
 {
     let mut line = LineText::new();
