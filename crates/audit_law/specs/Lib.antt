@@ -1,0 +1,16 @@
+pub mod Findings
+pub mod Linked
+pub mod Debts
+pub mod Departures
+pub mod Arrivals
+pub mod Changes
+pub mod LostSends
+pub mod EndClocks
+pub mod Permanences
+pub mod Emitted
+pub mod Dispatched
+pub mod CorrectionPoints
+pub mod TracedEvents
+pub mod Owed
+pub mod DebtLaws
+pub mod Laws
