@@ -13,11 +13,11 @@ use Rattle.run_law.specs.declared.steps.Ripe.TheVariants as ripe
 use Rattle.run_law.specs.records.Happenings.{Happening, time_of}
 use Rattle.run_law.specs.records.Order.{IsBefore}
 use Rattle.run_law.specs.records.Ranks.{place_of}
-use Rattle.run_law.specs.runs.DueRecords.{IsCaused, IsDue}
+use Rattle.audit_law.specs.DueRecords.{IsCaused, IsDue}
 use Rattle.run_law.specs.runs.Runs.{IsFounded, IsRun}
 use Rattle.run_law.specs.scenario.Scenarios.{Scenario}
 use Rattle.run_law.specs.timed.Receptions.{ArrivesAs}
-use Rattle.run_law.proofs.runs.Determined.{due_is_determined}
+use Rattle.audit_law.proofs.Determined.{due_is_determined}
 use Rattle.audit_law.specs.Arrivals.{IsDueByArrival, arrival_record}
 use Rattle.audit_law.specs.Changes.{IsDueByChange}
 use Rattle.audit_law.specs.CorrectionPoints.{IsDueByPoint}

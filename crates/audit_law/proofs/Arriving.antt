@@ -23,7 +23,7 @@ use Rattle.run_law.specs.device.States.{adjustment_after, is_off, state_after}
 use Rattle.run_law.specs.records.Happenings.{Happening, earlier, numbered, time_of}
 use Rattle.run_law.specs.records.Order.{IsBefore, IsIn}
 use Rattle.run_law.specs.records.Ranks.{key, members_in, place_at, place_of, rank}
-use Rattle.run_law.specs.runs.DueRecords.{IsCaused, IsDue}
+use Rattle.audit_law.specs.DueRecords.{IsCaused, IsDue}
 use Rattle.run_law.specs.runs.Runs.{IsFounded}
 use Rattle.run_law.specs.scenario.Devices.{is_end, is_parent_of, is_relay}
 use Rattle.run_law.specs.scenario.Scenarios.{Scenario, is_broken, is_turned_on_at}
@@ -32,7 +32,8 @@ use Rattle.run_law.specs.timed.Arrivals.{entry_arrival, octets_fault, octets_or_
 use Rattle.run_law.specs.timed.Receptions.{ArrivesAs, arrival_of, comes_before, is_taken_before, last_taken, taken_cycle}
 use Rattle.schedule_tables.specs.declared.entry.Entry.{Entry}
 use Rattle.sync_state.specs.declared.state.State.TheVariants.{Integrating}
-use Rattle.run_law.proofs.law.FirstPlaces.{IsSplit, founded_at, none_kept, numbered_in, same_earlier, split}
+use Rattle.audit_law.proofs.Numbered.{founded_at}
+use Rattle.run_law.proofs.law.FirstPlaces.{IsSplit, none_kept, numbered_in, same_earlier, split}
 use Rattle.std.proofs.lemmas.List.{append-nil}
 use Rattle.std.proofs.lemmas.List.Elements.{filter-append}
 use Rattle.run_law.proofs.runs.Places.{in_right}

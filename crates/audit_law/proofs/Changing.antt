@@ -8,13 +8,13 @@ use Rattle.run_law.specs.declared.judgement.Why.TheVariants as whys
 use Rattle.run_law.specs.declared.judgement.Why.{Why}
 use Rattle.run_law.specs.declared.note.NoteBody.TheVariants as notes
 use Rattle.run_law.specs.declared.note.NoteBody.{NoteBody}
-use Rattle.run_law.specs.device.StateChanges.{ChangesState}
+use Rattle.audit_law.specs.DueRecords.{ChangesState}
 use Rattle.run_law.specs.device.States.{is_joined_by, state_after}
 use Rattle.run_law.specs.records.Causes.{IsOfThisTime}
 use Rattle.run_law.specs.records.Happenings.{Happening, earlier, numbered, time_of}
 use Rattle.run_law.specs.records.Order.{IsBefore}
 use Rattle.run_law.specs.records.Ranks.{key, members_in, place_at, place_of, rank}
-use Rattle.run_law.specs.runs.DueRecords.{IsCaused, IsDue}
+use Rattle.audit_law.specs.DueRecords.{IsCaused, IsDue}
 use Rattle.run_law.specs.runs.Runs.{IsFounded}
 use Rattle.run_law.specs.scenario.Scenarios.{Scenario, is_turned_on_at}
 use Rattle.sync_state.specs.declared.state.State.TheVariants.{Integrating, Joining}

@@ -3,15 +3,18 @@ use Rattle.std.proofs.lemmas.Bool.{cases_lt, le-leb, le-ltb, leb-true}
 use Rattle.std.proofs.lemmas.List.{append-nil}
 use Rattle.std.proofs.lemmas.List.Elements.{filter-append, filter_map-append}
 use Rattle.std.proofs.Common.{◌≡◌, ℕ, ◌+◌, ◌-◌, ◌<◌, ◌≤◌, ℤ, pos, Bool, List, [], ◌∷◌, ◌++◌, Option, Some, None, filter, inl, inr, refl, sym, ap, subst, ◌∙◌, arith, if◌then◌else◌}
+use Rattle.std.specs.Int.{int_div_euclid}
 use Rattle.std.specs.List.{after_last, filter_map, last_or}
 use Rattle.std.specs.Option.{option_map_or}
-use Rattle.std.specs.Prelude.{◌+ℤ◌, ◌&&◌, ◌||◌, not, nat_le, nat_lt, int_le, int_lt}
-use Rattle.membership.proofs.OneSummary.{one_summary}
+use Rattle.std.specs.Prelude.{◌+ℤ◌, ◌-ℤ◌, ◌&&◌, ◌==◌, nat_le, nat_lt, int_le, int_lt}
+use Rattle.audit_law.proofs.Determined.{same_verdict}
 use Rattle.membership.specs.Hearing.{Hearing}
-use Rattle.membership.specs.Summary.{Summarizes, Summary}
+use Rattle.membership.specs.Summary.{Summarizes}
 use Rattle.net_plan.specs.declared.ids.DeviceId.{DeviceId}
 use Rattle.net_plan.specs.declared.network.Network.{Network}
-use Rattle.run_law.specs.control.Corrections.{ComesToCorrection, correction_value, heard_since, hearing_by, integration_cycle, is_integration_cycle, recorded_cycle, standing_before}
+use Rattle.audit_law.specs.CorrectionNumbers.{ComesToPoint, heard_since_point, standing_at}
+use Rattle.run_law.specs.control.Corrections.{correction_value, hearing_by, integration_cycle, recorded_cycle}
+use Rattle.run_law.specs.device.Standpoints.{natural}
 use Rattle.run_law.specs.declared.judgement.Why.TheVariants as whys
 use Rattle.run_law.specs.declared.note.NoteBody.TheVariants as notes
 use Rattle.run_law.specs.declared.note.NoteBody.{NoteBody}
@@ -20,11 +23,10 @@ use Rattle.run_law.specs.device.States.{adjustment_after, adjustment_before, sta
 use Rattle.run_law.specs.records.Happenings.{Happening, earlier, time_of, up_to}
 use Rattle.run_law.specs.records.Order.{IsBefore, IsIn}
 use Rattle.run_law.specs.records.Ranks.{key, members_in, place_at, place_of, rank}
-use Rattle.run_law.specs.runs.DueRecords.{IsCaused, IsDue}
+use Rattle.audit_law.specs.DueRecords.{IsCaused, IsDue}
 use Rattle.run_law.specs.runs.Runs.{IsFounded}
 use Rattle.run_law.specs.scenario.Devices.{plan_of}
 use Rattle.run_law.specs.scenario.Scenarios.{Scenario, is_turned_on_at}
-use Rattle.sync_state.proofs.LawLemmas.{one_verdict}
 use Rattle.sync_state.specs.Standing.{Standing, next_point}
 use Rattle.sync_state.specs.Verdicts.{HasVerdict}
 use Rattle.sync_state.specs.declared.answers.Verdict.TheVariants.{AsyncClique, Cleared, Corrected, SyncClique}
@@ -43,29 +45,30 @@ use Rattle.audit_law.proofs.Owing.{PaidAt, due_there, next_is_due, next_of, spli
 
 -- ---- what the records of earlier times tell
 
--- has a joiner cleared, by the records of earlier times
-abbrev cleared_by : Scenario → DeviceId → ℕ → ℕ → List Happening → Bool
-cleared_by s device t by es =
+-- how many correction points the clock has come to, by the records of earlier times
+abbrev come_by : Scenario → DeviceId → ℕ → List Happening → ℕ
+come_by s device by es =
     let changed = option_map_or time_of (last_or None (filter (λ h. changes_adjustment device h.note.body) es)) 0 in
-    let v = correction_value s.network (recorded_cycle es device) in
-    is_integration_cycle es device
-    && (int_lt (pos (s.reading device changed) +ℤ (adjustment_after s es device).0) v
-    && int_le v (pos (s.reading device (by - 1)) +ℤ (adjustment_after s es device).0))
+    let first = correction_value s.network (recorded_cycle es device) in
+    let shown = pos (s.reading device (by - 1)) +ℤ (adjustment_after s es device).0 in
+    if int_lt (pos (s.reading device changed) +ℤ (adjustment_after s es device).0) first && int_le first shown
+    then natural (int_div_euclid (shown -ℤ first) s.network.cycle.0) + 1
+    else 0
 
 standing_by : (s : Scenario) (gs hs : List Happening) (device : DeviceId) (t : ℕ) → earlier t gs ≡ earlier t hs
-    → standing_before s gs device t ≡ standing_before s hs device t
+    → standing_at s gs device t ≡ standing_at s hs device t
 standing_by s gs hs device t same =
     ap (λ (es : List Happening). let st : Standing = record {
       plan = plan_of s.network device;
       state = if is_turned_on_at s device t then Integrating else state_after s es device;
       adjustment = adjustment_after s es device;
-      number = if cleared_by s device t t es then recorded_cycle es device + 1 else recorded_cycle es device;
+      number = recorded_cycle es device + come_by s device t es;
       integrated = integration_cycle es device;
     } in st) same
 
 -- a correction point is one by other records that have the same earlier ones, and tell the same to be heard
 pub comes_by : (s : Scenario) (gs hs : List Happening) (device : DeviceId) (t cycle : ℕ) (v : Verdict) → earlier t gs ≡ earlier t hs
-    → heard_since s gs device t ≡ heard_since s hs device t → ComesToCorrection s gs device t cycle v → ComesToCorrection s hs device t cycle v
+    → heard_since_point s gs device t ≡ heard_since_point s hs device t → ComesToPoint s gs device t cycle v → ComesToPoint s hs device t cycle v
 comes_by s gs hs device t cycle v same heard h =
     let standing = standing_by s gs hs device t same in
     record {
@@ -125,11 +128,11 @@ late_earlier hs t front l =
 
 -- the front tells all that is heard up to the time
 late_heard : (s : Scenario) (hs : List Happening) (device : DeviceId) (t : ℕ) (front : List Happening) → HasLate hs t front
-    → heard_since s (up_to t hs) device t ≡ heard_since s front device t
+    → heard_since_point s (up_to t hs) device t ≡ heard_since_point s front device t
 late_heard s hs device t front l =
     let set : Happening → Bool = λ h. nat_lt (time_of h) t && changes_adjustment device h.note.body in
     let f : Happening → Option Hearing = λ h. hearing_by s.network device h h.note.body in
-    let kept : List Happening → Happening → Bool = λ es h. not (cleared_by s device t t es) || cleared_by s device t (time_of h) es in
+    let kept : List Happening → Happening → Bool = λ es h. come_by s device t es == come_by s device (time_of h) es in
     let es = earlier t front in
     let since = after_more set front l.late
     (λ h i. ap (λ (b : Bool). b && changes_adjustment device h.note.body) (le-ltb (time_of h) t (l.not_earlier h i))) in
@@ -198,7 +201,7 @@ shows_record s gs device t cycle AsyncClique more = refl
 shows_record s gs device t cycle Cleared more = absurd (more refl)
 
 causes_record : (s : Scenario) (gs : List Happening) (device : DeviceId) (t cycle : ℕ) (v : Verdict) → (v ≡ Cleared → ⊥)
-    → ComesToCorrection s gs device t cycle v → IsCaused s gs (units_of t) (point_record device cycle (adjusted s gs device t v) v)
+    → ComesToPoint s gs device t cycle v → IsCaused s gs (units_of t) (point_record device cycle (adjusted s gs device t v) v)
 causes_record s gs device t cycle (Corrected by) more h = record { corrected = h; sum = refl }
 causes_record s gs device t cycle SyncClique more h = (refl, refl, (cycle, h))
 causes_record s gs device t cycle AsyncClique more h = (refl, refl, (cycle, h))
@@ -262,12 +265,12 @@ due_place s before x h = shown_place s before h.device (time_of x) h.cycle (memb
 
 -- the point comes by the records up to its time
 due_comes : (s : Scenario) (hs : List Happening) (x : Happening) → (h : IsDueIn place_of (IsDue s) hs x) → (d : IsDueByPoint s h.before x)
-    → ComesToCorrection s (up_to (time_of x) hs) d.device (time_of x) d.cycle d.verdict
+    → ComesToPoint s (up_to (time_of x) hs) d.device (time_of x) d.cycle d.verdict
 due_comes s hs x h d =
     let t = time_of x in
     let at = subst (λ (p : List ℕ). (at : IsSplit place_of hs p) × (at.front ≡ h.before)) (due_place s h.before x d) (split_at (IsDue s) hs x h, refl) in
     let late = late_part hs t (point_rank d.verdict) (point_key d.device d.verdict) (high_rank d.verdict) at.0 in
-    let here = subst (λ (gs : List Happening). ComesToCorrection s gs d.device t d.cycle d.verdict) (sym at.1) d.comes in
+    let here = subst (λ (gs : List Happening). ComesToPoint s gs d.device t d.cycle d.verdict) (sym at.1) d.comes in
     comes_by s at.0.front (up_to t hs) d.device t d.cycle d.verdict (sym (late_earlier hs t at.0.front late))
     (sym (late_heard s hs d.device t at.0.front late)) here
 
@@ -338,19 +341,11 @@ by_point s before x device due (notes.State other state cause whys.AsyncClique) 
 )
 by_point s before x device due other is c e = absurd e
 
--- a correction point comes to one thing
-same_verdict : (s : Scenario) (hs : List Happening) (t : ℕ) (device : DeviceId) (cycle other : ℕ) (v w : Verdict) → ComesToCorrection s hs device t cycle v
-    → ComesToCorrection s hs device t other w → v ≡ w
-same_verdict s hs t device cycle other v w a b =
-    let heard = one_summary (heard_since s hs device t) a.summary b.summary a.heard b.heard in
-    one_verdict (standing_before s hs device t) a.summary v w a.comes (subst (λ (u : Summary). HasVerdict (standing_before s hs device t) u w) (sym heard)
-    b.comes)
-
 same_place : (s : Scenario) (hs : List Happening) (t u : ℕ) (device other : DeviceId) (cycle number : ℕ) (v w : Verdict) → t ≡ u → device ≡ other
-    → ComesToCorrection s (up_to t hs) device t cycle v → ComesToCorrection s (up_to u hs) other u number w → point_place t device v ≡ point_place u other w
+    → ComesToPoint s (up_to t hs) device t cycle v → ComesToPoint s (up_to u hs) other u number w → point_place t device v ≡ point_place u other w
 same_place s hs t u device other cycle number v w times devices a b =
-    let there = subst (λ (d : DeviceId). ComesToCorrection s (up_to t hs) d t number w) (sym devices)
-    (subst (λ (n : ℕ). ComesToCorrection s (up_to n hs) other n number w) (sym times) b) in
+    let there = subst (λ (d : DeviceId). ComesToPoint s (up_to t hs) d t number w) (sym devices)
+    (subst (λ (n : ℕ). ComesToPoint s (up_to n hs) other n number w) (sym times) b) in
     ap (λ (x : Verdict). point_place t device x) (same_verdict s (up_to t hs) t device cycle number v w a there)
     ∙ ap (λ (n : ℕ). point_place n device w) times
     ∙ ap (λ (d : DeviceId). point_place u d w) devices

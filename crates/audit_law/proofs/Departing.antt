@@ -13,7 +13,7 @@ use Rattle.run_law.specs.declared.note.NoteBody.TheVariants as notes
 use Rattle.run_law.specs.records.Happenings.{Happening, numbered, time_of}
 use Rattle.run_law.specs.records.Order.{IsBefore}
 use Rattle.run_law.specs.records.Ranks.{key, members_in, place_at, place_of, rank}
-use Rattle.run_law.specs.runs.DueRecords.{IsCaused, IsDue}
+use Rattle.audit_law.specs.DueRecords.{IsCaused, IsDue}
 use Rattle.run_law.specs.runs.Runs.{IsFounded}
 use Rattle.run_law.specs.scenario.Scenarios.{Scenario, is_broken}
 use Rattle.run_law.specs.timed.Dispatching.{HasAccepted}

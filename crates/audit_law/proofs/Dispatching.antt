@@ -15,7 +15,7 @@ use Rattle.run_law.specs.device.States.{adjustment_after, state_after}
 use Rattle.run_law.specs.records.Happenings.{Happening, earlier, time_of}
 use Rattle.run_law.specs.records.Order.{IsBefore}
 use Rattle.run_law.specs.records.Ranks.{key, members_in, place_at, place_of, rank}
-use Rattle.run_law.specs.runs.DueRecords.{IsCaused, IsDue}
+use Rattle.audit_law.specs.DueRecords.{IsCaused, IsDue}
 use Rattle.run_law.specs.runs.Runs.{IsFounded}
 use Rattle.run_law.specs.scenario.Scenarios.{Scenario, is_turned_on_at}
 use Rattle.run_law.specs.timed.Dispatching.{Dispatches, HasAccepted, HasAtHand, IsUp, Sends, is_accepted}

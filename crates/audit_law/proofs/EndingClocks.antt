@@ -7,7 +7,8 @@ use Rattle.run_law.specs.device.States.{adjustment_after, state_after}
 use Rattle.run_law.specs.records.Happenings.{Happening, time_of, up_to}
 use Rattle.run_law.specs.records.Order.{IsBefore}
 use Rattle.run_law.specs.records.Ranks.{key, members_in, place_at, place_of, rank}
-use Rattle.run_law.specs.runs.DueRecords.{EndsAt, IsClockRecord, IsDue}
+use Rattle.audit_law.specs.DueRecords.{IsDue}
+use Rattle.run_law.specs.runs.DueRecords.{EndsAt, IsClockRecord}
 use Rattle.run_law.specs.runs.Runs.{IsFounded}
 use Rattle.run_law.specs.scenario.Scenarios.{Scenario}
 use Rattle.run_law.proofs.law.FirstPlaces.{split}

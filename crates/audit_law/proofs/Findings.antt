@@ -6,11 +6,12 @@ use Rattle.run_law.specs.records.Causes.{cause_of}
 use Rattle.run_law.specs.timed.Dispatching.{HasAccepted}
 use Rattle.run_law.specs.runs.Runs.{IsFounded}
 use Rattle.run_law.proofs.law.FirstDeliveries.{accepted_in}
-use Rattle.run_law.proofs.law.FirstPlaces.{by_number, front_founded}
+use Rattle.audit_law.proofs.Numbered.{by_number}
+use Rattle.run_law.proofs.law.FirstPlaces.{front_founded}
 use Rattle.tte_units.specs.Amount.{amount}
 use Rattle.run_law.specs.records.Happenings.{Happening, numbered}
 use Rattle.run_law.specs.records.Ranks.{place_of}
-use Rattle.run_law.specs.runs.DueRecords.{IsCaused, IsDue}
+use Rattle.audit_law.specs.DueRecords.{IsCaused, IsDue}
 use Rattle.run_law.specs.scenario.Scenarios.{Scenario}
 use Rattle.run_law.specs.declared.judgement.Why.TheVariants as whys
 use Rattle.run_law.specs.declared.note.NoteBody.{NoteBody}

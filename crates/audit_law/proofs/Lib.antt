@@ -1,3 +1,5 @@
+pub mod Numbered
+pub mod Determined
 pub mod Sound
 pub mod Findings
 pub mod Debts

@@ -9,12 +9,13 @@ use Rattle.run_law.proofs.law.FirstDeliveries.{accepted_in}
 use Rattle.run_law.specs.records.Happenings.{Happening, earlier, happening, numbered, time_of}
 use Rattle.run_law.specs.records.Order.{IsBefore}
 use Rattle.run_law.specs.records.Ranks.{key, members_in, place_of, rank}
-use Rattle.run_law.specs.runs.DueRecords.{IsCaused, IsDue}
+use Rattle.audit_law.specs.DueRecords.{IsCaused, IsDue}
 use Rattle.run_law.specs.runs.Runs.{IsFounded}
 use Rattle.run_law.specs.scenario.Scenarios.{Scenario}
 use Rattle.run_law.specs.declared.note.Note.{Note}
 use Rattle.run_law.specs.declared.note.NoteBody.{NoteBody}
-use Rattle.run_law.proofs.law.FirstPlaces.{IsSplit, by_number, front_founded, in_front_of, number_is, numbered_front, numbered_in, same_earlier}
+use Rattle.audit_law.proofs.Numbered.{by_number, number_is}
+use Rattle.run_law.proofs.law.FirstPlaces.{IsSplit, front_founded, in_front_of, numbered_front, numbered_in, same_earlier}
 use Rattle.tte_units.specs.Amount.{amount, units_of}
 use Rattle.tte_units.specs.declared.units.Units.{Units}
 use Rattle.audit_law.specs.Debts.{IsDueIn}

@@ -27,7 +27,7 @@ use Rattle.run_law.specs.device.States.{adjustment_at_hearing, state_at_hearing}
 use Rattle.run_law.specs.records.Happenings.{Happening, frame_by, frame_from, numbered, time_of}
 use Rattle.run_law.specs.records.Order.{IsBefore, is_before}
 use Rattle.run_law.specs.records.Ranks.{key, members_in, place_at, place_of, rank}
-use Rattle.run_law.specs.runs.DueRecords.{IsCaused, IsDue}
+use Rattle.audit_law.specs.DueRecords.{IsCaused, IsDue}
 use Rattle.run_law.specs.runs.Runs.{IsFounded}
 use Rattle.run_law.specs.scenario.Devices.{is_cm}
 use Rattle.run_law.specs.scenario.Scenarios.{Scenario}

@@ -10,7 +10,7 @@ use Rattle.net_plan.specs.declared.ids.DeviceId.{DeviceId}
 use Rattle.net_plan.specs.declared.ids.LinkId.{LinkId}
 use Rattle.net_plan.specs.declared.ids.VlId.{VlId}
 use Rattle.run_law.specs.control.Arrivals.{control_arrival}
-use Rattle.run_law.specs.control.Corrections.{heard_since}
+use Rattle.audit_law.specs.CorrectionNumbers.{heard_since_point}
 use Rattle.run_law.specs.control.Emissions.{Emits}
 use Rattle.run_law.specs.control.Wires.{Signal, control, timed}
 use Rattle.run_law.specs.declared.judgement.Judgement.TheVariants.{Ignored}
@@ -20,12 +20,13 @@ use Rattle.run_law.specs.device.Standpoints.{Standpoint, standpoint}
 use Rattle.run_law.specs.records.Happenings.{Happening, earlier, numbered, time_of, up_to}
 use Rattle.run_law.specs.records.Order.{IsIn, is_before}
 use Rattle.run_law.specs.records.Ranks.{key, place_of, rank}
-use Rattle.run_law.specs.runs.DueRecords.{IsDue}
+use Rattle.audit_law.specs.DueRecords.{IsDue}
 use Rattle.run_law.specs.runs.Runs.{IsFounded}
 use Rattle.run_law.specs.scenario.Scenarios.{Scenario}
 use Rattle.run_law.specs.timed.Arrivals.{octets_fault, timed_arrival}
 use Rattle.run_law.specs.timed.Receptions.{ArrivesAs, arrival_of, comes_before, is_taken_before, last_taken, taken_cycle}
-use Rattle.run_law.proofs.law.FirstPlaces.{by_number, front_founded, none_kept, number_is, numbered_front, numbered_in}
+use Rattle.audit_law.proofs.Numbered.{by_number, number_is}
+use Rattle.run_law.proofs.law.FirstPlaces.{front_founded, none_kept, numbered_front, numbered_in}
 use Rattle.run_law.proofs.runs.Places.{in_parts}
 use Rattle.audit_law.specs.DebtLaws.{SettledLaw}
 use Rattle.audit_law.specs.Emitted.{before_place, emission_record}
@@ -169,7 +170,7 @@ owed_by s gs hs until same (debts.point device time) o = record {
   cycle = o.cycle;
   verdict = o.verdict;
   comes = comes_by s (up_to time gs) (up_to time hs) device time o.cycle o.verdict (ap (earlier time) (same.ups time o.timely))
-      (ap (λ (ks : List Happening). heard_since s ks device time) (same.ups time o.timely)) o.comes;
+      (ap (λ (ks : List Happening). heard_since_point s ks device time) (same.ups time o.timely)) o.comes;
   more = o.more;
   timely = o.timely;
 }

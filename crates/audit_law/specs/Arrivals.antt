@@ -9,7 +9,7 @@ use Rattle.run_law.specs.declared.steps.Arrival.{Arrival}
 use Rattle.run_law.specs.records.Happenings.{Happening, time_of}
 use Rattle.run_law.specs.records.Order.{IsBefore}
 use Rattle.run_law.specs.records.Ranks.{place_at, place_of}
-use Rattle.run_law.specs.runs.DueRecords.{IsDue}
+use Rattle.audit_law.specs.DueRecords.{IsDue}
 use Rattle.run_law.specs.scenario.Scenarios.{Scenario}
 use Rattle.run_law.specs.timed.Receptions.{ArrivesAs}
 

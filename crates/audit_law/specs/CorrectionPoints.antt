@@ -1,13 +1,13 @@
 -- What is owed of correction points: the correction of the clock, or the state that a clique brings.
 use Rattle.std.specs.Prelude.{◌≡◌, ℕ, ◌≤◌, ◌+ℤ◌, List}
 use Rattle.net_plan.specs.declared.ids.DeviceId.{DeviceId}
-use Rattle.run_law.specs.control.Corrections.{ComesToCorrection}
+use Rattle.audit_law.specs.CorrectionNumbers.{ComesToPoint}
 use Rattle.run_law.specs.declared.judgement.Why.TheVariants as whys
 use Rattle.run_law.specs.declared.note.NoteBody.TheVariants as notes
 use Rattle.run_law.specs.declared.note.NoteBody.{NoteBody}
 use Rattle.run_law.specs.device.States.{adjustment_before}
 use Rattle.run_law.specs.records.Happenings.{Happening, time_of, up_to}
-use Rattle.run_law.specs.runs.DueRecords.{IsDue}
+use Rattle.audit_law.specs.DueRecords.{IsDue}
 use Rattle.run_law.specs.scenario.Scenarios.{Scenario}
 use Rattle.sync_state.specs.declared.answers.Verdict.TheVariants.{AsyncClique, Cleared, Corrected, SyncClique}
 use Rattle.sync_state.specs.declared.answers.Verdict.{Verdict}
@@ -34,14 +34,14 @@ pub record IsDueByPoint (s : Scenario) (before : List Happening) (x : Happening)
   pub device : DeviceId
   pub cycle : ℕ
   pub verdict : Verdict
-  pub comes : ComesToCorrection s before device (time_of x) cycle verdict
+  pub comes : ComesToPoint s before device (time_of x) cycle verdict
   pub shows : ShowsVerdict s before device (time_of x) cycle verdict x.note.body
 
 -- at this time the device has a correction point at which it does not only clear, judged by the records up to then
 pub record OwesPoint (s : Scenario) (hs : List Happening) (until : ℕ) (device : DeviceId) (time : ℕ) : Type 0 where
   pub cycle : ℕ
   pub verdict : Verdict
-  pub comes : ComesToCorrection s (up_to time hs) device time cycle verdict
+  pub comes : ComesToPoint s (up_to time hs) device time cycle verdict
   pub more : verdict ≡ Cleared → ⊥
   pub timely : time ≤ until
 

@@ -6,7 +6,7 @@ use Rattle.net_plan.specs.declared.ids.LinkId.{LinkId}
 use Rattle.run_law.specs.records.Happenings.{Happening, time_of}
 use Rattle.run_law.specs.records.Order.{IsBefore, IsIn}
 use Rattle.run_law.specs.records.Ranks.{place_of}
-use Rattle.run_law.specs.runs.DueRecords.{IsDue}
+use Rattle.audit_law.specs.DueRecords.{IsDue}
 use Rattle.run_law.specs.runs.Runs.{IsFounded, IsRun}
 use Rattle.run_law.specs.scenario.Scenarios.{Scenario}
 use Rattle.audit_law.specs.Arrivals.{IsDueByArrival, OwesArrival, TellsArrival}

@@ -6,7 +6,7 @@ use Rattle.pcf_values.specs.declared.pcf.Pcf.{Pcf}
 use Rattle.run_law.specs.records.Happenings.{Happening, numbered, time_of}
 use Rattle.run_law.specs.control.Leaving.{Departs, Departure, Gives, leaves, on_cut_way, too_old}
 use Rattle.run_law.specs.declared.judgement.Reason.TheVariants.{Old}
-use Rattle.run_law.specs.runs.DueRecords.{IsDue}
+use Rattle.audit_law.specs.DueRecords.{IsDue}
 use Rattle.run_law.specs.scenario.Scenarios.{Scenario, is_broken}
 use Rattle.run_law.specs.scenario.Ways.{hold_at, way_from}
 use Rattle.run_law.specs.declared.note.NoteBody.{NoteBody}

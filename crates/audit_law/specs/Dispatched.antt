@@ -6,7 +6,7 @@ use Rattle.net_plan.specs.declared.ids.VlId.{VlId}
 use Rattle.run_law.specs.declared.note.NoteBody.TheVariants as notes
 use Rattle.run_law.specs.declared.note.NoteBody.{NoteBody}
 use Rattle.run_law.specs.records.Happenings.{Happening, time_of}
-use Rattle.run_law.specs.runs.DueRecords.{IsDue}
+use Rattle.audit_law.specs.DueRecords.{IsDue}
 use Rattle.run_law.specs.scenario.Scenarios.{Scenario}
 use Rattle.run_law.specs.scenario.Ways.{is_cut, way_from}
 use Rattle.run_law.specs.timed.Dispatching.{Dispatches, Sends}

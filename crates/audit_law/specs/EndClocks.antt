@@ -6,7 +6,8 @@ use Rattle.net_plan.specs.declared.tables.Device.{Device}
 use Rattle.run_law.specs.declared.note.NoteBody.TheVariants as notes
 use Rattle.run_law.specs.declared.note.NoteBody.{NoteBody}
 use Rattle.run_law.specs.records.Happenings.{Happening, time_of}
-use Rattle.run_law.specs.runs.DueRecords.{EndsAt, IsClockRecord, IsDue}
+use Rattle.audit_law.specs.DueRecords.{IsDue}
+use Rattle.run_law.specs.runs.DueRecords.{EndsAt, IsClockRecord}
 use Rattle.run_law.specs.scenario.Scenarios.{Scenario}
 use Rattle.sync_state.specs.declared.state.State.{State}
 use Rattle.tte_units.specs.Amount.{units_of}

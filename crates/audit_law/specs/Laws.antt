@@ -3,7 +3,7 @@ use Rattle.std.specs.Prelude.{◌≡◌, ℕ, ◌↔◌, List, [], ◌∷◌, �
 use Rattle.run_law.specs.records.Happenings.{Happening}
 use Rattle.run_law.specs.records.Order.{behind}
 use Rattle.run_law.specs.records.Ranks.{place_of}
-use Rattle.run_law.specs.runs.DueRecords.{IsDue}
+use Rattle.audit_law.specs.DueRecords.{IsDue}
 use Rattle.run_law.specs.runs.Runs.{IsNextOf, IsRun}
 use Rattle.run_law.specs.scenario.Scenarios.{Scenario}
 use Rattle.audit_law.specs.Findings.{AreSound, IsGap, IsLacking, IsUnfoundedAt, LacksNothing}

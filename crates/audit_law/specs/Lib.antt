@@ -1,3 +1,5 @@
+pub mod CorrectionNumbers
+pub mod DueRecords
 pub mod Findings
 pub mod Linked
 pub mod Debts

@@ -6,7 +6,7 @@ use Rattle.run_law.specs.control.Losses.{IsSendLost}
 use Rattle.run_law.specs.declared.note.NoteBody.TheVariants as notes
 use Rattle.run_law.specs.declared.note.NoteBody.{NoteBody}
 use Rattle.run_law.specs.records.Happenings.{Happening, time_of}
-use Rattle.run_law.specs.runs.DueRecords.{IsDue}
+use Rattle.audit_law.specs.DueRecords.{IsDue}
 use Rattle.run_law.specs.scenario.Scenarios.{Scenario}
 
 -- the record is due by the loss of a `send` event's octets

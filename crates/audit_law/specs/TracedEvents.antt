@@ -5,7 +5,8 @@ use Rattle.net_plan.specs.declared.event.What.{What}
 use Rattle.run_law.specs.declared.note.NoteBody.TheVariants as notes
 use Rattle.run_law.specs.declared.note.NoteBody.{NoteBody}
 use Rattle.run_law.specs.records.Happenings.{Happening}
-use Rattle.run_law.specs.runs.DueRecords.{IsDue, IsEventRecord}
+use Rattle.audit_law.specs.DueRecords.{IsDue}
+use Rattle.run_law.specs.runs.DueRecords.{IsEventRecord}
 use Rattle.run_law.specs.scenario.Scenarios.{Scenario}
 use Rattle.tte_units.specs.Amount.{amount}
 
