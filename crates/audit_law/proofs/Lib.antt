@@ -19,3 +19,10 @@ pub mod TracingEvents
 pub mod AllOwed
 pub mod FirstUnpaid
 pub mod Settling
+pub mod Verdicts
+pub mod Cuts
+pub mod Calm
+pub mod Steps
+pub mod Passing
+pub mod SameDue
+pub mod SameRuns

@@ -16,3 +16,4 @@ pub mod TracedEvents
 pub mod Owed
 pub mod DebtLaws
 pub mod Laws
+pub mod SameRuns

@@ -1,0 +1,112 @@
+-- Records behind the last change of a device's adjustment: they bring it to no state with a correction point.
+use Rattle.std.proofs.lemmas.Bool.{both_ways, eq-eqb, eqb-true}
+use Rattle.std.proofs.Common.{◌≡◌, ◌⊎◌, ℕ, ◌+◌, ◌≤◌, Bool, true, false, List, [], ◌∷◌, ◌++◌, Some, inl, inr, refl, sym, ap, subst, ◌∙◌, if◌then◌else◌}
+use Rattle.std.specs.List.{fold}
+use Rattle.std.specs.Prelude.{◌==◌}
+use Rattle.audit_law.specs.DueRecords.{ChangesState}
+use Rattle.net_plan.specs.declared.ids.DeviceId.{DeviceId}
+use Rattle.run_law.specs.control.Corrections.{cycle_after}
+use Rattle.run_law.specs.declared.judgement.Judgement.TheVariants.{Integrates}
+use Rattle.run_law.specs.declared.judgement.Why.TheVariants as whys
+use Rattle.run_law.specs.declared.judgement.Why.{Why}
+use Rattle.run_law.specs.declared.note.NoteBody.TheVariants as notes
+use Rattle.run_law.specs.declared.note.NoteBody.{NoteBody}
+use Rattle.run_law.specs.device.LocalClocks.{changes_adjustment}
+use Rattle.run_law.specs.device.States.{adjustment_with, cycle_in, is_joined_by, joined_adjustment, state_with}
+use Rattle.run_law.specs.records.Happenings.{Happening, numbered, time_of}
+use Rattle.run_law.specs.records.Order.{IsIn}
+use Rattle.run_law.specs.scenario.Scenarios.{Scenario}
+use Rattle.sync_state.specs.declared.state.State.TheVariants.{Integrating, Joining, Off, Synchronised}
+use Rattle.sync_state.specs.declared.state.State.{State}
+use Rattle.tte_units.specs.declared.units.Units.{Units}
+
+-- ---- a record that does not change the adjustment
+
+joined_changes : (device : DeviceId) (body : NoteBody) → is_joined_by device body ≡ true → changes_adjustment device body ≡ true
+joined_changes device (notes.Corrected other cycle by adjustment) e = absurd cc
+joined_changes device body e = e
+
+pub not_joined : (device : DeviceId) (body : NoteBody) → changes_adjustment device body ≡ false → is_joined_by device body ≡ false
+not_joined device (notes.Corrected other cycle by adjustment) e = refl
+not_joined device body e = e
+
+pub adjustment_stays : (s : Scenario) (device : DeviceId) (cycle : ℕ) (old : Units) (body : NoteBody) → changes_adjustment device body ≡ false
+    → adjustment_with s device cycle old body ≡ old
+adjustment_stays s device cycle old (notes.Corrected other number by adjustment) e = ap (λ (b : Bool). if b then adjustment else old) e
+adjustment_stays s device cycle old (notes.Permanent other link cause point Integrates) e =
+    ap (λ (b : Bool). if b then joined_adjustment s device cycle point else old) e
+adjustment_stays s device cycle old (notes.Compressed other opened at own members Integrates) e =
+    ap (λ (b : Bool). if b then joined_adjustment s device own at else old) e
+adjustment_stays s device cycle old other e = refl
+
+pub cycle_stays : (device : DeviceId) (next : ℕ) (h : Happening) (body : NoteBody) → changes_adjustment device body ≡ false → cycle_after device next h body ≡ next
+cycle_stays device next h (notes.Corrected other cycle by adjustment) e = ap (λ (b : Bool). if b then cycle + 1 else next) e
+cycle_stays device next h body e = ap (λ (b : Bool). if b then cycle_in h else next) (not_joined device body e)
+
+-- ---- states
+
+-- the state has correction points
+abbrev pub IsTimed : State → Type 0
+IsTimed Off = ⊥
+IsTimed Integrating = ⊥
+IsTimed Joining = Unit {0}
+IsTimed Synchronised = Unit {0}
+
+-- the record leaves the device's state, or makes it integrating
+abbrev pub IsCalm : DeviceId → NoteBody → Type 0
+IsCalm device body = (old : State) → (state_with device old body ≡ old) ⊎ (state_with device old body ≡ Integrating)
+
+-- a state that the record says of the device is integrating
+abbrev pub SaysIntegrating : DeviceId → NoteBody → Type 0
+SaysIntegrating device (notes.State other state cause why) = device.0 ≡ other.0 → state ≡ Integrating
+SaysIntegrating device other = Unit {0}
+
+state_or : (b : Bool) (state old : State) → (b ≡ true → state ≡ Integrating) → ((if b then state else old) ≡ old) ⊎ ((if b then state else old) ≡ Integrating)
+state_or true state old says = inr (says refl)
+state_or false state old says = inl refl
+
+pub calm : (device : DeviceId) (body : NoteBody) → changes_adjustment device body ≡ false → SaysIntegrating device body → IsCalm device body
+calm device (notes.State other state cause why) e says old = state_or (device.0 == other.0) state old (λ b. says (eqb-true device.0 other.0 b))
+calm device (notes.Corrected other cycle by adjustment) e says old = inl refl
+calm device body e says old = inl (ap (λ (b : Bool). if b then Joining else old) (not_joined device body e))
+
+-- a change of state that no change of the adjustment brings is to integrating
+pub leaves : (s : Scenario) (front : List Happening) (device : DeviceId) (t : ℕ) (state : State) (cause : ℕ) (why : Why)
+    → ((h : Happening) → numbered front cause ≡ Some h → time_of h ≡ t → changes_adjustment device h.note.body ≡ false)
+    → ChangesState s front device t state cause why → state ≡ Integrating
+leaves s front device t state cause whys.On quiet c = c.0
+leaves s front device t state cause whys.Frame quiet c =
+    let body = c.1.0.note.body in
+    absurd (both_ways (changes_adjustment device body) (quiet c.1.0 c.1.1.there c.1.1.same_time) (joined_changes device body c.1.2))
+leaves s front device t state cause whys.Correction quiet c =
+    let body = c.2.3.note.body in
+    absurd (both_ways (changes_adjustment device body) (quiet c.2.3 c.2.4.there c.2.4.same_time)
+    (ap (changes_adjustment device) c.2.5 ∙ eq-eqb device.0 device.0 refl))
+leaves s front device t state cause whys.SyncClique quiet c = c.0
+leaves s front device t state cause whys.AsyncClique quiet c = c.0
+
+-- ---- what calm records leave
+
+abbrev after : DeviceId → State → Happening → State
+after device old h = state_with device old h.note.body
+
+from_integrating : (device : DeviceId) (h : Happening) → IsCalm device h.note.body → after device Integrating h ≡ Integrating
+from_integrating device h is = elim (is Integrating) [ inl same ↦ same | inr same ↦ same ]
+
+pub stays_integrating : (device : DeviceId) (ys : List Happening) → ((h : Happening) → IsIn h ys → IsCalm device h.note.body)
+    → fold (after device) Integrating ys ≡ Integrating
+stays_integrating device [] each = refl
+stays_integrating device (y ∷ ys) each =
+    ap (λ (u : State). fold (after device) u ys) (from_integrating device y (each y (inl refl))) ∙ stays_integrating device ys (λ h i. each h (inr i))
+
+pub stays_or_leaves : (device : DeviceId) (old : State) (ys : List Happening) → ((h : Happening) → IsIn h ys → IsCalm device h.note.body)
+    → (fold (after device) old ys ≡ old) ⊎ (fold (after device) old ys ≡ Integrating)
+stays_or_leaves device old [] each = inl refl
+stays_or_leaves device old (y ∷ ys) each =
+    elim (each y (inl refl) old) [
+      | inl same ↦ elim (stays_or_leaves device old ys (λ h i. each h (inr i))) [
+        | inl kept ↦ inl (ap (λ (u : State). fold (after device) u ys) same ∙ kept)
+        | inr left ↦ inr (ap (λ (u : State). fold (after device) u ys) same ∙ left)
+      ]
+      | inr left ↦ inr (ap (λ (u : State). fold (after device) u ys) left ∙ stays_integrating device ys (λ h i. each h (inr i)))
+    ]

@@ -1,0 +1,189 @@
+-- Founded lists in the order of time, cut at a time.
+use Rattle.std.proofs.lemmas.Bool.{cases_Bool, cases_lt, le-ltb, lt-ltb}
+use Rattle.std.proofs.lemmas.List.{append-nil}
+use Rattle.std.proofs.lemmas.List.Elements.{filter-append}
+use Rattle.std.proofs.Common.{◌≡◌, ◌⊎◌, ℕ, zero, suc, ◌+◌, ◌<◌, ◌≤◌, Bool, true, false, List, [], ◌∷◌, ◌++◌, drop, length, Option, Some, None, filter, not, inl, inr, refl, sym, ap, subst, ◌∙◌, append_assoc, arith, if◌then◌else◌, ◌-◌}
+use Rattle.std.specs.List.{after_last, fold, last_or, suffix_len}
+use Rattle.std.specs.Option.{option_map_or}
+use Rattle.std.specs.Prelude.{nat_lt}
+use Rattle.audit_law.proofs.LastParts.{all_kept}
+use Rattle.run_law.proofs.law.FirstPlaces.{IsSplit, front_founded, none_kept, split}
+use Rattle.run_law.proofs.runs.Lacking.{behind_first}
+use Rattle.run_law.proofs.runs.Places.{before_later_time, chain, earlier_time, in_parts, in_right, never_self}
+use Rattle.run_law.specs.records.Happenings.{Happening, earlier, time_of}
+use Rattle.run_law.specs.records.Order.{AllBefore, IsBefore, IsIn, NoneBefore}
+use Rattle.run_law.specs.records.Ranks.{key, members_in, place_of, rank}
+use Rattle.run_law.specs.runs.Runs.{IsFounded, IsRun}
+
+abbrev Due : Type 1
+Due = List Happening → Happening → Type 0
+
+-- ---- the order of time
+
+abbrev pub AreSorted : List Happening → Type 0
+AreSorted [] = Unit {0}
+AreSorted (x ∷ xs) = ((y : Happening) → IsIn y xs → time_of x ≤ time_of y) × AreSorted xs
+
+time_before : (u t : ℕ) (ks ls : List ℕ) → IsBefore (u ∷ ks) (t ∷ ls) → u ≤ t
+time_before u t ks ls (inl lt) = omega (arith, lt)
+time_before u t ks ls (inr b) = omega (arith, b.0)
+
+abbrev rest_of : Happening → List ℕ
+rest_of h = rank h.note.body ∷ key (members_in h) h.note.body
+
+pub in_time : (x y : Happening) → IsBefore (place_of x) (place_of y) → time_of x ≤ time_of y
+in_time x y b = time_before (time_of x) (time_of y) (rest_of x) (rest_of y) b
+
+sorted_from : (IsDue : Due) (ps xs : List Happening) → IsFounded place_of IsDue (ps ++ xs) → AreSorted xs
+sorted_from IsDue ps [] founded = tt
+sorted_from IsDue ps (x ∷ xs) founded = (
+  λ y i. in_time x y (behind_first place_of IsDue ps xs x y founded i),
+  sorted_from IsDue (ps ++ x ∷ []) xs (subst (IsFounded place_of IsDue) (sym (append_assoc ps (x ∷ []) xs)) founded),
+)
+
+-- the records of a founded list are in the order of time
+pub sorted : (IsDue : Due) (hs : List Happening) → IsFounded place_of IsDue hs → AreSorted hs
+sorted IsDue hs founded = sorted_from IsDue [] hs founded
+
+-- ---- the last of a kind
+
+abbrev latest : Option Happening → List Happening → ℕ
+latest o xs = option_map_or time_of (last_or o xs) 0
+
+abbrev of_kind : (p : Happening → Bool) → List Happening → List Happening
+of_kind p xs = filter p xs
+
+from_last : (p : Happening → Bool) (o : Option Happening) (xs : List Happening) → AreSorted xs
+    → ((y : Happening) → IsIn y xs → option_map_or time_of o 0 ≤ time_of y) → option_map_or time_of o 0 ≤ latest o (of_kind p xs)
+from_last p o [] order low = omega arith
+from_last p o (x ∷ xs) order low =
+    elim (p x) as (λ b. option_map_or time_of o 0 ≤ latest o (if b then x ∷ filter p xs else filter p xs)) [
+      | true ↦ (let more = from_last p (Some x) xs order.1 order.0 in let here = low x (inl refl) in omega (arith, more, here))
+      | false ↦ from_last p o xs order.1 (λ y i. low y (inr i))
+    ]
+
+by_last : (p : Happening → Bool) (o : Option Happening) (xs : List Happening) (h : Happening) → AreSorted xs → IsIn h xs → p h ≡ true
+    → time_of h ≤ latest o (of_kind p xs)
+by_last p o [] h order i is = absurd i
+by_last p o (x ∷ xs) h order (inl same) is =
+    let hit : p x ≡ true = ap p (sym same) ∙ is in
+    let more = from_last p (Some x) xs order.1 order.0 in
+    let at : time_of h ≡ time_of x = ap time_of same in
+    let all : time_of h ≤ latest (Some x) (filter p xs) = omega (arith, more, at) in
+    subst (λ (b : Bool). time_of h ≤ latest o (if b then x ∷ filter p xs else filter p xs)) (sym hit) all
+by_last p o (x ∷ xs) h order (inr i) is =
+    elim (p x) as (λ b. time_of h ≤ latest o (if b then x ∷ filter p xs else filter p xs))
+    [ true ↦ by_last p (Some x) xs h order.1 i is | false ↦ by_last p o xs h order.1 i is ]
+
+-- no record of a kind is later than the last of the kind
+pub no_later : (p : Happening → Bool) (xs : List Happening) (h : Happening) → AreSorted xs → IsIn h xs → p h ≡ true
+    → time_of h ≤ option_map_or time_of (last_or None (filter p xs)) 0
+no_later p xs h order i is = by_last p None xs h order i is
+
+-- ---- a list cut at a time
+
+pub record IsCutAt (hs : List Happening) (t : ℕ) : Type 0 where
+  pub front : List Happening
+  pub rest : List Happening
+  pub whole : hs ≡ front ++ rest
+  pub same : earlier t hs ≡ front
+  pub before : (h : Happening) → IsIn h front → time_of h < t
+  pub later : (h : Happening) → IsIn h rest → t ≤ time_of h
+
+pub cut_at : (IsDue : Due) (hs : List Happening) (t : ℕ) → IsFounded place_of IsDue hs → IsCutAt hs t
+cut_at IsDue hs t founded =
+    let at = split place_of IsDue hs (t ∷ []) founded in
+    let test : Happening → Bool = λ h. nat_lt (time_of h) t in
+    let before : (h : Happening) → IsIn h at.front → time_of h < t = λ h i. earlier_time (time_of h) t (rest_of h) (at.before h i) in
+    let later : (h : Happening) → IsIn h at.rest → t ≤ time_of h = λ h i.
+    elim (cases_lt (time_of h) t) [ inl lt ↦ absurd (at.none h i (inl lt)) | inr ge ↦ ge ] in
+    record {
+      front = at.front;
+      rest = at.rest;
+      whole = at.whole;
+      same = ap (filter test) at.whole
+          ∙ filter-append test at.front at.rest
+          ∙ ap (λ (gs : List Happening). gs ++ filter test at.rest) (all_kept test at.front (λ h i. lt-ltb (time_of h) t (before h i)))
+          ∙ ap (λ (gs : List Happening). at.front ++ gs) (none_kept test at.rest (λ h i. le-ltb (time_of h) t (later h i)))
+          ∙ append-nil at.front;
+      before = before;
+      later = later;
+    }
+
+-- the front of a run, up to an earlier time, is the run up to then
+pub run_before : (IsDue : Due) (hs : List Happening) (u t : ℕ) → t ≤ u → IsRun place_of IsDue (u ∷ []) hs → (cut : IsCutAt hs t)
+    → IsRun place_of IsDue (t ∷ []) cut.front
+run_before IsDue hs u t le run cut =
+    let here = subst (IsRun place_of IsDue (u ∷ [])) cut.whole run in
+    record {
+      founded = front_founded place_of IsDue cut.front cut.rest here.founded;
+      full = λ ps qs y e before none due now.
+          let early = earlier_time (time_of y) t (rest_of y) now in
+          let whole = ap (λ (gs : List Happening). gs ++ cut.rest) e ∙ append_assoc ps qs cut.rest in
+          let none_behind : NoneBefore place_of (qs ++ cut.rest) (place_of y) = λ n i b. elim (in_parts n qs cut.rest i) [
+            | inl l ↦ none n l b
+            | inr r ↦ let late = cut.later n r in let sooner = in_time n y b in omega (arith, late, sooner, early)
+          ] in
+          let found = here.full ps (qs ++ cut.rest) y whole before none_behind due (before_later_time (place_of y) t u le now) in
+          elim (in_parts found.0 cut.front cut.rest found.1) [
+            | inl l ↦ (found.0, l, found.2)
+            | inr r ↦
+                let late = cut.later found.0 r in
+                let times : time_of found.0 ≡ time_of y = cc (found.2) in
+                absurd (omega (arith, late, times, early))
+          ];
+      within = λ n i. inl (cut.before n i);
+    }
+
+-- ---- a run by other causes
+
+-- a run is one by other causes that are the same where its records part
+pub run_by : (IsDue IsCaused : Due) (mark : List ℕ) (hs : List Happening)
+    → ((ps qs : List Happening) (y : Happening) → hs ≡ ps ++ qs → AllBefore place_of ps (place_of y) → NoneBefore place_of qs (place_of y)
+    → IsBefore (place_of y) mark → (IsDue ps y → IsCaused ps y) × (IsCaused ps y → IsDue ps y))
+    → IsRun place_of IsDue mark hs → IsRun place_of IsCaused mark hs
+run_by IsDue IsCaused mark hs same run = record {
+  founded = λ ps qs x e.
+      let due = run.founded ps qs x e in
+      let order = subst (IsFounded place_of IsDue) e run.founded in
+      let none : NoneBefore place_of (x ∷ qs) (place_of x) = λ n i b. elim i [
+        | inl is ↦ never_self (place_of x) (subst (λ (h : Happening). IsBefore (place_of h) (place_of x)) is b)
+        | inr later ↦ never_self (place_of x) (chain (place_of x) (place_of n) (place_of x) (behind_first place_of IsDue ps qs x n order later) b)
+      ] in
+      let here = run.within x (subst (IsIn x) (sym e) (in_right x ps (x ∷ qs) (inl refl))) in
+      (due.0, (same ps (x ∷ qs) x e due.0 none here).0 due.1);
+  full = λ ps qs y e before none due here. run.full ps qs y e before none ((same ps qs y e before none here).1 due) here;
+  within = run.within;
+}
+
+-- ---- what a list leaves where what is added changes nothing
+
+stays_all : {A : Type 0} (f : A → Happening → A) (a : A) (xs : List Happening) → ((b : A) (h : Happening) → IsIn h xs → f b h ≡ b) → fold f a xs ≡ a
+stays_all f a [] stays = refl
+stays_all f a (x ∷ xs) stays = ap (λ b. fold f b xs) (stays a x (inl refl)) ∙ stays_all f a xs (λ b h i. stays b h (inr i))
+
+pub stays : {A : Type 0} (f : A → Happening → A) (a : A) (xs ys : List Happening) → ((b : A) (h : Happening) → IsIn h ys → f b h ≡ b)
+    → fold f a (xs ++ ys) ≡ fold f a xs
+stays f a [] ys quiet = stays_all f a ys quiet
+stays f a (x ∷ xs) ys quiet = stays f (f a x) xs ys quiet
+
+pub fold_parts : {A : Type 0} (f : A → Happening → A) (a : A) (xs ys : List Happening) → fold f a (xs ++ ys) ≡ fold f (fold f a xs) ys
+fold_parts f a [] ys = refl
+fold_parts f a (x ∷ xs) ys = fold_parts f (f a x) xs ys
+
+-- ---- what stands behind the last of a kind is in the list
+
+in_drop : {X : Type 0} (n : ℕ) (xs : List X) (x : X) → IsIn x (drop n xs) → IsIn x xs
+in_drop zero xs x i = i
+in_drop (suc n) [] x i = i
+in_drop (suc n) (y ∷ xs) x i = inr (in_drop n xs x i)
+
+pub in_behind : {X : Type 0} (p : X → Bool) (xs : List X) (x : X) → IsIn x (after_last p xs) → IsIn x xs
+in_behind {X} p xs x i = in_drop (length xs - suffix_len (λ (y : X). not (p y)) xs) xs x i
+
+-- two tests that agree on a list keep the same of it
+pub same_kept : {X : Type 0} (p q : X → Bool) (xs : List X) → ((x : X) → IsIn x xs → p x ≡ q x) → filter p xs ≡ filter q xs
+same_kept p q [] same = refl
+same_kept {X} p q (x ∷ xs) same =
+    ap (λ (b : Bool). if b then x ∷ filter p xs else filter p xs) (same x (inl refl))
+    ∙ ap (λ (t : List X). if q x then x ∷ t else t) (same_kept p q xs (λ y i. same y (inr i)))

@@ -1,0 +1,27 @@
+-- An audit numbers correction points as a run does: a list of records is a run where it is one by what is due in an
+-- audit.
+use Rattle.std.specs.Prelude.{ℕ, ◌+◌, pos, ◌≤ℤ◌, ◌↔◌, List, [], ◌∷◌}
+use Rattle.audit_law.specs.DueRecords.{IsDue}
+use Rattle.drift_clock.specs.ClockLaws.{KeepsClockLaws}
+use Rattle.net_plan.specs.Ranges.{IsInRange}
+use Rattle.net_plan.specs.declared.event.Event.{Event}
+use Rattle.net_plan.specs.declared.ids.DeviceId.{DeviceId}
+use Rattle.run_law.specs.records.Happenings.{Happening}
+use Rattle.run_law.specs.records.Order.{IsIn}
+use Rattle.run_law.specs.records.Ranks.{place_of}
+use Rattle.run_law.specs.runs.DueRecords as runs
+use Rattle.run_law.specs.runs.Runs.{IsRun}
+use Rattle.run_law.specs.scenario.Scenarios.{Scenario}
+use Rattle.tte_units.specs.Amount.{amount}
+
+-- the network is in its ranges, its events are of times from 0 on, and its clocks keep the clock laws
+pub record IsClocked (s : Scenario) : Type 0 where
+  pub range : IsInRange s.network
+  pub begun : (e : Event) → IsIn e s.events → pos 0 ≤ℤ e.time.0
+  pub clocks : (device : DeviceId) → KeepsClockLaws s.network.rho (amount s.network.grain) (s.reading device)
+
+-- what is the run up to a time by one of the two is it by the other
+abbrev pub SameRuns : Type 0
+SameRuns =
+    (s : Scenario) (hs : List Happening) (until : ℕ) → IsClocked s
+    → IsRun place_of (runs.IsDue s) ((until + 1) ∷ []) hs ↔ IsRun place_of (IsDue s) ((until + 1) ∷ []) hs
