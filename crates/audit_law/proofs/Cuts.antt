@@ -1,13 +1,13 @@
 -- Founded lists in the order of time, cut at a time.
-use Rattle.std.proofs.lemmas.Bool.{cases_Bool, cases_lt, le-ltb, lt-ltb}
+use Rattle.std.proofs.lemmas.Bool.{cases_lt, le-ltb, lt-ltb}
 use Rattle.std.proofs.lemmas.List.{append-nil}
 use Rattle.std.proofs.lemmas.List.Elements.{filter-append}
-use Rattle.std.proofs.Common.{◌≡◌, ◌⊎◌, ℕ, zero, suc, ◌+◌, ◌<◌, ◌≤◌, Bool, true, false, List, [], ◌∷◌, ◌++◌, drop, length, Option, Some, None, filter, not, inl, inr, refl, sym, ap, subst, ◌∙◌, append_assoc, arith, if◌then◌else◌, ◌-◌}
+use Rattle.std.proofs.Common.{◌≡◌, ℕ, zero, suc, ◌<◌, ◌≤◌, Bool, true, false, List, [], ◌∷◌, ◌++◌, drop, length, Option, Some, None, filter, not, inl, inr, refl, sym, ap, subst, ◌∙◌, append_assoc, arith, if◌then◌else◌, ◌-◌}
 use Rattle.std.specs.List.{after_last, fold, last_or, suffix_len}
 use Rattle.std.specs.Option.{option_map_or}
 use Rattle.std.specs.Prelude.{nat_lt}
 use Rattle.audit_law.proofs.LastParts.{all_kept}
-use Rattle.run_law.proofs.law.FirstPlaces.{IsSplit, front_founded, none_kept, split}
+use Rattle.run_law.proofs.law.FirstPlaces.{front_founded, none_kept, split}
 use Rattle.run_law.proofs.runs.Lacking.{behind_first}
 use Rattle.run_law.proofs.runs.Places.{before_later_time, chain, earlier_time, in_parts, in_right, never_self}
 use Rattle.run_law.specs.records.Happenings.{Happening, earlier, time_of}

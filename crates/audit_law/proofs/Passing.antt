@@ -1,10 +1,10 @@
 -- In a run no device passes a correction point without a record, but a joiner that of the cycle by whose frame it
 -- joined.
-use Rattle.std.proofs.lemmas.Bool.{and_from, and_parts, and_right, both_ways, cases_Bool, cases_lt, eq-eqb, eqb-true, false_from_ne_true, le-leb, leb-true, lt-ltb, ltb-true, or_left, or_parts, or_right}
+use Rattle.std.proofs.lemmas.Bool.{and_from, and_parts, and_right, both_ways, cases_Bool, cases_lt, eq-eqb, eqb-true, false_from_ne_true, le-leb, leb-true, ltb-true, or_left, or_right}
 use Rattle.std.proofs.lemmas.Int.{by_lt_z, ints}
 use Rattle.std.proofs.lemmas.List.{append-nil}
 use Rattle.std.proofs.lemmas.List.Elements.{filter-append}
-use Rattle.std.proofs.Common.{◌≡◌, ◌⊎◌, ℕ, zero, suc, ℤ, pos, negsuc, ◌≤ℤ◌, unsigned_abs, ◌+◌, ◌-◌, ◌*◌, ◌^◌, ◌<◌, ◌≤◌, Bool, true, false, List, [], ◌∷◌, ◌++◌, Option, Some, None, slice_get, filter, inl, inr, refl, sym, ap, subst, ◌∙◌, arith, if◌then◌else◌}
+use Rattle.std.proofs.Common.{◌≡◌, ℕ, zero, suc, ℤ, pos, negsuc, ◌≤ℤ◌, unsigned_abs, ◌+◌, ◌-◌, ◌*◌, ◌^◌, ◌<◌, ◌≤◌, Bool, true, false, List, [], ◌∷◌, ◌++◌, Option, Some, None, slice_get, filter, inl, inr, refl, sym, ap, subst, ◌∙◌, arith, if◌then◌else◌}
 use Rattle.std.specs.Int.{int_div_euclid}
 use Rattle.std.specs.List.{fold, last_or, list_any}
 use Rattle.std.specs.Option.{option_map_or}
@@ -31,8 +31,7 @@ use Rattle.net_plan.specs.declared.event.Event.{Event}
 use Rattle.net_plan.specs.declared.event.What.TheVariants.{On}
 use Rattle.net_plan.specs.declared.event.What.{What}
 use Rattle.net_plan.specs.declared.ids.DeviceId.{DeviceId}
-use Rattle.net_plan.specs.declared.network.Network.{Network}
-use Rattle.run_law.proofs.law.FirstPlaces.{in_filter, none_kept, numbered_front, numbered_in}
+use Rattle.run_law.proofs.law.FirstPlaces.{none_kept, numbered_front, numbered_in}
 use Rattle.run_law.proofs.runs.Lacking.{behind_first}
 use Rattle.run_law.proofs.runs.Places.{in_left, in_right, parted}
 use Rattle.run_law.proofs.runs.SameSteps.{same_some}
@@ -511,8 +510,8 @@ module _ (s : Scenario) (clocked : IsClocked s) (gs : List Happening) (device : 
   come_none : (by : ℕ) → shown (by - 1) <ℤ first → come by ≡ 0
   come_none by short =
       let off = false_from_ne_true (has_come by) (λ e.
-          let reached = int_le-is first (shown (by - 1)) (and_parts (int_lt (shown changed) first) (int_le first (shown (by - 1))) e).1 in
-          omega (arith, ints, short, reached)) in
+      let reached = int_le-is first (shown (by - 1)) (and_parts (int_lt (shown changed) first) (int_le first (shown (by - 1))) e).1 in
+      omega (arith, ints, short, reached)) in
       ap (λ (b : Bool). if b then further by else 0) off
 
   come_one : (by : ℕ) → shown changed <ℤ first → first ≤ℤ shown (by - 1) → shown (by - 1) <ℤ (first +ℤ s.network.cycle.0) → come by ≡ 1
@@ -537,7 +536,7 @@ module _ (s : Scenario) (clocked : IsClocked s) (gs : List Happening) (device : 
         | inr ge ↦ let up = rises r.time changed ge in absurd (omega (arith, ints, up, there, below))
       ] in
       let before : (u : ℕ) → changed ≤ u → u < r.time → shown u <ℤ first = λ u from lt.
-          let low = r.reach.not_before u (omega (arith, ints, from)) (omega (arith, ints, lt)) in omega (arith, ints, low) in
+      let low = r.reach.not_before u (omega (arith, ints, from)) (omega (arith, ints, lt)) in omega (arith, ints, low) in
       let none = come_none r.time (before (r.time - 1) (omega (arith, late)) (omega (arith, late))) in
       let number : recorded_cycle gs device + come r.time ≡ recorded_cycle gs device = omega (arith, none) in
       record {
@@ -630,8 +629,8 @@ none_at_start s clocked gs device by le first =
     let low = pos (s.reading device changed) +ℤ (adjustment_after s gs device).0 in
     let high = pos (s.reading device (by - 1)) +ℤ (adjustment_after s gs device).0 in
     false_from_ne_true (int_lt low first && int_le first high) (λ e.
-        let both = and_parts (int_lt low first) (int_le first high) e in
-        let below = int_lt-is low first both.0 in
-        let reached = int_le-is first high both.1 in
-        let up = (clocked.clocks device).never_falls (by - 1) changed (omega (arith, le)) in
-        omega (arith, ints, up, below, reached))
+    let both = and_parts (int_lt low first) (int_le first high) e in
+    let below = int_lt-is low first both.0 in
+    let reached = int_le-is first high both.1 in
+    let up = (clocked.clocks device).never_falls (by - 1) changed (omega (arith, le)) in
+    omega (arith, ints, up, below, reached))

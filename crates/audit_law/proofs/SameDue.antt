@@ -1,6 +1,6 @@
 -- Behind a run an audit and a run have the same records due.
-use Rattle.std.proofs.lemmas.Bool.{and_from, and_parts, and_right, cases_Bool, eq-eqb}
-use Rattle.std.proofs.Common.{◌≡◌, ℕ, zero, suc, ℤ, pos, ◌+◌, ◌-◌, ◌≤◌, Bool, true, false, List, [], ◌∷◌, Some, filter, refl, sym, ap, subst, ◌∙◌, arith, if◌then◌else◌}
+use Rattle.std.proofs.lemmas.Bool.{and_from, and_parts, and_right}
+use Rattle.std.proofs.Common.{◌≡◌, ℕ, zero, suc, ℤ, pos, ◌+◌, ◌-◌, ◌≤◌, Bool, true, false, List, [], ◌∷◌, Some, refl, sym, ap, subst, ◌∙◌, arith, if◌then◌else◌}
 use Rattle.std.specs.Int.{int_div_euclid}
 use Rattle.std.specs.List.{after_last, filter_map}
 use Rattle.std.proofs.lemmas.Int.{ints}
@@ -8,13 +8,12 @@ use Rattle.run_law.specs.device.Standpoints.{natural}
 use Rattle.std.specs.Prelude.{◌+ℤ◌, ◌-ℤ◌, ◌==◌, ◌&&◌, ◌||◌, int_le, int_lt, nat_lt, not}
 use Rattle.audit_law.proofs.Calm.{IsTimed}
 use Rattle.audit_law.proofs.Cuts.{in_behind, same_kept}
-use Rattle.audit_law.proofs.Determined.{IsOfNoPoint, caused_in_audit, caused_in_run}
+use Rattle.audit_law.proofs.Determined.{caused_in_audit, caused_in_run}
 use Rattle.audit_law.proofs.Passing.{come_of, counts, last_changed, none_at_start}
 use Rattle.audit_law.proofs.Steps.{int_le-from, int_le-is}
 use Rattle.audit_law.specs.CorrectionNumbers.{ComesToPoint, heard_since_point, points_come, standing_at}
 use Rattle.audit_law.specs.DueRecords.{IsCaused, IsDue}
 use Rattle.audit_law.specs.SameRuns.{IsClocked}
-use Rattle.membership.specs.Hearing.{Hearing}
 use Rattle.membership.specs.Summary.{Summarizes}
 use Rattle.net_plan.specs.declared.ids.DeviceId.{DeviceId}
 use Rattle.run_law.specs.control.Corrections.{ComesToCorrection, correction_value, has_cleared, heard_since, hearing_by, integration_cycle, is_integration_cycle, recorded_cycle, standing_before}
@@ -121,10 +120,10 @@ module _ (s : Scenario) (clocked : IsClocked s) (ps : List Happening) (t : ℕ) 
         let now = has_cleared s ps device t t in
         ap (filter_map (λ h. hearing_by s.network device h h.note.body)) (same_kept (λ h. points_come s ps device t t == points_come s ps device t (time_of h))
         (λ h. not now || has_cleared s ps device t (time_of h)) (after_last set ps) (λ h i.
-            let le = up_to_now h (in_behind set ps h i) in
-            ap (λ (k : ℕ). k == points_come s ps device t (time_of h)) (count t (omega arith))
-            ∙ ap (λ (k : ℕ). (if now then 1 else 0) == k) (count (time_of h) le)
-            ∙ kept_by now (has_cleared s ps device t (time_of h)) (cleared_up (time_of h) le)))
+        let le = up_to_now h (in_behind set ps h i) in
+        ap (λ (k : ℕ). k == points_come s ps device t (time_of h)) (count t (omega arith))
+        ∙ ap (λ (k : ℕ). (if now then 1 else 0) == k) (count (time_of h) le)
+        ∙ kept_by now (has_cleared s ps device t (time_of h)) (cleared_up (time_of h) le)))
 
   timed_before : (device : DeviceId) (n cycle : ℕ) → point_in (state_before s ps device t) n ≡ Some cycle → IsTimed (state_after s (earlier t ps) device)
   timed_before device n cycle e =

@@ -2,7 +2,7 @@
 use Rattle.std.proofs.lemmas.List.{append-nil}
 use Rattle.std.proofs.lemmas.List.Elements.{filter-append}
 use Rattle.std.proofs.lemmas.Bool.{cases_lt, le-ltb}
-use Rattle.std.proofs.Common.{◌≡◌, ℕ, zero, suc, ◌+◌, ◌<◌, ◌≤◌, List, [], ◌∷◌, ◌++◌, filter, inl, inr, refl, sym, ap, subst, ◌∙◌, arith}
+use Rattle.std.proofs.Common.{◌≡◌, ℕ, zero, suc, ◌+◌, ◌<◌, ◌≤◌, List, [], ◌∷◌, ◌++◌, inl, inr, sym, ap, subst, ◌∙◌, arith}
 use Rattle.std.specs.Prelude.{nat_lt}
 use Rattle.audit_law.proofs.Cuts.{cut_at, in_time, run_before, run_by}
 use Rattle.audit_law.proofs.SameDue.{same_due}
@@ -46,8 +46,8 @@ soon y u b = earlier_time (time_of y) u (rank y.note.body ∷ key (members_in y)
 in_run : (s : Scenario) (clocked : IsClocked s) (hs : List Happening) (u : ℕ) → IsRun place_of (IsDue s) (u ∷ []) hs → IsRun place_of (runs.IsDue s) (u ∷ []) hs
 in_run s clocked hs u run =
     run_by (IsDue s) (runs.IsDue s) (u ∷ []) hs (λ ps qs y whole before none here.
-        let lt = soon y u here in
-        same_due s clocked ps y (earlier_run (IsDue s) hs ps qs u y run (omega (arith, lt)) whole none) (up_to_now ps y before)) run
+    let lt = soon y u here in
+    same_due s clocked ps y (earlier_run (IsDue s) hs ps qs u y run (omega (arith, lt)) whole none) (up_to_now ps y before)) run
 
 -- and a run is one of an audit: up to each time, since it is so up to each earlier one
 in_audit : (s : Scenario) (clocked : IsClocked s) (most u : ℕ) → u ≤ most → (hs : List Happening) → IsRun place_of (runs.IsDue s) (u ∷ []) hs
@@ -56,11 +56,11 @@ in_audit s clocked zero u le hs run =
     run_by (runs.IsDue s) (IsDue s) (u ∷ []) hs (λ ps qs y whole before none here. let lt = soon y u here in absurd (omega (arith, lt, le))) run
 in_audit s clocked (suc most) u le hs run =
     run_by (runs.IsDue s) (IsDue s) (u ∷ []) hs (λ ps qs y whole before none here.
-        let lt = soon y u here in
-        let front = in_audit s clocked most (time_of y) (omega (arith, lt, le)) (earlier (time_of y) ps)
-        (earlier_run (runs.IsDue s) hs ps qs u y run (omega (arith, lt)) whole none) in
-        let same = same_due s clocked ps y front (up_to_now ps y before) in
-        (same.1, same.0)) run
+    let lt = soon y u here in
+    let front = in_audit s clocked most (time_of y) (omega (arith, lt, le)) (earlier (time_of y) ps)
+    (earlier_run (runs.IsDue s) hs ps qs u y run (omega (arith, lt)) whole none) in
+    let same = same_due s clocked ps y front (up_to_now ps y before) in
+    (same.1, same.0)) run
 
 pub same_runs : SameRuns
 same_runs s hs until clocked = (λ run. in_audit s clocked (until + 1) (until + 1) (omega arith) hs run, λ run. in_run s clocked hs (until + 1) run)

@@ -6,7 +6,7 @@ use Rattle.net_plan.specs.declared.event.What.TheVariants.{End}
 use Rattle.net_plan.specs.declared.network.Network.{Network}
 use Rattle.run_law.specs.records.Happenings.{happenings}
 use Rattle.run_law.specs.records.Ranks.{place_of}
-use Rattle.run_law.specs.runs.DueRecords.{IsDue}
+use Rattle.audit_law.specs.DueRecords.{IsDue}
 use Rattle.run_law.specs.declared.note.Note.{Note}
 use Rattle.run_law.proofs.scenario.Decisions.{any_first, any_later}
 use Rattle.tte_units.specs.Amount.{units_of}
@@ -18,6 +18,7 @@ use Rattle.tte_audit.specs.Named.{IsNamed}
 use Rattle.tte_audit.specs.Report.{AreEventsRight, EndWith, IsEventFault, IsOfEvents, behind_time, events_of, scenario_of}
 use Rattle.tte_audit.specs.declared.refusal.AuditRefusal.{AuditRefusal}
 use Rattle.tte_audit.specs.declared.refusal.AuditRefusal.TheVariants as refusals
+use Rattle.tte_audit.proofs.ReportRuns.{audit_run}
 use Rattle.tte_audit.proofs.Meet.{form_or_report, one_form, one_list}
 use Rattle.audit_law.proofs.Sound.{fronts, full_of_run, none_unsound, one_unsound, sound_of_run}
 
@@ -65,11 +66,11 @@ one_end events time other a b =
 
 -- ---- the records of a report, and its end
 
-record AreSame (notes others : List Note) (time last : Units) : Type 0 where
-  lists : notes ≡ others
-  times : time ≡ last
+pub record AreSame (notes others : List Note) (time last : Units) : Type 0 where
+  pub lists : notes ≡ others
+  pub times : time ≡ last
 
-same_of : (network : Network) (octets : List ℕ) (notes others : List Note) (time last : Units) → IsNamed network → IsOfEvents network octets notes time
+pub same_of : (network : Network) (octets : List ℕ) (notes others : List Note) (time last : Units) → IsNamed network → IsOfEvents network octets notes time
     → IsOfEvents network octets others last → AreSame notes others time last
 same_of network octets notes others time last named a b =
     let lists = one_list network octets notes others named a.text b.text in
@@ -105,11 +106,12 @@ not_both network octets count (refusals.Unfounded n) named of a h =
     let found = subst (λ (t : Units). IsUnfoundedAt place_of (IsDue (scenario_of network a.notes)) (behind_time t) (happenings network a.notes) n) same.times
     (subst (λ (ns : List Note). IsUnfoundedAt place_of (IsDue (scenario_of network ns)) (behind_time h.1) (happenings network ns) n) same.lists h.3) in
     none_unsound place_of (IsDue (scenario_of network a.notes)) (behind_time a.time) (happenings network a.notes) n
-    (sound_of_run place_of (IsDue (scenario_of network a.notes)) (behind_time a.time) (happenings network a.notes) a.run) found
+    (sound_of_run place_of (IsDue (scenario_of network a.notes)) (behind_time a.time) (happenings network a.notes) (audit_run network a.notes a.time named a.events.right a.run)) found
 not_both network octets count (refusals.Lacking t) named of a h =
     let same = same_of network octets h.0 a.notes h.1 a.time named h.2 a.events in
     let lack = subst (λ (e : Units). IsFirstLackOf network a.notes e t) same.times (subst (λ (ns : List Note). IsFirstLackOf network ns h.1 t) same.lists h.4) in
-    full_of_run place_of (IsDue (scenario_of network a.notes)) (behind_time a.time) (happenings network a.notes) a.run lack.lack.missing lack.lack.lacking lack.lack.within
+    full_of_run place_of (IsDue (scenario_of network a.notes)) (behind_time a.time) (happenings network a.notes)
+    (audit_run network a.notes a.time named a.events.right a.run) lack.lack.missing lack.lack.lacking lack.lack.within
 not_both network octets count refusals.OutOfMemory named of a h = of
 
 one_count : (network : Network) (octets : List ℕ) (count other : ℕ) → IsNamed network → IsAudited network octets count → IsAudited network octets other

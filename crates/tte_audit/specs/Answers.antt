@@ -5,7 +5,8 @@ use Rattle.audit_law.specs.Findings.{AreSound, IsUnfoundedAt}
 use Rattle.net_plan.specs.declared.network.Network.{Network}
 use Rattle.run_law.specs.records.Happenings.{happenings}
 use Rattle.run_law.specs.records.Ranks.{place_of}
-use Rattle.run_law.specs.runs.DueRecords.{IsDue, IsRunOf}
+use Rattle.audit_law.specs.DueRecords.{IsDue}
+use Rattle.run_law.specs.runs.DueRecords.{IsRunOf}
 use Rattle.run_law.specs.declared.note.Note.{Note}
 use Rattle.tte_audit.specs.Report.{BeginsWith, IsEndless, IsEventFault, IsFormFault, IsOfEvents, behind_time, clock_reading, events_of, scenario_of}
 use Rattle.tte_audit.specs.declared.refusal.AuditRefusal.{AuditRefusal}

@@ -1,14 +1,17 @@
 -- What holds of audits.
-use Rattle.std.specs.Prelude.{◌≡◌, ℕ, ◌↔◌, List}
+use Rattle.std.specs.Prelude.{◌≡◌, ℕ, ◌↔◌, List, length}
 use Rattle.audit_law.specs.DebtLaws.{IsFirstDebt}
+use Rattle.audit_law.specs.DueRecords.{IsDue}
+use Rattle.audit_law.specs.Findings.{LacksNothing}
 use Rattle.net_plan.specs.declared.network.Network.{Network}
 use Rattle.run_law.specs.declared.note.Note.{Note}
 use Rattle.run_law.specs.records.Happenings.{happenings}
+use Rattle.run_law.specs.records.Ranks.{place_of}
 use Rattle.tte_audit.specs.Answers.{AreSoundNotes, IsAudited, IsFirstLackOf, IsOfFormOrEvents, IsRefusedBy}
 use Rattle.tte_audit.specs.Named.{IsNamed}
 use Rattle.tte_audit.specs.declared.refusal.AuditRefusal.{AuditRefusal}
 use Rattle.tte_audit.specs.declared.refusal.AuditRefusal.TheVariants as refusals
-use Rattle.tte_audit.specs.Report.{IsOfEvents, scenario_of}
+use Rattle.tte_audit.specs.Report.{IsOfEvents, behind_time, scenario_of}
 use Rattle.tte_units.specs.Amount.{amount, units_of}
 use Rattle.tte_units.specs.declared.units.Units.{Units}
 
@@ -37,3 +40,12 @@ ReportLackLaw =
     (network : Network) (ns : List Note) (end : Units) (time : ℕ) → AreSoundNotes network ns end
     → IsFirstLackOf network ns end (units_of time)
     ↔ IsFirstDebt (scenario_of network ns) (happenings network ns) (amount end) time
+
+-- a report whose events are right is that of a run exactly where its records are all sound and none is lacking
+abbrev pub PassedLaw : Type 0
+PassedLaw =
+    (network : Network) (octets : List ℕ) (ns : List Note) (time : Units) → IsNamed network
+    → IsOfEvents network octets ns time
+    → IsAudited network octets (length ns)
+    ↔ (AreSoundNotes network ns time
+    × LacksNothing place_of (IsDue (scenario_of network ns)) (behind_time time) (happenings network ns))

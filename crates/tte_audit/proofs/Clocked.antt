@@ -1,0 +1,152 @@
+-- The clocks of a report whose events are right keep the clock laws.
+use Rattle.std.proofs.lemmas.Int.{ints}
+use Rattle.std.proofs.Common.{◌≡◌, pos, ◌≤ℤ◌, ◌≤◌, List, [], ◌∷◌, ◌++◌, map, Option, Some, None, inl, inr, refl, sym, ap, subst, ◌∙◌, arith}
+use Rattle.std.specs.List.{cons_option}
+use Rattle.audit_law.specs.SameRuns.{IsClocked}
+use Rattle.drift_clock.proofs.Readings.{IsLawful, keeps_clock_laws}
+use Rattle.drift_clock.specs.ClockLaws.{AlwaysKeepsClockLaws}
+use Rattle.drift_clock.specs.Segment.{fresh_segment, segment_count, segment_reading, stepped_segment}
+use Rattle.drift_clock.specs.SegmentLaws.{advances, counts_time, keeps_count}
+use Rattle.net_plan.specs.declared.event.Event.{Event}
+use Rattle.net_plan.specs.declared.network.Network.{Network}
+use Rattle.run_law.proofs.runs.NetworkRuns.{same_notes}
+use Rattle.run_law.specs.declared.note.Note.{Note}
+use Rattle.run_law.specs.declared.note.NoteBody.TheVariants as notes
+use Rattle.run_law.specs.declared.note.NoteBody.{NoteBody}
+use Rattle.run_law.specs.records.Happenings.{Happening, happenings}
+use Rattle.run_law.specs.records.Order.{IsIn}
+use Rattle.run_law.specs.scenario.Hypothesis.{AreWithinHypothesis, IsWithinHypothesis}
+use Rattle.run_law.specs.scenario.Rates.{rate_steps}
+use Rattle.safe_runs.proofs.Histories.{history}
+use Rattle.tte_units.specs.Amount.{amount}
+use Rattle.tte_units.specs.declared.units.Units.{Units}
+use Rattle.tte_audit.specs.Named.{IsNamed}
+use Rattle.tte_audit.specs.Report.{AreEventsRight, MayCome, event_by, events_of, scenario_of}
+
+-- ---- the clocks of a report
+
+exact_steps : IsLawful fresh_segment stepped_segment segment_reading (λ c. c.grain) segment_count
+exact_steps = record {
+  has_grain = λ g. refl;
+  keeps_grain = λ c t r. refl;
+  reads_count = λ c t. refl;
+  counts_time = counts_time;
+  keeps_count = keeps_count;
+  drifts = advances;
+}
+
+exact_laws : AlwaysKeepsClockLaws fresh_segment stepped_segment segment_reading
+exact_laws = keeps_clock_laws fresh_segment stepped_segment segment_reading (λ c. c.grain) segment_count exact_steps
+
+-- ---- its events
+
+abbrev event_in : Note → Option Event
+event_in note = event_by note.time note.body
+
+-- some records, of which one is of the event
+record IsTold (ns : List Note) (before : List Event) (event : Event) : Type 0 where
+  pub front : List Note
+  pub note : Note
+  pub rest : List Note
+  pub whole : ns ≡ front ++ note ∷ rest
+  pub same : events_of front ≡ before
+  pub tells : event_in note ≡ Some event
+
+none_told : (before behind : List Event) (event : Event) → [] ≡ before ++ event ∷ behind → ⊥
+none_told [] behind event e = cc
+none_told (b ∷ before) behind event e = cc
+
+-- where events part, the records do
+told : (ns : List Note) (before behind : List Event) (event : Event) → events_of ns ≡ before ++ event ∷ behind → IsTold ns before event
+told [] before behind event e = absurd (none_told before behind event e)
+told (n ∷ ns) before behind event e = by (λ bs same. told ns bs behind event same) (event_in n) refl before e
+  where
+    by : ((bs : List Event) → events_of ns ≡ bs ++ event ∷ behind → IsTold ns bs event) → (o : Option Event) → event_in n ≡ o → (before : List Event) → events_of (n ∷ ns) ≡ before ++ event ∷ behind → IsTold (n ∷ ns) before event
+    by behind_it None is before e =
+        let more = behind_it before (sym (ap (λ (o : Option Event). cons_option o (events_of ns)) is) ∙ e) in
+        record {
+          front = n ∷ more.front;
+          note = more.note;
+          rest = more.rest;
+          whole = ap (λ (t : List Note). n ∷ t) more.whole;
+          same = ap (λ (o : Option Event). cons_option o (events_of more.front)) is ∙ more.same;
+          tells = more.tells;
+        }
+    by behind_it (Some x) is [] e =
+        let whole : x ∷ events_of ns ≡ event ∷ behind = sym (ap (λ (o : Option Event). cons_option o (events_of ns)) is) ∙ e in
+        let same : x ≡ event = cc in
+        record { front = []; note = n; rest = ns; whole = refl; same = refl; tells = is ∙ ap (λ (v : Event). Some v) same }
+    by behind_it (Some x) is (b ∷ bs) e =
+        let whole : x ∷ events_of ns ≡ b ∷ (bs ++ event ∷ behind) = sym (ap (λ (o : Option Event). cons_option o (events_of ns)) is) ∙ e in
+        let head : x ≡ b = cc in
+        let tail : events_of ns ≡ bs ++ event ∷ behind = cc in
+        let more = behind_it bs tail in
+        record {
+          front = n ∷ more.front;
+          note = more.note;
+          rest = more.rest;
+          whole = ap (λ (t : List Note). n ∷ t) more.whole;
+          same = ap (λ (o : Option Event). cons_option o (events_of more.front)) is
+              ∙ ap (λ (v : Event). v ∷ events_of more.front) head
+              ∙ ap (λ (t : List Event). b ∷ t) more.same;
+          tells = more.tells;
+        }
+
+befalls : (network : Network) (befallen : List Event) (time : Units) (body : NoteBody) (event : Event) → event_by time body ≡ Some event
+    → MayCome network befallen time body → IsWithinHypothesis network befallen event
+befalls network befallen time (notes.Event line what) event is may =
+    let same : (let v : Event = record { time = time; what = what } in v) ≡ event = cc in
+    subst (IsWithinHypothesis network befallen) same may.within
+befalls network befallen time body event is may = absurd cc
+
+-- events that are right are within the hypothesis
+pub within : (network : Network) (ns : List Note) → AreEventsRight network ns → AreWithinHypothesis network (events_of ns)
+within network ns right before behind event e =
+    let at = told ns before behind event e in
+    subst (λ (es : List Event). IsWithinHypothesis network es event) at.same
+    (befalls network (events_of at.front) at.note.time at.note.body event at.tells (right at.front at.rest at.note at.whole))
+
+-- the time of an event is that of its record
+time_told : (time : Units) (body : NoteBody) (event : Event) → event_by time body ≡ Some event → event.time ≡ time
+time_told time (notes.Event line what) event is =
+    let same : (let v : Event = record { time = time; what = what } in v) ≡ event = cc in sym (ap (λ (v : Event). v.time) same)
+time_told time body event is = absurd cc
+
+in_events : (ns : List Note) (event : Event) → IsIn event (events_of ns) → (n : Note) × IsIn n ns × (event.time ≡ n.time)
+in_events [] event i = absurd i
+in_events (n ∷ ns) event i = by (in_events ns event) (event_in n) refl i
+  where
+    by : (IsIn event (events_of ns) → (m : Note) × IsIn m ns × (event.time ≡ m.time)) → (o : Option Event) → event_in n ≡ o → IsIn event (cons_option (event_in n) (events_of ns)) → (m : Note) × IsIn m (n ∷ ns) × (event.time ≡ m.time)
+    by later_on None is j =
+        let more = later_on (subst (λ (o : Option Event). IsIn event (cons_option o (events_of ns))) is j) in (more.0, inr more.1, more.2)
+    by later_on (Some x) is j = elim (subst (λ (o : Option Event). IsIn event (cons_option o (events_of ns))) is j) as (λ _. (m : Note) × IsIn m (n ∷ ns)
+        × (event.time ≡ m.time)) [
+          | inl same ↦ (n, inl refl, time_told n.time n.body event (is ∙ ap (λ (v : Event). Some v) (sym same)))
+          | inr later ↦ (let more = later_on later in (more.0, inr more.1, more.2))
+        ]
+
+in_map : (hs : List Happening) (n : Note) → IsIn n (map (λ h. h.note) hs) → (h : Happening) × IsIn h hs × (n ≡ h.note)
+in_map [] n i = absurd i
+in_map (h ∷ hs) n (inl same) = (h, inl refl, same)
+in_map (h ∷ hs) n (inr i) = let more = in_map hs n i in (more.0, inr more.1, more.2)
+
+-- ---- the scenario
+
+-- the scenario of records whose times are from 0 on and whose events are right
+pub clocked : (network : Network) (ns : List Note) → IsNamed network → AreEventsRight network ns
+    → ((h : Happening) → IsIn h (happenings network ns) → pos 0 ≤ℤ h.note.time.0) → IsClocked (scenario_of network ns)
+clocked network ns named right begun =
+    let range = named.in_range in
+    let least = range.grain.least in
+    let some : 1 ≤ amount network.grain = omega (arith, ints, least) in
+    let from_zero : (e : Event) → IsIn e (events_of ns) → pos 0 ≤ℤ e.time.0 = λ e i.
+    let note = in_events ns e i in
+    let h = in_map (happenings network ns) note.0 (subst (IsIn note.0) (sym (same_notes network ns)) note.1) in
+    subst (λ (t : Units). pos 0 ≤ℤ t.0) (sym (note.2 ∙ ap (λ (n : Note). n.time) h.2)) (begun h.0 h.1) in
+    record {
+      range = range;
+      begun = from_zero;
+      clocks = λ device.
+          exact_laws network.rho (amount network.grain) (rate_steps (events_of ns) device) range.rho some
+          (history network (events_of ns) device (within network ns right) from_zero);
+    }

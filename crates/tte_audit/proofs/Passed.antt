@@ -1,0 +1,30 @@
+-- What an audit passes.
+use Rattle.std.proofs.Common.{List, refl, subst}
+use Rattle.audit_law.proofs.Sound.{run_exactly}
+use Rattle.audit_law.specs.DueRecords.{IsDue}
+use Rattle.run_law.specs.declared.note.Note.{Note}
+use Rattle.run_law.specs.records.Happenings.{happenings}
+use Rattle.run_law.specs.records.Ranks.{place_of}
+use Rattle.run_law.specs.runs.Runs.{IsRun}
+use Rattle.tte_audit.proofs.OneAnswer.{same_of}
+use Rattle.tte_audit.proofs.ReportRuns.{audit_run, run_of_audit}
+use Rattle.tte_audit.specs.Laws.{PassedLaw}
+use Rattle.tte_audit.specs.Report.{behind_time, scenario_of}
+use Rattle.tte_units.specs.declared.units.Units.{Units}
+
+pub passed_law : PassedLaw
+passed_law network octets ns time named of =
+    let exactly = run_exactly place_of (IsDue (scenario_of network ns)) (behind_time time) (happenings network ns) in (
+      λ a.
+          let same = same_of network octets a.notes ns a.time time named a.events of in
+          let run = audit_run network a.notes a.time named a.events.right a.run in
+          exactly.0 (subst (λ (t : Units). IsRun place_of (IsDue (scenario_of network ns)) (behind_time t) (happenings network ns)) same.times
+          (subst (λ (ms : List Note). IsRun place_of (IsDue (scenario_of network ms)) (behind_time a.time) (happenings network ms)) same.lists run)),
+      λ finds. record {
+        notes = ns;
+        time = time;
+        events = of;
+        run = run_of_audit network ns time named of.right (exactly.1 finds);
+        counted = refl;
+      },
+    )
