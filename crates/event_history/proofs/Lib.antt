@@ -1,0 +1,5 @@
+pub mod Valuing
+pub mod Clocking
+pub mod Befalling
+pub mod Keeping
+pub mod Adding
