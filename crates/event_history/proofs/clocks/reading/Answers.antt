@@ -1,10 +1,15 @@
-use Rattle.std.proofs.Common.{rules, ◌≡◌, ◌≤◌, ◌^◌, pos, ◌≤ℤ◌, ℕ, ◌+◌, ◌-◌, ◌*◌, ◌<◌, length, ◌/◌, ◌%◌, Bool, true, false, nat_eq, nat_lt, List, [], ◌∷◌, ◌++◌, slice_index_or, slice_set, bit_and, bit_or, Fits, w8, w32, w64, Bor, MutBor}
-use Rattle.drift_clock.specs.Reach.{IsReach}
-use Rattle.drift_clock.specs.Segment.{segment_reading}
-use Rattle.event_history.specs.Clocks.{AreClocks, clocks_reading}
-use Rattle.event_history.specs.Reaches.{IsFirstReach}
+use Rattle.std.proofs.Common.{◌≡◌, ◌≤◌, pos, sym, subst, arith}
+use Rattle.std.proofs.lemmas.Int.{ints}
+use Rattle.event_history.specs.Settings.{value_at}
+use Rattle.event_history.proofs.Clocking.{value_ready}
 use Rattle.event_history.proofs.clocks.reading.Goals as goal
 
--- src/clocks.rt:18:5
 pub read-requires-clause-stepped : goal.read-requires-clause-stepped
-read-requires-clause-stepped c = ?
+read-requires-clause-stepped c =
+    let clocks = c.requires.clocks in
+    let s = c.args.clocks.now in
+    let begins = clocks.begins in
+    let ready = value_ready s.initial s.changes.items c.args.time (omega (arith, begins)) clocks.each in
+    let at : c.at-clock.result.at ≤ c.args.time = subst (λ x. x.at ≤ c.args.time) (sym (c.at-clock.ensures clocks.in_order)) ready in
+    let whole = c.from_amount.ensures.whole in
+    omega (arith, ints, at, whole)

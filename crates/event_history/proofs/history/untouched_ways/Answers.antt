@@ -1,28 +1,29 @@
-use Rattle.std.proofs.Common.{rules, ◌≡◌, ◌≤◌, ◌^◌, ◌*◌, pos, ◌≤ℤ◌, unsigned_abs, [], ◌∷◌, ◌++◌, List, length, IfOk, if◌then◌else◌, ℕ, ◌+◌, ◌-◌, ◌<◌, ◌/◌, ◌%◌, Bool, true, false, nat_eq, nat_lt, slice_index_or, slice_set, bit_and, bit_or, Fits, w8, w32, w64, Bor, MutBor}
-use Rattle.std.specs.List.{All}
-use Rattle.event_history.specs.Beginnings.{AreWaysOf, IsReadyFor, IsSought, IsUntouchedDevice, IsUntouchedWay}
-use Rattle.event_history.specs.Reaches.{IsFirstReach}
-use Rattle.event_history.specs.Readings.{clock_reading, scenario_under}
-use Rattle.event_history.specs.Remembering.{IsAdded, MayBeAdded, MayBefall, Remembers, RemembersSome, has_come, way_place}
-use Rattle.net_plan.specs.Belonging.{HasDevice, HasLink}
-use Rattle.net_plan.specs.Ranges.{IsInRange}
-use Rattle.net_plan.specs.declared.event.Event.{Event as EventValue}
-use Rattle.net_plan.specs.declared.event.What.TheVariants as events
-use Rattle.net_plan.specs.declared.network.Network.{Network as NetworkValue}
-use Rattle.tte_units.specs.Amount.{amount}
-use Rattle.tte_units.specs.declared.units.Units.{Units as UnitsValue}
-use Rattle.run_law.specs.scenario.Scenarios.{is_broken, is_turned_on_at}
-use Rattle.run_law.specs.scenario.Ways.{delay_at, hold_at, is_cut}
+use Rattle.std.proofs.Common.{◌≡◌, ◌∙◌, ◌++◌, ◌∷◌, ◌+◌, [], List, length, refl, sym, ap, subst}
+use Rattle.std.specs.Prelude.{take}
+use Rattle.std.proofs.lemmas.List.{take_more}
+use Rattle.net_plan.specs.declared.tables.Link.{Link}
+use Rattle.event_history.specs.Beginnings.{AreWaysOf}
+use Rattle.event_history.specs.declared.history.WayHistory.{WayHistory}
+use Rattle.event_history.proofs.Beginning.{take_whole, two_more}
 use Rattle.event_history.proofs.history.untouched_ways.Goals as goal
 
--- src/history.rt:292:5
 pub loop-link-init : goal.loop-link-init
-loop-link-init c = ?
+loop-link-init c = subst (AreWaysOf []) (sym c.new-ways.ensures.items) tt
 
--- src/history.rt:292:5
 pub loop-link-preserved : goal.loop-link-preserved
-loop-link-preserved c = ?
+loop-link-preserved c =
+    let links = c.as_slice-link-items.result.now in
+    let n = c.loop-link.link-index in
+    let link = c.link-item.result in
+    let front : take (n + 1) links ≡ take n links ++ link ∷ [] =
+    take_more links n link c.loop-link-test.true ∙ ap (λ (l : Link). take n links ++ l ∷ []) (sym c.link-item.is) in
+    let ways = c.in_ok-push-2.ensures.items ∙ ap (λ (l : List WayHistory). l ++ c.untouched_way-in-loop-link.result ∷ []) c.in_ok-push.ensures.items in
+    subst (λ (l : List Link). AreWaysOf l c.push-in-loop-link.new.self.items) (sym front)
+    (subst (AreWaysOf (take n links ++ link ∷ [])) (sym ways)
+    (two_more (take n links) c.loop-link.ways.items link c.untouched_way.result c.untouched_way-in-loop-link.result c.loop-link.invariant
+    c.untouched_way.ensures c.untouched_way-in-loop-link.ensures))
 
--- src/history.rt:288:1
 pub returns : goal.returns
-returns c = ?
+returns c =
+    subst (λ (l : List Link). AreWaysOf l c.loop-link.ways.items)
+    (take_whole c.as_slice-link-items.result.now c.loop-link.link-index c.loop-link-test.false ∙ c.as_slice-link-items.ensures) c.loop-link.invariant

@@ -1,19 +1,6 @@
-use Rattle.std.proofs.Common.{◌≡◌, ◌≤◌, ◌^◌, ◌*◌, pos, ◌≤ℤ◌, unsigned_abs, [], ◌∷◌, ◌++◌, List, length, IfOk, if◌then◌else◌, ℕ, ◌+◌, ◌-◌, ◌<◌}
-use Rattle.std.specs.List.{All}
-use Rattle.event_history.specs.Beginnings.{AreWaysOf, IsReadyFor, IsSought, IsUntouchedDevice, IsUntouchedWay}
-use Rattle.event_history.specs.Reaches.{IsFirstReach}
-use Rattle.event_history.specs.Readings.{clock_reading, scenario_under}
-use Rattle.event_history.specs.Remembering.{IsAdded, MayBeAdded, MayBefall, Remembers, RemembersSome, has_come, way_place}
-use Rattle.net_plan.specs.Belonging.{HasDevice, HasLink}
-use Rattle.net_plan.specs.Ranges.{IsInRange}
-use Rattle.net_plan.specs.declared.event.Event.{Event as EventValue}
-use Rattle.net_plan.specs.declared.event.What.TheVariants as events
-use Rattle.net_plan.specs.declared.network.Network.{Network as NetworkValue}
-use Rattle.tte_units.specs.Amount.{amount}
-use Rattle.tte_units.specs.declared.units.Units.{Units as UnitsValue}
-use Rattle.run_law.specs.scenario.Scenarios.{is_broken, is_turned_on_at}
-use Rattle.run_law.specs.scenario.Ways.{delay_at, hold_at, is_cut}
+use Rattle.std.specs.Prelude.{take}
+use Rattle.event_history.specs.Beginnings.{AreWaysOf}
 use Rattle.event_history.proofs.history.untouched_ways.Given as goal
 
 abbrev pub invariant-loop-link : goal.invariant-loop-link
-invariant-loop-link l = ?
+invariant-loop-link l = AreWaysOf (take l.link-index l.link-items) l.ways.items

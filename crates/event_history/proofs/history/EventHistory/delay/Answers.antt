@@ -1,20 +1,18 @@
-use Rattle.std.proofs.Common.{rules, ◌≡◌, ◌≤◌, ◌^◌, ◌*◌, pos, ◌≤ℤ◌, unsigned_abs, [], ◌∷◌, ◌++◌, List, length, IfOk, if◌then◌else◌, ℕ, ◌+◌, ◌-◌, ◌<◌, ◌/◌, ◌%◌, Bool, true, false, nat_eq, nat_lt, slice_index_or, slice_set, bit_and, bit_or, Fits, w8, w32, w64, Bor, MutBor}
-use Rattle.std.specs.List.{All}
-use Rattle.event_history.specs.Beginnings.{AreWaysOf, IsReadyFor, IsSought, IsUntouchedDevice, IsUntouchedWay}
-use Rattle.event_history.specs.Reaches.{IsFirstReach}
-use Rattle.event_history.specs.Readings.{clock_reading, scenario_under}
-use Rattle.event_history.specs.Remembering.{IsAdded, MayBeAdded, MayBefall, Remembers, RemembersSome, has_come, way_place}
-use Rattle.net_plan.specs.Belonging.{HasDevice, HasLink}
-use Rattle.net_plan.specs.Ranges.{IsInRange}
-use Rattle.net_plan.specs.declared.event.Event.{Event as EventValue}
-use Rattle.net_plan.specs.declared.event.What.TheVariants as events
-use Rattle.net_plan.specs.declared.network.Network.{Network as NetworkValue}
-use Rattle.tte_units.specs.Amount.{amount}
-use Rattle.tte_units.specs.declared.units.Units.{Units as UnitsValue}
-use Rattle.run_law.specs.scenario.Scenarios.{is_broken, is_turned_on_at}
-use Rattle.run_law.specs.scenario.Ways.{delay_at, hold_at, is_cut}
+use Rattle.std.proofs.Common.{◌≡◌, false, length, Some, refl, subst}
+use Rattle.std.specs.Prelude.{slice_get}
+use Rattle.std.proofs.lemmas.Option.{slice_get_read}
+use Rattle.run_law.specs.scenario.Ways.{wire_set, wire_of}
+use Rattle.event_history.specs.Remembering.{way_place}
+use Rattle.event_history.proofs.Looking.{looked_up}
 use Rattle.event_history.proofs.history.EventHistory.delay.Goals as goal
 
--- src/history.rt:88:5
 pub returns-in-Some : goal.returns-in-Some
-returns-in-Some c = ?
+returns-in-Some c = λ network all h has.
+    let history = c.args.self.now in
+    let told = c.in-Some.told.now in
+    let place = c.way_place.result in
+    let found = c.in-Some.ensures.lookup in
+    let at : slice_get history.ways.items place ≡ Some told = subst (λ xs. slice_get xs place ≡ Some told) c.deref.ensures.value
+    (slice_get_read c.deref.result.now (length c.deref.result.now) place told refl found.3.0 found.1) in
+    let tells = h.ways c.args.link c.args.way told (subst (λ p. slice_get history.ways.items p ≡ Some told) c.way_place.ensures at) in
+    looked_up network all history (wire_set c.args.link c.args.way) (wire_of network c.args.link) told.delay c.args.time c.at.result h tells.delay c.at.ensures

@@ -1,5 +1,7 @@
-use Rattle.std.proofs.Common.{◌≡◌, ◌∙◌, ◌++◌, ◌∷◌, [], ℕ, List, length, Some, false, refl, sym, ap}
+use Rattle.std.proofs.Common.{◌≡◌, ◌∙◌, ◌++◌, ◌∷◌, [], ℕ, List, length, Some, false, refl, sym, ap, subst, arith, ◌<◌, ◌≤◌, ◌*◌}
 use Rattle.std.specs.Prelude.{slice_get}
+use Rattle.net_plan.specs.Belonging.{IsOfNetwork}
+use Rattle.event_history.proofs.Looking.{cut_has, has_place}
 use Rattle.std.proofs.lemmas.Option.{slice_get_read}
 use Rattle.net_plan.specs.declared.event.What.TheVariants as events
 use Rattle.tte_units.specs.Amount.{amount}
@@ -25,3 +27,11 @@ returns-in-Some c = λ event what time begun network all h may.
     (λ x same. remembers_same network all old _ h (set_length ways place _)
         (same_way network all c.args.link c.args.way place ways told _ h.ways c.way_place.ensures at refl refl refl refl c.set.ensures.initial same) refl h.devices)
     c.set.ensures.changes
+
+pub returns-in-None : goal.returns-in-None
+returns-in-None c = λ event what time begun network all h may.
+    let link = c.args.link in
+    let has = cut_has network c.args.cut link c.args.way (subst (IsOfNetwork network) what may.of_network) in
+    let there = has_place network link c.args.way has in
+    let past = c.in-None.ensures.item.3 in
+    absurd (omega (arith, there, past, c.way_place.ensures, h.ways_count))
