@@ -21,14 +21,15 @@ use Rattle.tte_units.specs.Amount.{amount}
 use Rattle.tte_units.specs.declared.rates.Ppb.{Ppb}
 use Rattle.tte_units.specs.declared.units.Units.{Units}
 use Rattle.event_history.specs.Clocks.{clocks_after}
-use Rattle.event_history.specs.Remembering.{TellsDevice, TellsWay, has_come, is_at, way_place}
+use Rattle.event_history.specs.Remembering.{MayBefall, Remembers, TellsDevice, TellsWay, has_come, is_at, way_place}
 use Rattle.event_history.specs.Settings.{IsSetBy, change_to, value_at}
 use Rattle.event_history.specs.declared.history.DeviceHistory.{DeviceHistory}
+use Rattle.event_history.specs.declared.history.EventHistory.{EventHistory}
 use Rattle.event_history.specs.declared.history.WayHistory.{WayHistory}
 use Rattle.event_history.specs.declared.settings.Change.{Change}
 use Rattle.event_history.specs.declared.settings.Settings.{Settings}
 use Rattle.event_history.proofs.Clocking.{clocks_more, value_last}
-use Rattle.event_history.proofs.Keeping.{AreDevicesTold, AreWaysTold, broken_first, broken_stays, clock_stays, device_stays, devices_set, own_way, steps_more, turned_first, turned_stays, way_stays, ways_set}
+use Rattle.event_history.proofs.Keeping.{AreDevicesTold, AreWaysTold, broken_first, broken_stays, clock_stays, device_stays, devices_set, own_way, remembers_more, steps_more, turned_first, turned_stays, way_stays, ways_set}
 use Rattle.event_history.proofs.Valuing.{set_more, set_stays}
 
 -- ---- what the event does not concern
@@ -257,3 +258,16 @@ turn_set network all event device time devices told are at what when within =
     })
     (λ d x other h. device_stays network all event d x (ap (step_by d (amount event.time)) what) (ap (breaks_at d.0) what)
     (ap (turns_on d) what ∙ not_equal d.0 device.0 other) h)
+
+-- ---- what concerns no way and no device
+
+pub nothing_set : (network : Network) (all : List Event) (event : Event) (what : What) (history : EventHistory) → Remembers network all history
+    → MayBefall network all event → pos 0 ≤ℤ event.time.0 → event.what ≡ what
+    → ((l : LinkId) (w : Way) → wire_set l w what ≡ None) → ((l : LinkId) (w : Way) → hold_set l w what ≡ None)
+    → ((l : LinkId) (w : Way) → cut_set l w what ≡ None) → ((d : DeviceId) → step_by d (amount event.time) what ≡ None)
+    → ((d : DeviceId) → breaks_at d.0 what ≡ false) → ((d : DeviceId) → turns_on d what ≡ false)
+    → Remembers network (all ++ event ∷ []) history
+nothing_set network all event what history h may begun is wires holds cuts steps breaks turns =
+    remembers_more network all event history history h may begun refl
+    (no_ways network all event what history.ways.items is wires holds cuts h.ways) refl
+    (no_devices network all event what history.devices.items is steps breaks turns h.devices)

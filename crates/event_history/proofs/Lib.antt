@@ -6,3 +6,4 @@ pub mod Adding
 pub mod Looking
 pub mod Beginning
 pub mod Reading
+pub mod Reaching

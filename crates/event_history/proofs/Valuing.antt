@@ -73,7 +73,7 @@ value_found v (c ∷ cs) time (suc k) d within h =
     )
 
 -- the changes behind that place are the later ones
-all_later : {V : Type 0} (changes : List (Change V)) (time : ℕ) → AllWithin (λ c. time < c.from) changes 0 (length changes)
+pub all_later : {V : Type 0} (changes : List (Change V)) (time : ℕ) → AllWithin (λ c. time < c.from) changes 0 (length changes)
     → changes ≡ later_than time changes
 all_later [] time late = refl
 all_later {V} (c ∷ cs) time late =

@@ -31,7 +31,7 @@ pub(crate) fn reach(clocks: &Settings<SegmentClock>, from: u64, goal: Units, unt
     let mut later = clocks.after(from);
     'changes: while let Some((change, rest)) = later.split_first() {
         if until < change.from {
-            break;
+            return time_up_to(&clock, start, goal, until);
         }
         let time = time_of(&clock, start, goal);
         if time < change.from {
@@ -41,11 +41,21 @@ pub(crate) fn reach(clocks: &Settings<SegmentClock>, from: u64, goal: Units, unt
         start = change.from;
         later = rest;
     }
-    let time = time_of(&clock, start, goal);
+    time_up_to(&clock, start, goal, until)
+}
+
+// The least such time up to `until`.
+fn time_up_to(clock: &SegmentClock, from: u64, goal: Units, until: u64) -> Option<u64>
+    requires stepped { clock.now.at ≤ from }
+    requires limit { from ≤ 2 ^ 60 }
+    requires goal { goal.0 ≤ℤ pos (2 ^ 61) }
+    ensures { IsFirstReach (segment_reading clock.now) from goal.0 until result }
+{
+    let time = time_of(clock, from, goal);
     if time <= until { Some(time) } else { None }
 }
 
-/// The least time from `from` on at which the clock, at its present rate, reads at least the goal.
+// The least time from `from` on at which the clock, at its present rate, reads at least the goal.
 fn time_of(clock: &SegmentClock, from: u64, goal: Units) -> u64
     requires stepped { clock.now.at ≤ from }
     requires limit { from ≤ 2 ^ 60 }

@@ -70,18 +70,33 @@ impl EventHistory {
         requires within { MayBeAdded self.old event.now }
         ensures { IsAdded self.old self.new event.now result }
     {
+        self.keep(event)?;
+        Ok(())
+    }
+
+    // Keeps what the event sets.
+    fn keep(&mut self, event: &Event) -> Result<(), AllocError>
+        requires begun { pos 0 ≤ℤ event.now.time.0 }
+        requires within { MayBeAdded self.old event.now }
+        ensures { IsAdded self.old self.new event.now result }
+    {
         let time = event.time.amount();
         match &event.what {
-            What::Rate(device, rate) => self.set_rate(*device, time, *rate)?,
-            What::Wire(link, way, delay) => self.set_delay(*link, *way, time, delay.0.unsigned_abs())?,
-            What::Hold(link, way, delay) => self.set_hold(*link, *way, time, delay.0.unsigned_abs())?,
-            What::Cut(link, way) => self.set_cut(*link, *way, time, true)?,
-            What::Heal(link, way) => self.set_cut(*link, *way, time, false)?,
-            What::On(device) => self.turn_on(*device, time),
-            What::Break(device) => self.break_down(*device, time),
-            What::Send(_, _) | What::End => {}
+            What::Rate(device, rate) => self.set_rate(*device, time, *rate),
+            What::Wire(link, way, delay) => self.set_delay(*link, *way, time, delay.0.unsigned_abs()),
+            What::Hold(link, way, delay) => self.set_hold(*link, *way, time, delay.0.unsigned_abs()),
+            What::Cut(link, way) => self.set_cut(*link, *way, time, true),
+            What::Heal(link, way) => self.set_cut(*link, *way, time, false),
+            What::On(device) => {
+                self.turn_on(*device, time);
+                Ok(())
+            }
+            What::Break(device) => {
+                self.break_down(*device, time);
+                Ok(())
+            }
+            What::Send(_, _) | What::End => Ok(()),
         }
-        Ok(())
     }
 
     /// The wire delay of the way at the time.
