@@ -4,7 +4,7 @@ use Rattle.std.specs.Prelude.{option_map, slice_get, slice_index_or}
 use Rattle.std.specs.List.{All, cons_option}
 use Rattle.std.specs.List.Sorted.{IsNonDecreasingBy}
 use Rattle.std.proofs.lemmas.Bool.{cases_lt}
-use Rattle.std.proofs.lemmas.List.Elements.{All-cons, All-nil}
+use Rattle.std.proofs.lemmas.Option.{slice_get-get_or}
 use Rattle.drift_clock.specs.Segment.{Segment, fresh_segment}
 use Rattle.net_plan.specs.Belonging.{HasLink, IsOfNetwork}
 use Rattle.net_plan.specs.Ranges.{IsInRange}
@@ -21,15 +21,16 @@ use Rattle.tte_units.specs.Amount.{amount}
 use Rattle.event_history.specs.Beginnings.{IsReadyFor}
 use Rattle.event_history.specs.Clocks.{AreClocks, clocks_after, clocks_reading}
 use Rattle.event_history.specs.Readings.{clock_reading, scenario_under}
-use Rattle.event_history.specs.Remembering.{Remembers, TellsDevice, way_place}
+use Rattle.event_history.specs.Remembering.{MayBefall, Remembers, TellsDevice, way_place}
 use Rattle.event_history.specs.Settings.{IsSetBy, change_to, changes_by, value_at}
 use Rattle.event_history.specs.declared.history.DeviceHistory.{DeviceHistory}
 use Rattle.event_history.specs.declared.history.EventHistory.{EventHistory}
 use Rattle.event_history.specs.declared.settings.Change.{Change}
 use Rattle.event_history.specs.declared.settings.Settings.{Settings}
 use Rattle.event_history.proofs.Adding.{cut_event}
-use Rattle.event_history.proofs.Befalling.{AreEventsFrom, events_from, steps_from}
-use Rattle.event_history.proofs.Clocking.{StepsFrom, are_clocks, clock_reads}
+use Rattle.event_history.proofs.Befalling.{AreEventsFrom, events_from, steps_from, steps_up_to}
+use Rattle.event_history.proofs.Clocking.{StepsFrom, are_clocks, clock_reads, clocks_up_to}
+use Rattle.event_history.proofs.Keeping.{begun_more, within_more}
 use Rattle.event_history.proofs.Valuing.{last_is}
 
 -- ---- the changes are in the order of time
@@ -113,3 +114,19 @@ told_reads network all history device told time h tells =
 pub ready_at : (devices : List DeviceHistory) (place time : ℕ) (told : DeviceHistory) → place < length devices
     → told ≡ slice_index_or devices place told → All (IsReadyFor time) devices → IsReadyFor time told
 ready_at devices place time told within is all = subst (IsReadyFor time) (sym is) (all place told within)
+
+-- before an event that may befall the network, each device is ready for a step at its time
+pub devices_ready : (network : Network) (all : List Event) (history : EventHistory) (event : Event) → Remembers network all history
+    → MayBefall network all event → pos 0 ≤ℤ event.time.0 → All (IsReadyFor (amount event.time)) history.devices.items
+devices_ready network all history event h may begun k d lt =
+    let items = history.devices.items in
+    let device : DeviceId = record { 0 = k } in
+    let told = slice_index_or items k d in
+    let tells = h.devices device told (slice_get-get_or items k d lt) in
+    let fresh = fresh_segment (amount network.grain) in
+    let from = events_from network (all ++ event ∷ []) h.range (within_more network all event h.within may.within) (begun_more all event h.begun begun) in
+    record {
+      clocks = told_clocks network all history device told h tells;
+      later = subst (λ (l : List (Change Segment)). All (λ c. c.from ≤ amount event.time) l) (sym tells.clock)
+          (clocks_up_to (amount event.time) fresh (rate_steps all device) (steps_up_to network.rho 0 all event device from));
+    }

@@ -7,6 +7,7 @@ use Rattle.std.proofs.lemmas.Bool.{cases_lt, le-leb, lt-leb}
 use Rattle.std.proofs.lemmas.Int.{ints}
 use Rattle.drift_clock.specs.Reach.{IsReach}
 use Rattle.drift_clock.specs.Segment.{Segment, segment_reading}
+use Rattle.event_history.specs.Beginnings.{IsSought}
 use Rattle.event_history.specs.Clocks.{AreClocks, IsReadable, clocks_reading}
 use Rattle.event_history.specs.Reaches.{IsFirstReach}
 use Rattle.event_history.specs.Settings.{later_than, value_at}
@@ -172,3 +173,38 @@ stays_until clock c cs start until left late x le = steady clock c cs start x le
 pub empty_of : {X : Type 0} (xs : List X) → length xs ≡ 0 → xs ≡ []
 empty_of [] none = refl
 empty_of (x ∷ xs) none = absurd (omega (arith, none))
+
+-- ---- what was sought
+
+-- a reach of the goal is one of the value, over the same readings
+pub reach_of_value : (r s : ℕ → ℕ) (from : ℕ) (value goal : ℤ) (until : ℕ) (result : Option ℕ) → ((x : ℕ) → r x ≡ s x) → IsSought value goal
+    → IsFirstReach r from goal until result → IsFirstReach s from value until result
+reach_of_value r s from value goal until None same (inl low) none = λ x after before.
+    let short = none x after before in absurd (omega (arith, ints, short, low.1))
+reach_of_value r s from value goal until None same (inr is) none = λ x after before.
+    let short = none x after before in
+    let here = same x in
+    omega (arith, ints, short, here, is)
+reach_of_value r s from value goal until (Some time) same (inl low) found =
+    let reach = found.0 in (
+      record {
+        from_on = reach.from_on;
+        reached = omega (arith, ints, low.0);
+        not_before = λ x after before. let short = reach.not_before x after before in absurd (omega (arith, ints, short, low.1));
+      },
+      found.1,
+    )
+reach_of_value r s from value goal until (Some time) same (inr is) found =
+    let reach = found.0 in
+    let there = same time in
+    let enough = reach.reached in (
+      record {
+        from_on = reach.from_on;
+        reached = omega (arith, ints, enough, there, is);
+        not_before = λ x after before.
+            let short = reach.not_before x after before in
+            let here = same x in
+            omega (arith, ints, short, here, is);
+      },
+      found.1,
+    )

@@ -16,6 +16,7 @@ ghost use Rattle.run_law.specs.scenario.Ways.{delay_at, hold_at, is_cut};
 
 use crate::OutOfMemory;
 use crate::clocks;
+use crate::laws::reading_law;
 use crate::settings::Settings;
 use drift_clock::{Clock, SegmentClock};
 use net_plan::{DeviceId, Event, Link, LinkId, Network, Way, What};
@@ -70,8 +71,10 @@ impl EventHistory {
         requires within { MayBeAdded self.old event.now }
         ensures { IsAdded self.old self.new event.now result }
     {
-        self.keep(event)?;
-        Ok(())
+        match self.keep(event) {
+            Ok(()) => Ok(()),
+            Err(_) => Err(OutOfMemory),
+        }
     }
 
     // Keeps what the event sets.
@@ -83,8 +86,8 @@ impl EventHistory {
         let time = event.time.amount();
         match &event.what {
             What::Rate(device, rate) => self.set_rate(*device, time, *rate),
-            What::Wire(link, way, delay) => self.set_delay(*link, *way, time, delay.0.unsigned_abs()),
-            What::Hold(link, way, delay) => self.set_hold(*link, *way, time, delay.0.unsigned_abs()),
+            What::Wire(link, way, delay) => self.set_delay(*link, *way, time, magnitude(*delay)),
+            What::Hold(link, way, delay) => self.set_hold(*link, *way, time, magnitude(*delay)),
             What::Cut(link, way) => self.set_cut(*link, *way, time, true),
             What::Heal(link, way) => self.set_cut(*link, *way, time, false),
             What::On(device) => {
@@ -95,7 +98,8 @@ impl EventHistory {
                 self.break_down(*device, time);
                 Ok(())
             }
-            What::Send(_, _) | What::End => Ok(()),
+            What::Send(_, _) => Ok(()),
+            What::End => Ok(()),
         }
     }
 
@@ -182,7 +186,11 @@ impl EventHistory {
             → Remembers network befallen self.now → HasDevice network device
             → IsFirstReach (clock_reading network befallen device) from value until result }
     {
-        if until < from || value > MOST_SOUGHT {
+        reading_law();
+        if until < from {
+            return None;
+        }
+        if value > MOST_SOUGHT {
             return None;
         }
         match self.devices.get(device.0 as usize) {
@@ -286,6 +294,13 @@ fn way_place(link: LinkId, way: Way) -> usize
     }
 }
 
+// So many units, whatever their sign.
+fn magnitude(units: Units) -> u64
+    ensures { result ≡ amount units }
+{
+    units.0.unsigned_abs()
+}
+
 // The value as it is sought: no clock reads less than 0.
 fn goal_of(value: i128) -> Units
     requires { value ≤ℤ pos (2 ^ 61) }
@@ -315,7 +330,7 @@ fn untouched_way(alloc: Global, link: &Link) -> WayHistory
     ensures { IsUntouchedWay (amount link.now.wire) result }
 {
     WayHistory {
-        delay: Settings::new(alloc, link.wire.0.unsigned_abs()),
+        delay: Settings::new(alloc, magnitude(link.wire)),
         hold: Settings::new(alloc, 0),
         cut: Settings::new(alloc, false),
     }
