@@ -1,5 +1,5 @@
 -- What each kind of event adds to a history.
-use Rattle.std.proofs.Common.{◌≡◌, ◌⊎◌, inl, inr, ℕ, ◌+◌, ◌*◌, ◌<◌, ◌≤◌, ◌==◌, ◌&&◌, nat_le, Bool, true, false, List, [], ◌∷◌, ◌++◌, length, Option, Some, None, if◌then◌else◌, pos, ◌≤ℤ◌, ℤ, refl, sym, ap, subst, ◌∙◌, arith}
+use Rattle.std.proofs.Common.{◌≡◌, ℕ, ◌≤◌, ◌==◌, nat_le, Bool, true, false, List, [], ◌∷◌, ◌++◌, Option, Some, None, if◌then◌else◌, pos, ◌≤ℤ◌, refl, sym, ap, subst, ◌∙◌}
 use Rattle.std.specs.Prelude.{slice_get, slice_set}
 use Rattle.std.specs.List.{All}
 use Rattle.std.proofs.lemmas.Bool.{eq-eqb, eqb-true, false≢true}
@@ -21,7 +21,7 @@ use Rattle.tte_units.specs.Amount.{amount}
 use Rattle.tte_units.specs.declared.rates.Ppb.{Ppb}
 use Rattle.tte_units.specs.declared.units.Units.{Units}
 use Rattle.event_history.specs.Clocks.{clocks_after}
-use Rattle.event_history.specs.Remembering.{MayBefall, Remembers, TellsDevice, TellsWay, has_come, is_at, way_place}
+use Rattle.event_history.specs.Remembering.{MayBefall, Remembers, way_place}
 use Rattle.event_history.specs.Settings.{IsSetBy, change_to, value_at}
 use Rattle.event_history.specs.declared.history.DeviceHistory.{DeviceHistory}
 use Rattle.event_history.specs.declared.history.EventHistory.{EventHistory}

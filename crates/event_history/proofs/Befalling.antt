@@ -1,6 +1,6 @@
 -- Events within the hypothesis come in the order of time, and set slow rates.
-use Rattle.std.proofs.Common.{◌≡◌, ◌⊎◌, inl, inr, ℕ, zero, suc, ◌+◌, ◌*◌, ◌<◌, ◌≤◌, ◌^◌, ◌==◌, Bool, true, false, List, [], ◌∷◌, ◌++◌, append_assoc, length, Option, Some, None, if◌then◌else◌, unsigned_abs, pos, ◌≤ℤ◌, refl, sym, ap, subst, ◌∙◌, arith}
-use Rattle.std.specs.List.{All, cons_option}
+use Rattle.std.proofs.Common.{◌≡◌, inl, inr, ℕ, suc, ◌≤◌, ◌^◌, ◌==◌, true, false, List, [], ◌∷◌, ◌++◌, append_assoc, Option, Some, None, if◌then◌else◌, unsigned_abs, pos, ◌≤ℤ◌, refl, sym, subst, ◌∙◌, arith}
+use Rattle.std.specs.List.{cons_option}
 use Rattle.std.proofs.lemmas.Bool.{cases_lt}
 use Rattle.std.proofs.lemmas.Int.{ints}
 use Rattle.drift_clock.specs.RateSteps.{RateStep}

@@ -1,16 +1,15 @@
 -- What a history tells once one more event is added.
-use Rattle.std.proofs.Common.{◌≡◌, ◌⊎◌, inl, inr, ℕ, zero, suc, ◌+◌, ◌*◌, ◌<◌, ◌≤◌, ◌==◌, ◌&&◌, ◌||◌, nat_le, Bool, true, false, List, [], ◌∷◌, ◌++◌, length, Option, Some, None, if◌then◌else◌, pos, ◌≤ℤ◌, refl, sym, ap, subst, ◌∙◌, arith}
-use Rattle.std.specs.Prelude.{filter, filter_map, slice_get, slice_set, IsSomeAnd}
-use Rattle.std.specs.List.{All, Any, cons_option, list_any}
+use Rattle.std.proofs.Common.{◌≡◌, ◌⊎◌, inl, inr, ℕ, zero, suc, ◌==◌, ◌&&◌, ◌||◌, nat_le, Bool, true, false, List, [], ◌∷◌, ◌++◌, length, Option, Some, None, if◌then◌else◌, pos, ◌≤ℤ◌, refl, sym, ap, subst, ◌∙◌, arith}
+use Rattle.std.specs.Prelude.{filter, slice_get, slice_set}
+use Rattle.std.specs.List.{Any, cons_option, list_any}
 use Rattle.std.specs.Result.{MatchResult}
 use Rattle.std.specs.declared.result.Result.{Result}
 use Rattle.std.specs.declared.result.Result.TheVariants.{Ok, Err}
 use Rattle.std.proofs.lemmas.Bool.{and_parts, cases_Bool, eqb-true, eq-eqb, false≢true}
-use Rattle.std.proofs.lemmas.Int.{ints}
 use Rattle.std.proofs.lemmas.List.Elements.{filter-append, filter_map-append, All-push}
 use Rattle.std.proofs.lemmas.List.Folds.{list_any-append}
 use Rattle.drift_clock.specs.RateSteps.{RateStep}
-use Rattle.drift_clock.specs.Segment.{Segment, fresh_segment, stepped_segment}
+use Rattle.drift_clock.specs.Segment.{Segment, fresh_segment}
 use Rattle.net_plan.specs.declared.event.Event.{Event}
 use Rattle.net_plan.specs.declared.event.What.{What}
 use Rattle.net_plan.specs.declared.event.What.TheVariants as events
@@ -20,7 +19,7 @@ use Rattle.net_plan.specs.declared.network.Network.{Network}
 use Rattle.net_plan.specs.declared.tables.Way.TheVariants.{Up, Down}
 use Rattle.net_plan.specs.declared.tables.Way.{Way}
 use Rattle.run_law.specs.declared.outside.Outside.TheVariants as outside
-use Rattle.run_law.specs.scenario.Faults.{Breaks, IsBroken, IsTurnedOn, TurnsOn}
+use Rattle.run_law.specs.scenario.Faults.{Breaks, TurnsOn}
 use Rattle.run_law.specs.scenario.Hypothesis.{AreWithinHypothesis, IsWithinHypothesis, breaks_at}
 use Rattle.run_law.specs.scenario.Rates.{rate_steps, step_by}
 use Rattle.run_law.specs.scenario.Scenarios.{is_broken, is_turned_on_at, turns_on}
@@ -28,12 +27,11 @@ use Rattle.run_law.specs.scenario.Ways.{cut_set, hold_set, is_way, is_way_of, wi
 use Rattle.tte_units.specs.Amount.{amount}
 use Rattle.event_history.specs.Clocks.{clocks_after}
 use Rattle.event_history.specs.Readings.{HaveBegun, scenario_under}
-use Rattle.event_history.specs.Remembering.{MayBefall, Remembers, TellsDevice, TellsWay, has_come, is_at, way_place}
-use Rattle.event_history.specs.Settings.{IsSetBy}
+use Rattle.event_history.specs.Remembering.{MayBefall, Remembers, TellsDevice, TellsWay, way_place}
 use Rattle.event_history.specs.declared.history.DeviceHistory.{DeviceHistory}
 use Rattle.event_history.specs.declared.history.EventHistory.{EventHistory}
 use Rattle.event_history.specs.declared.history.WayHistory.{WayHistory}
-use Rattle.event_history.proofs.Valuing.{set_more, set_stays}
+use Rattle.event_history.proofs.Valuing.{set_stays}
 
 -- ---- results
 
@@ -108,8 +106,8 @@ ways_set network before behind link way ways new told here stays l w x at =
           (subst (TellsWay network behind link way) (set_same ways (way_place link way) new x at_own) here))
       | inr miss ↦
           let differ : way_place link way ≡ way_place l w → ⊥ = λ e.
-              let same = places_same l link w way (sym e) in
-              false≢true (sym miss ∙ rw (eq-eqb l.0 link.0 same.0) same.1) in
+          let same = places_same l link w way (sym e) in
+          false≢true (sym miss ∙ rw (eq-eqb l.0 link.0 same.0) same.1) in
           stays l w x miss (told l w x (sym (set_other ways (way_place link way) (way_place l w) new differ) ∙ at))
     ]
 

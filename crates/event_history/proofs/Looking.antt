@@ -1,13 +1,11 @@
 -- What a history tells is what the events set.
-use Rattle.std.proofs.Common.{◌≡◌, ◌⊎◌, inl, inr, ℕ, zero, suc, ◌+◌, ◌*◌, ◌<◌, ◌≤◌, ◌^◌, nat_le, Bool, true, false, List, [], ◌∷◌, ◌++◌, length, Option, Some, None, if◌then◌else◌, pos, ◌≤ℤ◌, refl, sym, ap, subst, ◌∙◌, arith}
-use Rattle.std.specs.Prelude.{option_map, slice_get, slice_index_or}
+use Rattle.std.proofs.Common.{◌≡◌, ℕ, zero, suc, ◌*◌, ◌<◌, ◌≤◌, Bool, true, false, List, [], ◌∷◌, ◌++◌, length, Option, Some, None, pos, ◌≤ℤ◌, refl, sym, ap, subst, ◌∙◌, arith}
+use Rattle.std.specs.Prelude.{option_map, slice_index_or}
 use Rattle.std.specs.List.{All, cons_option}
 use Rattle.std.specs.List.Sorted.{IsNonDecreasingBy}
-use Rattle.std.proofs.lemmas.Bool.{cases_lt}
 use Rattle.std.proofs.lemmas.Option.{slice_get-get_or}
 use Rattle.drift_clock.specs.Segment.{Segment, fresh_segment}
 use Rattle.net_plan.specs.Belonging.{HasLink, IsOfNetwork}
-use Rattle.net_plan.specs.Ranges.{IsInRange}
 use Rattle.net_plan.specs.declared.event.Event.{Event}
 use Rattle.net_plan.specs.declared.event.What.{What}
 use Rattle.net_plan.specs.declared.ids.DeviceId.{DeviceId}
@@ -19,7 +17,7 @@ use Rattle.run_law.specs.scenario.Rates.{rate_steps}
 use Rattle.run_law.specs.scenario.Scenarios.{last_set}
 use Rattle.tte_units.specs.Amount.{amount}
 use Rattle.event_history.specs.Beginnings.{IsReadyFor}
-use Rattle.event_history.specs.Clocks.{AreClocks, clocks_after, clocks_reading}
+use Rattle.event_history.specs.Clocks.{AreClocks, clocks_reading}
 use Rattle.event_history.specs.Readings.{clock_reading, scenario_under}
 use Rattle.event_history.specs.Remembering.{MayBefall, Remembers, TellsDevice, way_place}
 use Rattle.event_history.specs.Settings.{IsSetBy, change_to, changes_by, value_at}

@@ -1,18 +1,13 @@
 -- The clocks that events set read on.
-use Rattle.std.proofs.Common.{◌≡◌, ℕ, ◌+◌, ◌-◌, ◌*◌, ◌^◌, ◌<◌, ◌≤◌, List, pos, ◌≤ℤ◌, refl, arith}
+use Rattle.std.proofs.Common.{◌≡◌, ℕ, ◌+◌, ◌-◌, ◌*◌, ◌^◌, ◌≤◌, refl, arith}
 use Rattle.std.specs.Int.{abs_diff}
 use Rattle.std.proofs.lemmas.Int.{ints}
 use Rattle.std.proofs.Math.Nat.{mul-le-mul_right}
 use Rattle.drift_clock.specs.ClockLaws.{AlwaysBeginsAtZero, AlwaysKeepsClockLaws}
 use Rattle.drift_clock.specs.Segment.{fresh_segment, stepped_segment, segment_reading}
-use Rattle.net_plan.specs.Ranges.{IsInRange}
-use Rattle.net_plan.specs.declared.event.Event.{Event}
-use Rattle.net_plan.specs.declared.ids.DeviceId.{DeviceId}
-use Rattle.net_plan.specs.declared.network.Network.{Network}
-use Rattle.run_law.specs.scenario.Hypothesis.{AreWithinHypothesis}
 use Rattle.run_law.specs.scenario.Rates.{rate_steps}
 use Rattle.tte_units.specs.Amount.{amount}
-use Rattle.event_history.specs.Readings.{ClocksReadOn, HaveBegun, ReadsOn, clock_reading}
+use Rattle.event_history.specs.Readings.{ClocksReadOn, clock_reading}
 use Rattle.event_history.proofs.Befalling.{events_from, steps_from}
 use Rattle.event_history.proofs.Clocking.{steps_history}
 

@@ -1,6 +1,6 @@
 -- A history to which no event was added.
 use Rattle.std.specs.List.{All}
-use Rattle.std.specs.Prelude.{◌≡◌, ◌≤◌, ℕ, ℤ, pos, ◌<ℤ◌, ◌⊎◌, ⊤, false, List, [], ◌∷◌, Option, None}
+use Rattle.std.specs.Prelude.{◌≡◌, ◌≤◌, ℕ, ℤ, pos, ◌<ℤ◌, ◌⊎◌, ⊤, false, List, [], ◌∷◌, None}
 use Rattle.drift_clock.specs.Segment.{fresh_segment}
 use Rattle.event_history.specs.Clocks.{AreClocks}
 use Rattle.net_plan.specs.declared.tables.Link.{Link}

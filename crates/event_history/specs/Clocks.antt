@@ -6,7 +6,6 @@ use Rattle.drift_clock.specs.RateSteps.{RateStep}
 use Rattle.drift_clock.specs.Segment.{Segment, segment_reading, stepped_segment}
 use Rattle.event_history.specs.Settings.{change_to, value_at}
 use Rattle.event_history.specs.declared.settings.Change.{Change}
-use Rattle.event_history.specs.declared.settings.Settings.{Settings}
 
 -- what each of the steps makes of the clock, from its time on
 abbrev pub clocks_after : Segment → List RateStep → List (Change Segment)

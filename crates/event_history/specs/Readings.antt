@@ -1,5 +1,5 @@
 -- What the clocks read under events.
-use Rattle.std.specs.Prelude.{◌≡◌, ℕ, ◌+◌, ◌^◌, ◌≤◌, ◌≤ℤ◌, pos, List, All}
+use Rattle.std.specs.Prelude.{ℕ, ◌+◌, ◌^◌, ◌≤◌, ◌≤ℤ◌, pos, List, All}
 use Rattle.drift_clock.specs.Readings.{reading_at}
 use Rattle.drift_clock.specs.Segment.{fresh_segment, stepped_segment, segment_reading}
 use Rattle.net_plan.specs.Ranges.{IsInRange}

@@ -1,6 +1,6 @@
 -- How a history stands to the events that it took.
 use Rattle.std.specs.Prelude.{◌≡◌, ℕ, ◌+◌, ◌*◌, ◌==◌, nat_le, Bool, false, List, ◌∷◌, [], ◌++◌, length, Option, Some, None, Result, MatchResult, slice_get}
-use Rattle.drift_clock.specs.Segment.{Segment, fresh_segment}
+use Rattle.drift_clock.specs.Segment.{fresh_segment}
 use Rattle.net_plan.specs.Belonging.{IsOfNetwork}
 use Rattle.net_plan.specs.Ranges.{IsInRange}
 use Rattle.net_plan.specs.declared.event.Event.{Event}
@@ -38,18 +38,18 @@ is_at (Some at) time = at == time
 
 -- it tells the wire delays, the holds and the cuts of this way
 pub record TellsWay (network : Network) (events : List Event) (link : LinkId) (way : Way) (told : WayHistory) : Type 0
-    where
-  pub delay : IsSetBy (wire_set link way) (wire_of network link) events told.delay
-  pub hold : IsSetBy (hold_set link way) 0 events told.hold
-  pub cut : IsSetBy (cut_set link way) false events told.cut
+  where
+    pub delay : IsSetBy (wire_set link way) (wire_of network link) events told.delay
+    pub hold : IsSetBy (hold_set link way) 0 events told.hold
+    pub cut : IsSetBy (cut_set link way) false events told.cut
 
 -- it tells what each step of its rate makes of the device's clock, when it broke and when it was turned on
 pub record TellsDevice (network : Network) (events : List Event) (device : DeviceId) (told : DeviceHistory) : Type 0
-    where
-  pub fresh : told.clock.initial ≡ fresh_segment (amount network.grain)
-  pub clock : told.clock.changes.items ≡ clocks_after (fresh_segment (amount network.grain)) (rate_steps events device)
-  pub broken : (time : ℕ) → is_broken (scenario_under network events) device time ≡ has_come told.broken time
-  pub turned_on : (time : ℕ) → is_turned_on_at (scenario_under network events) device time ≡ is_at told.turned_on time
+  where
+    pub fresh : told.clock.initial ≡ fresh_segment (amount network.grain)
+    pub clock : told.clock.changes.items ≡ clocks_after (fresh_segment (amount network.grain)) (rate_steps events device)
+    pub broken : (time : ℕ) → is_broken (scenario_under network events) device time ≡ has_come told.broken time
+    pub turned_on : (time : ℕ) → is_turned_on_at (scenario_under network events) device time ≡ is_at told.turned_on time
 
 -- the history is of these events, which befell the network within the hypothesis: it tells each way and each device
 pub record Remembers (network : Network) (events : List Event) (history : EventHistory) : Type 0 where

@@ -19,7 +19,12 @@ pub(crate) fn reading(clocks: &Settings<SegmentClock>, time: u64) -> u64
 }
 
 /// The least time from `from` on, up to `until`, at which the clock reads at least the goal, which is at most 2^61.
-pub(crate) fn reach(clocks: &Settings<SegmentClock>, from: u64, goal: Units, until: u64) -> Option<u64>
+pub(crate) fn reach(
+    clocks: &Settings<SegmentClock>,
+    from: u64,
+    goal: Units,
+    until: u64,
+) -> Option<u64>
     requires clocks { AreClocks clocks.now.initial clocks.now.changes.items }
     requires start { from ≤ until }
     requires limit { until ≤ 2 ^ 60 }

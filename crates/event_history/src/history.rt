@@ -14,10 +14,9 @@ ghost use Rattle.tte_units.specs.declared.units.Units.{Units as UnitsValue};
 ghost use Rattle.run_law.specs.scenario.Scenarios.{is_broken, is_turned_on_at};
 ghost use Rattle.run_law.specs.scenario.Ways.{delay_at, hold_at, is_cut};
 
-use crate::OutOfMemory;
-use crate::clocks;
 use crate::laws::reading_law;
 use crate::settings::Settings;
+use crate::{OutOfMemory, clocks};
 use drift_clock::{Clock, SegmentClock};
 use net_plan::{DeviceId, Event, Link, LinkId, Network, Way, What};
 use std::alloc::{AllocError, Global};

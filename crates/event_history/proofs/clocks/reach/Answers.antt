@@ -1,4 +1,4 @@
-use Rattle.std.proofs.Common.{◌≡◌, ◌≤◌, ◌<◌, ◌+◌, ◌∷◌, [], List, length, ap, sym, subst, arith}
+use Rattle.std.proofs.Common.{◌≡◌, ◌≤◌, [], List, ap, sym, subst, arith}
 use Rattle.drift_clock.specs.Segment.{Segment}
 use Rattle.event_history.specs.Settings.{value_at}
 use Rattle.event_history.specs.declared.settings.Change.{Change}

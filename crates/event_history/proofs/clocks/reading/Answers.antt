@@ -1,6 +1,5 @@
-use Rattle.std.proofs.Common.{◌≡◌, ◌≤◌, pos, sym, subst, arith}
+use Rattle.std.proofs.Common.{◌≤◌, sym, subst, arith}
 use Rattle.std.proofs.lemmas.Int.{ints}
-use Rattle.event_history.specs.Settings.{value_at}
 use Rattle.event_history.proofs.Clocking.{value_ready}
 use Rattle.event_history.proofs.clocks.reading.Goals as goal
 

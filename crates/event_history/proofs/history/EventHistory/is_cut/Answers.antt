@@ -1,8 +1,7 @@
 use Rattle.std.proofs.Common.{◌≡◌, false, length, Some, refl, subst}
 use Rattle.std.specs.Prelude.{slice_get}
 use Rattle.std.proofs.lemmas.Option.{slice_get_read}
-use Rattle.run_law.specs.scenario.Ways.{cut_set, wire_of}
-use Rattle.event_history.specs.Remembering.{way_place}
+use Rattle.run_law.specs.scenario.Ways.{cut_set}
 use Rattle.event_history.proofs.Looking.{looked_up}
 use Rattle.event_history.proofs.history.EventHistory.is_cut.Goals as goal
 

@@ -1,7 +1,6 @@
-use Rattle.std.proofs.Common.{◌≡◌, ◌≤◌, ◌^◌, None, false, List, refl, sym, ap, subst, ◌∙◌, arith}
+use Rattle.std.proofs.Common.{◌≤◌, ◌^◌, refl, sym, subst, arith}
 use Rattle.std.specs.List.{All}
 use Rattle.net_plan.specs.declared.event.What.TheVariants as events
-use Rattle.tte_units.specs.Amount.{amount}
 use Rattle.event_history.specs.Beginnings.{IsReadyFor}
 use Rattle.event_history.proofs.Adding.{nothing_set}
 use Rattle.event_history.proofs.Befalling.{slow_what, soon}

@@ -1,9 +1,8 @@
-use Rattle.std.proofs.Common.{◌≡◌, ◌∙◌, ◌++◌, ◌∷◌, [], ℕ, List, length, Some, false, refl, sym, ap, subst, arith, ◌<◌, ◌≤◌, ◌*◌}
+use Rattle.std.proofs.Common.{◌≡◌, ◌∙◌, ◌++◌, ◌∷◌, [], length, Some, refl, sym, ap, subst, arith}
 use Rattle.std.specs.Prelude.{slice_get}
 use Rattle.net_plan.specs.Belonging.{IsOfNetwork}
 use Rattle.event_history.proofs.Looking.{cut_has, has_place}
 use Rattle.std.proofs.lemmas.Option.{slice_get_read}
-use Rattle.net_plan.specs.declared.event.What.TheVariants as events
 use Rattle.tte_units.specs.Amount.{amount}
 use Rattle.event_history.specs.Settings.{change_to}
 use Rattle.event_history.proofs.Adding.{cut_set_to, cut_event, cut_no_break, cut_no_step, cut_no_turn, no_devices, same_way}
@@ -20,12 +19,12 @@ returns-in-Some c = λ event what time begun network all h may.
     let at : slice_get ways place ≡ Some told = slice_get_read ways (length ways) place told refl item.3.0 item.1 in
     match_map c.set.result _ _ _ _
     (λ x more. remembers_more network all event old _ h may begun (set_length ways place _)
-        (cut_set_to network all event c.args.link c.args.way c.args.cut place ways told c.set.new.self h.ways c.way_place.ensures at what
-        c.set.ensures.initial (more ∙ ap (λ ch. told.cut.changes.items ++ ch ∷ []) (ap (λ t. change_to t c.args.cut) (sym time)))) refl
-        (no_devices network all event (cut_event c.args.cut c.args.link c.args.way) old.devices.items what (λ d. cut_no_step c.args.cut c.args.link c.args.way d (amount event.time)) (λ d. cut_no_break c.args.cut c.args.link c.args.way d)
-        (λ d. cut_no_turn c.args.cut c.args.link c.args.way d) h.devices))
+    (cut_set_to network all event c.args.link c.args.way c.args.cut place ways told c.set.new.self h.ways c.way_place.ensures at what
+    c.set.ensures.initial (more ∙ ap (λ ch. told.cut.changes.items ++ ch ∷ []) (ap (λ t. change_to t c.args.cut) (sym time)))) refl
+    (no_devices network all event (cut_event c.args.cut c.args.link c.args.way) old.devices.items what (λ d. cut_no_step c.args.cut c.args.link c.args.way d (amount event.time)) (λ d. cut_no_break c.args.cut c.args.link c.args.way d)
+    (λ d. cut_no_turn c.args.cut c.args.link c.args.way d) h.devices))
     (λ x same. remembers_same network all old _ h (set_length ways place _)
-        (same_way network all c.args.link c.args.way place ways told _ h.ways c.way_place.ensures at refl refl refl refl c.set.ensures.initial same) refl h.devices)
+    (same_way network all c.args.link c.args.way place ways told _ h.ways c.way_place.ensures at refl refl refl refl c.set.ensures.initial same) refl h.devices)
     c.set.ensures.changes
 
 pub returns-in-None : goal.returns-in-None

@@ -1,11 +1,10 @@
-use Rattle.std.proofs.Common.{◌≡◌, ◌≤◌, ◌∙◌, unsigned_abs, ◌++◌, ◌∷◌, [], ℕ, List, length, Some, None, false, pos, refl, sym, ap, subst, arith}
+use Rattle.std.proofs.Common.{◌≡◌, ◌≤◌, ◌∙◌, unsigned_abs, ◌++◌, ◌∷◌, [], ℕ, length, Some, refl, sym, ap, subst, arith}
 use Rattle.std.specs.Prelude.{slice_get}
 use Rattle.std.specs.List.{All}
 use Rattle.std.proofs.lemmas.Int.{ints}
 use Rattle.std.proofs.lemmas.Option.{slice_get_read}
 use Rattle.drift_clock.specs.Segment.{Segment, stepped_segment}
 use Rattle.net_plan.specs.declared.event.What.TheVariants as events
-use Rattle.tte_units.specs.Amount.{amount}
 use Rattle.event_history.specs.Settings.{change_to, value_at}
 use Rattle.event_history.proofs.Adding.{no_ways, rate_set, same_device}
 use Rattle.event_history.proofs.Clocking.{value_ready}
@@ -42,11 +41,11 @@ returns-in-Some c = λ event what time begun network all h may.
     ∙ ap (λ n. stepped_segment (value_at told.clock.initial before c.args.time) (unsigned_abs n) c.args.rate.0) c.from_amount.ensures.whole in
     match_map c.set.result _ _ _ _
     (λ x more. remembers_more network all event old _ h may begun refl
-        (no_ways network all event (events.Rate device c.args.rate) old.ways.items what (λ l w. refl) (λ l w. refl) (λ l w. refl) h.ways)
-        (set_length devices device.0 _)
-        (rate_set network all event device c.args.rate devices told c.set.new.self h.devices at what
-        (subst (λ t. All (λ ch. ch.from ≤ t) before) (sym time) ready.later) c.set.ensures.initial
-        (more ∙ ap (λ (k : Segment). before ++ change_to c.args.time k ∷ []) stepped ∙ ap (λ t. before ++ change_to t (at_time t) ∷ []) (sym time))))
+    (no_ways network all event (events.Rate device c.args.rate) old.ways.items what (λ l w. refl) (λ l w. refl) (λ l w. refl) h.ways)
+    (set_length devices device.0 _)
+    (rate_set network all event device c.args.rate devices told c.set.new.self h.devices at what
+    (subst (λ t. All (λ ch. ch.from ≤ t) before) (sym time) ready.later) c.set.ensures.initial
+    (more ∙ ap (λ (k : Segment). before ++ change_to c.args.time k ∷ []) stepped ∙ ap (λ t. before ++ change_to t (at_time t) ∷ []) (sym time))))
     (λ x same. remembers_same network all old _ h refl h.ways (set_length devices device.0 _)
-        (same_device network all device devices told c.set.new.self h.devices at c.set.ensures.initial same))
+    (same_device network all device devices told c.set.new.self h.devices at c.set.ensures.initial same))
     c.set.ensures.changes

@@ -1,4 +1,4 @@
-use Rattle.std.proofs.Common.{◌≡◌, ◌∙◌, ap}
+use Rattle.std.proofs.Common.{◌∙◌, ap}
 use Rattle.std.specs.Prelude.{drop}
 use Rattle.event_history.proofs.Valuing.{later_found}
 use Rattle.event_history.proofs.settings.Settings.after.Goals as goal

@@ -1,4 +1,4 @@
-use Rattle.std.proofs.Common.{◌+◌, ◌-◌, ◌≡◌, ◌≤◌, ◌<◌, ℕ, length, sym, subst, ◌∙◌, ap, arith}
+use Rattle.std.proofs.Common.{◌+◌, ◌-◌, ◌≡◌, ◌≤◌, ◌<◌, length, sym, subst, ◌∙◌, ap, arith}
 use Rattle.std.specs.List.Sorted.{IsPartitionPoint}
 use Rattle.event_history.proofs.Valuing.{below, next_of, value_before, value_found}
 use Rattle.event_history.proofs.settings.Settings.at.Goals as goal

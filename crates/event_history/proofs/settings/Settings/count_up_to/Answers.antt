@@ -1,4 +1,4 @@
-use Rattle.std.proofs.Common.{rules, ◌≡◌, true, false, of_calls, nat_le, sym, subst, List}
+use Rattle.std.proofs.Common.{rules, ◌≡◌, true, false, of_calls, nat_le, sym, subst}
 use Rattle.std.proofs.lemmas.Fn.{always_returns_same}
 use Rattle.std.specs.List.Sorted.{IsPartitionPoint, IsPartitionedBy}
 use Rattle.event_history.proofs.Valuing.{part_at, parted}
