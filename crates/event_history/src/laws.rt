@@ -1,0 +1,10 @@
+ghost use Rattle.event_history.specs.Readings.{ClocksReadOn};
+
+use drift_clock::{SegmentClock, clock_laws};
+
+/// Under events within the hypothesis the reading of a clock never falls, and up to 2^60 it is at most 2^60 + 2^51.
+pub fn reading_law()
+    ensures { ClocksReadOn }
+{
+    clock_laws::<SegmentClock>();
+}
