@@ -1,0 +1,19 @@
+//! The rules of operation (SAE AS6802) as functions of the network and of where a device stands: what becomes of frames
+//! that arrive, how compressed frames are heard, what a compression master collects, how frames leave, and what a
+//! correction point comes to. They keep nothing, and take any numbers that a report may have.
+#![tactic(auto)]
+
+mod arriving;
+mod collecting;
+mod correcting;
+mod hearing;
+mod leaving;
+mod network;
+mod standpoint;
+
+pub use arriving::control_arrival;
+pub use collecting::point_fault;
+pub use correcting::{PointStanding, PointVerdict, joined_adjustment, verdict};
+pub use hearing::heard_as;
+pub use leaving::{Departed, departure};
+pub use standpoint::Standpoint;
