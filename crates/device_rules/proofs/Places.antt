@@ -1,5 +1,5 @@
 -- The links of a network, and the end systems at them.
-use Rattle.std.proofs.Common.{◌≡◌, ◌∙◌, ℕ, ◌<◌, ◌≤◌, ◌==◌, Bool, true, false, ◌&&◌, List, length, get_or, slice_get, Option, Some, refl, sym, subst, ap, arith}
+use Rattle.std.proofs.Common.{◌≡◌, ◌∙◌, ℕ, ◌<◌, ◌≤◌, ◌==◌, Bool, true, false, ◌&&◌, List, length, get_or, slice_get, Some, refl, sym, subst, ap, arith}
 use Rattle.std.proofs.lemmas.Option.{slice_get_read, slice_get_past}
 use Rattle.net_plan.specs.Places.{link_at}
 use Rattle.net_plan.specs.declared.ids.DeviceId.{DeviceId}

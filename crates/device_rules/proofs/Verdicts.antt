@@ -1,5 +1,5 @@
 -- What a correction point comes to.
-use Rattle.std.proofs.Common.{ℤ, ◌≡◌, ◌∙◌, ◌⊎◌, inl, inr, ⊎_elim, ℕ, ◌≤◌, nat_le, Bool, true, false, Option, Some, None, if◌then◌else◌, option_and_then, refl, sym, subst, ap, arith}
+use Rattle.std.proofs.Common.{ℤ, ◌≡◌, ◌∙◌, ◌⊎◌, inl, inr, ⊎_elim, ℕ, ◌≤◌, nat_le, Bool, true, false, Option, Some, None, if◌then◌else◌, option_and_then, refl, ap, arith}
 use Rattle.clock_correction.specs.Correction.{correction_of}
 use Rattle.device_rules.specs.Answers.{in_units}
 use Rattle.membership.specs.BestFrame.{Qualifies}

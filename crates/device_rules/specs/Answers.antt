@@ -5,9 +5,13 @@ use Rattle.device_rules.specs.declared.correcting.PointVerdict.TheVariants as po
 use Rattle.device_rules.specs.declared.correcting.PointVerdict.{PointVerdict}
 use Rattle.device_rules.specs.declared.leaving.Departed.TheVariants as departed
 use Rattle.device_rules.specs.declared.leaving.Departed.{Departed}
+use Rattle.device_rules.specs.declared.timed.TimedArrival.TheVariants as timed
+use Rattle.device_rules.specs.declared.timed.TimedArrival.{TimedArrival}
 use Rattle.net_plan.specs.declared.ids.DeviceId.{DeviceId}
 use Rattle.net_plan.specs.declared.network.Network.{Network}
 use Rattle.run_law.specs.control.Leaving.{Departure, leaves, on_cut_way, too_old}
+use Rattle.run_law.specs.declared.steps.Arrival.TheVariants as arrivals
+use Rattle.run_law.specs.declared.steps.Arrival.{Arrival}
 use Rattle.run_law.specs.scenario.Devices.{plan_of}
 use Rattle.sync_state.specs.Standing.{Standing}
 use Rattle.sync_state.specs.declared.answers.Verdict.TheVariants as verdicts
@@ -27,6 +31,12 @@ unit z = record { 0 = z }
 -- the same, where there is one
 abbrev pub in_units : Option ℤ → Option Units
 in_units o = option_map unit o
+
+-- what becomes of a time-triggered frame
+abbrev pub arrival_as : TimedArrival → Arrival
+arrival_as (timed.Dropped reason) = arrivals.Dropped reason
+arrival_as (timed.Accepted vl cycle) = arrivals.Accepted vl cycle
+arrival_as (timed.Delivered vl cycle) = arrivals.Delivered vl cycle
 
 -- what a correction point comes to
 abbrev pub verdict_as : PointVerdict → Verdict

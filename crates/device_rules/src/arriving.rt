@@ -2,7 +2,7 @@
 
 ghost use Rattle.std.specs.Prelude.{◌≡◌, ◌≤◌, ◌<◌, ◌^◌, ◌+◌, ◌*◌, ◌+ℤ◌, ◌&&◌, pos, int_lt, IfOk, IfSome};
 ghost use Rattle.device_rules.specs.Arriving.{IsGrownSo, young_clock};
-ghost use Rattle.device_rules.specs.Widths.{IsFar};
+ghost use Rattle.device_rules.specs.Widths.{IsLocal};
 ghost use Rattle.net_plan.specs.Ranges.{IsInRange};
 ghost use Rattle.run_law.specs.control.Arrivals.{are_others, clock_on_arrival, control_arrival, frame_fault, frame_or_fault, frame_taken, is_cold_start, is_gate_shut, is_of_other_domain, is_of_other_member, point_on_arrival, refused};
 ghost use Rattle.run_law.specs.device.Standpoints.{offset_in_cycle};
@@ -205,7 +205,7 @@ fn is_gate_shut(network: &Network, device: DeviceId, at: &Standpoint) -> bool
 /// Does the local value lie behind the place at which a gate shuts in its cycle?
 fn is_past_gate(network: &Network, value: i128) -> bool
     requires range { IsInRange network.now }
-    requires fits { IsFar value }
+    requires fits { IsLocal value }
     ensures { result ≡ int_lt (pos (amount network.now.correction + 2 * amount network.now.precision))
         (offset_in_cycle network.now (value +ℤ pos (2 * amount network.now.precision))) }
 {
@@ -218,7 +218,7 @@ fn is_past_gate(network: &Network, value: i128) -> bool
 /// The local value, and as much as the gate opens before the cycle's start.
 fn gate_value(network: &Network, value: i128) -> i128
     requires range { IsInRange network.now }
-    requires fits { IsFar value }
+    requires fits { IsLocal value }
     ensures { result ≡ (value +ℤ pos (2 * amount network.now.precision)) }
 {
     value + 2 * precision(network)

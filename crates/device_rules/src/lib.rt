@@ -6,14 +6,20 @@
 mod arriving;
 mod collecting;
 mod correcting;
+mod entrances;
+mod heading;
 mod hearing;
 mod leaving;
 mod network;
 mod standpoint;
+mod timed;
 
 pub use arriving::control_arrival;
 pub use collecting::point_fault;
 pub use correcting::{PointStanding, PointVerdict, joined_adjustment, verdict};
+pub use entrances::{EnteringRow, Entrances};
+pub use heading::Heading;
 pub use hearing::heard_as;
 pub use leaving::{Departed, departure};
 pub use standpoint::Standpoint;
+pub use timed::TimedArrival;

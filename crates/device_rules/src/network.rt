@@ -2,8 +2,9 @@
 
 ghost use Rattle.std.specs.Prelude.{◌≡◌, ◌≤◌, ◌<◌, ◌+◌, ◌*◌, ◌^◌, ◌≤ℤ◌, pos, IfSome};
 ghost use Rattle.std.specs.Int.{int_div_euclid};
+ghost use Rattle.device_rules.specs.Widths.{IsLocal};
 ghost use Rattle.net_plan.specs.Ranges.{IsInRange};
-ghost use Rattle.run_law.specs.device.Standpoints.{offset_in_cycle};
+ghost use Rattle.run_law.specs.device.Standpoints.{cycle_at, offset_in_cycle};
 ghost use Rattle.run_law.specs.scenario.Devices.{expected_by, is_cm, is_cm_role, is_end, is_parent_of, is_relay, is_relay_role, member_of, plan_of};
 ghost use Rattle.run_law.specs.scenario.Ways.{way_to, wire_of};
 ghost use Rattle.sync_state.specs.Plan.{expected_at};
@@ -160,6 +161,19 @@ pub(crate) fn place_in_cycle(network: &Network, value: i128) -> i128
     ensures { result ≡ offset_in_cycle network.now value }
 {
     value.rem_euclid(i128::from(network.cycle.0))
+}
+
+/// The cycle of a local value, which is 0 before the first cycle.
+pub(crate) fn cycle_at(network: &Network, value: i128) -> u64
+    requires range { IsInRange network.now }
+    requires value { IsLocal value }
+    ensures { result ≡ cycle_at network.now value }
+{
+    if value < 0 {
+        0
+    } else {
+        (value as u128 / u128::from(network.cycle.amount())) as u64
+    }
 }
 
 /// The number of the cycle in which a local value lies, which is negative before cycle 0.

@@ -1,5 +1,5 @@
 ghost use Rattle.std.specs.Prelude.{◌≡◌, ◌+ℤ◌, pos};
-ghost use Rattle.device_rules.specs.Widths.{IsFar, IsWide};
+ghost use Rattle.device_rules.specs.Widths.{IsLocal, IsWide};
 ghost use Rattle.run_law.specs.device.States.{is_synchronised};
 ghost use Rattle.run_law.specs.device.Standpoints.{clock_of};
 
@@ -77,7 +77,7 @@ impl Standpoint {
     /// What its local clock shows.
     pub(crate) fn clock(&self) -> i128
         ensures value { result ≡ clock_of self.now }
-        ensures fits { IsFar result }
+        ensures fits { IsLocal result }
     {
         i128::from(self.reading) + self.adjustment
     }
@@ -105,7 +105,7 @@ pub(crate) fn shown(point: i128, adjustment: i128) -> i128
     requires point { IsWide point }
     requires adjustment { IsWide adjustment }
     ensures value { result ≡ point +ℤ adjustment }
-    ensures fits { IsFar result }
+    ensures fits { IsLocal result }
 {
     point + adjustment
 }

@@ -1,8 +1,7 @@
-use Rattle.std.proofs.Common.{◌≡◌, ◌∙◌, sym, ap, Option, Some, None, ℤ, true, false, rules}
+use Rattle.std.proofs.Common.{◌∙◌, sym, ap, rules}
 use Rattle.std.specs.Int.{w128}
 use Rattle.std.proofs.lemmas.Int.{to_z-of_z}
 use Rattle.std.proofs.lemmas.Bool.{false≢true}
-use Rattle.clock_correction.specs.Correction.{correction_of}
 use Rattle.device_rules.proofs.Verdicts.{corrects, none_qualifies, some_qualifies}
 use Rattle.device_rules.specs.Answers.{in_units, standing_of, unit}
 use Rattle.device_rules.proofs.correcting.verdict.Goals as goal

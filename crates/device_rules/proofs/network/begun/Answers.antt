@@ -1,4 +1,4 @@
-use Rattle.std.proofs.Common.{◌≡◌, ◌∙◌, ◌≤◌, ◌^◌, ◌*◌, ℕ}
+use Rattle.std.proofs.Common.{◌∙◌, ◌≤◌, ◌^◌}
 use Rattle.std.proofs.Math.Nat.{mul-le-mul_left}
 use Rattle.device_rules.proofs.Numbers.{amount_most}
 use Rattle.device_rules.proofs.network.begun.Goals as goal
