@@ -23,3 +23,6 @@ pub use hearing::heard_as;
 pub use leaving::{Departed, departure};
 pub use standpoint::Standpoint;
 pub use timed::TimedArrival;
+
+#[cfg(test)]
+mod tests;
