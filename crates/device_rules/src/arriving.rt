@@ -22,7 +22,7 @@ use tte_units::Units;
 
 /// What becomes of a protocol control frame that arrives at the device by the link.
 ///
-/// The reading is at most 2^61.
+/// The reading is at most 2^62.
 pub fn control_arrival(
     network: &Network,
     device: DeviceId,
@@ -31,7 +31,7 @@ pub fn control_arrival(
     decoded: &Result<Pcf, PcfRefusal>,
 ) -> Arrival
     requires range { IsInRange network.now }
-    requires reading { at.now.reading ≤ 2 ^ 61 }
+    requires reading { at.now.reading ≤ 2 ^ 62 }
     ensures { result ≡ control_arrival network.now device link at.now decoded.now }
 {
     match decoded {
@@ -55,7 +55,7 @@ fn frame_arrival(
     frame: &Pcf,
 ) -> Arrival
     requires range { IsInRange network.now }
-    requires reading { at.now.reading ≤ 2 ^ 61 }
+    requires reading { at.now.reading ≤ 2 ^ 62 }
     ensures { result ≡ frame_or_fault network.now device link at.now frame.now
         (frame_fault network.now device link at.now frame.now) }
 {
@@ -74,7 +74,7 @@ fn frame_taken(
     frame: Pcf,
 ) -> Arrival
     requires range { IsInRange network.now }
-    requires reading { at.now.reading ≤ 2 ^ 61 }
+    requires reading { at.now.reading ≤ 2 ^ 62 }
     requires young { frame.clock ≤ amount network.now.dmax }
     ensures { result ≡ frame_taken network.now device link frame (point_on_arrival network.now at.now frame.clock) }
 {
@@ -91,7 +91,7 @@ fn frame_taken(
 /// The permanence point of a frame that arrives with this clock.
 fn point_on_arrival(network: &Network, at: &Standpoint, clock: u64) -> Units
     requires range { IsInRange network.now }
-    requires reading { at.now.reading ≤ 2 ^ 61 }
+    requires reading { at.now.reading ≤ 2 ^ 62 }
     requires young { clock ≤ amount network.now.dmax }
     ensures { result ≡ point_on_arrival network.now at.now clock }
 {

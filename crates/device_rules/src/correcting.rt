@@ -8,12 +8,13 @@ ghost use Rattle.device_rules.specs.Widths.{IsFar, IsWide};
 ghost use Rattle.net_plan.specs.Ranges.{IsInRange};
 ghost use Rattle.net_plan.specs.declared.ids.DeviceId.{DeviceId};
 ghost use Rattle.net_plan.specs.declared.network.Network.{Network};
+ghost use Rattle.run_law.specs.control.Corrections.{correction_value};
 ghost use Rattle.run_law.specs.scenario.Devices.{plan_of};
 ghost use Rattle.sync_state.specs.Plan.{expected_at};
 ghost use Rattle.sync_state.specs.Standing.{IsAtIntegration};
 ghost use Rattle.sync_state.specs.Verdicts.{HasVerdict, IsOutnumbered, deviation_on, members_of_best};
 
-use crate::network::expected_at;
+use crate::network::{begun, expected_at};
 use membership::{Heard, count};
 use net_plan::{DeviceId, Network};
 use pcf_values::Channel;
@@ -43,6 +44,16 @@ pub struct PointStanding {
     pub number: u64,
     /// The cycle of the frame that integrated the device last.
     pub integrated: Option<u32>,
+}
+
+/// What the local clock shows at the correction point of the cycle.
+pub fn correction_value(network: &Network, cycle: u64) -> i128
+    requires { IsInRange network.now }
+    ensures value { result ≡ correction_value network.now cycle }
+    ensures low { pos 0 ≤ℤ result }
+    ensures far { IsFar result }
+{
+    (begun(network, cycle) + u128::from(network.correction.amount())) as i128
 }
 
 /// What the correction point of the device comes to, by what it has heard since the last one.

@@ -16,11 +16,12 @@ mod timed;
 
 pub use arriving::control_arrival;
 pub use collecting::point_fault;
-pub use correcting::{PointStanding, PointVerdict, joined_adjustment, verdict};
+pub use correcting::{PointStanding, PointVerdict, correction_value, joined_adjustment, verdict};
 pub use entrances::{EnteringRow, Entrances};
 pub use heading::Heading;
 pub use hearing::heard_as;
 pub use leaving::{Departed, departure};
+pub use network::{is_cm, is_end, is_parent_of, is_relay, way_to};
 pub use standpoint::Standpoint;
 pub use timed::TimedArrival;
 

@@ -13,7 +13,7 @@ ghost use Rattle.tte_units.specs.Amount.{amount};
 use net_plan::{DeviceId, LinkId, Network, Role, Way};
 
 /// Is the device a compression master?
-pub(crate) fn is_cm(network: &Network, device: DeviceId) -> bool
+pub fn is_cm(network: &Network, device: DeviceId) -> bool
     ensures { result ≡ is_cm network.now device }
 {
     match network.device.as_slice().get(device.0 as usize) {
@@ -32,7 +32,7 @@ fn is_cm_role(role: Role) -> bool
 }
 
 /// Is the device a relay?
-pub(crate) fn is_relay(network: &Network, device: DeviceId) -> bool
+pub fn is_relay(network: &Network, device: DeviceId) -> bool
     ensures { result ≡ is_relay network.now device }
 {
     match network.device.as_slice().get(device.0 as usize) {
@@ -51,7 +51,7 @@ fn is_relay_role(role: Role) -> bool
 }
 
 /// Is the device an end system?
-pub(crate) fn is_end(network: &Network, device: DeviceId) -> bool
+pub fn is_end(network: &Network, device: DeviceId) -> bool
     ensures { result ≡ is_end network.now device }
 {
     match network.device.as_slice().get(device.0 as usize) {
@@ -73,7 +73,7 @@ pub(crate) fn member_of(network: &Network, device: DeviceId) -> Option<u32>
 }
 
 /// Is the device the parent of the link?
-pub(crate) fn is_parent_of(network: &Network, device: DeviceId, link: LinkId) -> bool
+pub fn is_parent_of(network: &Network, device: DeviceId, link: LinkId) -> bool
     ensures { result ≡ is_parent_of network.now device link }
 {
     match network.link.as_slice().get(link.0 as usize) {
@@ -83,7 +83,7 @@ pub(crate) fn is_parent_of(network: &Network, device: DeviceId, link: LinkId) ->
 }
 
 /// The way on which the device receives by the link.
-pub(crate) fn way_to(network: &Network, device: DeviceId, link: LinkId) -> Way
+pub fn way_to(network: &Network, device: DeviceId, link: LinkId) -> Way
     ensures { result ≡ way_to network.now device link }
 {
     if is_parent_of(network, device, link) {
@@ -137,7 +137,7 @@ fn expected_by(network: &Network, device: DeviceId) -> u64
 }
 
 /// Where the cycle begins.
-fn begun(network: &Network, cycle: u64) -> u128
+pub(crate) fn begun(network: &Network, cycle: u64) -> u128
     requires { IsInRange network.now }
     ensures value { result ≡ cycle * amount network.now.cycle }
     ensures high { result ≤ cycle * 2 ^ 40 }
