@@ -1,0 +1,5 @@
+pub mod Numbers
+pub mod Places
+pub mod Verdicts
+pub mod KeptRows
+pub mod Entered

@@ -1,0 +1,26 @@
+use Rattle.std.proofs.Common.{◌≡◌, ◌∙◌, sym, None}
+use Rattle.device_rules.proofs.Entered.{entered, found_is, has_period, unknown}
+use Rattle.device_rules.proofs.entrances.Entrances.entering.Goals as goal
+
+pub returns-in-Some-row_at-clause-period : goal.returns-in-Some-row_at-clause-period
+returns-in-Some-row_at-clause-period c =
+    let found = found_is c.args.network.now c.args.self.now c.args.device c.args.link c.args.heading.now.id c.way_to.result c.row_at.result
+    c.requires.entrances c.way_to.ensures c.row_at.ensures.up c.row_at.ensures.down in
+    has_period c.args.network.now c.args.device c.args.link c.args.heading.now.id c.in-Some-row_at.row c.requires.range
+    (sym found ∙ c.in-Some-row_at.is)
+
+pub returns-in-Some-row_at-clause-is : goal.returns-in-Some-row_at-clause-is
+returns-in-Some-row_at-clause-is c octets is =
+    let found = found_is c.args.network.now c.args.self.now c.args.device c.args.link c.args.heading.now.id c.way_to.result c.row_at.result
+    c.requires.entrances c.way_to.ensures c.row_at.ensures.up c.row_at.ensures.down in
+    let none : c.fault.result ≡ None = c.in_default.is in
+    entered c.args.network.now c.args.device c.args.link c.args.at.now octets c.args.heading.now c.in-Some-row_at.row is
+    (sym c.fault.ensures ∙ none) (sym found ∙ c.in-Some-row_at.is)
+
+pub returns-in-None-clause-is : goal.returns-in-None-clause-is
+returns-in-None-clause-is c octets is =
+    let found = found_is c.args.network.now c.args.self.now c.args.device c.args.link c.args.heading.now.id c.way_to.result c.row_at.result
+    c.requires.entrances c.way_to.ensures c.row_at.ensures.up c.row_at.ensures.down in
+    let none : c.fault.result ≡ None = c.in_default.is in
+    unknown c.args.network.now c.args.device c.args.link c.args.at.now octets c.args.heading.now is
+    (sym c.fault.ensures ∙ none) (sym found ∙ c.in-None.is)

@@ -1,0 +1,26 @@
+use Rattle.std.proofs.Common.{◌≡◌, ◌∙◌, true, false, Some, sym, subst}
+use Rattle.std.specs.BTreeMap.{Updates}
+use Rattle.device_rules.proofs.KeptRows.{none_at, row_kept, row_skipped, some_by}
+use Rattle.device_rules.proofs.entrances.add_row.Goals as goal
+use Rattle.device_rules.specs.Entering.{entrance_cmp, entrance_of}
+use Rattle.device_rules.specs.declared.entrances.EnteringRow.{EnteringRow}
+use Rattle.device_rules.specs.declared.entrances.Entrance.{Entrance}
+
+pub returns-then-not-is_way : goal.returns-then-not-is_way
+returns-then-not-is_way c earlier place is have are =
+    row_skipped c.args.network.now c.args.way earlier place c.args.entry.now c.args.rows.now is have are
+    (λ comes. let never : true ≡ false = sym comes ∙ sym c.is_way.ensures ∙ c.if-not-is_way.true in absurd cc)
+
+pub returns-then-contains_key : goal.returns-then-contains_key
+returns-then-contains_key c earlier place is have are =
+    row_skipped c.args.network.now c.args.way earlier place c.args.entry.now c.args.rows.now is have are
+    (λ comes. some_by _ (rw (sym c.entrance_of-entrance.ensures) (sym c.contains_key.ensures ∙ c.if-contains_key.true)))
+
+pub returns-in-Ok : goal.returns-in-Ok
+returns-in-Ok c earlier place is have are =
+    row_kept c.args.network.now c.args.way earlier place c.args.entry.now c.args.rows.now c.insert.new.self is have are
+    (sym c.is_way.ensures ∙ c.if-not-is_way.false)
+    (none_at _ (rw (sym c.entrance_of-entrance.ensures) (sym c.contains_key.ensures ∙ c.if-contains_key.false)))
+    (subst (λ (row : EnteringRow). Updates entrance_cmp c.args.rows.now c.insert.new.self (entrance_of c.args.entry.now) (Some row)) c.entering_row.ensures
+    (subst (λ (key : Entrance). Updates entrance_cmp c.args.rows.now c.insert.new.self key (Some c.entering_row.result)) c.entrance_of-entrance.ensures
+    c.in-Ok.ensures.updates))

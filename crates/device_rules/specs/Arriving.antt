@@ -1,0 +1,20 @@
+-- How a frame that arrives is judged.
+use Rattle.std.specs.Prelude.{◌≡◌, ℕ, Option, Some, None, Result, Ok, Err, nat_lt, if◌then◌else◌}
+use Rattle.net_plan.specs.declared.ids.DeviceId.{DeviceId}
+use Rattle.net_plan.specs.declared.ids.LinkId.{LinkId}
+use Rattle.net_plan.specs.declared.network.Network.{Network}
+use Rattle.pcf_values.specs.declared.pcf.Pcf.{Pcf}
+use Rattle.run_law.specs.control.Arrivals.{clock_on_arrival, frame_fault}
+use Rattle.run_law.specs.declared.judgement.Reason.{Reason}
+use Rattle.run_law.specs.device.Standpoints.{Standpoint}
+use Rattle.tte_units.specs.Amount.{amount}
+
+-- this is the frame's clock as the wire has grown it, or why the frame is dropped
+abbrev pub IsGrownSo : Network → DeviceId → LinkId → Standpoint → Pcf → Result ℕ Reason → Type 0
+IsGrownSo network device link at frame (Ok clock) =
+    (frame_fault network device link at frame ≡ None) × (clock ≡ clock_on_arrival network link frame)
+IsGrownSo network device link at frame (Err reason) = frame_fault network device link at frame ≡ Some reason
+
+-- the clock, unless it exceeds the greatest delay
+abbrev pub young_clock : Network → ℕ → Option ℕ
+young_clock network clock = if nat_lt (amount network.dmax) clock then None else Some clock

@@ -1,0 +1,87 @@
+-- The rows by which time-triggered frames enter devices.
+use Rattle.std.specs.Prelude.{◌≡◌, ℕ, ◌≤◌, ◌%◌, nat_le, int_lt, ℤ, not, ◌&&◌, ◌||◌, ◌==◌, List, [], ◌∷◌, length, find, Option, option_map, option_and_then, Result, Ok, Err, IsSome}
+use Rattle.std.specs.BTreeMap.{BTreeMap, get}
+use Rattle.std.specs.List.{All}
+use Rattle.std.specs.Ordering.{nat_cmp, ordering_then}
+use Rattle.std.specs.declared.cmp.Ordering.{Ordering}
+use Rattle.device_rules.specs.declared.entrances.EnteringRow.{EnteringRow}
+use Rattle.device_rules.specs.declared.entrances.Entrance.{Entrance}
+use Rattle.device_rules.specs.declared.entrances.Entrances.{Entrances}
+use Rattle.net_plan.specs.declared.ids.DeviceId.{DeviceId}
+use Rattle.net_plan.specs.declared.ids.LinkId.{LinkId}
+use Rattle.net_plan.specs.declared.ids.VlId.{VlId}
+use Rattle.net_plan.specs.declared.network.Network.{Network}
+use Rattle.net_plan.specs.declared.tables.Row.{Row}
+use Rattle.net_plan.specs.declared.tables.Way.TheVariants.{Up, Down}
+use Rattle.net_plan.specs.declared.tables.Way.{Way}
+use Rattle.run_law.specs.declared.judgement.Reason.TheVariants as reasons
+use Rattle.run_law.specs.declared.judgement.Reason.{Reason}
+use Rattle.run_law.specs.declared.steps.Arrival.TheVariants as arrivals
+use Rattle.run_law.specs.device.Standpoints.{Standpoint, first_reason}
+use Rattle.run_law.specs.scenario.Ways.{is_way_of}
+use Rattle.run_law.specs.timed.Arrivals.{entry_of, is_row_with, is_taken_in, row_fault, taken_or_fault, timed_arrival}
+use Rattle.schedule_tables.specs.Windows.{window_of}
+use Rattle.schedule_tables.specs.declared.entry.Entry.{Entry}
+
+-- what is kept of an entry
+abbrev pub entering_by : Network → Entry → EnteringRow
+entering_by network entry = record {
+  vl = entry.row.vl;
+  length = entry.vl.length;
+  period = entry.vl.period;
+  phase = entry.vl.phase;
+  window = window_of network entry;
+}
+
+-- entrances are ordered by the link, then by the id
+abbrev pub entrance_cmp : Entrance → Entrance → Ordering
+entrance_cmp a b = ordering_then (nat_cmp a.link.0 b.link.0) (nat_cmp a.id b.id)
+
+-- by which a frame of the entry enters
+abbrev pub entrance_of : Entry → Entrance
+entrance_of entry = record { link = entry.row.link; id = entry.vl.id }
+
+-- the first of these rows by which a frame on this way enters by the entrance
+abbrev pub first_entering : Network → Way → List Row → Entrance → Option Entry
+first_entering network way rows entrance =
+    option_and_then (entry_of network)
+    (find (λ row. is_way_of entrance.link way row.link row.way && is_row_with network entrance.id row) rows)
+
+-- the map has what is kept of the first of these rows, for each entrance of this way
+abbrev pub AreRows : Network → Way → List Row → BTreeMap Entrance EnteringRow → Type 0
+AreRows network way rows kept =
+    (entrance : Entrance) → get entrance_cmp kept entrance
+    ≡ option_map (entering_by network) (first_entering network way rows entrance)
+
+-- these are the rows of the network by which frames enter, on both ways of each link
+pub record AreEntrances (network : Network) (entrances : Entrances) : Type 0 where
+  pub up : AreRows network Up network.row entrances.up
+  pub down : AreRows network Down network.row entrances.down
+
+-- each of these rows has an entry
+abbrev pub HaveEntries : Network → List Row → Type 0
+HaveEntries network rows = All (λ row. IsSome (entry_of network row)) rows
+
+-- a frame can be judged by the row: its virtual link has a period
+abbrev pub HasPeriod : EnteringRow → Type 0
+HasPeriod row = 1 ≤ row.period
+
+-- a frame of these octets that arrives is one of this row, by which it is judged, or is dropped for this reason.
+-- `last` has the cycle in which the device took the last frame of each virtual link
+abbrev pub IsEnteredSo : Network → DeviceId → LinkId → Standpoint → List ℕ → Result EnteringRow Reason → Type 0
+IsEnteredSo network device link at octets (Ok row) =
+    (entry : Entry) × (row ≡ entering_by network entry)
+    × ((last : VlId → Option ℕ) → timed_arrival network device link at octets last
+    ≡ taken_or_fault network device at entry (row_fault network at entry (length octets) (last row.vl)))
+IsEnteredSo network device link at octets (Err reason) =
+    (last : VlId → Option ℕ) → timed_arrival network device link at octets last ≡ arrivals.Dropped reason
+
+-- why a frame of the row is dropped, if it is: the first reason in this order
+abbrev pub fault_of : EnteringRow → ℕ → ℕ → ℤ → Option ℕ → Option Reason
+fault_of row size cycle place last =
+    first_reason (
+    (not (size == row.length), reasons.Length)
+    ∷ (not (nat_le 1 cycle && cycle % row.period == row.phase) || int_lt place row.window.from.0, reasons.Early)
+    ∷ (int_lt row.window.to.0 place, reasons.Late)
+    ∷ (is_taken_in cycle last, reasons.Repeat)
+    ∷ [])

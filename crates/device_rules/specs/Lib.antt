@@ -1,0 +1,5 @@
+pub mod Widths
+pub mod Answers
+pub mod Arriving
+pub mod Headings
+pub mod Entering

@@ -1,0 +1,89 @@
+//! The headings of time-triggered frames.
+
+ghost use Rattle.std.specs.Prelude.{◌≡◌, ◌≤◌, ◌<◌, ◌+◌, ℕ, length};
+ghost use Rattle.device_rules.specs.Headings.{heading_fault, heading_of};
+ghost use Rattle.net_plan.specs.Ranges.{IsInRange};
+ghost use Rattle.pcf_codec.specs.Fields.{field};
+ghost use Rattle.run_law.specs.records.Frames.{tt_frame};
+
+use crate::Standpoint;
+use byteorder::{BigEndian, ByteOrder};
+use net_plan::{Network, VlId};
+use run_law::Reason;
+
+/// The least EtherType; a smaller number in its place is a length (IEEE 802.3).
+const LEAST_TYPE: u16 = 0x0600;
+
+/// What a judgement reads of the octets of a frame that is no control frame.
+#[derive(Clone, Copy, Debug, PartialEq, Eq)]
+pub struct Heading {
+    /// How many octets there are.
+    pub length: usize,
+    pub marker: u32,
+    /// The id of the virtual link.
+    pub id: u16,
+    pub ethertype: u16,
+}
+
+impl Heading {
+    /// The heading of 14 octets or more.
+    pub fn of(octets: &[u8]) -> Heading
+        requires { 14 ≤ length octets.now }
+        ensures { result ≡ heading_of octets.now }
+    {
+        Heading {
+            length: octets.len(),
+            marker: four_octets(octets),
+            id: two_octets(octets, 4),
+            ethertype: two_octets(octets, 12),
+        }
+    }
+
+    /// The heading of the frames of the virtual link that its sender makes, of any cycle.
+    pub fn made(network: &Network, vl: VlId) -> Heading
+        requires range { IsInRange network.now }
+        requires there { vl.0 < length network.now.vl }
+        ensures { (cycle : ℕ) → result ≡ heading_of (tt_frame network.now vl cycle) }
+    {
+        let vl = &network.vl.as_slice()[vl.0 as usize];
+        Heading {
+            length: usize::from(vl.length),
+            marker: network.marker,
+            id: vl.id,
+            ethertype: vl.ethertype,
+        }
+    }
+
+    /// Why a frame of this heading is dropped before its row is looked for, if it is: the first reason in this order.
+    pub(crate) fn fault(&self, network: &Network, at: &Standpoint) -> Option<Reason>
+        ensures { result ≡ heading_fault network.now at.now self.now }
+    {
+        if !at.takes_part() {
+            Some(Reason::Off)
+        } else if self.ethertype < LEAST_TYPE {
+            Some(Reason::RefusedEtherType)
+        } else if !at.is_synchronised() {
+            Some(Reason::Unsynchronised)
+        } else if self.marker != network.marker {
+            Some(Reason::Unknown)
+        } else {
+            None
+        }
+    }
+}
+
+/// The number in two octets from an offset on.
+fn two_octets(octets: &[u8], at: usize) -> u16
+    requires { at + 2 ≤ length octets.now }
+    ensures { result ≡ field at 2 octets.now }
+{
+    BigEndian::read_u16(octets.split_at(at).1)
+}
+
+/// The number in the first four octets.
+fn four_octets(octets: &[u8]) -> u32
+    requires { 4 ≤ length octets.now }
+    ensures { result ≡ field 0 4 octets.now }
+{
+    BigEndian::read_u32(octets)
+}

@@ -1,0 +1,185 @@
+//! What the network says of a device and of its times.
+
+ghost use Rattle.std.specs.Prelude.{◌≡◌, ◌≤◌, ◌<◌, ◌+◌, ◌*◌, ◌^◌, ◌≤ℤ◌, pos, IfSome};
+ghost use Rattle.std.specs.Int.{int_div_euclid};
+ghost use Rattle.device_rules.specs.Widths.{IsLocal};
+ghost use Rattle.net_plan.specs.Ranges.{IsInRange};
+ghost use Rattle.run_law.specs.device.Standpoints.{cycle_at, offset_in_cycle};
+ghost use Rattle.run_law.specs.scenario.Devices.{expected_by, is_cm, is_cm_role, is_end, is_parent_of, is_relay, is_relay_role, member_of, plan_of};
+ghost use Rattle.run_law.specs.scenario.Ways.{way_to, wire_of};
+ghost use Rattle.sync_state.specs.Plan.{expected_at};
+ghost use Rattle.tte_units.specs.Amount.{amount};
+
+use net_plan::{DeviceId, LinkId, Network, Role, Way};
+
+/// Is the device a compression master?
+pub fn is_cm(network: &Network, device: DeviceId) -> bool
+    ensures { result ≡ is_cm network.now device }
+{
+    match network.device.as_slice().get(device.0 as usize) {
+        Some(found) => is_cm_role(found.role),
+        None => false,
+    }
+}
+
+fn is_cm_role(role: Role) -> bool
+    ensures { result ≡ is_cm_role role }
+{
+    match role {
+        Role::Cm => true,
+        Role::Relay | Role::Master | Role::Client => false,
+    }
+}
+
+/// Is the device a relay?
+pub fn is_relay(network: &Network, device: DeviceId) -> bool
+    ensures { result ≡ is_relay network.now device }
+{
+    match network.device.as_slice().get(device.0 as usize) {
+        Some(found) => is_relay_role(found.role),
+        None => false,
+    }
+}
+
+fn is_relay_role(role: Role) -> bool
+    ensures { result ≡ is_relay_role role }
+{
+    match role {
+        Role::Relay => true,
+        Role::Cm | Role::Master | Role::Client => false,
+    }
+}
+
+/// Is the device an end system?
+pub fn is_end(network: &Network, device: DeviceId) -> bool
+    ensures { result ≡ is_end network.now device }
+{
+    match network.device.as_slice().get(device.0 as usize) {
+        Some(found) => found.role.is_end_system(),
+        None => false,
+    }
+}
+
+/// The member number of a master.
+pub(crate) fn member_of(network: &Network, device: DeviceId) -> Option<u32>
+    requires { IsInRange network.now }
+    ensures value { result ≡ member_of network.now device }
+    ensures small { IfSome result (λ member. member < 32) }
+{
+    match network.device.as_slice().get(device.0 as usize) {
+        Some(found) => found.member,
+        None => None,
+    }
+}
+
+/// Is the device the parent of the link?
+pub fn is_parent_of(network: &Network, device: DeviceId, link: LinkId) -> bool
+    ensures { result ≡ is_parent_of network.now device link }
+{
+    match network.link.as_slice().get(link.0 as usize) {
+        Some(found) => found.parent.0 == device.0,
+        None => false,
+    }
+}
+
+/// The way on which the device receives by the link.
+pub fn way_to(network: &Network, device: DeviceId, link: LinkId) -> Way
+    ensures { result ≡ way_to network.now device link }
+{
+    if is_parent_of(network, device, link) {
+        Way::Up
+    } else {
+        Way::Down
+    }
+}
+
+/// The nominal delay of the link's wire.
+pub(crate) fn wire_of(network: &Network, link: LinkId) -> u64
+    requires { IsInRange network.now }
+    ensures value { result ≡ wire_of network.now link }
+{
+    match network.link.as_slice().get(link.0 as usize) {
+        Some(found) => found.wire.amount(),
+        None => 0,
+    }
+}
+
+/// The precision, as a whole number.
+pub(crate) fn precision(network: &Network) -> i128
+    requires { IsInRange network.now }
+    ensures value { result ≡ pos (amount network.now.precision) }
+    ensures high { result ≤ℤ pos (2 ^ 40) }
+{
+    i128::from(network.precision.amount())
+}
+
+/// The greatest delay of a control frame, as a whole number.
+pub(crate) fn dmax(network: &Network) -> i128
+    requires { IsInRange network.now }
+    ensures value { result ≡ pos (amount network.now.dmax) }
+    ensures high { result ≤ℤ pos (2 ^ 40) }
+{
+    i128::from(network.dmax.amount())
+}
+
+/// When the device expects a compressed frame, from the beginning of its cycle.
+fn expected_by(network: &Network, device: DeviceId) -> u64
+    requires { IsInRange network.now }
+    ensures value { result ≡ expected_by network.now device }
+    ensures high { result ≤ 2 ^ 43 }
+{
+    let compression = 2 * network.precision.amount() + network.calc.amount();
+    if is_cm(network, device) {
+        network.dmax.amount() + compression
+    } else {
+        2 * network.dmax.amount() + compression
+    }
+}
+
+/// Where the cycle begins.
+pub(crate) fn begun(network: &Network, cycle: u64) -> u128
+    requires { IsInRange network.now }
+    ensures value { result ≡ cycle * amount network.now.cycle }
+    ensures high { result ≤ cycle * 2 ^ 40 }
+{
+    u128::from(cycle) * u128::from(network.cycle.amount())
+}
+
+/// The local value at which the device expects the frame of the cycle.
+pub(crate) fn expected_at(network: &Network, device: DeviceId, cycle: u64) -> i128
+    requires { IsInRange network.now }
+    ensures value { result ≡ expected_at (plan_of network.now device) cycle }
+    ensures low { pos 0 ≤ℤ result }
+    ensures high { result ≤ℤ pos (cycle * 2 ^ 40 + 2 ^ 43) }
+{
+    (begun(network, cycle) + u128::from(expected_by(network, device))) as i128
+}
+
+/// The place of a local value in its cycle.
+pub(crate) fn place_in_cycle(network: &Network, value: i128) -> i128
+    requires { IsInRange network.now }
+    ensures { result ≡ offset_in_cycle network.now value }
+{
+    value.rem_euclid(i128::from(network.cycle.0))
+}
+
+/// The cycle of a local value, which is 0 before the first cycle.
+pub(crate) fn cycle_at(network: &Network, value: i128) -> u64
+    requires range { IsInRange network.now }
+    requires value { IsLocal value }
+    ensures { result ≡ cycle_at network.now value }
+{
+    if value < 0 {
+        0
+    } else {
+        (value as u128 / u128::from(network.cycle.amount())) as u64
+    }
+}
+
+/// The number of the cycle in which a local value lies, which is negative before cycle 0.
+pub(crate) fn cycle_of(network: &Network, value: i128) -> i128
+    requires { IsInRange network.now }
+    ensures { result ≡ int_div_euclid value network.now.cycle.0 }
+{
+    value.div_euclid(i128::from(network.cycle.0))
+}
