@@ -1,0 +1,3 @@
+pub mod Small
+pub mod Kept
+pub mod Gathered

@@ -1,0 +1,254 @@
+ghost use Rattle.std.specs.Prelude.{◌≡◌, ◌<◌, ◌≤◌, ◌^◌, ◌+◌, List, pos, ◌≤ℤ◌, [], ◌∷◌, ◌++◌, length, map, slice_get, Some, All, IfOk, IfSome, IfNone, Contains};
+ghost use Rattle.compression.specs.Ascent.{MayFollow, offset_at};
+ghost use Rattle.compression.specs.Clusters.{Point, point_at};
+ghost use Rattle.compression.specs.Middle.{middle_of, relative};
+ghost use Rattle.compression.specs.Role.{role};
+ghost use Rattle.collection_history.specs.Gathered.{EndsWith, Gathers, HasRow, IsGathered, IsHeld, IsLatest, readings};
+ghost use Rattle.collection_history.specs.Kept.{clusters_in, emissions_in, emitted, kept_in, points_kept, cluster_kept, IsCounted};
+ghost use Rattle.collection_history.specs.Small.{IsSmall};
+ghost use Rattle.collection_history.specs.Steps.{Grows, Joins, Opens};
+ghost use Rattle.collection_history.specs.Rising.{IsPlaceFor, IsRising};
+
+use crate::gathering::Row;
+use crate::kept::KeptCluster;
+use crate::mean::mean;
+use crate::{Emitted, Gathering};
+use compression::Taken;
+use std::alloc::{AllocError, Global};
+use std::marker::Model;
+use tte_units::Units;
+
+/// The clusters of the points of one compression master, in any number of stretches.
+///
+/// It only grows: what a gathering stood for it stands for ever after.
+#[derive(Drop)]
+pub struct CollectionHistory {
+    ow: Units,
+    calc: Units,
+    counted: Vec<i64>,
+    closed: Vec<KeptCluster>,
+}
+
+impl Model for CollectionHistory {
+    ghost use Rattle.std.specs.Prelude.{pos, ◌≤ℤ◌, All};
+    ghost use Rattle.collection_history.specs.Kept.{History, IsCounted};
+
+    ghost Value = { History };
+
+    ghost view = { λ h. record { ow = h.ow.0; calc = h.calc.0; counted = h.counted.items; closed = h.closed.items } };
+
+    ghost invariant = { λ h. (pos 0 ≤ℤ h.ow.0) × All (IsCounted h.counted.items) h.closed.items };
+}
+
+impl CollectionHistory {
+    /// A history without points. The observation window is not negative.
+    pub fn new(alloc: Global, ow: Units, calc: Units) -> CollectionHistory
+        requires { pos 0 ≤ℤ ow.0 }
+        ensures { result ≡ record { ow = ow.0; calc = calc.0; counted = []; closed = [] } }
+    {
+        CollectionHistory {
+            ow,
+            calc,
+            counted: Vec::new(alloc),
+            closed: Vec::new(alloc),
+        }
+    }
+
+    /// What becomes of a point that comes behind those of the gathering.
+    pub fn role(&self, gathering: &Gathering, reading: i64, master: u32, cycle: u32) -> Taken
+        requires { master < 64 }
+        ensures { result ≡ role (clusters_in self.now gathering.now) (point_at reading master cycle) }
+    {
+        match &gathering.row {
+            Some(row) if i128::from(reading) <= row.last.end => row.last.role(reading, master, cycle),
+            _ => Taken::Opened,
+        }
+    }
+
+    /// Takes a point, and gives what becomes of it and the gathering with it.
+    ///
+    /// The gathering is the last that was given, or has no points.
+    pub fn point(&mut self, gathering: &Gathering, reading: i64, master: u32, cycle: u32) -> Result<(Taken, Gathering), AllocError>
+        requires master { master < 64 }
+        requires latest { IsLatest self.old gathering.now }
+        ensures taken { IfOk result (λ t. t.0 ≡ role (clusters_in self.old gathering.now) (point_at reading master cycle)) }
+        ensures latest { IfOk result (λ t. IsLatest self.new t.1) }
+        ensures gathers { IfOk result (λ t. (points : List Point) → Gathers self.old gathering.now points
+            → MayFollow (readings points) reading
+            → Gathers self.new t.1 (points ++ point_at reading master cycle ∷ [])) }
+
+        // Every gathering of before stands for the points that it stood for, also where memory runs out.
+        ensures kept { (other : _) (points : List Point) → Gathers self.old other points → Gathers self.new other points }
+        ensures same { (self.new.ow ≡ self.old.ow) × (self.new.calc ≡ self.old.calc) }
+    {
+        let taken = self.role(gathering, reading, master, cycle);
+        let next = match (&gathering.row, taken) {
+            (_, Taken::Opened) => self.open(gathering, reading, master, cycle)?,
+            (Some(row), Taken::Joined) => self.join(row, reading, master)?,
+            _ => *gathering,
+        };
+        Ok((taken, next))
+    }
+
+    /// How many clusters the gathering has.
+    pub fn len(&self, gathering: &Gathering) -> usize
+        requires { IsHeld self.now gathering.now }
+        ensures { result ≡ length (emissions_in self.now gathering.now) }
+    {
+        match &gathering.row {
+            Some(row) => row.count + 1,
+            None => 0,
+        }
+    }
+
+    /// What is emitted for the cluster at a place.
+    pub fn emission(&self, gathering: &Gathering, place: usize) -> Option<Emitted>
+        requires { IsHeld self.now gathering.now }
+        ensures { result ≡ slice_get (emissions_in self.now gathering.now) place }
+    {
+        let row = gathering.row.as_ref()?;
+        if place > row.count {
+            return None;
+        }
+        Some(self.emitted(self.kept_at(row, place)))
+    }
+
+    /// What is emitted for the cluster of the gathering that opened at a reading, if there is one.
+    pub fn opened_at(&self, gathering: &Gathering, opened: i64) -> Option<Emitted>
+        requires { IsGathered self.now gathering.now }
+        ensures found { IfSome result (λ e. Contains (emissions_in self.now gathering.now) e × (e.opened ≡ opened)) }
+        ensures each { All (λ e. e.opened ≡ opened → result ≡ Some e) (emissions_in self.now gathering.now) }
+    {
+        let row = gathering.row.as_ref()?;
+        let place = self.search(row, opened);
+        if place > row.count {
+            return None;
+        }
+        let kept = self.kept_at(row, place);
+        if kept.opened == opened {
+            Some(self.emitted(kept))
+        } else {
+            None
+        }
+    }
+
+    // Opens a cluster behind those of the gathering.
+    fn open(&mut self, gathering: &Gathering, reading: i64, master: u32, cycle: u32) -> Result<Gathering, AllocError>
+        requires master { master < 64 }
+        requires latest { IsLatest self.old gathering.now }
+        ensures opened { IfOk result (Opens self.old self.new gathering.now (point_at reading master cycle)) }
+        ensures grown { Grows self.old self.new }
+    {
+        let last = KeptCluster {
+            opened: reading,
+            end: i128::from(reading) + i128::from(self.ow.0),
+            cycle,
+            members: 1 << master,
+            from: self.counted.len(),
+            count: 1,
+        };
+        let (from, count) = match &gathering.row {
+            Some(row) => {
+                self.closed.push(row.last)?;
+                (row.from, self.closed.len() - row.from)
+            }
+            None => (self.closed.len(), 0),
+        };
+        self.counted.push(reading)?;
+        Ok(Gathering {
+            row: Some(Row { from, count, last }),
+        })
+    }
+
+    // The gathering whose last cluster has a point of one more master.
+    fn join(&mut self, row: &Row, reading: i64, master: u32) -> Result<Gathering, AllocError>
+        requires master { master < 64 }
+        requires latest { EndsWith self.old row.now }
+        ensures joined { IfOk result (Joins self.old self.new row.now reading master) }
+        ensures grown { Grows self.old self.new }
+    {
+        self.counted.push(reading)?;
+        let last = KeptCluster {
+            end: row.last.end_with(self.ow.0, reading),
+            members: row.last.members | 1 << master,
+            count: self.counted.len() - row.last.from,
+            ..row.last
+        };
+        Ok(Gathering {
+            row: Some(Row { last, ..*row }),
+        })
+    }
+
+    // The first place of the row whose cluster does not open before a reading.
+    fn search(&self, row: &Row, opened: i64) -> usize
+        requires held { HasRow self.now row.now }
+        requires rising { IsRising (kept_in self.now (Some row.now)) }
+        ensures { IsPlaceFor (kept_in self.now (Some row.now)) opened result }
+    {
+        let mut low = 0;
+        let mut high = row.count + 1;
+        'halves: while low < high {
+            let middle = low + (high - low) / 2;
+            if self.kept_at(row, middle).opened < opened {
+                low = middle + 1;
+            } else {
+                high = middle;
+            }
+        }
+        low
+    }
+
+    // The cluster at a place of the row.
+    fn kept_at<'a>(&'a self, row: &'a Row, place: usize) -> &'a KeptCluster
+        requires held { HasRow self.now row.now }
+        requires inside { place ≤ row.now.count }
+        ensures { slice_get (kept_in self.now (Some row.now)) place ≡ Some result.now }
+    {
+        if place < row.count {
+            &self.closed[row.from + place]
+        } else {
+            &row.last
+        }
+    }
+
+    // What is emitted for a cluster.
+    fn emitted(&self, kept: &KeptCluster) -> Emitted
+        requires { IsCounted self.now.counted kept.now }
+        ensures { result ≡ emitted self.now.ow self.now.calc (cluster_kept self.now.counted kept.now) }
+    {
+        let windows = 2 * i128::from(self.ow.0);
+        let opened = i128::from(kept.opened);
+        Emitted {
+            opened: kept.opened,
+            at: opened + windows + i128::from(self.calc.0) + self.middle(kept),
+            cycle: kept.cycle,
+            members: kept.members,
+        }
+    }
+
+    // The middle of a cluster's points, relative to the first.
+    fn middle(&self, kept: &KeptCluster) -> i128
+        requires { IsCounted self.now.counted kept.now }
+        ensures value { result ≡ middle_of (relative (points_kept self.now.counted kept.now)) }
+        ensures small { IsSmall result }
+    {
+        let last = kept.count - 1;
+        if last < 2 {
+            mean(self.offset(kept, 0), self.offset(kept, last))
+        } else {
+            mean(self.offset(kept, 1), self.offset(kept, last - 1))
+        }
+    }
+
+    // How far a cluster's point is above the first.
+    fn offset(&self, kept: &KeptCluster, place: usize) -> i128
+        requires counted { IsCounted self.now.counted kept.now }
+        requires inside { place < kept.now.count }
+        ensures value { result ≡ offset_at (points_kept self.now.counted kept.now) place }
+        ensures small { IsSmall result }
+    {
+        let first = self.counted[kept.from];
+        let point = self.counted[kept.from + place];
+        i128::from(point) - i128::from(first)
+    }
+}
