@@ -1,1 +1,2 @@
-
+pub mod Kepts
+pub mod Wide

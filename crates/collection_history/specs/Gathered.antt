@@ -1,7 +1,6 @@
 -- What a gathering stands for in a history.
-use Rattle.std.specs.Prelude.{◌≡◌, ◌+◌, ◌<◌, ◌≤◌, ℤ, List, length, map, IfSome}
+use Rattle.std.specs.Prelude.{◌≡◌, ◌+◌, ◌<◌, ◌≤◌, List, length, IfSome}
 use Rattle.compression.specs.Clusters.{Point, AreClusters}
-use Rattle.compression.specs.OneCluster.{AreInOrder}
 use Rattle.collection_history.specs.Kept.{History, IsCounted, clusters_in}
 use Rattle.collection_history.specs.declared.gathering.Gathering.{Gathering}
 use Rattle.collection_history.specs.declared.gathering.Row.{Row}
@@ -25,15 +24,10 @@ pub record EndsWith (h : History) (row : Row) : Type 0 where
 abbrev pub IsLatest : History → Gathering → Type 0
 IsLatest h g = IfSome g.row (EndsWith h)
 
--- the readings of points
-abbrev pub readings : List Point → List ℤ
-readings points = map (λ p. p.reading) points
-
 -- the gathering stands for these points: its clusters are theirs
 pub record Gathers (h : History) (g : Gathering) (points : List Point) : Type 0 where
   pub held : IsHeld h g
   pub are : AreClusters h.ow points (clusters_in h g)
-  pub order : AreInOrder points
 
 -- the gathering stands for points
 abbrev pub IsGathered : History → Gathering → Type 0

@@ -1,9 +1,9 @@
 ghost use Rattle.std.specs.Prelude.{◌≡◌, ◌<◌, ◌≤◌, ◌^◌, ◌+◌, List, pos, ◌≤ℤ◌, [], ◌∷◌, ◌++◌, length, map, slice_get, Some, All, IfOk, IfSome, IfNone, Contains};
-ghost use Rattle.compression.specs.Ascent.{MayFollow, offset_at};
+ghost use Rattle.compression.specs.Ascent.{offset_at};
 ghost use Rattle.compression.specs.Clusters.{Point, point_at};
 ghost use Rattle.compression.specs.Middle.{middle_of, relative};
 ghost use Rattle.compression.specs.Role.{role};
-ghost use Rattle.collection_history.specs.Gathered.{EndsWith, Gathers, HasRow, IsGathered, IsHeld, IsLatest, readings};
+ghost use Rattle.collection_history.specs.Gathered.{EndsWith, Gathers, HasRow, IsGathered, IsHeld, IsLatest};
 ghost use Rattle.collection_history.specs.Kept.{clusters_in, emissions_in, emitted, kept_in, points_kept, cluster_kept, IsCounted};
 ghost use Rattle.collection_history.specs.Small.{IsSmall};
 ghost use Rattle.collection_history.specs.Steps.{Grows, Joins, Opens};
@@ -59,10 +59,13 @@ impl CollectionHistory {
         requires { master < 64 }
         ensures { result ≡ role (clusters_in self.now gathering.now) (point_at reading master cycle) }
     {
-        match &gathering.row {
-            Some(row) if i128::from(reading) <= row.last.end => row.last.role(reading, master, cycle),
-            _ => Taken::Opened,
+        let Some(row) = &gathering.row else {
+            return Taken::Opened;
+        };
+        if row.last.end < i128::from(reading) {
+            return Taken::Opened;
         }
+        row.last.role(reading, master, cycle)
     }
 
     /// Takes a point, and gives what becomes of it and the gathering with it.
@@ -74,7 +77,7 @@ impl CollectionHistory {
         ensures taken { IfOk result (λ t. t.0 ≡ role (clusters_in self.old gathering.now) (point_at reading master cycle)) }
         ensures latest { IfOk result (λ t. IsLatest self.new t.1) }
         ensures gathers { IfOk result (λ t. (points : List Point) → Gathers self.old gathering.now points
-            → MayFollow (readings points) reading
+            → All (λ p. p.reading ≤ℤ reading) points
             → Gathers self.new t.1 (points ++ point_at reading master cycle ∷ [])) }
 
         // Every gathering of before stands for the points that it stood for, also where memory runs out.
@@ -96,7 +99,7 @@ impl CollectionHistory {
         ensures { result ≡ length (emissions_in self.now gathering.now) }
     {
         match &gathering.row {
-            Some(row) => row.count + 1,
+            Some(row) => self.row_len(row),
             None => 0,
         }
     }
@@ -186,7 +189,7 @@ impl CollectionHistory {
         ensures { IsPlaceFor (kept_in self.now (Some row.now)) opened result }
     {
         let mut low = 0;
-        let mut high = row.count + 1;
+        let mut high = self.row_len(row);
         'halves: while low < high {
             let middle = low + (high - low) / 2;
             if self.kept_at(row, middle).opened < opened {
@@ -196,6 +199,15 @@ impl CollectionHistory {
             }
         }
         low
+    }
+
+    // How many clusters the row has.
+    fn row_len(&self, row: &Row) -> usize
+        requires { HasRow self.now row.now }
+        ensures { result ≡ length (kept_in self.now (Some row.now)) }
+    {
+        let closed = &self.closed[row.from..row.from + row.count];
+        closed.len() + 1
     }
 
     // The cluster at a place of the row.
