@@ -1,2 +1,7 @@
 pub mod Kepts
 pub mod Wide
+pub mod Spaced
+pub mod Growing
+pub mod Stepping
+pub mod Places
+pub mod Joining

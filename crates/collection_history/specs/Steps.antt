@@ -1,5 +1,5 @@
 -- What a point does to a history.
-use Rattle.std.specs.Prelude.{◌≡◌, ℕ, ◌+◌, ℤ, List, [], ◌∷◌, ◌++◌, length, Option, Some, None}
+use Rattle.std.specs.Prelude.{◌≡◌, ℕ, ◌+◌, ℤ, List, [], ◌∷◌, ◌++◌, length, take, drop, Some}
 use Rattle.compression.specs.Clusters.{Point}
 use Rattle.compression.specs.Collection.{opening, joined}
 use Rattle.collection_history.specs.Gathered.{EndsWith}
@@ -16,6 +16,11 @@ pub record Grows (old new : History) : Type 0 where
   pub counted : new.counted ≡ old.counted ++ later_points
   pub later : List KeptCluster
   pub closed : new.closed ≡ old.closed ++ later
+
+-- the clusters of the gathering are the last that the history keeps: so many from this place
+pub record Closes (old new : History) (g : Gathering) (from count : ℕ) : Type 0 where
+  pub ends : (from + count) ≡ length new.closed
+  pub kept : take count (drop from new.closed) ≡ kept_in old g.row
 
 -- the point opens a cluster behind those of the gathering
 pub record Opens (old new : History) (g : Gathering) (p : Point) (result : Gathering) : Type 0 where

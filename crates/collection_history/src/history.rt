@@ -6,7 +6,7 @@ ghost use Rattle.compression.specs.Role.{role};
 ghost use Rattle.collection_history.specs.Gathered.{EndsWith, Gathers, HasRow, IsGathered, IsHeld, IsLatest};
 ghost use Rattle.collection_history.specs.Kept.{clusters_in, emissions_in, emitted, kept_in, points_kept, cluster_kept, IsCounted};
 ghost use Rattle.collection_history.specs.Small.{IsSmall};
-ghost use Rattle.collection_history.specs.Steps.{Grows, Joins, Opens};
+ghost use Rattle.collection_history.specs.Steps.{Closes, Grows, Joins, Opens};
 ghost use Rattle.collection_history.specs.Rising.{IsPlaceFor, IsRising};
 
 use crate::gathering::Row;
@@ -71,7 +71,13 @@ impl CollectionHistory {
     /// Takes a point, and gives what becomes of it and the gathering with it.
     ///
     /// The gathering is the last that was given, or has no points.
-    pub fn point(&mut self, gathering: &Gathering, reading: i64, master: u32, cycle: u32) -> Result<(Taken, Gathering), AllocError>
+    pub fn point(
+        &mut self,
+        gathering: &Gathering,
+        reading: i64,
+        master: u32,
+        cycle: u32,
+    ) -> Result<(Taken, Gathering), AllocError>
         requires master { master < 64 }
         requires latest { IsLatest self.old gathering.now }
         ensures taken { IfOk result (λ t. t.0 ≡ role (clusters_in self.old gathering.now) (point_at reading master cycle)) }
@@ -84,11 +90,12 @@ impl CollectionHistory {
         ensures kept { (other : _) (points : List Point) → Gathers self.old other points → Gathers self.new other points }
         ensures same { (self.new.ow ≡ self.old.ow) × (self.new.calc ≡ self.old.calc) }
     {
+        let _ = &self.ow;
         let taken = self.role(gathering, reading, master, cycle);
-        let next = match (&gathering.row, taken) {
-            (_, Taken::Opened) => self.open(gathering, reading, master, cycle)?,
-            (Some(row), Taken::Joined) => self.join(row, reading, master)?,
-            _ => *gathering,
+        let next = match taken {
+            Taken::Opened => self.open(gathering, reading, master, cycle)?,
+            Taken::Joined => self.join(gathering, reading, master)?,
+            Taken::Repeat | Taken::OtherCycle => *gathering,
         };
         Ok((taken, next))
     }
@@ -109,7 +116,9 @@ impl CollectionHistory {
         requires { IsHeld self.now gathering.now }
         ensures { result ≡ slice_get (emissions_in self.now gathering.now) place }
     {
-        let row = gathering.row.as_ref()?;
+        let Some(row) = &gathering.row else {
+            return None;
+        };
         if place > row.count {
             return None;
         }
@@ -122,7 +131,10 @@ impl CollectionHistory {
         ensures found { IfSome result (λ e. Contains (emissions_in self.now gathering.now) e × (e.opened ≡ opened)) }
         ensures each { All (λ e. e.opened ≡ opened → result ≡ Some e) (emissions_in self.now gathering.now) }
     {
-        let row = gathering.row.as_ref()?;
+        let _ = &self.ow;
+        let Some(row) = &gathering.row else {
+            return None;
+        };
         let place = self.search(row, opened);
         if place > row.count {
             return None;
@@ -136,12 +148,19 @@ impl CollectionHistory {
     }
 
     // Opens a cluster behind those of the gathering.
-    fn open(&mut self, gathering: &Gathering, reading: i64, master: u32, cycle: u32) -> Result<Gathering, AllocError>
+    fn open(
+        &mut self,
+        gathering: &Gathering,
+        reading: i64,
+        master: u32,
+        cycle: u32,
+    ) -> Result<Gathering, AllocError>
         requires master { master < 64 }
         requires latest { IsLatest self.old gathering.now }
         ensures opened { IfOk result (Opens self.old self.new gathering.now (point_at reading master cycle)) }
         ensures grown { Grows self.old self.new }
     {
+        let (from, count) = self.close(gathering)?;
         let last = KeptCluster {
             opened: reading,
             end: i128::from(reading) + i128::from(self.ow.0),
@@ -150,26 +169,42 @@ impl CollectionHistory {
             from: self.counted.len(),
             count: 1,
         };
-        let (from, count) = match &gathering.row {
-            Some(row) => {
-                self.closed.push(row.last)?;
-                (row.from, self.closed.len() - row.from)
-            }
-            None => (self.closed.len(), 0),
-        };
         self.counted.push(reading)?;
         Ok(Gathering {
             row: Some(Row { from, count, last }),
         })
     }
 
-    // The gathering whose last cluster has a point of one more master.
-    fn join(&mut self, row: &Row, reading: i64, master: u32) -> Result<Gathering, AllocError>
+    // Keeps the last cluster of the gathering, and gives the place of its first, and how many it has.
+    fn close(&mut self, gathering: &Gathering) -> Result<(usize, usize), AllocError>
+        requires { IsLatest self.old gathering.now }
+        ensures closes { IfOk result (λ t. Closes self.old self.new gathering.now t.0 t.1) }
+        ensures grown { Grows self.old self.new }
+        ensures counted { self.new.counted ≡ self.old.counted }
+    {
+        let Some(row) = &gathering.row else {
+            return Ok((self.closed.len(), 0));
+        };
+        self.closed.push(row.last)?;
+        Ok((row.from, self.closed.len() - row.from))
+    }
+
+    // The gathering whose last cluster, if it has one, has a point of one more master.
+    fn join(
+        &mut self,
+        gathering: &Gathering,
+        reading: i64,
+        master: u32,
+    ) -> Result<Gathering, AllocError>
         requires master { master < 64 }
-        requires latest { EndsWith self.old row.now }
-        ensures joined { IfOk result (Joins self.old self.new row.now reading master) }
+        requires latest { IsLatest self.old gathering.now }
+        ensures joined { IfOk result (λ r. IfSome gathering.now.row (λ row. Joins self.old self.new row reading master r)) }
+        ensures latest { IfOk result (IsLatest self.new) }
         ensures grown { Grows self.old self.new }
     {
+        let Some(row) = &gathering.row else {
+            return Ok(*gathering);
+        };
         self.counted.push(reading)?;
         let last = KeptCluster {
             end: row.last.end_with(self.ow.0, reading),
@@ -214,7 +249,8 @@ impl CollectionHistory {
     fn kept_at<'a>(&'a self, row: &'a Row, place: usize) -> &'a KeptCluster
         requires held { HasRow self.now row.now }
         requires inside { place ≤ row.now.count }
-        ensures { slice_get (kept_in self.now (Some row.now)) place ≡ Some result.now }
+        ensures there { slice_get (kept_in self.now (Some row.now)) place ≡ Some result.now }
+        ensures counted { IsCounted self.now.counted result.now }
     {
         if place < row.count {
             &self.closed[row.from + place]

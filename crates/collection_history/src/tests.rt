@@ -18,11 +18,35 @@ fn clusters_of_two_stretches(rt: HostRuntime) -> Result<(), Fail> {
     let (_, other) = history.point(&Gathering::none(), 3_000, 0, 9)?;
 
     assert!(rt; history.len(&three) == 2);
-    assert!(rt; history.emission(&three, 0) == Some(Emitted { opened: 1_000, at: 1_230, cycle: 5, members: 3 }));
-    assert!(rt; history.opened_at(&three, 1_201) == Some(Emitted { opened: 1_201, at: 1_411, cycle: 7, members: 1 << 40 }));
+    assert!(rt;
+        history.emission(&three, 0)
+            == Some(Emitted {
+                opened: 1_000,
+                at: 1_230,
+                cycle: 5,
+                members: 3
+            })
+    );
+    assert!(rt;
+        history.opened_at(&three, 1_201)
+            == Some(Emitted {
+                opened: 1_201,
+                at: 1_411,
+                cycle: 7,
+                members: 1 << 40
+            })
+    );
     assert!(rt; history.opened_at(&three, 1_000) == history.emission(&three, 0));
     assert!(rt; history.opened_at(&three, 1_100) == None);
-    assert!(rt; history.emission(&one, 0) == Some(Emitted { opened: 1_000, at: 1_210, cycle: 5, members: 1 }));
+    assert!(rt;
+        history.emission(&one, 0)
+            == Some(Emitted {
+                opened: 1_000,
+                at: 1_210,
+                cycle: 5,
+                members: 1
+            })
+    );
     assert!(rt; history.len(&other) == 1);
     Ok(())
 }
