@@ -5,3 +5,4 @@ pub mod Growing
 pub mod Stepping
 pub mod Places
 pub mod Joining
+pub mod Sending

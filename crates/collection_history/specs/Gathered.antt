@@ -1,6 +1,8 @@
 -- What a gathering stands for in a history.
-use Rattle.std.specs.Prelude.{◌≡◌, ◌+◌, ◌<◌, ◌≤◌, List, length, IfSome}
-use Rattle.compression.specs.Clusters.{Point, AreClusters}
+use Rattle.std.specs.Prelude.{◌≡◌, ◌+◌, ◌<◌, ◌≤◌, List, length, IfSome, Contains}
+use Rattle.compression.specs.Clusters.{Point, Cluster, AreClusters}
+use Rattle.compression.specs.Emission.{compressed}
+use Rattle.compression.specs.declared.compressed.Compressed.{Compressed}
 use Rattle.collection_history.specs.Kept.{History, IsCounted, clusters_in}
 use Rattle.collection_history.specs.declared.gathering.Gathering.{Gathering}
 use Rattle.collection_history.specs.declared.gathering.Row.{Row}
@@ -32,3 +34,7 @@ pub record Gathers (h : History) (g : Gathering) (points : List Point) : Type 0 
 -- the gathering stands for points
 abbrev pub IsGathered : History → Gathering → Type 0
 IsGathered h g = (points : List Point) × Gathers h g points
+
+-- this is what is emitted for a cluster of the gathering
+abbrev pub Sends : History → Gathering → Compressed → Type 0
+Sends h g sent = (c : Cluster) × Contains (clusters_in h g) c × (sent ≡ compressed h.ow h.calc c)

@@ -2,6 +2,7 @@
 use Rattle.std.specs.Prelude.{ℕ, ◌+◌, ◌<◌, ◌≤◌, ℤ, List, [], ◌∷◌, ◌++◌, length, map, take, drop, Option, Some, None}
 use Rattle.compression.specs.Clusters.{Cluster}
 use Rattle.compression.specs.Emission.{emission}
+use Rattle.compression.specs.declared.compressed.Compressed.{Compressed}
 use Rattle.collection_history.specs.declared.emitted.Emitted.{Emitted}
 use Rattle.collection_history.specs.declared.gathering.Gathering.{Gathering}
 use Rattle.collection_history.specs.declared.gathering.Row.{Row}
@@ -40,6 +41,10 @@ clusters_in h g = map (cluster_kept h.counted) (kept_in h g.row)
 -- what is emitted for a cluster
 abbrev pub emitted : ℤ → ℤ → Cluster → Emitted
 emitted ow calc c = record { opened = c.opened; at = emission ow calc c; cycle = c.cycle; members = c.members }
+
+-- the numbers of what was sent
+abbrev pub as_emitted : Compressed → Emitted
+as_emitted sent = record { opened = sent.opened.0; at = sent.at.0; cycle = sent.cycle; members = sent.members.0 }
 
 -- what is emitted for the clusters of a gathering, in their order
 abbrev pub emissions_in : History → Gathering → List Emitted

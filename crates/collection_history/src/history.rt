@@ -1,9 +1,9 @@
-ghost use Rattle.std.specs.Prelude.{◌≡◌, ◌<◌, ◌≤◌, ◌^◌, ◌+◌, List, pos, ◌≤ℤ◌, [], ◌∷◌, ◌++◌, length, map, slice_get, Some, All, IfOk, IfSome, IfNone, Contains};
+ghost use Rattle.std.specs.Prelude.{◌≡◌, ◌<◌, ◌≤◌, ◌^◌, ◌+◌, List, pos, ◌≤ℤ◌, [], ◌∷◌, ◌++◌, ◌↔◌, IsTrue, length, map, slice_get, Some, All, IfOk, IfSome, IfNone, Contains};
 ghost use Rattle.compression.specs.Ascent.{offset_at};
 ghost use Rattle.compression.specs.Clusters.{Point, point_at};
 ghost use Rattle.compression.specs.Middle.{middle_of, relative};
 ghost use Rattle.compression.specs.Role.{role};
-ghost use Rattle.collection_history.specs.Gathered.{EndsWith, Gathers, HasRow, IsGathered, IsHeld, IsLatest};
+ghost use Rattle.collection_history.specs.Gathered.{EndsWith, Gathers, HasRow, IsGathered, IsHeld, IsLatest, Sends};
 ghost use Rattle.collection_history.specs.Kept.{clusters_in, emissions_in, emitted, kept_in, points_kept, cluster_kept, IsCounted};
 ghost use Rattle.collection_history.specs.Small.{IsSmall};
 ghost use Rattle.collection_history.specs.Steps.{Closes, Grows, Joins, Opens};
@@ -13,7 +13,7 @@ use crate::gathering::Row;
 use crate::kept::KeptCluster;
 use crate::mean::mean;
 use crate::{Emitted, Gathering};
-use compression::Taken;
+use compression::{Compressed, Taken};
 use std::alloc::{AllocError, Global};
 use std::marker::Model;
 use tte_units::Units;
@@ -144,6 +144,17 @@ impl CollectionHistory {
             Some(self.emitted(kept))
         } else {
             None
+        }
+    }
+
+    /// Whether this is what is emitted for a cluster of the gathering.
+    pub fn sends(&self, gathering: &Gathering, sent: &Compressed) -> bool
+        requires { IsGathered self.now gathering.now }
+        ensures { IsTrue result ↔ Sends self.now gathering.now sent.now }
+    {
+        match self.opened_at(gathering, sent.opened.0) {
+            Some(emitted) => emitted.is(sent),
+            None => false,
         }
     }
 

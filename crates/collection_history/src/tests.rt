@@ -1,5 +1,6 @@
 use crate::{CollectionHistory, Emitted, Gathering};
-use compression::Taken;
+use compression::{Compressed, Taken};
+use pcf_values::Members;
 use std::test::Fail;
 use tte_units::Units;
 
@@ -48,5 +49,14 @@ fn clusters_of_two_stretches(rt: HostRuntime) -> Result<(), Fail> {
             })
     );
     assert!(rt; history.len(&other) == 1);
+
+    let sent = Compressed {
+        opened: Units(1_000),
+        at: Units(1_230),
+        cycle: 5,
+        members: Members(3),
+    };
+    assert!(rt; history.sends(&three, &sent));
+    assert!(rt; !history.sends(&one, &sent));
     Ok(())
 }
