@@ -1,12 +1,12 @@
 -- What a history had it keeps as it grows.
-use Rattle.std.proofs.Common.{◌≡◌, ◌∙◌, ◌+◌, ◌<◌, ◌≤◌, ℕ, suc, zero, ℤ, List, [], ◌∷◌, ◌++◌, length, map, take, drop, refl, sym, ap, subst, arith, Option, Some, None}
+use Rattle.std.proofs.Common.{◌≡◌, ◌∙◌, ◌+◌, ◌≤◌, ℕ, suc, zero, ℤ, List, [], ◌∷◌, ◌++◌, length, map, take, drop, refl, sym, ap, subst, arith, Option, Some, None}
 use Rattle.std.specs.Prelude.{All, IfSome, slice_get}
 use Rattle.std.specs.List.{AllByRecursion}
-use Rattle.std.proofs.lemmas.List.{take-append-le, drop-append-le, length-drop, length-append, append-nil}
+use Rattle.std.proofs.lemmas.List.{take-append-le, drop-append-le, length-drop, length-append}
 use Rattle.std.proofs.lemmas.List.Elements.{recursion_from_All, All-from_recursion}
 use Rattle.compression.specs.Clusters.{Point, Cluster, AreClusters}
 use Rattle.collection_history.specs.Gathered.{EndsWith, Gathers, HasRow, IsHeld}
-use Rattle.collection_history.specs.Kept.{History, IsCounted, cluster_kept, clusters_in, kept_in, points_kept}
+use Rattle.collection_history.specs.Kept.{History, IsCounted, cluster_kept, clusters_in, kept_in}
 use Rattle.collection_history.specs.Steps.{Grows}
 use Rattle.collection_history.specs.declared.gathering.Gathering.{Gathering}
 use Rattle.collection_history.specs.declared.gathering.Row.{Row}

@@ -3,7 +3,7 @@ use Rattle.std.proofs.Common.{◌≡◌, ◌∙◌, ◌+◌, ◌*◌, ◌%◌, �
 use Rattle.std.specs.Prelude.{bit_or}
 use Rattle.std.proofs.Math.Pow.{pow-lt}
 use Rattle.std.proofs.lemmas.List.{append-nil, drop-append-le, length-drop, length-append}
-use Rattle.compression.specs.Clusters.{Cluster, Point, point_at}
+use Rattle.compression.specs.Clusters.{Cluster, point_at}
 use Rattle.compression.specs.Collection.{opening, joined, joined_end}
 use Rattle.collection_history.specs.Kept.{History, cluster_kept}
 use Rattle.collection_history.specs.Steps.{Grows}

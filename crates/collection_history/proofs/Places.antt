@@ -1,14 +1,14 @@
 -- What the search for an opening finds.
-use Rattle.std.proofs.Common.{◌≡◌, ◌∙◌, ℕ, zero, suc, ◌+◌, ◌<◌, ◌≤◌, ℤ, pos, ◌≤ℤ◌, ◌<ℤ◌, List, [], ◌∷◌, ◌++◌, length, take, drop, map, refl, sym, ap, subst, arith, Option, Some, None, inl, inr}
-use Rattle.std.specs.Prelude.{slice_get, All, IfSome}
+use Rattle.std.proofs.Common.{◌≡◌, ◌∙◌, ℕ, zero, suc, ◌+◌, ◌<◌, ◌≤◌, ℤ, pos, ◌≤ℤ◌, ◌<ℤ◌, List, [], ◌∷◌, length, take, drop, map, sym, ap, subst, arith, Option, Some, inl, inr}
+use Rattle.std.specs.Prelude.{slice_get, All}
 use Rattle.std.proofs.lemmas.Int.{ints}
 use Rattle.std.proofs.lemmas.List.{length-append, length-take-le, length-drop}
 use Rattle.std.proofs.lemmas.Bool.{cases_lt, cases_eq}
-use Rattle.compression.specs.Clusters.{Point, AreClusters}
+use Rattle.compression.specs.Clusters.{AreClusters}
 use Rattle.collection_history.proofs.Kepts.{all-emissions}
 use Rattle.collection_history.proofs.Spaced.{rising, spaced}
-use Rattle.collection_history.specs.Gathered.{Gathers, HasRow, IsGathered}
-use Rattle.collection_history.specs.Kept.{History, clusters_in, cluster_kept, emitted, kept_in}
+use Rattle.collection_history.specs.Gathered.{HasRow, IsGathered}
+use Rattle.collection_history.specs.Kept.{History, cluster_kept, emitted, kept_in}
 use Rattle.collection_history.specs.Rising.{IsPlaceFor, IsRising}
 use Rattle.collection_history.specs.declared.emitted.Emitted.{Emitted}
 use Rattle.collection_history.specs.declared.gathering.Gathering.{Gathering}

@@ -1,10 +1,8 @@
 -- What is sent for clusters.
-use Rattle.std.proofs.Common.{◌≡◌, ◌∙◌, ℤ, List, [], ◌∷◌, map, refl, sym, ap, subst, inl, inr, Option, Some, None}
+use Rattle.std.proofs.Common.{◌≡◌, ◌∙◌, List, [], ◌∷◌, map, sym, ap, subst, inl, inr, Option, Some, None}
 use Rattle.std.specs.Prelude.{All, Contains}
 use Rattle.std.proofs.lemmas.List.Elements.{All-contains}
 use Rattle.compression.proofs.Elements.{in_head, in_tail, in_none, in_cases}
-use Rattle.compression.specs.Clusters.{Cluster}
-use Rattle.compression.specs.Emission.{compressed}
 use Rattle.compression.specs.declared.compressed.Compressed.{Compressed}
 use Rattle.collection_history.specs.Gathered.{Sends}
 use Rattle.collection_history.specs.Kept.{History, as_emitted, clusters_in, emissions_in, emitted}

@@ -11,11 +11,11 @@ use Rattle.compression.specs.Role.{has_point_of, open_at, role}
 use Rattle.compression.specs.declared.taken.Taken.TheVariants.{Opened, Joined, Repeat, OtherCycle}
 use Rattle.compression.proofs.Growth.{AreClusters-opened, AreClusters-within, Grows as Takes}
 use Rattle.compression.proofs.Rows.{last_split, last_or-none}
-use Rattle.compression.proofs.Sound.{open_at-some, joined_end-within}
+use Rattle.compression.proofs.Sound.{open_at-some}
 use Rattle.compression.proofs.Taking.{role_in-opened, role_in-joined, role_in-ignored}
-use Rattle.collection_history.proofs.Growing.{clusters-same, kept-counted, has-ends}
-use Rattle.collection_history.proofs.Spaced.{AreSpaced, spaced, opened-most, before-last, at-last}
-use Rattle.collection_history.specs.Gathered.{EndsWith, Gathers, HasRow, IsHeld, IsLatest}
+use Rattle.collection_history.proofs.Growing.{clusters-same, has-ends}
+use Rattle.collection_history.proofs.Spaced.{spaced, opened-most, before-last, at-last}
+use Rattle.collection_history.specs.Gathered.{EndsWith, Gathers, HasRow, IsHeld}
 use Rattle.collection_history.specs.Kept.{History, IsCounted, cluster_kept, clusters_in, kept_in}
 use Rattle.collection_history.specs.Steps.{Grows, Joins, Opens}
 use Rattle.collection_history.specs.declared.gathering.Gathering.{Gathering}

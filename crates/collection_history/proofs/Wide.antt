@@ -1,5 +1,5 @@
 -- Numbers of 128 bits.
-use Rattle.std.proofs.Common.{◌≡◌, refl, to_z, of_z, ℤ, pos, neg_ℤ, ◌^◌, ◌≤ℤ◌, ◌<ℤ◌, FitsSigned, arith}
+use Rattle.std.proofs.Common.{◌≡◌, refl, to_z, of_z, ℤ, pos, neg_ℤ, ◌^◌, ◌≤ℤ◌, FitsSigned, arith}
 use Rattle.std.specs.Int.{w128}
 use Rattle.std.proofs.lemmas.Int.{ints, to_z-of_z}
 use Rattle.tte_units.specs.Mean.{mean_of}

@@ -1,5 +1,5 @@
 -- What a history keeps, and the clusters that it stands for.
-use Rattle.std.specs.Prelude.{ℕ, ◌+◌, ◌<◌, ◌≤◌, ℤ, List, [], ◌∷◌, ◌++◌, length, map, take, drop, Option, Some, None}
+use Rattle.std.specs.Prelude.{◌+◌, ◌<◌, ◌≤◌, ℤ, List, [], ◌∷◌, ◌++◌, length, map, take, drop, Option, Some, None}
 use Rattle.compression.specs.Clusters.{Cluster}
 use Rattle.compression.specs.Emission.{emission}
 use Rattle.compression.specs.declared.compressed.Compressed.{Compressed}

@@ -1,5 +1,4 @@
-use Rattle.std.proofs.Common.{◌≤ℤ◌, ℤ, pos, List, [], ◌∷◌, ◌++◌, arith}
-use Rattle.std.specs.Prelude.{All}
+use Rattle.std.proofs.Common.{◌≤ℤ◌, pos, List, [], ◌∷◌, ◌++◌, arith}
 use Rattle.std.proofs.lemmas.Int.{ints}
 use Rattle.std.proofs.lemmas.List.Elements.{All-from_recursion}
 use Rattle.compression.specs.Clusters.{Point, point_at}
@@ -22,5 +21,5 @@ returns-clause-gathered c =
     let three = c.in_ok-same.ensures.gathers points_2 two
     (All-from_recursion (λ (p : Point). p.reading ≤ℤ pos 1050) points_2 (omega (arith, ints), (omega (arith, ints), tt))) in
     let four = c.in_ok-three.ensures.gathers points_3 three
-    (All-from_recursion (λ (p : Point). p.reading ≤ℤ pos 1201) points_3 (omega (arith, ints), omega (arith, ints), omega (arith, ints), tt)) in
+    (All-from_recursion (λ (p : Point). p.reading ≤ℤ pos 1201) points_3 (omega (arith, ints), (omega (arith, ints), (omega (arith, ints), tt)))) in
     (points_3 ++ point_at (pos 1201) 40 7 ∷ [], four)

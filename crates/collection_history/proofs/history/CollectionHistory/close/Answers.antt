@@ -1,7 +1,6 @@
-use Rattle.std.proofs.Common.{◌≡◌, ◌∙◌, List, [], ◌∷◌, ◌++◌, ap, sym, refl}
+use Rattle.std.proofs.Common.{◌∙◌, [], ◌∷◌, ◌++◌, ap, sym}
 use Rattle.std.proofs.lemmas.List.{append-nil}
 use Rattle.collection_history.specs.Kept.{History}
-use Rattle.collection_history.specs.declared.kept.KeptCluster.{KeptCluster}
 use Rattle.collection_history.proofs.Joining.{grows-none}
 use Rattle.collection_history.proofs.history.CollectionHistory.close.Goals as goal
 

@@ -1,7 +1,6 @@
-use Rattle.std.proofs.Common.{◌≡◌, ◌∙◌, ap, sym, rules, Option, Some, map, List}
+use Rattle.std.proofs.Common.{◌∙◌, ap, sym, Option, Some, map}
 use Rattle.std.specs.Prelude.{slice_get}
 use Rattle.collection_history.specs.Kept.{emitted, cluster_kept, kept_in}
-use Rattle.collection_history.specs.declared.emitted.Emitted.{Emitted}
 use Rattle.collection_history.specs.declared.gathering.Row.{Row}
 use Rattle.collection_history.proofs.Kepts.{emission-at}
 use Rattle.collection_history.proofs.history.CollectionHistory.emission.Goals as goal

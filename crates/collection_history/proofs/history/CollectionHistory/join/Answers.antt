@@ -1,12 +1,12 @@
-use Rattle.std.proofs.Common.{◌≡◌, ◌∙◌, ◌+◌, ◌-◌, ◌*◌, ◌%◌, ◌^◌, ◌<◌, Some, ℕ, ℤ, List, [], ◌∷◌, ◌++◌, length, take, drop, ap, sym, refl, subst, Option, arith, rules, FitsSigned, w64, to_z, of_z}
+use Rattle.std.proofs.Common.{◌≡◌, ◌∙◌, ◌+◌, ◌-◌, ◌*◌, ◌%◌, ◌^◌, Some, ℤ, List, [], ◌∷◌, ◌++◌, length, take, drop, ap, sym, refl, subst, Option, arith, rules, FitsSigned, w64, to_z, of_z}
 use Rattle.std.specs.Int.{w128}
 use Rattle.std.specs.Prelude.{bit_or, IfSome}
-use Rattle.std.proofs.lemmas.Int.{ints, to_z-of_z}
+use Rattle.std.proofs.lemmas.Int.{to_z-of_z}
 use Rattle.std.proofs.lemmas.List.{append-nil, length-append}
 use Rattle.compression.specs.Collection.{joined_end}
 use Rattle.collection_history.specs.Kept.{History, cluster_kept}
 use Rattle.collection_history.specs.Gathered.{EndsWith}
-use Rattle.collection_history.specs.Steps.{Joins, Grows}
+use Rattle.collection_history.specs.Steps.{Joins}
 use Rattle.collection_history.specs.declared.gathering.Gathering.{Gathering}
 use Rattle.collection_history.specs.declared.gathering.Row.{Row}
 use Rattle.collection_history.specs.declared.kept.KeptCluster.{KeptCluster}

@@ -1,8 +1,7 @@
-use Rattle.std.proofs.Common.{◌≡◌, ◌∙◌, ◌+◌, ◌-◌, ◌<◌, ◌+ℤ◌, ℕ, ℤ, List, [], ◌∷◌, ◌++◌, length, take, drop, ap, sym, refl, arith, rules, FitsSigned, w64, to_z, of_z}
-use Rattle.std.specs.Int.{w128}
+use Rattle.std.proofs.Common.{◌≡◌, ◌∙◌, ◌+◌, ℤ, List, [], ◌∷◌, ◌++◌, length, take, drop, ap, sym, refl, arith, rules, FitsSigned, w64}
 use Rattle.std.proofs.lemmas.Int.{ints, to_z-of_z}
 use Rattle.std.proofs.lemmas.List.{length-append}
-use Rattle.collection_history.specs.Kept.{History, kept_in}
+use Rattle.collection_history.specs.Kept.{History}
 use Rattle.collection_history.specs.declared.kept.KeptCluster.{KeptCluster}
 use Rattle.collection_history.proofs.Joining.{opened-by, push-same, shift}
 use Rattle.collection_history.proofs.history.CollectionHistory.open.Goals as goal

@@ -1,5 +1,5 @@
-use Rattle.std.proofs.Common.{◌≡◌, ◌∙◌, ◌≤◌, ◌≤ℤ◌, ℤ, pos, List, length, map, ap, sym, subst, arith, rules, FitsSigned, w64, of_z, Option, Some, None}
-use Rattle.std.specs.Prelude.{slice_get, All, Contains, IfSome}
+use Rattle.std.proofs.Common.{◌≡◌, ◌∙◌, ◌≤◌, ◌≤ℤ◌, ℤ, pos, length, map, ap, sym, subst, arith, rules, FitsSigned, w64, of_z, Option, Some, None}
+use Rattle.std.specs.Prelude.{All, Contains, IfSome}
 use Rattle.std.proofs.lemmas.Int.{ints, to_z-of_z}
 use Rattle.collection_history.specs.Gathered.{HasRow}
 use Rattle.collection_history.specs.Kept.{History, emitted, cluster_kept, kept_in}

@@ -1,8 +1,8 @@
-use Rattle.std.proofs.Common.{◌≡◌, ◌∙◌, ap, sym, ◌≤ℤ◌, ◌<ℤ◌, List, map, take, drop, Option, arith}
+use Rattle.std.proofs.Common.{◌∙◌, ap, sym, ◌≤ℤ◌, ◌<ℤ◌, map, take, drop, Option, arith}
 use Rattle.std.proofs.lemmas.Int.{ints}
-use Rattle.compression.specs.Clusters.{Point, Cluster, point_at}
+use Rattle.compression.specs.Clusters.{Point, point_at}
 use Rattle.compression.specs.Role.{role}
-use Rattle.collection_history.specs.Kept.{clusters_in, kept_in, cluster_kept}
+use Rattle.collection_history.specs.Kept.{kept_in, cluster_kept}
 use Rattle.collection_history.specs.declared.gathering.Row.{Row}
 use Rattle.collection_history.proofs.Kepts.{role-within, role-beyond}
 use Rattle.collection_history.proofs.history.CollectionHistory.role.Goals as goal

@@ -1,7 +1,6 @@
-use Rattle.std.proofs.Common.{◌≡◌, ◌+◌, ◌-◌, ◌/◌, ◌<◌, ◌≤◌, ◌<ℤ◌, ◌≤ℤ◌, ℕ, ℤ, w64, to_z, of_z, sym, subst, arith, Some, rules, FitsSigned}
+use Rattle.std.proofs.Common.{◌+◌, ◌-◌, ◌/◌, ◌<ℤ◌, ◌≤ℤ◌, ℤ, w64, sym, subst, arith, Some, rules, FitsSigned}
 use Rattle.std.proofs.lemmas.Int.{ints, to_z-of_z}
 use Rattle.collection_history.specs.Kept.{kept_in}
-use Rattle.collection_history.specs.declared.kept.KeptCluster.{KeptCluster}
 use Rattle.collection_history.proofs.Places.{before-step, others-step}
 use Rattle.collection_history.proofs.history.CollectionHistory.search.Goals as goal
 

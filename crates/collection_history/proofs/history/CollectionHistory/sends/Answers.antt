@@ -1,4 +1,4 @@
-use Rattle.std.proofs.Common.{◌≡◌, ◌∙◌, sym, subst, ℤ, Option, Some, None, IsTrue, false, true, rules, FitsSigned, w64}
+use Rattle.std.proofs.Common.{◌≡◌, ◌∙◌, sym, subst, ℤ, Some, IsTrue, false, rules, FitsSigned, w64}
 use Rattle.std.specs.Prelude.{All}
 use Rattle.std.proofs.lemmas.Int.{to_z-of_z}
 use Rattle.collection_history.specs.Kept.{as_emitted, emissions_in}

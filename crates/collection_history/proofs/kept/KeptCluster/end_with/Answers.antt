@@ -1,8 +1,7 @@
-use Rattle.std.proofs.Common.{◌≡◌, ◌∙◌, ◌+ℤ◌, ◌*ℤ◌, ◌≤ℤ◌, pos, sym, arith}
+use Rattle.std.proofs.Common.{◌∙◌, ◌+ℤ◌, ◌≤ℤ◌, sym, arith}
 use Rattle.std.proofs.lemmas.Int.{ints, to_z-of_z}
 use Rattle.compression.proofs.Collections.{joined_end-first}
 use Rattle.collection_history.specs.Kept.{cluster_kept}
-use Rattle.collection_history.proofs.Wide.{fits_wide}
 use Rattle.collection_history.proofs.kept.KeptCluster.end_with.Goals as goal
 
 pub overflow_add-result : goal.overflow_add-result

@@ -1,6 +1,5 @@
-use Rattle.std.proofs.Common.{◌≡◌, ◌∙◌, sym, refl}
+use Rattle.std.proofs.Common.{refl}
 use Rattle.std.proofs.lemmas.Bool.{eq-eqb}
-use Rattle.collection_history.specs.Kept.{cluster_kept}
 use Rattle.collection_history.proofs.kept.KeptCluster.role.Goals as goal
 
 pub returns-then-has : goal.returns-then-has
