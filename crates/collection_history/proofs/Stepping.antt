@@ -1,30 +1,26 @@
 -- What a point does to the clusters that a gathering stands for.
 use Rattle.std.proofs.Common.{◌≡◌, ◌≢◌, ◌∙◌, ◌⊎◌, inl, inr, ℤ, pos, ◌+ℤ◌, ◌*ℤ◌, ◌≤ℤ◌, ◌<ℤ◌, List, [], ◌∷◌, ◌++◌, map, refl, sym, ap, subst, arith, Option, Some, None, true, false}
-use Rattle.std.specs.Prelude.{All, IfSome}
-use Rattle.std.specs.List.{AllByRecursion, last_or}
+use Rattle.std.proofs.lemmas.Bool.{cases_Bool}
 use Rattle.std.proofs.lemmas.Int.{ints}
 use Rattle.std.proofs.lemmas.List.{map-append}
 use Rattle.std.proofs.lemmas.List.Elements.{recursion_from_All}
-use Rattle.compression.specs.Clusters.{Point, Cluster, AreClusters}
-use Rattle.compression.specs.Collection.{opening, joined}
-use Rattle.compression.specs.Role.{has_point_of, open_at, role}
-use Rattle.compression.specs.declared.taken.Taken.TheVariants.{Opened, Joined, Repeat, OtherCycle}
+use Rattle.std.specs.List.{AllByRecursion, last_or}
+use Rattle.std.specs.Prelude.{All, IfSome, int_lt, int_le}
 use Rattle.compression.proofs.Growth.{AreClusters-opened, AreClusters-within, Grows as Takes}
 use Rattle.compression.proofs.Rows.{last_split, last_or-none}
 use Rattle.compression.proofs.Sound.{open_at-some}
 use Rattle.compression.proofs.Taking.{role_in-opened, role_in-joined, role_in-ignored}
-use Rattle.collection_history.proofs.Growing.{clusters-same, has-ends}
-use Rattle.collection_history.proofs.Spaced.{spaced, opened-most, before-last, at-last}
+use Rattle.compression.specs.Clusters.{Point, Cluster, AreClusters}
+use Rattle.compression.specs.Collection.{opening, joined, joined_end}
+use Rattle.compression.specs.Role.{has_point_of, open_at, role}
+use Rattle.compression.specs.declared.taken.Taken.TheVariants.{Opened, Joined, Repeat, OtherCycle}
+use Rattle.collection_history.proofs.Growing.{clusters-same, has-ends, all-kept}
+use Rattle.collection_history.proofs.Kepts.{last_or-push}
+use Rattle.collection_history.proofs.Spaced.{spaced, opened-most, before-last, at-last, ends-most}
 use Rattle.collection_history.specs.Gathered.{EndsWith, Gathers, HasRow, IsHeld}
 use Rattle.collection_history.specs.Kept.{History, IsCounted, cluster_kept, clusters_in, kept_in}
 use Rattle.collection_history.specs.Steps.{Grows, Joins, Opens}
 use Rattle.collection_history.specs.declared.gathering.Gathering.{Gathering}
-use Rattle.std.proofs.lemmas.Bool.{cases_Bool}
-use Rattle.std.specs.Prelude.{int_lt, int_le}
-use Rattle.compression.specs.Collection.{joined_end}
-use Rattle.collection_history.proofs.Spaced.{ends-most}
-use Rattle.collection_history.proofs.Growing.{all-kept}
-use Rattle.collection_history.proofs.Kepts.{last_or-push}
 use Rattle.collection_history.specs.declared.gathering.Row.{Row}
 use Rattle.collection_history.specs.declared.kept.KeptCluster.{KeptCluster}
 
