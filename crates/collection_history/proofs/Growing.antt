@@ -1,0 +1,114 @@
+-- What a history had it keeps as it grows.
+use Rattle.std.proofs.Common.{◌≡◌, ◌∙◌, ◌+◌, ◌≤◌, ℕ, suc, zero, ℤ, List, [], ◌∷◌, ◌++◌, length, map, take, drop, refl, sym, ap, subst, arith, Option, Some, None}
+use Rattle.std.specs.Prelude.{All, IfSome, slice_get}
+use Rattle.std.specs.List.{AllByRecursion}
+use Rattle.std.proofs.lemmas.List.{take-append-le, drop-append-le, length-drop, length-append}
+use Rattle.std.proofs.lemmas.List.Elements.{recursion_from_All, All-from_recursion}
+use Rattle.compression.specs.Clusters.{Point, Cluster, AreClusters}
+use Rattle.collection_history.specs.Gathered.{EndsWith, Gathers, HasRow, IsHeld}
+use Rattle.collection_history.specs.Kept.{History, IsCounted, cluster_kept, clusters_in, kept_in}
+use Rattle.collection_history.specs.Steps.{Grows}
+use Rattle.collection_history.specs.declared.gathering.Gathering.{Gathering}
+use Rattle.collection_history.specs.declared.gathering.Row.{Row}
+use Rattle.collection_history.specs.declared.kept.KeptCluster.{KeptCluster}
+
+-- all parts of a list stay where more is appended
+part-same : {X : Type 0} (xs more : List X) (from count : ℕ) → (from + count) ≤ length xs → take count (drop from (xs ++ more)) ≡ take count (drop from xs)
+part-same xs more from count within =
+    ap (take count) (drop-append-le from xs more (omega (arith, within)))
+    ∙ take-append-le count (drop from xs) more (rw (length-drop from xs) (omega (arith, within)))
+
+pub counted-grown : (xs more : List ℤ) (k : KeptCluster) → IsCounted xs k → IsCounted (xs ++ more) k
+counted-grown xs more k is = record { some = is.some; within = rw (length-append xs more) (omega (arith, is.within)) }
+
+pub all-counted : (xs more : List ℤ) (ks : List KeptCluster) → All (IsCounted xs) ks → All (IsCounted (xs ++ more)) ks
+all-counted xs more ks all = All-from_recursion (IsCounted (xs ++ more)) ks (each ks (recursion_from_All (IsCounted xs) ks all))
+  where
+    each : (ks : List KeptCluster) → AllByRecursion (IsCounted xs) ks → AllByRecursion (IsCounted (xs ++ more)) ks
+    each [] all = tt
+    each (k ∷ ks) all = (counted-grown xs more k all.0, each ks all.1)
+
+pub cluster-same : (xs more : List ℤ) (k : KeptCluster) → IsCounted xs k → cluster_kept (xs ++ more) k ≡ cluster_kept xs k
+cluster-same xs more k is =
+    ap (λ (points : List ℤ). record { opened = k.opened; end = k.end; cycle = k.cycle; points = points; members = k.members })
+    (part-same xs more k.from k.count is.within)
+
+pub clusters-same : (xs more : List ℤ) (ks : List KeptCluster) → AllByRecursion (IsCounted xs) ks
+    → map (cluster_kept (xs ++ more)) ks ≡ map (cluster_kept xs) ks
+clusters-same xs more [] all = refl
+clusters-same xs more (k ∷ ks) all =
+    ap (λ (c : Cluster). c ∷ map (cluster_kept (xs ++ more)) ks) (cluster-same xs more k all.0)
+    ∙ ap (λ (cs : List Cluster). cluster_kept xs k ∷ cs) (clusters-same xs more ks all.1)
+
+all-take : {X : Type 0} (P : X → Type 0) (n : ℕ) (xs : List X) → AllByRecursion P xs → AllByRecursion P (take n xs)
+all-take P zero [] all = tt
+all-take P zero (x ∷ xs) all = tt
+all-take P (suc n) [] all = tt
+all-take P (suc n) (x ∷ xs) all = (all.0, all-take P n xs all.1)
+
+all-drop : {X : Type 0} (P : X → Type 0) (n : ℕ) (xs : List X) → AllByRecursion P xs → AllByRecursion P (drop n xs)
+all-drop P zero [] all = tt
+all-drop P zero (x ∷ xs) all = all
+all-drop P (suc n) [] all = tt
+all-drop P (suc n) (x ∷ xs) all = all-drop P n xs all.1
+
+all-push : {X : Type 0} (P : X → Type 0) (xs : List X) (x : X) → AllByRecursion P xs → P x → AllByRecursion P (xs ++ x ∷ [])
+all-push P [] x all one = (one, tt)
+all-push P (y ∷ ys) x all one = (all.0, all-push P ys x all.1 one)
+
+-- each cluster of a gathering has its points in the history
+pub kept-counted : (h : History) (row : Row) → All (IsCounted h.counted) h.closed → HasRow h row → AllByRecursion (IsCounted h.counted) (kept_in h (Some row))
+kept-counted h row all has =
+    all-push (IsCounted h.counted) (take row.count (drop row.from h.closed)) row.last
+    (all-take (IsCounted h.counted) row.count (drop row.from h.closed)
+    (all-drop (IsCounted h.counted) row.from h.closed (recursion_from_All (IsCounted h.counted) h.closed all))) has.last
+
+pub all-kept : (h : History) (r : Option Row) → All (IsCounted h.counted) h.closed → IfSome r (HasRow h) → AllByRecursion (IsCounted h.counted) (kept_in h r)
+all-kept h None all held = tt
+all-kept h (Some row) all held = kept-counted h row all held
+
+pub at-place : {X : Type 0} (P : X → Type 0) (xs : List X) (i : ℕ) (x : X) → AllByRecursion P xs → slice_get xs i ≡ Some x → P x
+at-place P [] i x all at = absurd (none at)
+  where
+    none : slice_get [] i ≡ Some x → ⊥
+    none e = cc
+at-place P (y ∷ ys) zero x all at = let same : y ≡ x = cc in subst P same all.0
+at-place P (y ∷ ys) (suc i) x all at = at-place P ys i x all.1 at
+
+pub kept-same : (old new : History) (row : Row) → Grows old new → HasRow old row → kept_in new (Some row) ≡ kept_in old (Some row)
+kept-same old new row grows has =
+    ap (λ (ks : List KeptCluster). take row.count (drop row.from ks) ++ row.last ∷ []) grows.closed
+    ∙ ap (λ (ks : List KeptCluster). ks ++ row.last ∷ []) (part-same old.closed grows.later row.from row.count has.closed)
+
+pub has-grown : (old new : History) (row : Row) → Grows old new → HasRow old row → HasRow new row
+has-grown old new row grows has = record {
+  closed = rw (grows.closed, length-append old.closed grows.later) (omega (arith, has.closed));
+  last = subst (λ (xs : List ℤ). IsCounted xs row.last) (sym grows.counted) (counted-grown old.counted grows.later_points row.last has.last);
+}
+
+-- the clusters of a gathering stay
+pub clusters-grown : (old new : History) (g : Gathering) → Grows old new → All (IsCounted old.counted) old.closed → IsHeld old g
+    → (clusters_in new g ≡ clusters_in old g) × IsHeld new g
+clusters-grown old new g grows all held = by_row g.row held
+  where
+    by_row : (r : Option Row) → IfSome r (HasRow old) → (map (cluster_kept new.counted) (kept_in new r) ≡ map (cluster_kept old.counted) (kept_in old r))
+        × IfSome r (HasRow new)
+    by_row None held = (refl, tt)
+    by_row (Some row) held = (
+      ap (λ (ks : List KeptCluster). map (cluster_kept new.counted) ks) (kept-same old new row grows held)
+          ∙ ap (λ (xs : List ℤ). map (cluster_kept xs) (kept_in old (Some row))) grows.counted
+          ∙ clusters-same old.counted grows.later_points (kept_in old (Some row)) (kept-counted old row all held),
+      has-grown old new row grows held,
+    )
+
+pub gathers-grown : (old new : History) → Grows old new → All (IsCounted old.counted) old.closed → (g : Gathering) (points : List Point)
+    → Gathers old g points → Gathers new g points
+gathers-grown old new grows all g points is =
+    let same = clusters-grown old new g grows all is.held in
+    record { held = same.1; are = subst (λ (ow : ℤ). AreClusters ow points (clusters_in new g)) (sym grows.ow) (subst (AreClusters old.ow points) (sym same.0) is.are) }
+
+pub has-ends : (h : History) (row : Row) → EndsWith h row → HasRow h row
+has-ends h row ends = record {
+  closed = omega (arith, ends.closed);
+  last = record { some = ends.some; within = omega (arith, ends.counted) };
+}

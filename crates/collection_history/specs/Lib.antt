@@ -1,0 +1,5 @@
+pub mod Small
+pub mod Kept
+pub mod Gathered
+pub mod Rising
+pub mod Steps

@@ -1,0 +1,15 @@
+//! The clusters of the points of one compression master, as they were after any number of points.
+#![tactic(auto)]
+
+mod emitted;
+mod gathering;
+mod history;
+mod kept;
+mod mean;
+
+pub use emitted::Emitted;
+pub use gathering::Gathering;
+pub use history::CollectionHistory;
+
+#[cfg(test)]
+mod tests;
