@@ -90,7 +90,8 @@ pub fn joined_adjustment(network: &Network, device: DeviceId, cycle: u32, point:
 
 /// Is the correction point that of the cycle by whose frame the device joined?
 fn is_at_integration(standing: &PointStanding) -> bool
-    ensures { (network : Network) (device : DeviceId) → IsTrue result ↔ IsAtIntegration (standing_of network device standing.now) }
+    ensures { (network : Network) (device : DeviceId)
+        → IsTrue result ↔ IsAtIntegration (standing_of network device standing.now) }
 {
     match standing.integrated {
         Some(cycle) => standing.state == State::Joining && u64::from(cycle) == standing.number,
