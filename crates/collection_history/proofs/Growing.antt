@@ -5,6 +5,7 @@ use Rattle.std.specs.List.{AllByRecursion}
 use Rattle.std.proofs.lemmas.List.{take-append-le, drop-append-le, length-drop, length-append}
 use Rattle.std.proofs.lemmas.List.Elements.{recursion_from_All, All-from_recursion}
 use Rattle.compression.specs.Clusters.{Point, Cluster, AreClusters}
+use Rattle.compression.proofs.Standing.{AreClusters-unique}
 use Rattle.collection_history.specs.Gathered.{EndsWith, Gathers, HasRow, IsHeld}
 use Rattle.collection_history.specs.Kept.{History, IsCounted, cluster_kept, clusters_in, kept_in}
 use Rattle.collection_history.specs.Steps.{Grows}
@@ -112,3 +113,8 @@ has-ends h row ends = record {
   closed = omega (arith, ends.closed);
   last = record { some = ends.some; within = omega (arith, ends.counted) };
 }
+
+-- its clusters are those of the points, which have one list of clusters
+pub gathers-are : (h : History) (g : Gathering) (points : List Point) (clusters : List Cluster) → Gathers h g points → AreClusters h.ow points clusters
+    → clusters_in h g ≡ clusters
+gathers-are h g points clusters gathers are = AreClusters-unique h.ow points (clusters_in h g) clusters gathers.are are

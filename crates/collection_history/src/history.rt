@@ -70,7 +70,8 @@ impl CollectionHistory {
 
     /// Takes a point, and gives what becomes of it and the gathering with it.
     ///
-    /// The gathering is the last that was given, or has no points.
+    /// The gathering is the last that was given, or has no points, and none of its points is later than this one.
+    /// Where memory runs out, it may no longer be the last.
     pub fn point(
         &mut self,
         gathering: &Gathering,
