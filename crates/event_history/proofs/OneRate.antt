@@ -1,14 +1,12 @@
 -- A slow rate at time 0 is within the hypothesis.
-use Rattle.std.proofs.Common.{◌≡◌, ◌≤◌, ◌<◌, ◌∙◌, List, [], ◌∷◌, ◌++◌, pos, unsigned_abs, sym, ap, subst, arith}
+use Rattle.std.proofs.Common.{◌≡◌, ◌≤◌, ◌<◌, ◌∙◌, List, [], ◌∷◌, ◌++◌, pos, unsigned_abs, sym, subst, arith}
 use Rattle.std.proofs.lemmas.Int.{ints}
 use Rattle.net_plan.specs.declared.event.Event.{Event}
-use Rattle.net_plan.specs.declared.event.What.{What}
 use Rattle.net_plan.specs.declared.event.What.TheVariants as events
 use Rattle.net_plan.specs.declared.ids.DeviceId.{DeviceId}
 use Rattle.net_plan.specs.declared.network.Network.{Network}
-use Rattle.run_law.specs.declared.outside.Outside.{Outside}
 use Rattle.run_law.specs.declared.outside.Outside.TheVariants as outside
-use Rattle.run_law.specs.scenario.Hypothesis.{IsWithinHypothesis, Violates}
+use Rattle.run_law.specs.scenario.Hypothesis.{IsWithinHypothesis}
 use Rattle.tte_units.specs.declared.rates.Ppb.{Ppb}
 
 none_before : {X : Type 0} (xs behind : List X) (x : X) → [] ≡ xs ++ x ∷ behind → ⊥

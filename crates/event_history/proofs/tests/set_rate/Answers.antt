@@ -1,4 +1,4 @@
-use Rattle.std.proofs.Common.{◌≡◌, [], refl}
+use Rattle.std.proofs.Common.{[], refl}
 use Rattle.net_plan.specs.declared.ids.DeviceId.{DeviceId}
 use Rattle.event_history.proofs.OneRate.{rate_within}
 use Rattle.event_history.proofs.tests.set_rate.Goals as goal
