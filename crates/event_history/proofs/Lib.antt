@@ -7,3 +7,4 @@ pub mod Looking
 pub mod Beginning
 pub mod Reading
 pub mod Reaching
+pub mod OneRate

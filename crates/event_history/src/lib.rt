@@ -11,3 +11,6 @@ mod settings;
 pub use history::EventHistory;
 pub use laws::reading_law;
 pub use memory::OutOfMemory;
+
+#[cfg(test)]
+mod tests;
