@@ -347,7 +347,7 @@ module _ (s : Scenario) (clocked : IsClocked s) (gs : List Happening) (device : 
         timely = omega (arith, at, le);
       } in
       let told = paid (debts.event (found.1 + 1)) owed in
-      of_event event found.1 found.2 (turned device event.what both.0) at told.0 told.1 told.0.note.body refl told.2)
+      of_event event found.1 found.2 (turned device event.what both.0) at told.0 told.1 told.0.note.body (refl {a = told.0.note.body}) told.2)
     where
       brings : (front rest : List Happening) (cause line : ℕ) (x y : Happening) → gs ≡ front ++ rest → numbered gs cause ≡ Some x
           → x.note.body ≡ notes.Event line (On device) → (t : ℕ) (other : DeviceId) (state : State) (why : Why) → ChangesState s front other t state cause why
@@ -403,7 +403,7 @@ module _ (s : Scenario) (clocked : IsClocked s) (gs : List Happening) (device : 
             timely = le;
           } in
           let told = paid (debts.change x.note.number) owed in
-          said x.note.number line x told.0 number now body_is told.1 told.0.note.body refl told.2
+          said x.note.number line x told.0 number now body_is told.1 told.0.note.body (refl {a = told.0.note.body}) told.2
       of_event event i there what_is at x inside body is pays = absurd pays
 
   -- no later record is of a correction point

@@ -1,6 +1,7 @@
 //! What is due, owed and found lacking in a list of records that is judged record by record, and the laws that join these.
 //! A record is sound or is not, given those before it; a sound list lacks what is due in its gaps; and what is due pays
-//! what earlier records owe (`specs/Owed`), so that what is lacking is what nothing paid.
+//! what earlier records owe (`specs/Owed`), so that what is lacking is what nothing paid. Correction points are counted by
+//! what the clocks come to, whether records show it or not (`specs/CorrectionNumbers`); the runs are the same so.
 #![tactic(auto)]
 
 mod debt_laws;
