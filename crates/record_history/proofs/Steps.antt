@@ -1,0 +1,226 @@
+-- What the records show of a device, with one more record.
+use Rattle.std.proofs.Common.{◌≡◌, ℕ, ◌+◌, ◌-◌, ◌<◌, ◌≤◌, ℤ, pos, Bool, true, false, List, [], ◌∷◌, ◌++◌, Option, Some, None, filter, inl, inr, refl, sym, ap, subst, ◌∙◌, arith, if◌then◌else◌}
+use Rattle.std.proofs.lemmas.Bool.{cases_order}
+use Rattle.std.proofs.lemmas.List.{append-nil}
+use Rattle.std.proofs.lemmas.List.Elements.{filter-append, filter_map-append}
+use Rattle.std.proofs.lemmas.List.Sums.{fold-append}
+use Rattle.std.specs.List.{after_last, cons_option, filter_map, last_or}
+use Rattle.std.specs.Option.{option_map_or}
+use Rattle.std.specs.Prelude.{◌+ℤ◌, ◌==◌, fold}
+use Rattle.membership.specs.Hearing.{Hearing}
+use Rattle.membership.specs.Summary.{Summarizes, Summary, silence}
+use Rattle.net_plan.specs.declared.ids.DeviceId.{DeviceId}
+use Rattle.net_plan.specs.declared.network.Network.{Network}
+use Rattle.record_history.specs.Effects.{carried_by, effect_of}
+use Rattle.record_history.specs.Showing.{IsSteady, NoneLater, Shows, heard_at, heard_by_then, last_change, last_joining, points_by, points_from}
+use Rattle.record_history.specs.declared.effect.Effect.TheVariants.{Nothing, Joins, Hears, Corrects, Turns}
+use Rattle.record_history.specs.declared.effect.Effect.{Effect}
+use Rattle.record_history.specs.declared.shown.Shown.{Shown}
+use Rattle.run_law.proofs.runs.Places.{in_left, in_right}
+use Rattle.run_law.specs.control.Corrections.{cycle_after, hearing_by, integration_cycle, recorded_cycle}
+use Rattle.run_law.specs.device.LocalClocks.{changes_adjustment}
+use Rattle.run_law.specs.device.States.{adjustment_after, adjustment_with, cycle_in, is_joined_by, joined_adjustment, state_after, state_with}
+use Rattle.run_law.specs.records.Happenings.{Happening, time_of}
+use Rattle.run_law.specs.records.Order.{IsIn}
+use Rattle.run_law.specs.scenario.Scenarios.{Scenario}
+use Rattle.sync_state.specs.declared.state.State.TheVariants.{Joining}
+use Rattle.sync_state.specs.declared.state.State.{State}
+use Rattle.tte_units.specs.declared.units.Units.{Units}
+use Rattle.record_history.proofs.Grown.{after_more, after_one, filter_off, filter_on, last_more}
+use Rattle.record_history.proofs.Tells.{Tells, adjustment_by, changes_by, cycle_by, hearing_of, joins_by, state_by, tells}
+
+-- the records, and one more
+abbrev with_one : List Happening → Happening → List Happening
+with_one hs h = hs ++ h ∷ []
+
+-- what the record tells, where its effect is this
+abbrev TellsAs : Scenario → DeviceId → Happening → Effect → Type 0
+TellsAs s device h e =
+    Tells s device (λ old. state_with device old h.note.body) (λ old. adjustment_with s device (cycle_in h) old h.note.body)
+    (λ next. cycle_after device next h h.note.body) (is_joined_by device h.note.body) (changes_adjustment device h.note.body)
+    (hearing_by s.network device h h.note.body) e
+
+told : (s : Scenario) (device : DeviceId) (h : Happening) (e : Effect) → effect_of s.network device h ≡ e → TellsAs s device h e
+told s device h e is = subst (TellsAs s device h) is (tells s device h h.note.body)
+
+-- ---- one more record, by what it tells
+
+state_on : (s : Scenario) (hs : List Happening) (device : DeviceId) (h : Happening) (e : Effect) → TellsAs s device h e
+    → state_by (state_after s hs device) e ≡ state_after s (with_one hs h) device
+state_on s hs device h e t = sym (t.state_is (state_after s hs device)) ∙ sym (fold-append _ _ hs (h ∷ []))
+
+adjustment_on : (s : Scenario) (hs : List Happening) (device : DeviceId) (h : Happening) (e : Effect) → TellsAs s device h e
+    → adjustment_by s device (adjustment_after s hs device) e ≡ adjustment_after s (with_one hs h) device
+adjustment_on s hs device h e t = sym (t.adjustment_is (adjustment_after s hs device)) ∙ sym (fold-append _ _ hs (h ∷ []))
+
+cycle_on : (s : Scenario) (hs : List Happening) (device : DeviceId) (h : Happening) (e : Effect) → TellsAs s device h e
+    → cycle_by (recorded_cycle hs device) e ≡ recorded_cycle (with_one hs h) device
+cycle_on s hs device h e t = sym (t.cycle_is (recorded_cycle hs device)) ∙ sym (fold-append _ _ hs (h ∷ []))
+
+integrated_on : (s : Scenario) (hs : List Happening) (device : DeviceId) (h : Happening) (e : Effect) → TellsAs s device h e
+    → (if joins_by e then Some (cycle_in h) else integration_cycle hs device) ≡ integration_cycle (with_one hs h) device
+integrated_on s hs device h e t =
+    ap (λ (b : Bool). if b then Some (cycle_in h) else integration_cycle hs device) (sym t.joins_is) ∙ sym (fold-append _ _ hs (h ∷ []))
+
+joined_on : (s : Scenario) (hs : List Happening) (device : DeviceId) (h : Happening) (e : Effect) → TellsAs s device h e
+    → (if joins_by e then Some (time_of h) else last_joining hs device) ≡ last_joining (with_one hs h) device
+joined_on s hs device h e t =
+    ap (λ (b : Bool). if b then Some (time_of h) else last_joining hs device) (sym t.joins_is) ∙ sym (fold-append _ _ hs (h ∷ []))
+
+changed_at_once : (hs : List Happening) (device : DeviceId) (h : Happening) → changes_adjustment device h.note.body ≡ true
+    → time_of h ≡ last_change (with_one hs h) device
+changed_at_once hs device h is =
+    let test : Happening → Bool = λ x. changes_adjustment device x.note.body in
+    let last : Option Happening → ℕ = λ o. option_map_or time_of o 0 in
+    sym (ap (λ (xs : List Happening). last (last_or None xs)) (filter_on test hs h is) ∙ ap last (last_more None (filter test hs) h))
+
+unchanged : (hs : List Happening) (device : DeviceId) (h : Happening) → changes_adjustment device h.note.body ≡ false
+    → last_change hs device ≡ last_change (with_one hs h) device
+unchanged hs device h is =
+    let test : Happening → Bool = λ x. changes_adjustment device x.note.body in
+    sym (ap (λ (xs : List Happening). option_map_or time_of (last_or None xs) 0) (filter_off test hs h is))
+
+-- what is heard where a record of no change is added
+abbrev kept_where : Scenario → DeviceId → Shown → ℕ → Happening → Bool
+kept_where s device shown points h = points == points_by s.network shown (s.reading device (time_of h - 1))
+
+heard_on : (s : Scenario) (hs : List Happening) (device : DeviceId) (h : Happening) (shown : Shown) (points : ℕ)
+    → changes_adjustment device h.note.body ≡ false → heard_at s (with_one hs h) device shown points
+    ≡ heard_at s hs device shown points
+    ++ filter_map (λ x. hearing_by s.network device x x.note.body) (if kept_where s device shown points h then h ∷ [] else [])
+heard_on s hs device h shown points same =
+    let test : Happening → Bool = λ x. changes_adjustment device x.note.body in
+    let f : Happening → Option Hearing = λ x. hearing_by s.network device x x.note.body in
+    let kept : Happening → Bool = kept_where s device shown points in
+    let grown = after_more test hs (h ∷ []) (λ y i. elim i [ inl e ↦ ap test e ∙ same | inr none ↦ absurd none ]) in
+    ap (λ (xs : List Happening). filter_map f (filter kept xs)) grown
+    ∙ ap (filter_map f) (filter-append kept (after_last test hs) (h ∷ []))
+    ∙ filter_map-append f (filter kept (after_last test hs)) (filter kept (h ∷ []))
+
+-- nothing more is heard by a record that tells nothing heard
+heard_same : (s : Scenario) (hs : List Happening) (device : DeviceId) (h : Happening) (shown : Shown) (points : ℕ)
+    → changes_adjustment device h.note.body ≡ false → hearing_by s.network device h h.note.body ≡ None
+    → heard_at s (with_one hs h) device shown points ≡ heard_at s hs device shown points
+heard_same s hs device h shown points same none =
+    let f : Happening → Option Hearing = λ x. hearing_by s.network device x x.note.body in
+    heard_on s hs device h shown points same
+    ∙ ap (λ (xs : List Hearing). heard_at s hs device shown points ++ xs) (nothing (kept_where s device shown points h))
+    ∙ append-nil (heard_at s hs device shown points)
+  where
+    nothing : (b : Bool) → filter_map (λ (x : Happening). hearing_by s.network device x x.note.body) (if b then h ∷ [] else []) ≡ []
+    nothing true = ap (λ (o : Option Hearing). cons_option o []) none
+    nothing false = refl
+
+-- nothing is heard since a change
+heard_none : (s : Scenario) (hs : List Happening) (device : DeviceId) (h : Happening) (shown : Shown) (points : ℕ)
+    → changes_adjustment device h.note.body ≡ true → heard_at s (with_one hs h) device shown points ≡ []
+heard_none s hs device h shown points is =
+    let test : Happening → Bool = λ x. changes_adjustment device x.note.body in
+    let f : Happening → Option Hearing = λ x. hearing_by s.network device x x.note.body in
+    ap (λ (xs : List Happening). filter_map f (filter (kept_where s device shown points) xs)) (after_one test hs h is)
+
+front_later : (t : ℕ) (hs : List Happening) (h : Happening) → NoneLater t (with_one hs h) → NoneLater t hs
+front_later t hs h later x i = later x (in_left x hs (h ∷ []) i)
+
+one_later : (t : ℕ) (hs : List Happening) (h : Happening) → NoneLater t (with_one hs h) → time_of h ≤ t
+one_later t hs h later = later h (in_right h hs (h ∷ []) (inl refl))
+
+-- ---- the steps
+
+-- a record that shows nothing, or a state, of the device
+pub turned : (s : Scenario) (hs : List Happening) (device : DeviceId) (h : Happening) (shown : Shown) (state : State)
+    → effect_of s.network device h ≡ Turns state → Shows s hs device shown → Shows s (hs ++ h ∷ []) device (record shown { state = state })
+turned s hs device h shown state is sh =
+    let t = told s device h (Turns state) is in
+    record {
+      state = state_on s hs device h (Turns state) t;
+      adjustment = sh.adjustment ∙ ap (λ (u : Units). u.0) (adjustment_on s hs device h (Turns state) t);
+      cycle = sh.cycle ∙ cycle_on s hs device h (Turns state) t;
+      integrated = sh.integrated ∙ integrated_on s hs device h (Turns state) t;
+      changed = sh.changed ∙ unchanged hs device h t.changes_is;
+      at_change = sh.at_change ∙ ap (λ (c : ℕ). pos (s.reading device c) +ℤ shown.adjustment) (unchanged hs device h t.changes_is);
+      joined = sh.joined ∙ joined_on s hs device h (Turns state) t;
+      heard = subst (Summarizes shown.heard) (sym (heard_same s hs device h shown shown.come t.changes_is t.hears_is)) sh.heard;
+      no_more = λ points more. heard_same s hs device h shown points t.changes_is t.hears_is ∙ sh.no_more points more;
+      come = λ u later. sh.come u (front_later u hs h later);
+    }
+
+pub quiet : (s : Scenario) (hs : List Happening) (device : DeviceId) (h : Happening) (shown : Shown) → effect_of s.network device h ≡ Nothing
+    → Shows s hs device shown → Shows s (hs ++ h ∷ []) device shown
+quiet s hs device h shown is sh =
+    let t = told s device h Nothing is in
+    record {
+      state = sh.state ∙ state_on s hs device h Nothing t;
+      adjustment = sh.adjustment ∙ ap (λ (u : Units). u.0) (adjustment_on s hs device h Nothing t);
+      cycle = sh.cycle ∙ cycle_on s hs device h Nothing t;
+      integrated = sh.integrated ∙ integrated_on s hs device h Nothing t;
+      changed = sh.changed ∙ unchanged hs device h t.changes_is;
+      at_change = sh.at_change ∙ ap (λ (c : ℕ). pos (s.reading device c) +ℤ shown.adjustment) (unchanged hs device h t.changes_is);
+      joined = sh.joined ∙ joined_on s hs device h Nothing t;
+      heard = subst (Summarizes shown.heard) (sym (heard_same s hs device h shown shown.come t.changes_is t.hears_is)) sh.heard;
+      no_more = λ points more. heard_same s hs device h shown points t.changes_is t.hears_is ∙ sh.no_more points more;
+      come = λ u later. sh.come u (front_later u hs h later);
+    }
+
+-- what is shown of a device whose adjustment has just changed
+abbrev pub changed_to : Shown → ℤ → ℕ → ℕ → ℕ → Shown
+changed_to shown adjustment cycle t reading = record shown {
+  adjustment = adjustment;
+  cycle = cycle;
+  changed = t;
+  at_change = pos reading +ℤ adjustment;
+  heard = silence;
+  come = 0;
+}
+
+pub corrected : (s : Scenario) (hs : List Happening) (device : DeviceId) (h : Happening) (shown : Shown) (cycle : ℕ) (adjustment : Units) (t reading : ℕ)
+    → effect_of s.network device h ≡ Corrects cycle adjustment → t ≡ time_of h → reading ≡ s.reading device (time_of h)
+    → Summarizes silence [] → Shows s hs device shown
+    → Shows s (hs ++ h ∷ []) device (changed_to shown adjustment.0 (cycle + 1) t reading)
+corrected s hs device h shown cycle adjustment time reading is at reads none sh =
+    let t = told s device h (Corrects cycle adjustment) is in
+    let new = changed_to shown adjustment.0 (cycle + 1) time reading in
+    let last = changed_at_once hs device h t.changes_is in
+    record {
+      state = sh.state ∙ state_on s hs device h (Corrects cycle adjustment) t;
+      adjustment = ap (λ (u : Units). u.0) (adjustment_on s hs device h (Corrects cycle adjustment) t);
+      cycle = cycle_on s hs device h (Corrects cycle adjustment) t;
+      integrated = sh.integrated ∙ integrated_on s hs device h (Corrects cycle adjustment) t;
+      changed = at ∙ last;
+      at_change = ap (λ (r : ℕ). pos r +ℤ adjustment.0) (reads ∙ ap (s.reading device) last);
+      joined = sh.joined ∙ joined_on s hs device h (Corrects cycle adjustment) t;
+      heard = subst (Summarizes silence) (sym (heard_none s hs device h new 0 t.changes_is)) none;
+      no_more = λ points more. heard_none s hs device h new points t.changes_is;
+      come = λ u later. omega arith;
+    }
+
+-- what is shown of a device that a frame has just told the time
+abbrev pub joined_to : Shown → ℤ → ℕ → ℕ → ℕ → Shown
+joined_to shown adjustment cycle t reading = record (changed_to shown adjustment cycle t reading) {
+  state = Joining;
+  integrated = Some cycle;
+  joined = Some t;
+}
+
+pub joined : (s : Scenario) (hs : List Happening) (device : DeviceId) (h : Happening) (shown : Shown) (cycle own : ℕ) (point : Units) (t reading : ℕ)
+    → effect_of s.network device h ≡ Joins cycle own point → cycle ≡ cycle_in h → t ≡ time_of h → reading ≡ s.reading device (time_of h)
+    → Summarizes silence [] → Shows s hs device shown
+    → Shows s (hs ++ h ∷ []) device (joined_to shown (joined_adjustment s device own point).0 cycle t reading)
+joined s hs device h shown cycle own point time reading is of at reads none sh =
+    let e : Effect = Joins cycle own point in
+    let t = told s device h e is in
+    let adjustment : ℤ = (joined_adjustment s device own point).0 in
+    let new = joined_to shown adjustment cycle time reading in
+    let last = changed_at_once hs device h t.changes_is in
+    record {
+      state = state_on s hs device h e t;
+      adjustment = ap (λ (u : Units). u.0) (adjustment_on s hs device h e t);
+      cycle = cycle_on s hs device h e t;
+      integrated = ap (λ (n : ℕ). Some n) of ∙ integrated_on s hs device h e t;
+      changed = at ∙ last;
+      at_change = ap (λ (r : ℕ). pos r +ℤ adjustment) (reads ∙ ap (s.reading device) last);
+      joined = ap (λ (n : ℕ). Some n) at ∙ joined_on s hs device h e t;
+      heard = subst (Summarizes silence) (sym (heard_none s hs device h new 0 t.changes_is)) none;
+      no_more = λ points more. heard_none s hs device h new points t.changes_is;
+      come = λ u later. omega arith;
+    }

@@ -1,0 +1,3 @@
+pub mod CorrectionNumbers
+pub mod Effects
+pub mod Showing

@@ -1,0 +1,8 @@
+//! What the records of a report so far show of each device, at any place of their order.
+#![tactic(auto)]
+
+mod effect;
+mod shown;
+
+pub use effect::Carried;
+pub use shown::{Readings, Shown};
