@@ -1,3 +1,5 @@
 pub mod Tells
 pub mod Grown
 pub mod Steps
+pub mod Points
+pub mod Hearings

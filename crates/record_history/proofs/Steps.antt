@@ -30,39 +30,39 @@ use Rattle.record_history.proofs.Grown.{after_more, after_one, filter_off, filte
 use Rattle.record_history.proofs.Tells.{Tells, adjustment_by, changes_by, cycle_by, hearing_of, joins_by, state_by, tells}
 
 -- the records, and one more
-abbrev with_one : List Happening → Happening → List Happening
+abbrev pub with_one : List Happening → Happening → List Happening
 with_one hs h = hs ++ h ∷ []
 
 -- what the record tells, where its effect is this
-abbrev TellsAs : Scenario → DeviceId → Happening → Effect → Type 0
+abbrev pub TellsAs : Scenario → DeviceId → Happening → Effect → Type 0
 TellsAs s device h e =
     Tells s device (λ old. state_with device old h.note.body) (λ old. adjustment_with s device (cycle_in h) old h.note.body)
     (λ next. cycle_after device next h h.note.body) (is_joined_by device h.note.body) (changes_adjustment device h.note.body)
     (hearing_by s.network device h h.note.body) e
 
-told : (s : Scenario) (device : DeviceId) (h : Happening) (e : Effect) → effect_of s.network device h ≡ e → TellsAs s device h e
+pub told : (s : Scenario) (device : DeviceId) (h : Happening) (e : Effect) → effect_of s.network device h ≡ e → TellsAs s device h e
 told s device h e is = subst (TellsAs s device h) is (tells s device h h.note.body)
 
 -- ---- one more record, by what it tells
 
-state_on : (s : Scenario) (hs : List Happening) (device : DeviceId) (h : Happening) (e : Effect) → TellsAs s device h e
+pub state_on : (s : Scenario) (hs : List Happening) (device : DeviceId) (h : Happening) (e : Effect) → TellsAs s device h e
     → state_by (state_after s hs device) e ≡ state_after s (with_one hs h) device
 state_on s hs device h e t = sym (t.state_is (state_after s hs device)) ∙ sym (fold-append _ _ hs (h ∷ []))
 
-adjustment_on : (s : Scenario) (hs : List Happening) (device : DeviceId) (h : Happening) (e : Effect) → TellsAs s device h e
+pub adjustment_on : (s : Scenario) (hs : List Happening) (device : DeviceId) (h : Happening) (e : Effect) → TellsAs s device h e
     → adjustment_by s device (adjustment_after s hs device) e ≡ adjustment_after s (with_one hs h) device
 adjustment_on s hs device h e t = sym (t.adjustment_is (adjustment_after s hs device)) ∙ sym (fold-append _ _ hs (h ∷ []))
 
-cycle_on : (s : Scenario) (hs : List Happening) (device : DeviceId) (h : Happening) (e : Effect) → TellsAs s device h e
+pub cycle_on : (s : Scenario) (hs : List Happening) (device : DeviceId) (h : Happening) (e : Effect) → TellsAs s device h e
     → cycle_by (recorded_cycle hs device) e ≡ recorded_cycle (with_one hs h) device
 cycle_on s hs device h e t = sym (t.cycle_is (recorded_cycle hs device)) ∙ sym (fold-append _ _ hs (h ∷ []))
 
-integrated_on : (s : Scenario) (hs : List Happening) (device : DeviceId) (h : Happening) (e : Effect) → TellsAs s device h e
+pub integrated_on : (s : Scenario) (hs : List Happening) (device : DeviceId) (h : Happening) (e : Effect) → TellsAs s device h e
     → (if joins_by e then Some (cycle_in h) else integration_cycle hs device) ≡ integration_cycle (with_one hs h) device
 integrated_on s hs device h e t =
     ap (λ (b : Bool). if b then Some (cycle_in h) else integration_cycle hs device) (sym t.joins_is) ∙ sym (fold-append _ _ hs (h ∷ []))
 
-joined_on : (s : Scenario) (hs : List Happening) (device : DeviceId) (h : Happening) (e : Effect) → TellsAs s device h e
+pub joined_on : (s : Scenario) (hs : List Happening) (device : DeviceId) (h : Happening) (e : Effect) → TellsAs s device h e
     → (if joins_by e then Some (time_of h) else last_joining hs device) ≡ last_joining (with_one hs h) device
 joined_on s hs device h e t =
     ap (λ (b : Bool). if b then Some (time_of h) else last_joining hs device) (sym t.joins_is) ∙ sym (fold-append _ _ hs (h ∷ []))
@@ -74,17 +74,17 @@ changed_at_once hs device h is =
     let last : Option Happening → ℕ = λ o. option_map_or time_of o 0 in
     sym (ap (λ (xs : List Happening). last (last_or None xs)) (filter_on test hs h is) ∙ ap last (last_more None (filter test hs) h))
 
-unchanged : (hs : List Happening) (device : DeviceId) (h : Happening) → changes_adjustment device h.note.body ≡ false
+pub unchanged : (hs : List Happening) (device : DeviceId) (h : Happening) → changes_adjustment device h.note.body ≡ false
     → last_change hs device ≡ last_change (with_one hs h) device
 unchanged hs device h is =
     let test : Happening → Bool = λ x. changes_adjustment device x.note.body in
     sym (ap (λ (xs : List Happening). option_map_or time_of (last_or None xs) 0) (filter_off test hs h is))
 
 -- what is heard where a record of no change is added
-abbrev kept_where : Scenario → DeviceId → Shown → ℕ → Happening → Bool
+abbrev pub kept_where : Scenario → DeviceId → Shown → ℕ → Happening → Bool
 kept_where s device shown points h = points == points_by s.network shown (s.reading device (time_of h - 1))
 
-heard_on : (s : Scenario) (hs : List Happening) (device : DeviceId) (h : Happening) (shown : Shown) (points : ℕ)
+pub heard_on : (s : Scenario) (hs : List Happening) (device : DeviceId) (h : Happening) (shown : Shown) (points : ℕ)
     → changes_adjustment device h.note.body ≡ false → heard_at s (with_one hs h) device shown points
     ≡ heard_at s hs device shown points
     ++ filter_map (λ x. hearing_by s.network device x x.note.body) (if kept_where s device shown points h then h ∷ [] else [])
@@ -119,10 +119,10 @@ heard_none s hs device h shown points is =
     let f : Happening → Option Hearing = λ x. hearing_by s.network device x x.note.body in
     ap (λ (xs : List Happening). filter_map f (filter (kept_where s device shown points) xs)) (after_one test hs h is)
 
-front_later : (t : ℕ) (hs : List Happening) (h : Happening) → NoneLater t (with_one hs h) → NoneLater t hs
+pub front_later : (t : ℕ) (hs : List Happening) (h : Happening) → NoneLater t (with_one hs h) → NoneLater t hs
 front_later t hs h later x i = later x (in_left x hs (h ∷ []) i)
 
-one_later : (t : ℕ) (hs : List Happening) (h : Happening) → NoneLater t (with_one hs h) → time_of h ≤ t
+pub one_later : (t : ℕ) (hs : List Happening) (h : Happening) → NoneLater t (with_one hs h) → time_of h ≤ t
 one_later t hs h later = later h (in_right h hs (h ∷ []) (inl refl))
 
 -- ---- the steps
