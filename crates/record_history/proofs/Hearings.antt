@@ -12,7 +12,7 @@ use Rattle.record_history.specs.Effects.{effect_of}
 use Rattle.record_history.specs.Showing.{IsSteady, NoneLater, Shows, heard_at, heard_by_then, points_by}
 use Rattle.record_history.specs.declared.effect.Effect.TheVariants.{Hears}
 use Rattle.record_history.specs.declared.effect.Effect.{Effect}
-use Rattle.record_history.specs.declared.shown.Shown.{Shown}
+use Rattle.record_history.specs.Showing.{Shown}
 use Rattle.run_law.specs.control.Corrections.{hearing_by}
 use Rattle.run_law.specs.records.Happenings.{Happening, time_of}
 use Rattle.run_law.specs.scenario.Scenarios.{Scenario}

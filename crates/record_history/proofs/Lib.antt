@@ -3,3 +3,4 @@ pub mod Grown
 pub mod Steps
 pub mod Points
 pub mod Hearings
+pub mod Follows

@@ -12,10 +12,11 @@ use Rattle.membership.specs.Summary.{Summarizes, Summary, silence}
 use Rattle.net_plan.specs.declared.ids.DeviceId.{DeviceId}
 use Rattle.net_plan.specs.declared.network.Network.{Network}
 use Rattle.record_history.specs.Effects.{carried_by, effect_of}
+use Rattle.record_history.specs.Following.{changed_to, joined_to}
 use Rattle.record_history.specs.Showing.{IsSteady, NoneLater, Shows, heard_at, heard_by_then, last_change, last_joining, points_by, points_from}
 use Rattle.record_history.specs.declared.effect.Effect.TheVariants.{Nothing, Joins, Hears, Corrects, Turns}
 use Rattle.record_history.specs.declared.effect.Effect.{Effect}
-use Rattle.record_history.specs.declared.shown.Shown.{Shown}
+use Rattle.record_history.specs.Showing.{Shown}
 use Rattle.run_law.proofs.runs.Places.{in_left, in_right}
 use Rattle.run_law.specs.control.Corrections.{cycle_after, hearing_by, integration_cycle, recorded_cycle}
 use Rattle.run_law.specs.device.LocalClocks.{changes_adjustment}
@@ -36,7 +37,7 @@ with_one hs h = hs ++ h ∷ []
 -- what the record tells, where its effect is this
 abbrev pub TellsAs : Scenario → DeviceId → Happening → Effect → Type 0
 TellsAs s device h e =
-    Tells s device (λ old. state_with device old h.note.body) (λ old. adjustment_with s device (cycle_in h) old h.note.body)
+    Tells s device (cycle_in h) (λ old. state_with device old h.note.body) (λ old. adjustment_with s device (cycle_in h) old h.note.body)
     (λ next. cycle_after device next h h.note.body) (is_joined_by device h.note.body) (changes_adjustment device h.note.body)
     (hearing_by s.network device h h.note.body) e
 
@@ -162,17 +163,6 @@ quiet s hs device h shown is sh =
       come = λ u later. sh.come u (front_later u hs h later);
     }
 
--- what is shown of a device whose adjustment has just changed
-abbrev pub changed_to : Shown → ℤ → ℕ → ℕ → ℕ → Shown
-changed_to shown adjustment cycle t reading = record shown {
-  adjustment = adjustment;
-  cycle = cycle;
-  changed = t;
-  at_change = pos reading +ℤ adjustment;
-  heard = silence;
-  come = 0;
-}
-
 pub corrected : (s : Scenario) (hs : List Happening) (device : DeviceId) (h : Happening) (shown : Shown) (cycle : ℕ) (adjustment : Units) (t reading : ℕ)
     → effect_of s.network device h ≡ Corrects cycle adjustment → t ≡ time_of h → reading ≡ s.reading device (time_of h)
     → Summarizes silence [] → Shows s hs device shown
@@ -194,19 +184,11 @@ corrected s hs device h shown cycle adjustment time reading is at reads none sh 
       come = λ u later. omega arith;
     }
 
--- what is shown of a device that a frame has just told the time
-abbrev pub joined_to : Shown → ℤ → ℕ → ℕ → ℕ → Shown
-joined_to shown adjustment cycle t reading = record (changed_to shown adjustment cycle t reading) {
-  state = Joining;
-  integrated = Some cycle;
-  joined = Some t;
-}
-
 pub joined : (s : Scenario) (hs : List Happening) (device : DeviceId) (h : Happening) (shown : Shown) (cycle own : ℕ) (point : Units) (t reading : ℕ)
-    → effect_of s.network device h ≡ Joins cycle own point → cycle ≡ cycle_in h → t ≡ time_of h → reading ≡ s.reading device (time_of h)
+    → effect_of s.network device h ≡ Joins cycle own point → t ≡ time_of h → reading ≡ s.reading device (time_of h)
     → Summarizes silence [] → Shows s hs device shown
     → Shows s (hs ++ h ∷ []) device (joined_to shown (joined_adjustment s device own point).0 cycle t reading)
-joined s hs device h shown cycle own point time reading is of at reads none sh =
+joined s hs device h shown cycle own point time reading is at reads none sh =
     let e : Effect = Joins cycle own point in
     let t = told s device h e is in
     let adjustment : ℤ = (joined_adjustment s device own point).0 in
@@ -216,7 +198,7 @@ joined s hs device h shown cycle own point time reading is of at reads none sh =
       state = state_on s hs device h e t;
       adjustment = ap (λ (u : Units). u.0) (adjustment_on s hs device h e t);
       cycle = cycle_on s hs device h e t;
-      integrated = ap (λ (n : ℕ). Some n) of ∙ integrated_on s hs device h e t;
+      integrated = ap (λ (n : ℕ). Some n) t.frame_is ∙ integrated_on s hs device h e t;
       changed = at ∙ last;
       at_change = ap (λ (r : ℕ). pos r +ℤ adjustment) (reads ∙ ap (s.reading device) last);
       joined = ap (λ (n : ℕ). Some n) at ∙ joined_on s hs device h e t;

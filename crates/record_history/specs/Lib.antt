@@ -1,3 +1,4 @@
 pub mod CorrectionNumbers
 pub mod Effects
+pub mod Following
 pub mod Showing

@@ -8,7 +8,6 @@ use Rattle.membership.specs.Summary.{Summarizes, Summary, silence}
 use Rattle.net_plan.specs.declared.ids.DeviceId.{DeviceId}
 use Rattle.net_plan.specs.declared.network.Network.{Network}
 use Rattle.record_history.specs.declared.shown.Readings.{Readings}
-use Rattle.record_history.specs.declared.shown.Shown.{Shown}
 use Rattle.run_law.specs.control.Corrections.{correction_value, hearing_by, integration_cycle, recorded_cycle}
 use Rattle.run_law.specs.device.LocalClocks.{changes_adjustment}
 use Rattle.run_law.specs.device.Standpoints.{natural}
@@ -16,6 +15,21 @@ use Rattle.run_law.specs.device.States.{adjustment_after, is_joined_by, state_af
 use Rattle.run_law.specs.records.Happenings.{Happening, time_of}
 use Rattle.run_law.specs.records.Order.{IsIn}
 use Rattle.run_law.specs.scenario.Scenarios.{Scenario}
+use Rattle.sync_state.specs.declared.state.State.{State}
+
+-- what is shown of a device: its state, its adjustment, the next correction point's cycle that the records leave, the
+-- cycle of the frame that told it the time last, when its adjustment changed last, what its clock showed then, when a
+-- frame told it the time last, and what was heard where so many correction points had come since
+pub record Shown : Type 0 where
+  pub state : State
+  pub adjustment : ℤ
+  pub cycle : ℕ
+  pub integrated : Option ℕ
+  pub changed : ℕ
+  pub at_change : ℤ
+  pub joined : Option ℕ
+  pub heard : Summary
+  pub come : ℕ
 
 -- how many correction points a clock has come to that now shows `local`, by its adjustment from where it showed
 -- `at_change`; the first is that of the cycle

@@ -2,6 +2,7 @@
 #![tactic(auto)]
 
 mod effect;
+mod expected;
 mod shown;
 
 pub use effect::Carried;
