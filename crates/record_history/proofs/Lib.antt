@@ -4,3 +4,4 @@ pub mod Steps
 pub mod Points
 pub mod Hearings
 pub mod Follows
+pub mod MarkOrder

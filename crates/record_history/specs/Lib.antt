@@ -1,4 +1,6 @@
 pub mod CorrectionNumbers
 pub mod Effects
 pub mod Following
+pub mod Keeping
+pub mod Marks
 pub mod Showing

@@ -3,7 +3,9 @@
 
 mod effect;
 mod expected;
+mod mark;
 mod shown;
 
 pub use effect::Carried;
+pub use mark::Mark;
 pub use shown::{Readings, Shown};
