@@ -5,3 +5,4 @@ pub mod Points
 pub mod Hearings
 pub mod Follows
 pub mod MarkOrder
+pub mod Partitions

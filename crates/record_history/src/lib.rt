@@ -3,6 +3,7 @@
 
 mod effect;
 mod expected;
+mod history;
 mod mark;
 mod shown;
 
