@@ -6,3 +6,5 @@ pub mod Hearings
 pub mod Follows
 pub mod MarkOrder
 pub mod Partitions
+pub mod Kept
+pub mod KeptAll

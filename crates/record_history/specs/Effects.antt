@@ -52,3 +52,11 @@ effect_by network device carried other = Nothing
 -- what a record shows of the device
 abbrev pub effect_of : Network → DeviceId → Happening → Effect
 effect_of network device h = effect_by network device (carried_by h) h.note.body
+
+-- the device that a record shows something of, if it is of a kind that does
+abbrev pub subject_of : NoteBody → Option DeviceId
+subject_of (notes.Permanent device link cause point verdict) = Some device
+subject_of (notes.Compressed device opened at cycle members verdict) = Some device
+subject_of (notes.Corrected device cycle by adjustment) = Some device
+subject_of (notes.State device state cause why) = Some device
+subject_of other = None

@@ -3,31 +3,25 @@ use Rattle.std.specs.Prelude.{◌≡◌, List, [], ◌∷◌, ◌++◌, filter, 
 use Rattle.std.specs.List.{last_or}
 use Rattle.std.specs.List.Sorted.{IsPartitionedBy}
 use Rattle.std.specs.Option.{option_map_or}
-use Rattle.std.specs.Prelude.{ℕ, slice_get}
+use Rattle.std.specs.Prelude.{ℕ, length, slice_get}
 use Rattle.net_plan.specs.declared.ids.DeviceId.{DeviceId}
+use Rattle.net_plan.specs.declared.network.Network.{Network}
+use Rattle.record_history.specs.Effects.{subject_of}
 use Rattle.record_history.specs.Following.{IsMet}
 use Rattle.record_history.specs.Marks.{IsMarkOf, is_mark_before, mark_of}
-use Rattle.record_history.specs.Showing.{Shown, Shows}
+use Rattle.record_history.specs.Showing.{IsSteady, Shown, Shows}
 use Rattle.record_history.specs.declared.effect.Carried.{Carried}
 use Rattle.record_history.specs.declared.history.Entry.{Entry}
 use Rattle.record_history.specs.declared.history.History.{History}
 use Rattle.record_history.specs.declared.mark.Mark.{Mark}
 use Rattle.record_history.specs.declared.shown.Readings.{Readings}
-use Rattle.run_law.specs.declared.note.NoteBody.TheVariants as notes
+use Rattle.record_history.specs.declared.standings.Standings.{Standings}
 use Rattle.run_law.specs.declared.note.NoteBody.{NoteBody}
 use Rattle.run_law.specs.records.Causes.{device_of}
 use Rattle.run_law.specs.records.Happenings.{Happening}
 use Rattle.run_law.specs.records.Order.{IsIn, is_before}
 use Rattle.run_law.specs.records.Ranks.{place_of}
 use Rattle.run_law.specs.scenario.Scenarios.{Scenario}
-
--- the device that a record shows something of, if it is of a kind that does
-abbrev pub subject_of : NoteBody → Option DeviceId
-subject_of (notes.Permanent device link cause point verdict) = Some device
-subject_of (notes.Compressed device opened at cycle members verdict) = Some device
-subject_of (notes.Corrected device cycle by adjustment) = Some device
-subject_of (notes.State device state cause why) = Some device
-subject_of other = None
 
 -- what was shown last, or at first
 abbrev pub latest_of : History → Shown
@@ -73,3 +67,16 @@ pub record IsSeen (s : Scenario) (h : Happening) (t : ℕ) (body : NoteBody) (ca
     (readings : Readings) : Type 0 where
   pub body_is : h.note.body ≡ body
   pub met : (device : DeviceId) → subject_of body ≡ Some device → IsMet s device h t body carried readings
+
+-- the same, of the standings
+abbrev pub Stands : Scenario → List Happening → Standings → Type 0
+Stands s hs standings = KeepsAll s hs standings.histories.items
+
+-- how many devices they are of
+abbrev pub device_count : Standings → ℕ
+device_count standings = length standings.histories.items
+
+-- nothing is kept of the device but what is shown at first
+pub record IsFresh (network : Network) (device : DeviceId) (history : History) : Type 0 where
+  pub none : history.entries.items ≡ []
+  pub shows : (s : Scenario) → s.network ≡ network → IsSteady s device → Shows s [] device history.first

@@ -1,6 +1,9 @@
-ghost use Rattle.std.specs.Prelude.{◌≡◌, ◌∷◌, ◌++◌, [], List, is_ok, if◌then◌else◌};
+ghost use Rattle.std.specs.Prelude.{◌≡◌, ◌∷◌, ◌++◌, [], List, is_ok, if◌then◌else◌, OnOk};
+ghost use Rattle.net_plan.specs.Ranges.{IsInRange};
 
-use crate::{Mark, Shown};
+use crate::{Carried, Mark, Readings, Shown};
+use net_plan::{DeviceId, Network};
+use run_law::NoteBody;
 use std::alloc::{AllocError, Global};
 
 /// What the records up to that of the mark show of a device.
@@ -18,7 +21,13 @@ pub(crate) struct History {
 }
 
 impl History {
-    ghost use Rattle.record_history.specs.Keeping.{IsInOrder, latest_of, shown_before};
+    ghost use Rattle.record_history.specs.Following.{IsMet};
+    ghost use Rattle.record_history.specs.Keeping.{IsInOrder, Keeps, latest_of, shown_before};
+    ghost use Rattle.run_law.specs.records.Causes.{device_of};
+    ghost use Rattle.run_law.specs.records.Happenings.{Happening};
+    ghost use Rattle.run_law.specs.records.Order.{AllBefore};
+    ghost use Rattle.run_law.specs.records.Ranks.{place_of};
+    ghost use Rattle.run_law.specs.scenario.Scenarios.{Scenario};
 
     /// Nothing but what is shown at first.
     pub(crate) fn new(alloc: Global, first: Shown) -> History
@@ -39,6 +48,26 @@ impl History {
     {
         self.entries.push(Entry { mark, shown })?;
         Ok(())
+    }
+
+    /// Goes on by a record of the device, which stands behind all so far.
+    pub(crate) fn take(
+        &mut self,
+        network: &Network,
+        device: DeviceId,
+        time: u64,
+        body: &NoteBody,
+        carried: Carried,
+        readings: Readings,
+    ) -> Result<(), AllocError>
+        requires { IsInRange network.now }
+        ensures { (s : Scenario) (hs : List Happening) (h : Happening) → s.network ≡ network.now
+            → IsMet s device h time body.now carried readings → device_of h.note.body ≡ Some device
+            → AllBefore place_of hs (place_of h) → Keeps s hs device self.old
+            → OnOk result (Keeps s (hs ++ h ∷ []) device self.new) }
+    {
+        let shown = self.latest().after(network, device, time, body, carried, readings);
+        self.push(Mark::of(time, carried.members, body), shown)
     }
 
     /// What was shown last.

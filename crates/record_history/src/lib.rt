@@ -6,7 +6,10 @@ mod expected;
 mod history;
 mod mark;
 mod shown;
+mod standings;
+mod subject;
 
 pub use effect::Carried;
 pub use mark::Mark;
 pub use shown::{Readings, Shown};
+pub use standings::Standings;
