@@ -30,7 +30,7 @@ by_effect s hs device h t body carried readings old new (Turns state) range none
 by_effect s hs device h t body carried readings old new (Corrects cycle adjustment) range none met late sh is new_is =
     subst (ShowsNew s hs device h) (sym new_is) (corrected s hs device h old cycle adjustment t readings.now is met.time met.reading.now none sh)
 by_effect s hs device h t body carried readings old new (Joins cycle own point) range none met late sh is new_is =
-    subst (ShowsNew s hs device h) (sym new_is) (joined s hs device h old cycle own point t readings.now is met.time met.reading.now none sh)
+    subst (ShowsNew s hs device h) (sym new_is) (joined s hs device h old cycle own point t readings.now is late met.time met.reading.now none sh)
 by_effect s hs device h t body carried readings old new (Hears channel frame within) range none met late sh is has =
     let points = ap (points_by s.network old) met.reading.before in
     subst (ShowsNew s hs device h) (sym has.is)

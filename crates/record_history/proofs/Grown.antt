@@ -20,11 +20,11 @@ same_kept {X} p q (x ∷ xs) agree =
     ap (λ (b : Bool). if b then x ∷ filter p xs else filter p xs) (agree x (inl refl))
     ∙ ap (λ (t : List X). if q x then x ∷ t else t) (same_kept p q xs (λ y i. agree y (inr i)))
 
-all_of : {X : Type 0} (P : X → Type 0) (xs : List X) → ((x : X) → IsIn x xs → P x) → All P xs
+pub all_of : {X : Type 0} (P : X → Type 0) (xs : List X) → ((x : X) → IsIn x xs → P x) → All P xs
 all_of P [] each = All-nil P
 all_of P (x ∷ xs) each = All-cons P x xs (each x (inl refl)) (all_of P xs (λ y i. each y (inr i)))
 
-all_turned : {X : Type 0} (P : X → Type 0) (xs : List X) → All P xs → All P (reverse xs)
+pub all_turned : {X : Type 0} (P : X → Type 0) (xs : List X) → All P xs → All P (reverse xs)
 all_turned P [] h = h
 all_turned P (x ∷ xs) h =
     subst (All P) (sym (reverse-append (x ∷ []) xs))

@@ -18,7 +18,7 @@ use Rattle.run_law.specs.records.Happenings.{Happening, time_of}
 use Rattle.run_law.specs.scenario.Scenarios.{Scenario}
 use Rattle.tte_units.specs.declared.units.Units.{Units}
 use Rattle.record_history.proofs.Points.{points_mono}
-use Rattle.record_history.proofs.Steps.{TellsAs, adjustment_on, cycle_on, front_later, heard_on, integrated_on, joined_on, kept_where, one_later, state_on, told, unchanged}
+use Rattle.record_history.proofs.Steps.{TellsAs, adjustment_on, cycle_on, front_later, heard_on, integrated_on, joined_on, kept_where, not_joined, one_later, state_on, told, unchanged}
 use Rattle.std.specs.Prelude.{pos, ◌+ℤ◌}
 
 same_is : (n : ℕ) → (n == n) ≡ true
@@ -87,6 +87,7 @@ heard_one s hs device h shown hearing points heard is number range steady late n
       changed = sh.changed ∙ unchanged hs device h t.changes_is;
       at_change = sh.at_change ∙ ap (λ (c : ℕ). pos (s.reading device c) +ℤ shown.adjustment) (unchanged hs device h t.changes_is);
       joined = sh.joined ∙ joined_on s hs device h e t;
+      joined_at = λ u later. not_joined s hs device h e u t refl ∙ sh.joined_at u (front_later u hs h later);
       heard =
           subst (Summarizes heard) (sym (heard_there s hs device h shown hearing points t number))
           (hears (heard_at s hs device shown points) before);

@@ -8,3 +8,4 @@ pub mod MarkOrder
 pub mod Partitions
 pub mod Kept
 pub mod KeptAll
+pub mod Reading

@@ -1,12 +1,14 @@
 -- What the records show of a device, with one more record.
 use Rattle.std.proofs.Common.{◌≡◌, ℕ, ◌+◌, ◌-◌, ◌<◌, ◌≤◌, ℤ, pos, Bool, true, false, List, [], ◌∷◌, ◌++◌, Option, Some, None, filter, inl, inr, refl, sym, ap, subst, ◌∙◌, arith, if◌then◌else◌}
-use Rattle.std.proofs.lemmas.Bool.{cases_order}
+use Rattle.std.proofs.lemmas.Bool.{cases_lt, eq-eqb, ne_eqb}
+use Rattle.std.proofs.lemmas.List.Folds.{list_any-append}
 use Rattle.std.proofs.lemmas.List.{append-nil}
 use Rattle.std.proofs.lemmas.List.Elements.{filter-append, filter_map-append}
 use Rattle.std.proofs.lemmas.List.Sums.{fold-append}
 use Rattle.std.specs.List.{after_last, cons_option, filter_map, last_or}
 use Rattle.std.specs.Option.{option_map_or}
-use Rattle.std.specs.Prelude.{◌+ℤ◌, ◌==◌, fold}
+use Rattle.std.specs.List.{list_any}
+use Rattle.std.specs.Prelude.{◌&&◌, ◌+ℤ◌, ◌==◌, ◌||◌, fold}
 use Rattle.membership.specs.Hearing.{Hearing}
 use Rattle.membership.specs.Summary.{Summarizes, Summary, silence}
 use Rattle.net_plan.specs.declared.ids.DeviceId.{DeviceId}
@@ -20,7 +22,7 @@ use Rattle.record_history.specs.Showing.{Shown}
 use Rattle.run_law.proofs.runs.Places.{in_left, in_right}
 use Rattle.run_law.specs.control.Corrections.{cycle_after, hearing_by, integration_cycle, recorded_cycle}
 use Rattle.run_law.specs.device.LocalClocks.{changes_adjustment}
-use Rattle.run_law.specs.device.States.{adjustment_after, adjustment_with, cycle_in, is_joined_by, joined_adjustment, state_after, state_with}
+use Rattle.run_law.specs.device.States.{adjustment_after, adjustment_with, cycle_in, has_joined_at, is_joined_by, joined_adjustment, state_after, state_with}
 use Rattle.run_law.specs.records.Happenings.{Happening, time_of}
 use Rattle.run_law.specs.records.Order.{IsIn}
 use Rattle.run_law.specs.scenario.Scenarios.{Scenario}
@@ -120,6 +122,59 @@ heard_none s hs device h shown points is =
     let f : Happening → Option Hearing = λ x. hearing_by s.network device x x.note.body in
     ap (λ (xs : List Happening). filter_map f (filter (kept_where s device shown points) xs)) (after_one test hs h is)
 
+has_joined_on : (s : Scenario) (hs : List Happening) (device : DeviceId) (h : Happening) (e : Effect) (t : ℕ) → TellsAs s device h e
+    → has_joined_at (with_one hs h) device t ≡ (has_joined_at hs device t || (time_of h == t && joins_by e))
+has_joined_on s hs device h e t told =
+    list_any-append (λ x. time_of x == t && is_joined_by device x.note.body) hs (h ∷ [])
+    ∙ ap (λ (b : Bool). has_joined_at hs device t || b) (last (time_of h == t && is_joined_by device h.note.body))
+    ∙ ap (λ (b : Bool). has_joined_at hs device t || (time_of h == t && b)) told.joins_is
+  where
+    last : (b : Bool) → (b || false) ≡ b
+    last true = refl
+    last false = refl
+
+none_more : (a b : Bool) → (a || (b && false)) ≡ a
+none_more true b = refl
+none_more false true = refl
+none_more false false = refl
+
+-- no frame tells it the time at this time by a record that tells it of none
+pub not_joined : (s : Scenario) (hs : List Happening) (device : DeviceId) (h : Happening) (e : Effect) (t : ℕ) → TellsAs s device h e
+    → joins_by e ≡ false → has_joined_at (with_one hs h) device t ≡ has_joined_at hs device t
+not_joined s hs device h e t told none =
+    has_joined_on s hs device h e t told
+    ∙ ap (λ (b : Bool). has_joined_at hs device t || (time_of h == t && b)) none
+    ∙ none_more (has_joined_at hs device t) (time_of h == t)
+
+none_earlier : (hs : List Happening) (device : DeviceId) (t : ℕ) → ((x : Happening) → IsIn x hs → time_of x < t) → has_joined_at hs device t ≡ false
+none_earlier [] device t each = refl
+none_earlier (x ∷ hs) device t each =
+    ap (λ (b : Bool). (b && is_joined_by device x.note.body) || has_joined_at hs device t)
+    (ne_eqb (time_of x) t (λ e. absurd (omega (arith, e, each x (inl refl)))))
+    ∙ none_earlier hs device t (λ y i. each y (inr i))
+
+-- at the time of a record by which one does, it is that of the last that does
+joined_last : (s : Scenario) (hs : List Happening) (device : DeviceId) (h : Happening) (e : Effect) (t : ℕ) → TellsAs s device h e
+    → joins_by e ≡ true → NoneLater (time_of h) hs → time_of h ≤ t → has_joined_at (with_one hs h) device t ≡ (time_of h == t)
+joined_last s hs device h e t told joins late le =
+    has_joined_on s hs device h e t told
+    ∙ ap (λ (b : Bool). has_joined_at hs device t || (time_of h == t && b)) joins
+    ∙ elim (cases_lt (time_of h) t) [
+      | inl lt ↦
+          ap (λ (b : Bool). b || (time_of h == t && true)) (none_earlier hs device t (λ x i. omega (arith, lt, late x i)))
+          ∙ whole (time_of h == t)
+      | inr ge ↦
+          let here : (time_of h == t) ≡ true = eq-eqb (time_of h) t (omega (arith, le, ge)) in
+          ap (λ (b : Bool). has_joined_at hs device t || (b && true)) here ∙ always (has_joined_at hs device t) ∙ sym here
+    ]
+  where
+    whole : (b : Bool) → (b && true) ≡ b
+    whole true = refl
+    whole false = refl
+    always : (b : Bool) → (b || true) ≡ true
+    always true = refl
+    always false = refl
+
 pub front_later : (t : ℕ) (hs : List Happening) (h : Happening) → NoneLater t (with_one hs h) → NoneLater t hs
 front_later t hs h later x i = later x (in_left x hs (h ∷ []) i)
 
@@ -141,6 +196,7 @@ turned s hs device h shown state is sh =
       changed = sh.changed ∙ unchanged hs device h t.changes_is;
       at_change = sh.at_change ∙ ap (λ (c : ℕ). pos (s.reading device c) +ℤ shown.adjustment) (unchanged hs device h t.changes_is);
       joined = sh.joined ∙ joined_on s hs device h (Turns state) t;
+      joined_at = λ u later. not_joined s hs device h (Turns state) u t refl ∙ sh.joined_at u (front_later u hs h later);
       heard = subst (Summarizes shown.heard) (sym (heard_same s hs device h shown shown.come t.changes_is t.hears_is)) sh.heard;
       no_more = λ points more. heard_same s hs device h shown points t.changes_is t.hears_is ∙ sh.no_more points more;
       come = λ u later. sh.come u (front_later u hs h later);
@@ -158,6 +214,7 @@ quiet s hs device h shown is sh =
       changed = sh.changed ∙ unchanged hs device h t.changes_is;
       at_change = sh.at_change ∙ ap (λ (c : ℕ). pos (s.reading device c) +ℤ shown.adjustment) (unchanged hs device h t.changes_is);
       joined = sh.joined ∙ joined_on s hs device h Nothing t;
+      joined_at = λ u later. not_joined s hs device h Nothing u t refl ∙ sh.joined_at u (front_later u hs h later);
       heard = subst (Summarizes shown.heard) (sym (heard_same s hs device h shown shown.come t.changes_is t.hears_is)) sh.heard;
       no_more = λ points more. heard_same s hs device h shown points t.changes_is t.hears_is ∙ sh.no_more points more;
       come = λ u later. sh.come u (front_later u hs h later);
@@ -179,16 +236,18 @@ corrected s hs device h shown cycle adjustment time reading is at reads none sh 
       changed = at ∙ last;
       at_change = ap (λ (r : ℕ). pos r +ℤ adjustment.0) (reads ∙ ap (s.reading device) last);
       joined = sh.joined ∙ joined_on s hs device h (Corrects cycle adjustment) t;
+      joined_at = λ u later.
+          not_joined s hs device h (Corrects cycle adjustment) u t refl ∙ sh.joined_at u (front_later u hs h later);
       heard = subst (Summarizes silence) (sym (heard_none s hs device h new 0 t.changes_is)) none;
       no_more = λ points more. heard_none s hs device h new points t.changes_is;
       come = λ u later. omega arith;
     }
 
 pub joined : (s : Scenario) (hs : List Happening) (device : DeviceId) (h : Happening) (shown : Shown) (cycle own : ℕ) (point : Units) (t reading : ℕ)
-    → effect_of s.network device h ≡ Joins cycle own point → t ≡ time_of h → reading ≡ s.reading device (time_of h)
+    → effect_of s.network device h ≡ Joins cycle own point → NoneLater (time_of h) hs → t ≡ time_of h → reading ≡ s.reading device (time_of h)
     → Summarizes silence [] → Shows s hs device shown
     → Shows s (hs ++ h ∷ []) device (joined_to shown (joined_adjustment s device own point).0 cycle t reading)
-joined s hs device h shown cycle own point time reading is at reads none sh =
+joined s hs device h shown cycle own point time reading is late at reads none sh =
     let e : Effect = Joins cycle own point in
     let t = told s device h e is in
     let adjustment : ℤ = (joined_adjustment s device own point).0 in
@@ -202,6 +261,8 @@ joined s hs device h shown cycle own point time reading is at reads none sh =
       changed = at ∙ last;
       at_change = ap (λ (r : ℕ). pos r +ℤ adjustment) (reads ∙ ap (s.reading device) last);
       joined = ap (λ (n : ℕ). Some n) at ∙ joined_on s hs device h e t;
+      joined_at = λ u later.
+          joined_last s hs device h e u t refl late (one_later u hs h later) ∙ ap (λ (n : ℕ). n == u) (sym at);
       heard = subst (Summarizes silence) (sym (heard_none s hs device h new 0 t.changes_is)) none;
       no_more = λ points more. heard_none s hs device h new points t.changes_is;
       come = λ u later. omega arith;

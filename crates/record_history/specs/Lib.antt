@@ -3,4 +3,5 @@ pub mod Effects
 pub mod Following
 pub mod Keeping
 pub mod Marks
+pub mod Reading
 pub mod Showing

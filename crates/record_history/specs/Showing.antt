@@ -11,7 +11,7 @@ use Rattle.record_history.specs.declared.shown.Readings.{Readings}
 use Rattle.run_law.specs.control.Corrections.{correction_value, hearing_by, integration_cycle, recorded_cycle}
 use Rattle.run_law.specs.device.LocalClocks.{changes_adjustment}
 use Rattle.run_law.specs.device.Standpoints.{natural}
-use Rattle.run_law.specs.device.States.{adjustment_after, is_joined_by, state_after}
+use Rattle.run_law.specs.device.States.{adjustment_after, has_joined_at, is_joined_by, state_after}
 use Rattle.run_law.specs.records.Happenings.{Happening, time_of}
 use Rattle.run_law.specs.records.Order.{IsIn}
 use Rattle.run_law.specs.scenario.Scenarios.{Scenario}
@@ -65,6 +65,10 @@ heard_at s hs device shown points =
 abbrev pub NoneLater : ℕ → List Happening → Type 0
 NoneLater t hs = (h : Happening) → IsIn h hs → time_of h ≤ t
 
+-- is it this time?
+abbrev pub is_at : ℕ → Option ℕ → Bool
+is_at t at = option_map_or (λ u. u == t) at false
+
 -- this is what the records show of the device
 pub record Shows (s : Scenario) (hs : List Happening) (device : DeviceId) (shown : Shown) : Type 0 where
   pub state : shown.state ≡ state_after s hs device
@@ -74,6 +78,7 @@ pub record Shows (s : Scenario) (hs : List Happening) (device : DeviceId) (shown
   pub changed : shown.changed ≡ last_change hs device
   pub at_change : shown.at_change ≡ (pos (s.reading device (last_change hs device)) +ℤ shown.adjustment)
   pub joined : shown.joined ≡ last_joining hs device
+  pub joined_at : (t : ℕ) → NoneLater t hs → has_joined_at hs device t ≡ is_at t shown.joined
   pub heard : Summarizes shown.heard (heard_at s hs device shown shown.come)
   pub no_more : (points : ℕ) → shown.come < points → heard_at s hs device shown points ≡ []
   pub come : (t : ℕ) → NoneLater t hs → shown.come ≤ points_by s.network shown (s.reading device (t - 1))

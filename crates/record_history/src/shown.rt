@@ -1,4 +1,4 @@
-ghost use Rattle.std.specs.Prelude.{◌≡◌, ◌+◌, ◌-◌, ◌∷◌, ◌++◌, ◌≤◌, ◌≤ℤ◌, ◌^◌, [], List, neg_ℤ, pos, ◌+ℤ◌, ◌-ℤ◌};
+ghost use Rattle.std.specs.Prelude.{◌≡◌, ◌+◌, ◌-◌, ◌∷◌, ◌++◌, ◌≤◌, ◌≤ℤ◌, ◌^◌, [], List, ℕ, neg_ℤ, pos, ◌+ℤ◌, ◌-ℤ◌};
 ghost use Rattle.net_plan.specs.Ranges.{IsInRange};
 ghost use Rattle.run_law.specs.control.Corrections.{correction_value};
 ghost use Rattle.run_law.specs.device.Standpoints.{natural};
@@ -76,11 +76,15 @@ impl Model for Shown {
 }
 
 impl Shown {
-    ghost use Rattle.run_law.specs.records.Happenings.{Happening, time_of};
-    ghost use Rattle.run_law.specs.scenario.Scenarios.{Scenario};
-    ghost use Rattle.membership.specs.Summary.{Summary};
+    ghost use Rattle.net_plan.specs.declared.ids.DeviceId.{DeviceId};
+    ghost use Rattle.record_history.specs.CorrectionNumbers.{heard_since_point, next_number};
+    ghost use Rattle.record_history.specs.Reading.{OnlyJoined, ReadBefore};
+    ghost use Rattle.run_law.specs.device.States.{adjustment_at_hearing, has_joined_at, state_before};
+    ghost use Rattle.run_law.specs.records.Happenings.{Happening, earlier, time_of};
+    ghost use Rattle.run_law.specs.scenario.Scenarios.{Scenario, is_turned_on_at};
+    ghost use Rattle.membership.specs.Summary.{Summarizes, Summary};
     ghost use Rattle.record_history.specs.Following.{Follows, HearsOne, IsMet, adjustment_at, changed_to, joined_to};
-    ghost use Rattle.record_history.specs.Showing.{IsSteady, NoneLater, Shows, heard_by_then, points_by};
+    ghost use Rattle.record_history.specs.Showing.{IsAfter, IsSteady, NoneLater, Shows, heard_by_then, points_by};
 
     /// What no record shows of the device: it stands as the network says.
     pub fn new(network: &Network, device: DeviceId) -> Shown
@@ -126,7 +130,8 @@ impl Shown {
     /// of time ago.
     pub fn points_come(&self, network: &Network, before: u64) -> u64
         requires { IsInRange network.now }
-        ensures { result ≡ points_by network.now self.now before }
+        ensures value { result ≡ points_by network.now self.now before }
+        ensures few { result ≤ 2 ^ 50 }
     {
         let first = first_value(network, self.cycle) as i128;
         let local = i128::from(before) + self.adjustment;
@@ -135,6 +140,61 @@ impl Shown {
         } else {
             0
         }
+    }
+
+    /// The cycle of the device's next correction point at a time, by what the records of earlier times show.
+    pub fn next_number(&self, network: &Network, before: u64) -> u64
+        requires { IsInRange network.now }
+        ensures { (s : Scenario) (hs : List Happening) (device : DeviceId) (t : ℕ)
+            → ReadBefore s network.now device t before → Shows s (earlier t hs) device self.now
+            → result ≡ next_number s hs device t }
+    {
+        self.cycle + self.points_come(network, before)
+    }
+
+    /// What the device has heard since its last correction point before a time. This is what records show of which
+    /// none is later, and none of the time changes the adjustment.
+    pub fn heard_since(&self, network: &Network, before: u64) -> Heard
+        requires { IsInRange network.now }
+        ensures { (s : Scenario) (hs : List Happening) (device : DeviceId) (t : ℕ)
+            → ReadBefore s network.now device t before → IsAfter hs device t → Shows s hs device self.now
+            → Summarizes result (heard_since_point s hs device t) }
+    {
+        self.heard_by(self.points_come(network, before))
+    }
+
+    /// The device's state when something comes at a time, by what the records of earlier times show.
+    pub fn state_before(&self, turned_on: bool) -> State
+        ensures { (s : Scenario) (hs : List Happening) (device : DeviceId) (t : ℕ)
+            → turned_on ≡ is_turned_on_at s device t → Shows s (earlier t hs) device self.now
+            → result ≡ state_before s hs device t }
+    {
+        if turned_on {
+            State::Integrating
+        } else {
+            self.state
+        }
+    }
+
+    /// Whether a frame has told the device the time at this very time, by records of which none is later.
+    pub fn has_joined_at(&self, time: u64) -> bool
+        ensures { (s : Scenario) (hs : List Happening) (device : DeviceId) → NoneLater time hs
+            → Shows s hs device self.now → result ≡ has_joined_at hs device time }
+    {
+        match self.joined {
+            Some(joined) => joined == time,
+            None => false,
+        }
+    }
+
+    /// The adjustment when the device hears a frame at a time: that which records of which none is later show, where
+    /// of this time none but frames that told the time changed it.
+    pub fn adjustment_at_hearing(&self) -> i128
+        ensures { (s : Scenario) (hs : List Happening) (device : DeviceId) (t : ℕ) → NoneLater t hs
+            → OnlyJoined hs device t → Shows s hs device self.now
+            → result ≡ (adjustment_at_hearing s hs device t).0 }
+    {
+        self.adjustment()
     }
 
     /// What was heard since the last of so many correction points.

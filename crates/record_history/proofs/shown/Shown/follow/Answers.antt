@@ -13,4 +13,4 @@ returns-in-Hears c =
     let there : HasHeard old c.points_come-points.result hearing new =
     record { heard = new.heard; hears = c.hear.ensures.heard; is = c.hear.ensures.value } in
     subst (λ (e : Effect). Follows c.args.network.now c.args.device c.args.time c.args.readings e old new) (sym c.in-Hears.is)
-    (subst (λ (n : ℕ). HasHeard old n hearing new) c.points_come-points.ensures there)
+    (subst (λ (n : ℕ). HasHeard old n hearing new) c.points_come-points.ensures.value there)

@@ -7,8 +7,8 @@ use Rattle.record_history.proofs.Points.{has_passed, le_denied, le_told, lt_deni
 use Rattle.record_history.proofs.shown.Shown.points_come.Goals as goal
 use Rattle.record_history.proofs.shown.Shown.points_come.Goals.{else-self-first-via-then-self-first+else-first-local, else-self-first-via-else-self-first}
 
-pub returns-then-first-local : goal.returns-then-first-local
-returns-then-first-local c =
+pub returns-then-first-local-clause-value : goal.returns-then-first-local-clause-value
+returns-then-first-local-clause-value c =
     let network = c.args.network.now in
     let before = c.args.before in
     let first = c.first_value-first.result in
@@ -39,8 +39,8 @@ returns-then-first-local c =
     (then_comes network old before first _ c.cycles_in.result c.first_value-first.ensures.value below reached
     (omega (arith, ints, reached, most, c.ranges.before.fits, c.from.ensures, bounds.least, bounds.most)) c.cycles_in.ensures.value)
 
-pub returns-else-self-first : goal.returns-else-self-first
-returns-else-self-first c =
+pub returns-else-self-first-clause-value : goal.returns-else-self-first-clause-value
+returns-else-self-first-clause-value c =
     let network = c.args.network.now in
     let before = c.args.before in
     let first = c.first_value-first.result in
