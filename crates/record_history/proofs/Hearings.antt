@@ -1,6 +1,6 @@
 -- What is shown with one more record by which the device hears a frame.
-use Rattle.std.proofs.Common.{◌≡◌, ◌≢◌, ℕ, ◌+◌, ◌-◌, ◌<◌, ◌≤◌, Bool, true, false, List, [], ◌∷◌, ◌++◌, Option, Some, None, inl, inr, refl, sym, ap, subst, ◌∙◌, arith, if◌then◌else◌}
-use Rattle.std.proofs.lemmas.Bool.{cases_order, cases_lt, eq-eqb, ne_eqb}
+use Rattle.std.proofs.Common.{◌≡◌, ℕ, ◌-◌, ◌<◌, ◌≤◌, Bool, true, false, List, [], ◌∷◌, ◌++◌, Option, inl, inr, refl, sym, ap, subst, ◌∙◌, arith, if◌then◌else◌}
+use Rattle.std.proofs.lemmas.Bool.{cases_lt, eq-eqb, ne_eqb}
 use Rattle.std.proofs.lemmas.List.{append-nil}
 use Rattle.std.specs.List.{cons_option, filter_map}
 use Rattle.std.specs.Prelude.{◌==◌}
@@ -94,6 +94,10 @@ heard_one s hs device h shown hearing points heard is number range steady late n
       no_more = λ more lt. heard_else s hs device h shown hearing points more t number lt ∙ sh.no_more more (omega (arith, from, lt));
       come = λ u later.
           let after = one_later u hs h later in
-          omega (arith, number, points_mono s.network shown (s.reading device (time_of h - 1)) (s.reading device (u - 1)) range
-          (steady.never_falls (time_of h - 1) (u - 1) (omega (arith, after))));
+          omega (
+            arith,
+            number,
+            points_mono s.network shown (s.reading device (time_of h - 1)) (s.reading device (u - 1)) range
+                (steady.never_falls (time_of h - 1) (u - 1) (omega (arith, after))),
+          );
     }

@@ -1,5 +1,5 @@
 -- What is kept goes on by one more record.
-use Rattle.std.proofs.Common.{◌≡◌, ◌⊎◌, ℕ, ◌<◌, ◌≤◌, List, [], ◌∷◌, ◌++◌, filter, Bool, true, false, Option, Some, None, inl, inr, refl, sym, ap, subst, ◌∙◌, arith, if◌then◌else◌}
+use Rattle.std.proofs.Common.{◌≡◌, ◌⊎◌, ℕ, ◌≤◌, List, [], ◌∷◌, ◌++◌, filter, Bool, true, false, Option, Some, None, inl, inr, refl, sym, ap, subst, ◌∙◌, arith, if◌then◌else◌}
 use Rattle.std.proofs.lemmas.Bool.{eq-eqb, eqb-true, le-ltb, lt-ltb, ltb-true, ne_eqb}
 use Rattle.std.specs.List.{last_or}
 use Rattle.std.specs.List.Sorted.{IsPartitionedBy}
@@ -7,8 +7,8 @@ use Rattle.std.specs.Option.{option_map_or}
 use Rattle.std.specs.Prelude.{◌==◌, ◌&&◌, ◌||◌, nat_lt}
 use Rattle.net_plan.specs.declared.ids.DeviceId.{DeviceId}
 use Rattle.net_plan.specs.declared.network.Network.{Network}
-use Rattle.record_history.specs.Effects.{effect_by, effect_of, subject_of}
-use Rattle.record_history.specs.Keeping.{IsInOrder, IsOfRecord, Keeps, latest_of, records_before, shown_before}
+use Rattle.record_history.specs.Effects.{carried_by, effect_by, effect_of, subject_of}
+use Rattle.record_history.specs.Keeping.{IsOfRecord, Keeps, latest_of, records_before, shown_before}
 use Rattle.record_history.specs.Marks.{IsMarkOf, is_mark_before, mark_of, numbers_of}
 use Rattle.record_history.specs.Showing.{NoneLater, Shown, Shows}
 use Rattle.record_history.specs.declared.effect.Carried.{Carried}
@@ -84,6 +84,11 @@ nothing_of network d carried (notes.Compressed other opened at cycle members ver
 nothing_of network d carried (notes.Corrected other cycle by adjustment) not = apart d other _ not
 nothing_of network d carried (notes.State other state cause why) not = apart d other _ not
 nothing_of network d carried body not = refl
+
+-- what is shown of a device stays so where a record is of another, or of a kind that shows nothing
+pub untouched : (s : Scenario) (hs : List Happening) (d : DeviceId) (h : Happening) (shown : Shown) → (subject_of h.note.body ≡ Some d → ⊥)
+    → Shows s hs d shown → Shows s (hs ++ h ∷ []) d shown
+untouched s hs d h shown not sh = quiet s hs d h shown (nothing_of s.network d (carried_by h) h.note.body not) sh
 
 pub of_subject : (body : NoteBody) (d : DeviceId) → subject_of body ≡ Some d → device_of body ≡ Some d
 of_subject (notes.Permanent other link cause point verdict) d is = is

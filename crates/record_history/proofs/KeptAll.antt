@@ -1,7 +1,6 @@
 -- What is kept of all devices goes on by one more record.
-use Rattle.std.proofs.Common.{◌≡◌, ◌⊎◌, ℕ, zero, suc, ◌+◌, ◌<◌, ◌≤◌, List, [], ◌∷◌, ◌++◌, filter, get_or, length, Bool, true, false, Option, Some, None, Result, Ok, Err, slice_get, inl, inr, refl, sym, ap, subst, ◌∙◌, arith}
-use Rattle.std.proofs.lemmas.Bool.{cases_order, le-ltb}
-use Rattle.std.proofs.lemmas.Option.{slice_get_within}
+use Rattle.std.proofs.Common.{◌≡◌, ◌⊎◌, ℕ, zero, suc, ◌<◌, List, [], ◌∷◌, ◌++◌, filter, get_or, length, Bool, true, false, Some, None, Result, Ok, Err, slice_get, inl, inr, refl, sym, ap, subst, ◌∙◌, arith}
+use Rattle.std.proofs.lemmas.Bool.{cases_order}
 use Rattle.std.specs.List.{last_or}
 use Rattle.std.specs.Option.{option_map_or}
 use Rattle.std.specs.Prelude.{OnOk, is_ok, slice_set, ◌==◌, ◌&&◌, ◌||◌, nat_lt}
@@ -9,8 +8,8 @@ use Rattle.net_plan.specs.declared.ids.DeviceId.{DeviceId}
 use Rattle.net_plan.specs.declared.network.Network.{Network}
 use Rattle.record_history.specs.Effects.{carried_by, subject_of}
 use Rattle.record_history.specs.Following.{IsMet}
-use Rattle.record_history.specs.Keeping.{IsFresh, IsSeen, Keeps, KeepsAll, latest_of, records_before, shown_before}
-use Rattle.record_history.specs.Marks.{IsMarkOf, is_mark_before, mark_at, mark_of}
+use Rattle.record_history.specs.Keeping.{IsFresh, Keeps, KeepsAll, records_before}
+use Rattle.record_history.specs.Marks.{is_mark_before, mark_at, mark_of}
 use Rattle.record_history.specs.Showing.{IsSteady, Shown, Shows}
 use Rattle.record_history.specs.declared.effect.Carried.{Carried}
 use Rattle.record_history.specs.declared.history.Entry.{Entry}
@@ -20,7 +19,7 @@ use Rattle.record_history.specs.declared.shown.Readings.{Readings}
 use Rattle.run_law.specs.declared.note.NoteBody.{NoteBody}
 use Rattle.run_law.specs.records.Happenings.{Happening, earlier, time_of}
 use Rattle.run_law.specs.records.Order.{IsIn, is_before}
-use Rattle.run_law.specs.records.Ranks.{key, members_in, place_of, rank}
+use Rattle.run_law.specs.records.Ranks.{members_in, place_of}
 use Rattle.run_law.specs.scenario.Scenarios.{Scenario}
 use Rattle.record_history.proofs.Grown.{same_kept}
 use Rattle.record_history.proofs.Kept.{kept_still, nothing_of}

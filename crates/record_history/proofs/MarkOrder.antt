@@ -1,7 +1,7 @@
 -- The marks of a device's records are in the order of their places.
-use Rattle.std.proofs.Common.{◌≡◌, ℕ, ◌+◌, ◌<◌, ◌≤◌, List, [], ◌∷◌, ◌++◌, length, Bool, true, false, Option, Some, None, refl, sym, ap, subst, ◌∙◌, arith, if◌then◌else◌}
+use Rattle.std.proofs.Common.{◌≡◌, ℕ, List, [], ◌∷◌, ◌++◌, length, Bool, true, false, Some, refl, sym, ap, ◌∙◌, arith, if◌then◌else◌}
 use Rattle.std.proofs.lemmas.Bool.{eq-eqb, eqb-true, le-ltb}
-use Rattle.std.specs.Prelude.{◌==◌, ◌&&◌, ◌||◌, nat_lt, ℤ}
+use Rattle.std.specs.Prelude.{◌==◌, ◌&&◌, ◌||◌, nat_lt}
 use Rattle.net_plan.specs.declared.ids.DeviceId.{DeviceId}
 use Rattle.net_plan.specs.declared.ids.LinkId.{LinkId}
 use Rattle.record_history.specs.Marks.{IsMarkOf, is_mark_before, mark_at, mark_of, mark_with, numbers_of}
@@ -10,9 +10,9 @@ use Rattle.run_law.specs.declared.judgement.Judgement.{Judgement}
 use Rattle.run_law.specs.declared.note.NoteBody.TheVariants.{Event, Arrived, Permanent, Compressed, Sent, Corrected, State, Left, Lost, TtSent, Accepted, Delivered, Dropped, Clock}
 use Rattle.run_law.specs.declared.note.NoteBody.{NoteBody}
 use Rattle.run_law.specs.records.Causes.{device_of}
-use Rattle.run_law.specs.records.Happenings.{Happening, time_of}
+use Rattle.run_law.specs.records.Happenings.{time_of}
 use Rattle.run_law.specs.records.Order.{is_before}
-use Rattle.run_law.specs.records.Ranks.{members_in, place_at, place_of, rank, sign}
+use Rattle.run_law.specs.records.Ranks.{members_in, place_at, rank, sign}
 use Rattle.tte_units.specs.Amount.{amount}
 use Rattle.tte_units.specs.declared.units.Units.{Units}
 

@@ -1,6 +1,6 @@
 -- What is read of what is shown: the correction points that have come, and what was heard since the last.
-use Rattle.std.proofs.Common.{◌≡◌, ◌⊎◌, ℕ, ◌+◌, ◌-◌, ◌<◌, ◌≤◌, ℤ, pos, List, [], ◌∷◌, ◌++◌, All, drop, filter, length, not, reverse, Bool, true, false, Option, Some, None, inl, inr, refl, sym, ap, subst, ◌∙◌, arith, if◌then◌else◌}
-use Rattle.std.proofs.lemmas.Bool.{cases_lt, le-ltb, lt-ltb, ltb-false}
+use Rattle.std.proofs.Common.{◌≡◌, ℕ, ◌+◌, ◌-◌, ℤ, pos, List, [], ◌∷◌, All, drop, filter, length, not, reverse, Bool, true, false, Option, None, inl, inr, refl, sym, ap, subst, ◌∙◌, arith, if◌then◌else◌}
+use Rattle.std.proofs.lemmas.Bool.{ltb-false}
 use Rattle.std.proofs.lemmas.List.Elements.{All-head, All-tail}
 use Rattle.std.specs.List.{after_last, filter_map, last_or, prefix_len}
 use Rattle.std.specs.Option.{option_map_or}
@@ -14,7 +14,7 @@ use Rattle.record_history.specs.Effects.{effect_of}
 use Rattle.record_history.specs.Showing.{IsAfter, NoneLater, Shown, Shows, heard_at, heard_by_then, last_change, points_by, points_from}
 use Rattle.record_history.specs.declared.effect.Effect.TheVariants.{Nothing, Joins, Hears, Corrects, Turns}
 use Rattle.record_history.specs.declared.effect.Effect.{Effect}
-use Rattle.run_law.specs.control.Corrections.{cycle_after, hearing_by, recorded_cycle}
+use Rattle.run_law.specs.control.Corrections.{hearing_by, recorded_cycle}
 use Rattle.run_law.specs.device.LocalClocks.{changes_adjustment}
 use Rattle.run_law.specs.device.States.{adjustment_after, adjustment_at_hearing, is_joined_by}
 use Rattle.run_law.specs.records.Happenings.{Happening, earlier, time_of}

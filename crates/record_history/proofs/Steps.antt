@@ -7,16 +7,14 @@ use Rattle.std.proofs.lemmas.List.Elements.{filter-append, filter_map-append}
 use Rattle.std.proofs.lemmas.List.Sums.{fold-append}
 use Rattle.std.specs.List.{after_last, cons_option, filter_map, last_or}
 use Rattle.std.specs.Option.{option_map_or}
-use Rattle.std.specs.List.{list_any}
-use Rattle.std.specs.Prelude.{◌&&◌, ◌+ℤ◌, ◌==◌, ◌||◌, fold}
+use Rattle.std.specs.Prelude.{◌&&◌, ◌+ℤ◌, ◌==◌, ◌||◌}
 use Rattle.membership.specs.Hearing.{Hearing}
-use Rattle.membership.specs.Summary.{Summarizes, Summary, silence}
+use Rattle.membership.specs.Summary.{Summarizes, silence}
 use Rattle.net_plan.specs.declared.ids.DeviceId.{DeviceId}
-use Rattle.net_plan.specs.declared.network.Network.{Network}
-use Rattle.record_history.specs.Effects.{carried_by, effect_of}
+use Rattle.record_history.specs.Effects.{effect_of}
 use Rattle.record_history.specs.Following.{changed_to, joined_to}
-use Rattle.record_history.specs.Showing.{IsSteady, NoneLater, Shows, heard_at, heard_by_then, last_change, last_joining, points_by, points_from}
-use Rattle.record_history.specs.declared.effect.Effect.TheVariants.{Nothing, Joins, Hears, Corrects, Turns}
+use Rattle.record_history.specs.Showing.{NoneLater, Shows, heard_at, last_change, last_joining, points_by}
+use Rattle.record_history.specs.declared.effect.Effect.TheVariants.{Nothing, Joins, Corrects, Turns}
 use Rattle.record_history.specs.declared.effect.Effect.{Effect}
 use Rattle.record_history.specs.Showing.{Shown}
 use Rattle.run_law.proofs.runs.Places.{in_left, in_right}
@@ -26,11 +24,10 @@ use Rattle.run_law.specs.device.States.{adjustment_after, adjustment_with, cycle
 use Rattle.run_law.specs.records.Happenings.{Happening, time_of}
 use Rattle.run_law.specs.records.Order.{IsIn}
 use Rattle.run_law.specs.scenario.Scenarios.{Scenario}
-use Rattle.sync_state.specs.declared.state.State.TheVariants.{Joining}
 use Rattle.sync_state.specs.declared.state.State.{State}
 use Rattle.tte_units.specs.declared.units.Units.{Units}
 use Rattle.record_history.proofs.Grown.{after_more, after_one, filter_off, filter_on, last_more}
-use Rattle.record_history.proofs.Tells.{Tells, adjustment_by, changes_by, cycle_by, hearing_of, joins_by, state_by, tells}
+use Rattle.record_history.proofs.Tells.{Tells, adjustment_by, cycle_by, joins_by, state_by, tells}
 
 -- the records, and one more
 abbrev pub with_one : List Happening → Happening → List Happening
@@ -171,6 +168,7 @@ joined_last s hs device h e t told joins late le =
     whole : (b : Bool) → (b && true) ≡ b
     whole true = refl
     whole false = refl
+
     always : (b : Bool) → (b || true) ≡ true
     always true = refl
     always false = refl

@@ -3,14 +3,12 @@ use Rattle.std.proofs.Common.{◌≡◌, ℕ, ◌+◌, Bool, true, false, Option
 use Rattle.std.specs.Prelude.{◌==◌, option_map}
 use Rattle.membership.specs.Hearing.{Hearing}
 use Rattle.net_plan.specs.declared.ids.DeviceId.{DeviceId}
-use Rattle.net_plan.specs.declared.network.Network.{Network}
 use Rattle.pcf_values.specs.declared.channel.Channel.{Channel}
-use Rattle.record_history.specs.Effects.{carried_by, effect_of, heard_on}
+use Rattle.record_history.specs.Effects.{carried_by, heard_on}
 use Rattle.record_history.specs.declared.effect.Effect.TheVariants.{Nothing, Joins, Hears, Corrects, Turns}
 use Rattle.record_history.specs.declared.effect.Effect.{Effect}
 use Rattle.run_law.specs.control.Corrections.{cycle_after, heard_by, hearing_by}
 use Rattle.run_law.specs.declared.judgement.Judgement.TheVariants.{Integrates, Within, Outside}
-use Rattle.run_law.specs.declared.judgement.Judgement.{Judgement}
 use Rattle.run_law.specs.declared.note.NoteBody.TheVariants as notes
 use Rattle.run_law.specs.declared.note.NoteBody.{NoteBody}
 use Rattle.run_law.specs.device.LocalClocks.{changes_adjustment}

@@ -1,5 +1,5 @@
 -- What is kept of the records of a device, for any place.
-use Rattle.std.specs.Prelude.{◌≡◌, List, [], ◌∷◌, ◌++◌, filter, Option, Some, None}
+use Rattle.std.specs.Prelude.{◌≡◌, List, [], filter, Some, None}
 use Rattle.std.specs.List.{last_or}
 use Rattle.std.specs.List.Sorted.{IsPartitionedBy}
 use Rattle.std.specs.Option.{option_map_or}

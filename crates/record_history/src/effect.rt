@@ -23,7 +23,11 @@ pub(crate) enum Effect {
     Nothing,
     /// A frame of the cycle tells it the time: at the point its clock is to show what is expected of the frame of its
     /// own cycle, which is the same but for a record whose frame is another's.
-    Joins { cycle: u32, own: u32, point: Units },
+    Joins {
+        cycle: u32,
+        own: u32,
+        point: Units,
+    },
     /// It hears a frame, within its time or outside it.
     Hears {
         channel: Channel,
@@ -31,9 +35,14 @@ pub(crate) enum Effect {
         within: bool,
     },
     /// Its clock is corrected at the correction point of the cycle.
-    Corrects { cycle: u32, adjustment: Units },
+    Corrects {
+        cycle: u32,
+        adjustment: Units,
+    },
     /// Its state changes.
-    Turns { state: State },
+    Turns {
+        state: State,
+    },
 }
 
 /// What a record of this body, whose frame says this, shows of the device.
@@ -46,16 +55,55 @@ pub(crate) fn effect_of(
     ensures { result ≡ effect_by network.now device carried body.now }
 {
     let (other, effect) = match body {
-        NoteBody::Permanent { device: other, link, point, verdict, .. } => {
-            (*other, judged(channel_of_link(network, *link), carried, carried.cycle, *point, *verdict))
+        NoteBody::Permanent {
+            device: other,
+            link,
+            point,
+            verdict,
+            ..
+        } => {
+            (
+                *other,
+                judged(
+                    channel_of_link(network, *link),
+                    carried,
+                    carried.cycle,
+                    *point,
+                    *verdict,
+                ),
+            )
         }
-        NoteBody::Compressed { device: other, at, cycle, verdict, .. } => {
-            (*other, judged(channel_of(network, device), carried, *cycle, *at, *verdict))
+        NoteBody::Compressed {
+            device: other,
+            at,
+            cycle,
+            verdict,
+            ..
+        } => {
+            (
+                *other,
+                judged(channel_of(network, device), carried, *cycle, *at, *verdict),
+            )
         }
-        NoteBody::Corrected { device: other, cycle, adjustment, .. } => {
-            (*other, Effect::Corrects { cycle: *cycle, adjustment: *adjustment })
+        NoteBody::Corrected {
+            device: other,
+            cycle,
+            adjustment,
+            ..
+        } => {
+            (
+                *other,
+                Effect::Corrects {
+                    cycle: *cycle,
+                    adjustment: *adjustment,
+                },
+            )
         }
-        NoteBody::State { device: other, state, .. } => (*other, Effect::Turns { state: *state }),
+        NoteBody::State {
+            device: other,
+            state,
+            ..
+        } => (*other, Effect::Turns { state: *state }),
         NoteBody::Event { .. }
         | NoteBody::Arrived { .. }
         | NoteBody::Sent { .. }
@@ -67,7 +115,11 @@ pub(crate) fn effect_of(
         | NoteBody::Dropped { .. }
         | NoteBody::Clock { .. } => return Effect::Nothing,
     };
-    if device.0 == other.0 { effect } else { Effect::Nothing }
+    if device.0 == other.0 {
+        effect
+    } else {
+        Effect::Nothing
+    }
 }
 
 /// What a judgement of a frame on the channel shows of the device that judged it as one of the cycle `own`.

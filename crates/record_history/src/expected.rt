@@ -8,12 +8,7 @@ use net_plan::{DeviceId, Network, Role};
 use tte_units::Units;
 
 /// The adjustment by which the device's clock shows at the point what is expected of the frame of the cycle.
-pub(crate) fn adjustment_at(
-    network: &Network,
-    device: DeviceId,
-    cycle: u32,
-    point: Units,
-) -> i128
+pub(crate) fn adjustment_at(network: &Network, device: DeviceId, cycle: u32, point: Units) -> i128
     requires { IsInRange network.now }
     ensures value { result ≡ adjustment_at network.now device cycle point }
     ensures least { neg_ℤ (pos (2 ^ 80)) ≤ℤ result }

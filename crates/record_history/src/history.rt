@@ -66,7 +66,9 @@ impl History {
             → AllBefore place_of hs (place_of h) → Keeps s hs device self.old
             → OnOk result (Keeps s (hs ++ h ∷ []) device self.new) }
     {
-        let shown = self.latest().after(network, device, time, body, carried, readings);
+        let shown = self
+            .latest()
+            .after(network, device, time, body, carried, readings);
         self.push(Mark::of(time, carried.members, body), shown)
     }
 
@@ -84,7 +86,9 @@ impl History {
     pub(crate) fn before(&self, mark: &Mark) -> &Shown
         ensures { IsInOrder self.now → result.now ≡ shown_before mark.now self.now }
     {
-        let point = self.entries.partition_point(|entry| entry.mark.is_before(mark));
+        let point = self
+            .entries
+            .partition_point(|entry| entry.mark.is_before(mark));
         let (front, _) = self.entries.split_at(point);
         match front.last() {
             Some(entry) => &entry.shown,

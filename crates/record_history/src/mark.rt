@@ -34,10 +34,19 @@ impl Mark {
         match body {
             NoteBody::Event { .. } => Mark::with(time, 1, 0, 0),
             NoteBody::Arrived { link, cause, .. } => Mark::linked(time, 2, *link, *cause),
-            NoteBody::Permanent { link, cause, point, .. } => {
-                Mark::of_permanence(time, members, *link, *cause, *point)
-            }
-            NoteBody::Compressed { opened, at, cycle, members: of_masters, .. } => Mark {
+            NoteBody::Permanent {
+                link,
+                cause,
+                point,
+                ..
+            } => { Mark::of_permanence(time, members, *link, *cause, *point) }
+            NoteBody::Compressed {
+                opened,
+                at,
+                cycle,
+                members: of_masters,
+                ..
+            } => Mark {
                 time,
                 rank: 4,
                 first: opened.0.unsigned_abs(),
@@ -52,7 +61,13 @@ impl Mark {
             NoteBody::State { cause, .. } => Mark::with(time, 7, *cause, 0),
             NoteBody::Left { link, cause, .. } => Mark::linked(time, 8, *link, *cause),
             NoteBody::Lost { link, cause, .. } => Mark::linked(time, 9, *link, *cause),
-            NoteBody::TtSent { link, cause, vl, cycle, .. } => Mark {
+            NoteBody::TtSent {
+                link,
+                cause,
+                vl,
+                cycle,
+                ..
+            } => Mark {
                 third: u64::from(vl.0),
                 fourth: u64::from(*cycle),
                 ..Mark::linked(time, 10, *link, *cause)
@@ -103,9 +118,21 @@ impl Mark {
     pub fn is_before(&self, other: &Mark) -> bool
         ensures { result ≡ is_mark_before self.now other.now }
     {
-        let fifth = precedes(self.fifth, other.fifth, precedes(self.sixth, other.sixth, false));
-        let third = precedes(self.third, other.third, precedes(self.fourth, other.fourth, fifth));
-        let first = precedes(self.first, other.first, precedes(self.second, other.second, third));
+        let fifth = precedes(
+            self.fifth,
+            other.fifth,
+            precedes(self.sixth, other.sixth, false),
+        );
+        let third = precedes(
+            self.third,
+            other.third,
+            precedes(self.fourth, other.fourth, fifth),
+        );
+        let first = precedes(
+            self.first,
+            other.first,
+            precedes(self.second, other.second, third),
+        );
         let rank = precedes(u64::from(self.rank), u64::from(other.rank), first);
         precedes(self.time, other.time, rank)
     }

@@ -93,7 +93,11 @@ impl Shown {
         let start = start_of(network, device);
         let adjustment = i128::from(start.map_or(0, |units| units.0));
         Shown {
-            state: if start.is_some() { State::Synchronised } else { State::Off },
+            state: if start.is_some() {
+                State::Synchronised
+            } else {
+                State::Off
+            },
             adjustment,
             cycle: 1,
             integrated: None,
@@ -201,7 +205,11 @@ impl Shown {
     pub fn heard_by(&self, points: u64) -> Heard
         ensures { result ≡ heard_by_then self.now points }
     {
-        if points == self.come { self.heard } else { Heard::new() }
+        if points == self.come {
+            self.heard
+        } else {
+            Heard::new()
+        }
     }
 
     pub fn state(&self) -> State
@@ -270,12 +278,21 @@ impl Shown {
                 let adjustment = adjustment_at(network, device, own, point);
                 self.join(adjustment, cycle, time, readings.now);
             }
-            Effect::Hears { channel, frame, within } => {
+            Effect::Hears {
+                channel,
+                frame,
+                within,
+            } => {
                 let points = self.points_come(network, readings.before);
                 self.hear(points, channel, frame, within);
             }
             Effect::Corrects { cycle, adjustment } => {
-                self.change(i128::from(adjustment.0), u64::from(cycle) + 1, time, readings.now);
+                self.change(
+                    i128::from(adjustment.0),
+                    u64::from(cycle) + 1,
+                    time,
+                    readings.now,
+                );
             }
             Effect::Turns { state } => self.state = state,
         }

@@ -118,6 +118,9 @@ impl Standings {
             → Shows s (records_before (place_at time members.0 (Permanent device link cause point verdict)) hs) device
             result.now }
     {
-        self.before(device, &Mark::of_permanence(time, members, link, cause, point))
+        self.before(
+            device,
+            &Mark::of_permanence(time, members, link, cause, point),
+        )
     }
 }

@@ -1,10 +1,9 @@
-use Rattle.std.proofs.Common.{◌≡◌, ◌≤◌, ℕ, Bool, true, false, List, Option, Some, None, filter, length, take, ap, sym, subst, ◌∙◌, rules, of_calls}
+use Rattle.std.proofs.Common.{◌≡◌, ◌≤◌, Bool, true, false, List, Option, Some, None, filter, length, take, ap, sym, subst, ◌∙◌, rules, of_calls}
 use Rattle.std.proofs.lemmas.Fn.{always_returns_same}
 use Rattle.std.specs.List.{last_or}
 use Rattle.std.specs.List.Sorted.{IsPartitionPoint, IsPartitionedBy}
 use Rattle.std.specs.Option.{option_map_or}
 use Rattle.compression.proofs.Ascents.{slice_get-last}
-use Rattle.record_history.specs.Keeping.{IsInOrder}
 use Rattle.record_history.specs.Marks.{is_mark_before}
 use Rattle.record_history.specs.Showing.{Shown}
 use Rattle.record_history.specs.declared.history.Entry.{Entry}

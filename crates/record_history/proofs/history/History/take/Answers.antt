@@ -1,6 +1,6 @@
-use Rattle.std.proofs.Common.{◌≡◌, ◌∷◌, ◌++◌, [], List, Bool, sym, ap, subst, ◌∙◌, if◌then◌else◌}
+use Rattle.std.proofs.Common.{◌∷◌, ◌++◌, [], Bool, sym, ap, subst, ◌∙◌, if◌then◌else◌}
 use Rattle.record_history.specs.Keeping.{Keeps}
-use Rattle.record_history.specs.Showing.{Shown, Shows}
+use Rattle.record_history.specs.Showing.{Shows}
 use Rattle.record_history.specs.declared.history.Entry.{Entry}
 use Rattle.record_history.specs.declared.mark.Mark.{Mark}
 use Rattle.record_history.proofs.Kept.{kept_on, none_later}

@@ -1,7 +1,6 @@
-use Rattle.std.proofs.Common.{ap, sym, subst, ◌∙◌, ℕ}
+use Rattle.std.proofs.Common.{sym, subst, ℕ}
 use Rattle.membership.specs.Hearing.{Hearing}
 use Rattle.record_history.specs.Following.{Follows, HasHeard}
-use Rattle.record_history.specs.Showing.{Shown}
 use Rattle.record_history.specs.declared.effect.Effect.{Effect}
 use Rattle.record_history.proofs.shown.Shown.follow.Goals as goal
 

@@ -1,7 +1,7 @@
-use Rattle.std.proofs.Common.{◌≡◌, ◌+◌, ℕ, ℤ, pos, FitsSigned, to_z, of_z, subst, arith, rules}
-use Rattle.std.proofs.lemmas.Int.{ints, to_z-of_z}
+use Rattle.std.proofs.Common.{◌≡◌, ◌+◌, ℤ, pos, FitsSigned, to_z, of_z, subst, arith, rules}
+use Rattle.std.proofs.lemmas.Int.{ints}
 use Rattle.std.specs.Int.{w128}
-use Rattle.std.specs.Prelude.{◌+ℤ◌, ◌<ℤ◌, ◌≤ℤ◌, ◌-ℤ◌}
+use Rattle.std.specs.Prelude.{◌+ℤ◌, ◌<ℤ◌, ◌≤ℤ◌}
 use Rattle.record_history.specs.Showing.{Shown, points_by}
 use Rattle.record_history.proofs.Points.{has_passed, le_denied, le_told, lt_denied, lt_told, not_come, then_comes}
 use Rattle.record_history.proofs.shown.Shown.points_come.Goals as goal

@@ -1,7 +1,7 @@
 use Rattle.std.proofs.Common.{◌∷◌, [], List, subst}
 use Rattle.record_history.proofs.KeptAll.{earlier_are}
 use Rattle.record_history.proofs.standings.Standings.before_time.Goals as goal
-use Rattle.record_history.specs.Showing.{Shown, Shows}
+use Rattle.record_history.specs.Showing.{Shows}
 use Rattle.run_law.specs.records.Happenings.{Happening}
 
 pub returns : goal.returns

@@ -1,7 +1,7 @@
-use Rattle.std.proofs.Common.{◌≡◌, ◌+◌, ◌∷◌, ◌++◌, [], ℕ, List, Some, length, length-append, slice_get, sym, ap, subst, ◌∙◌, arith, Fits-le}
+use Rattle.std.proofs.Common.{◌≡◌, ◌∷◌, ◌++◌, [], ℕ, List, length, length-append, slice_get, sym, ap, subst, ◌∙◌, arith}
 use Rattle.net_plan.specs.declared.ids.DeviceId.{DeviceId}
 use Rattle.record_history.specs.Keeping.{IsFresh}
-use Rattle.record_history.specs.Showing.{Shown, Shows}
+use Rattle.record_history.specs.Showing.{Shows}
 use Rattle.record_history.specs.declared.history.History.{History}
 use Rattle.record_history.proofs.KeptAll.{fresh_more, kept_first}
 use Rattle.record_history.proofs.standings.Standings.new.Goals as goal
@@ -22,8 +22,7 @@ loop-place-preserved c =
       shows = λ s is steady. subst (Shows s [] device) (sym c.new.ensures.first) (c.new-first.ensures s is steady);
     } in
     let mk : ℕ → DeviceId = λ n. record { 0 = n } in
-    let last = subst (λ (n : ℕ). IsFresh network (mk n) x) (sym c.loop-place.invariant.0) fresh in
-    (
+    let last = subst (λ (n : ℕ). IsFresh network (mk n) x) (sym c.loop-place.invariant.0) fresh in (
       ap length items ∙ omega (arith, length-append xs (x ∷ []), c.loop-place.invariant.0),
       λ d history there.
           fresh_more network xs x c.loop-place.invariant.1 last d history (ap (λ (ys : List History). slice_get ys d.0) (sym items) ∙ there),
