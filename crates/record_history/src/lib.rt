@@ -13,3 +13,6 @@ pub use effect::Carried;
 pub use mark::Mark;
 pub use shown::{Readings, Shown};
 pub use standings::Standings;
+
+#[cfg(test)]
+mod tests;
