@@ -5,6 +5,7 @@ use Rattle.std.specs.List.{last_or}
 use Rattle.std.specs.List.Sorted.{IsPartitionedBy}
 use Rattle.std.specs.Option.{option_map_or}
 use Rattle.std.specs.Prelude.{◌==◌, ◌&&◌, ◌||◌, nat_lt}
+use Rattle.audit_law.proofs.LastParts.{all_kept}
 use Rattle.net_plan.specs.declared.ids.DeviceId.{DeviceId}
 use Rattle.net_plan.specs.declared.network.Network.{Network}
 use Rattle.record_history.specs.Effects.{carried_by, effect_by, effect_of, subject_of}
@@ -25,7 +26,7 @@ use Rattle.run_law.specs.records.Happenings.{Happening, time_of}
 use Rattle.run_law.specs.records.Order.{AllBefore, IsBefore, IsIn, is_before}
 use Rattle.run_law.specs.records.Ranks.{key, members_in, place_of, rank}
 use Rattle.run_law.specs.scenario.Scenarios.{Scenario}
-use Rattle.record_history.proofs.Grown.{all_kept, filter_off, filter_on, last_more}
+use Rattle.record_history.proofs.Grown.{filter_off, filter_on, last_more}
 use Rattle.record_history.proofs.MarkOrder.{marks_compare}
 use Rattle.record_history.proofs.Partitions.{parted_on}
 use Rattle.record_history.proofs.Steps.{quiet}

@@ -9,7 +9,7 @@ use Rattle.membership.proofs.SummaryLemmas.{silence_summarizes}
 use Rattle.membership.specs.Hearing.{Hearing}
 use Rattle.membership.specs.Summary.{Summarizes}
 use Rattle.net_plan.specs.declared.ids.DeviceId.{DeviceId}
-use Rattle.record_history.specs.CorrectionNumbers.{heard_since_point, next_number, points_come}
+use Rattle.audit_law.specs.CorrectionNumbers.{heard_since_point, next_number, points_come}
 use Rattle.record_history.specs.Effects.{effect_of}
 use Rattle.record_history.specs.Showing.{IsAfter, NoneLater, Shown, Shows, heard_at, heard_by_then, last_change, points_by, points_from}
 use Rattle.record_history.specs.declared.effect.Effect.TheVariants.{Nothing, Joins, Hears, Corrects, Turns}

@@ -8,6 +8,7 @@ use Rattle.std.proofs.lemmas.List.Sums.{fold-append}
 use Rattle.std.specs.List.{after_last, cons_option, filter_map, last_or}
 use Rattle.std.specs.Option.{option_map_or}
 use Rattle.std.specs.Prelude.{◌&&◌, ◌+ℤ◌, ◌==◌, ◌||◌}
+use Rattle.audit_law.proofs.LastParts.{after_more}
 use Rattle.membership.specs.Hearing.{Hearing}
 use Rattle.membership.specs.Summary.{Summarizes, silence}
 use Rattle.net_plan.specs.declared.ids.DeviceId.{DeviceId}
@@ -26,7 +27,7 @@ use Rattle.run_law.specs.records.Order.{IsIn}
 use Rattle.run_law.specs.scenario.Scenarios.{Scenario}
 use Rattle.sync_state.specs.declared.state.State.{State}
 use Rattle.tte_units.specs.declared.units.Units.{Units}
-use Rattle.record_history.proofs.Grown.{after_more, after_one, filter_off, filter_on, last_more}
+use Rattle.record_history.proofs.Grown.{after_one, filter_off, filter_on, last_more}
 use Rattle.record_history.proofs.Tells.{Tells, adjustment_by, cycle_by, joins_by, state_by, tells}
 
 -- the records, and one more

@@ -1,4 +1,3 @@
-pub mod CorrectionNumbers
 pub mod Effects
 pub mod Following
 pub mod Keeping

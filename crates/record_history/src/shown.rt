@@ -77,7 +77,7 @@ impl Model for Shown {
 
 impl Shown {
     ghost use Rattle.net_plan.specs.declared.ids.DeviceId.{DeviceId};
-    ghost use Rattle.record_history.specs.CorrectionNumbers.{heard_since_point, next_number};
+    ghost use Rattle.audit_law.specs.CorrectionNumbers.{heard_since_point, next_number};
     ghost use Rattle.record_history.specs.Reading.{OnlyJoined, ReadBefore};
     ghost use Rattle.run_law.specs.device.States.{adjustment_at_hearing, has_joined_at, state_before};
     ghost use Rattle.run_law.specs.records.Happenings.{Happening, earlier, time_of};

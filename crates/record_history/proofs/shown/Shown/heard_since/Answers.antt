@@ -1,7 +1,7 @@
 use Rattle.std.proofs.Common.{◌≡◌, ◌-◌, ap, sym, subst, ◌∙◌}
 use Rattle.membership.specs.Summary.{Summarizes, Summary}
 use Rattle.net_plan.specs.declared.network.Network.{Network}
-use Rattle.record_history.specs.CorrectionNumbers.{heard_since_point}
+use Rattle.audit_law.specs.CorrectionNumbers.{heard_since_point}
 use Rattle.record_history.specs.Showing.{heard_by_then, points_by}
 use Rattle.record_history.proofs.Reading.{heard_since_is}
 use Rattle.record_history.proofs.shown.Shown.heard_since.Goals as goal
