@@ -4,22 +4,22 @@ use Rattle.std.specs.Prelude.{Any}
 use Rattle.net_plan.specs.declared.event.Event.{Event}
 use Rattle.net_plan.specs.declared.event.What.TheVariants.{End}
 use Rattle.net_plan.specs.declared.network.Network.{Network}
-use Rattle.run_law.specs.records.Happenings.{happenings, time_of}
+use Rattle.run_law.specs.records.Happenings.{happenings}
 use Rattle.run_law.specs.records.Ranks.{place_of}
 use Rattle.run_law.specs.runs.DueRecords.{IsDue}
 use Rattle.run_law.specs.declared.note.Note.{Note}
 use Rattle.run_law.proofs.scenario.Decisions.{any_first, any_later}
 use Rattle.tte_units.specs.Amount.{units_of}
 use Rattle.tte_units.specs.declared.units.Units.{Units}
-use Rattle.tte_audit.specs.Answers.{IsAudited, IsOfFormOrEvents, IsRefusedBy, IsFirstLack, IsEventsFault}
-use Rattle.tte_audit.specs.Findings.{IsUnfoundedAt}
+use Rattle.tte_audit.specs.Answers.{IsAudited, IsOfFormOrEvents, IsRefusedBy, IsFirstLackOf, IsEventsFault}
+use Rattle.audit_law.specs.Findings.{IsUnfoundedAt}
 use Rattle.tte_audit.specs.Laws.{AnswerLaw, IsOfReport}
 use Rattle.tte_audit.specs.Named.{IsNamed}
 use Rattle.tte_audit.specs.Report.{AreEventsRight, EndWith, IsEventFault, IsOfEvents, behind_time, events_of, scenario_of}
 use Rattle.tte_audit.specs.declared.refusal.AuditRefusal.{AuditRefusal}
 use Rattle.tte_audit.specs.declared.refusal.AuditRefusal.TheVariants as refusals
 use Rattle.tte_audit.proofs.Meet.{form_or_report, one_form, one_list}
-use Rattle.tte_audit.proofs.Sound.{fronts, full_of_run, none_unsound, one_unsound, sound_of_run}
+use Rattle.audit_law.proofs.Sound.{fronts, full_of_run, none_unsound, one_unsound, sound_of_run}
 
 -- ---- events
 
@@ -78,10 +78,12 @@ same_of network octets notes others time last named a b =
       times = one_end (events_of notes) time last a.ends (subst (λ (ns : List Note). EndWith (events_of ns) last) (sym lists) b.ends);
     }
 
-one_lack : (network : Network) (ns : List Note) (end t u : Units) → IsFirstLack network ns end t → IsFirstLack network ns end u → t ≡ u
+one_lack : (network : Network) (ns : List Note) (end t u : Units) → IsFirstLackOf network ns end t → IsFirstLackOf network ns end u → t ≡ u
 one_lack network ns end t u a b =
-    let same : time_of a.missing ≡ time_of b.missing = omega (arith, a.first b.missing b.lacking, b.first a.missing a.lacking) in
-    a.at ∙ ap units_of same ∙ sym b.at
+    let here = a.lack in
+    let there = b.lack in
+    let same : a.at ≡ b.at = omega (arith, here.first there.missing there.lacking, there.first here.missing here.lacking, here.at, there.at) in
+    a.is ∙ ap units_of same ∙ sym b.is
 
 -- ---- answers
 
@@ -106,8 +108,8 @@ not_both network octets count (refusals.Unfounded n) named of a h =
     (sound_of_run place_of (IsDue (scenario_of network a.notes)) (behind_time a.time) (happenings network a.notes) a.run) found
 not_both network octets count (refusals.Lacking t) named of a h =
     let same = same_of network octets h.0 a.notes h.1 a.time named h.2 a.events in
-    let lack = subst (λ (e : Units). IsFirstLack network a.notes e t) same.times (subst (λ (ns : List Note). IsFirstLack network ns h.1 t) same.lists h.4) in
-    full_of_run place_of (IsDue (scenario_of network a.notes)) (behind_time a.time) (happenings network a.notes) a.run lack.missing lack.lacking lack.within
+    let lack = subst (λ (e : Units). IsFirstLackOf network a.notes e t) same.times (subst (λ (ns : List Note). IsFirstLackOf network ns h.1 t) same.lists h.4) in
+    full_of_run place_of (IsDue (scenario_of network a.notes)) (behind_time a.time) (happenings network a.notes) a.run lack.lack.missing lack.lack.lacking lack.lack.within
 not_both network octets count refusals.OutOfMemory named of a h = of
 
 one_count : (network : Network) (octets : List ℕ) (count other : ℕ) → IsNamed network → IsAudited network octets count → IsAudited network octets other
@@ -153,7 +155,7 @@ one_refusal network octets (refusals.Lacking n) (refusals.Events m) named of so 
 one_refusal network octets (refusals.Lacking n) (refusals.Unfounded m) named of so a b = absurd (unfounded_or_lacking network octets m n named b a)
 one_refusal network octets (refusals.Lacking n) (refusals.Lacking m) named of so a b =
     let same = same_of network octets a.0 b.0 a.1 b.1 named a.2 b.2 in
-    let lack = subst (λ (e : Units). IsFirstLack network b.0 e n) same.times (subst (λ (ns : List Note). IsFirstLack network ns a.1 n) same.lists a.4) in
+    let lack = subst (λ (e : Units). IsFirstLackOf network b.0 e n) same.times (subst (λ (ns : List Note). IsFirstLackOf network ns a.1 n) same.lists a.4) in
     ap refusals.Lacking (one_lack network b.0 b.1 n m lack b.4)
 one_refusal network octets refusals.OutOfMemory other named of so a b = absurd of
 one_refusal network octets refusal refusals.OutOfMemory named of so a b = absurd so

@@ -1,16 +1,16 @@
 -- What an audit answers.
-use Rattle.std.specs.Prelude.{◌≡◌, ◌⊎◌, ℕ, ◌≤◌, List, [], length}
+use Rattle.std.specs.Prelude.{◌≡◌, ◌⊎◌, ℕ, List, [], length}
+use Rattle.audit_law.specs.DebtLaws.{IsFirstLack}
+use Rattle.audit_law.specs.Findings.{AreSound, IsUnfoundedAt}
 use Rattle.net_plan.specs.declared.network.Network.{Network}
-use Rattle.run_law.specs.records.Happenings.{Happening, happenings, time_of}
-use Rattle.run_law.specs.records.Order.{IsBefore}
+use Rattle.run_law.specs.records.Happenings.{happenings}
 use Rattle.run_law.specs.records.Ranks.{place_of}
 use Rattle.run_law.specs.runs.DueRecords.{IsDue, IsRunOf}
 use Rattle.run_law.specs.declared.note.Note.{Note}
-use Rattle.tte_audit.specs.Findings.{AreSound, IsLacking, IsUnfoundedAt}
 use Rattle.tte_audit.specs.Report.{BeginsWith, IsEndless, IsEventFault, IsFormFault, IsOfEvents, behind_time, clock_reading, events_of, scenario_of}
 use Rattle.tte_audit.specs.declared.refusal.AuditRefusal.{AuditRefusal}
 use Rattle.tte_audit.specs.declared.refusal.AuditRefusal.TheVariants as refusals
-use Rattle.tte_units.specs.Amount.{units_of}
+use Rattle.tte_units.specs.Amount.{amount, units_of}
 use Rattle.tte_units.specs.declared.units.Units.{Units}
 
 -- the octets are the report of the run under the events of its own records, which are within the hypothesis and end
@@ -28,13 +28,10 @@ AreSoundNotes network ns time =
     AreSound place_of (IsDue (scenario_of network ns)) (behind_time time) (happenings network ns)
 
 -- at this time, the first such, a record is due up to the end that is not there
-pub record IsFirstLack (network : Network) (ns : List Note) (end : Units) (time : Units) : Type 0 where
-  pub missing : Happening
-  pub lacking : IsLacking place_of (IsDue (scenario_of network ns)) (happenings network ns) missing
-  pub within : IsBefore (place_of missing) (behind_time end)
-  pub at : time ≡ units_of (time_of missing)
-  pub first : (other : Happening) → IsLacking place_of (IsDue (scenario_of network ns)) (happenings network ns) other
-      → time_of missing ≤ time_of other
+pub record IsFirstLackOf (network : Network) (ns : List Note) (end : Units) (time : Units) : Type 0 where
+  pub at : ℕ
+  pub lack : IsFirstLack (scenario_of network ns) (happenings network ns) (amount end) at
+  pub is : time ≡ units_of at
 
 -- the events of these records are not right, from the record of this number on
 abbrev pub IsEventsFault : Network → List Note → ℕ → Type 0
@@ -51,7 +48,7 @@ IsRefusedBy network octets (refusals.Unfounded n) =
     × IsUnfoundedAt place_of (IsDue (scenario_of network ns)) (behind_time time) (happenings network ns) n
 IsRefusedBy network octets (refusals.Lacking t) =
     (ns : List Note) × (time : Units) × IsOfEvents network octets ns time × AreSoundNotes network ns time
-    × IsFirstLack network ns time t
+    × IsFirstLackOf network ns time t
 IsRefusedBy network octets refusals.OutOfMemory = Unit {0}
 
 -- a refusal of the form of a line, or of an event

@@ -1,55 +1,16 @@
 -- What holds of audits.
-use Rattle.std.specs.Prelude.{◌≡◌, ℕ, ◌↔◌, List, [], ◌∷◌, ◌++◌}
-use Rattle.run_law.specs.records.Happenings.{Happening}
-use Rattle.run_law.specs.records.Order.{behind}
-use Rattle.run_law.specs.records.Ranks.{place_of}
-use Rattle.run_law.specs.runs.DueRecords.{IsDue}
-use Rattle.run_law.specs.runs.Runs.{IsNextOf, IsRun}
-use Rattle.run_law.specs.scenario.Scenarios.{Scenario}
+use Rattle.std.specs.Prelude.{◌≡◌, ℕ, ◌↔◌, List}
+use Rattle.audit_law.specs.DebtLaws.{IsFirstDebt}
 use Rattle.net_plan.specs.declared.network.Network.{Network}
-use Rattle.tte_audit.specs.Answers.{IsAudited, IsOfFormOrEvents, IsRefusedBy}
+use Rattle.run_law.specs.declared.note.Note.{Note}
+use Rattle.run_law.specs.records.Happenings.{happenings}
+use Rattle.tte_audit.specs.Answers.{AreSoundNotes, IsAudited, IsFirstLackOf, IsOfFormOrEvents, IsRefusedBy}
 use Rattle.tte_audit.specs.Named.{IsNamed}
 use Rattle.tte_audit.specs.declared.refusal.AuditRefusal.{AuditRefusal}
 use Rattle.tte_audit.specs.declared.refusal.AuditRefusal.TheVariants as refusals
-use Rattle.tte_audit.specs.Findings.{AreSound, IsGap, IsLacking, IsUnfoundedAt, LacksNothing}
-use Rattle.tte_audit.specs.Linked.{AreLinked}
-use Rattle.tte_audit.specs.Report.{IsOfEvents}
-use Rattle.run_law.specs.declared.note.Note.{Note}
+use Rattle.tte_audit.specs.Report.{IsOfEvents, scenario_of}
+use Rattle.tte_units.specs.Amount.{amount, units_of}
 use Rattle.tte_units.specs.declared.units.Units.{Units}
-
--- a list of records is the run exactly where it is sound and lacks nothing; and one unsound record is the first
-pub record HasOneFinding (s : Scenario) (mark : List ℕ) (hs : List Happening) : Type 0 where
-  pub run : IsRun place_of (IsDue s) mark hs ↔
-      (AreSound place_of (IsDue s) mark hs × LacksNothing place_of (IsDue s) mark hs)
-  pub sound : (n : ℕ) → AreSound place_of (IsDue s) mark hs → IsUnfoundedAt place_of (IsDue s) mark hs n → ⊥
-  pub one : (n m : ℕ) → IsUnfoundedAt place_of (IsDue s) mark hs n → IsUnfoundedAt place_of (IsDue s) mark hs m → n ≡ m
-
--- so it is of every list, under every scenario and up to every mark
-abbrev pub AuditLaws : Type 0
-AuditLaws = (s : Scenario) (mark : List ℕ) (hs : List Happening) → HasOneFinding s mark hs
-
--- some front of the list has the record as a gap behind it
-pub record HasGap (s : Scenario) (hs : List Happening) (x : Happening) : Type 0 where
-  pub before : List Happening
-  pub behind : List Happening
-  pub parts : hs ≡ before ++ behind
-  pub gap : IsGap place_of (IsDue s) before behind x
-
--- a sound list lacks exactly what is due in its gaps, so that a sweep from its front finds it; and its records are linked
-pub record HasGapsOnly (s : Scenario) (hs : List Happening) : Type 0 where
-  pub lacks : (x : Happening) → IsLacking place_of (IsDue s) hs x ↔ HasGap s hs x
-  pub linked : AreLinked hs
-
--- so it is of every list whose records are all sound
-abbrev pub GapLaw : Type 0
-GapLaw = (s : Scenario) (mark : List ℕ) (hs : List Happening) → AreSound place_of (IsDue s) mark hs → HasGapsOnly s hs
-
--- a run goes on by a record exactly where it is due behind it, and no other is due before that
-abbrev pub NextLaw : Type 0
-NextLaw =
-    (s : Scenario) (mark : List ℕ) (hs : List Happening) (x : Happening)
-    → IsRun place_of (IsDue s) mark hs
-    → IsRun place_of (IsDue s) (behind (place_of x)) (hs ++ x ∷ []) ↔ IsNextOf place_of (IsDue s) mark hs x
 
 -- a refusal that the octets themselves give: all but want of memory
 abbrev pub IsOfReport : AuditRefusal → Type 0
@@ -69,3 +30,10 @@ pub record HasOneAnswer (network : Network) (octets : List ℕ) : Type 0 where
 -- so it is of every text, over a network without two things of one name
 abbrev pub AnswerLaw : Type 0
 AnswerLaw = (network : Network) (octets : List ℕ) → IsNamed network → HasOneAnswer network octets
+
+-- where the records of a report are all sound, one is first lacking at the time at which a debt is first unpaid
+abbrev pub ReportLackLaw : Type 0
+ReportLackLaw =
+    (network : Network) (ns : List Note) (end : Units) (time : ℕ) → AreSoundNotes network ns end
+    → IsFirstLackOf network ns end (units_of time)
+    ↔ IsFirstDebt (scenario_of network ns) (happenings network ns) (amount end) time

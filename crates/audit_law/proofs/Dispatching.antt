@@ -1,0 +1,186 @@
+-- What is owed of schedules is due.
+use Rattle.std.proofs.Common.{◌≡◌, ℕ, ◌+◌, ◌*◌, ◌≤◌, ℤ, pos, Bool, true, false, List, [], ◌∷◌, Some, None, filter, inl, inr, refl, sym, ap, subst, ◌∙◌}
+use Rattle.std.specs.List.{last_or}
+use Rattle.std.specs.Option.{option_map_or}
+use Rattle.std.specs.Prelude.{◌+ℤ◌, ◌-ℤ◌, ◌<ℤ◌, if◌then◌else◌}
+use Rattle.drift_clock.specs.Reach.{IsReach}
+use Rattle.net_plan.specs.declared.ids.DeviceId.{DeviceId}
+use Rattle.net_plan.specs.declared.ids.LinkId.{LinkId}
+use Rattle.net_plan.specs.declared.ids.VlId.{VlId}
+use Rattle.net_plan.specs.declared.network.Network.{Network}
+use Rattle.run_law.specs.declared.note.NoteBody.TheVariants as notes
+use Rattle.run_law.specs.declared.note.NoteBody.{NoteBody}
+use Rattle.run_law.specs.device.LocalClocks.{Reaches, changes_adjustment}
+use Rattle.run_law.specs.device.States.{adjustment_after, state_after}
+use Rattle.run_law.specs.records.Happenings.{Happening, earlier, time_of}
+use Rattle.run_law.specs.records.Order.{IsBefore}
+use Rattle.run_law.specs.records.Ranks.{key, members_in, place_at, place_of, rank}
+use Rattle.audit_law.specs.DueRecords.{IsCaused, IsDue}
+use Rattle.run_law.specs.runs.Runs.{IsFounded}
+use Rattle.run_law.specs.scenario.Scenarios.{Scenario, is_turned_on_at}
+use Rattle.run_law.specs.timed.Dispatching.{Dispatches, HasAccepted, HasAtHand, IsUp, Sends, is_accepted}
+use Rattle.schedule_tables.specs.declared.entry.Entry.{Entry}
+use Rattle.sync_state.specs.declared.state.State.TheVariants.{Integrating, Synchronised}
+use Rattle.run_law.proofs.law.FirstPlaces.{same_earlier, split}
+use Rattle.tte_units.specs.Amount.{amount, units_of}
+use Rattle.audit_law.specs.Debts.{IsDueIn}
+use Rattle.audit_law.specs.Dispatched.{Dispatch, IsDueByDispatch, IsDueBySending, OwesDispatch, OwesSending, Sending, TellsDispatch, TellsSending, dispatch_record, is_cut_then}
+use Rattle.audit_law.specs.DebtLaws.{DispatchLaw, SendingLaw}
+use Rattle.audit_law.proofs.Owing.{PaidAt, due_there, earlier_in, next_is_due, next_of, timely, within}
+
+-- ---- what the records of earlier times tell
+
+-- a clock reaches a value by the records of earlier times
+pub reaches_by : (s : Scenario) (gs hs : List Happening) (device : DeviceId) (v : ℤ) (t : ℕ) → earlier t gs ≡ earlier t hs → Reaches s gs device v t
+    → Reaches s hs device v t
+reaches_by s gs hs device v t same h =
+    let changed : List Happening → ℕ = λ es. option_map_or time_of (last_or None (filter (λ x. changes_adjustment device x.note.body) es)) 0 in
+    record {
+      below = subst (λ (es : List Happening). (pos (s.reading device (changed es)) +ℤ (adjustment_after s es device).0) <ℤ v) same h.below;
+      reach = subst (λ (es : List Happening). IsReach (s.reading device) (pos (changed es)) (v -ℤ (adjustment_after s es device).0) (pos t)) same h.reach;
+    }
+
+up_by : (s : Scenario) (gs hs : List Happening) (device : DeviceId) (t : ℕ) → earlier t gs ≡ earlier t hs → IsUp s gs device t → IsUp s hs device t
+up_by s gs hs device t same h = record {
+  synchronised =
+      subst (λ (es : List Happening). (if is_turned_on_at s device t then Integrating else state_after s es device) ≡ Synchronised) same h.synchronised;
+  correct = h.correct;
+}
+
+pub sends_by : (s : Scenario) (gs hs : List Happening) (device : DeviceId) (t cycle : ℕ) → earlier t gs ≡ earlier t hs → Sends s gs device t cycle
+    → Sends s hs device t cycle
+sends_by s gs hs device t cycle same h = record {
+  master = h.master;
+  up = up_by s gs hs device t same h.up;
+  begun = h.begun;
+  reached = reaches_by s gs hs device (pos (cycle * amount s.network.cycle)) t same h.reached;
+}
+
+accepted_by : (gs hs : List Happening) (device : DeviceId) (vl : VlId) (t cause cycle : ℕ) → earlier t gs ≡ earlier t hs
+    → HasAccepted gs device vl t cause cycle → HasAccepted hs device vl t cause cycle
+accepted_by gs hs device vl t cause cycle same h = record {
+  taken = h.taken;
+  last = subst (λ (es : List Happening). last_or None (filter (λ x. is_accepted device vl x.note.body) es) ≡ Some h.taken) same h.last;
+  number = h.number;
+  link = h.link;
+  from = h.from;
+  is = h.is;
+}
+
+at_hand_by : (network : Network) (gs hs : List Happening) (device : DeviceId) (entry : Entry) (t cause cycle : ℕ) → earlier t gs ≡ earlier t hs
+    → HasAtHand network gs device entry t cause cycle → HasAtHand network hs device entry t cause cycle
+at_hand_by network gs hs device entry t cause cycle same (inl own) = inl own
+at_hand_by network gs hs device entry t cause cycle same (inr taken) = inr (taken.0, accepted_by gs hs device entry.row.vl t cause cycle same taken.1)
+
+pub dispatches_by : (s : Scenario) (gs hs : List Happening) (device : DeviceId) (t : ℕ) (link : LinkId) (cause : ℕ) (vl : VlId) (cycle : ℕ)
+    → earlier t gs ≡ earlier t hs → Dispatches s gs device t link cause vl cycle → Dispatches s hs device t link cause vl cycle
+dispatches_by s gs hs device t link cause vl cycle same h = record {
+  place = h.place;
+  entry = h.entry;
+  row = h.row;
+  by = h.by;
+  of_vl = h.of_vl;
+  leaves = h.leaves;
+  occurs = h.occurs;
+  up = up_by s gs hs device t same h.up;
+  reached = reaches_by s gs hs device (pos (cycle * amount s.network.cycle + amount h.entry.row.offset)) t same h.reached;
+  at_hand = at_hand_by s.network gs hs device h.entry t cause cycle same h.at_hand;
+}
+
+-- ---- sendings
+
+some_sending : (s : Scenario) (hs : List Happening) (until : ℕ) (o : Sending) → IsFounded place_of (IsDue s) hs → OwesSending s hs until o
+    → PaidAt s hs until (IsDueBySending s) o.time (λ x. TellsSending o x)
+some_sending s hs until o founded owed =
+    let body = notes.Sent o.device o.cycle in
+    let p = place_at o.time 0 body in
+    let at = split place_of (IsDue s) hs p founded in
+    let sends = sends_by s hs at.front o.device o.time o.cycle (sym (same_earlier o.time _ hs at)) owed.sends in
+    let x = next_of s at.front o.time body in
+    let due : IsDueBySending s at.front x =
+    record { due = next_is_due s at.front o.time body sends; device = o.device; cycle = o.cycle; sends = sends; says = refl } in
+    let here = within o.time until (5 ∷ o.device.0 ∷ o.cycle ∷ []) owed.timely in
+    (x, due_there (IsDueBySending s) hs p at x refl due, here, record { at = refl; says = refl }, refl)
+
+sending_owed : (s : Scenario) (hs : List Happening) (until : ℕ) (x : Happening) → IsDueIn place_of (IsDueBySending s) hs x
+    → IsBefore (place_of x) ((until + 1) ∷ []) → (o : Sending) × OwesSending s hs until o × TellsSending o x × (time_of x ≡ o.time)
+sending_owed s hs until x h here =
+    let d = h.due in
+    let o : Sending = record { device = d.device; cycle = d.cycle; time = time_of x } in
+    let owed : OwesSending s hs until o = record {
+      sends = sends_by s h.before hs d.device (time_of x) d.cycle (earlier_in (IsDueBySending s) hs x h) d.sends;
+      timely = timely (time_of x) until (rank x.note.body ∷ key (members_in x) x.note.body) here;
+    } in
+    (o, owed, record { at = refl; says = d.says }, refl)
+
+sending_place : (o : Sending) (x : Happening) → TellsSending o x → place_of x ≡ place_at o.time 0 (notes.Sent o.device o.cycle)
+sending_place o x h =
+    ap (λ (b : NoteBody). place_at (time_of x) (members_in x) b) h.says ∙ ap (λ (t : ℕ). place_at t 0 (notes.Sent o.device o.cycle)) h.at
+
+pub sending_law : SendingLaw
+sending_law s hs until founded = record {
+  each = λ x h here. sending_owed s hs until x h here;
+  some = λ o owed. some_sending s hs until o founded owed;
+  one = λ o x y owed a b p q. sending_place o x p ∙ sym (sending_place o y q);
+}
+
+-- ---- dispatches
+
+-- the record of a dispatch does not show the members of a frame
+record_place : (t m : ℕ) (o : Dispatch) (cut : Bool) → place_at t m (dispatch_record o cut) ≡ place_at t 0 (dispatch_record o cut)
+record_place t m o true = refl
+record_place t m o false = refl
+
+causes_record : (s : Scenario) (gs : List Happening) (o : Dispatch) (cut : Bool) → is_cut_then s o ≡ cut
+    → Dispatches s gs o.device o.time o.link o.cause o.vl o.cycle → IsCaused s gs (units_of o.time) (dispatch_record o cut)
+causes_record s gs o true is h = inr (inl (o.vl, o.cycle, h, is))
+causes_record s gs o false is h = record { dispatches = h; whole = is }
+
+some_dispatch : (s : Scenario) (hs : List Happening) (until : ℕ) (o : Dispatch) → IsFounded place_of (IsDue s) hs → OwesDispatch s hs until o
+    → PaidAt s hs until (IsDueByDispatch s) o.time (λ x. TellsDispatch s o x)
+some_dispatch s hs until o founded owed =
+    let cut = is_cut_then s o in
+    let body = dispatch_record o cut in
+    let p = o.time ∷ rank body ∷ key 0 body in
+    let at = split place_of (IsDue s) hs p founded in
+    let dispatches = dispatches_by s hs at.front o.device o.time o.link o.cause o.vl o.cycle (sym (same_earlier o.time _ hs at)) owed.dispatches in
+    let x = next_of s at.front o.time body in
+    let due : IsDueByDispatch s at.front x = record {
+      due = next_is_due s at.front o.time body (causes_record s at.front o cut refl dispatches);
+      is = o;
+      at = refl;
+      dispatches = dispatches;
+      says = refl;
+    } in (
+      x,
+      due_there (IsDueByDispatch s) hs p at x (record_place o.time (members_in x) o cut) due,
+      within o.time until (rank body ∷ key (members_in x) body) owed.timely,
+      record { at = refl; says = refl },
+      refl,
+    )
+
+dispatch_owed : (s : Scenario) (hs : List Happening) (until : ℕ) (x : Happening) → IsDueIn place_of (IsDueByDispatch s) hs x
+    → IsBefore (place_of x) ((until + 1) ∷ []) → (o : Dispatch) × OwesDispatch s hs until o × TellsDispatch s o x × (time_of x ≡ o.time)
+dispatch_owed s hs until x h here =
+    let d = h.due in
+    let same : earlier d.is.time h.before ≡ earlier d.is.time hs =
+    subst (λ (t : ℕ). earlier t h.before ≡ earlier t hs) d.at (earlier_in (IsDueByDispatch s) hs x h) in
+    let owed : OwesDispatch s hs until d.is = record {
+      dispatches = dispatches_by s h.before hs d.is.device d.is.time d.is.link d.is.cause d.is.vl d.is.cycle same d.dispatches;
+      timely = subst (λ (t : ℕ). t ≤ until) d.at (timely (time_of x) until (rank x.note.body ∷ key (members_in x) x.note.body) here);
+    } in
+    (d.is, owed, record { at = d.at; says = d.says }, d.at)
+
+dispatch_place : (s : Scenario) (o : Dispatch) (x : Happening) → TellsDispatch s o x → place_of x ≡ place_at o.time 0 (dispatch_record o (is_cut_then s o))
+dispatch_place s o x h =
+    let cut = is_cut_then s o in
+    ap (λ (b : NoteBody). place_at (time_of x) (members_in x) b) h.says
+    ∙ record_place (time_of x) (members_in x) o cut
+    ∙ ap (λ (t : ℕ). place_at t 0 (dispatch_record o cut)) h.at
+
+pub dispatch_law : DispatchLaw
+dispatch_law s hs until founded = record {
+  each = λ x h here. dispatch_owed s hs until x h here;
+  some = λ o owed. some_dispatch s hs until o founded owed;
+  one = λ o x y owed a b p q. dispatch_place s o x p ∙ sym (dispatch_place s o y q);
+}

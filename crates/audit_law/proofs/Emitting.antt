@@ -1,0 +1,126 @@
+-- What is owed of clusters is due.
+use Rattle.std.proofs.lemmas.Bool.{and_from, eq-eqb, false_from_ne_true, lt-ltb, or_left, or_right}
+use Rattle.std.proofs.lemmas.List.{append-nil}
+use Rattle.std.proofs.lemmas.List.Elements.{filter-append}
+use Rattle.std.proofs.Common.{◌≡◌, ℕ, ◌+◌, pos, Bool, true, List, [], ◌∷◌, ◌++◌, filter, inl, inr, refl, sym, ap, subst, ◌∙◌}
+use Rattle.std.specs.Prelude.{◌==◌, ◌&&◌, nat_lt, if◌then◌else◌}
+use Rattle.compression.specs.declared.compressed.Compressed.{Compressed}
+use Rattle.drift_clock.specs.Reach.{IsReach}
+use Rattle.net_plan.specs.declared.ids.DeviceId.{DeviceId}
+use Rattle.pcf_values.specs.declared.members.Members.{Members}
+use Rattle.run_law.specs.control.Emissions.{Emits}
+use Rattle.run_law.specs.declared.note.NoteBody.TheVariants as notes
+use Rattle.run_law.specs.declared.note.NoteBody.{NoteBody}
+use Rattle.run_law.specs.records.Happenings.{Happening, time_of}
+use Rattle.run_law.specs.records.Order.{AllBefore, IsBefore, is_before}
+use Rattle.run_law.specs.records.Ranks.{key, members_in, place_at, place_of, rank}
+use Rattle.audit_law.specs.DueRecords.{IsCaused, IsDue}
+use Rattle.run_law.specs.runs.Runs.{IsFounded}
+use Rattle.run_law.specs.scenario.Scenarios.{Scenario}
+use Rattle.run_law.proofs.law.FirstPlaces.{IsSplit, none_kept, split}
+use Rattle.tte_units.specs.declared.units.Units.{Units}
+use Rattle.audit_law.specs.Debts.{IsDueIn}
+use Rattle.audit_law.specs.Emitted.{IsDueByEmission, OwesEmission, TellsEmission, before_place, emission_place, emission_record}
+use Rattle.audit_law.specs.DebtLaws.{EmissionLaw}
+use Rattle.audit_law.proofs.Owing.{PaidAt, due_there, next_is_due, next_of, split_at, timely, within}
+use Rattle.audit_law.proofs.Ripening.{is_before_true, one_reach}
+
+-- ---- the records before a place
+
+is_before_from : (p q : List ℕ) → IsBefore p q → is_before p q ≡ true
+is_before_from p [] b = absurd b
+is_before_from [] (y ∷ ys) b = refl
+is_before_from (x ∷ xs) (y ∷ ys) (inl lt) = or_left (nat_lt x y) (x == y && is_before xs ys) (lt-ltb x y lt)
+is_before_from (x ∷ xs) (y ∷ ys) (inr b) =
+    or_right (nat_lt x y) (x == y && is_before xs ys) (and_from (x == y) (is_before xs ys) (eq-eqb x y b.0) (is_before_from xs ys b.1))
+
+all_kept : (hs : List Happening) (p : List ℕ) → AllBefore place_of hs p → before_place hs p ≡ hs
+all_kept [] p all = refl
+all_kept (h ∷ hs) p all =
+    ap (λ (b : Bool). if b then h ∷ before_place hs p else before_place hs p) (is_before_from (place_of h) p (all h (inl refl)))
+    ∙ ap (λ (gs : List Happening). h ∷ gs) (all_kept hs p (λ g i. all g (inr i)))
+
+-- where a list parts at a place, its front is the records before that
+pub before_is_front : (hs : List Happening) (p : List ℕ) → (at : IsSplit place_of hs p) → before_place hs p ≡ at.front
+before_is_front hs p at =
+    let test : Happening → Bool = λ h. is_before (place_of h) p in
+    let none : filter test at.rest ≡ [] = none_kept test at.rest
+    (λ h i. false_from_ne_true (test h) (λ e. at.none h i (is_before_true (place_of h) p e))) in
+    ap (filter test) at.whole
+    ∙ filter-append test at.front at.rest
+    ∙ ap (λ (gs : List Happening). filter test at.front ++ gs) none
+    ∙ append-nil (filter test at.front)
+    ∙ all_kept at.front p at.before
+
+-- ---- the law
+
+some_emission : (s : Scenario) (hs : List Happening) (until : ℕ) (device : DeviceId) (sent : Compressed) → IsFounded place_of (IsDue s) hs
+    → (o : OwesEmission s hs until device sent)
+    → PaidAt s hs until (IsDueByEmission s) o.time (λ x. TellsEmission device sent x.note.body)
+some_emission s hs until device sent founded o =
+    let body = emission_record device sent o.verdict in
+    let p = emission_place o.time device sent in
+    let at = split place_of (IsDue s) hs p founded in
+    let emits = subst (λ (gs : List Happening). Emits s gs device o.time sent o.verdict) (before_is_front hs p at) o.emits in
+    let x = next_of s at.front o.time body in
+    let due : IsDueByEmission s at.front x = record {
+      due = next_is_due s at.front o.time body emits;
+      device = device;
+      sent = sent;
+      verdict = o.verdict;
+      emits = emits;
+      says = refl;
+    } in
+    let here = within o.time until (rank body ∷ key (members_in x) body) o.timely in
+    (x, due_there (IsDueByEmission s) hs p at x refl due, here, (refl, refl, refl, refl, refl), refl)
+
+-- the place of what is due by an emission
+due_place : (s : Scenario) (before : List Happening) (x : Happening) → (h : IsDueByEmission s before x)
+    → place_of x ≡ emission_place (time_of x) h.device h.sent
+due_place s before x h = ap (λ (b : NoteBody). place_at (time_of x) (members_in x) b) h.says
+
+emission_owed : (s : Scenario) (hs : List Happening) (until : ℕ) (x : Happening) → IsDueIn place_of (IsDueByEmission s) hs x
+    → IsBefore (place_of x) ((until + 1) ∷ [])
+    → (given : DeviceId × Compressed) × (o : OwesEmission s hs until given.0 given.1) × TellsEmission given.0 given.1 x.note.body × (time_of x ≡ o.time)
+emission_owed s hs until x h here =
+    let d = h.due in
+    let front : before_place hs (emission_place (time_of x) d.device d.sent) ≡ h.before =
+    ap (before_place hs) (sym (due_place s h.before x d)) ∙ before_is_front hs (place_of x) (split_at (IsDueByEmission s) hs x h) in
+    let owed : OwesEmission s hs until d.device d.sent = record {
+      time = time_of x;
+      verdict = d.verdict;
+      emits = subst (λ (gs : List Happening). Emits s gs d.device (time_of x) d.sent d.verdict) (sym front) d.emits;
+      timely = timely (time_of x) until (rank x.note.body ∷ key (members_in x) x.note.body) here;
+    } in
+    ((d.device, d.sent), owed, subst (TellsEmission d.device d.sent) (sym d.says) (refl, refl, refl, refl, refl), refl)
+
+-- a record that is due and tells of an emission
+record IsEmitted (s : Scenario) (device : DeviceId) (sent : Compressed) (x : Happening) : Type 0 where
+  pub place : place_of x ≡ emission_place (time_of x) device sent
+  pub reached : IsReach (s.reading device) (pos 0) sent.at.0 (pos (time_of x))
+
+emitted : (s : Scenario) (before : List Happening) (device : DeviceId) (sent : Compressed) (x : Happening) (body : NoteBody)
+    → x.note.body ≡ body → IsCaused s before x.note.time body → TellsEmission device sent body → IsEmitted s device sent x
+emitted s before device sent x (notes.Compressed other opened at cycle members verdict) is c e = record {
+  place =
+      ap (λ (b : NoteBody). place_at (time_of x) (members_in x) b) is
+      ∙ ap (λ (d : DeviceId). place_at (time_of x) 0 (notes.Compressed d opened at cycle members verdict)) e.0
+      ∙ ap (λ (u : Units). place_at (time_of x) 0 (notes.Compressed device u at cycle members verdict)) e.1
+      ∙ ap (λ (u : Units). place_at (time_of x) 0 (notes.Compressed device sent.opened u cycle members verdict)) e.2
+      ∙ ap (λ (n : ℕ). place_at (time_of x) 0 (notes.Compressed device sent.opened sent.at n members verdict)) e.3
+      ∙ ap (λ (m : Members). place_at (time_of x) 0 (notes.Compressed device sent.opened sent.at sent.cycle m verdict)) e.4;
+  reached = subst (λ (d : DeviceId). IsReach (s.reading d) (pos 0) sent.at.0 (pos (time_of x))) e.0
+      (subst (λ (u : Units). IsReach (s.reading other) (pos 0) u.0 (pos (time_of x))) e.2 c.reached);
+}
+emitted s before device sent x other is c e = absurd e
+
+pub emission_law : EmissionLaw
+emission_law s hs until founded = record {
+  each = λ x h here. emission_owed s hs until x h here;
+  some = λ given o. some_emission s hs until given.0 given.1 founded o;
+  one = λ given x y o a b p q.
+      let first = emitted s a.before given.0 given.1 x x.note.body refl a.due.cause p in
+      let second = emitted s b.before given.0 given.1 y y.note.body refl b.due.cause q in
+      let times = one_reach (s.reading given.0) (pos 0) given.1.at.0 (time_of x) (time_of y) first.reached second.reached in
+      first.place ∙ ap (λ (t : ℕ). emission_place t given.0 given.1) times ∙ sym second.place;
+}

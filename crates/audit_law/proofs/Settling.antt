@@ -1,0 +1,213 @@
+-- What is owed up to a time is told by the records up to then.
+use Rattle.std.proofs.lemmas.Bool.{and_left, and_right, false_from_ne_true, le-ltb, lt-leb, ne_eqb, or_from}
+use Rattle.std.proofs.lemmas.List.{append-nil}
+use Rattle.std.proofs.lemmas.List.Elements.{filter-append}
+use Rattle.std.proofs.lemmas.Int.{ints}
+use Rattle.std.proofs.Common.{◌≡◌, ℕ, ◌+◌, ◌<◌, ◌≤◌, Bool, false, List, ◌∷◌, ◌++◌, Some, None, filter, inl, inr, refl, sym, ap, subst, ◌∙◌, arith}
+use Rattle.std.specs.List.{last_or}
+use Rattle.std.specs.Prelude.{◌==◌, ◌&&◌, ◌||◌, nat_le, nat_lt, option_and_then}
+use Rattle.net_plan.specs.declared.ids.DeviceId.{DeviceId}
+use Rattle.net_plan.specs.declared.ids.LinkId.{LinkId}
+use Rattle.net_plan.specs.declared.ids.VlId.{VlId}
+use Rattle.run_law.specs.control.Arrivals.{control_arrival}
+use Rattle.audit_law.specs.CorrectionNumbers.{heard_since_point}
+use Rattle.run_law.specs.control.Emissions.{Emits}
+use Rattle.run_law.specs.control.Wires.{Signal, control, timed}
+use Rattle.run_law.specs.declared.judgement.Judgement.TheVariants.{Ignored}
+use Rattle.run_law.specs.declared.note.NoteBody.TheVariants as notes
+use Rattle.run_law.specs.declared.note.NoteBody.{NoteBody}
+use Rattle.run_law.specs.device.Standpoints.{Standpoint, standpoint}
+use Rattle.run_law.specs.records.Happenings.{Happening, earlier, numbered, time_of, up_to}
+use Rattle.run_law.specs.records.Order.{IsIn, is_before}
+use Rattle.run_law.specs.records.Ranks.{key, place_of, rank}
+use Rattle.audit_law.specs.DueRecords.{IsDue}
+use Rattle.run_law.specs.runs.Runs.{IsFounded}
+use Rattle.run_law.specs.scenario.Scenarios.{Scenario}
+use Rattle.run_law.specs.timed.Arrivals.{octets_fault, timed_arrival}
+use Rattle.run_law.specs.timed.Receptions.{ArrivesAs, arrival_of, comes_before, is_taken_before, last_taken, taken_cycle}
+use Rattle.audit_law.proofs.Numbered.{by_number, number_is}
+use Rattle.run_law.proofs.law.FirstPlaces.{front_founded, none_kept, numbered_front, numbered_in}
+use Rattle.run_law.proofs.runs.Places.{in_parts}
+use Rattle.audit_law.specs.DebtLaws.{SettledLaw}
+use Rattle.audit_law.specs.Emitted.{before_place, emission_record}
+use Rattle.audit_law.specs.Owed as debts
+use Rattle.audit_law.specs.Owed.{Debt, IsOwed}
+use Rattle.audit_law.proofs.Arriving.{by_octets, same_standpoint}
+use Rattle.audit_law.proofs.Changing as changing
+use Rattle.audit_law.proofs.Correcting.{comes_by}
+use Rattle.audit_law.proofs.Dispatching.{dispatches_by, sends_by}
+use Rattle.audit_law.proofs.LosingSends as losing
+use Rattle.audit_law.proofs.Ripening.{is_before_true, permanent_by}
+
+-- ---- two lists that tell the same up to a time
+
+record TellsSame (gs hs : List Happening) (until : ℕ) : Type 0 where
+  pub numbers : (n : ℕ) (h : Happening) → time_of h ≤ until → numbered gs n ≡ Some h → numbered hs n ≡ Some h
+  pub earliers : (t : ℕ) → t ≤ until → earlier t gs ≡ earlier t hs
+  pub ups : (t : ℕ) → t ≤ until → up_to t gs ≡ up_to t hs
+  pub befores : (t : ℕ) (ks : List ℕ) → t ≤ until → before_place gs (t ∷ ks) ≡ before_place hs (t ∷ ks)
+  pub takens : (device : DeviceId) (vl : VlId) (t : ℕ) (link : LinkId) (cause : ℕ) → t ≤ until
+      → last_taken gs device t link cause vl ≡ last_taken hs device t link cause vl
+
+-- what a filter keeps of a list is what it keeps of its front, where it keeps none of the rest
+of_front : (test : Happening → Bool) (gs rest : List Happening) → ((h : Happening) → IsIn h rest → test h ≡ false) → filter test gs ≡ filter test (gs ++ rest)
+of_front test gs rest fails =
+    sym (append-nil (filter test gs))
+    ∙ ap (λ (ks : List Happening). filter test gs ++ ks) (sym (none_kept test rest fails))
+    ∙ sym (filter-append test gs rest)
+
+-- a later record is not taken before
+not_taken : (t u : ℕ) (device : DeviceId) (vl : VlId) (link : LinkId) (cause : ℕ) (body : NoteBody) → t < u
+    → is_taken_before device vl t link cause u body ≡ false
+not_taken t u device vl link cause (notes.Accepted other by from of_vl cycle) late =
+    and_right (device.0 == other.0 && vl.0 == of_vl.0) (nat_lt u t || (u == t && comes_before by from link cause))
+    (or_from (nat_lt u t) (u == t && comes_before by from link cause) (le-ltb u t (omega arith))
+    (and_left (u == t) (comes_before by from link cause) (ne_eqb u t (λ e. omega (arith, e, late)))))
+not_taken t u device vl link cause (notes.Delivered other by from of_vl cycle) late =
+    and_right (device.0 == other.0 && vl.0 == of_vl.0) (nat_lt u t || (u == t && comes_before by from link cause))
+    (or_from (nat_lt u t) (u == t && comes_before by from link cause) (le-ltb u t (omega arith))
+    (and_left (u == t) (comes_before by from link cause) (ne_eqb u t (λ e. omega (arith, e, late)))))
+not_taken t u device vl link cause other late = refl
+
+not_before : (h : Happening) (t : ℕ) (ks : List ℕ) → t < time_of h → is_before (place_of h) (t ∷ ks) ≡ false
+not_before h t ks late =
+    false_from_ne_true (is_before (place_of h) (t ∷ ks)) (λ e. elim (is_before_true (place_of h) (t ∷ ks) e) [
+      | inl lt ↦ omega (arith, lt, late)
+      | inr more ↦ omega (arith, more.0, late)
+    ])
+
+-- a list and its front, behind which all is later
+front_tells : (gs rest : List Happening) (until : ℕ) → ((h : Happening) → IsIn h rest → until < time_of h) → TellsSame gs (gs ++ rest) until
+front_tells gs rest until late = record {
+  numbers = λ n h le there. numbered_front gs rest n h there;
+  earliers = λ t le. of_front (λ h. nat_lt (time_of h) t) gs rest (λ h i. le-ltb (time_of h) t (let l = late h i in omega (arith, l, le)));
+  ups = λ t le. of_front (λ h. nat_le (time_of h) t) gs rest (λ h i. lt-leb (time_of h) t (let l = late h i in omega (arith, l, le)));
+  befores = λ t ks le. of_front (λ h. is_before (place_of h) (t ∷ ks)) gs rest
+      (λ h i. not_before h t ks (let l = late h i in omega (arith, l, le)));
+  takens = λ device vl t link cause le.
+      ap (λ (ks : List Happening). option_and_then (λ (h : Happening). taken_cycle h.note.body) (last_or None ks))
+      (of_front (λ h. is_taken_before device vl t link cause (time_of h) h.note.body) gs rest
+      (λ h i. not_taken t (time_of h) device vl link cause h.note.body (let l = late h i in omega (arith, l, le))));
+}
+
+-- a record up to the time is in the front
+in_front : (s : Scenario) (gs rest : List Happening) (until : ℕ) → IsFounded place_of (IsDue s) (gs ++ rest)
+    → ((h : Happening) → IsIn h rest → until < time_of h) → (n : ℕ) (h : Happening) → time_of h ≤ until → numbered (gs ++ rest) n ≡ Some h
+    → numbered gs n ≡ Some h
+in_front s gs rest until founded late n h le there =
+    let number = number_is s (gs ++ rest) n h founded there in
+    elim (in_parts h gs rest (numbered_in (gs ++ rest) n h there)) [
+      | inl i ↦ subst (λ (m : ℕ). numbered gs m ≡ Some h) number (by_number s gs h (front_founded place_of (IsDue s) gs rest founded) i)
+      | inr i ↦ let l = late h i in absurd (omega (arith, l, le))
+    ]
+
+tells_front : (s : Scenario) (gs rest : List Happening) (until : ℕ) → IsFounded place_of (IsDue s) (gs ++ rest)
+    → ((h : Happening) → IsIn h rest → until < time_of h) → TellsSame (gs ++ rest) gs until
+tells_front s gs rest until founded late =
+    let same = front_tells gs rest until late in
+    record {
+      numbers = in_front s gs rest until founded late;
+      earliers = λ t le. sym (same.earliers t le);
+      ups = λ t le. sym (same.ups t le);
+      befores = λ t ks le. sym (same.befores t ks le);
+      takens = λ device vl t link cause le. sym (same.takens device vl t link cause le);
+    }
+
+-- ---- debts
+
+same_outcome : (s : Scenario) (gs hs : List Happening) (until : ℕ) (device : DeviceId) (t : ℕ) (link : LinkId) (cause : ℕ) (signal : Signal)
+    → TellsSame gs hs until → t ≤ until → arrival_of s gs device t link cause signal ≡ arrival_of s hs device t link cause signal
+same_outcome s gs hs until device t link cause (control frame) same le =
+    ap (λ (p : Standpoint). control_arrival s.network device link p frame) (same_standpoint s device t gs hs (same.earliers t le))
+same_outcome s gs hs until device t link cause (timed octets) same le =
+    let here = standpoint s hs device t in
+    ap (λ (p : Standpoint). timed_arrival s.network device link p octets (last_taken gs device t link cause))
+    (same_standpoint s device t gs hs (same.earliers t le))
+    ∙ by_octets s.network device link here octets (last_taken gs device t link cause) (last_taken hs device t link cause)
+    (octets_fault s.network here octets) (λ vl. same.takens device vl t link cause le)
+
+-- what comes to a time from an earlier one is not earlier
+sum_within : (t a b c until : ℕ) → t ≡ a + b + c → t ≤ until → a ≤ until
+sum_within t a b c until is le = omega (arith, is, le)
+
+-- what one of two such lists owes, the other does
+owed_by : (s : Scenario) (gs hs : List Happening) (until : ℕ) → TellsSame gs hs until → (o : Debt) → IsOwed s gs until o → IsOwed s hs until o
+owed_by s gs hs until same (debts.event line) o = o
+owed_by s gs hs until same (debts.arrival cause) o =
+    let a = o.arrives in
+    let arrives : ArrivesAs s hs o.device o.time o.link cause o.is = record {
+      putting = a.putting;
+      there = same.numbers cause a.putting (sum_within o.time (time_of a.putting) _ _ until a.arrives.at o.timely) a.there;
+      signal = a.signal;
+      arrives = a.arrives;
+      becomes = a.becomes ∙ same_outcome s gs hs until o.device o.time o.link cause a.signal same o.timely;
+    } in
+    record { device = o.device; link = o.link; time = o.time; is = o.is; arrives = arrives; behind = o.behind; timely = o.timely }
+owed_by s gs hs until same (debts.permanence cause) o =
+    let p = o.permanent in
+    let from_on = p.reached.from_on in
+    let le = o.timely in
+    record {
+      device = o.device;
+      link = o.link;
+      time = o.time;
+      frame = o.frame;
+      point = o.point;
+      permanent = permanent_by s gs hs o.device o.time o.link cause o.frame o.point p (same.numbers cause p.arrival (omega (arith, ints, from_on, le)) p.there);
+      timely = le;
+    }
+owed_by s gs hs until same (debts.emission device sent) o =
+    let body = emission_record device sent Ignored in
+    record {
+      time = o.time;
+      verdict = o.verdict;
+      emits = subst (λ (ks : List Happening). Emits s ks device o.time sent o.verdict) (same.befores o.time (rank body ∷ key 0 body) o.timely) o.emits;
+      timely = o.timely;
+    }
+owed_by s gs hs until same (debts.sending given) o =
+    record { sends = sends_by s gs hs given.device given.time given.cycle (same.earliers given.time o.timely) o.sends; timely = o.timely }
+owed_by s gs hs until same (debts.point device time) o = record {
+  cycle = o.cycle;
+  verdict = o.verdict;
+  comes = comes_by s (up_to time gs) (up_to time hs) device time o.cycle o.verdict (ap (earlier time) (same.ups time o.timely))
+      (ap (λ (ks : List Happening). heard_since_point s ks device time) (same.ups time o.timely)) o.comes;
+  more = o.more;
+  timely = o.timely;
+}
+owed_by s gs hs until same (debts.change cause) o = record {
+  device = o.device;
+  time = o.time;
+  state = o.state;
+  why = o.why;
+  brought = o.brought;
+  changes = changing.moved s gs hs o.device o.time o.state cause o.why o.brought (same.earliers o.time o.timely)
+      (λ h is low. same.numbers cause h (let le = o.timely in omega (arith, is.same_time, le)) is.there) o.changes;
+  timely = o.timely;
+}
+owed_by s gs hs until same (debts.departure cause link) o = record {
+  giving = o.giving;
+  there = same.numbers cause o.giving (let le = o.timely in omega (arith, le)) o.there;
+  device = o.device;
+  gives = o.gives;
+  frame = o.frame;
+  of_frame = o.of_frame;
+  correct = o.correct;
+  timely = o.timely;
+}
+owed_by s gs hs until same (debts.dispatch given) o = record {
+  dispatches = dispatches_by s gs hs given.device given.time given.link given.cause given.vl given.cycle (same.earliers given.time o.timely) o.dispatches;
+  timely = o.timely;
+}
+owed_by s gs hs until same (debts.loss cause) o = record {
+  device = o.device;
+  link = o.link;
+  time = o.time;
+  lost = losing.moved s gs hs o.device o.time o.link cause o.lost
+      (same.numbers cause o.lost.event (let le = o.timely in omega (arith, o.lost.is.same_time, le)) o.lost.is.there);
+  timely = o.timely;
+}
+owed_by s gs hs until same (debts.clock device time) o = o
+
+pub settled_law : SettledLaw
+settled_law s gs rest until founded late o =
+    (owed_by s gs (gs ++ rest) until (front_tells gs rest until late) o, owed_by s (gs ++ rest) gs until (tells_front s gs rest until founded late) o)
