@@ -1,19 +1,19 @@
 -- The places of records, in ascending order.
-use Rattle.std.specs.Prelude.{◌≡◌, ℕ, List, [], ◌∷◌, ◌++◌, map}
+use Rattle.std.specs.Prelude.{◌≡◌, ℕ, List, map}
+use Rattle.std.specs.List.{AllPairs}
 use Rattle.run_law.specs.records.Happenings.{Happening}
-use Rattle.run_law.specs.records.Order.{AllBefore, IsBefore, IsIn}
+use Rattle.run_law.specs.records.Order.{IsBefore, IsIn}
 use Rattle.run_law.specs.records.Ranks.{place_of}
 
 -- each place is before those behind it
 abbrev pub AreAscending : List (List ℕ) → Type 0
-AreAscending ps = (before behind : List (List ℕ)) (p : List ℕ) → ps ≡ before ++ p ∷ behind
-    → (q : List ℕ) → IsIn q before → IsBefore q p
+AreAscending places = AllPairs IsBefore places
 
--- these are the places of the records, which are in order
-pub record ArePlacesOf (hs : List Happening) (ps : List (List ℕ)) : Type 0 where
-  pub places : ps ≡ map place_of hs
-  pub ascending : AreAscending ps
+-- these are the places of the records, each before those behind it
+pub record ArePlacesOf (hs : List Happening) (places : List (List ℕ)) : Type 0 where
+  pub same : places ≡ map place_of hs
+  pub ascending : AreAscending places
 
 -- a record stands at the place
-abbrev pub HasPlace : List Happening → List ℕ → Type 0
-HasPlace hs p = (h : Happening) × IsIn h hs × (place_of h ≡ p)
+abbrev pub HasRecordAt : List Happening → List ℕ → Type 0
+HasRecordAt hs place = (h : Happening) × IsIn h hs × (place_of h ≡ place)

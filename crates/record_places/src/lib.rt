@@ -2,5 +2,7 @@
 #![tactic(auto)]
 
 mod place;
+mod places;
 
 pub use place::Place;
+pub use places::Places;

@@ -1,4 +1,4 @@
-ghost use Rattle.std.specs.Prelude.{◌≡◌, ℕ, [], ◌∷◌};
+ghost use Rattle.std.specs.Prelude.{◌≡◌, ◌↔◌, ℕ, [], ◌∷◌, IsTrue};
 ghost use Rattle.run_law.specs.declared.judgement.Judgement.{Judgement};
 ghost use Rattle.run_law.specs.declared.note.NoteBody.TheVariants as notes;
 ghost use Rattle.run_law.specs.records.Order.{is_before};
@@ -183,6 +183,13 @@ impl Place {
         ensures { result ≡ is_before self.now other.now }
     {
         self.as_slice() < other.as_slice()
+    }
+
+    /// Is it the other?
+    pub fn is_same(&self, other: &Place) -> bool
+        ensures { IsTrue result ↔ (self.now ≡ other.now) }
+    {
+        self.as_slice() == other.as_slice()
     }
 
     fn as_slice(&self) -> &[u64]
