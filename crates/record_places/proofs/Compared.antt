@@ -1,5 +1,5 @@
 -- Slices of numbers compare as places do.
-use Rattle.std.proofs.Common.{◌≡◌, ℕ, Bool, List, [], ◌∷◌, Some, refl, arith, nat_cmp, is_lt}
+use Rattle.std.proofs.Common.{◌≡◌, ℕ, Bool, List, Some, refl, arith, nat_cmp, is_lt}
 use Rattle.std.proofs.lemmas.Cmp.{same_from_slice_cmp_tested}
 use Rattle.std.proofs.lemmas.Bool.Decides.{nat_tests}
 use Rattle.std.specs.Cmp.Lexicographic.{slice_partial_cmp}

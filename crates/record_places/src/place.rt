@@ -57,30 +57,79 @@ impl Place {
     {
         match body {
             NoteBody::Event { line, .. } => Place::by_one(time, 1, *line),
-            NoteBody::Arrived { device, link, cause, .. } => Place::by_cause(time, 2, *device, *link, *cause),
-            NoteBody::Permanent { device, link, cause, point, .. } => {
-                Place::of_permanence(time, *device, *point, members, *link, *cause)
-            }
-            NoteBody::Compressed { device, opened, at, cycle, members, .. } => {
-                Place::of_emission(time, *device, *opened, *at, *cycle, *members)
-            }
+            NoteBody::Arrived {
+                device,
+                link,
+                cause,
+                ..
+            } => Place::by_cause(time, 2, *device, *link, *cause),
+            NoteBody::Permanent {
+                device,
+                link,
+                cause,
+                point,
+                ..
+            } => { Place::of_permanence(time, *device, *point, members, *link, *cause) }
+            NoteBody::Compressed {
+                device,
+                opened,
+                at,
+                cycle,
+                members,
+                ..
+            } => { Place::of_emission(time, *device, *opened, *at, *cycle, *members) }
             NoteBody::Sent { device, cycle } => Place::by_two(time, 5, *device, u64::from(*cycle)),
             NoteBody::Corrected { device, .. } => Place::by_one(time, 6, u64::from(device.0)),
             NoteBody::State { device, cause, .. } => Place::by_two(time, 7, *device, *cause),
-            NoteBody::Left { device, link, cause, .. } => Place::by_cause(time, 8, *device, *link, *cause),
-            NoteBody::Lost { device, link, cause } => Place::by_cause(time, 9, *device, *link, *cause),
-            NoteBody::TtSent { device, link, cause, vl, cycle } => {
-                Place::of_dispatch(time, *device, *link, *cause, *vl, *cycle)
-            }
-            NoteBody::Accepted { device, link, cause, .. } => Place::by_cause(time, 11, *device, *link, *cause),
-            NoteBody::Delivered { device, link, cause, .. } => Place::by_cause(time, 12, *device, *link, *cause),
-            NoteBody::Dropped { device, link, cause, .. } => Place::by_cause(time, 13, *device, *link, *cause),
+            NoteBody::Left {
+                device,
+                link,
+                cause,
+                ..
+            } => Place::by_cause(time, 8, *device, *link, *cause),
+            NoteBody::Lost {
+                device,
+                link,
+                cause,
+            } => Place::by_cause(time, 9, *device, *link, *cause),
+            NoteBody::TtSent {
+                device,
+                link,
+                cause,
+                vl,
+                cycle,
+            } => { Place::of_dispatch(time, *device, *link, *cause, *vl, *cycle) }
+            NoteBody::Accepted {
+                device,
+                link,
+                cause,
+                ..
+            } => Place::by_cause(time, 11, *device, *link, *cause),
+            NoteBody::Delivered {
+                device,
+                link,
+                cause,
+                ..
+            } => Place::by_cause(time, 12, *device, *link, *cause),
+            NoteBody::Dropped {
+                device,
+                link,
+                cause,
+                ..
+            } => Place::by_cause(time, 13, *device, *link, *cause),
             NoteBody::Clock { device, .. } => Place::by_one(time, 14, u64::from(device.0)),
         }
     }
 
     /// That of a frame that is permanent, or dropped, at its point: before it is all that bears on its judgement.
-    pub fn of_permanence(time: u64, device: DeviceId, point: Units, members: u32, link: LinkId, cause: u64) -> Place
+    pub fn of_permanence(
+        time: u64,
+        device: DeviceId,
+        point: Units,
+        members: u32,
+        link: LinkId,
+        cause: u64,
+    ) -> Place
         ensures { (verdict : Judgement)
             → result ≡ place_at time members (notes.Permanent device link cause point verdict) }
     {
@@ -101,7 +150,14 @@ impl Place {
     }
 
     /// That of an emission of a compression master.
-    pub fn of_emission(time: u64, device: DeviceId, opened: Units, at: Units, cycle: u32, members: Members) -> Place
+    pub fn of_emission(
+        time: u64,
+        device: DeviceId,
+        opened: Units,
+        at: Units,
+        cycle: u32,
+        members: Members,
+    ) -> Place
         ensures { (of_frame : ℕ) (verdict : Judgement)
             → result ≡ place_at time of_frame (notes.Compressed device opened at cycle members verdict) }
     {
@@ -122,7 +178,14 @@ impl Place {
     }
 
     /// That of the dispatch of a row's frame.
-    fn of_dispatch(time: u64, device: DeviceId, link: LinkId, cause: u64, vl: VlId, cycle: u32) -> Place
+    fn of_dispatch(
+        time: u64,
+        device: DeviceId,
+        link: LinkId,
+        cause: u64,
+        vl: VlId,
+        cycle: u32,
+    ) -> Place
         ensures { result ≡ time ∷ 10 ∷ device.0 ∷ link.0 ∷ cause ∷ vl.0 ∷ cycle ∷ [] }
     {
         Place {
@@ -164,7 +227,17 @@ impl Place {
         ensures { result ≡ time ∷ rank ∷ device.0 ∷ second ∷ [] }
     {
         Place {
-            numbers: [time, u64::from(rank), u64::from(device.0), second, 0, 0, 0, 0, 0],
+            numbers: [
+                time,
+                u64::from(rank),
+                u64::from(device.0),
+                second,
+                0,
+                0,
+                0,
+                0,
+                0,
+            ],
             len: 4,
         }
     }

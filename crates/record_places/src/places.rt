@@ -1,7 +1,8 @@
-ghost use Rattle.std.specs.Prelude.{◌≡◌, ◌↔◌, ℕ, [], ◌∷◌, ◌++◌, List, IfOk, OnOk, OnErr, IsTrue};
+ghost use Rattle.std.specs.Prelude.{◌≡◌, ◌↔◌, ◌≤◌, [], ◌∷◌, ◌++◌, List, OnOk, OnErr, IsTrue, length, true, false};
+ghost use Rattle.std.specs.List.Sorted.{IsPartitionPoint};
 ghost use Rattle.record_places.specs.Placing.{ArePlacesOf, AreAscending, HasRecordAt};
 ghost use Rattle.run_law.specs.records.Happenings.{Happening};
-ghost use Rattle.run_law.specs.records.Order.{AllBefore};
+ghost use Rattle.run_law.specs.records.Order.{AllBefore, is_before};
 ghost use Rattle.run_law.specs.records.Ranks.{place_of};
 
 use crate::Place;
@@ -66,6 +67,9 @@ impl Places {
 
     // How many of them are before the place.
     fn count_before(&self, place: &Place) -> usize
+        ensures bound { result ≤ length self.now }
+        ensures part { AreAscending self.now
+            → IsPartitionPoint (λ p. is_before p place.now ≡ true) (λ p. is_before p place.now ≡ false) self.now result }
     {
         self.places.partition_point(|found| found.is_before(place))
     }

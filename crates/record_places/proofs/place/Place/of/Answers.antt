@@ -1,6 +1,3 @@
-use Rattle.std.proofs.Common.{rules, ◌≡◌, ◌∙◌, sym, ap}
-use Rattle.run_law.specs.declared.note.NoteBody.{NoteBody}
-use Rattle.run_law.specs.records.Ranks.{place_at}
 use Rattle.record_places.proofs.place.Place.of.Goals as goal
 
 pub returns-in-Permanent : goal.returns-in-Permanent
