@@ -1,0 +1,4 @@
+pub mod Changes
+pub mod Points
+pub mod Keeping
+pub mod Standing

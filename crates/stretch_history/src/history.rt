@@ -1,0 +1,97 @@
+ghost use Rattle.std.specs.Prelude.{◌≡◌, ◌<◌, ◌∷◌, ◌++◌, [], List, IfOk, OnOk, Some, length, true};
+ghost use Rattle.net_plan.specs.Ranges.{IsInRange};
+ghost use Rattle.net_plan.specs.declared.network.Network as networks;
+ghost use Rattle.record_history.specs.Keeping.{records_before};
+ghost use Rattle.record_history.specs.Marks.{IsMarkOf};
+ghost use Rattle.run_law.specs.control.Collections.{points_of};
+ghost use Rattle.run_law.specs.records.Happenings.{Happening};
+ghost use Rattle.run_law.specs.records.Order.{AllBefore};
+ghost use Rattle.run_law.specs.records.Ranks.{place_of};
+ghost use Rattle.run_law.specs.scenario.Devices.{is_cm};
+ghost use Rattle.stretch_history.specs.Keeping.{IsRecord};
+ghost use Rattle.stretch_history.specs.Standing.{Stands, device_count};
+ghost use Rattle.stretch_history.specs.Points.{HasPoints, MayStand};
+
+use crate::Stretch;
+use crate::change::{change_by, collector_in};
+use crate::kept::Kept;
+use device_rules::is_cm;
+use net_plan::{DeviceId, Network};
+use record_history::{Carried, Mark};
+use run_law::NoteBody;
+use std::alloc::{AllocError, Global};
+
+/// The stretches of all compression masters of a network.
+#[derive(Drop)]
+pub struct StretchHistory {
+    kept: Vec<Kept>,
+}
+
+impl StretchHistory {
+    /// Those of no records.
+    pub fn new(alloc: Global, network: &Network) -> Result<StretchHistory, AllocError>
+        requires { IsInRange network.now }
+        ensures stands { IfOk result (Stands network.now []) }
+        ensures count { IfOk result (λ history. device_count history ≡ length network.now.device) }
+    {
+        let mut kept = Vec::new(alloc);
+        for _ in network.device.as_slice() {
+            kept.push(Kept::new(alloc, network))?;
+        }
+        Ok(StretchHistory { kept })
+    }
+
+    /// Goes on by the next record, whose frame says this.
+    pub fn push(
+        &mut self,
+        network: &Network,
+        time: u64,
+        body: &NoteBody,
+        carried: Carried,
+    ) -> Result<(), AllocError>
+        ensures stands { (hs : List Happening) (h : Happening) → IsRecord h time body.now carried
+            → AllBefore place_of hs (place_of h) → MayStand network.now hs h → Stands network.now hs self.old
+            → OnOk result (Stands network.now (hs ++ h ∷ []) self.new) }
+        ensures count { device_count self.new ≡ device_count self.old }
+    {
+        let Some(change) = change_by(body) else {
+            return Ok(());
+        };
+        let Some(device) = collector_in(body) else {
+            return Ok(());
+        };
+        let index = device.0 as usize;
+        if index >= self.kept.len() || !is_cm(network, device) {
+            return Ok(());
+        }
+        self.kept[index].take(Mark::of(time, carried.members, body), change, carried)
+    }
+
+    /// The stretch of a compression master before a place of the order, whose mark this is.
+    pub fn before(&self, device: DeviceId, mark: &Mark) -> Stretch<'_>
+        requires { device.0 < device_count self.now }
+        ensures { (network : networks.Network) (hs : List Happening) (place : List _) → Stands network hs self.now
+            → is_cm network device ≡ true → IsMarkOf device mark.now place
+            → HasPoints network (points_of (records_before place hs) device) result.collections.now result.gathering }
+    {
+        let kept = &self.kept[device.0 as usize];
+        Stretch {
+            collections: &kept.collections,
+            gathering: kept.before(mark),
+        }
+    }
+
+    /// The stretch of a compression master behind all records so far.
+    pub fn latest(&self, device: DeviceId) -> Stretch<'_>
+        requires { device.0 < device_count self.now }
+        ensures { (network : networks.Network) (hs : List Happening) → Stands network hs self.now
+            → is_cm network device ≡ true
+            → HasPoints network (points_of hs device) result.collections.now result.gathering }
+    {
+        let kept = &self.kept[device.0 as usize];
+        Stretch {
+            collections: &kept.collections,
+            gathering: kept.latest,
+        }
+    }
+}

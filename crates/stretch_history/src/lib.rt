@@ -1,0 +1,10 @@
+//! What the compression masters of a network have collected, at any place of the order of a report's records.
+#![tactic(auto)]
+
+mod change;
+mod history;
+mod kept;
+mod stretch;
+
+pub use history::StretchHistory;
+pub use stretch::Stretch;

@@ -1,0 +1,40 @@
+ghost use Rattle.std.specs.Prelude.{◌≡◌, ◌↔◌, List, IsTrue};
+ghost use Rattle.compression.specs.Clusters.{Point, point_at};
+ghost use Rattle.net_plan.specs.declared.network.Network as networks;
+ghost use Rattle.run_law.specs.control.Collections.{IsCollectedAs, master_of};
+ghost use Rattle.stretch_history.specs.Points.{HasPoints, IsSentFor};
+
+use collection_history::{CollectionHistory, Gathering};
+use compression::{Compressed, Taken};
+use pcf_values::Members;
+use tte_units::Units;
+
+/// The stretch of a compression master at a place of the order.
+pub struct Stretch<'a> {
+    pub(crate) collections: &'a CollectionHistory,
+    pub(crate) gathering: Gathering,
+}
+
+impl Stretch<'_> {
+    /// What becomes of the point of a frame with this cycle and these members, behind those of the stretch.
+    pub fn role(&self, point: Units, members: Members, cycle: u32) -> Taken
+        ensures { (network : networks.Network) (points : List Point)
+            → HasPoints network points self.now.collections.now self.now.gathering
+            → IsCollectedAs network points (point_at point.0 (master_of members.0) cycle) result }
+    {
+        let master = members.0.trailing_zeros();
+        self.collections
+            .role(&self.gathering, point.0, master, cycle)
+    }
+
+    /// Whether this is what is sent for a cluster of the stretch. The stretch is that of some points.
+    pub fn sends(&self, sent: &Compressed) -> bool
+        requires { (network : networks.Network) × (points : List Point)
+            × HasPoints network points self.now.collections.now self.now.gathering }
+        ensures { (network : networks.Network) (points : List Point)
+            → HasPoints network points self.now.collections.now self.now.gathering
+            → IsTrue result ↔ IsSentFor network points sent.now }
+    {
+        self.collections.sends(&self.gathering, sent)
+    }
+}
