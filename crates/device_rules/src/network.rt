@@ -61,7 +61,7 @@ pub fn is_end(network: &Network, device: DeviceId) -> bool
 }
 
 /// The member number of a master.
-pub(crate) fn member_of(network: &Network, device: DeviceId) -> Option<u32>
+pub fn member_of(network: &Network, device: DeviceId) -> Option<u32>
     requires { IsInRange network.now }
     ensures value { result ≡ member_of network.now device }
     ensures small { IfSome result (λ member. member < 32) }
