@@ -1,2 +1,4 @@
 pub mod Turning
 pub mod Keeping
+pub mod Arriving
+pub mod Rising

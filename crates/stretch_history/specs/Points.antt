@@ -1,5 +1,5 @@
 -- The points of a compression master's stretch, and what its collections have of them.
-use Rattle.std.specs.Prelude.{◌≡◌, ℤ, pos, ◌≤ℤ◌, true, List, [], ◌∷◌, ◌++◌, Option, Some, None, All, IfSome, ⊤}
+use Rattle.std.specs.Prelude.{◌≡◌, pos, ◌≤ℤ◌, true, List, [], ◌∷◌, ◌++◌, Some, All, IfSome, ⊤}
 use Rattle.std.specs.List.{Contains}
 use Rattle.collection_history.specs.Gathered.{Gathers}
 use Rattle.collection_history.specs.Kept.{History}
