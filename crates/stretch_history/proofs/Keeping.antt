@@ -1,5 +1,5 @@
 -- What is kept of a device's stretches goes on by one more record.
-use Rattle.std.proofs.Common.{◌≡◌, ◌⊎◌, ℕ, zero, suc, ◌<◌, List, [], ◌∷◌, ◌++◌, filter, length, slice_get, Bool, true, false, Option, Some, None, Result, inl, inr, refl, sym, ap, subst, ◌∙◌, arith}
+use Rattle.std.proofs.Common.{◌≡◌, ◌⊎◌, ℕ, zero, suc, ◌<◌, List, [], ◌∷◌, ◌++◌, filter, length, slice_get, Bool, true, false, Option, Some, None, inl, inr, refl, sym, ap, subst, ◌∙◌, arith}
 use Rattle.std.proofs.lemmas.Bool.{cases_order}
 use Rattle.std.specs.List.{last_or}
 use Rattle.std.specs.List.Sorted.{IsPartitionedBy}
@@ -17,7 +17,6 @@ use Rattle.record_history.proofs.Partitions.{parted_on}
 use Rattle.record_history.specs.Effects.{carried_by}
 use Rattle.record_history.specs.Keeping.{records_before}
 use Rattle.record_history.specs.Marks.{IsMarkOf, is_mark_before, mark_of, numbers_of}
-use Rattle.record_history.specs.declared.effect.Carried.{Carried}
 use Rattle.record_history.specs.declared.mark.Mark.{Mark}
 use Rattle.run_law.proofs.runs.Places.{chain, in_left, in_parts, in_right}
 use Rattle.run_law.specs.control.Collections.{points_of}

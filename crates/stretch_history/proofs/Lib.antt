@@ -1,2 +1,5 @@
 pub mod Turning
 pub mod Keeping
+pub mod Arriving
+pub mod Rising
+pub mod Clustering

@@ -1,8 +1,9 @@
 -- The points of a compression master's stretch, and what its collections have of them.
-use Rattle.std.specs.Prelude.{◌≡◌, ℤ, pos, ◌≤ℤ◌, true, List, [], ◌∷◌, ◌++◌, Option, Some, None, All, IfSome, ⊤}
+use Rattle.std.specs.Prelude.{◌≡◌, pos, ◌≤ℤ◌, true, List, [], ◌∷◌, ◌++◌, Some, All, IfSome, ⊤, map}
 use Rattle.std.specs.List.{Contains}
 use Rattle.collection_history.specs.Gathered.{Gathers}
-use Rattle.collection_history.specs.Kept.{History}
+use Rattle.collection_history.specs.Kept.{History, emitted}
+use Rattle.collection_history.specs.declared.emitted.Emitted.{Emitted}
 use Rattle.collection_history.specs.declared.gathering.Gathering.{Gathering}
 use Rattle.compression.specs.Clusters.{AreClusters, Cluster, Point, point_at}
 use Rattle.compression.specs.Emission.{compressed}
@@ -47,3 +48,7 @@ pub record IsSentFor (network : Network) (points : List Point) (sent : Compresse
   pub cluster : Cluster
   pub there : Contains clusters cluster
   pub is : sent ≡ compressed (observation_window network) (pos (amount network.calc)) cluster
+
+-- what is sent for these clusters, in their order
+abbrev pub emissions_for : Network → List Cluster → List Emitted
+emissions_for network clusters = map (emitted (observation_window network) (pos (amount network.calc))) clusters

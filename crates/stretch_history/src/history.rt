@@ -4,6 +4,7 @@ ghost use Rattle.net_plan.specs.declared.network.Network as networks;
 ghost use Rattle.record_history.specs.Keeping.{records_before};
 ghost use Rattle.record_history.specs.Marks.{IsMarkOf};
 ghost use Rattle.run_law.specs.control.Collections.{points_of};
+ghost use Rattle.run_law.specs.control.Permanence.{before_permanence};
 ghost use Rattle.run_law.specs.records.Happenings.{Happening};
 ghost use Rattle.run_law.specs.records.Order.{AllBefore};
 ghost use Rattle.run_law.specs.records.Ranks.{place_of};
@@ -16,10 +17,12 @@ use crate::Stretch;
 use crate::change::{change_by, collector_in};
 use crate::kept::Kept;
 use device_rules::is_cm;
-use net_plan::{DeviceId, Network};
+use net_plan::{DeviceId, LinkId, Network};
+use pcf_values::Pcf;
 use record_history::{Carried, Mark};
 use run_law::NoteBody;
 use std::alloc::{AllocError, Global};
+use tte_units::Units;
 
 /// The stretches of all compression masters of a network.
 #[derive(Drop)]
@@ -79,6 +82,28 @@ impl StretchHistory {
             collections: &kept.collections,
             gathering: kept.before(mark),
         }
+    }
+
+    /// The stretch of a compression master before the place at which a frame is permanent, or dropped, at its point.
+    pub fn before_permanence(
+        &self,
+        device: DeviceId,
+        time: u64,
+        link: LinkId,
+        cause: u64,
+        frame: &Pcf,
+        point: Units,
+    ) -> Stretch<'_>
+        requires { device.0 < device_count self.now }
+        ensures { (network : networks.Network) (hs : List Happening) → Stands network hs self.now
+            → is_cm network device ≡ true
+            → HasPoints network (points_of (before_permanence hs device time link cause frame.now point) device)
+            result.collections.now result.gathering }
+    {
+        self.before(
+            device,
+            &Mark::of_permanence(time, frame.members, link, cause, point),
+        )
     }
 
     /// The stretch of a compression master behind all records so far.

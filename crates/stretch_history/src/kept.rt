@@ -64,7 +64,12 @@ impl Kept {
     }
 
     /// Goes on by a record of the device, which stands behind all so far.
-    pub(crate) fn take(&mut self, mark: Mark, change: Change, carried: Carried) -> Result<(), AllocError>
+    pub(crate) fn take(
+        &mut self,
+        mark: Mark,
+        change: Change,
+        carried: Carried,
+    ) -> Result<(), AllocError>
         ensures { (network : networks.Network) (hs : List Happening) (h : Happening) (device : DeviceId)
             → collector_in h.note.body ≡ Some device → change_by h.note.body ≡ Some change → mark ≡ mark_of h
             → carried ≡ carried_by h → AllBefore place_of hs (place_of h) → MayBring (points_of hs device) change

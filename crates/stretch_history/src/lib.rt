@@ -4,7 +4,9 @@
 mod change;
 mod history;
 mod kept;
+mod laws;
 mod stretch;
 
 pub use history::StretchHistory;
+pub use laws::points_rise;
 pub use stretch::Stretch;

@@ -1,10 +1,10 @@
-ghost use Rattle.std.specs.Prelude.{◌≡◌, ◌↔◌, List, IsTrue};
-ghost use Rattle.compression.specs.Clusters.{Point, point_at};
+ghost use Rattle.std.specs.Prelude.{◌≡◌, ◌↔◌, List, IsTrue, length, slice_get};
+ghost use Rattle.compression.specs.Clusters.{AreClusters, Cluster, Point, point_at};
 ghost use Rattle.net_plan.specs.declared.network.Network as networks;
-ghost use Rattle.run_law.specs.control.Collections.{IsCollectedAs, master_of};
-ghost use Rattle.stretch_history.specs.Points.{HasPoints, IsSentFor};
+ghost use Rattle.run_law.specs.control.Collections.{IsCollectedAs, master_of, observation_window};
+ghost use Rattle.stretch_history.specs.Points.{HasPoints, IsSentFor, emissions_for};
 
-use collection_history::{CollectionHistory, Gathering};
+use collection_history::{CollectionHistory, Emitted, Gathering};
 use compression::{Compressed, Taken};
 use pcf_values::Members;
 use tte_units::Units;
@@ -36,5 +36,28 @@ impl Stretch<'_> {
             → IsTrue result ↔ IsSentFor network points sent.now }
     {
         self.collections.sends(&self.gathering, sent)
+    }
+
+    /// How many clusters the stretch has.
+    pub fn len(&self) -> usize
+        requires { (network : networks.Network) × (points : List Point)
+            × HasPoints network points self.now.collections.now self.now.gathering }
+        ensures { (network : networks.Network) (points : List Point) (clusters : List Cluster)
+            → HasPoints network points self.now.collections.now self.now.gathering
+            → AreClusters (observation_window network) points clusters → result ≡ length clusters }
+    {
+        self.collections.len(&self.gathering)
+    }
+
+    /// What is sent for the cluster at a place of the order of their openings.
+    pub fn emission(&self, place: usize) -> Option<Emitted>
+        requires { (network : networks.Network) × (points : List Point)
+            × HasPoints network points self.now.collections.now self.now.gathering }
+        ensures { (network : networks.Network) (points : List Point) (clusters : List Cluster)
+            → HasPoints network points self.now.collections.now self.now.gathering
+            → AreClusters (observation_window network) points clusters
+            → result ≡ slice_get (emissions_for network clusters) place }
+    {
+        self.collections.emission(&self.gathering, place)
     }
 }

@@ -1,5 +1,4 @@
-use Rattle.std.proofs.Common.{◌≡◌, ◌∷◌, ◌++◌, [], ℕ, List, Some, length, length-append, slice_get, ap, sym, ◌∙◌, arith}
-use Rattle.net_plan.specs.declared.ids.DeviceId.{DeviceId}
+use Rattle.std.proofs.Common.{◌≡◌, ◌∷◌, ◌++◌, [], List, length, length-append, slice_get, ap, sym, ◌∙◌, arith}
 use Rattle.stretch_history.proofs.Keeping.{each_more}
 use Rattle.stretch_history.specs.Keeping.{Keeps, Stretches}
 use Rattle.stretch_history.proofs.history.StretchHistory.new.Goals as goal

@@ -1,4 +1,4 @@
-use Rattle.std.proofs.Common.{◌≡◌, ℕ, List, [], Some, slice_get}
+use Rattle.std.proofs.Common.{◌≡◌, ℕ, [], Some, slice_get}
 use Rattle.std.specs.Prelude.{length}
 use Rattle.net_plan.specs.declared.ids.DeviceId.{DeviceId}
 use Rattle.stretch_history.specs.Keeping.{Keeps, Stretches}

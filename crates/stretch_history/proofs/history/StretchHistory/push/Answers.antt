@@ -3,7 +3,7 @@ use Rattle.std.specs.Prelude.{slice_set}
 use Rattle.net_plan.specs.declared.ids.DeviceId.{DeviceId}
 use Rattle.record_history.proofs.KeptAll.{also_on_ok, got_at}
 use Rattle.record_history.specs.Effects.{carried_by}
-use Rattle.record_history.specs.Marks.{mark_at, mark_of}
+use Rattle.record_history.specs.Marks.{mark_at}
 use Rattle.record_history.specs.declared.effect.Carried.{Carried}
 use Rattle.run_law.specs.records.Happenings.{time_of}
 use Rattle.run_law.specs.scenario.Devices.{is_cm}

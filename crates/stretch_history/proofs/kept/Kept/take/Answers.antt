@@ -27,9 +27,9 @@ returns c network hs h device of is mark_is carried_is all may keeps =
       calc = ap (λ (x : History). x.calc) same ∙ told.same.1;
       latest = refl;
       gathers = subst (λ (x : History). Gathers x g (points_of (hs ++ h ∷ []) device)) (sym same)
-      (subst (Gathers middle.collections g) (sym points) (told.gathers (points_of hs device) keeps.latest may));
+          (subst (Gathers middle.collections g) (sym points) (told.gathers (points_of hs device) keeps.latest may));
       kept = λ other ps was. subst (λ (x : History). Gathers x other ps) (sym same) (told.kept other ps was);
       entries = c.in_ok-push.ensures.items ∙ ap (λ (xs : List Entry). xs ++ entry c.args.mark ∷ []) (were ∙ told.entries)
-      ∙ ap (λ (m : Mark). old.entries ++ entry m ∷ []) mark_is;
+          ∙ ap (λ (m : Mark). old.entries ++ entry m ∷ []) mark_is;
     } in
     kept_on network hs device h old new g all (of_collector h.note.body device of) goes keeps
