@@ -1,0 +1,11 @@
+use Rattle.record_history.proofs.KeptAll.{got_at}
+use Rattle.record_history.proofs.standings.Standings.before.Goals as goal
+use Rattle.std.proofs.Common.{sym, subst}
+use Rattle.record_history.specs.Keeping.{records_before}
+use Rattle.record_history.specs.Showing.{Shows}
+
+pub returns : goal.returns
+returns c s hs place stands of =
+    let device = c.args.device in
+    let keeps = stands device c.index.result.now (got_at c.args.self.now.histories.items device.0 c.index.result.now c.requires c.index.ensures) in
+    subst (Shows s (records_before place hs) device) (sym (c.before-2.ensures keeps.order)) (keeps.before place c.args.mark.now of)

@@ -1,0 +1,7 @@
+pub mod CorrectionNumbers
+pub mod Effects
+pub mod Following
+pub mod Keeping
+pub mod Marks
+pub mod Reading
+pub mod Showing
