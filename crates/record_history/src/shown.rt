@@ -219,7 +219,9 @@ impl Shown {
     }
 
     pub fn adjustment(&self) -> i128
-        ensures { result ≡ self.now.adjustment }
+        ensures value { result ≡ self.now.adjustment }
+        ensures least { neg_ℤ (pos (2 ^ 80)) ≤ℤ result }
+        ensures most { result ≤ℤ pos (2 ^ 80) }
     {
         self.adjustment
     }

@@ -1,0 +1,161 @@
+ghost use Rattle.std.specs.Prelude.{◌≡◌, ◌↔◌, ℕ, List, IsTrue};
+ghost use Rattle.audit_law.specs.CorrectionNumbers.{ComesToPoint};
+ghost use Rattle.audit_law.specs.DueRecords.{ChangesState};
+ghost use Rattle.clock_judge.specs.Brought.{bringer_as, bringer_of};
+ghost use Rattle.clock_judge.specs.Moments.{StandsAt};
+ghost use Rattle.clock_judge.specs.Points.{IsHeard};
+ghost use Rattle.device_rules.specs.Answers.{verdict_as};
+ghost use Rattle.net_plan.specs.Ranges.{IsInRange};
+ghost use Rattle.run_law.specs.records.Happenings.{Happening};
+ghost use Rattle.run_law.specs.scenario.Scenarios.{Scenario};
+ghost use Rattle.sync_state.specs.declared.state.State.TheVariants.{Integrating};
+
+use crate::{Moment, correction};
+use device_rules::PointVerdict;
+use membership::Heard;
+use net_plan::{DeviceId, Network, What};
+use record_history::Shown;
+use run_law::{Judgement, NoteBody, Why};
+use sync_state::State;
+
+/// What a record is to the state of a device.
+#[derive(Clone, Copy, Debug, PartialEq, Eq)]
+pub enum Bringer {
+    /// It turns the device on.
+    TurnsOn,
+    /// By it a frame tells the device the time.
+    Joins,
+    /// By it the device's clock is corrected.
+    Corrects,
+    /// It changes no state of the device.
+    Other,
+}
+
+/// What a record says of a change of state.
+#[derive(Clone, Copy, Debug, PartialEq, Eq)]
+pub struct StateChange {
+    pub state: State,
+    pub cause: u64,
+    pub why: Why,
+}
+
+impl Bringer {
+    /// What a record of this body is to the device's state.
+    pub fn of(device: DeviceId, body: &NoteBody) -> Bringer
+        ensures { result ≡ bringer_as device body.now }
+    {
+        let (other, bringer) = match body {
+            NoteBody::Event {
+                what: What::On(other),
+                ..
+            } => (*other, Bringer::TurnsOn),
+            NoteBody::Corrected { device: other, .. } => (*other, Bringer::Corrects),
+            NoteBody::Permanent {
+                device: other,
+                verdict: Judgement::Integrates,
+                ..
+            }
+            | NoteBody::Compressed {
+                device: other,
+                verdict: Judgement::Integrates,
+                ..
+            } => (*other, Bringer::Joins),
+            NoteBody::Event { .. }
+            | NoteBody::Arrived { .. }
+            | NoteBody::Permanent { .. }
+            | NoteBody::Compressed { .. }
+            | NoteBody::Sent { .. }
+            | NoteBody::State { .. }
+            | NoteBody::Left { .. }
+            | NoteBody::Lost { .. }
+            | NoteBody::TtSent { .. }
+            | NoteBody::Accepted { .. }
+            | NoteBody::Delivered { .. }
+            | NoteBody::Dropped { .. }
+            | NoteBody::Clock { .. } => return Bringer::Other,
+        };
+        if device.0 == other.0 {
+            bringer
+        } else {
+            Bringer::Other
+        }
+    }
+}
+
+/// Does the device change its state so at the moment? This is what the record of the number `cause` is to its state, or
+/// `Other` where that record is none of this time. The rest is as for `correction`.
+pub fn changes_state(
+    network: &Network,
+    device: DeviceId,
+    shown: &Shown,
+    moment: Moment,
+    heard: &Heard,
+    bringer: Bringer,
+    said: StateChange,
+) -> bool
+    requires { IsInRange network.now }
+    ensures { (s : Scenario) (hs : List Happening) (t : ℕ) → StandsAt s hs network.now device t moment shown.now
+        → IsHeard s hs device t heard.now → bringer ≡ bringer_of hs device t said.cause
+        → IsTrue result ↔ ChangesState s hs device t said.state said.cause said.why }
+{
+    match said.why {
+        Why::On => {
+            bringer == Bringer::TurnsOn && said.state == State::Integrating && !moment.broken
+        }
+        Why::Frame => bringer == Bringer::Joins && said.state == State::Joining,
+        Why::Correction => {
+            bringer == Bringer::Corrects
+                && said.state == State::Synchronised
+                && shown.state_before(moment.turned_on) == State::Joining
+        }
+        Why::SyncClique => {
+            is_left(said)
+                && comes_to(
+                    network,
+                    device,
+                    shown,
+                    moment,
+                    heard,
+                    PointVerdict::SyncClique,
+                )
+        }
+        Why::AsyncClique => {
+            is_left(said)
+                && comes_to(
+                    network,
+                    device,
+                    shown,
+                    moment,
+                    heard,
+                    PointVerdict::AsyncClique,
+                )
+        }
+    }
+}
+
+/// Does the device lose the common time, by no record?
+fn is_left(said: StateChange) -> bool
+    ensures { IsTrue result ↔ ((said.state ≡ Integrating) × (said.cause ≡ 0)) }
+{
+    said.state == State::Integrating && said.cause == 0
+}
+
+/// Has the device a correction point at the moment that comes to this?
+fn comes_to(
+    network: &Network,
+    device: DeviceId,
+    shown: &Shown,
+    moment: Moment,
+    heard: &Heard,
+    wanted: PointVerdict,
+) -> bool
+    requires { IsInRange network.now }
+    ensures { (s : Scenario) (hs : List Happening) (t : ℕ) → StandsAt s hs network.now device t moment shown.now
+        → IsHeard s hs device t heard.now
+        → IsTrue result ↔ ((cycle : ℕ) × ComesToPoint s hs device t cycle (verdict_as wanted)) }
+{
+    match correction(network, device, shown, moment, heard) {
+        Some(point) => point.verdict == wanted,
+        None => false,
+    }
+}
