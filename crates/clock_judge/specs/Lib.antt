@@ -1,3 +1,4 @@
 pub mod Moments
 pub mod Points
 pub mod Brought
+pub mod Crossing

@@ -18,5 +18,5 @@ pub record IsMoment (s : Scenario) (device : DeviceId) (t : ℕ) (moment : Momen
 pub record StandsAt (s : Scenario) (hs : List Happening) (network : Network) (device : DeviceId) (t : ℕ) (moment : Moment)
     (shown : Shown) : Type 0 where
   pub of_network : s.network ≡ network
-  pub moment : IsMoment s device t moment
+  pub befalls : IsMoment s device t moment
   pub shows : Shows s (earlier t hs) device shown

@@ -10,7 +10,7 @@ ghost use Rattle.run_law.specs.records.Happenings.{Happening};
 ghost use Rattle.run_law.specs.scenario.Scenarios.{Scenario};
 ghost use Rattle.sync_state.specs.declared.state.State.TheVariants.{Integrating};
 
-use crate::{Moment, correction};
+use crate::{Moment, coming_point};
 use device_rules::PointVerdict;
 use membership::Heard;
 use net_plan::{DeviceId, Network, What};
@@ -83,7 +83,7 @@ impl Bringer {
 }
 
 /// Does the device change its state so at the moment? This is what the record of the number `cause` is to its state, or
-/// `Other` where that record is none of this time. The rest is as for `correction`.
+/// `Other` where that record is none of this time. The rest is as for `coming_point`.
 pub fn changes_state(
     network: &Network,
     device: DeviceId,
@@ -154,7 +154,7 @@ fn comes_to(
         → IsHeard s hs device t heard.now
         → IsTrue result ↔ ((cycle : ℕ) × ComesToPoint s hs device t cycle (verdict_as wanted)) }
 {
-    match correction(network, device, shown, moment, heard) {
+    match coming_point(network, device, shown, moment, heard) {
         Some(point) => point.verdict == wanted,
         None => false,
     }

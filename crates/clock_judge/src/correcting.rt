@@ -40,7 +40,7 @@ pub struct Correction {
 
 /// The cycle of the correction point that comes to the device at the moment. This is what the records of earlier times
 /// show.
-pub fn point(network: &Network, shown: &Shown, moment: Moment) -> Option<u64>
+pub fn coming_cycle(network: &Network, shown: &Shown, moment: Moment) -> Option<u64>
     requires { IsInRange network.now }
     ensures { (s : Scenario) (hs : List Happening) (device : DeviceIdValue) (t cycle : ℕ)
         → StandsAt s hs network.now device t moment shown.now
@@ -59,7 +59,7 @@ pub fn point(network: &Network, shown: &Shown, moment: Moment) -> Option<u64>
 
 /// The correction point that comes to the device at the moment, and what it comes to. This is what the records of earlier
 /// times show, and what the device has heard since its last correction point.
-pub fn correction(
+pub fn coming_point(
     network: &Network,
     device: DeviceId,
     shown: &Shown,
@@ -71,7 +71,7 @@ pub fn correction(
         → StandsAt s hs network.now device t moment shown.now → IsHeard s hs device t heard.now
         → ComesTo result cycle verdict ↔ ComesToPoint s hs device t cycle verdict }
 {
-    let cycle = point(network, shown, moment)?;
+    let cycle = coming_cycle(network, shown, moment)?;
     let standing = standing(shown, moment, cycle);
     Some(Point {
         cycle,
@@ -79,7 +79,7 @@ pub fn correction(
     })
 }
 
-/// Is the device's clock corrected so at the moment? The rest is as for `correction`.
+/// Is the device's clock corrected so at the moment? The rest is as for `coming_point`.
 pub fn corrects(
     network: &Network,
     device: DeviceId,
@@ -93,7 +93,7 @@ pub fn corrects(
         → IsHeard s hs device t heard.now
         → IsTrue result ↔ IsCorrectedRecord s hs device t said.cycle said.by said.adjustment }
 {
-    match correction(network, device, shown, moment, heard) {
+    match coming_point(network, device, shown, moment, heard) {
         Some(point) => {
             point.cycle == u64::from(said.cycle)
                 && is_by(point.verdict, said.by)

@@ -11,7 +11,7 @@ mod reaching;
 mod sending;
 
 pub use changing::{Bringer, StateChange, changes_state};
-pub use correcting::{Correction, Point, correction, corrects, point};
+pub use correcting::{Correction, Point, coming_cycle, coming_point, corrects};
 pub use ending::{EndClock, shows_clock};
 pub use moment::Moment;
 pub use reaching::{is_up, reaches};

@@ -1,4 +1,5 @@
 ghost use Rattle.std.specs.Prelude.{◌≡◌, ◌↔◌, ◌≤ℤ◌, ◌+ℤ◌, ◌^◌, ℕ, List, IsTrue, pos, neg_ℤ};
+ghost use Rattle.clock_judge.specs.Crossing.{HasCrossed};
 ghost use Rattle.clock_judge.specs.Moments.{StandsAt};
 ghost use Rattle.net_plan.specs.declared.ids.DeviceId.{DeviceId};
 ghost use Rattle.net_plan.specs.declared.network.Network.{Network};
@@ -18,9 +19,19 @@ pub fn reaches(shown: &Shown, readings: Readings, value: i128) -> bool
         → IsSteady s device → Shows s (earlier t hs) device shown.now
         → IsTrue result ↔ Reaches s hs device value t }
 {
-    shown.at_change() < value
-        && local(shown, readings.before) < value
-        && value <= local(shown, readings.now)
+    has_crossed(
+        shown.at_change(),
+        local(shown, readings.before),
+        local(shown, readings.now),
+        value,
+    )
+}
+
+/// Does a clock that showed `at_change` after its last change cross the value now?
+fn has_crossed(at_change: i128, before: i128, now: i128, value: i128) -> bool
+    ensures { IsTrue result ↔ HasCrossed at_change before now value }
+{
+    at_change < value && before < value && value <= now
 }
 
 /// Is the device synchronised and correct at the moment? This is what the records of earlier times show.
