@@ -3,14 +3,14 @@ ghost use Rattle.audit_law.specs.CorrectionNumbers.{ComesToPoint};
 ghost use Rattle.audit_law.specs.DueRecords.{ChangesState};
 ghost use Rattle.clock_judge.specs.Brought.{bringer_as, bringer_of};
 ghost use Rattle.clock_judge.specs.Moments.{StandsAt};
-ghost use Rattle.clock_judge.specs.Points.{IsHeard};
+ghost use Rattle.clock_judge.specs.Points.{ComesTo, IsHeard};
 ghost use Rattle.device_rules.specs.Answers.{verdict_as};
 ghost use Rattle.net_plan.specs.Ranges.{IsInRange};
 ghost use Rattle.run_law.specs.records.Happenings.{Happening};
 ghost use Rattle.run_law.specs.scenario.Scenarios.{Scenario};
 ghost use Rattle.sync_state.specs.declared.state.State.TheVariants.{Integrating};
 
-use crate::{Moment, coming_point};
+use crate::{Moment, Point, coming_point};
 use device_rules::PointVerdict;
 use membership::Heard;
 use net_plan::{DeviceId, Network, What};
@@ -154,7 +154,14 @@ fn comes_to(
         → IsHeard s hs device t heard.now
         → IsTrue result ↔ ((cycle : ℕ) × ComesToPoint s hs device t cycle (verdict_as wanted)) }
 {
-    match coming_point(network, device, shown, moment, heard) {
+    has_verdict(coming_point(network, device, shown, moment, heard), wanted)
+}
+
+/// Does the point come to this?
+fn has_verdict(point: Option<Point>, wanted: PointVerdict) -> bool
+    ensures { IsTrue result ↔ ((cycle : ℕ) × ComesTo point cycle (verdict_as wanted)) }
+{
+    match point {
         Some(point) => point.verdict == wanted,
         None => false,
     }

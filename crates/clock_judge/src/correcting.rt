@@ -93,12 +93,15 @@ pub fn corrects(
         → IsHeard s hs device t heard.now
         → IsTrue result ↔ IsCorrectedRecord s hs device t said.cycle said.by said.adjustment }
 {
-    match coming_point(network, device, shown, moment, heard) {
-        Some(point) => {
-            point.cycle == u64::from(said.cycle)
-                && is_by(point.verdict, said.by)
-                && is_sum(shown, said)
-        }
+    comes_by(coming_point(network, device, shown, moment, heard), said) && is_sum(shown, said)
+}
+
+/// Is the point that of the cycle, and does it come to the correction?
+fn comes_by(point: Option<Point>, said: Correction) -> bool
+    ensures { IsTrue result ↔ ComesTo point said.cycle (Corrected said.by) }
+{
+    match point {
+        Some(point) => point.cycle == u64::from(said.cycle) && is_by(point.verdict, said.by),
         None => false,
     }
 }
