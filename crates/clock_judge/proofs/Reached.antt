@@ -80,3 +80,7 @@ reaches_come s hs device v t shown readings reads sh r =
       below = omega (arith, ints, before, read_before);
       reached = omega (arith, ints, now, adjusted, read);
     }
+
+pub same_crossing : (a b n v a1 b1 n1 v1 : ℤ) → a ≡ a1 → b ≡ b1 → n ≡ n1 → v ≡ v1 → HasCrossed a b n v → HasCrossed a1 b1 n1 v1
+same_crossing a b n v a1 b1 n1 v1 p q r w crossed =
+    subst (λ (x : ℤ). HasCrossed x b1 n1 v1) p (subst (λ (x : ℤ). HasCrossed a x n1 v1) q (subst (λ (x : ℤ). HasCrossed a b x v1) r (subst (λ (x : ℤ). HasCrossed a b n x) w crossed)))

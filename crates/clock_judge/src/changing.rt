@@ -6,9 +6,12 @@ ghost use Rattle.clock_judge.specs.Moments.{StandsAt};
 ghost use Rattle.clock_judge.specs.Points.{ComesTo, IsHeard};
 ghost use Rattle.device_rules.specs.Answers.{verdict_as};
 ghost use Rattle.net_plan.specs.Ranges.{IsInRange};
+ghost use Rattle.net_plan.specs.declared.ids.DeviceId.{DeviceId as DeviceIdValue};
+ghost use Rattle.net_plan.specs.declared.network.Network.{Network as NetworkValue};
+ghost use Rattle.run_law.specs.device.States.{state_before};
 ghost use Rattle.run_law.specs.records.Happenings.{Happening};
 ghost use Rattle.run_law.specs.scenario.Scenarios.{Scenario};
-ghost use Rattle.sync_state.specs.declared.state.State.TheVariants.{Integrating};
+ghost use Rattle.sync_state.specs.declared.state.State.TheVariants.{Integrating, Joining};
 
 use crate::{Moment, Point, coming_point};
 use device_rules::PointVerdict;
@@ -100,13 +103,12 @@ pub fn changes_state(
 {
     match said.why {
         Why::On => {
-            bringer == Bringer::TurnsOn && said.state == State::Integrating && !moment.broken
+            is_brought(bringer, said, Bringer::TurnsOn, State::Integrating) && !moment.broken
         }
-        Why::Frame => bringer == Bringer::Joins && said.state == State::Joining,
+        Why::Frame => is_brought(bringer, said, Bringer::Joins, State::Joining),
         Why::Correction => {
-            bringer == Bringer::Corrects
-                && said.state == State::Synchronised
-                && shown.state_before(moment.turned_on) == State::Joining
+            is_brought(bringer, said, Bringer::Corrects, State::Synchronised)
+                && is_joining(shown, moment)
         }
         Why::SyncClique => {
             is_left(said)
@@ -131,6 +133,21 @@ pub fn changes_state(
                 )
         }
     }
+}
+
+/// Is the change brought so, and to this state?
+fn is_brought(bringer: Bringer, said: StateChange, wanted: Bringer, state: State) -> bool
+    ensures { IsTrue result ↔ ((bringer ≡ wanted) × (said.state ≡ state)) }
+{
+    bringer == wanted && said.state == state
+}
+
+/// Is the device joining?
+fn is_joining(shown: &Shown, moment: Moment) -> bool
+    ensures { (s : Scenario) (hs : List Happening) (network : NetworkValue) (device : DeviceIdValue) (t : ℕ)
+        → StandsAt s hs network device t moment shown.now → IsTrue result ↔ (state_before s hs device t ≡ Joining) }
+{
+    shown.state_before(moment.turned_on) == State::Joining
 }
 
 /// Does the device lose the common time, by no record?

@@ -1,4 +1,4 @@
-ghost use Rattle.std.specs.Prelude.{◌≡◌, ◌↔◌, ℕ, List, IsTrue, IsSome};
+ghost use Rattle.std.specs.Prelude.{◌≡◌, pos, ◌↔◌, ℕ, List, IsTrue, IsSome};
 ghost use Rattle.net_plan.specs.Places.{device_at};
 ghost use Rattle.record_history.specs.Showing.{Shows};
 ghost use Rattle.run_law.specs.records.Happenings.{Happening, up_to};
@@ -35,10 +35,21 @@ pub fn shows_clock(
         → Shows s (up_to (amount time) hs) device shown.now
         → IsTrue result ↔ IsClockRecord s hs device time said.reading said.adjustment said.state }
 {
-    ends && has_device(network, device)
-        && i128::from(said.reading.0) == i128::from(reading)
-        && i128::from(said.adjustment.0) == shown.adjustment()
-        && said.state == shown.state()
+    if !has_device(network, device) {
+        return false;
+    }
+    ends && stands(shown, reading, said)
+}
+
+/// Is this what the clock reads, and what is shown?
+fn stands(shown: &Shown, reading: u64, said: EndClock) -> bool
+    ensures { IsTrue result ↔ ((said.reading.0 ≡ pos reading) × (said.adjustment.0 ≡ shown.now.adjustment)
+        × (said.state ≡ shown.now.state)) }
+{
+    if i128::from(said.reading.0) != i128::from(reading) {
+        return false;
+    }
+    i128::from(said.adjustment.0) == shown.adjustment() && said.state == shown.state()
 }
 
 fn has_device(network: &Network, device: DeviceId) -> bool
