@@ -1,6 +1,6 @@
 -- What the record of a change of state says.
 use Rattle.std.proofs.Common.{◌≡◌, ℕ, Bool, true, false, List, Option, Some, None, refl, sym, ap, subst, ◌∙◌, arith, if◌then◌else◌}
-use Rattle.std.specs.Prelude.{◌==◌}
+use Rattle.std.specs.Prelude.{◌==◌, not}
 use Rattle.clock_judge.specs.Brought.{bringer_as, bringer_at, bringer_of}
 use Rattle.clock_judge.specs.declared.changing.Bringer.TheVariants as bringers
 use Rattle.clock_judge.specs.declared.changing.Bringer.{Bringer}
@@ -141,3 +141,10 @@ joined hs device t cause e =
 pub joining : (hs : List Happening) (device : DeviceId) (t cause : ℕ) (h : Happening) → IsOfThisTime hs t cause h
     → is_joined_by device h.note.body ≡ true → bringer_of hs device t cause ≡ bringers.Joins
 joining hs device t cause h there is = of_record hs device t cause h bringers.Joins there (by_joining device h.note.body is)
+
+pub not_true : (b : Bool) → not b ≡ true → b ≡ false
+not_true true e = cc
+not_true false e = refl
+
+pub not_false : (b : Bool) → b ≡ false → not b ≡ true
+not_false b e = ap not e

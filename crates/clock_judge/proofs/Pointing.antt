@@ -3,7 +3,9 @@ use Rattle.std.proofs.Common.{◌≡◌, ℕ, ℤ, List, Option, Some, None, ref
 use Rattle.std.specs.Prelude.{◌↔◌, false}
 use Rattle.audit_law.proofs.Determined.{same_verdict}
 use Rattle.audit_law.specs.CorrectionNumbers.{ComesToPoint, next_number, standing_at}
-use Rattle.clock_judge.specs.Points.{HasPoint, IsHeard}
+use Rattle.clock_judge.specs.Points.{ComesTo, HasPoint, IsHeard}
+use Rattle.clock_judge.specs.declared.correcting.Point.{Point}
+use Rattle.device_rules.specs.Answers.{verdict_as}
 use Rattle.membership.specs.Summary.{Summary}
 use Rattle.net_plan.specs.declared.ids.DeviceId.{DeviceId}
 use Rattle.net_plan.specs.declared.network.Network.{Network}
@@ -81,3 +83,6 @@ point_comes s hs device t c cycle heard found verdict p hears comes =
 pub has_point : (s : Scenario) (hs : List Happening) (device : DeviceId) (t cycle : ℕ) (verdict : Verdict) → ComesToPoint s hs device t cycle verdict
     → HasPoint s hs device t cycle
 has_point s hs device t cycle verdict q = record { next = q.next; reached = q.reached; correct = q.correct }
+
+pub comes_so : (o : Option Point) (p : Point) (v : Verdict) → o ≡ Some p → verdict_as p.verdict ≡ v → (cycle : ℕ) × ComesTo o cycle v
+comes_so o p v is comes = (p.cycle, subst (λ (x : Option Point). ComesTo x p.cycle v) (sym is) (refl, comes))

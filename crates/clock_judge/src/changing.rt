@@ -1,16 +1,15 @@
 ghost use Rattle.std.specs.Prelude.{◌≡◌, ◌↔◌, ℕ, List, IsTrue};
-ghost use Rattle.audit_law.specs.CorrectionNumbers.{ComesToPoint};
 ghost use Rattle.audit_law.specs.DueRecords.{ChangesState};
 ghost use Rattle.clock_judge.specs.Brought.{bringer_as, bringer_of};
 ghost use Rattle.clock_judge.specs.Moments.{StandsAt};
 ghost use Rattle.clock_judge.specs.Points.{ComesTo, IsHeard};
-ghost use Rattle.device_rules.specs.Answers.{verdict_as};
 ghost use Rattle.net_plan.specs.Ranges.{IsInRange};
 ghost use Rattle.net_plan.specs.declared.ids.DeviceId.{DeviceId as DeviceIdValue};
 ghost use Rattle.net_plan.specs.declared.network.Network.{Network as NetworkValue};
 ghost use Rattle.run_law.specs.device.States.{state_before};
 ghost use Rattle.run_law.specs.records.Happenings.{Happening};
 ghost use Rattle.run_law.specs.scenario.Scenarios.{Scenario};
+ghost use Rattle.sync_state.specs.declared.answers.Verdict.TheVariants.{AsyncClique, SyncClique};
 ghost use Rattle.sync_state.specs.declared.state.State.TheVariants.{Integrating, Joining};
 
 use crate::{Moment, Point, coming_point};
@@ -111,26 +110,10 @@ pub fn changes_state(
                 && is_joining(shown, moment)
         }
         Why::SyncClique => {
-            is_left(said)
-                && comes_to(
-                    network,
-                    device,
-                    shown,
-                    moment,
-                    heard,
-                    PointVerdict::SyncClique,
-                )
+            is_left(said) && is_alone(coming_point(network, device, shown, moment, heard))
         }
         Why::AsyncClique => {
-            is_left(said)
-                && comes_to(
-                    network,
-                    device,
-                    shown,
-                    moment,
-                    heard,
-                    PointVerdict::AsyncClique,
-                )
+            is_left(said) && is_outnumbered(coming_point(network, device, shown, moment, heard))
         }
     }
 }
@@ -157,29 +140,28 @@ fn is_left(said: StateChange) -> bool
     said.state == State::Integrating && said.cause == 0
 }
 
-/// Has the device a correction point at the moment that comes to this?
-fn comes_to(
-    network: &Network,
-    device: DeviceId,
-    shown: &Shown,
-    moment: Moment,
-    heard: &Heard,
-    wanted: PointVerdict,
-) -> bool
-    requires { IsInRange network.now }
-    ensures { (s : Scenario) (hs : List Happening) (t : ℕ) → StandsAt s hs network.now device t moment shown.now
-        → IsHeard s hs device t heard.now
-        → IsTrue result ↔ ((cycle : ℕ) × ComesToPoint s hs device t cycle (verdict_as wanted)) }
-{
-    has_verdict(coming_point(network, device, shown, moment, heard), wanted)
-}
-
-/// Does the point come to this?
-fn has_verdict(point: Option<Point>, wanted: PointVerdict) -> bool
-    ensures { IsTrue result ↔ ((cycle : ℕ) × ComesTo point cycle (verdict_as wanted)) }
+/// Is the device alone by what the point comes to?
+fn is_alone(point: Option<Point>) -> bool
+    ensures { IsTrue result ↔ ((cycle : ℕ) × ComesTo point cycle SyncClique) }
 {
     match point {
-        Some(point) => point.verdict == wanted,
+        Some(point) => match point.verdict {
+            PointVerdict::SyncClique => true,
+            PointVerdict::Cleared | PointVerdict::AsyncClique | PointVerdict::Corrected(_) => false,
+        },
+        None => false,
+    }
+}
+
+/// Is it outnumbered?
+fn is_outnumbered(point: Option<Point>) -> bool
+    ensures { IsTrue result ↔ ((cycle : ℕ) × ComesTo point cycle AsyncClique) }
+{
+    match point {
+        Some(point) => match point.verdict {
+            PointVerdict::AsyncClique => true,
+            PointVerdict::Cleared | PointVerdict::SyncClique | PointVerdict::Corrected(_) => false,
+        },
         None => false,
     }
 }

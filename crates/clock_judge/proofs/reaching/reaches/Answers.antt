@@ -7,7 +7,7 @@ use Rattle.clock_judge.proofs.reaching.reaches.Goals as goal
 
 pub returns : goal.returns
 returns c s hs device t reads steady sh =
-    let at = to_z-of_z w128 c.at_change.result (search rules) ∙ c.at_change.ensures in
+    let at = to_z-of_z w128 c.at_change.result (search rules) ∙ c.at_change.ensures.value in
     let before = to_z-of_z w128 c.local.result (search rules) ∙ c.local.ensures in
     let now = to_z-of_z w128 c.local-2.result (search rules) ∙ c.local-2.ensures in
     let v = to_z-of_z w128 c.args.value (search rules) in (
