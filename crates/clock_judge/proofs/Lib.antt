@@ -1,3 +1,4 @@
 pub mod Reached
 pub mod Pointing
 pub mod Bringing
+pub mod Seeking

@@ -2,3 +2,4 @@ pub mod Moments
 pub mod Points
 pub mod Brought
 pub mod Crossing
+pub mod Finding

@@ -5,6 +5,7 @@
 mod changing;
 mod correcting;
 mod ending;
+mod finding;
 mod moment;
 mod network;
 mod reaching;
@@ -13,6 +14,7 @@ mod sending;
 pub use changing::{Bringer, StateChange, changes_state};
 pub use correcting::{Correction, Point, coming_cycle, coming_point, corrects};
 pub use ending::{EndClock, shows_clock};
+pub use finding::{Crossed, Series, next_crossing};
 pub use moment::Moment;
 pub use reaching::{is_up, reaches};
 pub use sending::sends;

@@ -44,7 +44,9 @@ pub fn is_up(shown: &Shown, moment: Moment) -> bool
 
 /// What the local clock shows where it reads this.
 pub(crate) fn local(shown: &Shown, reading: u64) -> i128
-    ensures { result ≡ pos reading +ℤ shown.now.adjustment }
+    ensures value { result ≡ pos reading +ℤ shown.now.adjustment }
+    ensures least { neg_ℤ (pos (2 ^ 82)) ≤ℤ result }
+    ensures most { result ≤ℤ pos (2 ^ 82) }
 {
     i128::from(reading) + shown.adjustment()
 }
