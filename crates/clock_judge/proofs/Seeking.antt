@@ -1,9 +1,9 @@
 -- When a clock next crosses a value of a series.
 use Rattle.std.proofs.Common.{◌≡◌, ◌⊎◌, inl, inr, ℕ, ◌+◌, ◌-◌, ◌*◌, ◌/◌, ◌%◌, ◌<◌, ◌≤◌, ℤ, pos, ◌<ℤ◌, ◌≤ℤ◌, List, Option, Some, None, refl, sym, ap, subst, ◌∙◌, arith}
-use Rattle.std.proofs.Common.{div-add-mod', mod-<}
+use Rattle.std.proofs.Common.{div-add-mod', mul-le-mul_right}
 use Rattle.std.proofs.lemmas.Int.{ints}
 use Rattle.std.proofs.lemmas.Bool.{cases_lt}
-use Rattle.std.proofs.lemmas.Nat.{div_below, le-div}
+use Rattle.std.proofs.lemmas.Nat.{div_below, mod_below}
 use Rattle.std.specs.Prelude.{◌+ℤ◌, ◌-ℤ◌}
 use Rattle.clock_judge.specs.Crossing.{HasCrossed}
 use Rattle.clock_judge.specs.Finding.{CrossesAt, IsNextCrossing, NoneCrossed, value_in}
@@ -93,10 +93,10 @@ pub quotient_behind : (series : Series) (passed : ℤ) (d : ℕ) → 1 ≤ serie
 quotient_behind series passed d some is =
     let q = d / series.step in
     let e : q * series.step + d % series.step ≡ d = div-add-mod' d series.step in
-    let small : d % series.step < series.step = mod-< d series.step some in
+    let small : d % series.step < series.step = mod_below d series.step some in
     record {
       behind = omega (arith, ints, e, small, is);
-      least = λ n lt. div_below d series.step n some (omega (arith, ints, lt, is));
+      least = λ n lt. let less = div_below d series.step n some (omega (arith, ints, lt, is)) in omega (arith, less);
     }
 
 pub quotient_near : (series : Series) (passed : ℤ) (d : ℕ) → pos d ≡ (passed -ℤ series.first)

@@ -1,4 +1,4 @@
-ghost use Rattle.std.specs.Prelude.{◌≡◌, ◌⊎◌, ◌≤◌, ◌<ℤ◌, ◌≤ℤ◌, ◌^◌, ℕ, List, pos, neg_ℤ};
+ghost use Rattle.std.specs.Prelude.{◌≡◌, ◌⊎◌, ◌≤◌, ◌<ℤ◌, ◌≤ℤ◌, ◌-ℤ◌, ◌^◌, ℕ, List, pos, neg_ℤ};
 ghost use Rattle.clock_judge.specs.Finding.{IsNextOrNone, value_in};
 ghost use Rattle.device_rules.specs.Widths.{IsFar};
 ghost use Rattle.event_history.specs.Readings.{clock_reading};
@@ -50,7 +50,7 @@ pub fn next_crossing(
     }
     let passed = greater(shown.at_change(), local(shown, events.reading(device, after)));
     let number = number_behind(series, passed);
-    let sought = value_in(series, number) - shown.adjustment();
+    let sought = reading_for(shown, value_in(series, number));
     match events.reach(device, after, sought, until) {
         Some(time) => Some(Crossed { time, number }),
         None => None,
@@ -70,8 +70,28 @@ fn number_behind(series: Series, passed: i128) -> u128
     if passed < series.first {
         0
     } else {
-        (passed - series.first) as u128 / u128::from(series.step) + 1
+        distance(series, passed) / u128::from(series.step) + 1
     }
+}
+
+/// How far this lies behind the first value.
+fn distance(series: Series, passed: i128) -> u128
+    requires first { IsFar series.first }
+    requires behind { series.first ≤ℤ passed }
+    requires most { passed ≤ℤ pos (2 ^ 82) }
+    ensures value { pos result ≡ passed -ℤ series.first }
+    ensures most { result ≤ 2 ^ 111 }
+{
+    (passed - series.first) as u128
+}
+
+/// What the clock reads where the local clock shows the value.
+fn reading_for(shown: &Shown, value: i128) -> i128
+    requires least { neg_ℤ (pos (2 ^ 82)) ≤ℤ value }
+    requires most { value ≤ℤ pos (2 ^ 111) }
+    ensures { result ≡ value -ℤ shown.now.adjustment }
+{
+    value - shown.adjustment()
 }
 
 /// The value of this number.
