@@ -2,3 +2,4 @@ pub mod Reached
 pub mod Pointing
 pub mod Bringing
 pub mod Seeking
+pub mod Dispatches

@@ -3,7 +3,13 @@ use Rattle.std.specs.Prelude.{ℕ, ◌+◌, ◌-◌, ◌*◌, ◌<◌, ◌≤◌
 use Rattle.clock_judge.specs.Crossing.{HasCrossed}
 use Rattle.clock_judge.specs.declared.finding.Crossed.{Crossed}
 use Rattle.clock_judge.specs.declared.finding.Series.{Series}
+use Rattle.device_rules.specs.Widths.{IsFar}
 use Rattle.record_history.specs.Showing.{Shown}
+
+-- the steps are positive, and the first value is not too far
+pub record IsSeries (series : Series) : Type 0 where
+  pub step : 1 ≤ series.step
+  pub first : IsFar series.first
 
 -- the value of this number in the series
 abbrev pub value_in : Series → ℕ → ℤ

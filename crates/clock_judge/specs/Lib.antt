@@ -3,3 +3,4 @@ pub mod Points
 pub mod Brought
 pub mod Crossing
 pub mod Finding
+pub mod Sendings

@@ -1,5 +1,5 @@
-ghost use Rattle.std.specs.Prelude.{◌≡◌, ◌⊎◌, ◌≤◌, ◌<ℤ◌, ◌≤ℤ◌, ◌-ℤ◌, ◌^◌, ℕ, List, pos, neg_ℤ};
-ghost use Rattle.clock_judge.specs.Finding.{IsNextOrNone, value_in};
+ghost use Rattle.std.specs.Prelude.{◌≡◌, ◌⊎◌, ◌≤◌, ◌<ℤ◌, ◌≤ℤ◌, ◌-ℤ◌, ◌^◌, ℕ, List, IfSome, pos, neg_ℤ};
+ghost use Rattle.clock_judge.specs.Finding.{IsNextOrNone, IsSeries, value_in};
 ghost use Rattle.device_rules.specs.Widths.{IsFar};
 ghost use Rattle.event_history.specs.Readings.{clock_reading};
 ghost use Rattle.event_history.specs.Remembering.{Remembers, RemembersSome};
@@ -38,9 +38,9 @@ pub fn next_crossing(
 ) -> Option<Crossed>
     requires some { RemembersSome events.now }
     requires limit { until ≤ 2 ^ 60 }
-    requires step { 1 ≤ series.step }
-    requires first { IsFar series.first }
-    ensures { (network : Network) (befallen : List Event) → Remembers network befallen events.now
+    requires series { IsSeries series }
+    ensures few { IfSome result (λ crossed. crossed.number ≤ 2 ^ 112) }
+    ensures is { (network : Network) (befallen : List Event) → Remembers network befallen events.now
         → HasDevice network device
         → IsNextOrNone (clock_reading network befallen device) shown.now series after until result }
 {
@@ -66,6 +66,7 @@ fn number_behind(series: Series, passed: i128) -> u128
     ensures behind { passed <ℤ value_in series result }
     ensures least { (n : ℕ) → passed <ℤ value_in series n → result ≤ n }
     ensures near { value_in series result ≤ℤ pos (2 ^ 111) }
+    ensures few { result ≤ 2 ^ 112 }
 {
     if passed < series.first {
         0

@@ -17,4 +17,4 @@ pub use ending::{EndClock, shows_clock};
 pub use finding::{Crossed, Series, next_crossing};
 pub use moment::Moment;
 pub use reaching::{is_up, reaches};
-pub use sending::sends;
+pub use sending::{Sending, next_sending, sends};

@@ -8,8 +8,8 @@ use Rattle.clock_judge.specs.Finding.{value_in}
 use Rattle.clock_judge.proofs.Seeking.{IsBehind, IsPassed, next_crossed, none_crossed}
 use Rattle.clock_judge.proofs.finding.next_crossing.Goals as goal
 
-pub returns-in-Some : goal.returns-in-Some
-returns-in-Some c network befallen remembers has =
+pub returns-in-Some-clause-is : goal.returns-in-Some-clause-is
+returns-in-Some-clause-is c network befallen remembers has =
     let reading = clock_reading network befallen c.args.device in
     let on = c.reading_law.ensures network befallen c.args.device remembers.range remembers.within remembers.begun in
     let passed = c.greater-passed.result in
@@ -41,8 +41,8 @@ returns-in-Some c network befallen remembers has =
     (c.reach.ensures network befallen remembers has)) in
     next_crossed reading c.args.shown.now c.args.series c.args.after c.args.until number passed sought c.in-Some.time on is behind same found.0 found.1
 
-pub returns-in-None : goal.returns-in-None
-returns-in-None c network befallen remembers has =
+pub returns-in-None-clause-is : goal.returns-in-None-clause-is
+returns-in-None-clause-is c network befallen remembers has =
     let reading = clock_reading network befallen c.args.device in
     let on = c.reading_law.ensures network befallen c.args.device remembers.range remembers.within remembers.begun in
     let passed = c.greater-passed.result in
