@@ -1,5 +1,5 @@
 -- What the record of a change of state says.
-use Rattle.std.proofs.Common.{◌≡◌, ℕ, Bool, true, false, List, Option, Some, None, refl, sym, ap, subst, ◌∙◌, arith, if◌then◌else◌}
+use Rattle.std.proofs.Common.{◌≡◌, ℕ, Bool, true, false, List, Option, Some, None, refl, sym, ap, ◌∙◌, arith, if◌then◌else◌}
 use Rattle.std.specs.Prelude.{◌==◌, not}
 use Rattle.clock_judge.specs.Brought.{bringer_as, bringer_at, bringer_of}
 use Rattle.clock_judge.specs.declared.changing.Bringer.TheVariants as bringers

@@ -1,7 +1,5 @@
 -- What a master sends in a stretch without records of it.
 use Rattle.std.proofs.Common.{◌≡◌, ℕ, ◌+◌, ◌-◌, ◌*◌, ◌<◌, ◌≤◌, ℤ, pos, Bool, true, false, List, refl, sym, ap, subst, ◌∙◌, arith, if◌then◌else◌}
-use Rattle.std.proofs.lemmas.Int.{ints}
-use Rattle.std.specs.Prelude.{◌+ℤ◌}
 use Rattle.clock_judge.proofs.Reached.{come_reaches, reaches_come}
 use Rattle.clock_judge.specs.Finding.{CrossesAt, IsNextCrossing, NoneCrossed, value_in}
 use Rattle.clock_judge.specs.Sendings.{IsNextSending, IsStretch, NoneSent}
@@ -16,7 +14,6 @@ use Rattle.run_law.specs.scenario.Devices.{has_role}
 use Rattle.run_law.specs.scenario.Scenarios.{Scenario}
 use Rattle.run_law.specs.timed.Dispatching.{Sends}
 use Rattle.sync_state.specs.declared.state.State.TheVariants.{Integrating, Synchronised}
-use Rattle.sync_state.specs.declared.state.State.{State}
 use Rattle.tte_units.specs.Amount.{amount}
 
 -- the series is that of the beginnings of cycles

@@ -1,5 +1,5 @@
 -- The correction point that comes to a device.
-use Rattle.std.proofs.Common.{◌≡◌, ℕ, ℤ, List, Option, Some, None, refl, sym, ap, subst, ◌∙◌}
+use Rattle.std.proofs.Common.{◌≡◌, ℕ, ℤ, List, Option, Some, refl, sym, ap, subst, ◌∙◌}
 use Rattle.std.specs.Prelude.{◌↔◌, false}
 use Rattle.audit_law.proofs.Determined.{same_verdict}
 use Rattle.audit_law.specs.CorrectionNumbers.{ComesToPoint, next_number, standing_at}
@@ -8,7 +8,6 @@ use Rattle.clock_judge.specs.declared.correcting.Point.{Point}
 use Rattle.device_rules.specs.Answers.{verdict_as}
 use Rattle.membership.specs.Summary.{Summary}
 use Rattle.net_plan.specs.declared.ids.DeviceId.{DeviceId}
-use Rattle.net_plan.specs.declared.network.Network.{Network}
 use Rattle.run_law.specs.control.Corrections.{correction_value}
 use Rattle.run_law.specs.device.LocalClocks.{Reaches}
 use Rattle.run_law.specs.records.Happenings.{Happening}

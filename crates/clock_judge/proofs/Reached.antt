@@ -1,10 +1,9 @@
 -- When a clock reaches a value, by its readings now and a unit of time before.
-use Rattle.std.proofs.Common.{◌≡◌, ℕ, zero, suc, ◌-◌, ◌<◌, ◌≤◌, ℤ, pos, Bool, true, false, List, [], ◌∷◌, filter, Option, Some, None, refl, sym, ap, subst, ◌∙◌, arith, if◌then◌else◌}
+use Rattle.std.proofs.Common.{◌≡◌, ℕ, zero, suc, ◌-◌, ◌<◌, ◌≤◌, ℤ, pos, Bool, true, false, List, [], ◌∷◌, filter, Option, Some, None, refl, subst, arith, if◌then◌else◌}
 use Rattle.std.proofs.lemmas.Int.{ints}
-use Rattle.std.proofs.lemmas.Bool.{cases_lt}
 use Rattle.std.specs.List.{last_or}
 use Rattle.std.specs.Option.{option_map_or}
-use Rattle.std.specs.Prelude.{◌+ℤ◌, ◌-ℤ◌, ◌≤ℤ◌, ◌<ℤ◌, ◌↔◌, nat_lt}
+use Rattle.std.specs.Prelude.{◌+ℤ◌, ◌-ℤ◌, ◌≤ℤ◌, ◌<ℤ◌, nat_lt}
 use Rattle.clock_judge.specs.Crossing.{HasCrossed}
 use Rattle.net_plan.specs.declared.ids.DeviceId.{DeviceId}
 use Rattle.record_history.specs.Showing.{IsReading, IsSteady, Shown, Shows}
@@ -24,10 +23,10 @@ last_early p t o (h ∷ hs) le =
     elim (nat_lt (time_of h) t) as (λ b. nat_lt (time_of h) t ≡ b
     → option_map_or time_of (last_or o (filter p (if b then h ∷ filter (λ x. nat_lt (time_of x) t) hs else filter (λ x. nat_lt (time_of x) t) hs))) 0 ≤ t - 1) [
       | true ↦ λ e. elim (p h) as (λ b. option_map_or time_of (last_or o (if b then h ∷ filter p (filter (λ x. nat_lt (time_of x) t) hs)
-      else filter p (filter (λ x. nat_lt (time_of x) t) hs))) 0 ≤ t - 1) [
-        | true ↦ last_early p t (Some h) hs (let lt = less (time_of h) t e in omega (arith, lt))
-        | false ↦ last_early p t o hs le
-      ]
+          else filter p (filter (λ x. nat_lt (time_of x) t) hs))) 0 ≤ t - 1) [
+            | true ↦ last_early p t (Some h) hs (let lt = less (time_of h) t e in omega (arith, lt))
+            | false ↦ last_early p t o hs le
+          ]
       | false ↦ λ e. last_early p t o hs le
     ] refl
 

@@ -1,13 +1,11 @@
 -- When a clock next crosses a value of a series.
-use Rattle.std.proofs.Common.{◌≡◌, ◌⊎◌, inl, inr, ℕ, ◌+◌, ◌-◌, ◌*◌, ◌/◌, ◌%◌, ◌<◌, ◌≤◌, ℤ, pos, ◌<ℤ◌, ◌≤ℤ◌, List, Option, Some, None, refl, sym, ap, subst, ◌∙◌, arith}
+use Rattle.std.proofs.Common.{◌≡◌, ◌⊎◌, inl, inr, ℕ, ◌+◌, ◌-◌, ◌*◌, ◌/◌, ◌%◌, ◌<◌, ◌≤◌, ℤ, pos, ◌<ℤ◌, ◌≤ℤ◌, subst, arith}
 use Rattle.std.proofs.Common.{div-add-mod', mul-le-mul_right}
 use Rattle.std.proofs.lemmas.Int.{ints}
 use Rattle.std.proofs.lemmas.Bool.{cases_lt}
 use Rattle.std.proofs.lemmas.Nat.{div_below, mod_below}
 use Rattle.std.specs.Prelude.{◌+ℤ◌, ◌-ℤ◌}
-use Rattle.clock_judge.specs.Crossing.{HasCrossed}
 use Rattle.clock_judge.specs.Finding.{CrossesAt, IsNextCrossing, NoneCrossed, value_in}
-use Rattle.clock_judge.specs.declared.finding.Crossed.{Crossed}
 use Rattle.clock_judge.specs.declared.finding.Series.{Series}
 use Rattle.drift_clock.specs.Reach.{IsReach}
 use Rattle.event_history.specs.Readings.{ReadsOn}

@@ -1,5 +1,5 @@
 -- What the record that a change of state comes from says.
-use Rattle.std.specs.Prelude.{ℕ, Bool, true, false, ◌==◌, List, Option, Some, None, if◌then◌else◌}
+use Rattle.std.specs.Prelude.{ℕ, ◌==◌, List, Option, Some, None, if◌then◌else◌}
 use Rattle.clock_judge.specs.declared.changing.Bringer.TheVariants as bringers
 use Rattle.clock_judge.specs.declared.changing.Bringer.{Bringer}
 use Rattle.net_plan.specs.declared.event.What.TheVariants.{On}

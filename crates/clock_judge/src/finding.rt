@@ -48,7 +48,10 @@ pub fn next_crossing(
     if until <= after {
         return None;
     }
-    let passed = greater(shown.at_change(), local(shown, events.reading(device, after)));
+    let passed = greater(
+        shown.at_change(),
+        local(shown, events.reading(device, after)),
+    );
     let number = number_behind(series, passed);
     let sought = reading_for(shown, value_in(series, number));
     match events.reach(device, after, sought, until) {

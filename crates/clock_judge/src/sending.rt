@@ -29,13 +29,7 @@ pub struct Sending {
 }
 
 /// Does the device send the control frame of the cycle at the moment? This is what the records of earlier times show.
-pub fn sends(
-    network: &Network,
-    device: DeviceId,
-    shown: &Shown,
-    moment: Moment,
-    cycle: u32,
-) -> bool
+pub fn sends(network: &Network, device: DeviceId, shown: &Shown, moment: Moment, cycle: u32) -> bool
     requires { IsInRange network.now }
     ensures { (s : Scenario) (hs : List Happening) (t : ℕ) → StandsAt s hs network.now device t moment shown.now
         → IsTrue result ↔ Sends s hs device t cycle }

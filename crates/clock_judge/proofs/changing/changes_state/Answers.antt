@@ -1,4 +1,4 @@
-use Rattle.std.proofs.Common.{sym, subst, ap, ◌∙◌, not}
+use Rattle.std.proofs.Common.{sym, subst, ◌∙◌}
 use Rattle.audit_law.specs.DueRecords.{ChangesState}
 use Rattle.run_law.specs.declared.judgement.Why.{Why}
 use Rattle.sync_state.specs.declared.answers.Verdict.TheVariants.{AsyncClique, SyncClique}

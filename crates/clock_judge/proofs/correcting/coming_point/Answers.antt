@@ -1,4 +1,4 @@
-use Rattle.std.proofs.Common.{◌≡◌, ◌∙◌, ℕ, ℤ, sym, subst, ap, rules, refl}
+use Rattle.std.proofs.Common.{subst}
 use Rattle.clock_judge.proofs.Pointing.{number_is, point_comes}
 use Rattle.clock_judge.specs.Points.{HasPoint}
 use Rattle.sync_state.specs.Standing.{Standing}

@@ -1,4 +1,4 @@
-use Rattle.std.proofs.Common.{ℤ, sym, subst, ap, ◌∙◌}
+use Rattle.std.proofs.Common.{ℤ, sym, ap, ◌∙◌}
 use Rattle.std.specs.Prelude.{◌+ℤ◌}
 use Rattle.std.proofs.lemmas.Bool.{false≢true}
 use Rattle.sync_state.specs.declared.answers.Verdict.TheVariants.{Corrected}
@@ -10,9 +10,9 @@ returns-then-comes_by c s hs t stands hears =
     let point = c.coming_point.ensures s hs t said.cycle (Corrected said.by) stands hears in
     let same = ap (λ (z : ℤ). z +ℤ said.by.0) stands.shows.adjustment in (
       λ told. record {
-          corrected = point.0 (c.comes_by.ensures.0 c.if-comes_by.true);
-          sum = c.is_sum.ensures.0 told ∙ same;
-        },
+        corrected = point.0 (c.comes_by.ensures.0 c.if-comes_by.true);
+        sum = c.is_sum.ensures.0 told ∙ same;
+      },
       λ there. c.is_sum.ensures.1 (there.sum ∙ sym same),
     )
 

@@ -1,4 +1,4 @@
-use Rattle.std.proofs.Common.{ℕ, ℤ, ◌⊎◌, inl, inr, ◌+◌, ◌≤ℤ◌, ◌<ℤ◌, Option, Some, None, pos, sym, subst, ap, ◌∙◌, ◌≡◌, rules, arith}
+use Rattle.std.proofs.Common.{ℕ, ℤ, inl, inr, ◌<ℤ◌, Option, Some, None, pos, sym, subst, ap, ◌∙◌, ◌≡◌, rules, arith}
 use Rattle.std.specs.Prelude.{◌-ℤ◌, ◌+ℤ◌}
 use Rattle.std.specs.Int.{w128}
 use Rattle.std.proofs.lemmas.Int.{ints, to_z-of_z}

@@ -1,4 +1,4 @@
-use Rattle.std.proofs.Common.{Fits, w64, ℕ, ℤ, ◌+◌, ◌/◌, ◌<ℤ◌, ◌≤ℤ◌, pos, sym, subst, ap, ◌∙◌, ◌≡◌, rules, arith}
+use Rattle.std.proofs.Common.{Fits, w64, ℕ, ℤ, ◌+◌, ◌/◌, ◌≤ℤ◌, pos, sym, subst, ap, ◌∙◌, ◌≡◌, rules, arith}
 use Rattle.std.specs.Prelude.{◌+ℤ◌, ◌-ℤ◌}
 use Rattle.std.specs.Int.{w128}
 use Rattle.std.proofs.lemmas.Int.{ints, to_z-of_z}

@@ -1,5 +1,4 @@
-use Rattle.std.proofs.Common.{◌≡◌, ℤ, pos, rules, subst, sym, ◌∙◌}
-use Rattle.std.specs.Prelude.{◌+ℤ◌}
+use Rattle.std.proofs.Common.{rules, sym, ◌∙◌}
 use Rattle.std.specs.Int.{w128}
 use Rattle.std.proofs.lemmas.Int.{to_z-of_z}
 use Rattle.clock_judge.proofs.Reached.{come_reaches, reaches_come, same_crossing}

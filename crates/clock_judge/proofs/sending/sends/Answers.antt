@@ -1,4 +1,4 @@
-use Rattle.std.proofs.Common.{ℤ, ℕ, ◌*◌, pos, sym, subst, ap, ◌∙◌}
+use Rattle.std.proofs.Common.{◌*◌, pos, sym, subst, ap, ◌∙◌}
 use Rattle.std.proofs.lemmas.Bool.{false≢true}
 use Rattle.net_plan.specs.Places.{is_master}
 use Rattle.net_plan.specs.declared.network.Network.{Network}

@@ -1,4 +1,3 @@
-use Rattle.event_history.specs.Readings.{clock_reading}
 use Rattle.clock_judge.proofs.moment.Moment.of.Goals as goal
 
 pub returns : goal.returns
