@@ -57,8 +57,8 @@ pub fn coming_cycle(network: &Network, shown: &Shown, moment: Moment) -> Option<
     }
 }
 
-/// The correction point that comes to the device at the moment, and what it comes to. This is what the records of earlier
-/// times show, and what the device has heard since its last correction point.
+/// The correction point that comes to the device at the moment, and what it comes to. This is what the records of
+/// earlier times show, and what the device has heard since its last correction point.
 pub fn coming_point(
     network: &Network,
     device: DeviceId,

@@ -20,8 +20,8 @@ pub struct EndClock {
     pub state: State,
 }
 
-/// Is there the device, do the events end at the time, and stands its clock so? The clock reads this at the time, and the
-/// rest is what the records up to then show.
+/// Is there the device, do the events end at the time, and stands its clock so? The clock reads this at the time, and
+/// the rest is what the records up to then show.
 pub fn shows_clock(
     network: &Network,
     device: DeviceId,

@@ -26,8 +26,8 @@ pub struct Crossed {
     pub number: u128,
 }
 
-/// The least time later than `after`, up to `until`, at which the device's clock crosses a value of the series, where no
-/// record changes what is shown. `until` is at most 2^60.
+/// The least time later than `after`, up to `until`, at which the device's clock crosses a value of the series, where
+/// no record changes what is shown. `until` is at most 2^60.
 pub fn next_crossing(
     events: &EventHistory,
     device: DeviceId,

@@ -18,3 +18,6 @@ pub use finding::{Crossed, Series, next_crossing};
 pub use moment::Moment;
 pub use reaching::{is_up, reaches};
 pub use sending::{Sending, next_sending, sends};
+
+#[cfg(test)]
+mod tests;

@@ -13,7 +13,8 @@ use crate::Moment;
 use record_history::{Readings, Shown};
 use sync_state::State;
 
-/// Does the device's clock reach the value at the time of these readings? This is what the records of earlier times show.
+/// Does the device's clock reach the value at the time of these readings? This is what the records of earlier times
+/// show.
 pub fn reaches(shown: &Shown, readings: Readings, value: i128) -> bool
     ensures { (s : Scenario) (hs : List Happening) (device : DeviceId) (t : ℕ) → IsReading s device t readings
         → IsSteady s device → Shows s (earlier t hs) device shown.now

@@ -50,8 +50,8 @@ fn begins(network: &Network, shown: &Shown, moment: Moment, cycle: u32) -> bool
     1 <= cycle && reaches(shown, moment.readings, begun(network, cycle))
 }
 
-/// What the device sends next, later than `after`, up to `until`, where no record changes what is shown and the device is
-/// correct and not turned on. `until` is at most 2^60.
+/// What the device sends next, later than `after`, up to `until`, where no record changes what is shown and the device
+/// is correct and not turned on. `until` is at most 2^60.
 pub fn next_sending(
     network: &Network,
     events: &EventHistory,
