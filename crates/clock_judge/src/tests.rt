@@ -1,6 +1,4 @@
-use crate::{
-    Moment, Point, Sending, coming_cycle, coming_point, next_sending, reaches, sends,
-};
+use crate::{Moment, Point, Sending, coming_cycle, coming_point, next_sending, reaches, sends};
 use device_rules::PointVerdict;
 use event_history::EventHistory;
 use membership::Heard;
