@@ -1,0 +1,5 @@
+pub mod Reached
+pub mod Pointing
+pub mod Bringing
+pub mod Seeking
+pub mod Dispatches
