@@ -1,6 +1,6 @@
 -- One more event of a report.
-use Rattle.std.proofs.Common.{◌≡◌, ◌⊎◌, List, [], ◌∷◌, ◌++◌, inl, inr, ap}
-use Rattle.std.specs.Prelude.{Any, Bool, true, false, MatchBool}
+use Rattle.std.proofs.Common.{◌≡◌, ◌⊎◌, List, [], ◌∷◌, ◌++◌, inl, inr, refl, sym, ap, subst}
+use Rattle.std.specs.Prelude.{Any, Option, Some, None, is_some, Bool, true, false, MatchBool}
 use Rattle.net_plan.specs.declared.event.Event.{Event}
 use Rattle.net_plan.specs.declared.event.What.{What}
 use Rattle.net_plan.specs.declared.event.What.TheVariants.{End}
@@ -21,9 +21,30 @@ event_at : Units → What → Event
 event_at time what = record { time = time; what = what }
 
 -- an end is the last event
-pub ends_with : (befallen : List Event) (event : Event) → event.what ≡ End → (time : Units) × EndWith (befallen ++ event ∷ []) time
+pub ends_with : (befallen : List Event) (event : Event) → event.what ≡ End → EndWith (befallen ++ event ∷ []) event.time
 unfolding event_at
-ends_with befallen event is = (event.time, (befallen, ap (λ w. befallen ++ event_at event.time w ∷ []) is))
+ends_with befallen event is = (befallen, ap (λ w. befallen ++ event_at event.time w ∷ []) is)
+
+-- events that end with one have one
+pub any_end : (befallen : List Event) (time : Units) → EndWith befallen time → Any (λ e. e.what ≡ End) befallen
+unfolding event_at
+any_end befallen time ends =
+    subst (Any (λ (e : Event). e.what ≡ End)) (sym ends.1) (behind ends.0 (event_at time End) refl)
+  where
+    behind : (front : List Event) (event : Event) → event.what ≡ End → Any (λ (e : Event). e.what ≡ End) (front ++ event ∷ [])
+    behind [] event is = any_first (λ (e : Event). e.what ≡ End) event [] is
+    behind (e ∷ front) event is = any_later (λ (d : Event). d.what ≡ End) e (front ++ event ∷ []) (behind front event is)
+
+pub some_is : {X : Type 0} (o : Option X) → is_some o ≡ true → (x : X) × (o ≡ Some x)
+some_is None e = absurd cc
+some_is (Some x) e = (x, refl)
+
+pub none_is : {X : Type 0} (o : Option X) → is_some o ≡ false → o ≡ None
+none_is None e = refl
+none_is (Some x) e = absurd cc
+
+pub none_ends : {X : Type 0} {Y : Type 0} (o : Option X) (x : X) → o ≡ None → o ≡ Some x → Y
+none_ends o x none some = absurd cc
 
 pub match_false : (b : Bool) (A B : Type 0) → MatchBool b A B → b ≡ false → B
 match_false false A B h e = h

@@ -1,23 +1,25 @@
 -- The clocks of a report whose events are right keep the clock laws.
 use Rattle.std.proofs.lemmas.Int.{ints}
-use Rattle.std.proofs.Common.{◌≡◌, pos, ◌≤ℤ◌, ◌≤◌, List, [], ◌∷◌, ◌++◌, map, Option, Some, None, inl, inr, refl, sym, ap, subst, ◌∙◌, arith}
+use Rattle.std.proofs.Common.{◌≡◌, pos, ◌≤ℤ◌, ◌≤◌, List, [], ◌∷◌, ◌++◌, Option, Some, None, inl, inr, refl, sym, ap, subst, ◌∙◌, arith}
 use Rattle.std.specs.List.{cons_option}
+use Rattle.std.proofs.lemmas.List.Elements.{All-cons, All-nil}
 use Rattle.audit_law.specs.SameRuns.{IsClocked}
 use Rattle.drift_clock.proofs.Readings.{IsLawful, keeps_clock_laws}
 use Rattle.drift_clock.specs.ClockLaws.{AlwaysKeepsClockLaws}
 use Rattle.drift_clock.specs.Segment.{fresh_segment, segment_count, segment_reading, stepped_segment}
 use Rattle.drift_clock.specs.SegmentLaws.{advances, counts_time, keeps_count}
+use Rattle.event_history.proofs.Befalling.{events_from, steps_from}
+use Rattle.event_history.proofs.Clocking.{steps_history}
+use Rattle.event_history.specs.Readings.{HaveBegun}
 use Rattle.net_plan.specs.declared.event.Event.{Event}
 use Rattle.net_plan.specs.declared.network.Network.{Network}
-use Rattle.run_law.proofs.runs.NetworkRuns.{same_notes}
+use Rattle.run_law.proofs.runs.Places.{parted}
 use Rattle.run_law.specs.declared.note.Note.{Note}
 use Rattle.run_law.specs.declared.note.NoteBody.TheVariants as notes
 use Rattle.run_law.specs.declared.note.NoteBody.{NoteBody}
-use Rattle.run_law.specs.records.Happenings.{Happening, happenings}
 use Rattle.run_law.specs.records.Order.{IsIn}
 use Rattle.run_law.specs.scenario.Hypothesis.{AreWithinHypothesis, IsWithinHypothesis}
 use Rattle.run_law.specs.scenario.Rates.{rate_steps}
-use Rattle.safe_runs.proofs.Histories.{history}
 use Rattle.tte_units.specs.Amount.{amount}
 use Rattle.tte_units.specs.declared.units.Units.{Units}
 use Rattle.tte_audit.specs.Named.{IsNamed}
@@ -106,47 +108,39 @@ within network ns right before behind event e =
     subst (λ (es : List Event). IsWithinHypothesis network es event) at.same
     (befalls network (events_of at.front) at.note.time at.note.body event at.tells (right at.front at.rest at.note at.whole))
 
--- the time of an event is that of its record
-time_told : (time : Units) (body : NoteBody) (event : Event) → event_by time body ≡ Some event → event.time ≡ time
-time_told time (notes.Event line what) event is =
-    let same : (let v : Event = record { time = time; what = what } in v) ≡ event = cc in sym (ap (λ (v : Event). v.time) same)
-time_told time body event is = absurd cc
+begun_there : (network : Network) (befallen : List Event) (time : Units) (body : NoteBody) (event : Event) → event_by time body ≡ Some event
+    → MayCome network befallen time body → pos 0 ≤ℤ event.time.0
+begun_there network befallen time (notes.Event line what) event is may =
+    let same : (let v : Event = record { time = time; what = what } in v) ≡ event = cc in
+    subst (λ (v : Event). pos 0 ≤ℤ v.time.0) same may.begun
+begun_there network befallen time body event is may = absurd cc
 
-in_events : (ns : List Note) (event : Event) → IsIn event (events_of ns) → (n : Note) × IsIn n ns × (event.time ≡ n.time)
-in_events [] event i = absurd i
-in_events (n ∷ ns) event i = by (in_events ns event) (event_in n) refl i
-  where
-    by : (IsIn event (events_of ns) → (m : Note) × IsIn m ns × (event.time ≡ m.time)) → (o : Option Event) → event_in n ≡ o → IsIn event (cons_option (event_in n) (events_of ns)) → (m : Note) × IsIn m (n ∷ ns) × (event.time ≡ m.time)
-    by later_on None is j =
-        let more = later_on (subst (λ (o : Option Event). IsIn event (cons_option o (events_of ns))) is j) in (more.0, inr more.1, more.2)
-    by later_on (Some x) is j = elim (subst (λ (o : Option Event). IsIn event (cons_option o (events_of ns))) is j) as (λ _. (m : Note) × IsIn m (n ∷ ns)
-        × (event.time ≡ m.time)) [
-          | inl same ↦ (n, inl refl, time_told n.time n.body event (is ∙ ap (λ (v : Event). Some v) (sym same)))
-          | inr later ↦ (let more = later_on later in (more.0, inr more.1, more.2))
-        ]
+-- and begin at time 0
+begun_in : (network : Network) (ns : List Note) → AreEventsRight network ns → (e : Event) → IsIn e (events_of ns) → pos 0 ≤ℤ e.time.0
+begun_in network ns right e i =
+    let parts = parted e (events_of ns) i in
+    let at = told ns parts.0 parts.1 e parts.2 in
+    begun_there network (events_of at.front) at.note.time at.note.body e at.tells (right at.front at.rest at.note at.whole)
 
-in_map : (hs : List Happening) (n : Note) → IsIn n (map (λ h. h.note) hs) → (h : Happening) × IsIn h hs × (n ≡ h.note)
-in_map [] n i = absurd i
-in_map (h ∷ hs) n (inl same) = (h, inl refl, same)
-in_map (h ∷ hs) n (inr i) = let more = in_map hs n i in (more.0, inr more.1, more.2)
+all_begun : (es : List Event) → ((e : Event) → IsIn e es → pos 0 ≤ℤ e.time.0) → HaveBegun es
+all_begun [] each = All-nil (λ e. pos 0 ≤ℤ e.time.0)
+all_begun (e ∷ es) each = All-cons (λ e. pos 0 ≤ℤ e.time.0) e es (each e (inl refl)) (all_begun es (λ d i. each d (inr i)))
 
 -- ---- the scenario
 
--- the scenario of records whose times are from 0 on and whose events are right
-pub clocked : (network : Network) (ns : List Note) → IsNamed network → AreEventsRight network ns
-    → ((h : Happening) → IsIn h (happenings network ns) → pos 0 ≤ℤ h.note.time.0) → IsClocked (scenario_of network ns)
-clocked network ns named right begun =
+-- the scenario of records whose events are right
+pub clocked : (network : Network) (ns : List Note) → IsNamed network → AreEventsRight network ns → IsClocked (scenario_of network ns)
+clocked network ns named right =
     let range = named.in_range in
     let least = range.grain.least in
     let some : 1 ≤ amount network.grain = omega (arith, ints, least) in
-    let from_zero : (e : Event) → IsIn e (events_of ns) → pos 0 ≤ℤ e.time.0 = λ e i.
-    let note = in_events ns e i in
-    let h = in_map (happenings network ns) note.0 (subst (IsIn note.0) (sym (same_notes network ns)) note.1) in
-    subst (λ (t : Units). pos 0 ≤ℤ t.0) (sym (note.2 ∙ ap (λ (n : Note). n.time) h.2)) (begun h.0 h.1) in
+    let from_zero = begun_in network ns right in
+    let events = events_from network (events_of ns) range (within network ns right) (all_begun (events_of ns) from_zero) in
     record {
       range = range;
       begun = from_zero;
       clocks = λ device.
-          exact_laws network.rho (amount network.grain) (rate_steps (events_of ns) device) range.rho some
-          (history network (events_of ns) device (within network ns right) from_zero);
+          let steps = rate_steps (events_of ns) device in
+          exact_laws network.rho (amount network.grain) steps range.rho some
+          (steps_history network.rho 0 steps (steps_from network.rho 0 (events_of ns) device events));
     }

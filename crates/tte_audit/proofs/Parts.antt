@@ -149,10 +149,20 @@ begins_on network octets rest left notes begins h = record {
       ∙ ap (λ (t : List ℕ). t ++ left) (sym (report_on network notes h.note));
 }
 
+-- a record whose line comes first, and so does that of its number
+abbrev pub line_of : (network : Network) (note : Note) (n : ℕ) (octets left : List ℕ) → BeginsWithRecord network note octets left → note.number ≡ n
+    → LineThen network n octets left
+line_of network note n octets left h number = record { note = note; of_network = h.of_network; in_range = h.in_range; number = number; text = h.text }
+
+pub begins_more : (network : Network) (octets rest left : List ℕ) (notes : List Note) (note : Note) → BeginsWith network octets notes rest
+    → BeginsWithRecord network note rest left → note.number ≡ length notes + 1 → BeginsWith network octets (notes ++ note ∷ []) left
+begins_more network octets rest left notes note begins h next =
+    begins_on network octets rest left notes begins (line_of network note (length notes + 1) rest left h next)
+
 -- a line takes some octets
-pub shorter : (network : Network) (n : ℕ) (octets left : List ℕ) → LineThen network n octets left → length left + 1 ≤ length octets
-shorter network n octets left h =
-    omega (arith, ap length h.text, length-append (note_line network h.note) left, length-append (note_text network h.note) (codes "\n"))
+pub shorter : (network : Network) (note : Note) (octets left : List ℕ) → BeginsWithRecord network note octets left → length left + 1 ≤ length octets
+shorter network note octets left h =
+    omega (arith, ap length h.text, length-append (note_line network note) left, length-append (note_text network note) (codes "\n"))
 
 -- at first no line is read
 pub begins_none : (network : Network) (octets : List ℕ) → BeginsWith network octets [] octets

@@ -1,10 +1,8 @@
 -- A report of a run is one by what is due in an audit.
 use Rattle.std.proofs.Common.{List}
-use Rattle.audit_law.proofs.Numbered.{founded_at}
 use Rattle.audit_law.proofs.SameRuns.{same_runs}
 use Rattle.audit_law.specs.DueRecords.{IsDue}
 use Rattle.net_plan.specs.declared.network.Network.{Network}
-use Rattle.run_law.proofs.law.FirstPlaces as runs_places
 use Rattle.run_law.specs.declared.note.Note.{Note}
 use Rattle.run_law.specs.records.Happenings.{happenings}
 use Rattle.run_law.specs.records.Ranks.{place_of}
@@ -22,7 +20,7 @@ pub audit_run : (network : Network) (ns : List Note) (time : Units) → IsNamed 
 audit_run network ns time named right run =
     let s = scenario_of network ns in
     let hs = happenings network ns in
-    (same_runs s hs (amount time) (clocked network ns named right (λ h i. (runs_places.founded_at s hs h run.founded i).due.begun))).0 run
+    (same_runs s hs (amount time) (clocked network ns named right)).0 run
 
 pub run_of_audit : (network : Network) (ns : List Note) (time : Units) → IsNamed network → AreEventsRight network ns
     → IsRun place_of (IsDue (scenario_of network ns)) (behind_time time) (happenings network ns)
@@ -30,4 +28,4 @@ pub run_of_audit : (network : Network) (ns : List Note) (time : Units) → IsNam
 run_of_audit network ns time named right run =
     let s = scenario_of network ns in
     let hs = happenings network ns in
-    (same_runs s hs (amount time) (clocked network ns named right (λ h i. (founded_at s hs h run.founded i).due.begun))).1 run
+    (same_runs s hs (amount time) (clocked network ns named right)).1 run

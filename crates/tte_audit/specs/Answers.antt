@@ -2,13 +2,14 @@
 use Rattle.std.specs.Prelude.{◌≡◌, ◌⊎◌, ℕ, List, [], length}
 use Rattle.audit_law.specs.DebtLaws.{IsFirstLack}
 use Rattle.audit_law.specs.Findings.{AreSound, IsUnfoundedAt}
+use Rattle.event_history.specs.Readings.{clock_reading}
 use Rattle.net_plan.specs.declared.network.Network.{Network}
 use Rattle.run_law.specs.records.Happenings.{happenings}
 use Rattle.run_law.specs.records.Ranks.{place_of}
 use Rattle.audit_law.specs.DueRecords.{IsDue}
 use Rattle.run_law.specs.runs.DueRecords.{IsRunOf}
 use Rattle.run_law.specs.declared.note.Note.{Note}
-use Rattle.tte_audit.specs.Report.{BeginsWith, IsEndless, IsEventFault, IsFormFault, IsOfEvents, behind_time, clock_reading, events_of, scenario_of}
+use Rattle.tte_audit.specs.Report.{BeginsWith, IsEndless, IsEventFault, IsFormFault, IsOfEvents, behind_time, events_of, scenario_of}
 use Rattle.tte_audit.specs.declared.refusal.AuditRefusal.{AuditRefusal}
 use Rattle.tte_audit.specs.declared.refusal.AuditRefusal.TheVariants as refusals
 use Rattle.tte_units.specs.Amount.{amount, units_of}
@@ -57,3 +58,9 @@ abbrev pub IsOfFormOrEvents : AuditRefusal → Type 0
 IsOfFormOrEvents (refusals.Form n) = Unit {0}
 IsOfFormOrEvents (refusals.Events n) = Unit {0}
 IsOfFormOrEvents other = ⊥
+
+-- a refusal that no judgement of the other records gives
+abbrev pub IsBeforeRecords : AuditRefusal → Type 0
+IsBeforeRecords (refusals.Unfounded n) = ⊥
+IsBeforeRecords (refusals.Lacking t) = ⊥
+IsBeforeRecords other = Unit {0}

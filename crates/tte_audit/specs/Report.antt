@@ -1,18 +1,15 @@
 -- A report, as the records that it tells, and the events among them.
 use Rattle.tte_io.specs.Line.{lf}
-use Rattle.std.specs.Prelude.{Bool, ◌==◌, ◌≡◌, ◌≢◌, ℕ, ◌+◌, List, [], ◌∷◌, ◌++◌, length, filter_map, Any, Option, Some, None}
+use Rattle.std.specs.Prelude.{Bool, ◌==◌, ◌≡◌, ◌≢◌, ℕ, ◌+◌, pos, ◌≤ℤ◌, List, [], ◌∷◌, ◌++◌, length, filter_map, Any, Option, Some, None}
 use Rattle.std.specs.List.{concat}
-use Rattle.drift_clock.specs.Readings.{reading_at}
-use Rattle.drift_clock.specs.Segment.{fresh_segment, stepped_segment, segment_reading}
+use Rattle.event_history.specs.Readings.{scenario_under}
 use Rattle.net_plan.specs.declared.event.Event.{Event}
 use Rattle.net_plan.specs.declared.event.What.TheVariants.{End}
-use Rattle.net_plan.specs.declared.ids.DeviceId.{DeviceId}
 use Rattle.net_plan.specs.declared.network.Network.{Network}
 use Rattle.report_text.specs.Laws.{AreOfNetwork}
 use Rattle.report_text.specs.NoteLine.{note_line, note_text, report_of}
 use Rattle.report_text.specs.Ranges.{IsNoteOf, IsNoteInRange}
 use Rattle.run_law.specs.scenario.Hypothesis.{IsWithinHypothesis}
-use Rattle.run_law.specs.scenario.Rates.{rate_steps}
 use Rattle.run_law.specs.scenario.Scenarios.{Scenario}
 use Rattle.run_law.specs.declared.note.Note.{Note}
 use Rattle.run_law.specs.declared.note.NoteBody.{NoteBody}
@@ -91,9 +88,10 @@ abbrev pub with_event : List Event → Units → NoteBody → List Event
 with_event befallen time (notes.Event line what) = befallen ++ record { time = time; what = what } ∷ []
 with_event befallen time other = befallen
 
--- the event of this line may befall the network, given those before it
+-- the event of this line may befall the network from time 0 on, given those before it
 pub record MayBefall (network : Network) (befallen : List Event) (line : ℕ) (event : Event) : Type 0 where
   pub next : line ≡ length befallen + 1
+  pub begun : pos 0 ≤ℤ event.time.0
   pub within : IsWithinHypothesis network befallen event
   pub unended : Any (λ e. e.what ≡ End) befallen → ⊥
 
@@ -126,15 +124,9 @@ pub record IsEndless (network : Network) (ns : List Note) (n : ℕ) : Type 0 whe
 
 -- ---- the scenario of a report
 
--- what the clock of a device reads at a time, under the rates that the events set
-abbrev pub clock_reading : Network → List Event → DeviceId → ℕ → ℕ
-clock_reading network events device time =
-    reading_at stepped_segment segment_reading (fresh_segment (amount network.grain)) (rate_steps events device) time
-
 -- the network under the events of the records
 abbrev pub scenario_of : Network → List Note → Scenario
-scenario_of network ns =
-    record { network = network; reading = clock_reading network (events_of ns); events = events_of ns }
+scenario_of network ns = scenario_under network (events_of ns)
 
 -- just behind all that is of this time
 abbrev pub behind_time : Units → List ℕ

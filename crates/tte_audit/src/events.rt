@@ -1,24 +1,20 @@
-ghost use Rattle.std.specs.Prelude.{◌≡◌, ◌↔◌, ◌<◌, ◌^◌, ◌++◌, ◌∷◌, [], ℕ, List, length};
-ghost use Rattle.std.specs.Prelude.{IsTrue, MatchBool, MatchOption, Any, Some, IfSome};
-ghost use Rattle.fault_hypothesis.specs.Watching.{Watches};
+ghost use Rattle.std.specs.Prelude.{◌≡◌, ◌↔◌, ◌<◌, ◌^◌, ◌++◌, ◌∷◌, [], List, pos, ◌≤ℤ◌};
+ghost use Rattle.std.specs.Prelude.{IsTrue, IfOk, MatchBool};
+ghost use Rattle.net_plan.specs.Belonging.{IsOfNetwork};
 ghost use Rattle.net_plan.specs.declared.event.Event.{Event as EventValue};
 ghost use Rattle.net_plan.specs.declared.event.What.TheVariants.{End};
 ghost use Rattle.net_plan.specs.declared.network.Network.{Network as NetworkValue};
 ghost use Rattle.report_text.specs.Ranges.{IsBodyOf};
-ghost use Rattle.run_law.specs.declared.note.Note.{Note as NoteValue};
-ghost use Rattle.tte_audit.specs.Answers.{IsEventsFault};
-ghost use Rattle.tte_audit.specs.Named.{IsNamed};
-ghost use Rattle.tte_units.specs.declared.units.Units.{Units as UnitsValue};
 ghost use Rattle.tte_audit.specs.Following.{Follows};
-ghost use Rattle.tte_audit.specs.Report.{AreEventsRight, BeginsWith, EndWith, MayBefall, MayCome};
-ghost use Rattle.tte_audit.specs.Report.{events_of, with_event};
-ghost use Rattle.net_plan.specs.Belonging.{IsOfNetwork};
+ghost use Rattle.tte_audit.specs.Named.{IsNamed};
+ghost use Rattle.tte_audit.specs.Report.{MayBefall, MayCome, with_event};
 
-use crate::lines::first_record;
+use event_history::{EventHistory, OutOfMemory};
 use fault_hypothesis::Watch;
 use net_plan::{Event, What};
 use run_law::NoteBody;
 use schedule_tables::Accepted;
+use std::alloc::Global;
 use tte_units::Units;
 
 fn is_end(what: &What) -> bool
@@ -27,61 +23,80 @@ fn is_end(what: &What) -> bool
     matches!(what, What::End)
 }
 
+fn has_begun(time: Units) -> bool
+    ensures { IsTrue result ↔ (pos 0 ≤ℤ time.0) }
+{
+    time.0 >= 0
+}
+
 /// The events of a report, as far as its records have come.
 #[derive(Drop)]
 pub(crate) struct Befallen<'a> {
     watch: Watch<'a>,
+    pub(crate) history: EventHistory,
     // How many they are.
     count: u64,
-    // Is one of them the end?
-    ended: bool,
+    // The time of the end, where one of them is that.
+    pub(crate) end: Option<Units>,
 }
 
 impl<'a> Befallen<'a> {
-    pub(crate) fn new(accepted: &'a Accepted) -> Befallen<'a>
-        ensures { Follows accepted.now result.watch result.count result.ended [] }
+    pub(crate) fn new(alloc: Global, accepted: &'a Accepted) -> Result<Befallen<'a>, OutOfMemory>
+        ensures { IfOk result (λ b. Follows accepted.now b.watch b.history b.count b.end []) }
     {
-        Befallen {
+        let history = EventHistory::new(alloc, accepted.network())?;
+        Ok(Befallen {
             watch: Watch::new(accepted),
+            history,
             count: 0,
-            ended: false,
-        }
+            end: None,
+        })
     }
 
     // Takes the event of this line, where it may befall the network.
-    fn admit(&mut self, line: u64, event: &Event) -> bool
-        requires { self.old.count < 2 ^ 63 }
+    fn admit(&mut self, line: u64, event: &Event) -> Result<bool, OutOfMemory>
+        requires few { self.old.count < 2 ^ 63 }
+        requires follows { (network : NetworkValue) × (befallen : List EventValue)
+            × Follows network self.old.watch self.old.history self.old.count self.old.end befallen
+            × IsOfNetwork network event.now.what }
         ensures { (network : NetworkValue) (befallen : List EventValue)
-            → Follows network self.old.watch self.old.count self.old.ended befallen
+            → Follows network self.old.watch self.old.history self.old.count self.old.end befallen
             → IsOfNetwork network event.now.what
-            → MatchBool result
+            → IfOk result (λ taken. MatchBool taken
             (MayBefall network befallen line event.now
-            × Follows network self.new.watch self.new.count self.new.ended (befallen ++ event.now ∷ []))
-            (MayBefall network befallen line event.now → ⊥) }
+            × Follows network self.new.watch self.new.history self.new.count self.new.end (befallen ++ event.now ∷ []))
+            (MayBefall network befallen line event.now → ⊥)) }
     {
-        if self.ended || line != self.count + 1 {
-            return false;
+        if self.end.is_some() || line != self.count + 1 || !has_begun(event.time) {
+            return Ok(false);
         }
         match self.watch.admit(event) {
             Ok(()) => {
+                self.history.add(event)?;
                 self.count += 1;
-                self.ended = is_end(&event.what);
-                true
+                if is_end(&event.what) {
+                    self.end = Some(event.time);
+                }
+                Ok(true)
             }
-            Err(_) => false,
+            Err(_) => Ok(false),
         }
     }
 
     /// Takes the event of a record, where it has one and may come, given those before it. A record without an event may
     /// always come.
-    pub(crate) fn take(&mut self, time: Units, body: NoteBody) -> bool
-        requires { self.old.count < 2 ^ 63 }
+    pub(crate) fn take(&mut self, time: Units, body: NoteBody) -> Result<bool, OutOfMemory>
+        requires few { self.old.count < 2 ^ 63 }
+        requires follows { (network : NetworkValue) × (befallen : List EventValue)
+            × Follows network self.old.watch self.old.history self.old.count self.old.end befallen
+            × IsBodyOf network body }
         ensures { (network : NetworkValue) (befallen : List EventValue)
-            → Follows network self.old.watch self.old.count self.old.ended befallen → IsBodyOf network body
-            → MatchBool result
+            → Follows network self.old.watch self.old.history self.old.count self.old.end befallen
+            → IsBodyOf network body
+            → IfOk result (λ taken. MatchBool taken
             (MayCome network befallen time body
-            × Follows network self.new.watch self.new.count self.new.ended (with_event befallen time body))
-            (MayCome network befallen time body → ⊥) }
+            × Follows network self.new.watch self.new.history self.new.count self.new.end (with_event befallen time body))
+            (MayCome network befallen time body → ⊥)) }
     {
         match body {
             NoteBody::Event { line, what } => self.admit(line, &Event { time, what }),
@@ -97,37 +112,7 @@ impl<'a> Befallen<'a> {
             | NoteBody::Accepted { .. }
             | NoteBody::Delivered { .. }
             | NoteBody::Dropped { .. }
-            | NoteBody::Clock { .. } => true,
+            | NoteBody::Clock { .. } => Ok(true),
         }
-    }
-}
-
-/// The number of the first record whose event may not come, or one more than the count of records where none is that
-/// of the end.
-///
-/// The report has fewer than 2^32 octets, which are the lines of records.
-pub(crate) fn events_fault(accepted: &Accepted, report: &[u8]) -> Option<u64>
-    requires named { IsNamed accepted.now }
-    requires form { (notes : List NoteValue) × BeginsWith accepted.now report.now notes [] }
-    requires short { length report.now < 2 ^ 32 }
-    ensures { (notes : List NoteValue) → BeginsWith accepted.now report.now notes []
-        → MatchOption result
-        (AreEventsRight accepted.now notes × ((time : UnitsValue) × EndWith (events_of notes) time))
-        (λ n. IsEventsFault accepted.now notes n) }
-{
-    let mut befallen = Befallen::new(accepted);
-    let mut rest = report;
-    let mut count = 0;
-    'records: while let Some(taken) = first_record(accepted.network(), rest) {
-        rest = taken.left;
-        count += 1;
-        if !befallen.take(taken.note.time, taken.note.body) {
-            return Some(count);
-        }
-    }
-    if befallen.ended {
-        None
-    } else {
-        Some(count + 1)
     }
 }

@@ -1,20 +1,28 @@
 use super::worked::worked;
-use crate::{AuditRefusal, audit_events};
+use crate::{AuditRefusal, read_events};
+use net_plan::{LinkId, Way};
 use schedule_tables::Accepted;
+use std::alloc::Global;
 use std::process::Abort;
 use std::test::Fail;
+use tte_units::Units;
 
-/// A report, and how it is judged.
-type Case = (&'static str, Result<(), AuditRefusal>);
+/// A report, and how many records it has and when it ends, or how it is refused.
+type Case = (&'static str, Result<(u64, Units), AuditRefusal>);
 
-fn try_cases(rt: &impl Abort, accepted: &Accepted, cases: &[Case]) -> Result<(), Fail> {
+fn try_cases(
+    rt: &impl Abort,
+    alloc: Global,
+    accepted: &Accepted,
+    cases: &[Case],
+) -> Result<(), Fail> {
     for (report, wanted) in cases {
         assert!(rt; report.len() <= 4096);
-        assert_eq!(rt;
-            audit_events(accepted, report.as_bytes()),
-            *wanted,
-            "at {report}"
-        );
+        let told = match read_events(alloc, accepted, report.as_bytes()) {
+            Ok(read) => Ok((read.records, read.end)),
+            Err(refusal) => Err(refusal),
+        };
+        assert_eq!(rt; told, *wanted, "at {report}");
     }
     Ok(())
 }
@@ -33,19 +41,36 @@ const AT_ONCE: &str = "1 0 event 1 end
 ";
 
 const NOT_REFUSED: [Case; 3] = [
-    (AT_ONCE, Ok(())),
+    (AT_ONCE, Ok((10, Units(0)))),
     // These lack the records of clocks, which are not judged.
-    ("1 0 event 1 rate m1 50000\n2 0 event 2 end\n", Ok(())),
+    (
+        "1 0 event 1 rate m1 50000\n2 0 event 2 end\n",
+        Ok((2, Units(0))),
+    ),
     (
         "1 0 event 1 cut m1_a up\n2 0 lost m1 m1_a 9\n3 7 event 2 end\n",
-        Ok(()),
+        Ok((3, Units(7))),
     ),
 ];
 
 #[test]
 fn events_within_the_hypothesis_up_to_an_end(rt: HostRuntime) -> Result<(), Fail> {
     let network = worked(&rt, rt.alloc())?;
-    try_cases(&rt, &network, &NOT_REFUSED)
+    try_cases(&rt, rt.alloc(), &network, &NOT_REFUSED)
+}
+
+#[test]
+fn what_the_events_have_set(rt: HostRuntime) -> Result<(), Fail> {
+    let network = worked(&rt, rt.alloc())?;
+    let report = b"1 3 event 1 cut m1_a up\n2 7 event 2 end\n";
+    match read_events(rt.alloc(), &network, report) {
+        Ok(read) => {
+            assert!(rt; !read.history.is_cut(LinkId(0), Way::Up, 2));
+            assert!(rt; read.history.is_cut(LinkId(0), Way::Up, 3));
+        }
+        Err(refusal) => assert!(rt; refusal == AuditRefusal::OutOfMemory),
+    }
+    Ok(())
 }
 
 const FORMS: [Case; 7] = [
@@ -70,10 +95,10 @@ const FORMS: [Case; 7] = [
 #[test]
 fn lines_that_are_none(rt: HostRuntime) -> Result<(), Fail> {
     let network = worked(&rt, rt.alloc())?;
-    try_cases(&rt, &network, &FORMS)
+    try_cases(&rt, rt.alloc(), &network, &FORMS)
 }
 
-const EVENTS: [Case; 8] = [
+const EVENTS: [Case; 9] = [
     // No record is that of an end.
     ("", Err(AuditRefusal::Events(1))),
     ("1 0 event 1 rate m1 0\n", Err(AuditRefusal::Events(2))),
@@ -89,6 +114,11 @@ const EVENTS: [Case; 8] = [
     (
         "1 7 event 1 rate m1 0\n2 6 event 2 end\n",
         Err(AuditRefusal::Events(2)),
+    ),
+    // It comes before time 0.
+    (
+        "1 -5 event 1 rate m1 0\n2 0 event 2 end\n",
+        Err(AuditRefusal::Events(1)),
     ),
     // It is not of the next line.
     ("1 0 event 2 end\n", Err(AuditRefusal::Events(1))),
@@ -106,5 +136,5 @@ const EVENTS: [Case; 8] = [
 #[test]
 fn events_that_may_not_come(rt: HostRuntime) -> Result<(), Fail> {
     let network = worked(&rt, rt.alloc())?;
-    try_cases(&rt, &network, &EVENTS)
+    try_cases(&rt, rt.alloc(), &network, &EVENTS)
 }

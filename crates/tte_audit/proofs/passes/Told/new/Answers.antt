@@ -1,0 +1,6 @@
+use Rattle.std.proofs.Common.{refl}
+use Rattle.tte_audit.proofs.Telling.{none_told}
+use Rattle.tte_audit.proofs.passes.Told.new.Goals as goal
+
+pub returns : goal.returns
+returns c = none_told c.args.accepted.now _ refl refl c.in_ok-befallen.ensures
