@@ -1,0 +1,59 @@
+//! How what arrives at a device enters it.
+
+ghost use Rattle.std.specs.Prelude.{◌≡◌, ◌≤◌, ◌^◌, ℕ, List};
+ghost use Rattle.device_rules.specs.Entering.{AreEntrances};
+ghost use Rattle.net_plan.specs.Ranges.{IsInRange};
+ghost use Rattle.run_law.specs.control.Wires.{Signal};
+ghost use Rattle.run_law.specs.device.Standpoints.{standpoint};
+ghost use Rattle.run_law.specs.records.Happenings.{Happening};
+ghost use Rattle.run_law.specs.scenario.Scenarios.{Scenario};
+ghost use Rattle.wire_judge.specs.Entrances.{IsEnteredAs, IsJudgeable};
+ghost use Rattle.wire_judge.specs.Signals.{on_wire_of};
+
+use crate::OnWire;
+use device_rules::{EnteringRow, Entrances, Standpoint, control_arrival};
+use net_plan::{DeviceId, LinkId, Network};
+use run_law::{Arrival, Reason};
+
+/// How what arrives enters a device.
+#[derive(Clone, Copy, Debug, PartialEq, Eq)]
+pub enum Entered {
+    /// This becomes of a control frame.
+    Control(Arrival),
+    /// A frame of any other kind is dropped.
+    Refused(Reason),
+    /// A frame with so many octets enters by the row, which judges it.
+    ByRow(EnteringRow, usize),
+}
+
+/// How what arrives by the link enters the device, which stands so.
+///
+/// The reading is at most 2^62.
+pub fn entered_as(
+    network: &Network,
+    entrances: &Entrances,
+    device: DeviceId,
+    link: LinkId,
+    at: &Standpoint,
+    what: &OnWire,
+) -> Entered
+    requires range { IsInRange network.now }
+    requires entrances { AreEntrances network.now entrances.now }
+    requires reading { at.now.reading ≤ 2 ^ 62 }
+    ensures judgeable { IsJudgeable result }
+    ensures is { (s : Scenario) (hs : List Happening) (t cause : ℕ) (signal : Signal) → s.network ≡ network.now
+        → at.now ≡ standpoint s hs device t → what.now ≡ on_wire_of signal
+        → IsEnteredAs s hs device t link cause signal result }
+{
+    match what {
+        OnWire::Control(decoded) => {
+            Entered::Control(control_arrival(network, device, link, at, decoded))
+        }
+        OnWire::Timed(heading) => {
+            match entrances.entering(network, device, link, at, heading) {
+                Ok(row) => Entered::ByRow(row, heading.length),
+                Err(reason) => Entered::Refused(reason),
+            }
+        }
+    }
+}
