@@ -1,0 +1,6 @@
+pub mod Launching
+pub mod Wires
+pub mod Givers
+pub mod LeavingTimes
+pub mod SendLosses
+pub mod Enters

@@ -1,5 +1,5 @@
 -- When control frames leave, and what is lost of `send` events.
-use Rattle.std.specs.Prelude.{◌≡◌, ℕ, ◌≤◌, Bool, true, false, ◌&&◌, ◌||◌, ◌==◌, List, Option, Some, None, MatchOption, if◌then◌else◌}
+use Rattle.std.specs.Prelude.{◌≡◌, ℕ, Bool, false, ◌&&◌, ◌||◌, ◌==◌, List, Option, Some, None, MatchOption, if◌then◌else◌}
 use Rattle.std.specs.Option.{option_map_or}
 use Rattle.audit_law.specs.Departures.{OwesDeparture, leaves_at}
 use Rattle.audit_law.specs.LostSends.{OwesLoss}
@@ -33,7 +33,7 @@ abbrev pub giver : Network → LinkId → Kept → Option DeviceId
 giver network link (kepts.Sent device) = if is_child_of network device link then Some device else None
 giver network link (kepts.Compressed device tells) = if is_parent_of network device link then Some device else None
 giver network link (kepts.Arrived device by clock) = if passes network device by link then Some device else None
-giver network link other = None
+giver network link rest = None
 
 -- the frame of the record of this number leaves so by the link, and this is when
 pub record IsLeaving (s : Scenario) (hs : List Happening) (until cause : ℕ) (link : LinkId) (leaving : Leaving)
@@ -60,3 +60,9 @@ IsLossBy s hs until cause result =
     MatchOption result
     (OwesLoss s hs until cause → ⊥)
     (λ lost. (o : OwesLoss s hs until cause) × (lost.device ≡ o.device) × (lost.link ≡ o.link) × (lost.time ≡ o.time))
+
+-- the octets of a `send` event are lost by this device on this link at this time
+pub record IsLostAt (lost : Leaving) (device : DeviceId) (link : LinkId) (t : ℕ) : Type 0 where
+  pub at_device : lost.device ≡ device
+  pub by_link : lost.link ≡ link
+  pub at_time : lost.time ≡ t

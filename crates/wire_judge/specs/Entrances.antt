@@ -1,14 +1,10 @@
 -- How what arrives at a device enters it.
-use Rattle.std.specs.Prelude.{◌≡◌, ℕ, List, Option, None}
-use Rattle.device_rules.specs.Answers.{arrival_as}
+use Rattle.std.specs.Prelude.{◌≡◌, ℕ, List}
 use Rattle.device_rules.specs.Entering.{HasPeriod, entering_by}
-use Rattle.device_rules.specs.declared.entrances.EnteringRow.{EnteringRow}
-use Rattle.device_rules.specs.declared.timed.TimedArrival.{TimedArrival}
 use Rattle.net_plan.specs.declared.ids.DeviceId.{DeviceId}
 use Rattle.net_plan.specs.declared.ids.LinkId.{LinkId}
 use Rattle.run_law.specs.control.Wires.{Signal}
 use Rattle.run_law.specs.declared.steps.Arrival.TheVariants as arrivals
-use Rattle.run_law.specs.declared.steps.Arrival.{Arrival}
 use Rattle.run_law.specs.device.Standpoints.{standpoint}
 use Rattle.run_law.specs.records.Happenings.{Happening}
 use Rattle.run_law.specs.scenario.Scenarios.{Scenario}

@@ -1,5 +1,5 @@
 -- Where and when a frame arrives.
-use Rattle.std.specs.Prelude.{◌≡◌, ℕ, ◌≤◌, List, Option, Some, MatchOption}
+use Rattle.std.specs.Prelude.{◌≡◌, ℕ, ◌≤◌, Option, MatchOption}
 use Rattle.net_plan.specs.declared.ids.DeviceId.{DeviceId}
 use Rattle.net_plan.specs.declared.ids.LinkId.{LinkId}
 use Rattle.run_law.specs.control.Wires.{Arrives, Signal}
@@ -31,3 +31,9 @@ IsArriving s h device link t result =
     MatchOption result
     ((signal : Signal) → Arrives s h device link t signal → ⊥)
     (λ what. (signal : Signal) × Arrives s h device link t signal × (what ≡ on_wire_of signal))
+
+-- it arrives at this device, by this link and at this time
+pub record IsAt (r : Reception) (device : DeviceId) (link : LinkId) (t : ℕ) : Type 0 where
+  pub at_device : r.device ≡ device
+  pub by_link : r.link ≡ link
+  pub at_time : r.time ≡ t

@@ -55,12 +55,12 @@ put_by network r (kepts.Left device link) =
 put_by network r (kepts.TtSent device link) =
     option_map (put_on link (way_from network device link)) (Some (on_wire.Timed r.heading))
 put_by network r (kepts.Send link sending) = option_map (put_on link Up) (sent_on_wire r sending)
-put_by network r other = None
+put_by network r rest = None
 
 -- does a cut of the link's way up stop what it puts there at the time? It stops the octets of a `send` event
 abbrev pub stops : Scenario → ℕ → LinkId → Kept → Bool
 stops s t link (kepts.Send by sending) = is_cut s link Up t
-stops s t link other = false
+stops s t link rest = false
 
 -- how long a frame is on its port before it has arrived
 abbrev pub port_time : Speed → OnWire → ℕ

@@ -7,7 +7,7 @@ ghost use Rattle.kept_records.specs.Keeping.{record_of};
 ghost use Rattle.net_plan.specs.declared.event.Event.{Event as EventValue};
 ghost use Rattle.run_law.specs.control.Losses.{IsSendLost};
 ghost use Rattle.run_law.specs.records.Happenings.{Happening, numbered};
-ghost use Rattle.wire_judge.specs.Departings.{IsLossBy};
+ghost use Rattle.wire_judge.specs.Departings.{IsLossBy, IsLostAt};
 
 use crate::Leaving;
 use event_history::EventHistory;
@@ -44,11 +44,13 @@ pub fn loss_due(
         None => return None,
     };
     let time = kept.time;
-    if time <= until && history.is_cut(link, Way::Up, time) {
-        Some(Leaving { device, link, time })
-    } else {
-        None
+    if until < time {
+        return None;
     }
+    if !history.is_cut(link, Way::Up, time) {
+        return None;
+    }
+    Some(Leaving { device, link, time })
 }
 
 /// Are the octets of the `send` event of the number `cause` lost so, at this time?
@@ -65,7 +67,14 @@ pub fn is_send_lost(
         → IsTrue result ↔ IsSendLost (scenario_under network.now befallen) hs device time link cause }
 {
     match loss_due(network, history, kept, time) {
-        Some(lost) => lost.device.0 == device.0 && lost.link.0 == link.0 && lost.time == time,
+        Some(lost) => is_lost_at(&lost, device, link, time),
         None => false,
     }
+}
+
+/// Are they lost by this device, on this link and at this time?
+fn is_lost_at(lost: &Leaving, device: DeviceId, link: LinkId, time: u64) -> bool
+    ensures { IsTrue result ↔ IsLostAt lost.now device link time }
+{
+    lost.device.0 == device.0 && lost.link.0 == link.0 && lost.time == time
 }

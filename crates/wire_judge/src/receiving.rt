@@ -1,6 +1,6 @@
 //! Where and when frames arrive.
 
-ghost use Rattle.std.specs.Prelude.{◌≡◌, ◌≤◌, ◌^◌, ◌+◌, List};
+ghost use Rattle.std.specs.Prelude.{◌≡◌, ◌↔◌, IsTrue, ◌≤◌, ◌^◌, ◌+◌, List};
 ghost use Rattle.event_history.specs.Readings.{scenario_under};
 ghost use Rattle.event_history.specs.Remembering.{Remembers};
 ghost use Rattle.kept_records.specs.Keeping.{record_of};
@@ -11,7 +11,7 @@ ghost use Rattle.run_law.specs.records.Happenings.{Happening};
 ghost use Rattle.run_law.specs.scenario.Ways.{delay_at};
 ghost use Rattle.schedule_tables.specs.Entries.{target_by};
 ghost use Rattle.tte_units.specs.OctetTime.{octet_time};
-ghost use Rattle.wire_judge.specs.Receptions.{IsArriving, IsReceivedBy};
+ghost use Rattle.wire_judge.specs.Receptions.{IsArriving, IsAt, IsReceivedBy};
 ghost use Rattle.wire_judge.specs.Signals.{ShowsByCause, port_time};
 
 use crate::OnWire;
@@ -80,7 +80,7 @@ pub fn arriving(
 {
     match arrival_due(network, history, kept, time) {
         Some(due) => {
-            if due.device.0 == device.0 && due.link.0 == link.0 && due.time == time {
+            if is_at(&due, device, link, time) {
                 Some(due.what)
             } else {
                 None
@@ -88,6 +88,13 @@ pub fn arriving(
         }
         None => None,
     }
+}
+
+/// Does it arrive at this device, by this link and at this time?
+fn is_at(due: &Reception, device: DeviceId, link: LinkId, time: u64) -> bool
+    ensures { IsTrue result ↔ IsAt due.now device link time }
+{
+    due.device.0 == device.0 && due.link.0 == link.0 && due.time == time
 }
 
 /// When what is put on a link of this speed at the time arrives.
