@@ -4,3 +4,4 @@ pub mod Givers
 pub mod LeavingTimes
 pub mod SendLosses
 pub mod Enters
+pub mod ArrivalDebts

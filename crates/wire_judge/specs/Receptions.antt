@@ -1,5 +1,6 @@
 -- Where and when a frame arrives.
-use Rattle.std.specs.Prelude.{◌≡◌, ℕ, ◌≤◌, Option, MatchOption}
+use Rattle.std.specs.Prelude.{◌≡◌, ℕ, ◌≤◌, List, Option, MatchOption}
+use Rattle.audit_law.specs.Arrivals.{OwesArrival}
 use Rattle.net_plan.specs.declared.ids.DeviceId.{DeviceId}
 use Rattle.net_plan.specs.declared.ids.LinkId.{LinkId}
 use Rattle.run_law.specs.control.Wires.{Arrives, Signal}
@@ -24,6 +25,13 @@ IsReceivedBy s h until result =
     MatchOption result
     ((device : DeviceId) (link : LinkId) (t : ℕ) (signal : Signal) → Arrives s h device link t signal → t ≤ until → ⊥)
     (λ r. IsReception s h r × (r.time ≤ until))
+
+-- the list owes this arrival by the time, of what the record of this number puts on a wire, or none
+abbrev pub IsOwedArrival : Scenario → List Happening → ℕ → ℕ → Option Reception → Type 0
+IsOwedArrival s hs until cause result =
+    MatchOption result
+    (OwesArrival s hs until cause → ⊥)
+    (λ r. (o : OwesArrival s hs until cause) × (r.device ≡ o.device) × (r.link ≡ o.link) × (r.time ≡ o.time))
 
 -- this of the record arrives at the device by the link at the time, or nothing
 abbrev pub IsArriving : Scenario → Happening → DeviceId → LinkId → ℕ → Option OnWire → Type 0

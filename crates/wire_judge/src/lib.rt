@@ -8,7 +8,7 @@ mod losing;
 mod putting;
 mod receiving;
 
-pub use entering::{Entered, entered_as};
+pub use entering::{Entered, Judged, entered_as};
 pub use leaving::{Leaving, departure, departure_due};
 pub use losing::{is_send_lost, loss_due};
 pub use putting::OnWire;

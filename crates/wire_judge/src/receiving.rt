@@ -1,17 +1,17 @@
 //! Where and when frames arrive.
 
-ghost use Rattle.std.specs.Prelude.{◌≡◌, ◌↔◌, IsTrue, ◌≤◌, ◌^◌, ◌+◌, List};
+ghost use Rattle.std.specs.Prelude.{◌≡◌, ℕ, Some, ◌↔◌, IsTrue, ◌≤◌, ◌^◌, ◌+◌, List};
 ghost use Rattle.event_history.specs.Readings.{scenario_under};
 ghost use Rattle.event_history.specs.Remembering.{Remembers};
 ghost use Rattle.kept_records.specs.Keeping.{record_of};
 ghost use Rattle.net_plan.specs.Belonging.{HasLink};
 ghost use Rattle.net_plan.specs.declared.event.Event.{Event as EventValue};
 ghost use Rattle.net_plan.specs.declared.network.Network.{Network as NetworkValue};
-ghost use Rattle.run_law.specs.records.Happenings.{Happening};
+ghost use Rattle.run_law.specs.records.Happenings.{Happening, numbered};
 ghost use Rattle.run_law.specs.scenario.Ways.{delay_at};
 ghost use Rattle.schedule_tables.specs.Entries.{target_by};
 ghost use Rattle.tte_units.specs.OctetTime.{octet_time};
-ghost use Rattle.wire_judge.specs.Receptions.{IsArriving, IsAt, IsReceivedBy};
+ghost use Rattle.wire_judge.specs.Receptions.{IsArriving, IsAt, IsOwedArrival, IsReceivedBy};
 ghost use Rattle.wire_judge.specs.Signals.{ShowsByCause, port_time};
 
 use crate::OnWire;
@@ -31,8 +31,51 @@ pub struct Reception {
     pub what: OnWire,
 }
 
-/// What arrives by the time of what the record puts on a wire, where and when. It is None exactly where nothing does.
+/// What arrives by the time of what the record of the number `cause` puts on a wire, where and when. It is None exactly
+/// where nothing does.
 pub fn arrival_due(
+    network: &Network,
+    history: &EventHistory,
+    kept: &KeptRecord,
+    until: u64,
+) -> Option<Reception>
+    ensures received { (befallen : List EventValue) (h : Happening) → Remembers network.now befallen history.now
+        → ShowsByCause network.now h → kept.now ≡ record_of h
+        → IsReceivedBy (scenario_under network.now befallen) h until result }
+    ensures owed { (befallen : List EventValue) (hs : List Happening) (h : Happening) (cause : ℕ)
+        → Remembers network.now befallen history.now → numbered hs cause ≡ Some h → ShowsByCause network.now h
+        → kept.now ≡ record_of h → IsOwedArrival (scenario_under network.now befallen) hs until cause result }
+{
+    received_by(network, history, kept, until)
+}
+
+/// What the record put on the link and arrives at the device by it at the time. It is None exactly where nothing does.
+pub fn arriving(
+    network: &Network,
+    history: &EventHistory,
+    kept: &KeptRecord,
+    device: DeviceId,
+    link: LinkId,
+    time: u64,
+) -> Option<OnWire>
+    ensures { (befallen : List EventValue) (h : Happening) → Remembers network.now befallen history.now
+        → ShowsByCause network.now h → kept.now ≡ record_of h
+        → IsArriving (scenario_under network.now befallen) h device link time result }
+{
+    match received_by(network, history, kept, time) {
+        Some(due) => {
+            if is_at(&due, device, link, time) {
+                Some(due.what)
+            } else {
+                None
+            }
+        }
+        None => None,
+    }
+}
+
+/// What arrives by the time of what the record puts on a wire.
+fn received_by(
     network: &Network,
     history: &EventHistory,
     kept: &KeptRecord,
@@ -63,31 +106,6 @@ pub fn arrival_due(
         time: time as u64,
         what: put.what,
     })
-}
-
-/// What the record put on the link and arrives at the device by it at the time. It is None exactly where nothing does.
-pub fn arriving(
-    network: &Network,
-    history: &EventHistory,
-    kept: &KeptRecord,
-    device: DeviceId,
-    link: LinkId,
-    time: u64,
-) -> Option<OnWire>
-    ensures { (befallen : List EventValue) (h : Happening) → Remembers network.now befallen history.now
-        → ShowsByCause network.now h → kept.now ≡ record_of h
-        → IsArriving (scenario_under network.now befallen) h device link time result }
-{
-    match arrival_due(network, history, kept, time) {
-        Some(due) => {
-            if is_at(&due, device, link, time) {
-                Some(due.what)
-            } else {
-                None
-            }
-        }
-        None => None,
-    }
 }
 
 /// Does it arrive at this device, by this link and at this time?
