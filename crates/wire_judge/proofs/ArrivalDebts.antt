@@ -76,16 +76,16 @@ owed_arrival s hs h until cause None range within there none =
     (subst (λ (g : Happening). Arrives s g owed.device owed.link owed.time owed.arrives.signal)
     (one (numbered hs cause) owed.arrives.putting h owed.arrives.there there) owed.arrives.arrives) owed.timely
 owed_arrival s hs h until cause (Some r) range within there x = (
-      record {
-        device = r.device;
-        link = r.link;
-        time = r.time;
-        is = arrival_of s hs r.device r.time r.link cause x.0.signal;
-        arrives = record { putting = h; there = there; signal = x.0.signal; arrives = x.0.arrives; becomes = refl };
-        behind = inl (comes_behind s h r x.0.signal range within x.0.arrives);
-        timely = x.1;
-      },
-      refl,
-      refl,
-      refl,
-    )
+  record {
+    device = r.device;
+    link = r.link;
+    time = r.time;
+    is = arrival_of s hs r.device r.time r.link cause x.0.signal;
+    arrives = record { putting = h; there = there; signal = x.0.signal; arrives = x.0.arrives; becomes = refl };
+    behind = inl (comes_behind s h r x.0.signal range within x.0.arrives);
+    timely = x.1;
+  },
+  refl,
+  refl,
+  refl,
+)

@@ -49,8 +49,8 @@ by_row s hs device t link cause (timed octets) network at heading row n a w f =
       x.0,
       x.1,
       ap (λ (k : Heading). taken_or_fault s.network device (standpoint s hs device t) x.0
-      (row_fault s.network (standpoint s hs device t) x.0 k.length (last_taken hs device t link cause row.vl))) (sym e)
-      ∙ sym (x.2 (last_taken hs device t link cause)),
+          (row_fault s.network (standpoint s hs device t) x.0 k.length (last_taken hs device t link cause row.vl))) (sym e)
+          ∙ sym (x.2 (last_taken hs device t link cause)),
     )
 
 -- by none

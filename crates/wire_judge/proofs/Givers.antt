@@ -78,7 +78,7 @@ passes_is network device by link e =
     record {
       relay = both.0;
       on = elim (or_is (is_parent_of network device by && is_child_of network device link) (is_child_of network device by && is_parent_of network device link) both.1) [
-        inl a ↦ let x = and_is (is_parent_of network device by) (is_child_of network device link) a in
+        | inl a ↦ let x = and_is (is_parent_of network device by) (is_child_of network device link) a in
             inl (parent_is network device by x.0, child_is network device link x.1)
         | inr a ↦ let x = and_is (is_child_of network device by) (is_parent_of network device link) a in
             inr (child_is network device by x.0, parent_is network device link x.1)

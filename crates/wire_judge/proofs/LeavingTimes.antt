@@ -85,7 +85,7 @@ broken s hs h r until cause time link device there k by at is o =
     let d : device ≡ o.device = one _ _ _ by (owed_giver s hs h r until cause link there k o) in
     let e : time ≡ leaves_at s o.device link o.giving = at ∙ owed_leaves s hs h r until cause link device there k by o in
     let here : is_broken s o.device (leaves_at s o.device link o.giving) ≡ true =
-        subst (λ (n : ℕ). is_broken s o.device n ≡ true) e (subst (λ (x : DeviceId). is_broken s x time ≡ true) d is) in
+    subst (λ (n : ℕ). is_broken s o.device n ≡ true) e (subst (λ (x : DeviceId). is_broken s x time ≡ true) d is) in
     let clash = sym here ∙ o.correct in cc
 
 -- it is owed

@@ -40,8 +40,8 @@ lost_on : (s : Scenario) (hs : List Happening) (h : Happening) (r : KeptRecord) 
 lost_on s hs h r device t link cause there k x =
     let same = one (numbered hs cause) x.event h x.is.there there in (
       ap (λ (q : KeptRecord). sent_on q.kept) k
-      ∙ ap (λ (g : Happening). sent_on (kept_of g.note.body)) (sym same)
-      ∙ ap (λ (b : NoteBody). sent_on (kept_of b)) x.sends,
+          ∙ ap (λ (g : Happening). sent_on (kept_of g.note.body)) (sym same)
+          ∙ ap (λ (b : NoteBody). sent_on (kept_of b)) x.sends,
       sym x.is.same_time ∙ ap time_of same ∙ sym (ap (λ (q : KeptRecord). q.time) k),
     )
 

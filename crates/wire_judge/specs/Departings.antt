@@ -38,9 +38,9 @@ giver network link rest = None
 -- the frame of the record of this number leaves so by the link, and this is when
 pub record IsLeaving (s : Scenario) (hs : List Happening) (until cause : ℕ) (link : LinkId) (leaving : Leaving)
     : Type 0 where
-    pub owed : OwesDeparture s hs until cause link
-    pub device : leaving.device ≡ owed.device
-    pub time : leaving.time ≡ leaves_at s owed.device link owed.giving
+  pub owed : OwesDeparture s hs until cause link
+  pub device : leaving.device ≡ owed.device
+  pub time : leaving.time ≡ leaves_at s owed.device link owed.giving
 
 -- the frame of the record of this number leaves so by the link by the time, or does not
 abbrev pub IsLeavingBy : Scenario → List Happening → ℕ → ℕ → LinkId → Option Leaving → Type 0

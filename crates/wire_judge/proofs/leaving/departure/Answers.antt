@@ -26,7 +26,7 @@ returns c befallen hs h cause rem there k has =
     let by = c.is_giver.ensures.0 c.if-not-is_giver.false in
     let linked = given_within c.args.network.now h.note.body c.args.device c.args.link (giver_is s h c.args.kept.now c.args.device c.args.link k by) in
     let cut = c.is_cut-cut.ensures c.args.network.now befallen rem linked
-        ∙ ap (λ (w : Way). is_cut s c.args.link w c.args.time) c.way_from.ensures in
+    ∙ ap (λ (w : Way). is_cut s c.args.link w c.args.time) c.way_from.ensures in
     departs s hs h c.args.kept.now c.in-Some.frame c.args.device c.args.time c.args.link cause (departure_as c.departure.result) there k c.in-Some.is by
     (sym c.from.ensures ∙ c.if-from-leaving_time.false ∙ c.leaving_time.ensures.value befallen rem linked)
     (sym (c.is_broken.ensures c.args.network.now befallen rem has) ∙ c.if-is_broken.false)

@@ -38,8 +38,8 @@ returns c befallen h rem shown k =
     let has = subst (λ (xs : List Link). c.in-Some.put.link.0 < length xs) c.as_slice.ensures there.3.0 in
     let found = read_at c.as_slice.result.now c.args.network.now.link c.in-Some.put.link.0 c.in-Some-get.link.now c.as_slice.ensures there.3.0 there.1 in (
       received (scenario_under c.args.network.now befallen) h c.args.kept.now c.in-Some-get.link.now c.in-Some.put c.target_by.result
-      c.arrival_time-time.result shown k (sym c.put_by.ensures ∙ c.in-Some.is) found
-      (sym (c.is_stopped.ensures c.args.network.now befallen rem has) ∙ c.if-is_stopped.false) c.target_by.ensures
-      (c.arrival_time-time.ensures c.args.network.now befallen rem has),
+          c.arrival_time-time.result shown k (sym c.put_by.ensures ∙ c.in-Some.is) found
+          (sym (c.is_stopped.ensures c.args.network.now befallen rem has) ∙ c.if-is_stopped.false) c.target_by.ensures
+          (c.arrival_time-time.ensures c.args.network.now befallen rem has),
       subst (λ (n : ℕ). c.arrival_time-time.result ≤ n) c.from.ensures c.if-from-time.false,
     )
