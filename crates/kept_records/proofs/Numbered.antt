@@ -25,7 +25,7 @@ pub found : (hs : List Happening) (rs : List KeptRecord) (number : ℕ) (r : Kep
     → number - 1 < length rs → r ≡ get_or rs (number - 1) r → (h : Happening) × (numbered hs number ≡ Some h) × (r ≡ record_of h)
 found hs rs number r e n lt at =
     let there : slice_get (records_of hs) (number - 1) ≡ Some r =
-        subst (λ (xs : List KeptRecord). slice_get xs (number - 1) ≡ Some r) e (slice_get_read rs (length rs) (number - 1) r refl lt at) in
+    subst (λ (xs : List KeptRecord). slice_get xs (number - 1) ≡ Some r) e (slice_get_read rs (length rs) (number - 1) r refl lt at) in
     let m = from_some record_of (slice_get hs (number - 1)) r (sym (slice_get-map record_of hs (number - 1)) ∙ there) in
     (m.0, at_number hs number n ∙ m.1, m.2)
 
@@ -34,6 +34,6 @@ pub past : (hs : List Happening) (rs : List KeptRecord) (number : ℕ) → rs �
     → numbered hs number ≡ None
 past hs rs number e n le =
     let there : slice_get (records_of hs) (number - 1) ≡ None =
-        subst (λ (xs : List KeptRecord). slice_get xs (number - 1) ≡ None) e (slice_get_past rs (number - 1) le) in
+    subst (λ (xs : List KeptRecord). slice_get xs (number - 1) ≡ None) e (slice_get_past rs (number - 1) le) in
     at_number hs number n
     ∙ from_none record_of (slice_get hs (number - 1)) (sym (slice_get-map record_of hs (number - 1)) ∙ there)

@@ -9,4 +9,3 @@ mod records;
 pub use kept::{Kept, KeptRecord, Sending};
 pub use memory::OutOfMemory;
 pub use records::KeptRecords;
-

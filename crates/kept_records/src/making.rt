@@ -29,17 +29,24 @@ pub(crate) fn kept_of(body: &NoteBody) -> Kept
             ..
         } => Kept::Arrived(*device, *link, *clock),
         NoteBody::Permanent {
-            device, verdict, ..
+            device,
+            verdict,
+            ..
         } => Kept::Permanent(*device, tells_time(*verdict)),
         NoteBody::Compressed {
-            device, verdict, ..
+            device,
+            verdict,
+            ..
         } => Kept::Compressed(*device, tells_time(*verdict)),
         NoteBody::Sent { device, .. } => Kept::Sent(*device),
         NoteBody::Corrected { device, .. } => Kept::Corrected(*device),
         NoteBody::Left { device, link, .. } => Kept::Left(*device, *link),
         NoteBody::TtSent { device, link, .. } => Kept::TtSent(*device, *link),
         NoteBody::Accepted {
-            device, vl, cycle, ..
+            device,
+            vl,
+            cycle,
+            ..
         } => Kept::Accepted(*device, *vl, *cycle),
         NoteBody::State { .. }
         | NoteBody::Lost { .. }

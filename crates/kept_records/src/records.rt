@@ -7,8 +7,7 @@ ghost use Rattle.run_law.specs.records.Frames.{tt_frame};
 ghost use Rattle.run_law.specs.records.Happenings.{Happening, frame_by, frame_from, happening, numbered, octets_by, octets_from, with_clock};
 ghost use Rattle.tte_units.specs.Amount.{amount};
 
-use crate::making;
-use crate::{KeptRecord, OutOfMemory};
+use crate::{KeptRecord, OutOfMemory, making};
 use device_rules::Heading;
 use net_plan::{Network, VlId, What};
 use pcf_values::Pcf;
@@ -110,9 +109,7 @@ impl KeptRecords {
                 cycle,
                 members,
                 ..
-            } => Some(making::integration_frame(
-                network, *device, *cycle, *members,
-            )),
+            } => Some(making::integration_frame(network, *device, *cycle, *members)),
             NoteBody::Left { cause, clock, .. } | NoteBody::Arrived { cause, clock, .. } => {
                 with_clock(*clock, self.frame_from(*cause))
             }

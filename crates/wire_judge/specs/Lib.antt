@@ -1,0 +1,4 @@
+pub mod Signals
+pub mod Receptions
+pub mod Departings
+pub mod Entrances
