@@ -36,6 +36,7 @@ reads_on laws begins network all device range within begun =
     let keeps = laws network.rho grain steps range.rho some
     (steps_history network.rho 0 steps (steps_from network.rho 0 all device (events_from network all range within begun))) in
     record {
+      begins = begins grain steps;
       never_falls = keeps.never_falls;
       bound = λ t le.
           let r = clock_reading network all device in

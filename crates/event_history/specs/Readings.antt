@@ -1,5 +1,5 @@
 -- What the clocks read under events.
-use Rattle.std.specs.Prelude.{ℕ, ◌+◌, ◌^◌, ◌≤◌, ◌≤ℤ◌, pos, List, All}
+use Rattle.std.specs.Prelude.{◌≡◌, ℕ, ◌+◌, ◌^◌, ◌≤◌, ◌≤ℤ◌, pos, List, All}
 use Rattle.drift_clock.specs.Readings.{reading_at}
 use Rattle.drift_clock.specs.Segment.{fresh_segment, stepped_segment, segment_reading}
 use Rattle.net_plan.specs.Ranges.{IsInRange}
@@ -24,8 +24,9 @@ scenario_under network events = record { network = network; reading = clock_read
 abbrev pub HaveBegun : List Event → Type 0
 HaveBegun events = All (λ e. pos 0 ≤ℤ e.time.0) events
 
--- the reading never falls, and stays within its bound up to 2^60
+-- the reading begins at 0, never falls, and stays within its bound up to 2^60
 pub record ReadsOn (reading : ℕ → ℕ) : Type 0 where
+  pub begins : reading 0 ≡ 0
   pub never_falls : (s t : ℕ) → s ≤ t → reading s ≤ reading t
   pub bound : (t : ℕ) → t ≤ 2 ^ 60 → reading t ≤ 2 ^ 60 + 2 ^ 51
 

@@ -87,11 +87,13 @@ pub record Shows (s : Scenario) (hs : List Happening) (device : DeviceId) (shown
 abbrev pub heard_by_then : Shown → ℕ → Summary
 heard_by_then shown points = if points == shown.come then shown.heard else silence
 
--- an adjustment and a cycle that records can leave
-pub record IsBounded (adjustment : ℤ) (cycle : ℕ) : Type 0 where
+-- an adjustment, a cycle and a local value at a change that records can leave
+pub record IsBounded (adjustment : ℤ) (cycle : ℕ) (at_change : ℤ) : Type 0 where
   pub least : neg_ℤ (pos (2 ^ 80)) ≤ℤ adjustment
   pub most : adjustment ≤ℤ pos (2 ^ 80)
   pub few : cycle ≤ 2 ^ 32
+  pub at_least : neg_ℤ (pos (2 ^ 81)) ≤ℤ at_change
+  pub at_most : at_change ≤ℤ pos (2 ^ 81)
 
 -- the device's clock reads this at the time, and a unit of time before
 pub record IsReading (s : Scenario) (device : DeviceId) (t : ℕ) (readings : Readings) : Type 0 where

@@ -60,7 +60,7 @@ impl Model for Shown {
       come = s.come;
     } };
 
-    ghost invariant = { λ s. IsBounded s.adjustment s.cycle };
+    ghost invariant = { λ s. IsBounded s.adjustment s.cycle s.at_change };
 
     ghost inverse = { λ s. record {
       state = s.state;
@@ -219,7 +219,9 @@ impl Shown {
     }
 
     pub fn adjustment(&self) -> i128
-        ensures { result ≡ self.now.adjustment }
+        ensures value { result ≡ self.now.adjustment }
+        ensures least { neg_ℤ (pos (2 ^ 80)) ≤ℤ result }
+        ensures most { result ≤ℤ pos (2 ^ 80) }
     {
         self.adjustment
     }
@@ -248,7 +250,9 @@ impl Shown {
 
     /// What the local clock showed right after that.
     pub fn at_change(&self) -> i128
-        ensures { result ≡ self.now.at_change }
+        ensures value { result ≡ self.now.at_change }
+        ensures least { neg_ℤ (pos (2 ^ 81)) ≤ℤ result }
+        ensures most { result ≤ℤ pos (2 ^ 81) }
     {
         self.at_change
     }

@@ -1,0 +1,150 @@
+-- What the record of a change of state says.
+use Rattle.std.proofs.Common.{◌≡◌, ℕ, Bool, true, false, List, Option, Some, None, refl, sym, ap, subst, ◌∙◌, arith, if◌then◌else◌}
+use Rattle.std.specs.Prelude.{◌==◌, not}
+use Rattle.clock_judge.specs.Brought.{bringer_as, bringer_at, bringer_of}
+use Rattle.clock_judge.specs.declared.changing.Bringer.TheVariants as bringers
+use Rattle.clock_judge.specs.declared.changing.Bringer.{Bringer}
+use Rattle.net_plan.specs.declared.event.What.TheVariants.{On}
+use Rattle.net_plan.specs.declared.ids.DeviceId.{DeviceId}
+use Rattle.run_law.specs.declared.note.NoteBody.TheVariants as notes
+use Rattle.run_law.specs.declared.note.NoteBody.{NoteBody}
+use Rattle.run_law.specs.records.Causes.{IsOfThisTime}
+use Rattle.run_law.specs.records.Happenings.{Happening, numbered, time_of}
+use Rattle.tte_units.specs.declared.units.Units.{Units}
+use Rattle.run_law.specs.device.States.{is_joined_by}
+
+pub same_nat : (m n : ℕ) → (m == n) ≡ true → m ≡ n
+same_nat m n e = grind (arith)
+
+pub true_same : (n : ℕ) → (n == n) ≡ true
+true_same n = grind (arith)
+
+same_device : (a b : DeviceId) → a.0 ≡ b.0 → a ≡ b
+same_device a b same = ap (λ (n : ℕ). let d : DeviceId = record { 0 = n } in d) same
+
+-- ---- what a body is
+
+no_join : (b : Bool) (x : Bringer) → (x ≡ bringers.Joins → ⊥) → (x ≡ bringers.Other → ⊥) → (if b then bringers.Joins else bringers.Other) ≡ x → ⊥
+no_join true x a o e = a (sym e)
+no_join false x a o e = o (sym e)
+
+is_join : (b : Bool) → (if b then bringers.Joins else bringers.Other) ≡ bringers.Joins → b ≡ true
+is_join true e = refl
+is_join false e = absurd cc
+
+one_or_none : (b : Bool) (x y : Bringer) → (x ≡ y → ⊥) → (y ≡ bringers.Other → ⊥) → (if b then x else bringers.Other) ≡ y → ⊥
+one_or_none true x y a o e = a e
+one_or_none false x y a o e = o (sym e)
+
+is_one : (b : Bool) (x : Bringer) → (x ≡ bringers.Other → ⊥) → (if b then x else bringers.Other) ≡ x → b ≡ true
+is_one true x o e = refl
+is_one false x o e = absurd (o (sym e))
+
+turns_on_by : (device : DeviceId) (body : NoteBody) → bringer_as device body ≡ bringers.TurnsOn → (line : ℕ) × (body ≡ notes.Event line (On device))
+turns_on_by device (notes.Event line (On other)) e =
+    let same = is_one (device.0 == other.0) bringers.TurnsOn (λ x. cc) e in
+    (line, ap (λ (d : DeviceId). notes.Event line (On d)) (sym (same_device device other (same_nat device.0 other.0 same))))
+turns_on_by device (notes.Corrected other cycle by adjustment) e =
+    absurd (one_or_none (device.0 == other.0) bringers.Corrects bringers.TurnsOn (λ x. cc) (λ x. cc) e)
+turns_on_by device body e = absurd (no_join (is_joined_by device body) bringers.TurnsOn (λ x. cc) (λ x. cc) e)
+
+by_turning_on : (device : DeviceId) (line : ℕ) (body : NoteBody) → body ≡ notes.Event line (On device) → bringer_as device body ≡ bringers.TurnsOn
+by_turning_on device line body e =
+    ap (bringer_as device) e ∙ ap (λ (b : Bool). if b then bringers.TurnsOn else bringers.Other) (true_same device.0)
+
+corrects_by : (device : DeviceId) (body : NoteBody) → bringer_as device body ≡ bringers.Corrects
+    → (cycle : ℕ) × (by : Units) × (adjustment : Units) × (body ≡ notes.Corrected device cycle by adjustment)
+corrects_by device (notes.Event line (On other)) e =
+    absurd (one_or_none (device.0 == other.0) bringers.TurnsOn bringers.Corrects (λ x. cc) (λ x. cc) e)
+corrects_by device (notes.Corrected other cycle by adjustment) e =
+    let same = is_one (device.0 == other.0) bringers.Corrects (λ x. cc) e in
+    (cycle, by, adjustment, ap (λ (d : DeviceId). notes.Corrected d cycle by adjustment) (sym (same_device device other (same_nat device.0 other.0 same))))
+corrects_by device body e = absurd (no_join (is_joined_by device body) bringers.Corrects (λ x. cc) (λ x. cc) e)
+
+by_correcting : (device : DeviceId) (cycle : ℕ) (by adjustment : Units) (body : NoteBody) → body ≡ notes.Corrected device cycle by adjustment
+    → bringer_as device body ≡ bringers.Corrects
+by_correcting device cycle by adjustment body e =
+    ap (bringer_as device) e ∙ ap (λ (b : Bool). if b then bringers.Corrects else bringers.Other) (true_same device.0)
+
+joins_by : (device : DeviceId) (body : NoteBody) → bringer_as device body ≡ bringers.Joins → is_joined_by device body ≡ true
+joins_by device (notes.Event line (On other)) e = absurd (one_or_none (device.0 == other.0) bringers.TurnsOn bringers.Joins (λ x. cc) (λ x. cc) e)
+joins_by device (notes.Corrected other cycle by adjustment) e =
+    absurd (one_or_none (device.0 == other.0) bringers.Corrects bringers.Joins (λ x. cc) (λ x. cc) e)
+joins_by device body e = is_join (is_joined_by device body) e
+
+by_joining : (device : DeviceId) (body : NoteBody) → is_joined_by device body ≡ true → bringer_as device body ≡ bringers.Joins
+by_joining device (notes.Event line (On other)) e = absurd cc
+by_joining device (notes.Corrected other cycle by adjustment) e = absurd cc
+by_joining device body e = ap (λ (b : Bool). if b then bringers.Joins else bringers.Other) e
+
+-- ---- what the record of a number is
+
+-- the record of this time that is so
+pub record IsRecord (hs : List Happening) (device : DeviceId) (t cause : ℕ) (bringer : Bringer) : Type 0 where
+  pub h : Happening
+  pub there : IsOfThisTime hs t cause h
+  pub is : bringer_as device h.note.body ≡ bringer
+
+at_record : (device : DeviceId) (t : ℕ) (o : Option Happening) (b : Bringer) → bringer_at device t o ≡ b → (b ≡ bringers.Other → ⊥)
+    → (h : Happening) × (o ≡ Some h) × (time_of h ≡ t) × (bringer_as device h.note.body ≡ b)
+at_record device t None b e live = absurd (live (sym e))
+at_record device t (Some h) b e live =
+    elim (time_of h == t) as (λ x. (time_of h == t) ≡ x → (if x then bringer_as device h.note.body else bringers.Other) ≡ b
+    → (g : Happening) × (Some h ≡ Some g) × (time_of g ≡ t) × (bringer_as device g.note.body ≡ b)) [
+      | true ↦ λ same is. (h, refl, same_nat (time_of h) t same, is)
+      | false ↦ λ same is. absurd (live (sym is))
+    ] refl e
+
+record_of : (hs : List Happening) (device : DeviceId) (t cause : ℕ) (b : Bringer) → bringer_of hs device t cause ≡ b → (b ≡ bringers.Other → ⊥)
+    → IsRecord hs device t cause b
+record_of hs device t cause b e live =
+    let found = at_record device t (numbered hs cause) b e live in
+    record { h = found.0; there = record { there = found.1; same_time = found.2 }; is = found.3 }
+
+of_record : (hs : List Happening) (device : DeviceId) (t cause : ℕ) (h : Happening) (b : Bringer) → IsOfThisTime hs t cause h
+    → bringer_as device h.note.body ≡ b → bringer_of hs device t cause ≡ b
+of_record hs device t cause h b there is =
+    ap (bringer_at device t) there.there
+    ∙ ap (λ (n : ℕ). if n == t then bringer_as device h.note.body else bringers.Other) there.same_time
+    ∙ ap (λ (x : Bool). if x then bringer_as device h.note.body else bringers.Other) (true_same t)
+    ∙ is
+
+pub turned_on : (hs : List Happening) (device : DeviceId) (t cause : ℕ) → bringer_of hs device t cause ≡ bringers.TurnsOn
+    → (line : ℕ) × (h : Happening) × IsOfThisTime hs t cause h × (h.note.body ≡ notes.Event line (On device))
+turned_on hs device t cause e =
+    let found = record_of hs device t cause bringers.TurnsOn e (λ x. cc) in
+    let by = turns_on_by device found.h.note.body found.is in
+    (by.0, found.h, found.there, by.1)
+
+pub turning_on : (hs : List Happening) (device : DeviceId) (t cause line : ℕ) (h : Happening) → IsOfThisTime hs t cause h
+    → h.note.body ≡ notes.Event line (On device) → bringer_of hs device t cause ≡ bringers.TurnsOn
+turning_on hs device t cause line h there is = of_record hs device t cause h bringers.TurnsOn there (by_turning_on device line h.note.body is)
+
+pub corrected : (hs : List Happening) (device : DeviceId) (t cause : ℕ) → bringer_of hs device t cause ≡ bringers.Corrects
+    → (cycle : ℕ) × (by : Units) × (adjustment : Units) × (h : Happening) × IsOfThisTime hs t cause h
+    × (h.note.body ≡ notes.Corrected device cycle by adjustment)
+corrected hs device t cause e =
+    let found = record_of hs device t cause bringers.Corrects e (λ x. cc) in
+    let by = corrects_by device found.h.note.body found.is in
+    (by.0, by.1, by.2, found.h, found.there, by.3)
+
+pub correcting : (hs : List Happening) (device : DeviceId) (t cause cycle : ℕ) (by adjustment : Units) (h : Happening) → IsOfThisTime hs t cause h
+    → h.note.body ≡ notes.Corrected device cycle by adjustment → bringer_of hs device t cause ≡ bringers.Corrects
+correcting hs device t cause cycle by adjustment h there is =
+    of_record hs device t cause h bringers.Corrects there (by_correcting device cycle by adjustment h.note.body is)
+
+pub joined : (hs : List Happening) (device : DeviceId) (t cause : ℕ) → bringer_of hs device t cause ≡ bringers.Joins
+    → (h : Happening) × IsOfThisTime hs t cause h × (is_joined_by device h.note.body ≡ true)
+joined hs device t cause e =
+    let found = record_of hs device t cause bringers.Joins e (λ x. cc) in (found.h, found.there, joins_by device found.h.note.body found.is)
+
+pub joining : (hs : List Happening) (device : DeviceId) (t cause : ℕ) (h : Happening) → IsOfThisTime hs t cause h
+    → is_joined_by device h.note.body ≡ true → bringer_of hs device t cause ≡ bringers.Joins
+joining hs device t cause h there is = of_record hs device t cause h bringers.Joins there (by_joining device h.note.body is)
+
+pub not_true : (b : Bool) → not b ≡ true → b ≡ false
+not_true true e = cc
+not_true false e = refl
+
+pub not_false : (b : Bool) → b ≡ false → not b ≡ true
+not_false b e = ap not e

@@ -1,0 +1,4 @@
+pub mod Moments
+pub mod Points
+pub mod Brought
+pub mod Crossing
