@@ -60,7 +60,7 @@ before_is (x ∷ xs) (y ∷ ys) (inr b) =
     ∙ ap (λ (c : Bool). c && is_before xs ys) (eq-eqb x y b.0)
     ∙ before_is xs ys b.1
 
-test_chain : (p q r : List ℕ) → is_before p q ≡ true → is_before q r ≡ true → is_before p r ≡ true
+pub test_chain : (p q r : List ℕ) → is_before p q ≡ true → is_before q r ≡ true → is_before p r ≡ true
 test_chain p q r a b = before_is p r (chain p q r (is_there p q a) (is_there q r b))
 
 not_later : (t u r q : ℕ) (ks ls : List ℕ) → IsBefore (u ∷ r ∷ ks) (t ∷ q ∷ ls) → u ≤ t

@@ -26,12 +26,12 @@ use Rattle.record_history.proofs.Kept.{kept_still, nothing_of}
 
 -- ---- places of a list
 
-get_same : {X : Type 0} (xs : List X) (i : ℕ) (x : X) → i < length xs → slice_get (slice_set xs i x) i ≡ Some x
+pub get_same : {X : Type 0} (xs : List X) (i : ℕ) (x : X) → i < length xs → slice_get (slice_set xs i x) i ≡ Some x
 get_same [] i x lt = absurd (omega (arith, lt))
 get_same (y ∷ xs) zero x lt = refl
 get_same (y ∷ xs) (suc i) x lt = get_same xs i x (omega (arith, lt))
 
-get_other : {X : Type 0} (xs : List X) (i j : ℕ) (x : X) → (i ≡ j → ⊥) → slice_get (slice_set xs i x) j ≡ slice_get xs j
+pub get_other : {X : Type 0} (xs : List X) (i j : ℕ) (x : X) → (i ≡ j → ⊥) → slice_get (slice_set xs i x) j ≡ slice_get xs j
 get_other [] i j x not = refl
 get_other (y ∷ xs) zero zero x not = absurd (not refl)
 get_other (y ∷ xs) zero (suc j) x not = refl
@@ -105,11 +105,11 @@ mark_met s d h t body carried readings met =
 
 -- ---- before a time
 
-none_shorter : (b : Bool) → (b && false) ≡ false
+pub none_shorter : (b : Bool) → (b && false) ≡ false
 none_shorter true = refl
 none_shorter false = refl
 
-no_more : (a b : Bool) → (a || (b && false)) ≡ a
+pub no_more : (a b : Bool) → (a || (b && false)) ≡ a
 no_more true b = refl
 no_more false b = none_shorter b
 

@@ -9,3 +9,4 @@ pub mod Partitions
 pub mod Kept
 pub mod KeptAll
 pub mod Reading
+pub mod Takes

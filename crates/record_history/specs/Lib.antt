@@ -4,3 +4,5 @@ pub mod Keeping
 pub mod Marks
 pub mod Reading
 pub mod Showing
+pub mod Taking
+pub mod Takings

@@ -8,11 +8,15 @@ mod mark;
 mod shown;
 mod standings;
 mod subject;
+mod taking;
+mod takings;
 
 pub use effect::Carried;
 pub use mark::Mark;
 pub use shown::{Readings, Shown};
 pub use standings::Standings;
+pub use taking::Taking;
+pub use takings::Takings;
 
 #[cfg(test)]
 mod tests;

@@ -162,7 +162,7 @@ impl Mark {
 }
 
 /// Whether the number is below the other, or is the other where the rest is before the other's.
-fn precedes(number: u64, other: u64, rest: bool) -> bool
+pub(crate) fn precedes(number: u64, other: u64, rest: bool) -> bool
     ensures { result ≡ (nat_lt number other || (number == other && rest)) }
 {
     number < other || (number == other && rest)

@@ -1,7 +1,9 @@
-use crate::Mark;
-use net_plan::{DeviceId, LinkId};
+use crate::takings::DeviceTakings;
+use crate::{Mark, Taking};
+use net_plan::{DeviceId, LinkId, VlId};
 use pcf_values::Members;
 use run_law::{NoteBody, Why};
+use std::test::Fail;
 use sync_state::State;
 use tte_units::Units;
 
@@ -24,4 +26,24 @@ fn marks_of_one_time_go_by_kind_and_then_by_number(rt: HostRuntime) {
     assert!(rt; early.is_before(&late));
     assert!(rt; !late.is_before(&early));
     assert!(rt; late.is_before(&mark));
+}
+
+#[test]
+fn the_last_frame_taken_is_found(rt: HostRuntime) -> Result<(), Fail> {
+    let mut takings = DeviceTakings::new(rt.alloc());
+    for (time, cycle) in [(40, 1), (90, 2)] {
+        let taking = Taking {
+            time,
+            link: LinkId(2),
+            cause: 7,
+            number: 8,
+            cycle,
+        };
+        takings.push(rt.alloc(), VlId(5), taking)?;
+    }
+    for (vl, time, cause, cycle) in [(5, 90, 8, Some(2)), (5, 90, 7, Some(1)), (4, 90, 8, None)] {
+        let last = takings.last_before(VlId(vl), time, LinkId(2), cause);
+        assert_eq!(rt; last.map(|taking| taking.cycle), cycle);
+    }
+    Ok(())
 }
