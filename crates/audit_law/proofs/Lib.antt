@@ -18,6 +18,7 @@ pub mod Correcting
 pub mod TracingEvents
 pub mod AllOwed
 pub mod FirstUnpaid
+pub mod Earliest
 pub mod Settling
 pub mod Verdicts
 pub mod Cuts

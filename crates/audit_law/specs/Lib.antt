@@ -15,5 +15,6 @@ pub mod CorrectionPoints
 pub mod TracedEvents
 pub mod Owed
 pub mod DebtLaws
+pub mod FirstDebts
 pub mod Laws
 pub mod SameRuns

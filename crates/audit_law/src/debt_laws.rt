@@ -1,6 +1,7 @@
 ghost use Rattle.audit_law.specs.DebtLaws.{ArrivalLaw, ChangeLaw, ClockLaw, DepartureLaw, DispatchLaw, EmissionLaw};
 ghost use Rattle.audit_law.specs.DebtLaws.{EventLaw, LossLaw, PermanenceLaw, PointLaw, SendingLaw};
 ghost use Rattle.audit_law.specs.DebtLaws.{DebtLaw, LackLaw, SettledLaw};
+ghost use Rattle.audit_law.specs.FirstDebts.{FirstDebtLaw};
 
 /// A founded list of records owes, for each frame that a record gives to a link, one record of its leaving: that it left,
 /// met a cut way or was too old. What is due by a leaving is so owed, and what is so owed is due.
@@ -79,4 +80,10 @@ pub fn lack_law()
 /// What a list of records owes up to a time is told by its records up to then: later ones change none of it.
 pub fn settled_law()
     ensures { SettledLaw }
+{}
+
+/// The earliest of the first times of all kinds of debts at which one of it is not paid is that of the first debt of
+/// all. Where there is none, a list whose records are all sound lacks nothing.
+pub fn first_debt_law()
+    ensures { FirstDebtLaw }
 {}

@@ -9,6 +9,6 @@ mod laws;
 
 pub use debt_laws::{
     arrival_law, change_law, clock_law, debt_law, departure_law, dispatch_law, emission_law,
-    event_law, lack_law, loss_law, permanence_law, point_law, sending_law, settled_law,
+    event_law, first_debt_law, lack_law, loss_law, permanence_law, point_law, sending_law, settled_law,
 };
 pub use laws::{audit_laws, gap_law, next_law, same_runs_law};
