@@ -69,27 +69,27 @@ join s hs until P Q (Some t) None h g = record {
 }
 join s hs until P Q (Some t) (Some u) h g = elim (cases_lt u t) [
   | inl sooner ↦ record {
-      debt = g.debt;
-      of = inr g.of;
-      owed = g.owed;
-      unpaid = g.unpaid;
-      at = omega (arith, sooner, g.at);
-      first = λ other of is not. elim of [
-        | inl p ↦ (let late = h.first other p is not in omega (arith, sooner, late))
-        | inr q ↦ (let late = g.first other q is not in omega (arith, late))
-      ];
-    }
+    debt = g.debt;
+    of = inr g.of;
+    owed = g.owed;
+    unpaid = g.unpaid;
+    at = omega (arith, sooner, g.at);
+    first = λ other of is not. elim of [
+      | inl p ↦ (let late = h.first other p is not in omega (arith, sooner, late))
+      | inr q ↦ (let late = g.first other q is not in omega (arith, late))
+    ];
+  }
   | inr later ↦ record {
-      debt = h.debt;
-      of = inl h.of;
-      owed = h.owed;
-      unpaid = h.unpaid;
-      at = omega (arith, later, h.at);
-      first = λ other of is not. elim of [
-        | inl p ↦ (let late = h.first other p is not in omega (arith, late))
-        | inr q ↦ (let late = g.first other q is not in omega (arith, later, late))
-      ];
-    }
+    debt = h.debt;
+    of = inl h.of;
+    owed = h.owed;
+    unpaid = h.unpaid;
+    at = omega (arith, later, h.at);
+    first = λ other of is not. elim of [
+      | inl p ↦ (let late = h.first other p is not in omega (arith, late))
+      | inr q ↦ (let late = g.first other q is not in omega (arith, later, late))
+    ];
+  }
 ]
 
 of_all : (s : Scenario) (hs : List Happening) (until : ℕ) (P : Debt → Type 0) (first : Option ℕ) → AreSound place_of (IsDue s) ((until + 1) ∷ []) hs

@@ -1,6 +1,7 @@
 -- Which correction point of a device is next in an audit: by the points that its clock has come to, not by the records
 -- that show them.
-use Rattle.std.specs.Prelude.{◌≡◌, ℕ, ◌+◌, ◌-◌, ℤ, pos, ◌+ℤ◌, ◌-ℤ◌, false, ◌&&◌, ◌==◌, nat_lt, List, filter, filter_map, Some, if◌then◌else◌}
+use Rattle.std.specs.Prelude.{◌≡◌, ℕ, ◌+◌, ◌-◌, ℤ, pos, ◌+ℤ◌, ◌-ℤ◌, false, ◌&&◌, ◌==◌, nat_lt, List, filter}
+use Rattle.std.specs.Prelude.{filter_map, Some, if◌then◌else◌}
 use Rattle.std.specs.Int.{int_div_euclid}
 use Rattle.std.specs.List.{after_last}
 use Rattle.membership.specs.Hearing.{Hearing}

@@ -14,7 +14,8 @@ use Rattle.audit_law.specs.Changes.{IsDueByChange, OwesChange, TellsChange}
 use Rattle.audit_law.specs.CorrectionPoints.{IsDueByPoint, OwesPoint, TellsPoint}
 use Rattle.audit_law.specs.Debts.{AreDebts, IsPaid}
 use Rattle.audit_law.specs.Departures.{IsDueByLeaving, OwesDeparture, TellsDeparture, leaves_at}
-use Rattle.audit_law.specs.Dispatched.{IsDueByDispatch, IsDueBySending, OwesDispatch, OwesSending, TellsDispatch, TellsSending}
+use Rattle.audit_law.specs.Dispatched.{IsDueByDispatch, IsDueBySending, OwesDispatch, OwesSending, TellsDispatch}
+use Rattle.audit_law.specs.Dispatched.{TellsSending}
 use Rattle.audit_law.specs.Emitted.{IsDueByEmission, OwesEmission, TellsEmission}
 use Rattle.audit_law.specs.EndClocks.{IsDueByEnd, OwesClock, TellsClock}
 use Rattle.audit_law.specs.Findings.{AreSound, IsLacking}

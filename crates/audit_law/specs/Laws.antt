@@ -27,7 +27,8 @@ pub record HasGap (s : Scenario) (hs : List Happening) (x : Happening) : Type 0 
   pub parts : hs ≡ before ++ behind
   pub gap : IsGap place_of (IsDue s) before behind x
 
--- a sound list lacks exactly what is due in its gaps, so that a sweep from its front finds it; and its records are linked
+-- a sound list lacks exactly what is due in its gaps, so that a sweep from its front finds it; and its records are
+-- linked
 pub record HasGapsOnly (s : Scenario) (hs : List Happening) : Type 0 where
   pub lacks : (x : Happening) → IsLacking place_of (IsDue s) hs x ↔ HasGap s hs x
   pub linked : AreLinked hs

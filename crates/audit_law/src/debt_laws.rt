@@ -3,14 +3,14 @@ ghost use Rattle.audit_law.specs.DebtLaws.{EventLaw, LossLaw, PermanenceLaw, Poi
 ghost use Rattle.audit_law.specs.DebtLaws.{DebtLaw, LackLaw, SettledLaw};
 ghost use Rattle.audit_law.specs.FirstDebts.{FirstDebtLaw};
 
-/// A founded list of records owes, for each frame that a record gives to a link, one record of its leaving: that it left,
-/// met a cut way or was too old. What is due by a leaving is so owed, and what is so owed is due.
+/// A founded list of records owes, for each frame that a record gives to a link, one record of its leaving: that it
+/// left, met a cut way or was too old. What is due by a leaving is so owed, and what is so owed is due.
 pub fn departure_law()
     ensures { DepartureLaw }
 {}
 
-/// It owes, for each frame that a record puts on a wire, one record of its arrival: that the frame arrived, was accepted
-/// or delivered, or was dropped.
+/// It owes, for each frame that a record puts on a wire, one record of its arrival: that the frame arrived, was
+/// accepted or delivered, or was dropped.
 pub fn arrival_law()
     ensures { ArrivalLaw }
 {}
@@ -31,8 +31,8 @@ pub fn clock_law()
     ensures { ClockLaw }
 {}
 
-/// It owes, for each frame that has arrived at a device that waits for it, one record at its point: that it is permanent,
-/// or was dropped there.
+/// It owes, for each frame that has arrived at a device that waits for it, one record at its point: that it is
+/// permanent, or was dropped there.
 pub fn permanence_law()
     ensures { PermanenceLaw }
 {}
@@ -47,14 +47,14 @@ pub fn sending_law()
     ensures { SendingLaw }
 {}
 
-/// It owes, for each row whose offset the clock of a synchronised device reaches with a frame at hand, one record of the
-/// dispatch, or of the loss on a way that is cut.
+/// It owes, for each row whose offset the clock of a synchronised device reaches with a frame at hand, one record of
+/// the dispatch, or of the loss on a way that is cut.
 pub fn dispatch_law()
     ensures { DispatchLaw }
 {}
 
-/// It owes, for each correction point that the clock of a device reaches, but that by which a joiner clears, one record:
-/// of the correction, or of the state that a clique brings.
+/// It owes, for each correction point that the clock of a device reaches, but that by which a joiner clears, one
+/// record: of the correction, or of the state that a clique brings.
 pub fn point_law()
     ensures { PointLaw }
 {}
@@ -64,9 +64,9 @@ pub fn event_law()
     ensures { EventLaw }
 {}
 
-/// In a list whose records are all sound each pays a debt, at the time at which it falls due. The list lacks exactly what
-/// its unpaid debts want: a record that is lacking pays a debt that none of the list pays, and for each such debt a
-/// record is lacking. It is the run exactly where each debt is paid.
+/// In a list whose records are all sound each pays a debt, at the time at which it falls due. The list lacks exactly
+/// what its unpaid debts want: a record that is lacking pays a debt that none of the list pays, and for each such debt
+/// a record is lacking. It is the run exactly where each debt is paid.
 pub fn debt_law()
     ensures { DebtLaw }
 {}

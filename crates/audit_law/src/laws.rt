@@ -18,9 +18,9 @@ pub fn next_law()
     ensures { NextLaw }
 {}
 
-/// Where the clocks keep the clock laws, a list of records is the run by what is due in an audit exactly where it is the
-/// run by what is due in a run: it has a record for each correction point that a clock comes to, but that by which a
-/// joiner clears, and this one both count.
+/// Where the clocks keep the clock laws, a list of records is the run by what is due in an audit exactly where it is
+/// the run by what is due in a run: it has a record for each correction point that a clock comes to, but that by which
+/// a joiner clears, and this one both count.
 pub fn same_runs_law()
     ensures { SameRuns }
 {}

@@ -1,10 +1,12 @@
-ghost use Rattle.std.specs.Prelude.{◌≡◌, ◌<◌, ◌≤◌, ◌^◌, ◌+◌, List, pos, ◌≤ℤ◌, [], ◌∷◌, ◌++◌, ◌↔◌, IsTrue, length, map, slice_get, Some, All, IfOk, IfSome, IfNone, Contains};
+ghost use Rattle.std.specs.Prelude.{◌≡◌, ◌<◌, ◌≤◌, ◌^◌, ◌+◌, List, pos, ◌≤ℤ◌, [], ◌∷◌, ◌++◌, ◌↔◌, IsTrue, length};
+ghost use Rattle.std.specs.Prelude.{map, slice_get, Some, All, IfOk, IfSome, IfNone, Contains};
 ghost use Rattle.compression.specs.Ascent.{offset_at};
 ghost use Rattle.compression.specs.Clusters.{Point, point_at};
 ghost use Rattle.compression.specs.Middle.{middle_of, relative};
 ghost use Rattle.compression.specs.Role.{role};
 ghost use Rattle.collection_history.specs.Gathered.{EndsWith, Gathers, HasRow, IsGathered, IsHeld, IsLatest, Sends};
-ghost use Rattle.collection_history.specs.Kept.{clusters_in, emissions_in, emitted, kept_in, points_kept, cluster_kept, IsCounted};
+ghost use Rattle.collection_history.specs.Kept.{clusters_in, emissions_in, emitted, kept_in, points_kept};
+ghost use Rattle.collection_history.specs.Kept.{cluster_kept, IsCounted};
 ghost use Rattle.collection_history.specs.Small.{IsSmall};
 ghost use Rattle.collection_history.specs.Steps.{Closes, Grows, Joins, Opens};
 ghost use Rattle.collection_history.specs.Rising.{IsPlaceFor, IsRising};

@@ -1,5 +1,6 @@
 -- The rows by which time-triggered frames enter devices.
-use Rattle.std.specs.Prelude.{◌≡◌, ℕ, ◌≤◌, ◌%◌, nat_le, int_lt, ℤ, not, ◌&&◌, ◌||◌, ◌==◌, List, [], ◌∷◌, length, find, Option, option_map, option_and_then, Result, Ok, Err, IsSome}
+use Rattle.std.specs.Prelude.{◌≡◌, ℕ, ◌≤◌, ◌%◌, nat_le, int_lt, ℤ, not, ◌&&◌, ◌||◌, ◌==◌, List, [], ◌∷◌, length, find}
+use Rattle.std.specs.Prelude.{Option, option_map, option_and_then, Result, Ok, Err, IsSome}
 use Rattle.std.specs.BTreeMap.{BTreeMap, get}
 use Rattle.std.specs.List.{All}
 use Rattle.std.specs.Ordering.{nat_cmp, ordering_then}

@@ -2,7 +2,8 @@
 
 ghost use Rattle.std.specs.Prelude.{◌≡◌, ◌∷◌, ◌++◌, [], IfOk, OnOk, IfSome, List, ℕ};
 ghost use Rattle.std.specs.BTreeMap.{get};
-ghost use Rattle.device_rules.specs.Entering.{AreEntrances, AreRows, HasPeriod, HaveEntries, IsEnteredSo, entering_by, entrance_cmp, entrance_of};
+ghost use Rattle.device_rules.specs.Entering.{AreEntrances, AreRows, HasPeriod, HaveEntries, IsEnteredSo};
+ghost use Rattle.device_rules.specs.Entering.{entering_by, entrance_cmp, entrance_of};
 ghost use Rattle.device_rules.specs.Headings.{heading_of};
 ghost use Rattle.net_plan.specs.Ranges.{IsInRange};
 ghost use Rattle.net_plan.specs.declared.tables.Row.{Row};

@@ -1,5 +1,6 @@
 -- How a history stands to the events that it took.
-use Rattle.std.specs.Prelude.{◌≡◌, ℕ, ◌+◌, ◌*◌, ◌==◌, nat_le, Bool, false, List, ◌∷◌, [], ◌++◌, length, Option, Some, None, Result, MatchResult, slice_get}
+use Rattle.std.specs.Prelude.{◌≡◌, ℕ, ◌+◌, ◌*◌, ◌==◌, nat_le, Bool, false, List, ◌∷◌, [], ◌++◌, length, Option, Some}
+use Rattle.std.specs.Prelude.{None, Result, MatchResult, slice_get}
 use Rattle.drift_clock.specs.Segment.{fresh_segment}
 use Rattle.net_plan.specs.Belonging.{IsOfNetwork}
 use Rattle.net_plan.specs.Ranges.{IsInRange}

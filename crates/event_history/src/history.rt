@@ -1,9 +1,11 @@
-ghost use Rattle.std.specs.Prelude.{◌≡◌, ◌≤◌, ◌^◌, ◌*◌, pos, ◌≤ℤ◌, unsigned_abs, [], ◌∷◌, ◌++◌, List, length, IfOk, if◌then◌else◌};
+ghost use Rattle.std.specs.Prelude.{◌≡◌, ◌≤◌, ◌^◌, ◌*◌, pos, ◌≤ℤ◌, unsigned_abs, [], ◌∷◌, ◌++◌, List, length, IfOk};
+ghost use Rattle.std.specs.Prelude.{if◌then◌else◌};
 ghost use Rattle.std.specs.List.{All};
 ghost use Rattle.event_history.specs.Beginnings.{AreWaysOf, IsReadyFor, IsSought, IsUntouchedDevice, IsUntouchedWay};
 ghost use Rattle.event_history.specs.Reaches.{IsFirstReach};
 ghost use Rattle.event_history.specs.Readings.{clock_reading, scenario_under};
-ghost use Rattle.event_history.specs.Remembering.{IsAdded, MayBeAdded, MayBefall, Remembers, RemembersSome, has_come, way_place};
+ghost use Rattle.event_history.specs.Remembering.{IsAdded, MayBeAdded, MayBefall, Remembers, RemembersSome, has_come};
+ghost use Rattle.event_history.specs.Remembering.{way_place};
 ghost use Rattle.net_plan.specs.Belonging.{HasDevice, HasLink};
 ghost use Rattle.net_plan.specs.Ranges.{IsInRange};
 ghost use Rattle.net_plan.specs.declared.event.Event.{Event as EventValue};
@@ -64,7 +66,8 @@ impl EventHistory {
         Ok(EventHistory { ways, devices })
     }
 
-    /// Adds an event that may befall the network, given those before it. Where memory runs out the history is as it was.
+    /// Adds an event that may befall the network, given those before it. Where memory runs out the history is as it
+    /// was.
     pub fn add(&mut self, event: &Event) -> Result<(), OutOfMemory>
         requires begun { pos 0 ≤ℤ event.now.time.0 }
         requires within { MayBeAdded self.old event.now }

@@ -1,10 +1,12 @@
-ghost use Rattle.std.specs.Prelude.{◌≡◌, ◌==◌, ℕ, ◌∷◌, ◌++◌, [], if◌then◌else◌, List, option_map, MatchOption, MatchResult, None, Some};
+ghost use Rattle.std.specs.Prelude.{◌≡◌, ◌==◌, ℕ, ◌∷◌, ◌++◌, [], if◌then◌else◌, List, option_map, MatchOption};
+ghost use Rattle.std.specs.Prelude.{MatchResult, None, Some};
 ghost use Rattle.device_rules.specs.Headings.{heading_of};
 ghost use Rattle.kept_records.specs.Keeping.{record_of, records_of};
 ghost use Rattle.net_plan.specs.Ranges.{IsInRange};
 ghost use Rattle.run_law.specs.declared.note.Note.{Note};
 ghost use Rattle.run_law.specs.records.Frames.{tt_frame};
-ghost use Rattle.run_law.specs.records.Happenings.{Happening, frame_by, frame_from, happening, numbered, octets_by, octets_from, with_clock};
+ghost use Rattle.run_law.specs.records.Happenings.{Happening, frame_by, frame_from, happening, numbered, octets_by};
+ghost use Rattle.run_law.specs.records.Happenings.{octets_from, with_clock};
 ghost use Rattle.tte_units.specs.Amount.{amount};
 
 use crate::{KeptRecord, OutOfMemory, making};

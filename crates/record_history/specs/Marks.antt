@@ -2,7 +2,9 @@
 use Rattle.std.specs.Prelude.{◌≡◌, ℕ, List, [], ◌∷◌, Bool, Some}
 use Rattle.net_plan.specs.declared.ids.DeviceId.{DeviceId}
 use Rattle.record_history.specs.declared.mark.Mark.{Mark}
-use Rattle.run_law.specs.declared.note.NoteBody.TheVariants.{Event, Arrived, Permanent, Compressed, Sent, Corrected, State, Left, Lost, TtSent, Accepted, Delivered, Dropped, Clock}
+use Rattle.run_law.specs.declared.note.NoteBody.TheVariants.{Event, Arrived, Permanent, Compressed, Sent, Corrected}
+use Rattle.run_law.specs.declared.note.NoteBody.TheVariants.{State, Left, Lost, TtSent, Accepted, Delivered, Dropped}
+use Rattle.run_law.specs.declared.note.NoteBody.TheVariants.{Clock}
 use Rattle.run_law.specs.declared.note.NoteBody.{NoteBody}
 use Rattle.run_law.specs.records.Causes.{device_of}
 use Rattle.run_law.specs.records.Happenings.{Happening, time_of}

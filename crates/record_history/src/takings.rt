@@ -1,4 +1,5 @@
-ghost use Rattle.std.specs.Prelude.{◌≡◌, ◌<◌, ◌∷◌, ◌++◌, [], List, IfOk, OnOk, ℕ, length, filter, false, ◌==◌, if◌then◌else◌, None, option_and_then};
+ghost use Rattle.std.specs.Prelude.{◌≡◌, ◌<◌, ◌∷◌, ◌++◌, [], List, IfOk, OnOk, ℕ, length, filter, false, ◌==◌};
+ghost use Rattle.std.specs.Prelude.{if◌then◌else◌, None, option_and_then};
 ghost use Rattle.std.specs.List.{last_or};
 
 use crate::Taking;

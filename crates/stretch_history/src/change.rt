@@ -1,5 +1,6 @@
 ghost use Rattle.std.specs.Prelude.{◌≡◌};
-ghost use Rattle.stretch_history.specs.Changes.{change_by, collector_in, emission_change, permanence_change, state_change};
+ghost use Rattle.stretch_history.specs.Changes.{change_by, collector_in, emission_change, permanence_change};
+ghost use Rattle.stretch_history.specs.Changes.{state_change};
 
 use net_plan::DeviceId;
 use run_law::{Judgement, NoteBody, Why};

@@ -9,7 +9,8 @@ use Rattle.run_law.specs.records.Ranks.{place_of}
 use Rattle.audit_law.specs.DueRecords.{IsDue}
 use Rattle.run_law.specs.runs.DueRecords.{IsRunOf}
 use Rattle.run_law.specs.declared.note.Note.{Note}
-use Rattle.tte_audit.specs.Report.{BeginsWith, IsEndless, IsEventFault, IsFormFault, IsOfEvents, behind_time, events_of, scenario_of}
+use Rattle.tte_audit.specs.Report.{BeginsWith, IsEndless, IsEventFault, IsFormFault, IsOfEvents, behind_time}
+use Rattle.tte_audit.specs.Report.{events_of, scenario_of}
 use Rattle.tte_audit.specs.declared.refusal.AuditRefusal.{AuditRefusal}
 use Rattle.tte_audit.specs.declared.refusal.AuditRefusal.TheVariants as refusals
 use Rattle.tte_units.specs.Amount.{amount, units_of}

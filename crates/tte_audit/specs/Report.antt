@@ -1,6 +1,7 @@
 -- A report, as the records that it tells, and the events among them.
 use Rattle.tte_io.specs.Line.{lf}
-use Rattle.std.specs.Prelude.{Bool, ◌==◌, ◌≡◌, ◌≢◌, ℕ, ◌+◌, pos, ◌≤ℤ◌, List, [], ◌∷◌, ◌++◌, length, filter_map, Any, Option, Some, None}
+use Rattle.std.specs.Prelude.{Bool, ◌==◌, ◌≡◌, ◌≢◌, ℕ, ◌+◌, pos, ◌≤ℤ◌, List, [], ◌∷◌, ◌++◌, length, filter_map, Any}
+use Rattle.std.specs.Prelude.{Option, Some, None}
 use Rattle.std.specs.List.{concat}
 use Rattle.event_history.specs.Readings.{scenario_under}
 use Rattle.net_plan.specs.declared.event.Event.{Event}

@@ -1,5 +1,6 @@
 -- When control frames leave, and what is lost of `send` events.
-use Rattle.std.specs.Prelude.{◌≡◌, ℕ, Bool, false, ◌&&◌, ◌||◌, ◌==◌, List, Option, Some, None, MatchOption, if◌then◌else◌}
+use Rattle.std.specs.Prelude.{◌≡◌, ℕ, Bool, false, ◌&&◌, ◌||◌, ◌==◌, List, Option, Some, None, MatchOption}
+use Rattle.std.specs.Prelude.{if◌then◌else◌}
 use Rattle.std.specs.Option.{option_map_or}
 use Rattle.audit_law.specs.Departures.{OwesDeparture, leaves_at}
 use Rattle.audit_law.specs.LostSends.{OwesLoss}

@@ -38,7 +38,8 @@ pub enum Judged {
 }
 
 impl Entered {
-    /// What becomes of it at the device, which stands so and took the last frame of the row's virtual link in this cycle.
+    /// What becomes of it at the device, which stands so and took the last frame of the row's virtual link in this
+    /// cycle.
     pub fn becomes(
         &self,
         network: &Network,

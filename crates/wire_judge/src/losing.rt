@@ -14,8 +14,8 @@ use event_history::EventHistory;
 use kept_records::{Kept, KeptRecord};
 use net_plan::{DeviceId, LinkId, Network, Way};
 
-/// By which device and link, and when, the octets of the `send` event of the number `cause` are lost, if they are by the
-/// time. It is None exactly where they are not.
+/// By which device and link, and when, the octets of the `send` event of the number `cause` are lost, if they are by
+/// the time. It is None exactly where they are not.
 pub fn loss_due(
     network: &Network,
     history: &EventHistory,
