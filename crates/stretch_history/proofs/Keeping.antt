@@ -10,7 +10,8 @@ use Rattle.collection_history.specs.declared.gathering.Gathering.{Gathering}
 use Rattle.compression.specs.Clusters.{Point}
 use Rattle.net_plan.specs.declared.ids.DeviceId.{DeviceId}
 use Rattle.net_plan.specs.declared.network.Network.{Network}
-use Rattle.record_history.proofs.Grown.{all_kept, filter_off, filter_on, last_more}
+use Rattle.audit_law.proofs.LastParts.{all_kept}
+use Rattle.record_history.proofs.Grown.{filter_off, filter_on, last_more}
 use Rattle.record_history.proofs.Kept.{before_is, is_there}
 use Rattle.record_history.proofs.MarkOrder.{marks_compare}
 use Rattle.record_history.proofs.Partitions.{parted_on}

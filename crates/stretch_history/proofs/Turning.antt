@@ -6,7 +6,8 @@ use Rattle.std.specs.List.{after_last, cons_option}
 use Rattle.std.specs.Prelude.{◌==◌, filter_map}
 use Rattle.compression.specs.Clusters.{Point, point_at}
 use Rattle.net_plan.specs.declared.ids.DeviceId.{DeviceId}
-use Rattle.record_history.proofs.Grown.{after_more, after_one}
+use Rattle.audit_law.proofs.LastParts.{after_more}
+use Rattle.record_history.proofs.Grown.{after_one}
 use Rattle.run_law.specs.control.Collections.{ends_stretch, master_of, point_by, points_of}
 use Rattle.run_law.specs.declared.judgement.Judgement.TheVariants as judgements
 use Rattle.run_law.specs.declared.judgement.Judgement.{Judgement}
