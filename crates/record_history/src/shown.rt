@@ -212,12 +212,14 @@ impl Shown {
         }
     }
 
+    /// The state that the records leave the device in.
     pub fn state(&self) -> State
         ensures { result ≡ self.now.state }
     {
         self.state
     }
 
+    /// The adjustment that the records leave the device with, in units of 2^-16 ns, from -2^80 to 2^80.
     pub fn adjustment(&self) -> i128
         ensures value { result ≡ self.now.adjustment }
         ensures least { neg_ℤ (pos (2 ^ 80)) ≤ℤ result }
