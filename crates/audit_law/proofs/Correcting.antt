@@ -89,7 +89,7 @@ high_quiet network device h (notes.Compressed other opened sent cycle members ve
 high_quiet network device h body high = refl
 
 -- a list that parts at a correction or later has up to that time its front, and records of the time that are no lower
-record HasLate (hs : List Happening) (t : ℕ) (front : List Happening) : Type 0 where
+pub record HasLate (hs : List Happening) (t : ℕ) (front : List Happening) : Type 0 where
   pub late : List Happening
   pub whole : up_to t hs ≡ front ++ late
   pub not_earlier : (h : Happening) → IsIn h late → t ≤ time_of h
@@ -99,7 +99,7 @@ time_before : (u r t q : ℕ) (ks ls : List ℕ) → IsBefore (u ∷ r ∷ ks) (
 time_before u r t q ks ls (inl lt) = omega (arith, lt)
 time_before u r t q ks ls (inr b) = omega (arith, b.0)
 
-late_part : (hs : List Happening) (t r : ℕ) (more : List ℕ) → 6 ≤ r → (at : IsSplit place_of hs (t ∷ r ∷ more)) → HasLate hs t at.front
+pub late_part : (hs : List Happening) (t r : ℕ) (more : List ℕ) → 6 ≤ r → (at : IsSplit place_of hs (t ∷ r ∷ more)) → HasLate hs t at.front
 late_part hs t r more high at =
     let test : Happening → Bool = λ h. nat_le (time_of h) t in
     let kept = all_kept test at.front (λ h i.
@@ -117,7 +117,7 @@ late_part hs t r more high at =
     }
 
 -- the records of earlier times are all in the front
-late_earlier : (hs : List Happening) (t : ℕ) (front : List Happening) → HasLate hs t front → earlier t (up_to t hs) ≡ earlier t front
+pub late_earlier : (hs : List Happening) (t : ℕ) (front : List Happening) → HasLate hs t front → earlier t (up_to t hs) ≡ earlier t front
 late_earlier hs t front l =
     let test : Happening → Bool = λ h. nat_lt (time_of h) t in
     let none : filter test l.late ≡ [] = none_kept test l.late (λ h i. le-ltb (time_of h) t (l.not_earlier h i)) in
@@ -127,7 +127,7 @@ late_earlier hs t front l =
     ∙ append-nil (filter test front)
 
 -- the front tells all that is heard up to the time
-late_heard : (s : Scenario) (hs : List Happening) (device : DeviceId) (t : ℕ) (front : List Happening) → HasLate hs t front
+pub late_heard : (s : Scenario) (hs : List Happening) (device : DeviceId) (t : ℕ) (front : List Happening) → HasLate hs t front
     → heard_since_point s (up_to t hs) device t ≡ heard_since_point s front device t
 late_heard s hs device t front l =
     let set : Happening → Bool = λ h. nat_lt (time_of h) t && changes_adjustment device h.note.body in

@@ -1,5 +1,5 @@
 -- When a clock next crosses a value of a series.
-use Rattle.std.proofs.Common.{◌≡◌, ◌⊎◌, inl, inr, ℕ, ◌+◌, ◌-◌, ◌*◌, ◌/◌, ◌%◌, ◌<◌, ◌≤◌, ℤ, pos, ◌<ℤ◌, ◌≤ℤ◌, subst, arith}
+use Rattle.std.proofs.Common.{◌≡◌, ◌⊎◌, inl, inr, ℕ, ◌+◌, ◌-◌, ◌*◌, ◌/◌, ◌%◌, ◌^◌, ◌<◌, ◌≤◌, ℤ, pos, ◌<ℤ◌, ◌≤ℤ◌, subst, arith}
 use Rattle.std.proofs.Common.{div-add-mod', mul-le-mul_right}
 use Rattle.std.proofs.lemmas.Int.{ints}
 use Rattle.std.proofs.lemmas.Bool.{cases_lt}
@@ -55,9 +55,9 @@ none_crossed reading shown series after until number passed sought on is behind 
 
 pub next_crossed : (reading : ℕ → ℕ) (shown : Shown) (series : Series) (after until number : ℕ) (passed sought : ℤ) (time : ℕ) → ReadsOn reading
     → IsPassed reading shown after passed → IsBehind series passed number → sought ≡ (value_in series number -ℤ shown.adjustment)
-    → IsReach reading (pos after) sought (pos time) → time ≤ until
+    → IsReach reading (pos after) sought (pos time) → time ≤ until → until ≤ 2 ^ 60 → (pos (reading after) +ℤ shown.adjustment) ≤ℤ pos (2 ^ 82)
     → IsNextCrossing reading shown series after until (record { time = time; number = number })
-next_crossed reading shown series after until number passed sought time on is behind same reach timely =
+next_crossed reading shown series after until number passed sought time on is behind same reach timely limit small =
     let from_on = reach.from_on in
     let there = reach.reached in
     let local = is.local in
@@ -71,9 +71,12 @@ next_crossed reading shown series after until number passed sought time on is be
           absurd (omega (arith, ints, here, local, more, same))
     ] in
     let low = reach.not_before (time - 1) (omega (arith, ints, later)) (omega (arith, ints, later)) in
+    let most = on.bound time (omega (arith, timely, limit)) in
     record {
       later = later;
       timely = timely;
+      least = λ t n lt crosses. behind.least n (crossed_behind reading shown after t passed (value_in series n) on is lt crosses);
+      near = omega (arith, ints, there, same, most, small);
       crosses = record {
         changed = omega (arith, ints, change, more);
         below = omega (arith, ints, low, same);

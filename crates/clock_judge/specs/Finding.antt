@@ -1,5 +1,5 @@
 -- When a clock next crosses one of the values of a series.
-use Rattle.std.specs.Prelude.{ℕ, ◌+◌, ◌-◌, ◌*◌, ◌<◌, ◌≤◌, ℤ, pos, ◌+ℤ◌, Option, MatchOption}
+use Rattle.std.specs.Prelude.{ℕ, ◌+◌, ◌-◌, ◌*◌, ◌<◌, ◌≤◌, ◌^◌, ℤ, pos, ◌+ℤ◌, ◌≤ℤ◌, Option, MatchOption}
 use Rattle.clock_judge.specs.Crossing.{HasCrossed}
 use Rattle.clock_judge.specs.declared.finding.Crossed.{Crossed}
 use Rattle.clock_judge.specs.declared.finding.Series.{Series}
@@ -25,13 +25,16 @@ abbrev pub NoneCrossed : (ℕ → ℕ) → Shown → Series → ℕ → ℕ → 
 NoneCrossed reading shown series after before =
     (t n : ℕ) → after < t → t < before → CrossesAt reading shown (value_in series n) t → ⊥
 
--- the least time later than `after`, up to `until`, at which it crosses one, and the number of one that it then crosses
+-- the least time later than `after`, up to `until`, at which it crosses one, and the number of one that it then crosses:
+-- none of a lower number is crossed from then on
 pub record IsNextCrossing (reading : ℕ → ℕ) (shown : Shown) (series : Series) (after until : ℕ) (crossed : Crossed)
     : Type 0 where
   pub later : after < crossed.time
   pub timely : crossed.time ≤ until
   pub crosses : CrossesAt reading shown (value_in series crossed.number) crossed.time
   pub none_before : NoneCrossed reading shown series after crossed.time
+  pub least : (t n : ℕ) → after < t → CrossesAt reading shown (value_in series n) t → crossed.number ≤ n
+  pub near : value_in series crossed.number ≤ℤ pos (2 ^ 83)
 
 -- the next crossing, or none where there is none
 abbrev pub IsNextOrNone : (ℕ → ℕ) → Shown → Series → ℕ → ℕ → Option Crossed → Type 0

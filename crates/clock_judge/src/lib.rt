@@ -16,8 +16,9 @@ pub use correcting::{Correction, Point, coming_cycle, coming_point, corrects};
 pub use ending::{EndClock, shows_clock};
 pub use finding::{Crossed, Series, next_crossing};
 pub use moment::Moment;
+pub use network::is_master;
 pub use reaching::{is_up, reaches};
-pub use sending::{Sending, next_sending, sends};
+pub use sending::{Sending, beginnings, next_sending, sends};
 
 #[cfg(test)]
 mod tests;

@@ -7,7 +7,7 @@ ghost use Rattle.tte_units.specs.Amount.{amount};
 use net_plan::{DeviceId, Network, Role};
 
 /// Is the device a master?
-pub(crate) fn is_master(network: &Network, device: DeviceId) -> bool
+pub fn is_master(network: &Network, device: DeviceId) -> bool
     ensures { result ≡ has_role network.now is_master device }
 {
     match network.device.as_slice().get(device.0 as usize) {

@@ -85,10 +85,11 @@ pub fn next_sending(
 }
 
 /// The beginnings of the cycles, but of the silent one.
-fn beginnings(network: &Network) -> Series
+pub fn beginnings(network: &Network) -> Series
     requires { IsInRange network.now }
     ensures series { IsSeries result }
     ensures values { (n : ℕ) → value_in result n ≡ pos ((n + 1) * amount network.now.cycle) }
+    ensures step { 2 ^ 32 ≤ result.step }
 {
     let cycle = network.cycle.amount();
     Series {

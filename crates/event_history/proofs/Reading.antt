@@ -1,5 +1,5 @@
 -- The clocks that events set read on.
-use Rattle.std.proofs.Common.{◌≡◌, ℕ, ◌+◌, ◌-◌, ◌*◌, ◌^◌, ◌≤◌, refl, arith}
+use Rattle.std.proofs.Common.{◌≡◌, ℕ, ◌+◌, ◌-◌, ◌*◌, ◌^◌, ◌<◌, ◌≤◌, refl, subst, arith}
 use Rattle.std.specs.Int.{abs_diff}
 use Rattle.std.proofs.lemmas.Int.{ints}
 use Rattle.std.proofs.Math.Nat.{mul-le-mul_right}
@@ -24,6 +24,13 @@ diff_near a b = omega arith
 same_times : (rho t s : ℕ) → s ≡ t → rho * s ≡ rho * t
 same_times rho t s e = rw e refl
 
+-- what a clock goes on by in one unit of time
+step_of : (rho grain real seen : ℕ) → real ≡ 1 → rho ≤ 1000000 → grain ≤ 2 ^ 20 → 10 ^ 9 * abs_diff seen real ≤ rho * real + 2 * grain * 10 ^ 9
+    → seen < 2 ^ 32
+step_of rho grain real seen one slow fine measured =
+    let m : 10 ^ 9 * abs_diff seen 1 ≤ rho * 1 + 2 * grain * 10 ^ 9 = subst (λ (r : ℕ). 10 ^ 9 * abs_diff seen r ≤ rho * r + 2 * grain * 10 ^ 9) one measured in
+    omega (arith, m, slow, fine)
+
 pub reads_on : AlwaysKeepsClockLaws fresh_segment stepped_segment segment_reading
     → AlwaysBeginsAtZero fresh_segment stepped_segment segment_reading → ClocksReadOn
 reads_on laws begins network all device range within begun =
@@ -38,6 +45,10 @@ reads_on laws begins network all device range within begun =
     record {
       begins = begins grain steps;
       never_falls = keeps.never_falls;
+      step = λ t.
+          let r = clock_reading network all device in
+          let seen = step_of network.rho grain ((t + 1) - t) (r (t + 1) - r t) (omega arith) range.rho fine (keeps.drifts t (t + 1) (omega arith)) in
+          omega (arith, seen);
       bound = λ t le.
           let r = clock_reading network all device in
           let drift = keeps.drifts 0 t (omega arith) in

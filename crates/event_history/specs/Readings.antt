@@ -1,5 +1,5 @@
 -- What the clocks read under events.
-use Rattle.std.specs.Prelude.{◌≡◌, ℕ, ◌+◌, ◌^◌, ◌≤◌, ◌≤ℤ◌, pos, List, All}
+use Rattle.std.specs.Prelude.{◌≡◌, ℕ, ◌+◌, ◌^◌, ◌<◌, ◌≤◌, ◌≤ℤ◌, pos, List, All}
 use Rattle.drift_clock.specs.Readings.{reading_at}
 use Rattle.drift_clock.specs.Segment.{fresh_segment, stepped_segment, segment_reading}
 use Rattle.net_plan.specs.Ranges.{IsInRange}
@@ -24,11 +24,13 @@ scenario_under network events = record { network = network; reading = clock_read
 abbrev pub HaveBegun : List Event → Type 0
 HaveBegun events = All (λ e. pos 0 ≤ℤ e.time.0) events
 
--- the reading begins at 0, never falls, and stays within its bound up to 2^60
+-- the reading begins at 0, never falls, stays within its bound up to 2^60, and goes on by less than a cycle in a unit
+-- of time
 pub record ReadsOn (reading : ℕ → ℕ) : Type 0 where
   pub begins : reading 0 ≡ 0
   pub never_falls : (s t : ℕ) → s ≤ t → reading s ≤ reading t
   pub bound : (t : ℕ) → t ≤ 2 ^ 60 → reading t ≤ 2 ^ 60 + 2 ^ 51
+  pub step : (t : ℕ) → reading (t + 1) < reading t + 2 ^ 32
 
 -- under events within the hypothesis each clock of a network in range reads on
 abbrev pub ClocksReadOn : Type 0

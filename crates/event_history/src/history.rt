@@ -1,11 +1,11 @@
-ghost use Rattle.std.specs.Prelude.{◌≡◌, ◌≤◌, ◌^◌, ◌*◌, pos, ◌≤ℤ◌, unsigned_abs, [], ◌∷◌, ◌++◌, List, length, IfOk};
+ghost use Rattle.std.specs.Prelude.{◌≡◌, ◌≤◌, ◌^◌, ◌*◌, pos, ◌≤ℤ◌, unsigned_abs, [], ◌∷◌, ◌++◌, ℕ, List, length, IfOk};
 ghost use Rattle.std.specs.Prelude.{if◌then◌else◌};
 ghost use Rattle.std.specs.List.{All};
 ghost use Rattle.event_history.specs.Beginnings.{AreWaysOf, IsReadyFor, IsSought, IsUntouchedDevice, IsUntouchedWay};
 ghost use Rattle.event_history.specs.Reaches.{IsFirstReach};
 ghost use Rattle.event_history.specs.Readings.{clock_reading, scenario_under};
 ghost use Rattle.event_history.specs.Remembering.{IsAdded, MayBeAdded, MayBefall, Remembers, RemembersSome, has_come};
-ghost use Rattle.event_history.specs.Remembering.{way_place};
+ghost use Rattle.event_history.specs.Remembering.{is_at, way_place};
 ghost use Rattle.net_plan.specs.Belonging.{HasDevice, HasLink};
 ghost use Rattle.net_plan.specs.Ranges.{IsInRange};
 ghost use Rattle.net_plan.specs.declared.event.Event.{Event as EventValue};
@@ -163,6 +163,24 @@ impl EventHistory {
             Some(told) => told.turned_on == Some(time),
             None => false,
         }
+    }
+
+    /// When the device breaks.
+    pub fn broken_from(&self, device: DeviceId) -> Option<u64>
+        ensures { (network : NetworkValue) (befallen : List EventValue)
+            → Remembers network befallen self.now → HasDevice network device
+            → (time : ℕ) → is_broken (scenario_under network befallen) device time ≡ has_come result time }
+    {
+        self.devices.get(device.0 as usize)?.broken
+    }
+
+    /// When the device is turned on.
+    pub fn turned_on_at(&self, device: DeviceId) -> Option<u64>
+        ensures { (network : NetworkValue) (befallen : List EventValue)
+            → Remembers network befallen self.now → HasDevice network device
+            → (time : ℕ) → is_turned_on_at (scenario_under network befallen) device time ≡ is_at result time }
+    {
+        self.devices.get(device.0 as usize)?.turned_on
     }
 
     /// What the clock of the device reads at a time up to 2^60.

@@ -10,3 +10,4 @@ pub mod Kept
 pub mod KeptAll
 pub mod Reading
 pub mod Takes
+pub mod Lasting

@@ -1,4 +1,4 @@
-ghost use Rattle.std.specs.Prelude.{◌≡◌, ◌∷◌, ◌++◌, [], List, is_ok, if◌then◌else◌, OnOk};
+ghost use Rattle.std.specs.Prelude.{◌≡◌, ◌∷◌, ◌++◌, ◌<◌, [], List, is_ok, if◌then◌else◌, IfSome, OnOk};
 ghost use Rattle.net_plan.specs.Ranges.{IsInRange};
 
 use crate::{Carried, Mark, Readings, Shown};
@@ -23,6 +23,7 @@ pub(crate) struct History {
 impl History {
     ghost use Rattle.record_history.specs.Following.{IsMet};
     ghost use Rattle.record_history.specs.Keeping.{IsInOrder, Keeps, latest_of, shown_before};
+    ghost use Rattle.record_history.specs.Lasting.{Lasts};
     ghost use Rattle.run_law.specs.records.Causes.{device_of};
     ghost use Rattle.run_law.specs.records.Happenings.{Happening};
     ghost use Rattle.run_law.specs.records.Order.{AllBefore};
@@ -93,6 +94,19 @@ impl History {
         match front.last() {
             Some(entry) => &entry.shown,
             None => &self.first,
+        }
+    }
+    /// The time of the first entry that is later than this time. Up to then the same is shown.
+    pub(crate) fn next_after(&self, time: u64) -> Option<u64>
+        ensures later { IsInOrder self.now → IfSome result (λ next. time < next) }
+        ensures lasts { IsInOrder self.now → Lasts self.now time result }
+    {
+        let point = self
+            .entries
+            .partition_point(|entry| entry.mark.time() <= time);
+        match self.entries.get(point) {
+            Some(entry) => Some(entry.mark.time()),
+            None => None,
         }
     }
 }

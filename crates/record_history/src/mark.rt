@@ -22,10 +22,11 @@ pub struct Mark {
 
 impl Mark {
     ghost use Rattle.net_plan.specs.declared.ids.DeviceId.{DeviceId};
+    ghost use Rattle.pcf_values.specs.declared.members.Members.{Members as MembersValue};
     ghost use Rattle.record_history.specs.Marks.{IsMarkOf, is_mark_before, mark_at, mark_with};
     ghost use Rattle.run_law.specs.declared.judgement.Judgement.{Judgement};
-    ghost use Rattle.run_law.specs.declared.note.NoteBody.TheVariants.{Permanent};
-    ghost use Rattle.run_law.specs.records.Ranks.{place_at};
+    ghost use Rattle.run_law.specs.declared.note.NoteBody.TheVariants.{Compressed, Permanent};
+    ghost use Rattle.run_law.specs.records.Ranks.{place_at, sign};
 
     /// The mark of a record of this time and body, whose frame has these members.
     pub fn of(time: u64, members: Members, body: &NoteBody) -> Mark
@@ -46,16 +47,7 @@ impl Mark {
                 cycle,
                 members: of_masters,
                 ..
-            } => Mark {
-                time,
-                rank: 4,
-                first: opened.0.unsigned_abs(),
-                second: at.0.unsigned_abs(),
-                third: u64::from(*cycle),
-                fourth: u64::from(of_masters.0),
-                fifth: sign(*opened),
-                sixth: sign(*at),
-            },
+            } => Mark::of_emission(time, *opened, *at, *cycle, u64::from(of_masters.0)),
             NoteBody::Sent { cycle, .. } => Mark::with(time, 5, u64::from(*cycle), 0),
             NoteBody::Corrected { .. } => Mark::with(time, 6, 0, 0),
             NoteBody::State { cause, .. } => Mark::with(time, 7, *cause, 0),
@@ -112,6 +104,31 @@ impl Mark {
             fourth: cause,
             ..Mark::with(time, 3, point.0.unsigned_abs(), u64::from(members.0))
         }
+    }
+
+    /// The mark of an emission at the time. The members may be more than 32 bits.
+    pub fn of_emission(time: u64, opened: Units, at: Units, cycle: u32, members: u64) -> Mark
+        ensures value { result
+            ≡ mark_with time 4 (amount opened) (amount at) cycle members (sign opened.0) (sign at.0) }
+        ensures place { (device : DeviceId) (of_masters : MembersValue) (verdict : Judgement) → of_masters.0 ≡ members
+            → IsMarkOf device result (place_at time 0 (Compressed device opened at cycle of_masters verdict)) }
+    {
+        Mark {
+            time,
+            rank: 4,
+            first: opened.0.unsigned_abs(),
+            second: at.0.unsigned_abs(),
+            third: u64::from(cycle),
+            fourth: members,
+            fifth: sign(opened),
+            sixth: sign(at),
+        }
+    }
+
+    pub fn time(&self) -> u64
+        ensures { result ≡ self.now.time }
+    {
+        self.time
     }
 
     /// Whether it is before the other.

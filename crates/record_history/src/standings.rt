@@ -1,4 +1,4 @@
-ghost use Rattle.std.specs.Prelude.{◌≡◌, ◌<◌, ◌∷◌, ◌++◌, [], List, IfOk, OnOk, Some, ℕ, length};
+ghost use Rattle.std.specs.Prelude.{◌≡◌, ◌<◌, ◌-◌, ◌^◌, ◌∷◌, ◌++◌, [], List, IfOk, IfSome, OnOk, Some, ℕ, length};
 ghost use Rattle.net_plan.specs.Ranges.{IsInRange};
 
 use crate::history::History;
@@ -19,6 +19,7 @@ pub struct Standings {
 impl Standings {
     ghost use Rattle.net_plan.specs.declared.ids.DeviceId.{DeviceId};
     ghost use Rattle.record_history.specs.Keeping.{IsSeen, Stands, device_count, records_before};
+    ghost use Rattle.record_history.specs.Lasting.{ShowsUpTo};
     ghost use Rattle.record_history.specs.Marks.{IsMarkOf};
     ghost use Rattle.record_history.specs.Showing.{IsSteady, Shows};
     ghost use Rattle.run_law.specs.declared.judgement.Judgement.{Judgement};
@@ -92,6 +93,23 @@ impl Standings {
             → Shows s (earlier time hs) device result.now }
     {
         self.before(device, &Mark::at_time(time))
+    }
+
+    /// What the records of earlier times show of the device at the times later than this one, up to that of the next
+    /// record that shows something of it, and this time.
+    pub fn after_time(&self, device: DeviceId, time: u64) -> (&Shown, Option<u64>)
+        requires device { device.0 < device_count self.now }
+        requires limit { time < 2 ^ 64 - 1 }
+        ensures later { (s : Scenario) (hs : List Happening) → Stands s hs self.now
+            → IfSome result.1 (λ next. time < next) }
+        ensures shows { (s : Scenario) (hs : List Happening) → Stands s hs self.now
+            → ShowsUpTo s hs device time result.1 result.0.now }
+    {
+        let history = &self.histories[device.0 as usize];
+        (
+            history.before(&Mark::at_time(time + 1)),
+            history.next_after(time),
+        )
     }
 
     /// What the records show of the device that are of earlier times, or of this one and of a lower rank.

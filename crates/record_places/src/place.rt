@@ -1,11 +1,14 @@
 ghost use Rattle.std.specs.Prelude.{◌≡◌, ◌↔◌, ℕ, [], ◌∷◌, IsTrue};
+ghost use Rattle.pcf_values.specs.declared.members.Members.{Members as MembersValue};
 ghost use Rattle.run_law.specs.declared.judgement.Judgement.{Judgement};
+ghost use Rattle.run_law.specs.declared.judgement.Why.{Why};
 ghost use Rattle.run_law.specs.declared.note.NoteBody.TheVariants as notes;
 ghost use Rattle.run_law.specs.records.Order.{is_before};
 ghost use Rattle.run_law.specs.records.Ranks.{place_at, sign};
+ghost use Rattle.sync_state.specs.declared.state.State.{State};
+ghost use Rattle.tte_units.specs.declared.units.Units.{Units as UnitsValue};
 
 use net_plan::{DeviceId, LinkId, VlId};
-use pcf_values::Members;
 use run_law::NoteBody;
 use std::marker::Model;
 use tte_units::Units;
@@ -77,7 +80,7 @@ impl Place {
                 cycle,
                 members,
                 ..
-            } => { Place::of_emission(time, *device, *opened, *at, *cycle, *members) }
+            } => { Place::of_emission(time, *device, *opened, *at, *cycle, u64::from(members.0)) }
             NoteBody::Sent { device, cycle } => Place::by_two(time, 5, *device, u64::from(*cycle)),
             NoteBody::Corrected { device, .. } => Place::by_one(time, 6, u64::from(device.0)),
             NoteBody::State { device, cause, .. } => Place::by_two(time, 7, *device, *cause),
@@ -98,7 +101,7 @@ impl Place {
                 cause,
                 vl,
                 cycle,
-            } => { Place::of_dispatch(time, *device, *link, *cause, *vl, *cycle) }
+            } => { Place::of_dispatch(time, *device, *link, *cause, *vl, u64::from(*cycle)) }
             NoteBody::Accepted {
                 device,
                 link,
@@ -149,17 +152,17 @@ impl Place {
         }
     }
 
-    /// That of an emission of a compression master.
+    /// That of an emission of a compression master. The members may be more than 32 bits.
     pub fn of_emission(
         time: u64,
         device: DeviceId,
         opened: Units,
         at: Units,
         cycle: u32,
-        members: Members,
+        members: u64,
     ) -> Place
-        ensures { (of_frame : ℕ) (verdict : Judgement)
-            → result ≡ place_at time of_frame (notes.Compressed device opened at cycle members verdict) }
+        ensures { (of_frame : ℕ) (of_masters : MembersValue) (verdict : Judgement) → of_masters.0 ≡ members
+            → result ≡ place_at time of_frame (notes.Compressed device opened at cycle of_masters verdict) }
     {
         Place {
             numbers: [
@@ -169,7 +172,7 @@ impl Place {
                 opened.0.unsigned_abs(),
                 at.0.unsigned_abs(),
                 u64::from(cycle),
-                u64::from(members.0),
+                members,
                 sign(opened),
                 sign(at),
             ],
@@ -177,16 +180,46 @@ impl Place {
         }
     }
 
-    /// That of the dispatch of a row's frame.
-    fn of_dispatch(
+    /// That of the record that the device sends its frame of the cycle.
+    pub fn of_sending(time: u64, device: DeviceId, cycle: u64) -> Place
+        ensures { (members : ℕ) → result ≡ place_at time members (notes.Sent device cycle) }
+    {
+        Place::by_two(time, 5, device, cycle)
+    }
+
+    /// That of the record of a correction of the device's clock.
+    pub fn of_correction(time: u64, device: DeviceId) -> Place
+        ensures { (members cycle : ℕ) (by adjustment : UnitsValue)
+            → result ≡ place_at time members (notes.Corrected device cycle by adjustment) }
+    {
+        Place::by_one(time, 6, u64::from(device.0))
+    }
+
+    /// That of the record of a change of the device's state that comes from no record.
+    pub fn of_clique(time: u64, device: DeviceId) -> Place
+        ensures { (members : ℕ) (state : State) (why : Why)
+            → result ≡ place_at time members (notes.State device state 0 why) }
+    {
+        Place::by_two(time, 7, device, 0)
+    }
+
+    /// That of the record that a frame is lost on the device's way on the link.
+    pub fn of_loss(time: u64, device: DeviceId, link: LinkId, cause: u64) -> Place
+        ensures { (members : ℕ) → result ≡ place_at time members (notes.Lost device link cause) }
+    {
+        Place::by_cause(time, 9, device, link, cause)
+    }
+
+    /// That of the record that the device dispatches a row's frame of the cycle on the link.
+    pub fn of_dispatch(
         time: u64,
         device: DeviceId,
         link: LinkId,
         cause: u64,
         vl: VlId,
-        cycle: u32,
+        cycle: u64,
     ) -> Place
-        ensures { result ≡ time ∷ 10 ∷ device.0 ∷ link.0 ∷ cause ∷ vl.0 ∷ cycle ∷ [] }
+        ensures { (members : ℕ) → result ≡ place_at time members (notes.TtSent device link cause vl cycle) }
     {
         Place {
             numbers: [
@@ -196,7 +229,7 @@ impl Place {
                 u64::from(link.0),
                 cause,
                 u64::from(vl.0),
-                u64::from(cycle),
+                cycle,
                 0,
                 0,
             ],

@@ -28,7 +28,7 @@ use Rattle.run_law.specs.records.Ranks.{members_in, place_of}
 use Rattle.run_law.specs.scenario.Devices.{is_cm}
 use Rattle.stretch_history.proofs.Turning.{IsQuiet, points_ended, points_given, points_quiet}
 use Rattle.stretch_history.specs.Changes.{change_by, collector_in}
-use Rattle.stretch_history.specs.Keeping.{IsOfRecord, Keeps, KeepsAll, StandsFor, Stretches, entry_before}
+use Rattle.stretch_history.specs.Keeping.{IsOfRecord, Keeps, KeepsAll, StandsFor, StandsForSome, Stretches, entry_before}
 use Rattle.stretch_history.specs.Points.{MayBring, points_with}
 use Rattle.stretch_history.specs.declared.change.Change.TheVariants.{Ends, Gives}
 use Rattle.stretch_history.specs.declared.change.Change.{Change}
@@ -56,6 +56,7 @@ kept_still network hs d h kept quiet keeps = record {
       let old = keeps.marks e i in
       record { h = old.h; there = in_left old.h hs (h ∷ []) old.there; of_device = old.of_device; mark = old.mark };
   order = keeps.order;
+  each = keeps.each;
 }
   where
     by_place : (place : List ℕ) (mark : Mark) → StandsFor kept.collections (entry_before mark kept.entries) (points_of (records_before place hs) d)
@@ -99,6 +100,7 @@ kept_on network hs d h old new g all of goes keeps = record {
   order = λ mark.
       let test : Entry → Bool = λ e. is_mark_before e.mark mark in
       subst (IsPartitionedBy test) (sym goes.entries) (parted_on test old.entries (entry_of h g) (keeps.order mark) (ordered mark));
+  each = λ e i. stands_still e (in_parts e old.entries (entry_of h g ∷ []) (subst (IsIn e) goes.entries i));
 }
   where
     by_place : (place : List ℕ) (mark : Mark) → IsMarkOf d mark place → (b : Bool) → is_before (place_of h) place ≡ b
@@ -133,6 +135,11 @@ kept_on network hs d h old new g all of goes keeps = record {
       mark = ap (λ (x : Entry). x.mark) same;
     }
     by_entry e (inr (inr none)) = absurd none
+
+    stands_still : (e : Entry) → IsIn e old.entries ⊎ IsIn e (entry_of h g ∷ []) → StandsForSome new.collections e
+    stands_still e (inl there) = let were = keeps.each e there in (were.0, goes.kept e.gathering were.0 were.1)
+    stands_still e (inr (inl same)) = subst (StandsForSome new.collections) (sym same) (points_of (hs ++ h ∷ []) d, goes.gathers)
+    stands_still e (inr (inr none)) = absurd none
 
     ordered : (mark : Mark) → is_mark_before (mark_of h) mark ≡ true → (y : Entry) → IsIn y old.entries → is_mark_before y.mark mark ≡ true
     ordered mark passes y i =

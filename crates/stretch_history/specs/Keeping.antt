@@ -37,6 +37,10 @@ abbrev pub StandsFor : History → Option Entry → List Point → Type 0
 StandsFor collections None points = points ≡ []
 StandsFor collections (Some e) points = Gathers collections e.gathering points
 
+-- the entry's gathering stands for some points
+abbrev pub StandsForSome : History → Entry → Type 0
+StandsForSome collections e = (points : List Point) × Gathers collections e.gathering points
+
 -- the entry is at the mark of one of the device's records
 pub record IsOfRecord (hs : List Happening) (device : DeviceId) (e : Entry) : Type 0 where
   pub h : Happening
@@ -57,6 +61,7 @@ pub record Keeps (network : Network) (hs : List Happening) (device : DeviceId) (
       → StandsFor kept.collections (entry_before mark kept.entries) (points_of (records_before place hs) device)
   pub marks : (e : Entry) → IsIn e kept.entries → IsOfRecord hs device e
   pub order : IsInOrder kept.entries
+  pub each : (e : Entry) → IsIn e kept.entries → StandsForSome kept.collections e
 
 -- the stretches of each compression master are kept
 abbrev pub KeepsAll : Network → List Happening → List Stretches → Type 0

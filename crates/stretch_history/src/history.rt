@@ -1,4 +1,4 @@
-ghost use Rattle.std.specs.Prelude.{◌≡◌, ◌<◌, ◌∷◌, ◌++◌, [], List, IfOk, OnOk, Some, length, true};
+ghost use Rattle.std.specs.Prelude.{◌≡◌, ◌<◌, ◌∷◌, ◌++◌, [], List, IfOk, OnOk, Some, length, slice_get, true};
 ghost use Rattle.net_plan.specs.Ranges.{IsInRange};
 ghost use Rattle.net_plan.specs.declared.network.Network as networks;
 ghost use Rattle.record_history.specs.Keeping.{records_before};
@@ -9,8 +9,9 @@ ghost use Rattle.run_law.specs.records.Happenings.{Happening};
 ghost use Rattle.run_law.specs.records.Order.{AllBefore};
 ghost use Rattle.run_law.specs.records.Ranks.{place_of};
 ghost use Rattle.run_law.specs.scenario.Devices.{is_cm};
-ghost use Rattle.stretch_history.specs.Keeping.{IsRecord};
-ghost use Rattle.stretch_history.specs.Standing.{Stands, device_count};
+ghost use Rattle.stretch_history.specs.Keeping.{IsRecord, Stretches};
+ghost use Rattle.stretch_history.specs.Standing.{IsBehind, Stands, device_count, kept_of};
+ghost use Rattle.stretch_history.specs.declared.kept.Entry.{Entry};
 ghost use Rattle.stretch_history.specs.Points.{HasPoints, MayStand};
 
 use crate::Stretch;
@@ -104,6 +105,31 @@ impl StretchHistory {
             device,
             &Mark::of_permanence(time, frame.members, link, cause, point),
         )
+    }
+
+    /// How many records so far changed the stretch of a device.
+    pub fn changes(&self, device: DeviceId) -> usize
+        requires { device.0 < device_count self.now }
+        ensures { (kept : Stretches) → kept_of self.now device ≡ Some kept → result ≡ length kept.entries }
+    {
+        self.kept[device.0 as usize].entries.len()
+    }
+
+    /// The time of one of these records, in their order, and the stretch behind it.
+    pub fn changed(&self, device: DeviceId, place: usize) -> (u64, Stretch<'_>)
+        requires device { device.0 < device_count self.now }
+        requires place { (kept : Stretches) → kept_of self.now device ≡ Some kept → place < length kept.entries }
+        ensures { (kept : Stretches) (e : Entry) → kept_of self.now device ≡ Some kept
+            → slice_get kept.entries place ≡ Some e
+            → IsBehind kept e result.0 result.1.collections.now result.1.gathering }
+    {
+        let kept = &self.kept[device.0 as usize];
+        let entry = &kept.entries[place];
+        let stretch = Stretch {
+            collections: &kept.collections,
+            gathering: entry.gathering,
+        };
+        (entry.mark.time(), stretch)
     }
 
     /// The stretch of a compression master behind all records so far.

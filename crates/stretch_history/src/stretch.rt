@@ -1,4 +1,4 @@
-ghost use Rattle.std.specs.Prelude.{◌≡◌, ◌↔◌, List, IsTrue, length, slice_get};
+ghost use Rattle.std.specs.Prelude.{◌≡◌, ◌↔◌, List, Contains, IsTrue, length, slice_get};
 ghost use Rattle.compression.specs.Clusters.{AreClusters, Cluster, Point, point_at};
 ghost use Rattle.net_plan.specs.declared.network.Network as networks;
 ghost use Rattle.run_law.specs.control.Collections.{IsCollectedAs, master_of, observation_window};
@@ -10,6 +10,7 @@ use pcf_values::Members;
 use tte_units::Units;
 
 /// The stretch of a compression master at a place of the order.
+#[derive(Clone, Copy)]
 pub struct Stretch<'a> {
     pub(crate) collections: &'a CollectionHistory,
     pub(crate) gathering: Gathering,
@@ -36,6 +37,21 @@ impl Stretch<'_> {
             → IsTrue result ↔ IsSentFor network points sent.now }
     {
         self.collections.sends(&self.gathering, sent)
+    }
+
+    /// Whether this is what is emitted for a cluster of the stretch. The stretch is that of some points.
+    pub fn emits(&self, emitted: &Emitted) -> bool
+        requires { (network : networks.Network) × (points : List Point)
+            × HasPoints network points self.now.collections.now self.now.gathering }
+        ensures { (network : networks.Network) (points : List Point) (clusters : List Cluster)
+            → HasPoints network points self.now.collections.now self.now.gathering
+            → AreClusters (observation_window network) points clusters
+            → IsTrue result ↔ Contains (emissions_for network clusters) emitted.now }
+    {
+        match self.collections.opened_at(&self.gathering, emitted.opened) {
+            Some(found) => found == *emitted,
+            None => false,
+        }
     }
 
     /// How many clusters the stretch has.

@@ -1,4 +1,4 @@
-use Rattle.std.proofs.Common.{ℕ, ℤ, inl, inr, ◌<ℤ◌, Option, Some, None, pos, sym, subst, ap, ◌∙◌, ◌≡◌, rules, arith}
+use Rattle.std.proofs.Common.{ℕ, ℤ, inl, inr, ◌^◌, ◌<ℤ◌, ◌≤ℤ◌, Option, Some, None, pos, sym, subst, ap, ◌∙◌, ◌≡◌, rules, arith}
 use Rattle.std.specs.Prelude.{◌-ℤ◌, ◌+ℤ◌}
 use Rattle.std.specs.Int.{w128}
 use Rattle.std.proofs.lemmas.Int.{ints, to_z-of_z}
@@ -31,6 +31,11 @@ returns-in-Some-clause-is c network befallen remembers has =
       behind = subst (λ (z : ℤ). z <ℤ value_in c.args.series number) same c.number_behind-number.ensures.behind;
       least = λ n lt. c.number_behind-number.ensures.least n (subst (λ (z : ℤ). z <ℤ value_in c.args.series n) (sym same) lt);
     } in
+    let small : (pos (reading c.args.after) +ℤ c.args.shown.now.adjustment) ≤ℤ pos (2 ^ 82) =
+    let most = c.local.ensures.most in
+    let here = to_z-of_z w128 c.local.result (search rules) ∙ c.local.ensures.value
+    ∙ ap (λ (n : ℕ). pos n +ℤ c.args.shown.now.adjustment) (c.reading.ensures network befallen remembers has) in
+    omega (arith, ints, most, here) in
     let sought = c.reading_for-sought.result in
     let same : sought ≡ (value_in c.args.series number -ℤ c.args.shown.now.adjustment) =
     c.reading_for-sought.ensures
@@ -39,7 +44,7 @@ returns-in-Some-clause-is c network befallen remembers has =
     subst (λ (o : Option ℕ). IsFirstReach reading c.args.after sought c.args.until o) c.in-Some.is
     (subst (λ (z : ℤ). IsFirstReach reading c.args.after z c.args.until c.reach.result) (to_z-of_z w128 sought (search rules))
     (c.reach.ensures network befallen remembers has)) in
-    next_crossed reading c.args.shown.now c.args.series c.args.after c.args.until number passed sought c.in-Some.time on is behind same found.0 found.1
+    next_crossed reading c.args.shown.now c.args.series c.args.after c.args.until number passed sought c.in-Some.time on is behind same found.0 found.1 c.requires.limit small
 
 pub returns-in-None-clause-is : goal.returns-in-None-clause-is
 returns-in-None-clause-is c network befallen remembers has =
