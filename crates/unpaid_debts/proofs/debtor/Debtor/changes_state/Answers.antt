@@ -1,0 +1,41 @@
+use Rattle.std.proofs.Common.{◌≡◌, sym, ap, subst, ◌∙◌}
+use Rattle.kept_records.proofs.Bodies.{corrected_body, on_body}
+use Rattle.kept_records.specs.Keeping.{kept_of}
+use Rattle.kept_records.specs.declared.kept.Kept.TheVariants as kepts
+use Rattle.kept_records.specs.declared.kept.KeptRecord.{KeptRecord}
+use Rattle.run_law.proofs.law.FirstPlaces.{numbered_in}
+use Rattle.run_law.specs.device.States.{state_before}
+use Rattle.run_law.specs.records.Happenings.{time_of}
+use Rattle.run_law.specs.scenario.Scenarios.{is_broken}
+use Rattle.unpaid_debts.proofs.PaidChanges.{Brings, brought_change, change_brought}
+use Rattle.unpaid_debts.proofs.Payers.{false_of_not, not_of_false}
+use Rattle.unpaid_debts.specs.Debtors.{device_named, scenario_of}
+use Rattle.unpaid_debts.proofs.debtor.Debtor.changes_state.Goals as goal
+
+pub returns-in-On : goal.returns-in-On
+returns-in-On c befallen hs number h known there kept =
+    let s = scenario_of c.args.self.now befallen in
+    let device = c.in-On.device in
+    let is : kept_of h.note.body ≡ kepts.On device = sym (ap (λ (r : KeptRecord). r.kept) kept) ∙ c.in-On.is in
+    let body = on_body h.note.body device is in
+    let has = known.devices h device (numbered_in hs number h there) (ap device_named body.1) in
+    let broken : c.is_broken.result ≡ is_broken s device (time_of h) = c.is_broken.ensures c.args.self.now.network.now befallen known.remembers has
+    ∙ ap (λ (r : KeptRecord). is_broken s device r.time) kept in (
+      λ yes. brought_change s hs number h there _ body.1 (sym broken ∙ false_of_not c.is_broken.result yes),
+      λ change.
+          not_of_false c.is_broken.result
+          (broken ∙ subst (Brings s hs (time_of h)) body.1 (change_brought s hs number (time_of h) h there change)),
+    )
+
+pub returns-in-Corrected : goal.returns-in-Corrected
+returns-in-Corrected c befallen hs number h known there kept =
+    let s = scenario_of c.args.self.now befallen in
+    let device = c.in-Corrected.device in
+    let is : kept_of h.note.body ≡ kepts.Corrected device = sym (ap (λ (r : KeptRecord). r.kept) kept) ∙ c.in-Corrected.is in
+    let body = corrected_body h.note.body device is in
+    let has = known.devices h device (numbered_in hs number h there) (ap device_named body.3) in
+    let joining = c.is_joining.ensures befallen hs known has in
+    let state = ap (λ (r : KeptRecord). state_before s hs device r.time) kept in (
+      λ yes. brought_change s hs number h there _ body.3 (sym state ∙ joining.0 yes),
+      λ change. joining.1 (state ∙ subst (Brings s hs (time_of h)) body.3 (change_brought s hs number (time_of h) h there change)),
+    )

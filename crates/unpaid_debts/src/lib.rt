@@ -1,0 +1,20 @@
+//! The first times at which debts of a report that records bring are not paid.
+#![tactic(auto)]
+
+mod arrivals;
+mod changes;
+mod clocks;
+mod debtor;
+mod departures;
+mod earliest;
+mod losses;
+mod paid;
+mod payments;
+mod permanences;
+
+pub use debtor::Debtor;
+pub use paid::Paid;
+pub use payments::Payments;
+
+#[cfg(test)]
+mod tests;
