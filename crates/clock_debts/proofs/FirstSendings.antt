@@ -1,0 +1,65 @@
+-- The first of all sendings that are not paid.
+use Rattle.std.proofs.Common.{◌≡◌, ℕ, zero, suc, ◌+◌, ◌<◌, ◌≤◌, true, false, List, [], ◌∷◌, length, inl, inr, refl, sym, ap, subst, Option, Some, None, ◌∙◌, slice_get, arith}
+use Rattle.std.proofs.lemmas.Bool.{cases_lt}
+use Rattle.std.specs.Option.{option_map_or}
+use Rattle.audit_law.specs.Debts.{IsPaid}
+use Rattle.audit_law.specs.Dispatched.{OwesSending, Sending, TellsSending}
+use Rattle.audit_law.specs.FirstDebts.{TellsFirst}
+use Rattle.audit_law.specs.Owed as debts
+use Rattle.audit_law.specs.Owed.{Pays}
+use Rattle.net_plan.specs.Places.{device_at, is_master}
+use Rattle.net_plan.specs.declared.ids.DeviceId.{DeviceId}
+use Rattle.net_plan.specs.declared.tables.Device.{Device}
+use Rattle.net_plan.specs.declared.network.Network.{Network}
+use Rattle.run_law.specs.records.Happenings.{Happening}
+use Rattle.run_law.specs.scenario.Devices.{has_role}
+use Rattle.run_law.specs.scenario.Scenarios.{Scenario}
+use Rattle.run_law.specs.timed.Dispatching.{Sends}
+use Rattle.clock_debts.specs.FirstUnpaid.{ArePaid, IsFirstAmong, TellsFirstAmong}
+use Rattle.clock_debts.specs.Sent.{IsSent, sending_of}
+use Rattle.clock_debts.proofs.Sendings.{none_at_first}
+
+pub none_past : {X : Type 0} (xs : List X) (i : ℕ) → length xs ≤ i → slice_get xs i ≡ None
+none_past [] i le = refl
+none_past (x ∷ xs) zero le = absurd (omega (arith, le))
+none_past (x ∷ xs) (suc i) le = none_past xs i (omega (arith, le))
+
+-- a master is a device of the network
+master_there : (network : Network) (device : DeviceId) → has_role network is_master device ≡ true → device.0 < length network.device
+master_there network device master =
+    elim (cases_lt device.0 (length network.device)) [
+      | inl lt ↦ lt
+      | inr le ↦
+          let none : has_role network is_master device ≡ false =
+          ap (λ (o : Option Device). option_map_or (λ d. is_master d.role) o false) (none_past network.device device.0 le) in
+          absurd cc
+    ]
+
+paid_as : (s : Scenario) (hs : List Happening) (o : Sending) → IsSent s hs o.device o.time o.cycle → IsPaid hs (Pays s) (debts.sending o)
+paid_as s hs o sent = (sent.0, sent.1, record { at = sent.2.at; says = sent.2.says })
+
+sent_as : (s : Scenario) (hs : List Happening) (o : Sending) → IsPaid hs (Pays s) (debts.sending o) → IsSent s hs o.device o.time o.cycle
+sent_as s hs o paid = (paid.0, paid.1, record { at = paid.2.at; says = paid.2.says })
+
+pub first_sending : (s : Scenario) (hs : List Happening) (until count : ℕ) (r : Option ℕ) → count ≡ length s.network.device
+    → TellsFirstAmong (Sends s hs) (IsSent s hs) until count r → TellsFirst s hs until (λ (o : Sending). debts.sending o) r
+first_sending s hs until count None all told = λ o owed.
+    let sends = owed.sends in
+    let there = master_there s.network o.device sends.master in
+    let timely = owed.timely in
+    paid_as s hs o (told o.device (omega (arith, there, all)) o.time o.cycle (none_at_first s hs o.device o.time o.cycle sends) (omega (arith, timely)) sends)
+first_sending s hs until count (Some t) all told = record {
+  debt = sending_of told.device t told.first.what;
+  owed = record { sends = told.first.owes; timely = told.first.timely };
+  unpaid = told.first.unpaid;
+  at = refl;
+  first = λ o owed unpaid.
+      elim (cases_lt o.time t) [
+        | inl less ↦
+            let sends = owed.sends in
+            let there = master_there s.network o.device sends.master in
+            absurd (unpaid (paid_as s hs o (told.paid_before o.device (omega (arith, there, all)) o.time o.cycle
+            (none_at_first s hs o.device o.time o.cycle sends) less sends)))
+        | inr more ↦ more
+      ];
+}

@@ -1,0 +1,234 @@
+-- A correction point, judged by the records up to its time and by those of a lower rank than corrections.
+use Rattle.std.proofs.Common.{◌≡◌, ℕ, ◌+◌, ◌-◌, ◌<◌, ◌≤◌, ℤ, pos, Bool, true, false, List, [], ◌∷◌, ◌++◌, filter, Option, Some, None, inl, inr, refl, sym, ap, subst, ◌∙◌, arith, if◌then◌else◌}
+use Rattle.std.proofs.lemmas.Bool.{cases_lt, eqb-true, false≢true, lt-ltb, ltb-true}
+use Rattle.std.proofs.lemmas.List.{append-nil}
+use Rattle.std.proofs.lemmas.List.Elements.{filter-append}
+use Rattle.std.specs.Prelude.{◌↔◌, ◌==◌, nat_le, nat_lt, MatchBool}
+use Rattle.audit_law.proofs.Correcting.{comes_by, late_earlier, late_heard, late_part}
+use Rattle.audit_law.proofs.LastParts.{all_kept}
+use Rattle.audit_law.proofs.Numbered.{founded_at}
+use Rattle.audit_law.specs.CorrectionNumbers.{ComesToPoint, heard_since_point, standing_at}
+use Rattle.audit_law.specs.DueRecords.{IsCaused, IsDue}
+use Rattle.compression.specs.Clusters.{Point}
+use Rattle.compression.specs.declared.taken.Taken.TheVariants as takings
+use Rattle.compression.specs.declared.taken.Taken.{Taken}
+use Rattle.net_plan.specs.declared.ids.DeviceId.{DeviceId}
+use Rattle.net_plan.specs.declared.network.Network.{Network}
+use Rattle.pcf_values.specs.declared.members.Members.{Members}
+use Rattle.pcf_values.specs.declared.pcf.Pcf.{Pcf}
+use Rattle.record_history.proofs.Kept.{before_is, is_there}
+use Rattle.record_history.specs.Keeping.{records_before}
+use Rattle.record_history.specs.Showing.{IsAfter, Shown, Shows}
+use Rattle.clock_judge.specs.Points.{IsHeard}
+use Rattle.membership.specs.Summary.{Summarizes, Summary}
+use Rattle.run_law.proofs.law.FirstPlaces.{IsSplit, none_kept, same_earlier}
+use Rattle.run_law.proofs.runs.Lacking.{behind_first}
+use Rattle.run_law.proofs.runs.Places.{chain, in_left, never_self}
+use Rattle.run_law.specs.control.Collections.{observation_window, ripe_by_role}
+use Rattle.run_law.specs.control.Hearing.{heard_as, heard_by_schedule}
+use Rattle.run_law.specs.control.Permanence.{IsCollectedOrDropped, IsPermanenceOutcome, before_permanence, ripe_as}
+use Rattle.run_law.specs.declared.judgement.Judgement.TheVariants.{Ignored, Integrates}
+use Rattle.run_law.specs.declared.judgement.Judgement.{Judgement}
+use Rattle.run_law.specs.declared.judgement.Reason.{Reason}
+use Rattle.run_law.specs.declared.note.NoteBody.TheVariants as notes
+use Rattle.run_law.specs.declared.note.NoteBody.{NoteBody}
+use Rattle.run_law.specs.declared.steps.Ripe.TheVariants as ripe
+use Rattle.run_law.specs.declared.steps.Ripe.{Ripe}
+use Rattle.run_law.specs.device.LocalClocks.{changes_adjustment}
+use Rattle.run_law.specs.device.States.{has_joined_at, is_joined_by, state_after, state_at_hearing, state_before}
+use Rattle.run_law.specs.records.Happenings.{Happening, earlier, time_of, up_to}
+use Rattle.run_law.specs.records.Order.{IsBefore, IsIn, is_before}
+use Rattle.run_law.specs.records.Ranks.{key, members_in, place_at, place_of, rank}
+use Rattle.run_law.specs.runs.Runs.{IsFounded}
+use Rattle.run_law.specs.scenario.Devices.{is_cm, plan_of}
+use Rattle.run_law.specs.scenario.Scenarios.{Scenario, is_turned_on_at}
+use Rattle.sync_state.specs.Standing.{next_point, point_in}
+use Rattle.sync_state.specs.declared.answers.Verdict.{Verdict}
+use Rattle.sync_state.specs.declared.plan.SyncPlan.{SyncPlan}
+use Rattle.sync_state.specs.declared.state.State.TheVariants.{Integrating, Joining, Off, Synchronised}
+use Rattle.sync_state.specs.declared.state.State.{State}
+use Rattle.tte_units.specs.Amount.{amount}
+use Rattle.tte_units.specs.declared.units.Units.{Units}
+
+-- ---- a frame tells the time to a device that looks for it
+
+enough_not : (b : Bool) → ripe.Integrates ≡ ripe_as (heard_by_schedule b) → ⊥
+enough_not true e = cc
+enough_not false e = cc
+
+looking_ripe : (plan : SyncPlan) (precision : ℤ) (state : State) (adjustment point : ℤ) (cycle : ℕ) (members : Members)
+    → ripe.Integrates ≡ ripe_as (heard_as plan precision state adjustment point cycle members) → state ≡ Integrating
+looking_ripe plan precision Off adjustment point cycle members e = absurd cc
+looking_ripe plan precision Integrating adjustment point cycle members e = refl
+looking_ripe plan precision Joining adjustment point cycle members e = absurd (enough_not _ e)
+looking_ripe plan precision Synchronised adjustment point cycle members e = absurd (enough_not _ e)
+
+role_not : (taken : Taken) → ripe.Integrates ≡ ripe_by_role taken → ⊥
+role_not takings.Opened e = cc
+role_not takings.Joined e = cc
+role_not takings.Repeat e = cc
+role_not takings.OtherCycle e = cc
+
+collected_not : (network : Network) (points : List Point) (p : Point) (fault : Option Reason) → IsCollectedOrDropped network points p fault ripe.Integrates → ⊥
+collected_not network points p None so = role_not so.taken so.becomes
+collected_not network points p (Some reason) so = cc
+
+looking_by : (b : Bool) (P : Type 0) (plan : SyncPlan) (precision : ℤ) (state : State) (adjustment point : ℤ) (cycle : ℕ) (members : Members) → (P → ⊥)
+    → MatchBool b P (ripe.Integrates ≡ ripe_as (heard_as plan precision state adjustment point cycle members)) → state ≡ Integrating
+looking_by true P plan precision state adjustment point cycle members not so = absurd (not so)
+looking_by false P plan precision state adjustment point cycle members not so = looking_ripe plan precision state adjustment point cycle members so
+
+looking : (n : Network) (device : DeviceId) (state : State) (adjustment : ℤ) (points : List Point) (frame : Pcf) (point : ℤ)
+    → IsPermanenceOutcome n device state adjustment points frame point ripe.Integrates → state ≡ Integrating
+looking n device state adjustment points frame point so =
+    looking_by (is_cm n device) _ (plan_of n device) (observation_window n) state adjustment point frame.cycle frame.members
+    (λ c. collected_not n points _ _ c) so
+
+before_hearing : (b : Bool) (state : State) → (if b then Joining else state) ≡ Integrating → state ≡ Integrating
+before_hearing true state e = absurd cc
+before_hearing false state e = e
+
+-- a place of the time is behind what is earlier
+earlier_more : (t : ℕ) (more : List ℕ) (h : Happening) (hs : List Happening) → earlier t (filter (λ x. is_before (place_of x) (t ∷ more)) hs) ≡ earlier t hs
+    → (b : Bool) → nat_lt (time_of h) t ≡ b → (c : Bool) → is_before (place_of h) (t ∷ more) ≡ c
+    → earlier t (filter (λ x. is_before (place_of x) (t ∷ more)) (h ∷ hs)) ≡ earlier t (h ∷ hs)
+earlier_more t more h hs old true e true kept =
+    let rest = filter (λ x. is_before (place_of x) (t ∷ more)) hs in
+    ap (λ (b : Bool). earlier t (if b then h ∷ rest else rest)) kept
+    ∙ ap (λ (b : Bool). if b then h ∷ earlier t rest else earlier t rest) e
+    ∙ ap (λ (gs : List Happening). h ∷ gs) old
+    ∙ ap (λ (b : Bool). if b then h ∷ earlier t hs else earlier t hs) (sym e)
+earlier_more t more h hs old true e false kept =
+    absurd (false≢true (sym kept ∙ before_is (place_of h) (t ∷ more) (inl (ltb-true (time_of h) t e))))
+earlier_more t more h hs old false e true kept =
+    let rest = filter (λ x. is_before (place_of x) (t ∷ more)) hs in
+    ap (λ (b : Bool). earlier t (if b then h ∷ rest else rest)) kept
+    ∙ ap (λ (b : Bool). if b then h ∷ earlier t rest else earlier t rest) e
+    ∙ old
+    ∙ ap (λ (b : Bool). if b then h ∷ earlier t hs else earlier t hs) (sym e)
+earlier_more t more h hs old false e false kept =
+    let rest = filter (λ x. is_before (place_of x) (t ∷ more)) hs in
+    ap (λ (b : Bool). earlier t (if b then h ∷ rest else rest)) kept
+    ∙ old
+    ∙ ap (λ (b : Bool). if b then h ∷ earlier t hs else earlier t hs) (sym e)
+
+earlier_before : (hs : List Happening) (t : ℕ) (more : List ℕ) → earlier t (filter (λ h. is_before (place_of h) (t ∷ more)) hs) ≡ earlier t hs
+earlier_before [] t more = refl
+earlier_before (h ∷ hs) t more =
+    earlier_more t more h hs (earlier_before hs t more) (nat_lt (time_of h) t) refl (is_before (place_of h) (t ∷ more)) refl
+
+state_by : (s : Scenario) (gs hs : List Happening) (device : DeviceId) (t : ℕ) → earlier t gs ≡ earlier t hs → state_before s gs device t ≡ state_before s hs device t
+state_by s gs hs device t same = ap (λ (es : List Happening). if is_turned_on_at s device t then Integrating else state_after s es device) same
+
+pub joins_looking : (s : Scenario) (ps : List Happening) (time : Units) (device : DeviceId) (body : NoteBody) → is_joined_by device body ≡ true
+    → IsCaused s ps time body → state_before s ps device (amount time) ≡ Integrating
+joins_looking s ps time device (notes.Permanent other link cause point Integrates) joined caused =
+    let same : other ≡ device = ap (λ (n : ℕ). let d : DeviceId = record { 0 = n } in d) (sym (eqb-true device.0 other.0 joined)) in
+    let t = amount time in
+    let judged = before_permanence ps other t link cause caused.frame point in
+    let looks = looking s.network other (state_at_hearing s judged other t) _ _ caused.frame point.0 caused.becomes in
+    let before = before_hearing (has_joined_at judged other t) (state_before s judged other t) looks in
+    let there = sym (state_by s judged ps other t (earlier_before ps t (3 ∷ key caused.frame.members.0 (notes.Permanent other link cause point Ignored)))) ∙ before in
+    subst (λ (d : DeviceId). state_before s ps d t ≡ Integrating) same there
+joins_looking s ps time device (notes.Compressed other opened at cycle members Integrates) joined caused =
+    let same : other ≡ device = ap (λ (n : ℕ). let d : DeviceId = record { 0 = n } in d) (sym (eqb-true device.0 other.0 joined)) in
+    let t = amount time in
+    let looks = looking_ripe (plan_of s.network other) (observation_window s.network) (state_at_hearing s ps other t) _ at.0 cycle members (ap ripe_as caused.heard) in
+    subst (λ (d : DeviceId). state_before s ps d t ≡ Integrating) same
+    (before_hearing (has_joined_at ps other t) (state_before s ps other t) looks)
+joins_looking s ps time device other joined caused = absurd cc
+
+-- ---- the records of a lower rank than corrections
+
+-- the front that is before them
+pub front_is : (hs : List Happening) (p : List ℕ) (at : IsSplit place_of hs p) → records_before p hs ≡ at.front
+front_is hs p at =
+    let test : Happening → Bool = λ h. is_before (place_of h) p in
+    let kept = all_kept test at.front (λ h i. before_is (place_of h) p (at.before h i)) in
+    let none : filter test at.rest ≡ [] = none_kept test at.rest (λ h i. not_before (place_of h) p (at.none h i) (is_before (place_of h) p) refl) in
+    ap (filter test) at.whole ∙ filter-append test at.front at.rest
+    ∙ ap (λ (gs : List Happening). gs ++ filter test at.rest) kept ∙ ap (λ (gs : List Happening). at.front ++ gs) none ∙ append-nil at.front
+  where
+    not_before : (q r : List ℕ) → (IsBefore q r → ⊥) → (b : Bool) → is_before q r ≡ b → is_before q r ≡ false
+    not_before q r not true e = absurd (not (is_there q r e))
+    not_before q r not false e = e
+
+-- what the point comes to is the same by the front and by the records up to its time
+pub by_front : (s : Scenario) (hs : List Happening) (device : DeviceId) (t cycle : ℕ) (v : Verdict) (at : IsSplit place_of hs (t ∷ 6 ∷ []))
+    → ComesToPoint s at.front device t cycle v ↔ ComesToPoint s (up_to t hs) device t cycle v
+by_front s hs device t cycle v at =
+    let late = late_part hs t 6 [] (omega arith) at in
+    let same = late_earlier hs t at.front late in
+    let heard = late_heard s hs device t at.front late in (
+      λ c. comes_by s at.front (up_to t hs) device t cycle v (sym same) (sym heard) c,
+      λ c. comes_by s (up_to t hs) at.front device t cycle v same heard c,
+    )
+
+pub earlier_up_to : (hs : List Happening) (t : ℕ) (at : IsSplit place_of hs (t ∷ 6 ∷ [])) → earlier t (up_to t hs) ≡ earlier t hs
+earlier_up_to hs t at =
+    let late = late_part hs t 6 [] (omega arith) at in late_earlier hs t at.front late ∙ same_earlier t (6 ∷ []) hs at
+
+no_point : (state : State) (n cycle : ℕ) → state ≡ Integrating → point_in state n ≡ Some cycle → ⊥
+no_point Off n cycle e p = cc
+no_point Integrating n cycle e p = cc
+no_point Joining n cycle e p = cc
+no_point Synchronised n cycle e p = cc
+
+not_later : (u r t q : ℕ) (ks ls : List ℕ) → IsBefore (u ∷ r ∷ ks) (t ∷ q ∷ ls) → u ≤ t
+not_later u r t q ks ls (inl lt) = omega (arith, lt)
+not_later u r t q ks ls (inr b) = omega (arith, b.0)
+
+low_rank : (u r t : ℕ) (ks : List ℕ) → IsBefore (u ∷ r ∷ ks) (t ∷ 6 ∷ []) → u ≡ t → r < 6
+low_rank u r t ks (inl lt) same = absurd (omega (arith, lt, same))
+low_rank u r t ks (inr (e, inl lt)) same = lt
+low_rank u r t ks (inr (e, inr none)) same = absurd none.1
+
+changes_low : (device : DeviceId) (body : NoteBody) → rank body < 6 → changes_adjustment device body ≡ true → is_joined_by device body ≡ true
+changes_low device (notes.Corrected other cycle by adjustment) low e = absurd (omega (arith, low))
+changes_low device body low e = e
+
+-- those before a record of a founded list are all that are of earlier times
+front_earlier : (s : Scenario) (hs : List Happening) (h : Happening) → IsFounded place_of (IsDue s) hs → (front rest : List Happening) → hs ≡ front ++ h ∷ rest
+    → earlier (time_of h) front ≡ earlier (time_of h) hs
+front_earlier s hs h founded front rest whole =
+    let parts = subst (IsFounded place_of (IsDue s)) whole founded in
+    let at : IsSplit place_of hs (place_of h) = record {
+      front = front;
+      rest = h ∷ rest;
+      whole = whole;
+      before = (founded front rest h whole).0;
+      none = λ n i lt. elim i [
+        | inl e ↦ never_self (place_of h) (subst (λ (m : Happening). IsBefore (place_of m) (place_of h)) e lt)
+        | inr r ↦ never_self (place_of n) (chain (place_of n) (place_of h) (place_of n) lt (behind_first place_of (IsDue s) front rest h n parts r))
+      ];
+    } in
+    same_earlier (time_of h) (rank h.note.body ∷ key (members_in h) h.note.body) hs at
+
+-- where the device has a correction point at the time, no record of the front is of the time and changes its adjustment
+pub front_after : (s : Scenario) (hs : List Happening) (device : DeviceId) (t cycle : ℕ) (at : IsSplit place_of hs (t ∷ 6 ∷ []))
+    → IsFounded place_of (IsDue s) hs → next_point (standing_at s at.front device t) ≡ Some cycle → IsAfter at.front device t
+front_after s hs device t cycle at founded next = record {
+  none_later = λ h i. not_later (time_of h) (rank h.note.body) t 6 (key (members_in h) h.note.body) [] (at.before h i);
+  unchanged = λ h i same. by_test h i same (changes_adjustment device h.note.body) refl;
+}
+  where
+    by_test : (h : Happening) → IsIn h at.front → time_of h ≡ t → (b : Bool) → changes_adjustment device h.note.body ≡ b → changes_adjustment device h.note.body ≡ false
+    by_test h i same false e = e
+    by_test h i same true e =
+        let low = low_rank (time_of h) (rank h.note.body) t (key (members_in h) h.note.body) (at.before h i) same in
+        let joined = changes_low device h.note.body low e in
+        let by = founded_at s hs h founded (subst (IsIn h) (sym at.whole) (in_left h at.front at.rest i)) in
+        let looks = joins_looking s by.front h.note.time device h.note.body joined by.due.cause in
+        let fronts : earlier (time_of h) by.front ≡ earlier (time_of h) hs = front_earlier s hs h founded by.front by.rest by.whole in
+        let state : state_before s hs device t ≡ Integrating =
+        subst (λ (u : ℕ). state_before s hs device u ≡ Integrating) same (sym (state_by s by.front hs device (time_of h) fronts) ∙ looks) in
+        absurd (no_point (state_before s at.front device t) _ cycle (state_by s at.front hs device t (same_earlier t (6 ∷ []) hs at) ∙ state) next)
+
+-- so what has been heard by then is told by the front
+pub heard_front : (s : Scenario) (hs : List Happening) (device : DeviceId) (t : ℕ) (at : IsSplit place_of hs (t ∷ 6 ∷ [])) (heard : Summary) (shown : Shown)
+    → IsFounded place_of (IsDue s) hs → Shows s (records_before (t ∷ 6 ∷ []) hs) device shown
+    → (IsAfter at.front device t → Shows s at.front device shown → Summarizes heard (heard_since_point s at.front device t))
+    → IsHeard s at.front device t heard
+heard_front s hs device t at heard shown founded shows told cycle next =
+    told (front_after s hs device t cycle at founded next)
+    (subst (λ (gs : List Happening). Shows s gs device shown) (front_is hs (t ∷ 6 ∷ []) at) shows)

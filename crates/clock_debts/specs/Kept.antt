@@ -1,0 +1,35 @@
+-- What is kept of a report.
+use Rattle.std.specs.Prelude.{ℕ, ◌<◌, ◌≤◌, List}
+use Rattle.event_history.specs.Readings.{scenario_under}
+use Rattle.event_history.specs.Remembering.{Remembers}
+use Rattle.event_history.specs.declared.history.EventHistory.{EventHistory}
+use Rattle.net_plan.specs.declared.event.Event.{Event}
+use Rattle.net_plan.specs.declared.ids.DeviceId.{DeviceId}
+use Rattle.net_plan.specs.declared.network.Network.{Network}
+use Rattle.record_history.specs.Keeping.{Stands}
+use Rattle.record_history.specs.Showing.{Shown, Shows}
+use Rattle.record_history.specs.declared.standings.Standings.{Standings}
+use Rattle.record_places.specs.Placing.{ArePlacesOf}
+use Rattle.run_law.specs.records.Happenings.{Happening, earlier}
+use Rattle.run_law.specs.scenario.Scenarios.{Scenario}
+
+-- these events befell the network and these are the records: so the histories and the places are of them
+pub record IsKept (network : Network) (befallen : List Event) (hs : List Happening) (events : EventHistory)
+    (standings : Standings) (places : List (List ℕ)) : Type 0 where
+  pub remembers : Remembers network befallen events
+  pub stands : Stands (scenario_under network befallen) hs standings
+  pub places_are : ArePlacesOf hs places
+
+-- they are of some events and records
+abbrev pub IsSomeKept : Network → EventHistory → Standings → List (List ℕ) → Type 0
+IsSomeKept network events standings places =
+    (befallen : List Event) × (hs : List Happening) × IsKept network befallen hs events standings places
+
+-- the history is of some events of the network
+abbrev pub RemembersSomeOf : Network → EventHistory → Type 0
+RemembersSomeOf network history = (befallen : List Event) × Remembers network befallen history
+
+-- at each time later than `after`, up to `until`, the records of earlier times show this of the device
+abbrev pub ShowsWithin : Scenario → List Happening → DeviceId → ℕ → ℕ → Shown → Type 0
+ShowsWithin s hs device after until shown =
+    (t : ℕ) → after < t → t ≤ until → Shows s (earlier t hs) device shown

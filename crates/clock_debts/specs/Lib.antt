@@ -1,0 +1,5 @@
+pub mod Ends
+pub mod FirstUnpaid
+pub mod Kept
+pub mod Sent
+pub mod Told
