@@ -1,0 +1,5 @@
+pub mod Hands
+pub mod Places
+pub mod RowDebts
+pub mod RowFacts
+pub mod RowFrames

@@ -1,0 +1,2 @@
+pub mod Debtors
+pub mod Frames
