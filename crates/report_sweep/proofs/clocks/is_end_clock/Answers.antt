@@ -1,0 +1,20 @@
+use Rattle.std.proofs.Common.{◌≡◌, ◌∙◌, ℕ, List, refl, sym, ap, subst}
+use Rattle.std.proofs.lemmas.Bool.{le-leb}
+use Rattle.std.specs.Prelude.{nat_le}
+use Rattle.audit_law.proofs.LastParts.{all_kept}
+use Rattle.event_history.specs.Readings.{clock_reading, scenario_under}
+use Rattle.record_history.specs.Showing.{Shows}
+use Rattle.report_sweep.proofs.clocks.is_end_clock.Goals as goal
+use Rattle.run_law.specs.records.Happenings.{Happening, time_of, up_to}
+use Rattle.tte_units.specs.Amount.{amount}
+
+pub returns : goal.returns
+returns c befallen hs k none =
+    let s = scenario_under c.args.network.now befallen in
+    let t = amount c.args.time in
+    let up : up_to t hs ≡ hs = all_kept (λ (h : Happening). nat_le (time_of h) t) hs (λ h i. le-leb (time_of h) t (none h i)) in
+    c.shows_clock.ensures s hs c.args.time refl
+    (c.reading-reading.ensures c.args.network.now befallen k.events c.requires.there
+    ∙ ap (λ (n : ℕ). clock_reading c.args.network.now befallen c.args.device n) c.amount.ensures.value)
+    (c.is_end.ensures c.args.network.now befallen hs k)
+    (subst (λ (gs : List Happening). Shows s gs c.args.device c.latest-shown.result.now) (sym up) (c.latest-shown.ensures s hs k.standings))

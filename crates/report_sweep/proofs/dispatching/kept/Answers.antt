@@ -1,0 +1,14 @@
+use Rattle.std.proofs.Common.{◌∙◌, Some, sym, ap}
+use Rattle.std.specs.Prelude.{option_map}
+use Rattle.kept_records.specs.Keeping.{kept_of}
+use Rattle.kept_records.specs.declared.kept.KeptRecord.{KeptRecord}
+use Rattle.report_sweep.proofs.dispatching.kept.Goals as goal
+use Rattle.run_law.specs.records.Happenings.{Happening}
+
+pub returns-in-Some : goal.returns-in-Some
+returns-in-Some c network befallen hs k =
+    let found = c.in-Some.ensures hs k.records in
+    ap (λ (r : KeptRecord). Some r.kept) found.2 ∙ sym (ap (option_map (λ (h : Happening). kept_of h.note.body)) found.1)
+
+pub returns-in-None : goal.returns-in-None
+returns-in-None c network befallen hs k = sym (ap (option_map (λ (h : Happening). kept_of h.note.body)) (c.in-None.ensures hs k.records))

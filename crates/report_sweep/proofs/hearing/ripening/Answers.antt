@@ -1,0 +1,31 @@
+use Rattle.std.proofs.Common.{◌≡◌, List, true, ◌<◌, refl, sym, subst, arith}
+use Rattle.event_history.specs.Readings.{scenario_under}
+use Rattle.net_plan.specs.declared.ids.DeviceId.{DeviceId}
+use Rattle.net_plan.specs.declared.network.Network.{Network}
+use Rattle.report_sweep.proofs.HeardBefore.{earlier_before, heard_before}
+use Rattle.report_sweep.proofs.hearing.ripening.Goals as goal
+use Rattle.run_law.specs.control.Collections.{points_of}
+use Rattle.run_law.specs.control.Permanence.{IsJudgedBy, before_permanence}
+use Rattle.run_law.specs.declared.judgement.Judgement.TheVariants.{Ignored}
+use Rattle.run_law.specs.declared.note.NoteBody.TheVariants.{Permanent}
+use Rattle.run_law.specs.records.Ranks.{key}
+use Rattle.run_law.specs.scenario.Devices.{is_cm}
+use Rattle.stretch_history.specs.Points.{HasPoints}
+
+pub returns : goal.returns
+returns c befallen hs k =
+    let s = scenario_under c.args.network.now befallen in
+    let p = c.args.passage in
+    let f = c.args.permanent.now in
+    let judged = before_permanence hs p.device p.time p.link p.cause f.frame f.point in
+    let rest = key f.frame.members.0 (Permanent p.device p.link p.cause f.point Ignored) in
+    let hearer = c.hearer.ensures.is befallen hs judged k (heard_before p.time 3 rest hs (omega arith)) (earlier_before p.time 3 rest hs)
+    (c.before_permanence-shown.ensures s hs Ignored k.standings) in
+    let base = c.before_permanence-stretch.ensures c.args.network.now hs k.stretches in
+    let stretch = c.before_permanence-stretch.result in
+    let collects = subst (λ (n : Network). is_cm n c.hearer.result.device ≡ true
+    → HasPoints n (points_of judged c.hearer.result.device) stretch.collections.now stretch.gathering) (sym c.hearer.ensures.of.0)
+    (subst (λ (d : DeviceId). is_cm c.args.network.now d ≡ true
+    → HasPoints c.args.network.now (points_of judged d) stretch.collections.now stretch.gathering) (sym c.hearer.ensures.of.1) base) in
+    subst (λ (d : DeviceId). IsJudgedBy s judged d p.time f.frame f.point c.ripening.result) c.hearer.ensures.of.1
+    ((c.ripening.ensures s judged p.time hearer collects c.ripening.result).0 refl)

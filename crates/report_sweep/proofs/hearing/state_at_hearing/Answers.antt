@@ -1,0 +1,18 @@
+use Rattle.std.proofs.Common.{◌∙◌, Bool, List, sym, ap}
+use Rattle.std.specs.Prelude.{if◌then◌else◌}
+use Rattle.event_history.specs.Readings.{scenario_under}
+use Rattle.report_sweep.proofs.hearing.state_at_hearing.Goals as goal
+use Rattle.run_law.specs.device.States.{state_after, state_before}
+use Rattle.run_law.specs.records.Happenings.{Happening}
+use Rattle.run_law.specs.scenario.Scenarios.{is_turned_on_at}
+use Rattle.sync_state.specs.declared.state.State.TheVariants.{Integrating, Joining}
+
+pub returns : goal.returns
+returns c befallen hs judged k late same sh =
+    let s = scenario_under c.args.network.now befallen in
+    let t = c.args.time in
+    let d = c.args.device in
+    c.state_before.ensures s hs d t (c.is_turned_on_at.ensures c.args.network.now befallen k.events c.requires.there) (c.before_time.ensures s hs k.standings)
+    ∙ ap (λ (gs : List Happening). if is_turned_on_at s d t then Integrating else state_after s gs d) (sym same)
+    ∙ sym (ap (λ (b : Bool). if b then Joining else state_before s judged d t)
+    (sym (c.has_joined_at.ensures s judged d late sh) ∙ c.if-has_joined_at.false))
