@@ -46,7 +46,7 @@ abbrev event_in : Note → Option Event
 event_in note = event_by note.time note.body
 
 -- some records, of which one is of the event
-record IsTold (ns : List Note) (before : List Event) (event : Event) : Type 0 where
+pub record IsTold (ns : List Note) (before : List Event) (event : Event) : Type 0 where
   pub front : List Note
   pub note : Note
   pub rest : List Note
@@ -59,7 +59,7 @@ none_told [] behind event e = cc
 none_told (b ∷ before) behind event e = cc
 
 -- where events part, the records do
-told : (ns : List Note) (before behind : List Event) (event : Event) → events_of ns ≡ before ++ event ∷ behind → IsTold ns before event
+pub told : (ns : List Note) (before behind : List Event) (event : Event) → events_of ns ≡ before ++ event ∷ behind → IsTold ns before event
 told [] before behind event e = absurd (none_told before behind event e)
 told (n ∷ ns) before behind event e = by (λ bs same. told ns bs behind event same) (event_in n) refl before e
   where

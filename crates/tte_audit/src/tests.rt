@@ -1,4 +1,6 @@
 mod audits;
+mod calm;
 mod records_read;
+mod reports;
 mod worked;
 mod wrong_lines;
