@@ -7,7 +7,7 @@ use Rattle.std.proofs.lemmas.Bool.{and_parts}
 use Rattle.std.proofs.lemmas.Bool.Decides.{nat_tests}
 use Rattle.trace_text.specs.Numbers.{number_up_to}
 use Rattle.tte_run.specs.Forms.{IsFormInRange, cycles_spelled, form_of, if_some, most_cycles, one_file_form, seed_spelled, storm_form, two_files_form}
-use Rattle.tte_run.specs.declared.form.Form.TheVariants.{Show, Check, Run, Storm}
+use Rattle.tte_run.specs.declared.form.Form.TheVariants.{Show, Check, Run, Storm, Audit}
 
 pub no_words : (words : List (List ℕ)) → length words ≤ 0 → None ≡ form_of words
 unfolding form_of
@@ -91,9 +91,10 @@ one_file_by true d = tt
 one_file_by false true = tt
 one_file_by false false = tt
 
-two_files_by : (b : Bool) → IfSome (if b then Some Run else None) IsFormInRange
-two_files_by true = tt
-two_files_by false = tt
+two_files_by : (b d : Bool) → IfSome (if b then Some Run else if d then Some Audit else None) IsFormInRange
+two_files_by true d = tt
+two_files_by false true = tt
+two_files_by false false = tt
 
 -- the numbers of the form of words lie in their ranges
 pub form_in_range : (words : List (List ℕ)) → IfSome (form_of words) IsFormInRange
@@ -101,7 +102,7 @@ unfolding form_of
 form_in_range [] = tt
 form_in_range (command ∷ []) = tt
 form_in_range (command ∷ file ∷ []) = one_file_by (bytes_eq command (codes "show")) (bytes_eq command (codes "check"))
-form_in_range (command ∷ file ∷ other ∷ []) = two_files_by (bytes_eq command (codes "run"))
+form_in_range (command ∷ file ∷ other ∷ []) = two_files_by (bytes_eq command (codes "run")) (bytes_eq command (codes "audit"))
 form_in_range (command ∷ file ∷ seed ∷ cycles ∷ []) =
     storm_by (bytes_eq command (codes "storm")) (seed_spelled seed) (cycles_spelled cycles) (cycles_by (number_up_to most_cycles cycles) (up_to most_cycles cycles))
 form_in_range (command ∷ file ∷ seed ∷ cycles ∷ more ∷ words) = tt

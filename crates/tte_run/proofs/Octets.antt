@@ -3,7 +3,6 @@ use Rattle.std.proofs.Common.{◌≡◌, ℕ, ◌+◌, ◌<◌, List, [], Some, 
 use Rattle.std.specs.Prelude.{Option, IfSome, length}
 use Rattle.std.proofs.lemmas.List.{length-replicate}
 use Rattle.tte_run.specs.Answering.{ForOctets}
-use Rattle.tte_run.specs.frames.Answer.{file_limit}
 
 -- what holds of octets that were read holds for those that were left
 pub for_read : (left : Option (List ℕ)) (octets : List ℕ) (P : List ℕ → Type 0) → IfSome left (λ all. octets ≡ all) → P octets → ForOctets left P
@@ -11,10 +10,10 @@ for_read None octets P all p = (octets, p)
 for_read (Some left) octets P all p = subst P all p
 
 -- what holds of all octets that are too many holds for those that were left, where these are too many
-pub for_too_many : (left : Option (List ℕ)) (P : List ℕ → Type 0) → IfSome left (λ all. file_limit < length all)
-    → ((octets : List ℕ) → file_limit < length octets → P octets) → ForOctets left P
-for_too_many None P long p = let many : List ℕ = replicate (file_limit + 1) 0 in (many, p many (omega (arith, length-replicate {A = ℕ} (file_limit + 1) 0)))
-for_too_many (Some left) P long p = p left long
+pub for_too_many : (limit : ℕ) (left : Option (List ℕ)) (P : List ℕ → Type 0) → IfSome left (λ all. limit < length all)
+    → ((octets : List ℕ) → limit < length octets → P octets) → ForOctets left P
+for_too_many limit None P long p = let many : List ℕ = replicate (limit + 1) 0 in (many, p many (omega (arith, length-replicate {A = ℕ} (limit + 1) 0)))
+for_too_many limit (Some left) P long p = p left long
 
 -- what holds of all octets holds for those that were left
 pub for_all : (left : Option (List ℕ)) (P : List ℕ → Type 0) → ((octets : List ℕ) → P octets) → ForOctets left P

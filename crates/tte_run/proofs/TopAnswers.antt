@@ -12,7 +12,7 @@ use Rattle.tte_run.specs.Forms.{IsFormInRange, form_of}
 use Rattle.tte_run.specs.frames.Answer.{show_answer}
 use Rattle.tte_run.specs.Top.{AnswerIsOne, AnswersWords, ForSecond, IsFormAnswer, Completes}
 use Rattle.tte_run.specs.declared.form.Form.{Form}
-use Rattle.tte_run.specs.declared.form.Form.TheVariants.{Show, Check, Run, Storm}
+use Rattle.tte_run.specs.declared.form.Form.TheVariants.{Show, Check, Run, Storm, Audit}
 use Rattle.tte_run.specs.declared.status.Status.{Status}
 use Rattle.tte_run.specs.declared.status.Status.TheVariants.{Done, ReadFault, Usage, WriteFault}
 use Rattle.tte_run.proofs.networks.Answers.{accepted_alone, network_answer_one, acceptance_one}
@@ -21,6 +21,7 @@ use Rattle.tte_run.proofs.OneAnswers.{one_given}
 use Rattle.tte_run.proofs.traces.Completes.{run_one, run_whole}
 use Rattle.tte_run.proofs.frames.Answers.{shown_whole}
 use Rattle.tte_run.proofs.FormLemmas.{form_in_range}
+use Rattle.tte_run.proofs.reports.Answers.{audit_one, audit_whole}
 use Rattle.tte_run.proofs.storms.OneAnswer.{storm_one}
 use Rattle.tte_run.specs.storms.Answer.{IsStormAnswer}
 
@@ -79,6 +80,14 @@ completes-run (Some octets) (Some trace) status old new SourceRose SinkRose a re
     λ quiet calm n events m admitted ended left. run_whole octets trace n events status old new SourceRose SinkRose m
     (record { admitted = admitted; ended = ended; none_left = left }) a read write quiet calm
 
+pub completes-audit : (first second : Option (List ℕ)) (status : Status) (old new : Shown) (SourceRose SinkRose : Type 0)
+    → ForOctets first (λ octets. ForSecond Audit second (λ report. GivesOne (IsFormAnswer (Some Audit) octets report) status old new))
+    → (status ≡ ReadFault → SourceRose) → (status ≡ WriteFault → SinkRose) → Completes (Some Audit) first second SourceRose SinkRose status
+completes-audit None second status old new SourceRose SinkRose a read write = tt
+completes-audit (Some octets) None status old new SourceRose SinkRose a read write = tt
+completes-audit (Some octets) (Some report) status old new SourceRose SinkRose a read write =
+    λ quiet calm n count m fits audited. audit_whole octets report n count status old new SourceRose SinkRose m fits audited a read write quiet calm
+
 form_one : BetaIsUnique → RefusalIsOne → (form : Option Form) → IfSome form IsFormInRange → (octets trace : List ℕ) (a b : Answer)
     → IsFormAnswer form octets trace a → IsFormAnswer form octets trace b → a ≡ b
 form_one unique one None range octets trace a b p q = p ∙ sym q
@@ -86,6 +95,7 @@ form_one unique one (Some Show) range octets trace a b p q = p ∙ sym q
 form_one unique one (Some Check) range octets trace a b p q = network_answer_one one IsAcceptance octets (λ n accepted. acceptance_one unique n) a b p q
 form_one unique one (Some Run) range octets trace a b p q = run_one one octets trace a b p q
 form_one unique one (Some (Storm seed cycles)) range octets trace a b p q = storm_one one seed cycles range.1 octets a b p q
+form_one unique one (Some Audit) range octets trace a b p q = audit_one one octets trace a b p q
 
 pub one_answer : BetaIsUnique → RefusalIsOne → AnswerIsOne
 one_answer unique one words octets trace a b p q = form_one unique one (form_of words) (form_in_range words) octets trace a b p q

@@ -4,7 +4,7 @@ use Rattle.std.specs.Option.{option_and_then, option_map}
 use Rattle.std.specs.Str.{bytes_eq}
 use Rattle.trace_text.specs.Numbers.{number_up_to}
 use Rattle.tte_run.specs.declared.form.Form.{Form}
-use Rattle.tte_run.specs.declared.form.Form.TheVariants.{Show, Check, Run, Storm}
+use Rattle.tte_run.specs.declared.form.Form.TheVariants.{Show, Check, Run, Storm, Audit}
 
 -- a command with one file: `show FILE` or `check NETWORK`
 abbrev pub one_file_form : List ℕ → Option Form
@@ -13,9 +13,12 @@ one_file_form command =
     else if bytes_eq command (codes "check") then Some Check
     else None
 
--- a command with two files: `run NETWORK TRACE`
+-- a command with two files: `run NETWORK TRACE` or `audit NETWORK REPORT`
 abbrev pub two_files_form : List ℕ → Option Form
-two_files_form command = if bytes_eq command (codes "run") then Some Run else None
+two_files_form command =
+    if bytes_eq command (codes "run") then Some Run
+    else if bytes_eq command (codes "audit") then Some Audit
+    else None
 
 -- the greatest seed of a storm
 abbrev pub greatest_seed : ℕ

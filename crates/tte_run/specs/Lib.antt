@@ -8,3 +8,4 @@ pub mod frames
 pub mod networks
 pub mod traces
 pub mod storms
+pub mod reports

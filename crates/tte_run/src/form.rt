@@ -23,6 +23,8 @@ pub enum Form {
         /// From 1 to 100,000.
         cycles: u32,
     },
+    /// `audit NETWORK REPORT`.
+    Audit,
 }
 
 /// The form of a command with one file.
@@ -44,6 +46,7 @@ fn two_files_form(command: &str) -> Option<Form>
 {
     match command {
         "run" => Some(Form::Run),
+        "audit" => Some(Form::Audit),
         _ => None,
     }
 }

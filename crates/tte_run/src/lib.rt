@@ -2,6 +2,7 @@
 #![tactic(auto)]
 
 mod accepting;
+mod auditing;
 mod checking;
 mod form;
 mod put_line;
@@ -13,6 +14,7 @@ mod top;
 mod trace;
 mod words;
 
+pub use auditing::audit_report;
 pub use checking::check_network;
 pub use running::run_trace;
 pub use showing::{show, show_law};

@@ -24,10 +24,12 @@ pub enum Status {
     OutOfMemory,
     /// A limit on the size of the input is passed.
     TooLong,
+    /// The report is no report of a run of the network.
+    AuditRefused,
 }
 
 impl Status {
-    /// The exit status of the program, from 0 to 9.
+    /// The exit status of the program, from 0 to 9, or 11.
     pub fn number(self) -> u8
         ensures { result ≡ status_number self }
     {
@@ -42,6 +44,7 @@ impl Status {
             Status::WriteFault => 7,
             Status::OutOfMemory => 8,
             Status::TooLong => 9,
+            Status::AuditRefused => 11,
         }
     }
 }

@@ -1,3 +1,4 @@
+mod auditing;
 mod calm;
 mod cases;
 mod checking;

@@ -3,19 +3,20 @@ ghost use Rattle.tte_run.specs.Answering.{Gives};
 ghost use Rattle.tte_run.specs.Faults.{HasCause, IsWanted, PutFailed, ReadFailed};
 ghost use Rattle.tte_run.specs.Forms.{form_of};
 ghost use Rattle.tte_run.specs.Putting.{Over};
+ghost use Rattle.tte_run.specs.reports.Reading.{ReadsReport};
 ghost use Rattle.tte_run.specs.traces.Streaming.{RunStops, RunTakesLittle};
 ghost use Rattle.tte_run.specs.Top.{AnswerIsOne, AnswersSafely, AnswersWords, Completes, FailsToRead, TakesSecond, usage_answer};
 
 use crate::form::{Form, read_form};
 use crate::put_line::put_last;
-use crate::{Status, Words, check_network, run_trace, show, storm_run};
+use crate::{Status, Words, audit_report, check_network, run_trace, show, storm_run};
 use net_plan::beta_is_unique;
 use schedule_checker::refusal_is_one;
 use std::alloc::Global;
 use tte_io::{Sink, Source};
 
 const USAGE: &str =
-    "usage: tte show FILE | check NETWORK | run NETWORK TRACE | storm NETWORK SEED CYCLES\n";
+    "usage: tte show FILE | check NETWORK | run NETWORK TRACE | storm NETWORK SEED CYCLES | audit NETWORK REPORT\n";
 
 /// All that the program does: it answers the words, with `first` as the file that word 2 names and
 /// `second` as the one that word 3 names, and writes to `out`.
@@ -33,11 +34,12 @@ pub fn tte<A: Source, B: Source, K: Sink>(
     ensures faults { HasCause result
         (FailsToRead (form_of words.now)
         (ReadFailed A.Source first.old first.new) (ReadFailed B.Source second.old second.new)
-        ((out.new ≡ out.old) × (second.new ≡ second.old))
+        (out.new ≡ out.old) (second.new ≡ second.old)
         (Over K.Sink out.old out.new (RunStops (A.left first.old) (B.left second.old) (B.left second.new))))
         (PutFailed K.Sink out.old out.new) }
     ensures second { TakesSecond (form_of words.now) (second.new ≡ second.old)
-        (Over K.Sink out.old out.new (RunTakesLittle (A.left first.old) (B.left second.old) (B.left second.new))) }
+        (Over K.Sink out.old out.new (RunTakesLittle (A.left first.old) (B.left second.old) (B.left second.new)))
+        (ReadsReport (A.left first.old) (B.left second.old) (B.left second.new) result) }
     ensures complete { Completes (form_of words.now) (A.left first.old) (B.left second.old)
         (ReadFailed A.Source first.old first.new ⊎ ReadFailed B.Source second.old second.new)
         (PutFailed K.Sink out.old out.new) result }
@@ -47,6 +49,7 @@ pub fn tte<A: Source, B: Source, K: Sink>(
         Some(Form::Check) => check_network(alloc, first, out),
         Some(Form::Run) => run_trace(alloc, first, second, out),
         Some(Form::Storm { seed, cycles }) => storm_run(alloc, first, seed, cycles, out),
+        Some(Form::Audit) => audit_report(alloc, first, second, out),
         None => put_usage(out),
     }
 }

@@ -40,7 +40,7 @@ answers-read left octets status old new all short g =
 pub answers-long : (left : Option (List ℕ)) (status : Status) (old new : Shown) → IfSome left (λ all. file_limit < length all) → Ends TooLong status old new
     → Answers show_answer left status old new
 answers-long left status old new long ends =
-    for_too_many left (λ xs. Gives (show_answer xs) status old new) long
+    for_too_many file_limit left (λ xs. Gives (show_answer xs) status old new) long
     (λ xs many. subst (λ (a : Answer). Gives a status old new) (sym (show_answer-long xs many))
     (Ends-gives [] TooLong status old old new (PutsLines-none old) ends))
 

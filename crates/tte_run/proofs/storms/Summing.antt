@@ -36,7 +36,7 @@ use Rattle.tte_run.specs.Answering.{Answer, AnswersOne, Ends, ForOctets, Gives, 
 use Rattle.tte_run.specs.Putting.{PutsLines, Shown, WriteFails}
 use Rattle.tte_run.specs.declared.accepting.NoNetwork.{NoNetwork}
 use Rattle.tte_run.specs.declared.status.Status.{Status}
-use Rattle.tte_run.specs.declared.status.Status.TheVariants.{Done, Usage, FrameRefused, NetworkRefused, TraceRefused, OutsideHypothesis, ReadFault, WriteFault, OutOfMemory, TooLong}
+use Rattle.tte_run.specs.declared.status.Status.TheVariants.{Done, Usage, FrameRefused, NetworkRefused, TraceRefused, OutsideHypothesis, ReadFault, WriteFault, OutOfMemory, TooLong, AuditRefused}
 use Rattle.tte_run.specs.declared.storming.counting.Seen.{Seen}
 use Rattle.tte_run.specs.networks.Accepting.{IsNetworkAnswer, MeansAccepted}
 use Rattle.tte_run.specs.networks.NoNetworks.{IsNoNetwork, no_network_answer}
@@ -254,6 +254,7 @@ safely seed cycles octets network ReadFault old new m ends = tt
 safely seed cycles octets network WriteFault old new m ends = tt
 safely seed cycles octets network OutOfMemory old new m ends = tt
 safely seed cycles octets network TooLong old new m ends = tt
+safely seed cycles octets network AuditRefused old new m ends = tt
 
 pub storm_accepted : (seed cycles : ℕ) (left : Option (List ℕ)) (network : Network) (status : Status) (old new : Shown) → cycles ≤ 100000
     → ForOctets left (λ octets. MeansAccepted octets network) → EndsStorm network seed cycles status old new

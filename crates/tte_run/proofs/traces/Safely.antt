@@ -22,7 +22,7 @@ use Rattle.tte_run.proofs.traces.Sources.{if_all, if_more}
 use Rattle.tte_run.specs.Answering.{Answer, ForOctets, Gives, GivesOne}
 use Rattle.tte_run.specs.Putting.{PutsLines, Shown}
 use Rattle.tte_run.specs.declared.status.Status.{Status}
-use Rattle.tte_run.specs.declared.status.Status.TheVariants.{Done, Usage, FrameRefused, NetworkRefused, TraceRefused, OutsideHypothesis, ReadFault, WriteFault, OutOfMemory, TooLong}
+use Rattle.tte_run.specs.declared.status.Status.TheVariants.{Done, Usage, FrameRefused, NetworkRefused, TraceRefused, OutsideHypothesis, ReadFault, WriteFault, OutOfMemory, TooLong, AuditRefused}
 use Rattle.tte_run.specs.declared.trace.fault.TraceFault.{TraceFault}
 use Rattle.tte_run.specs.declared.trace.fault.TraceFault.TheVariants as faults
 use Rattle.tte_run.specs.declared.accepting.NoNetwork.{NoNetwork}
@@ -181,6 +181,7 @@ puts_safely octets trace network ReadFault old new range m g = tt
 puts_safely octets trace network WriteFault old new range m g = tt
 puts_safely octets trace network OutOfMemory old new range m g = tt
 puts_safely octets trace network TooLong old new range m g = tt
+puts_safely octets trace network AuditRefused old new range m g = tt
 
 pub run_safely : (first second : Option (List ℕ)) (network : Network) (status : Status) (old new : Shown) → IsInRange network
     → ForOctets first (λ octets. MeansAccepted octets network) → IfSome second (λ trace. GivesOne (IsRunAnswer trace network) status old new)
@@ -210,6 +211,7 @@ none_puts ReadFault octets trace old new none = tt
 none_puts WriteFault octets trace old new none = tt
 none_puts OutOfMemory octets trace old new none = tt
 none_puts TooLong octets trace old new none = tt
+none_puts AuditRefused octets trace old new none = tt
 
 of_cause : (cause : NoNetwork) → IsOfNoRun (no_network_answer cause).status
 of_cause causes.ReadFault = tt

@@ -9,7 +9,7 @@ use Rattle.pcf_codec.specs.Decoding.{decoded}
 use Rattle.tte_run.specs.frames.FrameLine.{frame_line, refusal_line}
 use Rattle.tte_run.specs.Answering.{Answer, with_line}
 use Rattle.tte_run.specs.declared.status.Status.{Status}
-use Rattle.tte_run.specs.declared.status.Status.TheVariants.{Done, Usage, FrameRefused, NetworkRefused, TraceRefused, OutsideHypothesis, ReadFault, WriteFault, OutOfMemory, TooLong}
+use Rattle.tte_run.specs.declared.status.Status.TheVariants.{Done, Usage, FrameRefused, NetworkRefused, TraceRefused, OutsideHypothesis, ReadFault, WriteFault, OutOfMemory, TooLong, AuditRefused}
 
 -- how many octets a file has at most
 abbrev pub file_limit : ℕ
@@ -52,3 +52,4 @@ IsShowStatus ReadFault = Unit {0}
 IsShowStatus WriteFault = Unit {0}
 IsShowStatus OutOfMemory = Unit {0}
 IsShowStatus TooLong = Unit {0}
+IsShowStatus AuditRefused = ⊥

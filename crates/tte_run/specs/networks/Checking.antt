@@ -6,7 +6,7 @@ use Rattle.tte_run.specs.networks.Accepting.{IsNetworkAnswer}
 use Rattle.tte_run.specs.Answering.{Answer}
 use Rattle.tte_run.specs.networks.NetworkLine.{acceptance_line}
 use Rattle.tte_run.specs.declared.status.Status.{Status}
-use Rattle.tte_run.specs.declared.status.Status.TheVariants.{Done, Usage, FrameRefused, NetworkRefused, TraceRefused, OutsideHypothesis, ReadFault, WriteFault, OutOfMemory, TooLong}
+use Rattle.tte_run.specs.declared.status.Status.TheVariants.{Done, Usage, FrameRefused, NetworkRefused, TraceRefused, OutsideHypothesis, ReadFault, WriteFault, OutOfMemory, TooLong, AuditRefused}
 
 -- an accepted network is answered with its beta and its gamma
 pub record IsAcceptance (network : Network) (a : Answer) : Type 0 where
@@ -30,3 +30,4 @@ IsCheckStatus ReadFault = Unit {0}
 IsCheckStatus WriteFault = Unit {0}
 IsCheckStatus OutOfMemory = Unit {0}
 IsCheckStatus TooLong = Unit {0}
+IsCheckStatus AuditRefused = ⊥

@@ -12,7 +12,7 @@ use Rattle.tte_run.specs.traces.FaultLine.{fault_status, fault_lines}
 use Rattle.tte_run.specs.traces.Lines.{AreAdmitted, HaveEnded, IsFault, behind_lines}
 use Rattle.tte_run.specs.declared.trace.fault.TraceFault.{TraceFault}
 use Rattle.tte_run.specs.declared.status.Status.{Status}
-use Rattle.tte_run.specs.declared.status.Status.TheVariants.{Done, Usage, FrameRefused, NetworkRefused, TraceRefused, OutsideHypothesis, ReadFault, WriteFault, OutOfMemory, TooLong}
+use Rattle.tte_run.specs.declared.status.Status.TheVariants.{Done, Usage, FrameRefused, NetworkRefused, TraceRefused, OutsideHypothesis, ReadFault, WriteFault, OutOfMemory, TooLong, AuditRefused}
 use Rattle.tte_units.specs.Amount.{amount}
 use Rattle.tte_units.specs.declared.units.Units.{Units}
 use Rattle.drift_world.specs.Running.{behind_events, last_time, reading_of}
@@ -71,3 +71,4 @@ IsRunStatus ReadFault = Unit {0}
 IsRunStatus WriteFault = Unit {0}
 IsRunStatus OutOfMemory = Unit {0}
 IsRunStatus TooLong = Unit {0}
+IsRunStatus AuditRefused = ⊥

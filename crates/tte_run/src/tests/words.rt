@@ -4,7 +4,7 @@ use crate::form::{Form, read_form};
 use std::test::Fail;
 
 const USAGE: &str =
-    "usage: tte show FILE | check NETWORK | run NETWORK TRACE | storm NETWORK SEED CYCLES\n";
+    "usage: tte show FILE | check NETWORK | run NETWORK TRACE | storm NETWORK SEED CYCLES | audit NETWORK REPORT\n";
 
 const NO_FORMS: &[&[&str]] = &[
     &[],
@@ -16,6 +16,10 @@ const NO_FORMS: &[&[&str]] = &[
     &["run", "a"],
     &["run", "a", "b", "c"],
     &["run", "a", "1", "2"],
+    &["audit"],
+    &["audit", "a"],
+    &["audit", "a", "b", "c"],
+    &["Audit", "a", "b"],
     &["storm"],
     &["storm", "a"],
     &["storm", "a", "1"],
@@ -102,4 +106,5 @@ fn statuses_have_their_numbers(rt: HostRuntime) {
     for (number, status) in statuses.iter().enumerate() {
         assert!(rt; usize::from(status.number()) == number);
     }
+    assert!(rt; Status::AuditRefused.number() == 11);
 }

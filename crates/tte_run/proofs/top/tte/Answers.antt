@@ -3,12 +3,13 @@ use Rattle.tte_run.specs.Forms.{form_of}
 use Rattle.tte_run.specs.frames.Answer.{IsShowStatus}
 use Rattle.tte_run.specs.networks.Checking.{IsCheckStatus}
 use Rattle.tte_run.specs.traces.Answer.{IsRunStatus}
+use Rattle.tte_run.specs.reports.Answer.{IsAuditStatus}
 use Rattle.tte_run.specs.Putting.{Shown, shown_by}
 use Rattle.tte_run.specs.Top.{AnswersWords, Completes}
 use Rattle.tte_run.specs.declared.form.Form.{Form}
-use Rattle.tte_run.specs.declared.form.Form.TheVariants.{Show, Check, Run, Storm}
+use Rattle.tte_run.specs.declared.form.Form.TheVariants.{Show, Check, Run, Storm, Audit}
 use Rattle.tte_run.specs.declared.status.Status.{Status}
-use Rattle.tte_run.proofs.TopAnswers.{no_usage, shown-form, completes-show, completes-check, completes-run, completes-storm}
+use Rattle.tte_run.proofs.TopAnswers.{no_usage, shown-form, completes-show, completes-check, completes-run, completes-storm, completes-audit}
 use Rattle.tte_run.proofs.top.tte.Goals as goal
 
 -- what is answered for the form is answered for the words
@@ -116,3 +117,24 @@ returns-in-Some-Storm-clause-complete g c =
     whole_as form first second c.storm_run.result _ _
     (completes-storm c.in-Some-Storm.seed c.in-Some-Storm.cycles first second c.storm_run.result old new _ _ c.storm_run.ensures.general
     (λ e. inl (c.storm_run.ensures.faults.read e).0) c.storm_run.ensures.faults.write)
+
+pub returns-in-Some-Audit-clause-general : goal.returns-in-Some-Audit-clause-general
+returns-in-Some-Audit-clause-general g c =
+    let form : Some Audit ≡ form_of c.args.words.now = search rules in
+    let first = g.A.Source.left c.args.first.now in
+    let second = g.B.Source.left c.args.second.now in
+    let old = shown_by g.K.Sink c.args.out.now in
+    let new = shown_by g.K.Sink c.audit_report.new.out in
+    words_as form first second c.audit_report.result old new
+    (no_usage IsAuditStatus c.audit_report.result (λ none. none) c.audit_report.ensures.statuses, c.audit_report.ensures.general)
+
+pub returns-in-Some-Audit-clause-complete : goal.returns-in-Some-Audit-clause-complete
+returns-in-Some-Audit-clause-complete g c =
+    let form : Some Audit ≡ form_of c.args.words.now = search rules in
+    let first = g.A.Source.left c.args.first.now in
+    let second = g.B.Source.left c.args.second.now in
+    let old = shown_by g.K.Sink c.args.out.now in
+    let new = shown_by g.K.Sink c.audit_report.new.out in
+    whole_as form first second c.audit_report.result _ _
+    (completes-audit first second c.audit_report.result old new _ _ c.audit_report.ensures.general
+    (λ e. read_rose (c.audit_report.ensures.faults.read e)) c.audit_report.ensures.faults.write)

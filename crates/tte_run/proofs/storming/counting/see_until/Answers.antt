@@ -9,7 +9,6 @@ use Rattle.tte_run.proofs.storms.Seeing.{near_way, new_of, sees_all, sees_more, 
 use Rattle.tte_run.proofs.traces.PuttingRecords.{given_none, given_some, if_none, if_some, is_before}
 use Rattle.tte_run.proofs.traces.Worlds.{go_on}
 use Rattle.tte_run.specs.storms.Counts.{AreSeen, SeesOn}
-use Rattle.tte_run.specs.traces.Answer.{AreRecordsBefore}
 use Rattle.tte_units.specs.Amount.{amount, units_of}
 use Rattle.tte_run.proofs.storming.counting.see_until.Goals as goal
 

@@ -1,0 +1,134 @@
+-- The answer for a network under the octets of a report: that it is one, and how it is given.
+use Rattle.std.proofs.Common.{◌≡◌, ◌⊎◌, ℕ, ◌<◌, ◌≤◌, List, [], length, refl, sym, ap, ◌∙◌, inl, inr, arith}
+use Rattle.net_plan.specs.Ranges.{IsInRange}
+use Rattle.net_plan.specs.declared.network.Network.{Network}
+use Rattle.schedule_checker.specs.Refusals.{RefusalIsOne}
+use Rattle.schedule_tables.specs.Rules.{KeepsRules}
+use Rattle.schedule_tables.specs.declared.rule.Rule.TheVariants.{DevicesDiffer, LinksDiffer, VlNamesDiffer}
+use Rattle.tte_audit.proofs.OneAnswer.{answer_law}
+use Rattle.tte_audit.specs.Answers.{IsAudited, IsRefusedBy}
+use Rattle.tte_audit.specs.Laws.{HasOneAnswer}
+use Rattle.tte_audit.specs.Named.{IsNamed}
+use Rattle.tte_audit.specs.declared.refusal.AuditRefusal.{AuditRefusal}
+use Rattle.tte_audit.specs.declared.refusal.AuditRefusal.TheVariants as refusals
+use Rattle.tte_run.specs.Answering.{Answer, Ends, Gives, GivesOne, IsDone}
+use Rattle.tte_run.specs.Putting.{Shown}
+use Rattle.tte_run.specs.declared.status.Status.{Status}
+use Rattle.tte_run.specs.declared.status.Status.TheVariants.{ReadFault, WriteFault, OutOfMemory, TooLong}
+use Rattle.tte_run.specs.networks.Accepting.{IsNetworkAnswer, MeansAccepted, too_long_answer}
+use Rattle.tte_run.specs.reports.Answer.{FailsAudit, IsAuditAnswer, PassesAudit, audited_answer, report_limit, report_refused_answer}
+use Rattle.tte_run.proofs.OneAnswers.{cut_given, none_put, one_given}
+use Rattle.tte_run.proofs.Puts.{Ends-gives, PutsLines-none}
+use Rattle.tte_run.proofs.networks.Answers.{accepted_alone, network_answer_one}
+
+-- ---- the answer is one
+
+-- a network that keeps the rules has no two things of one kind and name
+pub kept_apart : (network : Network) → KeepsRules network → IsInRange network → IsNamed network
+kept_apart network rules range =
+    record { in_range = range; devices = rules DevicesDiffer; links = rules LinksDiffer; vls = rules VlNamesDiffer }
+
+-- its reports have one answer of an audit each
+judged_once : (network : Network) (octets : List ℕ) → KeepsRules network → IsInRange network → HasOneAnswer network octets
+judged_once network octets rules range = answer_law network octets (kept_apart network rules range)
+
+too_long_alone : (network : Network) (octets : List ℕ) → report_limit < length octets → (b : Answer) → IsAuditAnswer octets network b → b ≡ too_long_answer
+too_long_alone network octets long b (inl h) = h.1
+too_long_alone network octets long b (inr (inl h)) = let fits = h.1.fits in absurd (omega (arith, long, fits))
+too_long_alone network octets long b (inr (inr h)) = let fits = h.1.fits in absurd (omega (arith, long, fits))
+
+-- a report of a run has that answer alone
+audited_alone : (network : Network) (octets : List ℕ) (count : ℕ) → KeepsRules network → PassesAudit network octets count → (b : Answer)
+    → IsAuditAnswer octets network b → b ≡ audited_answer count
+audited_alone network octets count rules p b (inl h) = let fits = p.fits in absurd (omega (arith, h.0, fits))
+audited_alone network octets count rules p b (inr (inl h)) =
+    h.2 ∙ ap audited_answer ((judged_once network octets rules p.range).one_count h.0 count h.1.audited p.audited)
+audited_alone network octets count rules p b (inr (inr h)) =
+    absurd ((judged_once network octets rules p.range).not_both count h.0 h.1.of_report p.audited h.1.refused)
+
+-- a report that is refused has the answer for that alone
+refused_alone : (network : Network) (octets : List ℕ) (refusal : AuditRefusal) → KeepsRules network → FailsAudit network octets refusal → (b : Answer)
+    → IsAuditAnswer octets network b → b ≡ report_refused_answer refusal
+refused_alone network octets refusal rules f b (inl h) = let fits = f.fits in absurd (omega (arith, h.0, fits))
+refused_alone network octets refusal rules f b (inr (inl h)) =
+    absurd ((judged_once network octets rules f.range).not_both h.0 refusal f.of_report h.1.audited f.refused)
+refused_alone network octets refusal rules f b (inr (inr h)) =
+    h.2 ∙ ap report_refused_answer ((judged_once network octets rules f.range).one_refusal h.0 refusal h.1.of_report f.of_report h.1.refused f.refused)
+
+-- a network that keeps the rules has one answer under the octets of a report
+audit_answer_one : (network : Network) (octets : List ℕ) → KeepsRules network → (a b : Answer) → IsAuditAnswer octets network a
+    → IsAuditAnswer octets network b → a ≡ b
+audit_answer_one network octets rules a b (inl p) q = p.1 ∙ sym (too_long_alone network octets p.0 b q)
+audit_answer_one network octets rules a b (inr (inl p)) q = p.2 ∙ sym (audited_alone network octets p.0 rules p.1 b q)
+audit_answer_one network octets rules a b (inr (inr p)) q = p.2 ∙ sym (refused_alone network octets p.0 rules p.1 b q)
+
+-- the octets of a network file and of a report have one answer
+pub audit_one : RefusalIsOne → (octets report : List ℕ) (a b : Answer) → IsNetworkAnswer (IsAuditAnswer report) octets a
+    → IsNetworkAnswer (IsAuditAnswer report) octets b → a ≡ b
+audit_one one octets report a b p q =
+    network_answer_one one (IsAuditAnswer report) octets (λ network accepted. audit_answer_one network report accepted.rules) a b p q
+
+-- ---- how it is given
+
+pub long_given : (network : Network) (octets : List ℕ) (status : Status) (old new : Shown) → report_limit < length octets → Ends TooLong status old new
+    → GivesOne (IsAuditAnswer octets network) status old new
+long_given network octets status old new long ends =
+    one_given (IsAuditAnswer octets network) too_long_answer status old new (inl (long, refl)) (too_long_alone network octets long)
+    (Ends-gives [] TooLong status old old new (PutsLines-none old) ends)
+
+pub audited_given : (network : Network) (octets : List ℕ) (count : ℕ) (status : Status) (old new : Shown) → KeepsRules network
+    → PassesAudit network octets count → Gives (audited_answer count) status old new → GivesOne (IsAuditAnswer octets network) status old new
+audited_given network octets count status old new rules p g =
+    one_given (IsAuditAnswer octets network) (audited_answer count) status old new (inr (inl (count, p, refl))) (audited_alone network octets count rules p) g
+
+-- a refusal that the octets give was told
+told_given : (network : Network) (octets : List ℕ) (refusal : AuditRefusal) (status : Status) (old new : Shown) → KeepsRules network
+    → FailsAudit network octets refusal → Gives (report_refused_answer refusal) status old new → GivesOne (IsAuditAnswer octets network) status old new
+told_given network octets refusal status old new rules f g =
+    one_given (IsAuditAnswer octets network) (report_refused_answer refusal) status old new (inr (inr (refusal, f, refl)))
+    (refused_alone network octets refusal rules f) g
+
+-- ..., or memory ran out
+pub refused_given : (network : Network) (octets : List ℕ) (refusal : AuditRefusal) (status : Status) (old new : Shown) → KeepsRules network
+    → IsInRange network → length octets ≤ report_limit → IsRefusedBy network octets refusal → Gives (report_refused_answer refusal) status old new
+    → GivesOne (IsAuditAnswer octets network) status old new
+refused_given network octets (refusals.Form n) status old new rules range fits r g =
+    told_given network octets (refusals.Form n) status old new rules (record { range = range; fits = fits; of_report = tt; refused = r }) g
+refused_given network octets (refusals.Events n) status old new rules range fits r g =
+    told_given network octets (refusals.Events n) status old new rules (record { range = range; fits = fits; of_report = tt; refused = r }) g
+refused_given network octets (refusals.Unfounded n) status old new rules range fits r g =
+    told_given network octets (refusals.Unfounded n) status old new rules (record { range = range; fits = fits; of_report = tt; refused = r }) g
+refused_given network octets (refusals.Lacking t) status old new rules range fits r g =
+    told_given network octets (refusals.Lacking t) status old new rules (record { range = range; fits = fits; of_report = tt; refused = r }) g
+refused_given network octets refusals.OutOfMemory status old new rules range fits r g =
+    cut_given (IsAuditAnswer octets network) (report_refused_answer refusals.OutOfMemory) status old new refl (inr refl) g
+
+-- where nothing was put and a read failed or memory ran out, a front of any answer was given
+pub unput_given : (network : Network) (octets : List ℕ) (status : Status) (s : Shown) → (status ≡ ReadFault) ⊎ (status ≡ OutOfMemory)
+    → GivesOne (IsAuditAnswer octets network) status s s
+unput_given network octets status s cause = inr (inr (cause, λ a is. none_put a.lines s s (PutsLines-none s)))
+
+-- ---- valid input
+
+done_of : (network : Network) (report : List ℕ) (count : ℕ) (a : Answer) → KeepsRules network → length report ≤ report_limit
+    → IsAudited network report count → IsAuditAnswer report network a → IsDone a.status
+done_of network report count a rules fits audited (inl h) = absurd (omega (arith, h.0, fits))
+done_of network report count a rules fits audited (inr (inl h)) = inl (ap (λ (x : Answer). x.status) h.2)
+done_of network report count a rules fits audited (inr (inr h)) =
+    absurd ((judged_once network report rules h.1.range).not_both count h.0 h.1.of_report audited h.1.refused)
+
+same_done : (status other : Status) → status ≡ other → IsDone other → IsDone status
+same_done status other e (inl d) = inl (e ∙ d)
+same_done status other e (inr m) = inr (e ∙ m)
+
+-- a report of a run of an accepted network is audited
+pub audit_whole : (octets report : List ℕ) (network : Network) (count : ℕ) (status : Status) (old new : Shown) (SourceRose SinkRose : Type 0)
+    → MeansAccepted octets network → length report ≤ report_limit → IsAudited network report count
+    → GivesOne (IsNetworkAnswer (IsAuditAnswer report) octets) status old new → (status ≡ ReadFault → SourceRose) → (status ≡ WriteFault → SinkRose)
+    → (SourceRose → ⊥) → (SinkRose → ⊥) → IsDone status
+audit_whole octets report network count status old new SourceRose SinkRose m fits audited (inl g) read write quiet calm =
+    same_done status g.0.status g.2 (done_of network report count g.0 m.rules fits audited (accepted_alone (IsAuditAnswer report) octets network m g.0 g.1))
+audit_whole octets report network count status old new SourceRose SinkRose m fits audited (inr (inl g)) read write quiet calm = absurd (calm (write g.0))
+audit_whole octets report network count status old new SourceRose SinkRose m fits audited (inr (inr (inl r, p))) read write quiet calm =
+    absurd (quiet (read r))
+audit_whole octets report network count status old new SourceRose SinkRose m fits audited (inr (inr (inr o, p))) read write quiet calm = inr o

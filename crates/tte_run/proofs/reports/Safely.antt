@@ -1,0 +1,78 @@
+-- A report that `audit` does not refuse is that of a run that is safe.
+use Rattle.std.proofs.Common.{◌≡◌, ℕ, List, Option, inl, inr, ap, ◌∙◌, sym}
+use Rattle.std.specs.List.{concat}
+use Rattle.std.proofs.lemmas.List.{append-nil}
+use Rattle.drift_clock.specs.Segment.{fresh_segment, segment_reading, stepped_segment}
+use Rattle.net_plan.specs.declared.network.Network.{Network}
+use Rattle.report_text.specs.NoteLine.{report_of}
+use Rattle.safe_runs.proofs.Clocked.{ended}
+use Rattle.tte_audit.specs.Named.{IsNamed}
+use Rattle.tte_audit.specs.Report.{events_of}
+use Rattle.tte_audit.specs.declared.refusal.AuditRefusal.{AuditRefusal}
+use Rattle.tte_audit.specs.declared.refusal.AuditRefusal.TheVariants as refusals
+use Rattle.tte_run.specs.Answering.{Answer, ForOctets, GivesOne}
+use Rattle.tte_run.specs.Putting.{Shown}
+use Rattle.tte_run.specs.declared.status.Status.{Status}
+use Rattle.tte_run.specs.declared.status.Status.TheVariants.{Done}
+use Rattle.tte_run.specs.networks.Accepting.{IsNetworkAnswer, MeansAccepted}
+use Rattle.tte_run.specs.reports.Answer.{IsAuditAnswer, PassesAudit, report_refused_answer}
+use Rattle.tte_run.specs.reports.Safely.{AuditsSafely, ReportsSafeRun}
+use Rattle.tte_run.proofs.Octets.{for_more}
+use Rattle.tte_run.proofs.reports.Answers.{kept_apart}
+use Rattle.tte_run.proofs.reports.Sources.{GivesNetworkAudit}
+use Rattle.tte_run.proofs.reports.Under.{report_ends, report_under}
+use Rattle.tte_run.proofs.traces.Safely.{exact_begins, exact_laws}
+
+safe_run : (octets report : List ℕ) (network : Network) (count : ℕ) → MeansAccepted octets network → PassesAudit network report count
+    → ReportsSafeRun octets report
+safe_run octets report network count accepted p =
+    let a = p.audited in
+    let events = events_of a.notes in
+    let named : IsNamed network = kept_apart network accepted.rules p.range in
+    record {
+      network = network;
+      accepted = accepted;
+      notes = a.notes;
+      text = a.events.text.text ∙ append-nil (concat (report_of network a.notes));
+      run = ended fresh_segment stepped_segment segment_reading exact_laws exact_begins network events a.time a.notes
+          (report_under network report a.notes a.time named accepted.rules a.events) (report_ends events a.time a.events.ends) a.run;
+    }
+
+-- no refusal is told as done
+not_done : (refusal : AuditRefusal) → Done ≡ (report_refused_answer refusal).status → ⊥
+not_done (refusals.Form n) e = cc
+not_done (refusals.Events n) e = cc
+not_done (refusals.Unfounded n) e = cc
+not_done (refusals.Lacking t) e = cc
+not_done refusals.OutOfMemory e = cc
+
+told : (a b : Answer) → Done ≡ a.status → a ≡ b → Done ≡ b.status
+told a b done same = done ∙ ap (λ (x : Answer). x.status) same
+
+-- what is answered by done for an accepted network is the report of such a run
+done_safely : (octets report : List ℕ) (network : Network) (a : Answer) → MeansAccepted octets network → IsAuditAnswer report network a → Done ≡ a.status
+    → ReportsSafeRun octets report
+done_safely octets report network a accepted (inl h) done = let e = told a _ done h.1 in absurd cc
+done_safely octets report network a accepted (inr (inl h)) done = safe_run octets report network h.0 accepted h.1
+done_safely octets report network a accepted (inr (inr h)) done = absurd (not_done h.0 (told a _ done h.2))
+
+answered_safely : (octets report : List ℕ) (a : Answer) → IsNetworkAnswer (IsAuditAnswer report) octets a → Done ≡ a.status → ReportsSafeRun octets report
+answered_safely octets report a (inl h) done = let e = told a _ done h.1 in absurd cc
+answered_safely octets report a (inr (inl h)) done = let e = told a _ done h.2 in absurd cc
+answered_safely octets report a (inr (inr (inl h))) done = let e = told a _ done h.2 in absurd cc
+answered_safely octets report a (inr (inr (inr h))) done = done_safely octets report h.0 a h.1 h.2 done
+
+given_safely : (octets report : List ℕ) (status : Status) (old new : Shown) → status ≡ Done
+    → GivesOne (IsNetworkAnswer (IsAuditAnswer report) octets) status old new → ReportsSafeRun octets report
+given_safely octets report status old new done (inl g) = answered_safely octets report g.0 g.1 (sym done ∙ g.2)
+given_safely octets report status old new done (inr (inl g)) = let e = g.0 in absurd cc
+given_safely octets report status old new done (inr (inr (inl r, p))) = absurd cc
+given_safely octets report status old new done (inr (inr (inr o, p))) = absurd cc
+
+pub audited_safely : (first second : Option (List ℕ)) (status : Status) (old new : Shown) → GivesNetworkAudit first second status old new
+    → AuditsSafely first second status
+audited_safely first second status old new g done =
+    for_more first (λ octets. ForOctets second (λ report. GivesOne (IsNetworkAnswer (IsAuditAnswer report) octets) status old new))
+    (λ octets. ForOctets second (λ report. ReportsSafeRun octets report))
+    (λ octets h. for_more second (λ report. GivesOne (IsNetworkAnswer (IsAuditAnswer report) octets) status old new)
+    (λ report. ReportsSafeRun octets report) (λ report. given_safely octets report status old new done) h) g

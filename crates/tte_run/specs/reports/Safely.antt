@@ -1,0 +1,27 @@
+-- A report that `audit` does not refuse is that of a run that is safe.
+use Rattle.std.specs.Prelude.{◌≡◌, ℕ, List, Option}
+use Rattle.std.specs.List.{concat}
+use Rattle.drift_clock.specs.Segment.{fresh_segment, stepped_segment, segment_reading}
+use Rattle.net_plan.specs.declared.network.Network.{Network}
+use Rattle.report_text.specs.NoteLine.{report_of}
+use Rattle.run_law.specs.declared.note.Note.{Note}
+use Rattle.safe_runs.specs.Headline.{IsWholeRun}
+use Rattle.tte_audit.specs.Report.{events_of}
+use Rattle.tte_run.specs.Answering.{ForOctets}
+use Rattle.tte_run.specs.declared.status.Status.{Status}
+use Rattle.tte_run.specs.declared.status.Status.TheVariants.{Done}
+use Rattle.tte_run.specs.networks.Accepting.{MeansAccepted}
+
+-- the octets are the report of the run of the accepted network under the events that its own records tell, up to their
+-- end; it goes well up to there
+pub record ReportsSafeRun (octets report : List ℕ) : Type 0 where
+  pub network : Network
+  pub accepted : MeansAccepted octets network
+  pub notes : List Note
+  pub text : report ≡ concat (report_of network notes)
+  pub run : IsWholeRun fresh_segment stepped_segment segment_reading network (events_of notes) notes
+
+-- where this is the status, the octets of the report are so, for those of the network file
+abbrev pub AuditsSafely : Option (List ℕ) → Option (List ℕ) → Status → Type 0
+AuditsSafely first second status =
+    status ≡ Done → ForOctets first (λ octets. ForOctets second (λ report. ReportsSafeRun octets report))
