@@ -1,5 +1,4 @@
 mod audits;
-mod calm;
 mod records_read;
 mod reports;
 mod worked;

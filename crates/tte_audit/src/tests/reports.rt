@@ -1,4 +1,3 @@
-use super::calm::CALM;
 use super::worked::worked;
 use crate::{AuditRefusal, audit};
 use schedule_tables::Accepted;
@@ -38,32 +37,5 @@ fn a_report_of_no_run_is_refused(rt: HostRuntime) -> Result<(), Fail> {
         let told = audited(&rt, rt.alloc(), &network, report);
         assert_eq!(rt; told, Err(*wanted), "at {report}");
     }
-    Ok(())
-}
-
-#[test]
-fn the_calm_report_is_passed(rt: HostRuntime) -> Result<(), Fail> {
-    let network = worked(&rt, rt.alloc())?;
-    assert_eq!(rt; audited(&rt, rt.alloc(), &network, CALM), Ok(307));
-    Ok(())
-}
-
-#[test]
-fn another_correction_is_unfounded(rt: HostRuntime) -> Result<(), Fail> {
-    let network = worked(&rt, rt.alloc())?;
-    let line = "m1 cycle 1 by 0 adj 0";
-    let (front, back) = CALM.split_once(line).expect(&rt, "line 83");
-    let report = format!(in rt.alloc(); "{front}m1 cycle 1 by 1 adj 1{back}")?;
-    let told = audited(&rt, rt.alloc(), &network, &report);
-    assert_eq!(rt; told, Err(AuditRefusal::Unfounded(83)));
-    Ok(())
-}
-
-#[test]
-fn the_last_clock_may_not_be_left_out(rt: HostRuntime) -> Result<(), Fail> {
-    let network = worked(&rt, rt.alloc())?;
-    let (front, _) = CALM.split_once("307 ").expect(&rt, "line 307");
-    let told = audited(&rt, rt.alloc(), &network, front);
-    assert_eq!(rt; told, Err(AuditRefusal::Lacking(Units(524_287_999_999))));
     Ok(())
 }
