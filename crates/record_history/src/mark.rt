@@ -125,6 +125,7 @@ impl Mark {
         }
     }
 
+    /// The world time of the places whose mark this is, in units of 2^-16 ns.
     pub fn time(&self) -> u64
         ensures { result ≡ self.now.time }
     {
