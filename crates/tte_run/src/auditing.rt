@@ -80,6 +80,7 @@ fn audit_octets<K: Sink>(alloc: Global, accepted: &Accepted, report: &[u8], out:
     ensures statuses { IsAuditStatus result }
     ensures cause { HasCause result ⊥ (PutFailed K.Sink out.old out.new) }
 {
+    // The checker has to meet the network here.
     let _network = accepted.network();
     match audit(alloc, accepted, report) {
         Ok(count) => {
