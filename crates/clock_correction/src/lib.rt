@@ -4,6 +4,3 @@
 mod deviations;
 
 pub use deviations::{correction, deviation};
-
-#[cfg(test)]
-mod tests;

@@ -19,6 +19,3 @@ pub use moment::Moment;
 pub use network::is_master;
 pub use reaching::{is_up, reaches};
 pub use sending::{Sending, beginnings, next_sending, sends};
-
-#[cfg(test)]
-mod tests;

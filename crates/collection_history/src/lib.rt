@@ -10,6 +10,3 @@ mod mean;
 pub use emitted::Emitted;
 pub use gathering::Gathering;
 pub use history::CollectionHistory;
-
-#[cfg(test)]
-mod tests;

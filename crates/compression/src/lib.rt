@@ -17,6 +17,3 @@ pub use laws::{clusters_law, emission_law, middle_law, one_cluster_law};
 pub use middling::middle;
 pub use points::Points;
 pub use taken::Taken;
-
-#[cfg(test)]
-mod tests;

@@ -9,6 +9,3 @@ mod memory;
 pub use beginning::machines_of;
 pub use device_machine::DeviceMachine;
 pub use memory::OutOfMemory;
-
-#[cfg(test)]
-mod tests;

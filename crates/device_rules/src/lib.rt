@@ -24,6 +24,3 @@ pub use leaving::{Departed, departure};
 pub use network::{is_cm, is_end, is_parent_of, is_relay, member_of, way_to};
 pub use standpoint::Standpoint;
 pub use timed::TimedArrival;
-
-#[cfg(test)]
-mod tests;

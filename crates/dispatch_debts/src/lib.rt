@@ -7,6 +7,3 @@ mod finding;
 mod lacking;
 
 pub use debtor::RowDebtor;
-
-#[cfg(test)]
-mod tests;

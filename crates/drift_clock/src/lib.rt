@@ -10,6 +10,3 @@ pub use clock::Clock;
 pub use laws::{clock_laws, segment_law, slip_law, steady_law};
 pub use segment::SegmentClock;
 pub use steady::SteadyClock;
-
-#[cfg(test)]
-mod tests;

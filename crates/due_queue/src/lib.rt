@@ -150,6 +150,3 @@ impl<T> UnderWay<T> {
         })
     }
 }
-
-#[cfg(test)]
-mod tests;

@@ -103,6 +103,3 @@ impl Timers {
         }
     }
 }
-
-#[cfg(test)]
-mod tests;

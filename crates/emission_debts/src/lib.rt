@@ -6,6 +6,3 @@ mod emitting;
 mod first;
 
 pub use first::first_unemitted;
-
-#[cfg(test)]
-mod tests;

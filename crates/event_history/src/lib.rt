@@ -11,6 +11,3 @@ mod settings;
 pub use history::EventHistory;
 pub use laws::reading_law;
 pub use memory::OutOfMemory;
-
-#[cfg(test)]
-mod tests;

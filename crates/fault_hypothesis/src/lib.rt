@@ -8,6 +8,3 @@ mod watch;
 
 pub use run_law::Outside;
 pub use watch::Watch;
-
-#[cfg(test)]
-mod tests;

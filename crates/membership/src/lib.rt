@@ -11,6 +11,3 @@ pub use frame::HeardFrame;
 pub use heard::Heard;
 pub use laws::{count_is_of_members, one_more_member, summary_is_one};
 pub use members::{count, join, one};
-
-#[cfg(test)]
-mod tests;

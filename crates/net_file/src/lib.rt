@@ -21,6 +21,3 @@ pub use keys::KeyName;
 pub use law::names_law;
 pub use refusal::FileRefusal;
 pub use spots::{Spot, TableName};
-
-#[cfg(test)]
-mod tests;

@@ -21,6 +21,3 @@ pub use network::Network;
 pub use octets::Octets;
 pub use path::Path;
 pub use tables::{Device, Devices, Link, Links, Role, Row, Rows, VirtualLink, VirtualLinks, Way};
-
-#[cfg(test)]
-mod tests;

@@ -16,6 +16,3 @@ pub use pcf::{PCF_LENGTH, decode, encode};
 pub use reader::PcfReader;
 pub use refusal::{PcfRefusal, TtRefusal};
 pub use tt::decode_tt;
-
-#[cfg(test)]
-mod tests;

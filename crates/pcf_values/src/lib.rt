@@ -13,6 +13,3 @@ pub use mac::Mac;
 pub use members::Members;
 pub use pcf::{Pcf, PcfKind};
 pub use tt::TtHead;
-
-#[cfg(test)]
-mod tests;

@@ -17,6 +17,3 @@ pub use shown::{Readings, Shown};
 pub use standings::Standings;
 pub use taking::Taking;
 pub use takings::Takings;
-
-#[cfg(test)]
-mod tests;

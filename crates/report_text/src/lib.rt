@@ -11,6 +11,3 @@ mod writing;
 pub use laws::one_report;
 pub use words::{judgement_text, state_text, why_text};
 pub use writing::{make_note_line, write};
-
-#[cfg(test)]
-mod tests;

@@ -21,6 +21,3 @@ pub use note::{Note, NoteBody};
 pub use outside::Outside;
 pub use silent_law::silent_runs_agree;
 pub use steps::{Act, Arrival, Moment, Ripe};
-
-#[cfg(test)]
-mod tests;

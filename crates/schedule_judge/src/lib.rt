@@ -17,6 +17,3 @@ pub use holding::is_at_hand;
 pub use judging::{At, Loss, is_cut, loses_dispatch, sends_timed};
 pub use leaving::{Dispatch, LeavingRow};
 pub use sending::sends_some;
-
-#[cfg(test)]
-mod tests;

@@ -18,6 +18,3 @@ pub use memory::OutOfMemory;
 pub use rule::Rule;
 pub use tables::Tables;
 pub use window::{Window, window_of};
-
-#[cfg(test)]
-mod tests;

@@ -11,6 +11,3 @@ mod words;
 
 pub use laws::{storm_is_one, storms_are_within};
 pub use storm::Storm;
-
-#[cfg(test)]
-mod tests;

@@ -11,6 +11,3 @@ pub use counts::{Counts, Drops};
 pub use laws::{spread_is_one, spread_is_within_precision};
 pub use summary::{LINES, Summary};
 pub use tally::Tally;
-
-#[cfg(test)]
-mod tests;

@@ -20,6 +20,3 @@ mod tournament;
 pub(crate) use site::{Peer, Port, Site};
 pub(crate) use standpoint::Standpoint;
 pub use switch::Switch;
-
-#[cfg(test)]
-mod tests;

@@ -13,6 +13,3 @@ pub use laws::{corrected_by_points, verdict_is_one};
 pub use plan::SyncPlan;
 pub use state::State;
 pub use sync::{LAST_CYCLE, Sync};
-
-#[cfg(test)]
-mod tests;

@@ -17,6 +17,3 @@ pub use printing::{EventText, event_text, print, push_what};
 pub use reading::{line, what};
 pub use refusal::LineRefusal;
 pub use words::Words;
-
-#[cfg(test)]
-mod tests;

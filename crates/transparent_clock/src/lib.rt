@@ -8,6 +8,3 @@ mod points;
 pub use growing::{arrive, leave};
 pub use laws::{path_law, waiting_law};
 pub use points::permanence;
-
-#[cfg(test)]
-mod tests;

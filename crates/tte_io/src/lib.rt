@@ -23,6 +23,3 @@ pub use memory::OutOfMemory;
 pub use sinks::MemorySink;
 pub use sources::{MemorySource, SteadySource};
 pub use whole::{Bytes, ReadAll, read_all};
-
-#[cfg(test)]
-mod tests;

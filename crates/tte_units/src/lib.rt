@@ -8,6 +8,3 @@ mod units;
 pub use rates::{Ppb, slip};
 pub use speed::{Speed, octets};
 pub use units::{READING_LIMIT, Units, mean};
-
-#[cfg(test)]
-mod tests;

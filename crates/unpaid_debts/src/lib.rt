@@ -15,6 +15,3 @@ mod permanences;
 pub use debtor::Debtor;
 pub use paid::Paid;
 pub use payments::Payments;
-
-#[cfg(test)]
-mod tests;

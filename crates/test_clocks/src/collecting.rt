@@ -1,0 +1,129 @@
+use compression::{Collector, Compressed, Points, Taken, middle};
+use pcf_values::Members;
+use tte_units::Units;
+
+#[test]
+fn points_rise_and_are_at_most_eight(rt: HostRuntime) {
+    let mut points = Points::new();
+    assert!(rt; points.push(Units(3)));
+    assert!(rt; !points.push(Units(2)));
+    assert!(rt; points.push(Units(3)));
+    for _ in 0..6 {
+        assert!(rt; points.push(Units(4)));
+    }
+    assert!(rt; !points.push(Units(5)));
+}
+
+#[test]
+fn middles_of_one_and_of_four_points(rt: HostRuntime) {
+    let mut points = Points::new();
+    points.append(Units(0));
+    assert!(rt; middle(&points) == Units(0));
+    points.append(Units(10));
+    points.append(Units(100));
+    points.append(Units(1_000));
+    assert!(rt; middle(&points) == Units(55));
+}
+
+#[test]
+fn middles_of_five_and_of_six_points(rt: HostRuntime) {
+    let mut points = Points::new();
+    points.append(Units(0));
+    points.append(Units(3));
+    points.append(Units(4));
+    points.append(Units(9));
+    points.append(Units(500));
+    assert!(rt; middle(&points) == Units(6));
+
+    let mut points = Points::new();
+    points.append(Units(0));
+    points.append(Units(3));
+    points.append(Units(4));
+    points.append(Units(9));
+    points.append(Units(20));
+    points.append(Units(500));
+    assert!(rt; middle(&points) == Units(11));
+}
+
+#[test]
+fn middle_of_eight_points(rt: HostRuntime) {
+    let mut points = Points::new();
+    points.append(Units(0));
+    points.append(Units(1));
+    points.append(Units(2));
+    points.append(Units(3));
+    points.append(Units(4));
+    points.append(Units(5));
+    points.append(Units(6));
+    points.append(Units(100));
+    assert!(rt; middle(&points) == Units(3));
+}
+
+#[test]
+fn a_collection_takes_points_over_two_windows(rt: HostRuntime) {
+    let mut collector = Collector::new(Units(10), Units(1));
+    assert!(rt; collector.due() == None);
+    assert!(rt; collector.point(Units(100), 0, 1) == Taken::Opened);
+    assert!(rt; collector.point(Units(105), 0, 1) == Taken::Repeat);
+    assert!(rt; collector.point(Units(106), 1, 2) == Taken::OtherCycle);
+    assert!(rt; collector.point(Units(110), 1, 1) == Taken::Joined);
+    assert!(rt; collector.point(Units(120), 2, 1) == Taken::Joined);
+    assert!(rt; collector.point(Units(121), 3, 1) == Taken::Opened);
+    assert!(rt; collector.due() == Some(Units(131)));
+    let first = Compressed {
+        opened: Units(100),
+        at: Units(131),
+        cycle: 1,
+        members: Members(7),
+    };
+    assert!(rt; collector.emit() == first);
+    assert!(rt; collector.due() == Some(Units(142)));
+    collector.clear();
+    assert!(rt; collector.due() == None);
+}
+
+#[test]
+fn a_point_beyond_one_window_of_one_master_opens_another(rt: HostRuntime) {
+    let mut collector = Collector::new(Units(10), Units(1));
+    assert!(rt; collector.point(Units(100), 0, 1) == Taken::Opened);
+    assert!(rt; collector.point(Units(111), 1, 1) == Taken::Opened);
+}
+
+// The window and the time to calculate are those of a network with a precision of 16 us. Each
+// correct master sends at its own start of cycle 1, and its point lies the maximal delay of
+// 3,276,800,000 after that, whatever the wires: their delay is in the frame's clock. So masters
+// that begin at 0, 100,000,000 and 200,000,000 have the points 134,348,800,000, 134,248,800,000 and
+// 134,148,800,000. Master 3 is broken: it sends at 129,923,424,000, and its point 133,200,224,000
+// lies exactly one window before that of master 1. With one window master 0 would be left out.
+// The middle is the mean of 948,576,000 and 1,048,576,000 after the first point.
+#[test]
+fn an_early_broken_master_does_not_split_the_others(rt: HostRuntime) {
+    let mut collector = Collector::new(Units(1_048_576_000), Units(65_536_000));
+    assert!(rt; collector.point(Units(133_200_224_000), 3, 1) == Taken::Opened);
+    assert!(rt; collector.point(Units(134_148_800_000), 2, 1) == Taken::Joined);
+    assert!(rt; collector.point(Units(134_248_800_000), 1, 1) == Taken::Joined);
+    assert!(rt; collector.point(Units(134_348_800_000), 0, 1) == Taken::Joined);
+    let all = Compressed {
+        opened: Units(133_200_224_000),
+        at: Units(133_200_224_000 + 2 * 1_048_576_000 + 65_536_000 + 998_576_000),
+        cycle: 1,
+        members: Members(0x0000_000f),
+    };
+    assert!(rt; collector.emit() == all);
+}
+
+#[test]
+fn five_collections_wait_at_once(rt: HostRuntime) {
+    let mut collector = Collector::new(Units(10), Units(10));
+    assert!(rt; collector.point(Units(0), 0, 1) == Taken::Opened);
+    assert!(rt; collector.point(Units(10), 1, 1) == Taken::Joined);
+    assert!(rt; collector.point(Units(20), 2, 1) == Taken::Joined);
+    assert!(rt; collector.point(Units(20), 3, 1) == Taken::Joined);
+    assert!(rt; collector.point(Units(21), 0, 1) == Taken::Opened);
+    assert!(rt; collector.point(Units(32), 0, 1) == Taken::Opened);
+    assert!(rt; collector.point(Units(43), 0, 1) == Taken::Opened);
+    assert!(rt; collector.point(Units(54), 0, 1) == Taken::Opened);
+    assert!(rt; collector.due() == Some(Units(45)));
+    assert!(rt; collector.emit().at == Units(45));
+    assert!(rt; collector.emit().at == Units(51));
+}

@@ -1,0 +1,60 @@
+use membership::{Heard, HeardFrame, count, join, one};
+use pcf_values::{Channel, Members};
+use tte_units::Units;
+
+fn frame(members: u32, point: i64) -> HeardFrame {
+    HeardFrame {
+        cycle: 7,
+        members: Members(members),
+        point: Units(point),
+    }
+}
+
+#[test]
+fn sets_are_bits(rt: HostRuntime) {
+    assert!(rt; one(0) == Members(1));
+    assert!(rt; one(31) == Members(0x8000_0000));
+    assert!(rt; count(Members(0)) == 0);
+    assert!(rt; count(Members(0xffff_ffff)) == 32);
+    assert!(rt; join(Members(0x5), Members(0x6)) == Members(0x7));
+}
+
+#[test]
+fn most_members_then_the_latest_point_then_the_last(rt: HostRuntime) {
+    let mut heard = Heard::default();
+    assert!(rt; heard.best(Channel::A) == None);
+    heard.hear(Channel::A, frame(0x7, 10), true);
+    heard.hear(Channel::A, frame(0x3, 90), true);
+    heard.hear(Channel::B, frame(0xf, 50), true);
+    heard.hear(Channel::A, frame(0xf, 99), false);
+    assert!(rt; heard.best(Channel::A) == Some(frame(0x7, 10)));
+    heard.hear(Channel::A, frame(0xb, 20), true);
+    heard.hear(Channel::A, frame(0xd, 15), true);
+    assert!(rt; heard.best(Channel::A) == Some(frame(0xb, 20)));
+    heard.hear(Channel::A, frame(0xe, 20), true);
+    assert!(rt; heard.best(Channel::A) == Some(frame(0xe, 20)));
+    assert!(rt; heard.best(Channel::B) == Some(frame(0xf, 50)));
+}
+
+#[test]
+fn a_channel_qualifies_from_the_threshold_on(rt: HostRuntime) {
+    let mut heard = Heard::new();
+    assert!(rt; !heard.qualified(Channel::B, 0));
+    heard.hear(Channel::B, frame(0x7, -4), true);
+    assert!(rt; heard.qualified(Channel::B, 3));
+    assert!(rt; !heard.qualified(Channel::B, 4));
+    assert!(rt; !heard.qualified(Channel::A, 3));
+}
+
+#[test]
+fn frames_outside_are_kept_as_one_set(rt: HostRuntime) {
+    let mut heard = Heard::new();
+    heard.hear(Channel::A, frame(0x1, 5), false);
+    heard.hear(Channel::B, frame(0x9, 6), false);
+    heard.hear(Channel::A, frame(0x6, 7), true);
+    assert!(rt; heard.outside() == Members(0x9));
+    heard.clear();
+    assert!(rt; heard.outside() == Members(0));
+    assert!(rt; heard.best(Channel::A) == None);
+    assert!(rt; heard == Heard::new());
+}

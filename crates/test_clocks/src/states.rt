@@ -1,0 +1,138 @@
+ghost use Rattle.std.specs.Prelude.{◌≡◌, ◌^◌, ◌≤ℤ◌, pos, neg_ℤ, IfSome};
+
+use sync_state::{Joined, State, Sync, SyncPlan, Verdict};
+use membership::{Heard, HeardFrame};
+use pcf_values::{Channel, Mac, Members, Pcf, PcfKind};
+use std::process::Abort;
+use tte_units::Units;
+
+const PLAN: SyncPlan = SyncPlan {
+    cycle_length: Units(131_072_000_000),
+    expected: Units(8_716_288_000),
+    threshold: 3,
+};
+
+fn frame(cycle: u32, members: u32, point: i64) -> HeardFrame {
+    HeardFrame {
+        cycle,
+        members: Members(members),
+        point: Units(point),
+    }
+}
+
+fn control_frame(cycle: u32, members: u32) -> Pcf {
+    Pcf {
+        destination: Mac::from_number(0x0300_0000_0001),
+        source: Mac::from_number(0x0200_0000_0021),
+        cycle,
+        members: Members(members),
+        priority: 0,
+        domain: 0,
+        kind: PcfKind::Integration,
+        clock: 0,
+    }
+}
+
+/// Looks whether a best frame is as early as the frames of these tests.
+fn look(rt: &impl Abort, best: Option<HeardFrame>)
+    ensures low { IfSome best (λ f. neg_ℤ (pos (2 ^ 50)) ≤ℤ f.point.0) }
+    ensures high { IfSome best (λ f. f.point.0 ≤ℤ pos (2 ^ 50)) }
+{
+    if let Some(frame) = best {
+        assert!(rt; -(1 << 50) <= frame.point.0 && frame.point.0 <= 1 << 50);
+    }
+}
+
+/// Comes to the next correction point, among the first ten.
+fn reach(rt: &impl Abort, sync: &mut Sync, heard: &Heard) -> Verdict
+    requires cycle { sync.old.plan.cycle_length.0 ≡ pos 131072000000 }
+    requires expected { sync.old.plan.expected.0 ≡ pos 8716288000 }
+    ensures { sync.new.plan ≡ sync.old.plan }
+{
+    look(rt, heard.best(Channel::A));
+    look(rt, heard.best(Channel::B));
+    let adjustment = sync.adjustment();
+    assert!(rt; -(1 << 50) <= adjustment.0 && adjustment.0 <= 1 << 50);
+    let number = sync.next_correction().expect(rt, "a correction point");
+    assert!(rt; number <= 10);
+    sync.at_correction(heard)
+}
+
+#[test]
+fn devices_that_begin_on_meet_at_the_mean(rt: HostRuntime) {
+    let mut heard = Heard::new();
+    heard.hear(Channel::A, frame(1, 0x7, 139_688_288_000), true);
+    heard.hear(Channel::B, frame(1, 0xe, 139_588_288_000), true);
+    let mut m1 = Sync::new(PLAN, Some(Units(0)));
+    let mut m3 = Sync::new(PLAN, Some(Units(200_000_000)));
+    assert!(rt; reach(&rt, &mut m1, &heard) == Verdict::Corrected(Units(150_000_000)));
+    assert!(rt; reach(&rt, &mut m3, &heard) == Verdict::Corrected(Units(-50_000_000)));
+    assert!(rt; m1.adjustment() == Units(150_000_000));
+    assert!(rt; m3.adjustment() == Units(150_000_000));
+    assert!(rt; m1.state() == State::Synchronised);
+    assert!(rt; m1.next_correction() == Some(2));
+}
+
+#[test]
+fn one_channel_is_enough(rt: HostRuntime) {
+    let mut heard = Heard::new();
+    heard.hear(Channel::A, frame(1, 0x7, 139_688_288_000), true);
+    heard.hear(Channel::B, frame(1, 0x9, 139_588_288_000), true);
+    let mut c1 = Sync::new(PLAN, Some(Units(0)));
+    assert!(rt; reach(&rt, &mut c1, &heard) == Verdict::Corrected(Units(100_000_000)));
+}
+
+#[test]
+fn a_joiner_corrects_from_the_cycle_after_its_own(rt: HostRuntime) {
+    let mut m4 = Sync::new(PLAN, None);
+    assert!(rt; m4.state() == State::Off);
+    assert!(rt; m4.next_correction() == None);
+    m4.on();
+    let point = Units(270_860_288_000);
+    assert!(rt; m4.integrate(&control_frame(2, 0x3), point) == None);
+    assert!(rt; m4.state() == State::Integrating);
+    let joined = m4.integrate(&control_frame(2, 0x7), point);
+    assert!(rt;
+        joined
+            == Some(Joined {
+                cycle: 2,
+                adjustment: Units(0)
+            })
+    );
+    assert!(rt; m4.state() == State::Joining);
+    assert!(rt; m4.integrate(&control_frame(2, 0x7), point) == None);
+
+    let mut heard = Heard::new();
+    assert!(rt; reach(&rt, &mut m4, &heard) == Verdict::Cleared);
+    assert!(rt; m4.state() == State::Joining);
+    assert!(rt; m4.next_correction() == Some(3));
+    heard.hear(Channel::A, frame(3, 0x7, 401_932_287_999), true);
+    assert!(rt; reach(&rt, &mut m4, &heard) == Verdict::Corrected(Units(1)));
+    assert!(rt; m4.state() == State::Synchronised);
+    assert!(rt; m4.next_correction() == Some(4));
+}
+
+#[test]
+fn a_device_that_is_alone_integrates_again(rt: HostRuntime) {
+    let mut heard = Heard::new();
+    heard.hear(Channel::B, frame(1, 0x9, 139_788_288_000), true);
+    heard.hear(Channel::A, frame(1, 0xf, 9), false);
+    let mut rb = Sync::new(PLAN, Some(Units(0)));
+    assert!(rt; reach(&rt, &mut rb, &heard) == Verdict::SyncClique);
+    assert!(rt; rb.state() == State::Integrating);
+    assert!(rt; rb.next_correction() == None);
+}
+
+#[test]
+fn a_device_outnumbered_from_outside_integrates_again(rt: HostRuntime) {
+    let mut heard = Heard::new();
+    heard.hear(Channel::A, frame(1, 0x7, 139_788_288_000), true);
+    heard.hear(Channel::B, frame(1, 0x18, 139_788_288_000), true);
+    heard.hear(Channel::B, frame(1, 0x3, 9), false);
+    let mut ra = Sync::new(PLAN, Some(Units(0)));
+    assert!(rt; reach(&rt, &mut ra, &heard) == Verdict::Corrected(Units(0)));
+    heard.hear(Channel::A, frame(1, 0x6, 9), false);
+    let mut rb = Sync::new(PLAN, Some(Units(0)));
+    assert!(rt; reach(&rt, &mut rb, &heard) == Verdict::AsyncClique);
+    assert!(rt; rb.state() == State::Integrating);
+}

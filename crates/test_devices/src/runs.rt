@@ -1,0 +1,40 @@
+use run_law::{
+    Outside, broken_are_still, deliveries_begin, earlier_run_is_front, hypothesis_is_decided,
+    run_goes_on, run_is_one, sent_frames_come, silent_runs_agree, spread,
+};
+use tte_units::Units;
+
+#[test]
+fn the_conditions_are_numbered_as_they_are_judged(rt: HostRuntime) {
+    assert!(rt; Outside::Order.number() == 1);
+    assert!(rt; Outside::Late.number() == 2);
+    assert!(rt; Outside::Rate.number() == 3);
+    assert!(rt; Outside::Wire.number() == 4);
+    assert!(rt; Outside::Hold.number() == 5);
+    assert!(rt; Outside::Channel.number() == 6);
+    assert!(rt; Outside::NotMaster.number() == 7);
+    assert!(rt; Outside::SecondBreak.number() == 8);
+    assert!(rt; Outside::TooFewMasters.number() == 9);
+    assert!(rt; Outside::NotBroken.number() == 10);
+    assert!(rt; Outside::NotOff.number() == 11);
+}
+
+#[test]
+fn the_laws_hold(_rt: HostRuntime) {
+    run_is_one();
+    earlier_run_is_front();
+    run_goes_on();
+    sent_frames_come();
+    broken_are_still();
+    deliveries_begin();
+    hypothesis_is_decided();
+    silent_runs_agree();
+}
+
+#[test]
+fn the_spread_is_from_the_least_to_the_greatest(rt: HostRuntime) {
+    assert!(rt; spread(&[]) == Units(0));
+    assert!(rt; spread(&[Units(-7)]) == Units(0));
+    assert!(rt; spread(&[Units(150), Units(-50), Units(100)]) == Units(200));
+    assert!(rt; spread(&[Units(-50), Units(100), Units(150)]) == Units(200));
+}

@@ -1,0 +1,84 @@
+use unpaid_debts::{Debtor, Paid, Payments};
+use event_history::EventHistory;
+use kept_records::KeptRecords;
+use net_file::read_network;
+use net_plan::{DeviceId, LinkId};
+use record_history::Standings;
+use record_places::Places;
+use run_law::NoteBody;
+use std::test::Fail;
+
+/// A master below a compression master.
+const NETWORK: &str = "version = 1
+cycle = 131072000000
+rho = 50000
+dmax = 3276800000
+calc = 65536000
+settled = 345000000
+precision = 1048576000
+correction = 18350080000
+tt_start = 26542080000
+sync_threshold = 1
+priority = 0
+domain = 0
+pcf_destination = \"030000000001\"
+marker = \"03040506\"
+device = [
+ {name=\"m1\", role=\"master\", mac=\"020000000011\", member=0, start=0},
+ {name=\"ca\", role=\"cm\", mac=\"020000000022\", channel=\"a\", start=0},
+]
+link = [
+ {name=\"m1_a\", child=\"m1\", parent=\"ca\", wire=32768000, jitter=1310720, hold=1310720000, speed=100},
+]
+";
+
+#[test]
+fn a_record_pays_what_its_cause_brings(rt: HostRuntime) -> Result<(), Fail> {
+    let mut payments = Payments::new(rt.alloc());
+    let (device, link) = (DeviceId(0), LinkId(0));
+    payments.push(&NoteBody::Sent { device, cycle: 0 })?;
+    payments.push(&NoteBody::Lost {
+        device,
+        link,
+        cause: 1,
+    })?;
+    payments.push(&NoteBody::Lost {
+        device,
+        link,
+        cause: 3,
+    })?;
+    let lost = Paid {
+        loss: true,
+        ..Paid::nothing()
+    };
+    assert!(rt; payments.of(1) == lost);
+    assert!(rt; payments.of(3) == Paid::nothing());
+    Ok(())
+}
+
+#[test]
+fn where_no_record_stands_the_clocks_are_owed(rt: HostRuntime) -> Result<(), Fail> {
+    assert!(rt; NETWORK.len() <= 262_144);
+    let network = read_network(rt.alloc(), NETWORK.as_bytes())?;
+    let history = EventHistory::new(rt.alloc(), &network)?;
+    let standings = Standings::new(rt.alloc(), &network)?;
+    let records = KeptRecords::new(rt.alloc());
+    let places = Places::new(rt.alloc());
+    let payments = Payments::new(rt.alloc());
+    let debtor = Debtor {
+        network: &network,
+        history: &history,
+        records: &records,
+        standings: &standings,
+        places: &places,
+        payments: &payments,
+        until: 7,
+    };
+    assert!(rt; debtor.first_unpaid_clock(7) == Some(7));
+    assert!(rt; debtor.first_unpaid_clock(8).is_none());
+    assert!(rt; debtor.first_unpaid_arrival().is_none() && debtor.first_unpaid_loss().is_none());
+    assert!(rt; debtor.first_unpaid_change().is_none());
+    assert!(rt; debtor.first_unpaid_permanence().is_none());
+    assert!(rt; debtor.first_unpaid_departure().is_none());
+    Ok(())
+}

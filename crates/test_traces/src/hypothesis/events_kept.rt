@@ -1,0 +1,153 @@
+use super::watching::{accepted, all_on, befallen, event};
+use fault_hypothesis::{Outside, Watch};
+use net_plan::DeviceId;
+use pcf_values::Channel;
+use schedule_tables::Accepted;
+use std::process::Abort;
+use std::test::Fail;
+
+/// An event that is refused behind others, and how the next one is judged. That would be judged
+/// otherwise if the refused one had been kept.
+struct Refused<'a> {
+    befallen: &'a [&'a str],
+    refused: &'a str,
+    outside: Outside,
+    next: &'a str,
+    judged: Result<(), Outside>,
+}
+
+// The last time of a run is 137438953472000000.
+const REFUSED: [Refused<'static>; 6] = [
+    Refused {
+        befallen: &["5 rate m1 0"],
+        refused: "6 rate m1 50001",
+        outside: Outside::Rate,
+        next: "5 rate m1 0",
+        judged: Ok(()),
+    },
+    Refused {
+        befallen: &[],
+        refused: "137438953472000001 cut m1_a up",
+        outside: Outside::Late,
+        next: "0 cut m1_b up",
+        judged: Ok(()),
+    },
+    Refused {
+        befallen: &["0 cut m1_a up"],
+        refused: "0 cut m1_b up",
+        outside: Outside::Channel,
+        next: "0 cut c1_a up",
+        judged: Ok(()),
+    },
+    Refused {
+        befallen: &["0 break m4"],
+        refused: "0 break m3",
+        outside: Outside::SecondBreak,
+        next: "0 on m4",
+        judged: Err(Outside::NotOff),
+    },
+    Refused {
+        befallen: &[],
+        refused: "0 break m1",
+        outside: Outside::TooFewMasters,
+        next: "0 break m4",
+        judged: Ok(()),
+    },
+    Refused {
+        befallen: &["1 rate m1 0"],
+        refused: "0 on m4",
+        outside: Outside::Order,
+        next: "1 on m4",
+        judged: Ok(()),
+    },
+];
+
+fn try_refused(rt: &impl Abort, accepted: &Accepted, case: &Refused<'_>) -> Result<(), Fail> {
+    let mut watch = befallen(rt, accepted, case.befallen)?;
+    let (broken, faulty) = (watch.broken(), watch.faulty());
+    let refused = event(accepted, case.refused)?;
+    assert_eq!(rt;
+        watch.admit(&refused),
+        Err(case.outside),
+        "at {}",
+        case.refused
+    );
+    assert_eq!(rt; watch.broken(), broken, "behind {}", case.refused);
+    assert_eq!(rt; watch.faulty(), faulty, "behind {}", case.refused);
+    let next = event(accepted, case.next)?;
+    assert_eq!(rt; watch.judge(&next), case.judged, "at {}", case.next);
+    Ok(())
+}
+
+#[test]
+fn a_refused_event_changes_nothing(rt: HostRuntime) -> Result<(), Fail> {
+    let network = accepted(&rt, rt.alloc(), "member=3, start=0", "member=3")?;
+    for case in &REFUSED {
+        try_refused(&rt, &network, case)?;
+    }
+    Ok(())
+}
+
+/// Lines whose events are admitted, and the broken master and the faulty channel behind them.
+type Told<'a> = (&'a [&'a str], Option<DeviceId>, Option<Channel>);
+
+fn try_told(rt: &impl Abort, accepted: &Accepted, cases: &[Told<'_>]) -> Result<(), Fail> {
+    for (lines, broken, faulty) in cases {
+        let watch = befallen(rt, accepted, lines)?;
+        assert_eq!(rt; watch.broken(), *broken, "behind {lines:?}");
+        assert_eq!(rt; watch.faulty(), *faulty, "behind {lines:?}");
+    }
+    Ok(())
+}
+
+const ALL_ON: [Told<'static>; 4] = [
+    (&[], None, None),
+    (&["0 cut m1_b up"], None, Some(Channel::B)),
+    (&["0 break m3"], Some(DeviceId(2)), None),
+    (
+        &["0 cut m1_b up", "0 break m3"],
+        Some(DeviceId(2)),
+        Some(Channel::B),
+    ),
+];
+
+#[test]
+fn the_broken_master_and_the_faulty_channel_are_told(rt: HostRuntime) -> Result<(), Fail> {
+    let network = all_on(&rt, rt.alloc())?;
+    try_told(&rt, &network, &ALL_ON)
+}
+
+const WITH_A_SWITCH_OFF: [Told<'static>; 2] = [
+    (&[], None, Some(Channel::A)),
+    (&["0 on ca", "0 cut m1_a up"], None, Some(Channel::A)),
+];
+
+#[test]
+fn the_channel_of_a_switch_that_begins_off_is_told(rt: HostRuntime) -> Result<(), Fail> {
+    let network = accepted(&rt, rt.alloc(), "channel=\"a\", start=0", "channel=\"a\"")?;
+    try_told(&rt, &network, &WITH_A_SWITCH_OFF)
+}
+
+const HEALED: [Told<'static>; 3] = [
+    (&["0 heal m1_a up"], None, None),
+    (&["0 cut m1_a up", "0 heal m1_a up"], None, Some(Channel::A)),
+    (&["0 break m1", "0 heal m1_a up"], Some(DeviceId(0)), None),
+];
+
+#[test]
+fn a_heal_changes_nothing(rt: HostRuntime) -> Result<(), Fail> {
+    let network = all_on(&rt, rt.alloc())?;
+    try_told(&rt, &network, &HEALED)
+}
+
+#[test]
+fn many_heals_are_admitted(rt: HostRuntime) -> Result<(), Fail> {
+    let network = all_on(&rt, rt.alloc())?;
+    let heal = event(&network, "0 heal m1_a up")?;
+    let mut watch = Watch::new(&network);
+    for count in 0..20_000 {
+        assert_eq!(rt; watch.admit(&heal), Ok(()), "behind {count}");
+    }
+    assert_eq!(rt; watch.faulty(), None);
+    Ok(())
+}

@@ -1,0 +1,117 @@
+use pcf_codec::{PcfReader, PcfRefusal, TtRefusal, decode, decode_tt, encode, is_pcf};
+use pcf_values::{Mac, Members, Pcf, PcfKind, TtHead};
+
+// What a master with member number 0 sends in cycle 7.
+const FRAME: [u8; 60] = [
+    0x03, 0x00, 0x00, 0x00, 0x00, 0x01, 0x02, 0x00, 0x00, 0x00, 0x00, 0x11, 0x89, 0x1d, 0x00, 0x00,
+    0x00, 0x07, 0x00, 0x00, 0x00, 0x01, 0x00, 0x00, 0x00, 0x00, 0x00, 0x00, 0x02, 0x00, 0x00, 0x00,
+    0x00, 0x00, 0x00, 0x00, 0x00, 0x00, 0x00, 0x00, 0x00, 0x00, 0x00, 0x00, 0x00, 0x00, 0x00, 0x00,
+    0x00, 0x00, 0x00, 0x00, 0x00, 0x00, 0x00, 0x00, 0x00, 0x00, 0x00, 0x00,
+];
+
+fn value() -> Pcf {
+    Pcf {
+        destination: Mac::from_number(0x0300_0000_0001),
+        source: Mac::from_number(0x0200_0000_0011),
+        cycle: 7,
+        members: Members(1),
+        priority: 0,
+        domain: 0,
+        kind: PcfKind::Integration,
+        clock: 0,
+    }
+}
+
+#[test]
+fn a_frame_is_read_and_written(rt: HostRuntime) {
+    assert!(rt; decode(&FRAME) == Ok(value()));
+    let mut octets = [0xff; 60];
+    encode(&value(), &mut octets);
+    assert!(rt; octets == FRAME);
+    let clock = Pcf {
+        clock: 32_768_000,
+        ..value()
+    };
+    encode(&clock, &mut octets);
+    assert!(rt; octets[34..42] == [0, 0, 0, 0, 0x01, 0xf4, 0, 0]);
+}
+
+#[test]
+fn the_fault_of_the_least_offset_is_answered(rt: HostRuntime) {
+    let faults = [
+        (13, 0x1c, PcfRefusal::EtherType),
+        (22, 1, PcfRefusal::Reserved(22)),
+        (28, 0x12, PcfRefusal::Kind(0x12)),
+        (30, 1, PcfRefusal::Reserved(30)),
+    ];
+    let mut octets = FRAME;
+    for (offset, octet, refusal) in faults.iter().rev() {
+        octets[*offset] = *octet;
+        assert!(rt; decode(&octets) == Err(*refusal), "at {offset}");
+    }
+}
+
+#[test]
+fn a_frame_has_sixty_octets_and_any_padding(rt: HostRuntime) {
+    assert!(rt; decode(&FRAME[..59]) == Err(PcfRefusal::Length(59)));
+    let mut octets = [0; 61];
+    octets[..60].copy_from_slice(&FRAME);
+    assert!(rt; decode(&octets) == Err(PcfRefusal::Length(61)));
+    octets[42..].fill(0xff);
+    assert!(rt; decode(&octets[..60]) == Ok(value()));
+}
+
+#[test]
+fn a_frame_comes_in_pieces_of_any_length(rt: HostRuntime) {
+    let mut reader = PcfReader::new();
+    for octet in FRAME.iter() {
+        assert!(rt; reader.take() == None);
+        assert!(rt; reader.feed(&[*octet]) == Ok(1));
+    }
+    assert!(rt; reader.take() == Some(value()));
+
+    let mut twice = [0; 120];
+    twice[..60].copy_from_slice(&FRAME);
+    twice[60..].copy_from_slice(&FRAME);
+    assert!(rt; reader.feed(&twice) == Ok(60));
+    assert!(rt; reader.feed(&FRAME) == Ok(0));
+    assert!(rt; reader.take() == Some(value()));
+    assert!(rt; reader.feed(&FRAME) == Ok(60));
+    assert!(rt; reader.take() == Some(value()));
+    assert!(rt; reader.finish() == Ok(()));
+}
+
+#[test]
+fn a_reader_keeps_to_its_refusal(rt: HostRuntime) {
+    let mut octets = FRAME;
+    octets[30] = 1;
+    let mut reader = PcfReader::new();
+    assert!(rt; reader.feed(&octets[..59]) == Ok(59));
+    assert!(rt; reader.finish() == Err(PcfRefusal::Length(59)));
+    for _ in 0..2 {
+        assert!(rt; reader.feed(&octets[59..]) == Err(PcfRefusal::Reserved(30)));
+        assert!(rt; reader.finish() == Err(PcfRefusal::Reserved(30)));
+        assert!(rt; reader.take() == None);
+    }
+}
+
+#[test]
+fn the_head_of_a_time_triggered_frame_is_read(rt: HostRuntime) {
+    let head = [3, 4, 5, 6, 0, 1, 2, 0, 0, 0, 0, 0x11, 0x08, 0];
+    let mut octets = [0; 1515];
+    octets[..14].copy_from_slice(&head);
+    let value = TtHead {
+        marker: 0x0304_0506,
+        id: 1,
+        source: Mac::from_number(0x0200_0000_0011),
+        ethertype: 0x0800,
+        length: 60,
+    };
+    assert!(rt; decode_tt(&octets[..60]) == Ok(value));
+    assert!(rt; decode_tt(&octets[..59]) == Err(TtRefusal::Length(59)));
+    assert!(rt; decode_tt(&octets) == Err(TtRefusal::Length(1515)));
+    assert!(rt; decode_tt(&FRAME) == Err(TtRefusal::EtherType));
+    assert!(rt; is_pcf(&FRAME[..14]) && !is_pcf(&FRAME[..13]) && !is_pcf(&octets));
+    octets[12] = 0x05;
+    assert!(rt; decode_tt(&octets[..60]) == Err(TtRefusal::EtherType));
+}

@@ -1,0 +1,245 @@
+use storm_summary::{Counts, Drops, LINES, Summary, Tally};
+use net_plan::{DeviceId, LinkId, VlId};
+use pcf_values::Members;
+use run_law::{Judgement, Note, NoteBody, Reason, Why};
+use std::test::Fail;
+use sync_state::State;
+use tte_io::LineText;
+use tte_units::Units;
+
+const DEVICE: DeviceId = DeviceId(3);
+
+const LINK: LinkId = LinkId(5);
+
+const VL: VlId = VlId(1);
+
+// Counts a record of this body.
+fn add(tally: &mut Tally, body: NoteBody) {
+    let note = Note {
+        number: 7,
+        time: Units(9),
+        body,
+    };
+    if tally.counts().records < 100 {
+        tally.count(&note);
+    }
+}
+
+fn compressed() -> NoteBody {
+    NoteBody::Compressed {
+        device: DEVICE,
+        opened: Units(1),
+        at: Units(2),
+        cycle: 0,
+        members: Members(3),
+        verdict: Judgement::Within,
+    }
+}
+
+fn corrected() -> NoteBody {
+    NoteBody::Corrected {
+        device: DEVICE,
+        cycle: 1,
+        by: Units(-4),
+        adjustment: Units(4),
+    }
+}
+
+fn lost() -> NoteBody {
+    NoteBody::Lost {
+        device: DEVICE,
+        link: LINK,
+        cause: 1,
+    }
+}
+
+fn tt_sent() -> NoteBody {
+    NoteBody::TtSent {
+        device: DEVICE,
+        link: LINK,
+        cause: 0,
+        vl: VL,
+        cycle: 2,
+    }
+}
+
+fn accepted() -> NoteBody {
+    NoteBody::Accepted {
+        device: DEVICE,
+        link: LINK,
+        cause: 1,
+        vl: VL,
+        cycle: 2,
+    }
+}
+
+fn delivered() -> NoteBody {
+    NoteBody::Delivered {
+        device: DEVICE,
+        link: LINK,
+        cause: 1,
+        vl: VL,
+        cycle: 2,
+    }
+}
+
+fn dropped(reason: Reason) -> NoteBody {
+    NoteBody::Dropped {
+        device: DEVICE,
+        link: LINK,
+        cause: 1,
+        reason,
+    }
+}
+
+fn state() -> NoteBody {
+    NoteBody::State {
+        device: DEVICE,
+        state: State::Integrating,
+        cause: 0,
+        why: Why::SyncClique,
+    }
+}
+
+#[test]
+fn records_are_counted_by_their_kinds(rt: HostRuntime) {
+    let mut tally = Tally::new();
+    add(&mut tally, compressed());
+    for _ in 0..2 {
+        add(&mut tally, corrected());
+    }
+    for _ in 0..3 {
+        add(&mut tally, lost());
+    }
+    for _ in 0..4 {
+        add(&mut tally, tt_sent());
+    }
+    for _ in 0..5 {
+        add(&mut tally, accepted());
+    }
+    for _ in 0..6 {
+        add(&mut tally, delivered());
+    }
+    for _ in 0..7 {
+        add(&mut tally, state());
+    }
+    let counts = tally.counts();
+    assert_eq!(rt;
+        (counts.records, counts.compressed, counts.corrected),
+        (28, 1, 2)
+    );
+    assert_eq!(rt; (counts.lost, counts.tt_sent), (3, 4));
+    assert_eq!(rt; (counts.accepted, counts.delivered), (5, 6));
+    assert_eq!(rt; counts.dropped, Counts::NONE.dropped);
+}
+
+#[test]
+fn drops_are_counted_by_their_reasons(rt: HostRuntime) {
+    let mut tally = Tally::new();
+    for reason in [
+        Reason::Off,
+        Reason::ColdStart,
+        Reason::Domain,
+        Reason::Member,
+        Reason::Old,
+        Reason::Gate,
+        Reason::Cycle,
+        Reason::Unsynchronised,
+        Reason::Unknown,
+        Reason::Length,
+        Reason::Early,
+        Reason::Late,
+        Reason::Repeat,
+        Reason::RefusedLength(59),
+        Reason::RefusedEtherType,
+        Reason::RefusedReserved(20),
+        Reason::RefusedKind(3),
+    ] {
+        add(&mut tally, dropped(reason));
+    }
+    let once = Drops {
+        off: 1,
+        refused: 4,
+        cold_start: 1,
+        domain: 1,
+        member: 1,
+        too_old: 1,
+        gate: 1,
+        cycle: 1,
+        unsynchronised: 1,
+        unknown: 1,
+        wrong_length: 1,
+        early: 1,
+        late: 1,
+        repeated: 1,
+    };
+    let counts = tally.counts();
+    assert_eq!(rt; counts.dropped, once);
+    assert_eq!(rt; (counts.records, counts.lost), (17, 0));
+}
+
+const TEXT: [&str; LINES] = [
+    "storm seed 18446744073709551615 cycles 100000\n",
+    "records 1000\n",
+    "compressed 1\n",
+    "corrected 2\n",
+    "lost 3\n",
+    "ttsent 4\n",
+    "accepted 5\n",
+    "delivered 6\n",
+    "dropped off 7\n",
+    "dropped refused 8\n",
+    "dropped coldstart 9\n",
+    "dropped domain 10\n",
+    "dropped member 11\n",
+    "dropped old 12\n",
+    "dropped gate 13\n",
+    "dropped cycle 14\n",
+    "dropped unsynchronised 15\n",
+    "dropped unknown 16\n",
+    "dropped length 17\n",
+    "dropped early 18\n",
+    "dropped late 19\n",
+    "dropped repeat 0\n",
+    "spread 98304000 precision 1048576000\n",
+];
+
+#[test]
+fn lines_of_a_summary(rt: HostRuntime) {
+    let summary = Summary {
+        seed: u64::MAX,
+        cycles: 100_000,
+        counts: Counts {
+            records: 1000,
+            compressed: 1,
+            corrected: 2,
+            lost: 3,
+            tt_sent: 4,
+            accepted: 5,
+            delivered: 6,
+            dropped: Drops {
+                off: 7,
+                refused: 8,
+                cold_start: 9,
+                domain: 10,
+                member: 11,
+                too_old: 12,
+                gate: 13,
+                cycle: 14,
+                unsynchronised: 15,
+                unknown: 16,
+                wrong_length: 17,
+                early: 18,
+                late: 19,
+                repeated: 0,
+            },
+        },
+        spread: Units(98_304_000),
+        precision: Units(1_048_576_000),
+    };
+    let mut line = LineText::new();
+    for number in 0..LINES {
+        summary.make_line(&mut line, number);
+        assert!(rt; line.as_slice() == TEXT[number].as_bytes());
+    }
+}
