@@ -11,3 +11,4 @@ mod settings;
 pub use history::EventHistory;
 pub use laws::reading_law;
 pub use memory::OutOfMemory;
+pub use settings::{Change, Settings};

@@ -6,21 +6,21 @@ use std::alloc::{AllocError, Global};
 
 /// From a time on, a value that is set.
 #[derive(Clone, Copy, Debug)]
-pub(crate) struct Change<V> {
-    pub(crate) from: u64,
-    pub(crate) value: V,
+pub struct Change<V> {
+    pub from: u64,
+    pub value: V,
 }
 
 /// A value and its changes, in the order of time.
 #[derive(Drop)]
-pub(crate) struct Settings<V> {
+pub struct Settings<V> {
     pub(crate) initial: V,
     pub(crate) changes: Vec<Change<V>>,
 }
 
 impl<V: Copy> Settings<V> {
     /// A value that has not changed.
-    pub(crate) fn new(alloc: Global, initial: V) -> Settings<V>
+    pub fn new(alloc: Global, initial: V) -> Settings<V>
         ensures initial { result.initial ≡ initial }
         ensures unchanged { result.changes.items ≡ [] }
     {
@@ -31,7 +31,7 @@ impl<V: Copy> Settings<V> {
     }
 
     /// Sets the value from a time on.
-    pub(crate) fn set(&mut self, from: u64, value: V) -> Result<(), AllocError>
+    pub fn set(&mut self, from: u64, value: V) -> Result<(), AllocError>
         ensures initial { self.new.initial ≡ self.old.initial }
         ensures changes { MatchResult result
             (λ _. self.new.changes.items ≡ self.old.changes.items ++ record { from = from; value = value } ∷ [])
@@ -51,7 +51,7 @@ impl<V: Copy> Settings<V> {
     }
 
     /// The value at a time.
-    pub(crate) fn at(&self, time: u64) -> V
+    pub fn at(&self, time: u64) -> V
         ensures { IsNonDecreasingBy (λ c. c.from) self.now.changes.items
             → result ≡ value_at self.now.initial self.now.changes.items time }
     {
@@ -64,7 +64,7 @@ impl<V: Copy> Settings<V> {
     }
 
     /// The changes that come later than a time.
-    pub(crate) fn after(&self, time: u64) -> &[Change<V>]
+    pub fn after(&self, time: u64) -> &[Change<V>]
         ensures { IsNonDecreasingBy (λ c. c.from) self.now.changes.items
             → result.now ≡ later_than time self.now.changes.items }
     {

@@ -8,10 +8,10 @@ use tte_units::Ppb;
 
 /// The three words of a step: what kind of event comes, where, and how much.
 #[derive(Clone, Copy, Debug, PartialEq, Eq)]
-pub(crate) struct Draw {
-    pub(crate) kind: u32,
-    pub(crate) place: u32,
-    pub(crate) size: u32,
+pub struct Draw {
+    pub kind: u32,
+    pub place: u32,
+    pub size: u32,
 }
 
 /// The kinds of events of a storm.

@@ -7,7 +7,7 @@ use rand_pcg::Lcg64Xsh32;
 
 /// The words of a seed, one after another.
 #[derive(Drop)]
-pub(crate) struct Words {
+pub struct Words {
     pub(crate) seed: u64,
     pub(crate) drawn: u64,
     from: Lcg64Xsh32,
@@ -16,7 +16,7 @@ pub(crate) struct Words {
 
 impl Words {
     /// The words of the seed from the first on.
-    pub(crate) fn new(seed: u64) -> Words
+    pub fn new(seed: u64) -> Words
         ensures seed { result.seed ≡ seed }
         ensures none { result.drawn ≡ 0 }
     {
@@ -38,7 +38,7 @@ impl Words {
     }
 
     /// The next three words. Fewer than 2^62 were drawn.
-    pub(crate) fn draw(&mut self) -> Draw
+    pub fn draw(&mut self) -> Draw
         requires { self.old.drawn < 2 ^ 62 }
         ensures words { result ≡ draw_from self.old.seed self.old.drawn }
         ensures drawn { self.new.drawn ≡ self.old.drawn + 3 }

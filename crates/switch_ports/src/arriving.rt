@@ -36,7 +36,7 @@ impl Site {
     }
 
     /// What becomes of the frame that the decoder gave.
-    pub(crate) fn frame_arrival(&self, at: &Standpoint, link: LinkId, frame: &Pcf) -> Arrival
+    pub fn frame_arrival(&self, at: &Standpoint, link: LinkId, frame: &Pcf) -> Arrival
         requires alive { IsAlive self.now at.now }
         ensures { (network : Network) (device : DeviceId) → IsInRange network → IsSiteOf network device self.now
             → result ≡ frame_or_fault network device link (standpoint_of at.now) frame.now

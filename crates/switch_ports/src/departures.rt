@@ -18,58 +18,58 @@ use tte_units::Units;
 
 /// A row that leaves the switch.
 #[derive(Clone, Copy, Debug, PartialEq, Eq)]
-pub(crate) struct LeavingRow {
-    pub(crate) row: RowId,
-    pub(crate) link: LinkId,
-    pub(crate) vl: VlId,
+pub struct LeavingRow {
+    pub row: RowId,
+    pub link: LinkId,
+    pub vl: VlId,
     /// Where in the switch's cycle its frame is dispatched, in units of 2^-16 ns.
-    pub(crate) offset: u64,
+    pub offset: u64,
     /// The virtual link occurs in the cycles of this phase modulo the period.
-    pub(crate) period: u32,
-    pub(crate) phase: u32,
+    pub period: u32,
+    pub phase: u32,
     /// The row's place among those that leave the switch.
-    pub(crate) place: usize,
+    pub place: usize,
     /// The place of the row of the same virtual link that comes before it, if there is one.
-    pub(crate) before: Option<usize>,
+    pub before: Option<usize>,
 }
 
 /// A frame that the switch took, as one row dispatches it.
 #[derive(Clone, Copy, Debug, PartialEq, Eq)]
-pub(crate) struct Held {
+pub struct Held {
     /// The switch's cycle in which it was taken.
-    pub(crate) cycle: u32,
+    pub cycle: u32,
     /// The local value at which it is dispatched.
-    pub(crate) value: Units,
+    pub value: Units,
 }
 
 /// A row that leaves the switch, and the frame that it dispatches.
 #[derive(Clone, Copy, Debug, PartialEq, Eq)]
-pub(crate) struct Departure {
-    pub(crate) of: LeavingRow,
+pub struct Departure {
+    pub of: LeavingRow,
     /// The last frame of the virtual link that the switch took, if the row's place came behind.
-    pub(crate) held: Option<Held>,
+    pub held: Option<Held>,
     /// The same, while it is still to be dispatched.
-    pub(crate) awaited: Option<Held>,
+    pub awaited: Option<Held>,
 }
 
 /// A frame of a virtual link that the switch takes, in a cycle of its own and at a local value.
 #[derive(Clone, Copy, Debug, PartialEq, Eq)]
-pub(crate) struct Taking {
-    pub(crate) vl: VlId,
-    pub(crate) cycle: u32,
-    pub(crate) at: Units,
+pub struct Taking {
+    pub vl: VlId,
+    pub cycle: u32,
+    pub at: Units,
 }
 
 /// A dispatch that is to come.
 #[derive(Clone, Copy, Debug, PartialEq, Eq)]
-pub(crate) struct Dispatch {
+pub struct Dispatch {
     /// The reading at which it comes.
-    pub(crate) at: Units,
-    pub(crate) link: LinkId,
-    pub(crate) row: RowId,
-    pub(crate) cycle: u32,
+    pub at: Units,
+    pub link: LinkId,
+    pub row: RowId,
+    pub cycle: u32,
     /// The row's place among those that leave the switch.
-    pub(crate) place: usize,
+    pub place: usize,
 }
 
 /// The rows that leave a switch, and which of their dispatches comes next.
@@ -203,7 +203,7 @@ impl Departures {
 
 impl Departure {
     /// Keeps the frame, which is one of the row's virtual link.
-    pub(crate) fn take(&mut self, length: Units, taking: &Taking, changed: Units)
+    pub fn take(&mut self, length: Units, taking: &Taking, changed: Units)
         requires fit { IsFit self.old }
         requires taking { IsTakingFit length taking.now }
         ensures { self.new ≡ with_held changed.0
@@ -215,7 +215,7 @@ impl Departure {
     }
 
     /// Tells anew whether the frame is to be dispatched.
-    pub(crate) fn reopen(&mut self, changed: Units)
+    pub fn reopen(&mut self, changed: Units)
         ensures { self.new ≡ reopened changed.0 self.old }
     {
         self.awaited = awaited_of(self.held, changed);
@@ -243,7 +243,7 @@ impl Departure {
 impl LeavingRow {
     /// The frame that is taken, as the row dispatches it. It is None where the row's place has passed,
     /// or the virtual link does not occur in the cycle.
-    pub(crate) fn held(&self, length: Units, taking: &Taking) -> Option<Held>
+    pub fn held(&self, length: Units, taking: &Taking) -> Option<Held>
         requires offset { self.now.offset ≤ 2 ^ 40 }
         requires period { 1 ≤ self.now.period }
         requires taking { IsTakingFit length taking.now }
@@ -281,7 +281,7 @@ impl LeavingRow {
 
 impl Dispatch {
     /// Does it come before the other? At one reading they come by links, then by rows.
-    pub(crate) fn precedes(&self, other: &Dispatch) -> bool
+    pub fn precedes(&self, other: &Dispatch) -> bool
         ensures { IsTrue result ↔ Precedes self.now other.now }
     {
         if self.at.0 != other.at.0 {
@@ -370,7 +370,7 @@ fn reading_of(value: Units, adjustment: Units) -> Units
 }
 
 /// The earlier of two dispatches that may be there.
-pub(crate) fn earlier(a: Option<Dispatch>, b: Option<Dispatch>) -> Option<Dispatch>
+pub fn earlier(a: Option<Dispatch>, b: Option<Dispatch>) -> Option<Dispatch>
     ensures { IsEarlier a b result }
 {
     match (a, b) {

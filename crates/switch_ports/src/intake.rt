@@ -22,15 +22,15 @@ use tte_units::Units;
 
 /// A row by which frames of a virtual link come to the switch, as far as they are judged by it.
 #[derive(Clone, Copy, Debug, PartialEq, Eq)]
-pub(crate) struct EnteringRow {
-    pub(crate) vl: VlId,
+pub struct EnteringRow {
+    pub vl: VlId,
     /// How many octets the frames have.
-    pub(crate) length: u16,
+    pub length: u16,
     /// The virtual link occurs in the cycles of this phase modulo the period.
-    pub(crate) period: u32,
-    pub(crate) phase: u32,
+    pub period: u32,
+    pub phase: u32,
     /// Where in the switch's cycle the frames may arrive.
-    pub(crate) window: Window,
+    pub window: Window,
 }
 
 /// The link by which a frame comes, and the id of its virtual link in the frame.
@@ -125,7 +125,7 @@ impl Intake {
 impl EnteringRow {
     /// Why a frame of so many octets is dropped, in this cycle and at this place of it, if it is: the
     /// first reason in this order.
-    pub(crate) fn fault(
+    pub fn fault(
         &self,
         size: usize,
         cycle: u32,

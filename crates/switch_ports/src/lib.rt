@@ -17,6 +17,9 @@ mod switch;
 mod timed;
 mod tournament;
 
-pub(crate) use site::{Peer, Port, Site};
-pub(crate) use standpoint::Standpoint;
+pub use departures::{Departure, Dispatch, Held, LeavingRow, Taking, earlier};
+pub use intake::EnteringRow;
+pub use site::{Peer, Port, Site};
+pub use standpoint::Standpoint;
 pub use switch::Switch;
+pub use tournament::Tournament;

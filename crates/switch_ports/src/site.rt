@@ -14,7 +14,7 @@ use tte_units::Units;
 
 /// What stands at the other end of a link.
 #[derive(Clone, Copy, Debug, PartialEq, Eq)]
-pub(crate) enum Peer {
+pub enum Peer {
     /// The switch's parent.
     Parent,
     /// A switch below.
@@ -27,33 +27,33 @@ pub(crate) enum Peer {
 
 /// What the network says of a link, as it is seen from the switch.
 #[derive(Clone, Copy, Debug, PartialEq, Eq)]
-pub(crate) struct Port {
-    pub(crate) peer: Peer,
+pub struct Port {
+    pub peer: Peer,
     /// The nominal delay of the wire.
-    pub(crate) wire: Units,
+    pub wire: Units,
     /// The channel of the link, which is that of its parent.
-    pub(crate) channel: Option<Channel>,
+    pub channel: Option<Channel>,
 }
 
 /// What the network says of a switch.
 #[derive(Debug, Drop)]
-pub(crate) struct Site {
+pub struct Site {
     /// Is it a relay? Otherwise it is a compression master.
-    pub(crate) is_relay: bool,
-    pub(crate) channel: Channel,
-    pub(crate) mac: Mac,
+    pub is_relay: bool,
+    pub channel: Channel,
+    pub mac: Mac,
     /// Where protocol control frames are sent.
-    pub(crate) destination: Mac,
-    pub(crate) plan: SyncPlan,
-    pub(crate) dmax: Units,
-    pub(crate) precision: Units,
-    pub(crate) correction: Units,
-    pub(crate) calc: Units,
-    pub(crate) priority: u8,
-    pub(crate) domain: u8,
-    pub(crate) marker: u32,
+    pub destination: Mac,
+    pub plan: SyncPlan,
+    pub dmax: Units,
+    pub precision: Units,
+    pub correction: Units,
+    pub calc: Units,
+    pub priority: u8,
+    pub domain: u8,
+    pub marker: u32,
     /// All links of the network, in its order.
-    pub(crate) ports: Vec<Port>,
+    pub ports: Vec<Port>,
 }
 
 impl Peer {

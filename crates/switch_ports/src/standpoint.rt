@@ -8,11 +8,11 @@ use tte_units::Units;
 
 /// Where a switch stands when something comes to it.
 #[derive(Clone, Copy, Debug, PartialEq, Eq)]
-pub(crate) struct Standpoint {
-    pub(crate) state: State,
+pub struct Standpoint {
+    pub state: State,
     /// What its clock reads.
-    pub(crate) reading: Units,
-    pub(crate) adjustment: Units,
+    pub reading: Units,
+    pub adjustment: Units,
 }
 
 impl Standpoint {

@@ -11,7 +11,7 @@ use std::alloc::{AllocError, Global};
 /// earlier dispatch of the nodes 2k and 2k + 1, so the first of all is that of the node 1; the leaves
 /// are the nodes from the count of rows on.
 #[derive(Drop)]
-pub(crate) struct Tournament {
+pub struct Tournament {
     count: usize,
     nodes: Vec<Option<Dispatch>>,
 }
@@ -20,7 +20,7 @@ impl Tournament {
     /// A tree for as many rows, which have no dispatch to make.
     ///
     /// Fails when memory runs out.
-    pub(crate) fn new(alloc: Global, rows: &[Departure]) -> Result<Tournament, AllocError>
+    pub fn new(alloc: Global, rows: &[Departure]) -> Result<Tournament, AllocError>
         ensures count { IfOk result (λ tree. tree.count ≡ length rows.now) }
         ensures tree { IfOk result IsTree }
         ensures none { IfOk result (λ tree. (k : ℕ) → node_at tree.nodes.items k ≡ None) }
@@ -37,7 +37,7 @@ impl Tournament {
     }
 
     /// Puts what the row at the place has still to dispatch.
-    pub(crate) fn put(&mut self, place: usize, dispatch: Option<Dispatch>)
+    pub fn put(&mut self, place: usize, dispatch: Option<Dispatch>)
         requires place { place < self.old.count }
         requires tree { IsTree self.old }
         ensures { Puts self.old place dispatch self.new }
@@ -52,7 +52,7 @@ impl Tournament {
     }
 
     /// The first dispatch of all rows.
-    pub(crate) fn first(&self) -> Option<Dispatch>
+    pub fn first(&self) -> Option<Dispatch>
         ensures { result ≡ node_at self.now.nodes.items 1 }
     {
         match self.nodes.get(1) {

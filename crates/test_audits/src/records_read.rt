@@ -1,6 +1,5 @@
 use crate::worked::worked;
-use tte_audit::named::keep_names_apart;
-use tte_audit::note_line;
+use tte_audit::{keep_names_apart, note_line};
 use net_plan::{DeviceId, LinkId, Octets, VlId, Way, What};
 use pcf_values::Members;
 use run_law::{Judgement, Note, NoteBody, Reason, Why};

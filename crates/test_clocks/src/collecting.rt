@@ -17,45 +17,45 @@ fn points_rise_and_are_at_most_eight(rt: HostRuntime) {
 #[test]
 fn middles_of_one_and_of_four_points(rt: HostRuntime) {
     let mut points = Points::new();
-    points.append(Units(0));
+    assert!(rt; points.push(Units(0)));
     assert!(rt; middle(&points) == Units(0));
-    points.append(Units(10));
-    points.append(Units(100));
-    points.append(Units(1_000));
+    assert!(rt; points.push(Units(10)));
+    assert!(rt; points.push(Units(100)));
+    assert!(rt; points.push(Units(1_000)));
     assert!(rt; middle(&points) == Units(55));
 }
 
 #[test]
 fn middles_of_five_and_of_six_points(rt: HostRuntime) {
     let mut points = Points::new();
-    points.append(Units(0));
-    points.append(Units(3));
-    points.append(Units(4));
-    points.append(Units(9));
-    points.append(Units(500));
+    assert!(rt; points.push(Units(0)));
+    assert!(rt; points.push(Units(3)));
+    assert!(rt; points.push(Units(4)));
+    assert!(rt; points.push(Units(9)));
+    assert!(rt; points.push(Units(500)));
     assert!(rt; middle(&points) == Units(6));
 
     let mut points = Points::new();
-    points.append(Units(0));
-    points.append(Units(3));
-    points.append(Units(4));
-    points.append(Units(9));
-    points.append(Units(20));
-    points.append(Units(500));
+    assert!(rt; points.push(Units(0)));
+    assert!(rt; points.push(Units(3)));
+    assert!(rt; points.push(Units(4)));
+    assert!(rt; points.push(Units(9)));
+    assert!(rt; points.push(Units(20)));
+    assert!(rt; points.push(Units(500)));
     assert!(rt; middle(&points) == Units(11));
 }
 
 #[test]
 fn middle_of_eight_points(rt: HostRuntime) {
     let mut points = Points::new();
-    points.append(Units(0));
-    points.append(Units(1));
-    points.append(Units(2));
-    points.append(Units(3));
-    points.append(Units(4));
-    points.append(Units(5));
-    points.append(Units(6));
-    points.append(Units(100));
+    assert!(rt; points.push(Units(0)));
+    assert!(rt; points.push(Units(1)));
+    assert!(rt; points.push(Units(2)));
+    assert!(rt; points.push(Units(3)));
+    assert!(rt; points.push(Units(4)));
+    assert!(rt; points.push(Units(5)));
+    assert!(rt; points.push(Units(6)));
+    assert!(rt; points.push(Units(100)));
     assert!(rt; middle(&points) == Units(3));
 }
 

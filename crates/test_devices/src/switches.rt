@@ -2,17 +2,16 @@ ghost use Rattle.std.specs.Prelude.{◌≡◌, IfOk, ◌^◌};
 ghost use Rattle.net_plan.specs.Ranges.{IsWithin};
 ghost use Rattle.switch_ports.specs.Standpoints.{IsSiteInRange};
 
-use switch_ports::departures::{Departure, Dispatch, Held, LeavingRow, Taking, earlier};
-use switch_ports::intake::EnteringRow;
-use switch_ports::site::{Peer, Port, Site};
-use switch_ports::standpoint::Standpoint;
-use switch_ports::tournament::Tournament;
 use net_plan::{LinkId, RowId, VlId, Way};
 use pcf_values::{Channel, Mac, Members, Pcf, PcfKind};
 use run_law::{Arrival, Reason};
 use schedule_tables::Window;
 use std::alloc::{AllocError, Global};
 use std::test::Fail;
+use switch_ports::{
+    Departure, Dispatch, EnteringRow, Held, LeavingRow, Peer, Port, Site, Standpoint, Taking,
+    Tournament, earlier,
+};
 use sync_state::{State, SyncPlan};
 use tte_units::Units;
 

@@ -2,36 +2,12 @@ ghost use Rattle.std.specs.Prelude.{◌≡◌, ◌≤◌, ◌<◌, [], IfOk, len
 ghost use Rattle.event_history.specs.Remembering.{Remembers, RemembersSome};
 ghost use Rattle.net_plan.specs.Ranges.{IsInRange};
 
-use event_history::settings::Settings;
-use event_history::{EventHistory, OutOfMemory, reading_law};
+use crate::networks::MASTER;
+use event_history::{EventHistory, OutOfMemory, Settings, reading_law};
 use net_file::read_network;
 use net_plan::{DeviceId, Event, LinkId, Network, Way, What};
 use std::test::Fail;
 use tte_units::{Ppb, Units};
-
-/// A master below a compression master.
-const NETWORK: &str = "version = 1
-cycle = 131072000000
-rho = 50000
-dmax = 3276800000
-calc = 65536000
-settled = 345000000
-precision = 1048576000
-correction = 18350080000
-tt_start = 26542080000
-sync_threshold = 1
-priority = 0
-domain = 0
-pcf_destination = \"030000000001\"
-marker = \"03040506\"
-device = [
- {name=\"m1\", role=\"master\", mac=\"020000000011\", member=0, start=0},
- {name=\"ca\", role=\"cm\", mac=\"020000000022\", channel=\"a\", start=0},
-]
-link = [
- {name=\"m1_a\", child=\"m1\", parent=\"ca\", wire=32768000, jitter=1310720, hold=1310720000, speed=100},
-]
-";
 
 #[test]
 fn a_setting_changes_at_its_times(rt: HostRuntime) -> Result<(), Fail> {
@@ -67,8 +43,8 @@ fn set_rate(network: &Network, history: &mut EventHistory, rate: Ppb) -> Result<
 #[test]
 fn a_rate_that_is_set_drifts_the_clock(rt: HostRuntime) -> Result<(), Fail> {
     reading_law();
-    assert!(rt; NETWORK.len() <= 262_144);
-    let network = read_network(rt.alloc(), NETWORK.as_bytes())?;
+    assert!(rt; MASTER.len() <= 262_144);
+    let network = read_network(rt.alloc(), MASTER.as_bytes())?;
     let mut history = EventHistory::new(rt.alloc(), &network)?;
     let device = DeviceId(0);
     assert!(rt; history.reading(device, 1_500_000_000) == 1_500_000_000);

@@ -10,6 +10,8 @@ mod emissions;
 #[cfg(test)]
 mod events;
 #[cfg(test)]
+mod networks;
+#[cfg(test)]
 mod records;
 #[cfg(test)]
 mod schedules;

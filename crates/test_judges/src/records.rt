@@ -1,7 +1,8 @@
-use record_history::takings::DeviceTakings;
-use record_history::{Mark, Taking};
+use crate::networks::MASTER;
+use net_file::read_network;
 use net_plan::{DeviceId, LinkId, VlId};
 use pcf_values::Members;
+use record_history::{Mark, Takings};
 use run_law::{NoteBody, Why};
 use std::test::Fail;
 use sync_state::State;
@@ -28,22 +29,28 @@ fn marks_of_one_time_go_by_kind_and_then_by_number(rt: HostRuntime) {
     assert!(rt; late.is_before(&mark));
 }
 
+/// The record of a frame that the second device took in the cycle.
+fn accepted(cycle: u32) -> NoteBody {
+    NoteBody::Accepted {
+        device: DeviceId(1),
+        link: LinkId(2),
+        cause: 7,
+        vl: VlId(5),
+        cycle,
+    }
+}
+
 #[test]
 fn the_last_frame_taken_is_found(rt: HostRuntime) -> Result<(), Fail> {
-    let mut takings = DeviceTakings::new(rt.alloc());
-    for (time, cycle) in [(40, 1), (90, 2)] {
-        let taking = Taking {
-            time,
-            link: LinkId(2),
-            cause: 7,
-            number: 8,
-            cycle,
-        };
-        takings.push(rt.alloc(), VlId(5), taking)?;
-    }
+    assert!(rt; MASTER.len() <= 262_144);
+    let network = read_network(rt.alloc(), MASTER.as_bytes())?;
+    assert!(rt; network.device.as_slice().len() == 2);
+    let mut takings = Takings::new(rt.alloc(), &network)?;
+    takings.push(rt.alloc(), 40, 8, &accepted(1))?;
+    takings.push(rt.alloc(), 90, 8, &accepted(2))?;
     for (vl, time, cause, cycle) in [(5, 90, 8, Some(2)), (5, 90, 7, Some(1)), (4, 90, 8, None)] {
-        let last = takings.last_before(VlId(vl), time, LinkId(2), cause);
-        assert_eq!(rt; last.map(|taking| taking.cycle), cycle);
+        let last = takings.last_taken(DeviceId(1), time, LinkId(2), cause, VlId(vl));
+        assert_eq!(rt; last, cycle);
     }
     Ok(())
 }

@@ -1,3 +1,4 @@
+use crate::networks::MASTER;
 use unpaid_debts::{Debtor, Paid, Payments};
 use event_history::EventHistory;
 use kept_records::KeptRecords;
@@ -7,30 +8,6 @@ use record_history::Standings;
 use record_places::Places;
 use run_law::NoteBody;
 use std::test::Fail;
-
-/// A master below a compression master.
-const NETWORK: &str = "version = 1
-cycle = 131072000000
-rho = 50000
-dmax = 3276800000
-calc = 65536000
-settled = 345000000
-precision = 1048576000
-correction = 18350080000
-tt_start = 26542080000
-sync_threshold = 1
-priority = 0
-domain = 0
-pcf_destination = \"030000000001\"
-marker = \"03040506\"
-device = [
- {name=\"m1\", role=\"master\", mac=\"020000000011\", member=0, start=0},
- {name=\"ca\", role=\"cm\", mac=\"020000000022\", channel=\"a\", start=0},
-]
-link = [
- {name=\"m1_a\", child=\"m1\", parent=\"ca\", wire=32768000, jitter=1310720, hold=1310720000, speed=100},
-]
-";
 
 #[test]
 fn a_record_pays_what_its_cause_brings(rt: HostRuntime) -> Result<(), Fail> {
@@ -58,8 +35,8 @@ fn a_record_pays_what_its_cause_brings(rt: HostRuntime) -> Result<(), Fail> {
 
 #[test]
 fn where_no_record_stands_the_clocks_are_owed(rt: HostRuntime) -> Result<(), Fail> {
-    assert!(rt; NETWORK.len() <= 262_144);
-    let network = read_network(rt.alloc(), NETWORK.as_bytes())?;
+    assert!(rt; MASTER.len() <= 262_144);
+    let network = read_network(rt.alloc(), MASTER.as_bytes())?;
     let history = EventHistory::new(rt.alloc(), &network)?;
     let standings = Standings::new(rt.alloc(), &network)?;
     let records = KeptRecords::new(rt.alloc());

@@ -5,12 +5,12 @@ ghost use Rattle.net_plan.specs.Places.{is_end_system, is_master};
 ghost use Rattle.net_plan.specs.Ranges.{IsDeviceInRange, IsInRange, IsLinkInRange, IsRowInRange, IsVlInRange, IsWithin};
 ghost use Rattle.net_plan.specs.declared.network.Network.{Network};
 
-use schedule_tables::{Window, entries_of, entry_of, window_of};
 use net_plan::{
     Device, DeviceId, Devices, Link, LinkId, Links, Name, Network, Role, Row, RowId, Rows,
     VirtualLink, VirtualLinks, VlId, Way,
 };
 use pcf_values::{Channel, Mac};
+use schedule_tables::{Tables, Window, entries_of, entry_of, window_of};
 use std::alloc::{AllocError, Global};
 use std::test::Fail;
 use tte_units::{Speed, Units};
@@ -208,5 +208,30 @@ fn frames_leave_and_enter_by_the_way(rt: HostRuntime) -> Result<(), Fail> {
             .map_or(0, |entries| entries.len()),
         6
     );
+    Ok(())
+}
+
+#[test]
+fn rows_come_in_order_in_their_cycles(rt: HostRuntime) -> Result<(), Fail> {
+    let network = half(rt.alloc())?;
+    let tables = Tables::of(rt.alloc(), &network)?;
+    for (device, cycle, rows) in [
+        (0, 0, [].as_slice()),
+        (0, 3, [0, 1, 5, 4].as_slice()),
+        (0, 4, [0, 1].as_slice()),
+        (0, 131, [0, 1, 5, 4].as_slice()),
+        (1, 3, [].as_slice()),
+        (3, 3, [3].as_slice()),
+    ] {
+        let mut after = None;
+        for row in rows {
+            let next = tables.next_row(DeviceId(device), cycle, after);
+            assert_eq!(rt; next, Some(RowId(*row)), "device {device} in cycle {cycle}");
+            after = next;
+        }
+        assert_eq!(rt; tables.next_row(DeviceId(device), cycle, after), None);
+    }
+    assert_eq!(rt; tables.next_row(DeviceId(0), 3, Some(RowId(6))), None);
+    assert_eq!(rt; tables.window(RowId(2)).to, Units(29_729_751_044));
     Ok(())
 }

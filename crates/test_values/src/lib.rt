@@ -4,6 +4,8 @@
 #[cfg(test)]
 mod codec;
 #[cfg(test)]
+mod edge;
+#[cfg(test)]
 mod frame_values;
 #[cfg(test)]
 mod octets;

@@ -1,5 +1,3 @@
-use storm::Storm;
-use storm::words::Words;
 use fault_hypothesis::Watch;
 use net_file::read_network;
 use net_plan::Event;
@@ -8,6 +6,7 @@ use schedule_tables::Accepted;
 use std::alloc::Global;
 use std::process::Abort;
 use std::test::Fail;
+use storm::{Storm, Words};
 use trace_text::{LineRefusal, line};
 
 /// The worked network without its schedule: four masters and a client, a relay and a compression

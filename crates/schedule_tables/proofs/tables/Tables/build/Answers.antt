@@ -6,7 +6,7 @@ use Rattle.schedule_tables.proofs.tables.Tables.build.Goals as goal
 
 pub returns : goal.returns
 returns c =
-    let slots : AreSlotsOf c.args.accepted.now c.in_ok-slots.slots.items = rw (← c.network-network.ensures.value) c.in_ok-slots.ensures in
-    let rows : AreTimedRows c.args.accepted.now (length c.args.accepted.now.row) c.in_ok-rows.rows.items = rw (← c.network-network.ensures.value)
-    c.in_ok-rows.ensures in
+    let slots : AreSlotsOf c.args.accepted.now c.in_ok-tables.tables.slots.items = rw (← c.network-network.ensures.value) c.in_ok-tables.ensures.slots in
+    let rows : AreTimedRows c.args.accepted.now (length c.args.accepted.now.row) c.in_ok-tables.tables.rows.items = rw (← c.network-network.ensures.value)
+    c.in_ok-tables.ensures.rows in
     record { count = rows.count_is; periods = c.network-network.ensures.rules Periods; slots = slots; rows = rows }
