@@ -35,23 +35,24 @@ use Rattle.sync_state.specs.declared.state.State.{State as Standing}
 use Rattle.tte_units.specs.Amount.{amount}
 use Rattle.tte_units.specs.declared.units.Units.{Units}
 use Rattle.drift_world.proofs.HiddenCauses.{InOrder}
-use Rattle.drift_world.proofs.Made.{made_octets}
+use Rattle.world_state.proofs.Made.{made_octets}
 use Rattle.drift_world.proofs.Puts.{is_put_in, order_put}
-use Rattle.drift_world.specs.Acting.{AreOutcomes, IsHeldIn, bare, bodies_of, body_of, corrected_by, dispatched_by, emitted_by, first_by, framed, joined_by, sent_by}
-use Rattle.drift_world.specs.Giving.{HasItsOctets}
-use Rattle.drift_world.specs.Places.{IsSomePut, own_place}
-use Rattle.drift_world.specs.Views.{octets_of, settled_at, stored_as}
-use Rattle.drift_world.specs.declared.act.AtHand.{AtHand}
-use Rattle.drift_world.specs.declared.contents.Holding.{Holding}
-use Rattle.drift_world.specs.declared.contents.Settled.{Settled}
-use Rattle.drift_world.specs.declared.contents.Timed.TheVariants.{Made}
-use Rattle.drift_world.specs.declared.outcomes.Outcomes.{Outcomes}
-use Rattle.world_law.proofs.acting.Held.{IsHeldFrame, held_frame}
-use Rattle.world_law.proofs.acting.Stage.{Stage}
+use Rattle.world_state.specs.Acting.{AreOutcomes, IsHeldIn, bare, bodies_of, body_of, corrected_by, dispatched_by, emitted_by, first_by, framed, joined_by, sent_by}
+use Rattle.world_state.specs.Giving.{HasItsOctets}
+use Rattle.world_state.specs.Places.{IsSomePut, own_place}
+use Rattle.world_state.specs.Views.{octets_of, settled_at, stored_as}
+use Rattle.world_state.specs.declared.hands.AtHand.{AtHand}
+use Rattle.world_state.specs.declared.contents.Holding.{Holding}
+use Rattle.world_state.specs.declared.contents.Settled.{Settled}
+use Rattle.world_state.specs.declared.contents.Timed.TheVariants.{Made}
+use Rattle.world_state.specs.declared.outcomes.Outcomes.{Outcomes}
+use Rattle.world_steps.proofs.acting.Held.{IsHeldFrame, held_frame}
+use Rattle.world_steps.proofs.acting.Stage.{Stage}
 use Rattle.world_law.proofs.rows.AtHand.{sender_or}
-use Rattle.world_law.specs.world.Acting.{AreActBodies, first_bodies, joining_bodies, judged_as}
+use Rattle.world_steps.specs.Acting.{AreActBodies, first_bodies, joining_bodies}
+use Rattle.world_law.specs.world.Outcomes.{judged_as}
 use Rattle.world_law.specs.world.Calls.{moment_of}
-use Rattle.world_law.specs.world.Steps.{ArePutIn, IsPutIn, settled_as}
+use Rattle.world_law.specs.world.Moves.{ArePutIn, IsPutIn, settled_as}
 use Rattle.world_law.specs.world.World.{AreStored, Stored, act_place, none_yet}
 
 -- ---- two records are put in, one after the other

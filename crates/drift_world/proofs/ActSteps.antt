@@ -22,24 +22,26 @@ use Rattle.drift_world.proofs.ActRecords.{AreProper, IsFine, IsOwn, both_put, or
 use Rattle.drift_world.proofs.Fits.{all_put_some, have_octets}
 use Rattle.drift_world.proofs.HiddenCauses.{settled_in_order}
 use Rattle.drift_world.proofs.Showings.{shows_of}
-use Rattle.drift_world.specs.Acting.{AreOutcomes, HasItsRow, IsDueAt, IsIdle, act_cursor, bodies_of}
-use Rattle.drift_world.specs.Keeping.{keeps}
-use Rattle.drift_world.specs.Places.{IsSomePut}
+use Rattle.drift_world.specs.Acting.{IsDueAt, IsIdle, act_cursor}
+use Rattle.world_state.specs.Acting.{AreOutcomes, HasItsRow, bodies_of}
+use Rattle.world_state.specs.Keeping.{keeps}
+use Rattle.world_state.specs.Places.{IsSomePut}
 use Rattle.drift_world.specs.Showing.{IsOf}
 use Rattle.drift_world.specs.Stepping.{IsAt}
-use Rattle.drift_world.specs.Views.{settled_at, stored_as, world_of}
-use Rattle.drift_world.specs.declared.contents.Settled.{Settled}
-use Rattle.drift_world.specs.declared.kept.Kept.{Kept}
-use Rattle.drift_world.specs.declared.outcomes.Outcomes.{Outcomes}
+use Rattle.drift_world.specs.Views.{world_of}
+use Rattle.world_state.specs.Views.{settled_at, stored_as}
+use Rattle.world_state.specs.declared.contents.Settled.{Settled}
+use Rattle.world_state.specs.declared.kept.Kept.{Kept}
+use Rattle.world_state.specs.declared.outcomes.Outcomes.{Outcomes}
 use Rattle.drift_world.specs.declared.state.State.{State}
-use Rattle.world_law.proofs.acting.Kept.{may_act_now}
-use Rattle.world_law.proofs.acting.LastSteps.{last_acted_step}
-use Rattle.world_law.proofs.acting.Stage.{Stage, stage_of}
-use Rattle.world_law.proofs.acting.StaySteps.{acted_step}
-use Rattle.world_law.proofs.steps.Passed.{no_task}
-use Rattle.world_law.specs.world.Acting.{Acts, HasActed, IsDueNow}
-use Rattle.world_law.specs.world.Calls.{IsSet, moment_of}
-use Rattle.world_law.specs.world.Steps.{ArePutIn, ComesFirst, IsStateOf, StandsBehind}
+use Rattle.world_steps.proofs.acting.Kept.{may_act_now}
+use Rattle.world_steps.proofs.acting.LastSteps.{last_acted_step}
+use Rattle.world_steps.proofs.acting.Stage.{Stage, stage_of}
+use Rattle.world_steps.proofs.acting.StaySteps.{acted_step}
+use Rattle.world_steps.proofs.steps.Passed.{no_task}
+use Rattle.world_steps.specs.Acting.{Acts}
+use Rattle.world_law.specs.world.Calls.{HasActed, IsDueNow, IsSet, moment_of, IsStateOf}
+use Rattle.world_law.specs.world.Moves.{ArePutIn, ComesFirst, StandsBehind}
 use Rattle.world_law.specs.world.World.{AreStored, Stands, act_place}
 
 -- what an act dispatches is a row of the network

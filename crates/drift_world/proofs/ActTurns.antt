@@ -14,20 +14,20 @@ use Rattle.run_law.specs.records.Ranks.{place_of}
 use Rattle.run_law.specs.scenario.Scenarios.{Scenario}
 use Rattle.drift_world.proofs.Fits.{have_octets}
 use Rattle.drift_world.specs.Acting.{IsDueAt, SettlesFrom, act_cursor}
-use Rattle.drift_world.specs.Keeping.{keeps}
+use Rattle.world_state.specs.Keeping.{keeps}
 use Rattle.drift_world.specs.Sound.{IsSound}
 use Rattle.drift_world.specs.Stepping.{IsAt}
-use Rattle.drift_world.specs.Views.{settled_at, world_of}
-use Rattle.drift_world.specs.declared.contents.Settled.{Settled}
-use Rattle.drift_world.specs.declared.kept.Kept.{Kept}
+use Rattle.drift_world.specs.Views.{world_of}
+use Rattle.world_state.specs.Views.{settled_at}
+use Rattle.world_state.specs.declared.contents.Settled.{Settled}
+use Rattle.world_state.specs.declared.kept.Kept.{Kept}
 use Rattle.drift_world.specs.declared.state.State.{State}
 use Rattle.world_law.proofs.giving.Given.{some_same}
-use Rattle.world_law.proofs.growing.Repeating.{acts_add_up, acts_are_bounded, no_act_yet}
+use Rattle.world_steps.proofs.growing.Repeating.{acts_add_up, acts_are_bounded, no_act_yet}
 use Rattle.world_law.specs.source.First.{NoSourceBefore}
-use Rattle.world_law.specs.world.Acting.{HasActed, IsDueNow}
-use Rattle.world_law.specs.world.Calls.{moment_of}
-use Rattle.world_law.specs.world.Repeating.{HasActedTimes}
-use Rattle.world_law.specs.world.Steps.{ComesFirst, StandsBehind}
+use Rattle.world_law.specs.world.Calls.{HasActed, IsDueNow, moment_of}
+use Rattle.world_steps.specs.Repeating.{HasActedTimes}
+use Rattle.world_law.specs.world.Moves.{ComesFirst, StandsBehind}
 use Rattle.world_law.specs.world.World.{Stands, World, act_place, none_yet}
 
 -- the state stands, and the device's acts come first, but that there may be no numbers

@@ -20,7 +20,7 @@ use Rattle.net_plan.specs.declared.network.Network.{Network}
 use Rattle.run_law.specs.records.Order.{IsIn}
 use Rattle.run_law.specs.scenario.Rates.{rate_steps, step_by}
 use Rattle.tte_units.specs.Amount.{amount}
-use Rattle.drift_world.specs.Applying.{clock_after}
+use Rattle.world_state.specs.Applying.{clock_after}
 use Rattle.drift_world.specs.Running.{clock_of, reading_of}
 
 -- ---- the steps of more events

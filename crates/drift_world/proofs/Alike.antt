@@ -7,7 +7,7 @@ use Rattle.run_law.specs.machines.Nodes.{Node}
 use Rattle.run_law.specs.records.Order.{IsIn}
 use Rattle.run_law.specs.scenario.Scenarios.{Scenario}
 use Rattle.run_law.specs.declared.note.Note.{Note}
-use Rattle.world_law.specs.world.Steps.{StandsBehind}
+use Rattle.world_law.specs.world.Moves.{StandsBehind}
 use Rattle.world_law.specs.world.World.{AtPort, OnWire, World}
 
 -- other wires with the same on them

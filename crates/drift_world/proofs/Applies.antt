@@ -19,14 +19,14 @@ use Rattle.run_law.specs.scenario.Scenarios.{events_up_to, is_broken, last_set, 
 use Rattle.run_law.specs.scenario.Ways.{cut_set, hold_set, wire_of, wire_set}
 use Rattle.tte_units.specs.Amount.{amount}
 use Rattle.drift_world.proofs.Beginnings.{found}
-use Rattle.drift_world.specs.Applying.{way_after}
-use Rattle.drift_world.specs.Views.{befell_as, waiting_as, way_as}
-use Rattle.drift_world.specs.declared.contents.Befallen.{Befallen}
-use Rattle.drift_world.specs.declared.contents.Waits.{Waits}
-use Rattle.drift_world.specs.declared.contents.WayState.{WayState}
+use Rattle.world_state.specs.Applying.{way_after}
+use Rattle.world_state.specs.Views.{befell_as, waiting_as, way_as}
+use Rattle.world_state.specs.declared.contents.Befallen.{Befallen}
+use Rattle.world_state.specs.declared.contents.Waits.{Waits}
+use Rattle.world_state.specs.declared.contents.WayState.{WayState}
 use Rattle.world_law.proofs.giving.Given.{some_same}
 use Rattle.world_law.proofs.lists.Lists.{filter_yes}
-use Rattle.world_law.proofs.steps.AppliedParts.{broken_more}
+use Rattle.world_steps.proofs.steps.AppliedParts.{broken_more}
 use Rattle.world_law.specs.source.Agreeing.{scenario}
 use Rattle.world_law.specs.world.World.{AreWays, Waiting, WayNow, way_now}
 

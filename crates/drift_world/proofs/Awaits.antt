@@ -13,12 +13,12 @@ use Rattle.run_law.specs.records.Order.{IsIn}
 use Rattle.run_law.specs.scenario.Scenarios.{Scenario, is_broken}
 use Rattle.transparent_clock.specs.Points.{point_of}
 use Rattle.drift_world.proofs.Puts.{map_parts}
-use Rattle.drift_world.proofs.UnderWays.{some_is}
-use Rattle.drift_world.specs.Giving.{awaited_by, giver_of, waits_from, with_one}
-use Rattle.drift_world.specs.Views.{waiting_as}
-use Rattle.drift_world.specs.declared.contents.Waits.{Waits}
-use Rattle.drift_world.specs.declared.giving.Giving.{Giving}
-use Rattle.world_law.specs.world.Steps.{AreAwaited}
+use Rattle.world_state.proofs.UnderWays.{some_is}
+use Rattle.world_state.specs.Giving.{awaited_by, giver_of, waits_from, with_one}
+use Rattle.world_state.specs.Views.{waiting_as}
+use Rattle.world_state.specs.declared.contents.Waits.{Waits}
+use Rattle.world_state.specs.declared.giving.Giving.{Giving}
+use Rattle.world_law.specs.world.Moves.{AreAwaited}
 use Rattle.world_law.specs.world.World.{IsAwaitedFor, Waiting}
 
 in_push : {X : Type 0} (xs : List X) (y x : X) → IsIn x (xs ++ y ∷ []) → IsIn x xs ⊎ (x ≡ y)

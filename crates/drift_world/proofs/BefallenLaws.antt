@@ -28,30 +28,31 @@ use Rattle.run_law.specs.scenario.Scenarios.{Scenario, is_broken}
 use Rattle.run_law.specs.scenario.Ways.{delay_at, is_cut}
 use Rattle.sync_state.specs.declared.state.State.TheVariants.{Integrating}
 use Rattle.drift_world.proofs.Alike.{with_ports}
-use Rattle.drift_world.proofs.Befallings.{IsFreshOf, is_mapped, ports_settled}
+use Rattle.world_state.proofs.Befallings.{IsFreshOf, is_mapped, ports_settled}
 use Rattle.drift_world.proofs.Fits.{all_put_some, have_octets}
 use Rattle.drift_world.proofs.HiddenCauses.{InOrder}
 use Rattle.drift_world.proofs.Puts.{is_put_in, one_put_in, order_put, some_put_in}
-use Rattle.drift_world.proofs.UnderWays.{some_is}
-use Rattle.drift_world.specs.Befalling.{AreSettledBy, bare, entry_of, lost_on, record_of, sent_up, turned_on}
-use Rattle.drift_world.specs.Giving.{IsPutOn}
-use Rattle.drift_world.specs.Places.{IsSomePut}
-use Rattle.drift_world.specs.Sound.{AreUnderWay, rank_of}
-use Rattle.drift_world.specs.Views.{at_port, befell_as, on_wire, settled_at, signal_as, way_as, wire_at, world_of}
-use Rattle.drift_world.specs.declared.contents.Befallen.{Befallen}
-use Rattle.drift_world.specs.declared.contents.Content.TheVariants.{Port, Wire}
-use Rattle.drift_world.specs.declared.contents.Content.{Content}
-use Rattle.drift_world.specs.declared.contents.Settled.{Settled}
-use Rattle.drift_world.specs.declared.contents.Signal.TheVariants as signals
-use Rattle.drift_world.specs.declared.contents.WayState.{WayState}
-use Rattle.drift_world.specs.declared.kept.Kept.{Kept}
+use Rattle.world_state.proofs.UnderWays.{some_is}
+use Rattle.world_state.specs.Befalling.{AreSettledBy, bare, entry_of, lost_on, record_of, sent_up, turned_on}
+use Rattle.world_state.specs.Giving.{IsPutOn}
+use Rattle.world_state.specs.Places.{IsSomePut}
+use Rattle.world_state.specs.Sound.{AreUnderWay, rank_of}
+use Rattle.drift_world.specs.Views.{world_of}
+use Rattle.world_state.specs.Views.{at_port, befell_as, on_wire, settled_at, signal_as, way_as, wire_at}
+use Rattle.world_state.specs.declared.contents.Befallen.{Befallen}
+use Rattle.world_state.specs.declared.contents.Content.TheVariants.{Port, Wire}
+use Rattle.world_state.specs.declared.contents.Content.{Content}
+use Rattle.world_state.specs.declared.contents.Settled.{Settled}
+use Rattle.world_state.specs.declared.contents.Signal.TheVariants as signals
+use Rattle.world_state.specs.declared.contents.WayState.{WayState}
+use Rattle.world_state.specs.declared.kept.Kept.{Kept}
 use Rattle.drift_world.specs.declared.state.State.{State}
-use Rattle.world_law.proofs.befalling.Befell.{befell_step}
-use Rattle.world_law.proofs.befalling.Seen.{on_within, put_event, put_in_more, sent_on, wires_of}
+use Rattle.world_steps.proofs.befalling.Befell.{befell_step}
+use Rattle.world_steps.proofs.befalling.Seen.{on_within, put_event, put_in_more, sent_on, wires_of}
 use Rattle.world_law.proofs.runs.Worlds.{length_is}
-use Rattle.world_law.proofs.steps.Applied.{no_coming}
-use Rattle.world_law.specs.world.Befalling.{ArePutBy, befell_bodies, bodies_of}
-use Rattle.world_law.specs.world.Steps.{ArePutIn, StandsBehind}
+use Rattle.world_steps.proofs.steps.Applied.{no_coming}
+use Rattle.world_steps.specs.Befalling.{ArePutBy, befell_bodies, bodies_of}
+use Rattle.world_law.specs.world.Moves.{ArePutIn, StandsBehind}
 use Rattle.world_law.specs.world.World.{AreWays, OnWire, Stands, WayNow, World, hidden, none_yet, way_now}
 
 none_mapped : {X Y : Type 0} (f : X → Y) (xs : List X) → map f xs ≡ [] → xs ≡ []

@@ -13,9 +13,9 @@ use Rattle.net_plan.specs.declared.tables.Way.{Way}
 use Rattle.tte_units.specs.Amount.{amount}
 use Rattle.world_law.specs.source.Agreeing.{scenario}
 use Rattle.world_law.specs.world.World.{AreWays, WayNow, way_now}
-use Rattle.drift_world.specs.Beginning.{first_way}
-use Rattle.drift_world.specs.Sound.{AreUnderWay}
-use Rattle.drift_world.specs.Views.{way_as}
+use Rattle.world_state.specs.Beginning.{first_way}
+use Rattle.world_state.specs.Sound.{AreUnderWay}
+use Rattle.world_state.specs.Views.{way_as}
 
 pub found : {X : Type 0} (xs : List X) (i : ℕ) → i < length xs → (x : X) × (slice_get xs i ≡ Some x)
 found xs i lt =

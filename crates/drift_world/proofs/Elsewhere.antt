@@ -15,10 +15,10 @@ use Rattle.run_law.specs.scenario.Hypothesis.{breaks_at}
 use Rattle.tte_units.specs.Amount.{amount}
 use Rattle.tte_units.specs.declared.units.Units.{Units}
 use Rattle.drift_world.proofs.Timings.{still_timed}
-use Rattle.drift_world.specs.Applying.{IsElsewhere, clock_after, device_in}
+use Rattle.world_state.specs.Applying.{IsElsewhere, clock_after, device_in}
 use Rattle.drift_world.specs.Sourcing.{AreTimed}
 use Rattle.drift_world.specs.Stepping.{IsTimed}
-use Rattle.drift_world.specs.declared.contents.Waits.{Waits}
+use Rattle.world_state.specs.declared.contents.Waits.{Waits}
 use Rattle.drift_world.specs.declared.state.State.{State}
 
 -- ---- what an event does to another device

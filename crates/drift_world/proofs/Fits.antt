@@ -5,17 +5,17 @@ use Rattle.std.specs.List.Sorted.{IsPermutation}
 use Rattle.std.proofs.lemmas.List.Sorted.{IsPermutation-sym}
 use Rattle.std.proofs.lemmas.Grind.{elements}
 use Rattle.run_law.specs.control.Leaving.{Departure, leaves, on_cut_way, too_old}
-use Rattle.drift_world.specs.Giving.{HasItsOctets}
+use Rattle.world_state.specs.Giving.{HasItsOctets}
 use Rattle.due_queue.proofs.Bags.{in_permuted}
 use Rattle.due_queue.specs.declared.Entry.{Entry}
-use Rattle.drift_world.specs.Sound.{AreBelow}
-use Rattle.drift_world.specs.declared.contents.Content.{Content}
+use Rattle.world_state.specs.Sound.{AreBelow}
+use Rattle.world_state.specs.declared.contents.Content.{Content}
 use Rattle.net_plan.specs.declared.network.Network.{Network}
-use Rattle.drift_world.specs.Leaving.{departed, departure_by}
-use Rattle.world_law.specs.world.Steps.{departure_body}
+use Rattle.world_state.specs.Leaving.{departed, departure_by}
+use Rattle.world_law.specs.world.Outcomes.{departure_body}
 use Rattle.world_law.specs.world.World.{AtPort}
-use Rattle.drift_world.specs.Places.{IsPutAt, IsSomePut}
-use Rattle.drift_world.specs.declared.contents.Settled.{Settled}
+use Rattle.world_state.specs.Places.{IsPutAt, IsSomePut}
+use Rattle.world_state.specs.declared.contents.Settled.{Settled}
 
 abbrev pub have_octets : Settled → Type 0
 have_octets z = HasItsOctets z.body z.octets

@@ -12,10 +12,10 @@ use Rattle.run_law.specs.scenario.Ways.{is_way_of}
 use Rattle.schedule_tables.proofs.EntryLemmas.{all_at}
 use Rattle.tte_units.specs.Amount.{amount}
 use Rattle.drift_world.proofs.Beginnings.{found}
-use Rattle.drift_world.specs.Applying.{SetsShort, way_after}
-use Rattle.drift_world.specs.Sound.{IsShort}
-use Rattle.drift_world.specs.declared.contents.Waits.{Waits}
-use Rattle.drift_world.specs.declared.contents.WayState.{WayState}
+use Rattle.world_state.specs.Applying.{SetsShort, way_after}
+use Rattle.world_state.specs.Sound.{IsShort}
+use Rattle.world_state.specs.declared.contents.Waits.{Waits}
+use Rattle.world_state.specs.declared.contents.WayState.{WayState}
 use Rattle.world_law.proofs.giving.Given.{in_get}
 
 -- ---- the ways

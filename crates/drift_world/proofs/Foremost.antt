@@ -15,15 +15,17 @@ use Rattle.run_law.proofs.runs.Places.{never_self}
 use Rattle.run_law.specs.machines.Nodes.{Node}
 use Rattle.run_law.specs.records.Order.{IsBefore, IsIn}
 use Rattle.drift_world.proofs.Sources.{due_time, slot_high, slot_low}
-use Rattle.drift_world.specs.Keeping.{keeps}
-use Rattle.drift_world.specs.Sound.{AreUnderWay, IsSized, rank_of}
+use Rattle.world_state.specs.Keeping.{keeps}
+use Rattle.drift_world.specs.Sound.{IsSized}
+use Rattle.world_state.specs.Sound.{AreUnderWay, rank_of}
 use Rattle.drift_world.specs.Sourcing.{AreFirsts, AreNotBefore, AreTimed, HasNothingBefore, IsRipePlace, due_place}
 use Rattle.drift_world.specs.Stepping.{IsRunning}
-use Rattle.drift_world.specs.Views.{at_port, on_wire, port_at, waiting_as, wire_at, world_of}
-use Rattle.drift_world.specs.declared.contents.Content.TheVariants.{Wire, Port}
-use Rattle.drift_world.specs.declared.contents.Content.{Content}
-use Rattle.drift_world.specs.declared.contents.Waits.{Waits}
-use Rattle.drift_world.specs.declared.kept.Kept.{Kept}
+use Rattle.drift_world.specs.Views.{world_of}
+use Rattle.world_state.specs.Views.{at_port, on_wire, port_at, waiting_as, wire_at}
+use Rattle.world_state.specs.declared.contents.Content.TheVariants.{Wire, Port}
+use Rattle.world_state.specs.declared.contents.Content.{Content}
+use Rattle.world_state.specs.declared.contents.Waits.{Waits}
+use Rattle.world_state.specs.declared.kept.Kept.{Kept}
 use Rattle.drift_world.specs.declared.state.State.{State}
 use Rattle.world_law.specs.world.World.{AtPort, OnWire, port_place, ripe_place, wire_place}
 
@@ -83,7 +85,7 @@ module _ {C M : Type 0} (reading : C → ℕ → ℕ) (stands : M → Network �
         device = record { 0 = e.place.device };
         link = record { 0 = e.place.link };
         cause = e.place.cause;
-        signal = Rattle.drift_world.specs.Views.signal_as network signal;
+        signal = Rattle.world_state.specs.Views.signal_as network signal;
       } in
       let i = is_given (on_wire network) state.under_way.entries e x there (ap (wire_at network e.place) is) in
       elim (cases_lt e.place.at state.time) [

@@ -21,16 +21,19 @@ use Rattle.drift_world.proofs.Beginnings.{first_ways_are, found, found_in, none_
 use Rattle.drift_world.proofs.Fitting.{AreApart, some_is}
 use Rattle.drift_world.proofs.Forwards.{forward}
 use Rattle.drift_world.proofs.Steadiness.{steady}
-use Rattle.drift_world.specs.Beginning.{AreFresh, IsFirstState, first_way}
-use Rattle.drift_world.specs.Giving.{HasItsOctets}
-use Rattle.drift_world.specs.Keeping.{keeps, sound_one}
+use Rattle.drift_world.specs.Beginning.{AreFresh, IsFirstState}
+use Rattle.world_state.specs.Beginning.{first_way}
+use Rattle.world_state.specs.Giving.{HasItsOctets}
+use Rattle.world_state.specs.Keeping.{keeps, sound_one}
 use Rattle.drift_world.specs.Running.{StandsUnder, reading_of}
-use Rattle.drift_world.specs.Sound.{AreBelow, AreUnderWay, IsShort, IsSound}
-use Rattle.drift_world.specs.Views.{at_port, on_wire, way_as, world_of}
-use Rattle.drift_world.specs.declared.contents.Settled.{Settled}
-use Rattle.drift_world.specs.declared.contents.Waits.{Waits}
+use Rattle.drift_world.specs.Sound.{IsSound}
+use Rattle.world_state.specs.Sound.{AreBelow, AreUnderWay, IsShort}
+use Rattle.drift_world.specs.Views.{world_of}
+use Rattle.world_state.specs.Views.{at_port, on_wire, way_as}
+use Rattle.world_state.specs.declared.contents.Settled.{Settled}
+use Rattle.world_state.specs.declared.contents.Waits.{Waits}
 use Rattle.drift_world.specs.declared.state.State.{State}
-use Rattle.world_law.proofs.steps.Beginnings.{begun}
+use Rattle.world_steps.proofs.steps.Beginnings.{begun}
 use Rattle.world_law.specs.source.Agreeing.{scenario}
 use Rattle.world_law.specs.world.World.{AreWays}
 

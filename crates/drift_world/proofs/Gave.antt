@@ -23,23 +23,26 @@ use Rattle.run_law.specs.records.Order.{IsIn}
 use Rattle.run_law.specs.scenario.Ways.{receiver_of, way_from}
 use Rattle.drift_world.proofs.Sendings.{link_within}
 use Rattle.drift_world.proofs.Storings.{in_pushed}
-use Rattle.drift_world.proofs.UnderWays.{some_is, sound_with}
-use Rattle.drift_world.specs.Giving.{HasItsOctets, IsGivenOut, IsPutOn, awaited_by, changed_device, control_on_wire, delay_by, place_on_wire, timed_on_wire, waits_from, wire_entry, with_one}
-use Rattle.drift_world.specs.Naming.{named_settled}
-use Rattle.drift_world.specs.Sound.{AreBelow, AreUnderWay, IsShort, IsSound, rank_of}
+use Rattle.world_state.proofs.UnderWays.{some_is, sound_with}
+use Rattle.drift_world.specs.Giving.{IsGivenOut}
+use Rattle.world_state.specs.Giving.{HasItsOctets, IsPutOn, awaited_by, changed_device, control_on_wire, delay_by, place_on_wire, timed_on_wire, waits_from, wire_entry, with_one}
+use Rattle.world_state.specs.Naming.{named_settled}
+use Rattle.drift_world.specs.Sound.{IsSound}
+use Rattle.world_state.specs.Sound.{AreBelow, AreUnderWay, IsShort, rank_of}
 use Rattle.drift_world.specs.Stepping.{ChangesOnly}
-use Rattle.drift_world.specs.Views.{at_port, on_wire, settled_at, stored_as, waiting_as, with_first, world_of}
-use Rattle.drift_world.specs.declared.contents.Content.{Content}
-use Rattle.drift_world.specs.declared.contents.Holding.{Holding}
-use Rattle.drift_world.specs.declared.contents.Settled.{Settled}
-use Rattle.drift_world.specs.declared.contents.Timed.{Timed}
-use Rattle.drift_world.specs.declared.contents.Waits.{Waits}
-use Rattle.drift_world.specs.declared.contents.WayState.{WayState}
-use Rattle.drift_world.specs.declared.giving.Giving.{Giving}
-use Rattle.drift_world.specs.declared.kept.Kept.{Kept}
+use Rattle.drift_world.specs.Views.{with_first, world_of}
+use Rattle.world_state.specs.Views.{at_port, on_wire, settled_at, stored_as, waiting_as}
+use Rattle.world_state.specs.declared.contents.Content.{Content}
+use Rattle.world_state.specs.declared.contents.Holding.{Holding}
+use Rattle.world_state.specs.declared.contents.Settled.{Settled}
+use Rattle.world_state.specs.declared.contents.Timed.{Timed}
+use Rattle.world_state.specs.declared.contents.Waits.{Waits}
+use Rattle.world_state.specs.declared.contents.WayState.{WayState}
+use Rattle.world_state.specs.declared.giving.Giving.{Giving}
+use Rattle.world_state.specs.declared.kept.Kept.{Kept}
 use Rattle.drift_world.specs.declared.state.State.{State}
-use Rattle.world_law.proofs.hearing.Receptions.{receiver_in}
-use Rattle.world_law.specs.world.Steps.{named_body}
+use Rattle.world_steps.proofs.hearing.Receptions.{receiver_in}
+use Rattle.world_law.specs.world.Moves.{named_body}
 use Rattle.world_law.specs.world.World.{World}
 
 -- ---- what is put to ports

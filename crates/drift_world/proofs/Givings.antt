@@ -16,27 +16,29 @@ use Rattle.run_law.specs.records.Happenings.{Happening, happening, happenings}
 use Rattle.run_law.specs.records.Order.{behind}
 use Rattle.run_law.specs.records.Ranks.{place_of}
 use Rattle.run_law.specs.scenario.Scenarios.{Scenario}
-use Rattle.drift_world.proofs.Apart.{given_then, ports_kept, put_from, wires_kept}
+use Rattle.world_state.proofs.Apart.{given_then, ports_kept, put_from, wires_kept}
 use Rattle.drift_world.proofs.FirstSettled.{first_is}
 use Rattle.drift_world.proofs.Launches.{given_out}
 use Rattle.drift_world.proofs.Sendings.{puts}
-use Rattle.drift_world.specs.Giving.{IsGivenOut, IsPutOn, MayBeGiven, control_on_wire, timed_on_wire, wire_entry}
+use Rattle.drift_world.specs.Giving.{IsGivenOut}
+use Rattle.world_state.specs.Giving.{IsPutOn, MayBeGiven, control_on_wire, timed_on_wire, wire_entry}
 use Rattle.drift_world.specs.Showing.{IsOf}
 use Rattle.drift_world.proofs.Storings.{taken_by}
-use Rattle.drift_world.specs.Storing.{stored_by}
-use Rattle.drift_world.specs.Views.{at_port, octets_in, on_wire, settled_at, stored_as, waiting_as, with_first}
-use Rattle.drift_world.specs.Naming.{named_settled}
-use Rattle.drift_world.specs.declared.contents.Content.{Content}
-use Rattle.drift_world.specs.declared.contents.Holding.{Holding}
-use Rattle.drift_world.specs.declared.contents.Settled.{Settled}
-use Rattle.drift_world.specs.declared.contents.Timed.{Timed}
-use Rattle.drift_world.specs.declared.contents.WayState.{WayState}
-use Rattle.drift_world.specs.declared.giving.Giving.{Giving}
-use Rattle.drift_world.specs.declared.kept.Kept.{Kept}
+use Rattle.world_state.specs.Storing.{stored_by}
+use Rattle.drift_world.specs.Views.{with_first}
+use Rattle.world_state.specs.Views.{at_port, octets_in, on_wire, settled_at, stored_as, waiting_as}
+use Rattle.world_state.specs.Naming.{named_settled}
+use Rattle.world_state.specs.declared.contents.Content.{Content}
+use Rattle.world_state.specs.declared.contents.Holding.{Holding}
+use Rattle.world_state.specs.declared.contents.Settled.{Settled}
+use Rattle.world_state.specs.declared.contents.Timed.{Timed}
+use Rattle.world_state.specs.declared.contents.WayState.{WayState}
+use Rattle.world_state.specs.declared.giving.Giving.{Giving}
+use Rattle.world_state.specs.declared.kept.Kept.{Kept}
 use Rattle.drift_world.specs.declared.state.State.{State}
 use Rattle.world_law.proofs.giving.Given.{given_step}
 use Rattle.world_law.specs.source.First.{NoSourceBefore}
-use Rattle.world_law.specs.world.Steps.{AreTaken, StandsBehind, named}
+use Rattle.world_law.specs.world.Moves.{AreTaken, StandsBehind, named}
 use Rattle.world_law.specs.world.World.{Stands, note_of}
 
 no_port_at : (f : Place → Entry Content) → ((p : Place) → at_port (f p) ≡ None) → (o : Option Place) → IfSome (option_map f o) (λ one. at_port one ≡ None)

@@ -35,26 +35,27 @@ use Rattle.drift_world.proofs.Fits.{have_octets}
 use Rattle.drift_world.proofs.HiddenCauses.{settled_in_order}
 use Rattle.drift_world.proofs.Puts.{one_put_in, same_units}
 use Rattle.drift_world.proofs.Signals.{frame_told, octets_told, plain_on_wire}
-use Rattle.drift_world.proofs.UnderWays.{ports_stay, wires_without}
-use Rattle.drift_world.specs.Hearing.{AreOctetsOf, IsAsSent, MayCome, arrived, frame_kept, octets_kept, timed_in}
-use Rattle.drift_world.specs.Places.{IsPutAt}
-use Rattle.drift_world.specs.Sound.{AreUnderWay}
-use Rattle.drift_world.specs.Views.{at_port, octets_in, octets_of, on_wire, settled_at, signal_as, world_of}
-use Rattle.drift_world.specs.declared.contents.Content.TheVariants.{Wire}
-use Rattle.drift_world.specs.declared.contents.Content.{Content}
-use Rattle.drift_world.specs.declared.contents.Settled.{Settled}
-use Rattle.drift_world.specs.declared.contents.Signal.TheVariants as signals
-use Rattle.drift_world.specs.declared.contents.Signal.{Signal as SignalSent}
-use Rattle.drift_world.specs.declared.kept.Kept.{Kept}
+use Rattle.world_state.proofs.UnderWays.{ports_stay, wires_without}
+use Rattle.world_state.specs.Hearing.{AreOctetsOf, IsAsSent, MayCome, arrived, frame_kept, octets_kept, timed_in}
+use Rattle.world_state.specs.Places.{IsPutAt}
+use Rattle.world_state.specs.Sound.{AreUnderWay}
+use Rattle.drift_world.specs.Views.{world_of}
+use Rattle.world_state.specs.Views.{at_port, octets_in, octets_of, on_wire, settled_at, signal_as}
+use Rattle.world_state.specs.declared.contents.Content.TheVariants.{Wire}
+use Rattle.world_state.specs.declared.contents.Content.{Content}
+use Rattle.world_state.specs.declared.contents.Settled.{Settled}
+use Rattle.world_state.specs.declared.contents.Signal.TheVariants as signals
+use Rattle.world_state.specs.declared.contents.Signal.{Signal as SignalSent}
+use Rattle.world_state.specs.declared.kept.Kept.{Kept}
 use Rattle.drift_world.specs.declared.state.State.{State}
 use Rattle.world_law.proofs.giving.Given.{some_same}
-use Rattle.world_law.proofs.hearing.Calling.{may_call}
-use Rattle.world_law.proofs.hearing.HeardSteps.{heard_step}
-use Rattle.world_law.proofs.hearing.OneMaster.{may_arrive}
-use Rattle.world_law.proofs.hearing.Receptions.{device_there}
-use Rattle.world_law.specs.world.Arriving.{HasHeard, arrival_body}
-use Rattle.world_law.specs.world.Calls.{IsSet, moment_of}
-use Rattle.world_law.specs.world.Steps.{ComesFirst, StandsBehind, settled_as}
+use Rattle.world_steps.proofs.hearing.Calling.{may_call}
+use Rattle.world_steps.proofs.hearing.HeardSteps.{heard_step}
+use Rattle.world_steps.proofs.hearing.OneMaster.{may_arrive}
+use Rattle.world_steps.proofs.hearing.Receptions.{device_there}
+use Rattle.world_law.specs.world.Calls.{HasHeard, IsSet, moment_of}
+use Rattle.world_law.specs.world.Outcomes.{arrival_body}
+use Rattle.world_law.specs.world.Moves.{ComesFirst, StandsBehind, settled_as}
 use Rattle.world_law.specs.world.World.{IsClockOf, IsHeld, OnWire, Stands, World, wire_place}
 
 -- ---- the record of what becomes of it

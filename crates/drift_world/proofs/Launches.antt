@@ -18,20 +18,21 @@ use Rattle.run_law.specs.records.Happenings.{Happening, time_of}
 use Rattle.run_law.specs.scenario.Devices.{is_parent_of}
 use Rattle.run_law.specs.scenario.Scenarios.{Scenario, is_broken}
 use Rattle.run_law.specs.scenario.Ways.{delay_at, hold_at, way_from}
-use Rattle.drift_world.proofs.UnderWays.{some_is}
-use Rattle.drift_world.specs.Giving.{ArePutTo, ArrivedAt, HasItsFrame, IsGivenOut, IsGiver, delay_by, entry_at_port, giver_of, hold_by}
+use Rattle.world_state.proofs.UnderWays.{some_is}
+use Rattle.drift_world.specs.Giving.{IsGivenOut, IsGiver}
+use Rattle.world_state.specs.Giving.{ArePutTo, ArrivedAt, HasItsFrame, delay_by, entry_at_port, giver_of, hold_by}
 use Rattle.drift_world.specs.Showing.{IsOf}
-use Rattle.drift_world.specs.Sound.{AreBelow, AreUnderWay}
-use Rattle.drift_world.specs.Views.{at_port, waiting_as, way_as}
-use Rattle.drift_world.specs.declared.contents.Waits.{Waits}
+use Rattle.world_state.specs.Sound.{AreBelow, AreUnderWay}
+use Rattle.world_state.specs.Views.{at_port, waiting_as, way_as}
+use Rattle.world_state.specs.declared.contents.Waits.{Waits}
 use Rattle.drift_world.specs.declared.state.State.{State}
 use Rattle.drift_world.proofs.Awaits.{awaits, none_awaited}
 use Rattle.net_plan.specs.Ranges.{IsInRange, IsLinkInRange}
 use Rattle.pcf_values.specs.declared.pcf.Pcf.{Pcf}
-use Rattle.drift_world.specs.declared.contents.Content.{Content}
-use Rattle.drift_world.specs.declared.contents.WayState.{WayState}
-use Rattle.drift_world.specs.declared.giving.Giving.{Giving}
-use Rattle.world_law.specs.world.Steps.{AreAwaited, AreGiven}
+use Rattle.world_state.specs.declared.contents.Content.{Content}
+use Rattle.world_state.specs.declared.contents.WayState.{WayState}
+use Rattle.world_state.specs.declared.giving.Giving.{Giving}
+use Rattle.world_law.specs.world.Moves.{AreAwaited, AreGiven}
 use Rattle.world_law.specs.world.World.{AreWays, AtPort, IsGivenBy, WayNow, port_place, way_now}
 
 some_of : {X Y : Type 0} (f : X → Y) (o : Option X) (y : Y) → option_map f o ≡ Some y → (x : X) × (o ≡ Some x) × (f x ≡ y)

@@ -26,11 +26,11 @@ use Rattle.sync_state.specs.declared.state.State.{State as DeviceState}
 use Rattle.tte_units.specs.Amount.{amount}
 use Rattle.tte_units.specs.declared.units.Units.{Units}
 use Rattle.drift_world.proofs.Agreements.{all_come, reads_value}
-use Rattle.drift_world.specs.Keeping.{keeps}
+use Rattle.world_state.specs.Keeping.{keeps}
 use Rattle.drift_world.specs.Locals.{HasCome, IsComplete, IsLocalClock, Shows, local_shown}
 use Rattle.drift_world.specs.Running.{clock_of, reading_of}
 use Rattle.drift_world.specs.Views.{world_of}
-use Rattle.drift_world.specs.declared.kept.Kept.{Kept}
+use Rattle.world_state.specs.declared.kept.Kept.{Kept}
 use Rattle.drift_world.specs.declared.state.State.{State}
 use Rattle.world_law.proofs.devices.Resting.{IsWorked}
 use Rattle.world_law.proofs.devices.Shown.{all_past, held_shows}

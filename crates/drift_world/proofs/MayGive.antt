@@ -24,13 +24,13 @@ use Rattle.tte_units.specs.declared.units.Units.{Units}
 use Rattle.drift_world.proofs.FirstSettled.{first_of}
 use Rattle.drift_world.proofs.HiddenCauses.{change_or_other}
 use Rattle.drift_world.proofs.Sendings.{link_within}
-use Rattle.drift_world.proofs.UnderWays.{some_is}
-use Rattle.drift_world.specs.Giving.{ArrivedAt, CameBy, HasItsFrame, HasItsOctets, IsYoung, MayBeGiven}
-use Rattle.drift_world.specs.Views.{settled_at}
-use Rattle.drift_world.specs.declared.contents.Settled.{Settled}
-use Rattle.world_law.proofs.growing.FromZero.{arrived_clock}
-use Rattle.world_law.proofs.hearing.Receptions.{receiver_in}
-use Rattle.world_law.proofs.ripening.Proper.{arrived_so, launched_frame}
+use Rattle.world_state.proofs.UnderWays.{some_is}
+use Rattle.world_state.specs.Giving.{ArrivedAt, CameBy, HasItsFrame, HasItsOctets, IsYoung, MayBeGiven}
+use Rattle.world_state.specs.Views.{settled_at}
+use Rattle.world_state.specs.declared.contents.Settled.{Settled}
+use Rattle.world_steps.proofs.growing.FromZero.{arrived_clock}
+use Rattle.world_steps.proofs.hearing.Receptions.{receiver_in}
+use Rattle.world_law.proofs.frames.Proper.{arrived_so, launched_frame}
 use Rattle.world_law.specs.world.World.{Stands, World, hidden_body}
 
 -- it may be given but for its octets

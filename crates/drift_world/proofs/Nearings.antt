@@ -14,19 +14,19 @@ use Rattle.run_law.specs.machines.Nodes.{Node}
 use Rattle.run_law.specs.machines.Tasks.{IsPending, reading_for}
 use Rattle.drift_world.proofs.Foremost.{node_of}
 use Rattle.drift_world.proofs.Showings.{shows_of}
-use Rattle.drift_world.specs.Befalling.{AreSettledBy, entry_of}
-use Rattle.drift_world.specs.Giving.{IsPutOn}
-use Rattle.drift_world.specs.Keeping.{keeps}
+use Rattle.world_state.specs.Befalling.{AreSettledBy, entry_of}
+use Rattle.world_state.specs.Giving.{IsPutOn}
+use Rattle.world_state.specs.Keeping.{keeps}
 use Rattle.drift_world.specs.Nearing.{IsIdleAt, IsLess, Nears, acting, burden, come, distance}
 use Rattle.drift_world.specs.Sourcing.{AreTimed}
 use Rattle.drift_world.specs.Stepping.{IsRunning}
 use Rattle.drift_world.specs.Turns.{IsActive}
 use Rattle.drift_world.specs.Wells.{IsWell}
-use Rattle.drift_world.specs.declared.contents.Befallen.{Befallen}
-use Rattle.drift_world.specs.declared.contents.Content.{Content}
-use Rattle.drift_world.specs.declared.contents.Settled.{Settled}
-use Rattle.drift_world.specs.declared.contents.WayState.{WayState}
-use Rattle.drift_world.specs.declared.kept.Kept.{Kept}
+use Rattle.world_state.specs.declared.contents.Befallen.{Befallen}
+use Rattle.world_state.specs.declared.contents.Content.{Content}
+use Rattle.world_state.specs.declared.contents.Settled.{Settled}
+use Rattle.world_state.specs.declared.contents.WayState.{WayState}
+use Rattle.world_state.specs.declared.kept.Kept.{Kept}
 use Rattle.drift_world.specs.declared.next.Turn.TheVariants.{Gives, Ends, GoesOn}
 use Rattle.drift_world.specs.declared.next.Turn.{Turn}
 use Rattle.drift_world.specs.declared.state.State.{State}

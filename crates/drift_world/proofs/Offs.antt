@@ -44,7 +44,7 @@ use Rattle.sync_state.specs.declared.state.State.{State}
 use Rattle.tte_units.specs.Amount.{amount}
 use Rattle.tte_units.specs.declared.units.Units.{Units}
 use Rattle.world_law.proofs.devices.OwnRecords.{joins_no_other, keeps_state}
-use Rattle.world_law.proofs.ripening.Awake.{any_in, both_are}
+use Rattle.world_steps.proofs.ripening.Awake.{any_in, both_are}
 use Rattle.world_law.specs.device.Own.{moves}
 
 -- ---- what hears nothing joins by nothing

@@ -25,19 +25,19 @@ use Rattle.drift_world.proofs.Forwards.{forward}
 use Rattle.drift_world.proofs.Admitted.{all_within}
 use Rattle.drift_world.proofs.Steadiness.{steady}
 use Rattle.drift_world.proofs.Suits.{suits}
-use Rattle.drift_world.specs.Applying.{IsShown, clock_after}
+use Rattle.world_state.specs.Applying.{IsShown, clock_after}
 use Rattle.drift_world.specs.Following.{Follows}
 use Rattle.run_law.specs.law.FirstLaws.{IsEventInRange}
-use Rattle.drift_world.specs.Keeping.{keeps}
+use Rattle.world_state.specs.Keeping.{keeps}
 use Rattle.drift_world.specs.Running.{HoldsATime, IsOpenTo, StandsUnder, behind_events, clock_of, reading_of}
 use Rattle.drift_world.specs.Views.{world_of}
-use Rattle.drift_world.specs.declared.kept.Kept.{Kept}
-use Rattle.drift_world.specs.declared.memory.OutOfMemory.{OutOfMemory}
+use Rattle.world_state.specs.declared.kept.Kept.{Kept}
+use Rattle.world_state.specs.declared.memory.OutOfMemory.{OutOfMemory}
 use Rattle.drift_world.specs.declared.state.State.{State}
 use Rattle.world_law.proofs.giving.Given.{in_get}
 use Rattle.world_law.specs.source.Agreeing.{scenario}
 use Rattle.world_law.specs.source.Applying.{note_of_event}
-use Rattle.world_law.specs.world.Steps.{FitsWorld}
+use Rattle.world_steps.specs.Steps.{FitsWorld}
 use Rattle.world_law.specs.world.World.{Stands, World}
 
 -- an event of a time from 0 on, with a hold from 0 on, is in range

@@ -15,11 +15,12 @@ use Rattle.run_law.specs.records.Ranks.{place_of}
 use Rattle.run_law.specs.declared.note.NoteBody.{NoteBody}
 use Rattle.tte_units.specs.declared.units.Units.{Units}
 use Rattle.drift_world.proofs.HiddenCauses.{InOrder}
-use Rattle.drift_world.specs.Leaving.{frame_after}
-use Rattle.drift_world.specs.Places.{IsPutAt, IsSomePut, own_place}
-use Rattle.drift_world.specs.Views.{settled_at}
-use Rattle.drift_world.specs.declared.contents.Settled.{Settled}
-use Rattle.world_law.specs.world.Steps.{ArePutIn, IsPutIn, departure_body, settled_as}
+use Rattle.world_state.specs.Leaving.{frame_after}
+use Rattle.world_state.specs.Places.{IsPutAt, IsSomePut, own_place}
+use Rattle.world_state.specs.Views.{settled_at}
+use Rattle.world_state.specs.declared.contents.Settled.{Settled}
+use Rattle.world_law.specs.world.Moves.{ArePutIn, IsPutIn, settled_as}
+use Rattle.world_law.specs.world.Outcomes.{departure_body}
 use Rattle.world_law.specs.world.World.{AtPort, IsAtPort}
 
 pub map_parts : {X Y : Type 0} (f : X → Y) (xs ys : List X) → map f (xs ++ ys) ≡ map f xs ++ map f ys

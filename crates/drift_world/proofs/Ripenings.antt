@@ -26,23 +26,24 @@ use Rattle.tte_units.specs.declared.units.Units.{Units}
 use Rattle.drift_world.proofs.Fits.{all_put, all_put_some, have_octets}
 use Rattle.drift_world.proofs.HiddenCauses.{InOrder, settled_in_order}
 use Rattle.drift_world.proofs.Puts.{one_put_in, two_put_in}
-use Rattle.drift_world.proofs.Swaps.{IsTaken, at_in, from_map, in_at, in_map, is_set, same_place, stayed, stays, stood}
-use Rattle.drift_world.specs.Keeping.{keeps}
-use Rattle.drift_world.specs.Places.{IsPutAt}
-use Rattle.drift_world.specs.Ripening.{AreSettledSo, joined_record, judged_so, ripe_record}
+use Rattle.world_state.proofs.Swaps.{IsTaken, at_in, from_map, in_at, in_map, is_set, same_place, stayed, stays, stood}
+use Rattle.world_state.specs.Keeping.{keeps}
+use Rattle.world_state.specs.Places.{IsPutAt}
+use Rattle.world_state.specs.Ripening.{AreSettledSo, joined_record, judged_so, ripe_record}
 use Rattle.drift_world.specs.Stepping.{IsAt}
-use Rattle.drift_world.specs.Views.{settled_at, waiting_as, world_of}
-use Rattle.drift_world.specs.declared.contents.Settled.{Settled}
-use Rattle.drift_world.specs.declared.contents.Waits.{Waits}
-use Rattle.drift_world.specs.declared.kept.Kept.{Kept}
+use Rattle.drift_world.specs.Views.{world_of}
+use Rattle.world_state.specs.Views.{settled_at, waiting_as}
+use Rattle.world_state.specs.declared.contents.Settled.{Settled}
+use Rattle.world_state.specs.declared.contents.Waits.{Waits}
+use Rattle.world_state.specs.declared.kept.Kept.{Kept}
 use Rattle.drift_world.specs.declared.state.State.{State}
 use Rattle.world_law.proofs.giving.Given.{some_same}
-use Rattle.world_law.proofs.ripening.Asking.{may_ask}
-use Rattle.world_law.proofs.ripening.Ripens.{all_in}
-use Rattle.world_law.proofs.ripening.RipenedSteps.{ripened_step, waits_within}
+use Rattle.world_steps.proofs.ripening.Asking.{may_ask}
+use Rattle.world_steps.proofs.ripening.Ripens.{all_in}
+use Rattle.world_steps.proofs.ripening.RipenedSteps.{ripened_step, waits_within}
 use Rattle.world_law.specs.world.Calls.{moment_of}
-use Rattle.world_law.specs.world.Ripening.{HasRipened, ripe_bodies}
-use Rattle.world_law.specs.world.Steps.{ArePutIn, ComesFirst, IsWithout, StandsBehind, settled_as}
+use Rattle.world_steps.specs.Ripening.{HasRipened, ripe_bodies}
+use Rattle.world_law.specs.world.Moves.{ArePutIn, ComesFirst, IsWithout, StandsBehind, settled_as}
 use Rattle.world_law.specs.world.World.{Stands, Waiting, none_yet, ripe_place}
 
 -- ---- what waits is apart by its cause

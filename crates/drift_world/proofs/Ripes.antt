@@ -1,40 +1,17 @@
 -- The first of the frames that wait at a device and are reached.
-use Rattle.std.proofs.Common.{◌≡◌, ◌+◌, ℕ, pos, ◌≤ℤ◌, List, Option, Some, None, IfSome, IfNone, slice_get, length, arith, ap, sym, subst, inl, inr, ◌∙◌}
-use Rattle.std.proofs.lemmas.Bool.{cases_lt}
+use Rattle.std.proofs.Common.{◌≡◌, ℕ, pos, ◌≤ℤ◌, Option, Some, None, IfSome, IfNone, slice_get, length, arith, ap, sym, subst, inl, inr, ◌∙◌}
 use Rattle.std.proofs.lemmas.Option.{slice_get_within}
 use Rattle.net_plan.specs.declared.ids.DeviceId.{DeviceId}
 use Rattle.run_law.specs.records.Order.{IsBefore, IsIn}
-use Rattle.drift_world.proofs.Swaps.{in_at}
-use Rattle.drift_world.specs.Ripening.{IsFirstReached, IsFirstRipe, ripe_numbers}
-use Rattle.drift_world.specs.Views.{waiting_as}
-use Rattle.drift_world.specs.declared.contents.Waits.{Waits}
+use Rattle.world_state.proofs.Swaps.{in_at}
+use Rattle.drift_world.specs.Ripening.{IsFirstRipe}
+use Rattle.world_state.specs.Ripening.{IsFirstReached, ripe_numbers}
+use Rattle.world_state.specs.Views.{waiting_as}
+use Rattle.world_state.specs.declared.contents.Waits.{Waits}
 use Rattle.drift_world.specs.declared.state.State.{State}
 use Rattle.world_law.proofs.giving.Given.{some_same}
-use Rattle.world_law.proofs.ripening.Ripens.{device_is}
+use Rattle.world_steps.proofs.ripening.Ripens.{device_is}
 use Rattle.world_law.specs.world.World.{ripe_place}
-
--- one more that is not before it
-pub still_first : (waiting : List Waits) (device : DeviceId) (reading n i : ℕ) (one known : Waits) → IsFirstReached waiting device reading n (Some i)
-    → slice_get waiting n ≡ Some one → slice_get waiting i ≡ Some known → (IsBefore (ripe_numbers one) (ripe_numbers known) → ⊥)
-    → IsFirstReached waiting device reading (n + 1) (Some i)
-still_first waiting device reading n i one known (lt, (w, there, reached, none)) at is not = (
-  omega (arith, lt),
-  (
-    w,
-    there,
-    reached,
-    λ k v below of so before.
-        elim (cases_lt k n) [
-          | inl less ↦ none k v less of so before
-          | inr more ↦
-              let here : k ≡ n = omega (arith, below, more) in
-              let v_is : v ≡ one = some_same v one _ of (ap (slice_get waiting) here ∙ at) in
-              let w_is : w ≡ known = some_same w known _ there is in
-              not (subst (λ (x : Waits). IsBefore (ripe_numbers x) (ripe_numbers known)) v_is
-              (subst (λ (x : Waits). IsBefore (ripe_numbers v) (ripe_numbers x)) w_is before))
-        ],
-  ),
-)
 
 -- so it is of all that wait
 pub first_ripe : {C M : Type 0} (reading : C → ℕ → ℕ) (state : State C M) (device : DeviceId) (now : ℕ) (clock : C)

@@ -2,10 +2,10 @@
 use Rattle.std.proofs.Common.{◌≡◌, ℕ, ◌^◌, refl}
 use Rattle.net_plan.specs.declared.ids.DeviceId.{DeviceId}
 use Rattle.net_plan.specs.declared.ids.LinkId.{LinkId}
-use Rattle.drift_world.specs.Bodies.{body_of}
-use Rattle.drift_world.specs.Giving.{changed_device}
-use Rattle.drift_world.specs.declared.bodies.Kind.TheVariants as said
-use Rattle.drift_world.specs.declared.bodies.Kind.{Kind}
+use Rattle.world_state.specs.Bodies.{body_of}
+use Rattle.world_state.specs.Giving.{changed_device}
+use Rattle.world_state.specs.declared.bodies.Kind.TheVariants as said
+use Rattle.world_state.specs.declared.bodies.Kind.{Kind}
 
 -- by what is not an arrival no frame begins to wait
 pub far_kind : (kind : Kind) → ((device : DeviceId) (link : LinkId) (cause clock : ℕ) → kind ≡ said.Arrived device link cause clock → ⊥)

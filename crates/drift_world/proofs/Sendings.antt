@@ -21,16 +21,16 @@ use Rattle.run_law.specs.scenario.Scenarios.{Scenario}
 use Rattle.run_law.specs.scenario.Ways.{delay_at, receiver_of, way_from}
 use Rattle.schedule_tables.specs.Entries.{target_by}
 use Rattle.drift_world.proofs.Launches.{delay_is}
-use Rattle.drift_world.proofs.UnderWays.{some_is}
-use Rattle.drift_world.specs.Giving.{HasItsOctets, IsPutOn, delay_by, wire_entry}
-use Rattle.drift_world.specs.Views.{octets_in, octets_of, on_wire, signal_as, way_as}
-use Rattle.drift_world.specs.declared.contents.Content.TheVariants.{Wire}
-use Rattle.drift_world.specs.declared.contents.Content.{Content}
-use Rattle.drift_world.specs.declared.contents.Signal.TheVariants as signals
-use Rattle.drift_world.specs.declared.contents.Signal.{Signal as SignalSent}
-use Rattle.drift_world.specs.declared.contents.Timed.{Timed}
-use Rattle.drift_world.specs.declared.contents.WayState.{WayState}
-use Rattle.world_law.specs.world.Steps.{ArePut}
+use Rattle.world_state.proofs.UnderWays.{some_is}
+use Rattle.world_state.specs.Giving.{HasItsOctets, IsPutOn, delay_by, wire_entry}
+use Rattle.world_state.specs.Views.{octets_in, octets_of, on_wire, signal_as, way_as}
+use Rattle.world_state.specs.declared.contents.Content.TheVariants.{Wire}
+use Rattle.world_state.specs.declared.contents.Content.{Content}
+use Rattle.world_state.specs.declared.contents.Signal.TheVariants as signals
+use Rattle.world_state.specs.declared.contents.Signal.{Signal as SignalSent}
+use Rattle.world_state.specs.declared.contents.Timed.{Timed}
+use Rattle.world_state.specs.declared.contents.WayState.{WayState}
+use Rattle.world_law.specs.world.Moves.{ArePut}
 use Rattle.world_law.specs.world.World.{AreWays, OnWire}
 
 pub link_within : (xs : List Link) (i : ℕ) (way : Way) (o : Option Link) (device : DeviceId) → slice_get xs i ≡ o → option_map (target_by way) o ≡ Some device

@@ -15,7 +15,7 @@ use Rattle.run_law.specs.scenario.Hypothesis.{IsWithinHypothesis}
 use Rattle.schedule_tables.proofs.EntryLemmas.{all_at}
 use Rattle.tte_units.specs.Amount.{amount}
 use Rattle.drift_world.proofs.Beginnings.{found}
-use Rattle.drift_world.specs.Applying.{SetsShort}
+use Rattle.world_state.specs.Applying.{SetsShort}
 use Rattle.drift_world.specs.Running.{HoldsATime}
 
 pub sets_short : (network : Network) (past : List Event) (event : Event) → IsInRange network → IsWithinHypothesis network past event → (what : What)

@@ -13,11 +13,12 @@ use Rattle.run_law.specs.machines.Nodes.{Node}
 use Rattle.run_law.specs.scenario.Scenarios.{Scenario, is_broken}
 use Rattle.run_law.specs.scenario.Ways.{is_cut, way_from}
 use Rattle.run_law.specs.declared.note.Note.{Note}
-use Rattle.drift_world.specs.Leaving.{departed, departure_in}
+use Rattle.world_state.specs.Leaving.{departed, departure_in}
 use Rattle.drift_world.specs.Showing.{IsOf}
-use Rattle.drift_world.specs.Views.{way_as, world_of}
-use Rattle.drift_world.specs.declared.contents.WayState.{WayState}
-use Rattle.drift_world.specs.declared.kept.Kept.{Kept}
+use Rattle.drift_world.specs.Views.{world_of}
+use Rattle.world_state.specs.Views.{way_as}
+use Rattle.world_state.specs.declared.contents.WayState.{WayState}
+use Rattle.world_state.specs.declared.kept.Kept.{Kept}
 use Rattle.drift_world.specs.declared.state.State.{State}
 use Rattle.world_law.proofs.giving.Given.{some_same}
 use Rattle.world_law.specs.world.World.{AreWays, AtPort, Stands, way_now}

@@ -32,7 +32,7 @@ use Rattle.run_law.specs.timed.Receptions.{ArrivesAs, arrival_of}
 use Rattle.run_law.specs.device.Standpoints.{standpoint}
 use Rattle.run_law.specs.records.Frames.{tt_frame}
 use Rattle.drift_world.proofs.Arrivals.{control_so}
-use Rattle.drift_world.proofs.Made.{made_type, plain_signal}
+use Rattle.world_state.proofs.Made.{made_type, plain_signal}
 use Rattle.world_law.proofs.putting.PutIn.{last_in}
 use Rattle.world_law.specs.world.World.{IsOnWire, OnWire}
 

@@ -26,21 +26,22 @@ use Rattle.run_law.specs.runs.Runs.{IsFounded}
 use Rattle.run_law.specs.scenario.Scenarios.{Scenario}
 use Rattle.schedule_tables.proofs.EntryLemmas.{all_at}
 use Rattle.tte_units.specs.Amount.{amount}
-use Rattle.drift_world.specs.Keeping.{keeps}
-use Rattle.drift_world.proofs.UnderWays.{port_numbers, some_is}
-use Rattle.drift_world.specs.Sound.{AreUnderWay, IsSized, rank_of}
+use Rattle.world_state.specs.Keeping.{keeps}
+use Rattle.world_state.proofs.UnderWays.{port_numbers, some_is}
+use Rattle.drift_world.specs.Sound.{IsSized}
+use Rattle.world_state.specs.Sound.{AreUnderWay, rank_of}
 use Rattle.drift_world.specs.Sourcing.{AreFirsts, AreNotBefore, AreTimed, HasNothingBefore, IsRipePlace, due_place}
-use Rattle.drift_world.specs.Views.{at_port, on_wire, waiting_as, wire_at, world_of}
-use Rattle.drift_world.specs.declared.contents.Content.TheVariants.{Wire, Port}
-use Rattle.drift_world.specs.declared.contents.Content.{Content}
-use Rattle.drift_world.specs.declared.contents.Waits.{Waits}
-use Rattle.drift_world.specs.declared.kept.Kept.{Kept}
+use Rattle.drift_world.specs.Views.{world_of}
+use Rattle.world_state.specs.Views.{at_port, on_wire, waiting_as, wire_at}
+use Rattle.world_state.specs.declared.contents.Content.TheVariants.{Wire, Port}
+use Rattle.world_state.specs.declared.contents.Content.{Content}
+use Rattle.world_state.specs.declared.contents.Waits.{Waits}
+use Rattle.world_state.specs.declared.kept.Kept.{Kept}
 use Rattle.drift_world.specs.declared.state.State.{State}
-use Rattle.world_law.proofs.ripening.Proper.{IsReceiver, received}
-use Rattle.world_law.proofs.ripening.Ripens.{come_of}
-use Rattle.world_law.specs.world.Acting.{IsDueNow}
-use Rattle.world_law.specs.world.Calls.{moment_of}
-use Rattle.world_law.specs.world.Steps.{NothingBefore}
+use Rattle.world_law.proofs.frames.Proper.{IsReceiver, received}
+use Rattle.world_steps.proofs.ripening.Ripens.{come_of}
+use Rattle.world_law.specs.world.Calls.{IsDueNow, moment_of}
+use Rattle.world_law.specs.world.Moves.{NothingBefore}
 use Rattle.world_law.specs.world.World.{IsWaitingFor, OnWire, Stands, Waiting, act_place, ripe_place, wire_place}
 
 -- what is not before the first is not before a place that the first is not before

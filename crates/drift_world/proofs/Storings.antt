@@ -10,12 +10,12 @@ use Rattle.run_law.specs.declared.note.NoteBody.{NoteBody}
 use Rattle.run_law.specs.records.Happenings.{Happening}
 use Rattle.run_law.specs.records.Order.{IsIn}
 use Rattle.run_law.specs.timed.Dispatching.{is_accepted}
-use Rattle.drift_world.specs.Giving.{HasItsOctets}
-use Rattle.drift_world.specs.Storing.{is_held_of, stored_by, stored_for, stored_with}
-use Rattle.drift_world.specs.Views.{octets_in, octets_of, stored_as}
-use Rattle.drift_world.specs.declared.contents.Holding.{Holding}
-use Rattle.drift_world.specs.declared.contents.Timed.{Timed}
-use Rattle.world_law.specs.world.Steps.{AreTaken}
+use Rattle.world_state.specs.Giving.{HasItsOctets}
+use Rattle.world_state.specs.Storing.{is_held_of, stored_by, stored_for, stored_with}
+use Rattle.world_state.specs.Views.{octets_in, octets_of, stored_as}
+use Rattle.world_state.specs.declared.contents.Holding.{Holding}
+use Rattle.world_state.specs.declared.contents.Timed.{Timed}
+use Rattle.world_law.specs.world.Moves.{AreTaken}
 use Rattle.world_law.specs.world.World.{Stored}
 
 -- ---- lists that are mapped and filtered

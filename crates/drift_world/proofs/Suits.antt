@@ -35,10 +35,10 @@ use Rattle.sync_state.specs.declared.state.State.TheVariants.{Off}
 use Rattle.tte_units.specs.Amount.{amount}
 use Rattle.drift_world.proofs.EventRuns.{none_coming}
 use Rattle.drift_world.proofs.Offs.{begins_off, stays_off}
-use Rattle.drift_world.specs.Applying.{IsShown}
-use Rattle.world_law.proofs.ripening.Awake.{any_in}
+use Rattle.world_state.specs.Applying.{IsShown}
+use Rattle.world_steps.proofs.ripening.Awake.{any_in}
 use Rattle.world_law.specs.source.Agreeing.{scenario}
-use Rattle.world_law.specs.world.Steps.{FitsWorld}
+use Rattle.world_steps.specs.Steps.{FitsWorld}
 use Rattle.world_law.specs.world.World.{IsFromEnd, IsHeld, Stands, World}
 
 -- ---- one of the events

@@ -9,13 +9,13 @@ use Rattle.run_law.specs.machines.Nodes.{Node}
 use Rattle.run_law.specs.machines.Tasks.{IsDueReading}
 use Rattle.run_law.specs.records.Order.{IsIn}
 use Rattle.tte_units.specs.declared.units.Units.{Units}
-use Rattle.drift_world.specs.Keeping.{keeps}
+use Rattle.world_state.specs.Keeping.{keeps}
 use Rattle.drift_world.specs.Sourcing.{AreTimed}
 use Rattle.drift_world.specs.Sound.{IsSized}
 use Rattle.drift_world.specs.Stepping.{ActsAt, ChangesOnly, IsRipeAt, IsRunning, IsTimed}
-use Rattle.drift_world.specs.Timing.{IsLeastPoint, IsTimeFor}
-use Rattle.drift_world.specs.declared.contents.Waits.{Waits}
-use Rattle.drift_world.specs.declared.kept.Kept.{Kept}
+use Rattle.world_state.specs.Timing.{IsLeastPoint, IsTimeFor}
+use Rattle.world_state.specs.declared.contents.Waits.{Waits}
+use Rattle.world_state.specs.declared.kept.Kept.{Kept}
 use Rattle.drift_world.specs.declared.state.State.{State}
 
 -- ---- a slot that is set

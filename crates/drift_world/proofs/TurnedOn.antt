@@ -23,7 +23,7 @@ use Rattle.tte_units.specs.Amount.{amount}
 use Rattle.drift_world.proofs.HiddenCauses.{Rises}
 use Rattle.world_law.proofs.giving.Given.{in_get, some_same}
 use Rattle.world_law.proofs.runs.Applies.{event_cause, event_place}
-use Rattle.world_law.proofs.steps.AppliedParts.{before_others}
+use Rattle.world_steps.proofs.steps.AppliedParts.{before_others}
 use Rattle.world_law.specs.world.World.{Befell, Stands, World, has_outcome}
 
 -- ---- tests of a list

@@ -15,22 +15,23 @@ use Rattle.drift_world.proofs.HiddenCauses.{InOrder, settled_in_order}
 use Rattle.drift_world.proofs.Sources.{of_world, sooner_too}
 use Rattle.drift_world.proofs.Foremost.{timers_later}
 use Rattle.drift_world.proofs.Timings.{passed, rekeyed, unchanged}
-use Rattle.drift_world.specs.Giving.{HasItsOctets}
-use Rattle.drift_world.specs.Keeping.{keeps}
-use Rattle.drift_world.specs.Places.{own_place}
+use Rattle.world_state.specs.Giving.{HasItsOctets}
+use Rattle.world_state.specs.Keeping.{keeps}
+use Rattle.world_state.specs.Places.{own_place}
 use Rattle.drift_world.specs.Sound.{IsSound}
 use Rattle.drift_world.specs.Sourcing.{AreTimed, HasNothingBefore}
 use Rattle.drift_world.specs.Stepping.{ChangesOnly, IsAt, IsRunning, IsTimed}
 use Rattle.drift_world.specs.Turns.{HasRoom, IsAfter, IsAhead, IsForemost, IsNow, IsStep, IsThere, PassSays, SourceFirst, TurnSays, given_in, own_numbers, source_place}
-use Rattle.drift_world.specs.Views.{settled_at, world_of}
+use Rattle.drift_world.specs.Views.{world_of}
+use Rattle.world_state.specs.Views.{settled_at}
 use Rattle.drift_world.specs.Wells.{IsWell}
-use Rattle.drift_world.specs.declared.contents.Settled.{Settled}
+use Rattle.world_state.specs.declared.contents.Settled.{Settled}
 use Rattle.drift_world.specs.declared.source.Source.TheVariants.{Events, Arrival, Ripening, Act, Departure, Clock, Later}
 use Rattle.drift_world.specs.declared.source.Source.{Source}
 use Rattle.drift_world.specs.declared.state.State.{State}
 use Rattle.world_law.proofs.acts.NoActs.{nothing_comes_before}
 use Rattle.world_law.specs.source.First.{NoSourceBefore}
-use Rattle.world_law.specs.world.Steps.{ComesFirst}
+use Rattle.world_law.specs.world.Moves.{ComesFirst}
 use Rattle.world_law.proofs.runs.Worlds.{nothing_settled_is_all}
 use Rattle.drift_world.specs.declared.next.Turn.TheVariants.{Gives, Ends, GoesOn}
 use Rattle.drift_world.specs.declared.next.Turn.{Turn}

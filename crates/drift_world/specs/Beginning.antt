@@ -3,16 +3,11 @@ use Rattle.std.specs.Prelude.{◌≡◌, ℕ, ◌*◌, ◌≤◌, List, [], leng
 use Rattle.due_timers.specs.Times.{never}
 use Rattle.net_plan.specs.declared.ids.DeviceId.{DeviceId}
 use Rattle.net_plan.specs.declared.network.Network.{Network}
-use Rattle.net_plan.specs.declared.tables.Link.{Link}
 use Rattle.run_law.specs.machines.Nodes.{Node, begun_node}
 use Rattle.tte_units.specs.Amount.{amount}
-use Rattle.drift_world.specs.Keeping.{sound_one}
-use Rattle.drift_world.specs.declared.contents.WayState.{WayState}
+use Rattle.world_state.specs.Keeping.{sound_one}
 use Rattle.drift_world.specs.declared.state.State.{State}
-
--- a way as it is at first
-abbrev pub first_way : Link → WayState
-first_way link = record { delay = amount link.wire; hold = 0; cut = false }
+use Rattle.world_state.specs.Beginning.{first_way}
 
 -- there is a machine for each device, which has just begun
 pub record AreFresh {M : Type 0} (stands : M → Network → DeviceId → Node → Type 0) (network : Network) (machines : List M) : Type 0 where

@@ -5,7 +5,7 @@ use Rattle.net_plan.specs.declared.ids.DeviceId.{DeviceId}
 use Rattle.net_plan.specs.declared.network.Network.{Network}
 use Rattle.run_law.specs.records.Order.{IsIn}
 use Rattle.tte_units.specs.Amount.{amount}
-use Rattle.drift_world.specs.Applying.{clock_after}
+use Rattle.world_state.specs.Applying.{clock_after}
 use Rattle.drift_world.specs.declared.state.State.{State}
 use Rattle.world_law.specs.device.Ready.{IsSteady}
 use Rattle.world_law.specs.source.Agreeing.{scenario}

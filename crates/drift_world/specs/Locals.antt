@@ -16,9 +16,9 @@ use Rattle.sync_state.specs.declared.state.State.TheVariants.{Synchronised}
 use Rattle.sync_state.specs.declared.state.State.{State as DeviceState}
 use Rattle.tte_units.specs.Amount.{amount}
 use Rattle.tte_units.specs.declared.units.Units.{Units}
-use Rattle.drift_world.specs.Keeping.{keeps}
+use Rattle.world_state.specs.Keeping.{keeps}
 use Rattle.drift_world.specs.Running.{StandsUnder, reading_of}
-use Rattle.drift_world.specs.declared.kept.Kept.{Kept}
+use Rattle.world_state.specs.declared.kept.Kept.{Kept}
 use Rattle.drift_world.specs.declared.state.State.{State}
 use Rattle.world_law.specs.world.World.{World}
 

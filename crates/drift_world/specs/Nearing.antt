@@ -6,7 +6,7 @@ use Rattle.run_law.specs.machines.Nodes.{Node}
 use Rattle.run_law.specs.scenario.Scenarios.{Scenario}
 use Rattle.drift_world.specs.Acting.{IsIdle}
 use Rattle.drift_world.specs.Showing.{IsOf}
-use Rattle.drift_world.specs.declared.kept.Kept.{Kept}
+use Rattle.world_state.specs.declared.kept.Kept.{Kept}
 use Rattle.drift_world.specs.declared.next.Turn.TheVariants.{Gives, Ends, GoesOn}
 use Rattle.drift_world.specs.declared.next.Turn.{Turn}
 use Rattle.drift_world.specs.declared.state.State.{State}

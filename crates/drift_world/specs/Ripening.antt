@@ -1,78 +1,11 @@
--- A frame that waits is permanent.
-use Rattle.std.specs.Prelude.{◌≡◌, ℕ, ◌<◌, pos, ◌≤ℤ◌, List, [], ◌∷◌, Option, Some, None, slice_get}
+-- The first of the frames that wait at a device.
+use Rattle.std.specs.Prelude.{◌≡◌, ℕ, pos, ◌≤ℤ◌, Some, slice_get}
 use Rattle.net_plan.specs.declared.ids.DeviceId.{DeviceId}
-use Rattle.run_law.specs.declared.judgement.Judgement.TheVariants as judgements
-use Rattle.run_law.specs.declared.judgement.Judgement.{Judgement}
-use Rattle.run_law.specs.declared.judgement.Why.TheVariants as whys
-use Rattle.run_law.specs.declared.note.NoteBody.TheVariants as kinds
-use Rattle.run_law.specs.declared.steps.Ripe.TheVariants as ripe
-use Rattle.run_law.specs.declared.steps.Ripe.{Ripe}
 use Rattle.run_law.specs.records.Order.{IsBefore, IsIn}
-use Rattle.sync_state.specs.declared.state.State.TheVariants.{Joining}
-use Rattle.tte_units.specs.Amount.{amount}
-use Rattle.drift_world.specs.Places.{IsPutAt, IsSomePut}
-use Rattle.drift_world.specs.Views.{waiting_as}
-use Rattle.drift_world.specs.declared.contents.Settled.{Settled}
-use Rattle.drift_world.specs.declared.contents.Waits.{Waits}
+use Rattle.world_state.specs.Views.{waiting_as}
+use Rattle.world_state.specs.declared.contents.Waits.{Waits}
 use Rattle.drift_world.specs.declared.state.State.{State}
-use Rattle.world_law.specs.world.World.{none_yet, ripe_place}
-
--- the record of a frame that is judged so
-abbrev pub judged_so : Waits → Judgement → Settled
-judged_so w verdict = record {
-  body = kinds.Permanent w.device w.link w.cause w.point verdict;
-  frame = Some w.frame;
-  octets = None;
-}
-
--- the record of a frame that was permanent
-abbrev pub ripe_record : Waits → Ripe → Settled
-ripe_record w ripe.Opened = judged_so w judgements.Opened
-ripe_record w ripe.Joined = judged_so w judgements.Joined
-ripe_record w ripe.Repeat = judged_so w judgements.Repeat
-ripe_record w ripe.Within = judged_so w judgements.Within
-ripe_record w ripe.Outside = judged_so w judgements.Outside
-ripe_record w ripe.Integrates = judged_so w judgements.Integrates
-ripe_record w ripe.Ignored = judged_so w judgements.Ignored
-ripe_record w (ripe.Dropped reason) = record {
-  body = kinds.Dropped w.device w.link w.cause reason;
-  frame = None;
-  octets = None;
-}
-
--- the record that its device joins, where it tells the time
-abbrev pub joined_record : DeviceId → Ripe → Option Settled
-joined_record device ripe.Integrates = Some (record {
-  body = kinds.State device Joining none_yet whys.Frame;
-  frame = None;
-  octets = None;
-})
-joined_record device other = None
-
--- the records of what became of it are put in
-pub record AreSettledSo (w : Waits) (result : Ripe) (old new : List Settled) : Type 0 where
-  pub mid : List Settled
-  pub at : ℕ
-  pub first : IsPutAt (ripe_record w result) old mid at
-  pub more : IsSomePut (joined_record w.device result) mid new
-
--- where it stands among the frames that are permanent at one instant
-abbrev pub ripe_numbers : Waits → List ℕ
-ripe_numbers w = w.device.0 ∷ amount w.point ∷ w.frame.members.0 ∷ w.link.0 ∷ w.cause ∷ []
-
--- it waits at the device, and the reading has come to its point
-pub record IsReached (device : DeviceId) (reading : ℕ) (w : Waits) : Type 0 where
-  pub at : w.device.0 ≡ device.0
-  pub reached : w.point.0 ≤ℤ pos reading
-
--- of the first frames, so many, it is the first that is reached; or none is
-abbrev pub IsFirstReached : List Waits → DeviceId → ℕ → ℕ → Option ℕ → Type 0
-IsFirstReached waiting device reading n None =
-    (k : ℕ) (v : Waits) → k < n → slice_get waiting k ≡ Some v → IsReached device reading v → ⊥
-IsFirstReached waiting device reading n (Some i) =
-    (i < n) × ((w : Waits) × (slice_get waiting i ≡ Some w) × IsReached device reading w
-    × ((k : ℕ) (v : Waits) → k < n → slice_get waiting k ≡ Some v → IsReached device reading v
-    → IsBefore (ripe_numbers v) (ripe_numbers w) → ⊥))
+use Rattle.world_law.specs.world.World.{ripe_place}
 
 -- the frame waits at the device, its clock reads its point or more, and none such is before it
 pub record IsFirstRipe {C M : Type 0} (reading : C → ℕ → ℕ) (state : State C M) (device : DeviceId) (index : ℕ) : Type 0 where

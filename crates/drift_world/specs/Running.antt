@@ -13,8 +13,8 @@ use Rattle.run_law.specs.machines.Nodes.{Node}
 use Rattle.run_law.specs.scenario.Hypothesis.{AreWithinHypothesis, IsWithinHypothesis}
 pub use Rattle.safe_runs.specs.Under.{clock_of, last_time, reading_of}
 use Rattle.tte_units.specs.declared.units.Units.{Units}
-use Rattle.drift_world.specs.Keeping.{keeps}
-use Rattle.drift_world.specs.declared.kept.Kept.{Kept}
+use Rattle.world_state.specs.Keeping.{keeps}
+use Rattle.world_state.specs.declared.kept.Kept.{Kept}
 use Rattle.world_law.specs.source.Agreeing.{scenario}
 use Rattle.world_law.specs.world.World.{Stands, World}
 

@@ -1,33 +1,10 @@
 -- What a state keeps.
-use Rattle.std.specs.Prelude.{◌≡◌, ℕ, ◌+◌, ◌≤◌, ◌<◌, ◌^◌, List, length, map, All, slice_get, Some}
-use Rattle.std.specs.List.{IsDistinct}
-use Rattle.std.specs.Str.{bytes_eq}
-use Rattle.due_queue.specs.declared.Entry.{Entry}
-use Rattle.due_queue.specs.Places.{numbers_of}
+use Rattle.std.specs.Prelude.{◌≡◌, ℕ, ◌+◌, ◌≤◌, ◌<◌, ◌^◌, length, All, slice_get, Some}
 use Rattle.net_plan.specs.declared.network.Network.{Network}
-use Rattle.run_law.specs.records.Order.{IsIn}
-use Rattle.drift_world.specs.declared.contents.Content.TheVariants.{Wire, Port}
-use Rattle.drift_world.specs.declared.contents.Content.{Content}
-use Rattle.drift_world.specs.Giving.{HasItsOctets}
-use Rattle.drift_world.specs.declared.contents.Waits.{Waits}
-use Rattle.drift_world.specs.declared.contents.WayState.{WayState}
+use Rattle.world_state.specs.Giving.{HasItsOctets}
+use Rattle.world_state.specs.declared.contents.Waits.{Waits}
 use Rattle.drift_world.specs.declared.state.State.{State}
-
--- the rank of what is under way
-abbrev pub rank_of : Content → ℕ
-rank_of (Wire signal) = 2
-rank_of (Port frame reading) = 8
-
--- what is under way is at places of its kind, each of its own, of the network's devices and links
-pub record AreUnderWay (network : Network) (entries : List (Entry Content)) : Type 0 where
-  pub kinds : (e : Entry Content) → IsIn e entries → e.place.rank ≡ rank_of e.content
-  pub placed : (e : Entry Content) → IsIn e entries
-      → (e.place.device < length network.device) × (e.place.link < length network.link)
-  pub apart : IsDistinct bytes_eq (map (λ (e : Entry Content). numbers_of e.place) entries)
-
--- each has been put there by a record of a number less than this
-abbrev pub AreBelow : ℕ → List (Entry Content) → Type 0
-AreBelow number entries = (e : Entry Content) → IsIn e entries → e.place.cause < number
+use Rattle.world_state.specs.Sound.{AreUnderWay, AreBelow, IsShort}
 
 -- each device has a clock, which may be read from the present time on, a machine and a mark whether it is broken, and
 -- each link its ways
@@ -40,10 +17,6 @@ pub record IsSized {C M : Type 0} (last_step : C → ℕ) (network : Network) (s
   pub stepped : All (λ (c : C). last_step c ≤ s.time) s.clocks.items
   pub limit : s.time ≤ 2 ^ 60
   pub shown : s.shown ≤ length network.device
-
--- a way takes so little time that the sums of times fit their type
-abbrev pub IsShort : WayState → Type 0
-IsShort way = (way.delay < 2 ^ 62) × (way.hold < 2 ^ 62)
 
 -- the records that are settled may be given: the ways are short, a frame of the schedule that is dispatched has its
 -- octets, and what is under way or waits has been put there by records given, of which each has one frame wait at most

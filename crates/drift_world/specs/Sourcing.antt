@@ -10,12 +10,12 @@ use Rattle.net_plan.specs.declared.network.Network.{Network}
 use Rattle.run_law.specs.machines.Nodes.{Node}
 use Rattle.run_law.specs.machines.Tasks.{IsPending, Task, reading_for}
 use Rattle.run_law.specs.records.Order.{IsBefore, IsIn}
-use Rattle.drift_world.specs.Keeping.{keeps}
+use Rattle.world_state.specs.Keeping.{keeps}
 use Rattle.drift_world.specs.Stepping.{IsTimed}
-use Rattle.drift_world.specs.Views.{waiting_as}
-use Rattle.drift_world.specs.declared.contents.Content.{Content}
-use Rattle.drift_world.specs.declared.contents.Waits.{Waits}
-use Rattle.drift_world.specs.declared.kept.Kept.{Kept}
+use Rattle.world_state.specs.Views.{waiting_as}
+use Rattle.world_state.specs.declared.contents.Content.{Content}
+use Rattle.world_state.specs.declared.contents.Waits.{Waits}
+use Rattle.world_state.specs.declared.kept.Kept.{Kept}
 use Rattle.drift_world.specs.declared.state.State.{State}
 use Rattle.world_law.specs.world.World.{act_place, ripe_place}
 

@@ -4,8 +4,8 @@ use Rattle.due_queue.specs.declared.Place.{Place}
 use Rattle.due_timers.specs.declared.Due.{Due}
 use Rattle.drift_world.specs.Sourcing.{HasNothingBefore, IsRipePlace, due_place}
 use Rattle.drift_world.specs.Wells.{IsWell}
-use Rattle.drift_world.specs.Places.{own_place}
-use Rattle.drift_world.specs.declared.contents.Settled.{Settled}
+use Rattle.world_state.specs.Places.{own_place}
+use Rattle.world_state.specs.declared.contents.Settled.{Settled}
 use Rattle.tte_units.specs.Amount.{amount, units_of}
 use Rattle.std.specs.VecDeque.{deque_capacity, deque_len}
 use Rattle.due_queue.specs.Places.{IsFirst, numbers_of}
@@ -17,10 +17,11 @@ use Rattle.run_law.specs.machines.Calls.{HasDue}
 use Rattle.run_law.specs.machines.Nodes.{Node}
 use Rattle.run_law.specs.runs.DueRecords.{IsScenarioRun}
 use Rattle.run_law.specs.scenario.Scenarios.{Scenario}
-use Rattle.drift_world.specs.Keeping.{keeps}
-use Rattle.drift_world.specs.Views.{waiting_as, world_of}
-use Rattle.drift_world.specs.declared.contents.Waits.{Waits}
-use Rattle.drift_world.specs.declared.kept.Kept.{Kept}
+use Rattle.world_state.specs.Keeping.{keeps}
+use Rattle.drift_world.specs.Views.{world_of}
+use Rattle.world_state.specs.Views.{waiting_as}
+use Rattle.world_state.specs.declared.contents.Waits.{Waits}
+use Rattle.world_state.specs.declared.kept.Kept.{Kept}
 use Rattle.drift_world.specs.declared.source.Source.TheVariants.{Events, Arrival, Ripening, Act, Departure, Clock, Later}
 use Rattle.drift_world.specs.declared.source.Source.{Source}
 use Rattle.drift_world.specs.declared.next.Turn.TheVariants.{Gives, Ends, GoesOn}

@@ -1,91 +1,11 @@
 -- A world as its law sees it, from the parts of its state.
-use Rattle.std.specs.Prelude.{ℕ, List, [], ◌∷◌, map, Option, Some, None, Ok, filter_map, replicate, slice_get}
-use Rattle.std.specs.Option.{option_map_or}
+use Rattle.std.specs.Prelude.{List, ◌∷◌, map, filter_map}
 use Rattle.net_plan.specs.declared.network.Network.{Network}
-use Rattle.run_law.specs.control.Wires.{Signal, control, signal_of, timed}
-use Rattle.run_law.specs.records.Happenings.{Happening}
-use Rattle.run_law.specs.records.Frames.{tt_frame_by}
-use Rattle.tte_units.specs.Amount.{units_of}
-use Rattle.due_queue.specs.declared.Entry.{Entry}
-use Rattle.due_queue.specs.declared.Place.{Place}
-use Rattle.drift_world.specs.declared.contents.Befallen.{Befallen}
-use Rattle.drift_world.specs.declared.contents.Content.TheVariants.{Wire, Port}
-use Rattle.drift_world.specs.declared.contents.Content.{Content}
-use Rattle.drift_world.specs.declared.contents.Holding.{Holding}
-use Rattle.drift_world.specs.declared.contents.Settled.{Settled}
-use Rattle.drift_world.specs.declared.contents.Signal.TheVariants as signals
-use Rattle.drift_world.specs.declared.contents.Signal.{Signal as Sent}
-use Rattle.drift_world.specs.declared.contents.Timed.TheVariants as octets
-use Rattle.drift_world.specs.declared.contents.Timed.{Timed}
-use Rattle.drift_world.specs.declared.contents.Waits.{Waits}
-use Rattle.drift_world.specs.declared.contents.WayState.{WayState}
-use Rattle.drift_world.specs.declared.kept.Kept.{Kept}
+use Rattle.world_state.specs.declared.contents.Settled.{Settled}
+use Rattle.world_state.specs.declared.kept.Kept.{Kept}
 use Rattle.drift_world.specs.declared.state.State.{State}
-use Rattle.world_law.specs.world.World.{AtPort, Befell, OnWire, Stored, Waiting, WayNow, World}
-
--- the octets of a frame of the schedule; zeros stand for a virtual link that the network does not have
-abbrev pub octets_of : Network → Timed → List ℕ
-octets_of network (octets.Made vl cycle) =
-    option_map_or (λ v. tt_frame_by network v cycle) (slice_get network.vl vl.0) (replicate 60 0)
-octets_of network (octets.Sent given) = given
-
-abbrev pub signal_as : Network → Sent → Signal
-signal_as network (signals.Control frame) = control (Ok frame)
-signal_as network (signals.Timed octets) = timed (octets_of network octets)
-signal_as network (signals.Octets given) = signal_of given
-
--- what is on a wire
-abbrev pub wire_at : Network → Place → Content → Option OnWire
-wire_at network place (Wire signal) = Some (record {
-  at = place.at;
-  device = record { 0 = place.device };
-  link = record { 0 = place.link };
-  cause = place.cause;
-  signal = signal_as network signal;
-})
-wire_at network place (Port frame reading) = None
-
-abbrev pub on_wire : Network → Entry Content → Option OnWire
-on_wire network e = wire_at network e.place e.content
-
--- what is at a port
-abbrev pub port_at : Place → Content → Option AtPort
-port_at place (Wire signal) = None
-port_at place (Port frame reading) = Some (record {
-  at = place.at;
-  device = record { 0 = place.device };
-  link = record { 0 = place.link };
-  cause = place.cause;
-  frame = frame;
-  reading = reading;
-})
-
-abbrev pub at_port : Entry Content → Option AtPort
-at_port e = port_at e.place e.content
-
-abbrev pub waiting_as : Waits → Waiting
-waiting_as w = record { device = w.device; link = w.link; cause = w.cause; frame = w.frame; point = w.point }
-
-abbrev pub stored_as : Network → Holding → Stored
-stored_as network h = record { device = h.device; vl = h.vl; number = h.number; octets = octets_of network h.octets }
-
-abbrev pub befell_as : Befallen → Befell
-befell_as b = record { number = b.number; what = b.what }
-
-abbrev pub way_as : WayState → WayNow
-way_as w = record { delay = w.delay; hold = w.hold; cut = w.cut }
-
-abbrev pub octets_in : Network → Option Timed → List ℕ
-octets_in network None = []
-octets_in network (Some given) = octets_of network given
-
--- a record that is to be given, at the time
-abbrev pub settled_at : Network → ℕ → Settled → Happening
-settled_at network now z = record {
-  note = record { number = 0; time = units_of now; body = z.body };
-  frame = z.frame;
-  octets = octets_in network z.octets;
-}
+use Rattle.world_law.specs.world.World.{World}
+use Rattle.world_state.specs.Views.{on_wire, at_port, waiting_as, stored_as, befell_as, way_as, settled_at}
 
 -- the world of a state
 abbrev pub world_of : {C M : Type 0} → Network → State C M → World C (Kept M)

@@ -6,130 +6,34 @@ ghost use Rattle.run_law.specs.declared.note.Note.{Note};
 ghost use Rattle.run_law.specs.declared.steps.Act.{Act as ActValue};
 ghost use Rattle.run_law.specs.records.Order.{behind};
 ghost use Rattle.run_law.specs.scenario.Scenarios.{Scenario};
-ghost use Rattle.run_law.specs.scenario.Ways.{way_from};
 ghost use Rattle.schedule_tables.specs.Entries.{IsEntry};
 ghost use Rattle.schedule_tables.specs.declared.entry.Entry.{Entry as EntryValue};
-ghost use Rattle.drift_world.specs.Acting.{AreOutcomes, HasItsRow, IsDispatched, IsDueAt, IsHand, IsHeldIn, IsIdle, SettlesFrom, act_cursor, dispatched_by};
-ghost use Rattle.drift_world.specs.Keeping.{keeps};
+ghost use Rattle.drift_world.specs.Acting.{IsDueAt, IsIdle, SettlesFrom, act_cursor};
+ghost use Rattle.world_state.specs.Acting.{AreOutcomes, HasItsRow, IsDispatched};
+ghost use Rattle.world_state.specs.Keeping.{keeps};
 ghost use Rattle.drift_world.specs.Nearing.{IsIdleAt};
-ghost use Rattle.drift_world.specs.Places.{IsSomePut};
 ghost use Rattle.drift_world.specs.Showing.{IsOf};
 ghost use Rattle.drift_world.specs.Sound.{IsSized, IsSound};
 ghost use Rattle.drift_world.specs.Stepping.{ChangesOnly, IsAt};
 ghost use Rattle.drift_world.specs.Views.{world_of};
-ghost use Rattle.drift_world.specs.declared.contents.Settled.{Settled as SettledValue};
-ghost use Rattle.drift_world.specs.declared.kept.Kept.{Kept as KeptValue};
-ghost use Rattle.world_law.specs.world.Acting.{HasActed, IsDueNow};
-ghost use Rattle.world_law.specs.world.Calls.{moment_of};
-ghost use Rattle.world_law.specs.world.Steps.{ComesFirst, StandsBehind};
+ghost use Rattle.world_state.specs.declared.kept.Kept.{Kept as KeptValue};
+ghost use Rattle.world_law.specs.world.Calls.{HasActed, IsDueNow, moment_of};
+ghost use Rattle.world_law.specs.world.Moves.{ComesFirst, StandsBehind};
 ghost use Rattle.world_law.specs.world.World.{Stands, act_place};
 
-use crate::OutOfMemory;
-use crate::bodies::{Body, Kind};
-use crate::contents::{Holding, Settled, Timed};
-use crate::outcomes::{Outcomes, bare, corrected, emitted, sent};
-use crate::packets::{MOST_OCTETS, Packet};
-use crate::settled::put_some;
 use crate::state::State;
 use drift_clock::Clock;
-use net_plan::{DeviceId, Network, RowId, VlId};
+use net_plan::{DeviceId, Network, RowId};
 use run_law::{Act, Machine, Moment};
-use schedule_tables::{Entry, entry_of};
-use std::collections::VecDeque;
+use schedule_tables::entry_of;
 use std::mem::replace;
 use sync_state::State as Standing;
 use tte_units::Units;
-
-/// The frame of a row that a device has at hand, and the number of the record by which a switch took it, or 0 at its
-/// sender.
-#[derive(Debug, Drop)]
-pub struct AtHand {
-    pub cause: u64,
-    pub octets: Timed,
-}
-
-/// The same octets, in memory that was taken before.
-fn copied(octets: &Timed, room: &mut Vec<u8>) -> Timed
-    requires { 1514 ≤ vec_capacity room.old }
-    ensures { result ≡ octets.now }
-{
-    match octets {
-        Timed::Made(vl, cycle) => Timed::Made(*vl, *cycle),
-        Timed::Sent(given) => Timed::Sent(Packet::within(room, given.as_slice())),
-    }
-}
-
-/// The frame of the virtual link that the switch holds.
-fn held(stored: &[Holding], device: DeviceId, vl: VlId, room: &mut Vec<u8>) -> Option<AtHand>
-    requires { 1514 ≤ vec_capacity room.old }
-    ensures { IsHeldIn stored.now device vl result }
-{
-    let index = stored
-        .iter()
-        .position(|holding| holding.device == device && holding.vl == vl)?;
-    let holding = &stored[index];
-    Some(AtHand {
-        cause: holding.number,
-        octets: copied(&holding.octets, room),
-    })
-}
-
-/// The frame that the device has at hand.
-fn at_hand(
-    stored: &[Holding],
-    device: DeviceId,
-    entry: &Entry,
-    cycle: u32,
-    room: &mut Vec<u8>,
-) -> Option<AtHand>
-    requires { 1514 ≤ vec_capacity room.old }
-    ensures { IsHand stored.now device entry.now cycle result }
-{
-    if entry.vl.sender == device {
-        return Some(AtHand {
-            cause: 0,
-            octets: Timed::Made(entry.row.vl, cycle),
-        });
-    }
-    held(stored, device, entry.row.vl, room)
-}
-
-/// The record of its dispatch, where its way is cut or not.
-fn dispatched(cut: bool, device: DeviceId, entry: &Entry, cycle: u32, hand: AtHand) -> Settled
-    ensures { result ≡ dispatched_by cut device entry.now cycle hand }
-{
-    if cut {
-        return bare(Kind::Lost {
-            device,
-            link: entry.row.link,
-            cause: hand.cause,
-        });
-    }
-    Settled {
-        body: Body {
-            kind: Kind::TtSent {
-                device,
-                link: entry.row.link,
-                cause: hand.cause,
-                vl: entry.row.vl,
-                cycle,
-            },
-        },
-        frame: None,
-        octets: Some(hand.octets),
-    }
-}
-
-/// Puts the records of an act in at their places.
-fn put_both(settled: &mut VecDeque<Settled>, outcomes: Outcomes)
-    requires { deque_len settled.old + 2 ≤ deque_capacity settled.old }
-    ensures { (mid : List SettledValue) × IsSomePut outcomes.first settled.old.items mid
-        × IsSomePut outcomes.second mid settled.new.items }
-{
-    let Outcomes { first, second } = outcomes;
-    put_some(settled, first);
-    put_some(settled, second);
-}
+use world_state::OutOfMemory;
+use world_state::contents::Settled;
+use world_state::hands::{at_hand, dispatched};
+use world_state::outcomes::{Outcomes, corrected, emitted, put_both, sent};
+use world_state::packets::MOST_OCTETS;
 
 /// Takes the memory out.
 fn taken(room: &mut Vec<u8>) -> Vec<u8>

@@ -1,201 +1,26 @@
-ghost use Rattle.std.specs.Prelude.{◌≡◌, ◌∷◌, ◌+◌, ◌<◌, List, ℕ, false, length, IsPermutation};
+ghost use Rattle.std.specs.Prelude.{◌≡◌, ◌+◌, ◌<◌, List, false, length};
 ghost use Rattle.std.specs.VecDeque.{deque_capacity, deque_len};
 ghost use Rattle.due_queue.specs.Places.{IsFirst, numbers_of};
 ghost use Rattle.net_plan.specs.Ranges.{IsInRange};
-ghost use Rattle.net_plan.specs.declared.network.Network.{Network as NetworkValue};
-ghost use Rattle.net_plan.specs.declared.ids.DeviceId.{DeviceId as DeviceOf};
 ghost use Rattle.run_law.specs.declared.note.Note.{Note};
-ghost use Rattle.run_law.specs.machines.Calls.{StandsFor};
 ghost use Rattle.run_law.specs.records.Order.{behind};
 ghost use Rattle.run_law.specs.scenario.Scenarios.{Scenario};
-ghost use Rattle.drift_world.specs.Bodies.{body_of};
-ghost use Rattle.drift_world.specs.Hearing.{AreOctetsOf, IsAsSent, MayCome, arrived, frame_kept, octets_kept, timed_in};
-ghost use Rattle.drift_world.specs.Keeping.{keeps};
-ghost use Rattle.drift_world.specs.Sound.{AreUnderWay, IsSound, rank_of};
+ghost use Rattle.world_state.specs.Hearing.{arrived};
+ghost use Rattle.world_state.specs.Keeping.{keeps};
+ghost use Rattle.drift_world.specs.Sound.{IsSound};
 ghost use Rattle.drift_world.specs.Stepping.{ChangesOnly, IsAt};
-ghost use Rattle.run_law.specs.control.Wires.{signal_of, timed};
-ghost use Rattle.drift_world.specs.Views.{octets_of, signal_as, world_of};
-ghost use Rattle.world_law.specs.world.Arriving.{HasHeard, arrival_body};
-ghost use Rattle.world_law.specs.world.Steps.{ComesFirst, StandsBehind};
+ghost use Rattle.drift_world.specs.Views.{world_of};
+ghost use Rattle.world_law.specs.world.Moves.{ComesFirst, StandsBehind};
 ghost use Rattle.world_law.specs.world.World.{Stands};
 
-use crate::bodies::{Body, Kind};
-use crate::contents::{Content, Settled, Signal, Timed};
-use crate::frames::MadeFrame;
-use crate::kept::Kept;
-use crate::settled::put_in;
 use crate::state::State;
 use drift_clock::Clock;
-use due_queue::{Place, UnderWay};
-use net_plan::{DeviceId, LinkId, Network};
-use pcf_codec::{PCF_LENGTH, encode};
-use pcf_values::Pcf;
-use run_law::{Arrival, Machine, Moment};
+use due_queue::Place;
+use net_plan::{LinkId, Network};
+use run_law::{Machine, Moment};
 use tte_units::Units;
-
-/// Takes out what is on a wire and the first of all that is under way.
-fn take_wire(under_way: &mut UnderWay<Content>, place: Place) -> Signal
-    requires first { IsFirst under_way.old.entries place }
-    requires sound { (network : NetworkValue) × AreUnderWay network under_way.old.entries }
-    requires wire { place.rank ≡ 2 }
-    ensures { IsPermutation under_way.old.entries (record { place = place; content = Content.Wire result } ∷ under_way.new.entries) }
-{
-    let Some(first) = under_way.take_first() else {
-        unreachable!()
-    };
-    signal_in(first.content)
-}
-
-/// What is on a wire.
-fn signal_in(content: Content) -> Signal
-    requires { rank_of content ≡ 2 }
-    ensures { content ≡ Content.Wire result }
-{
-    match content {
-        Content::Wire(signal) => signal,
-        Content::Port(_, _) => unreachable!(),
-    }
-}
-
-/// What becomes of a frame of the schedule, at the device that it comes to.
-fn hear_timed<M: Machine + Drop>(
-    kept: &mut Kept<M>,
-    network: &Network,
-    moment: Moment,
-    link: LinkId,
-    frame: &Timed,
-    made: &mut MadeFrame,
-) -> Arrival
-    requires range { IsInRange network.now }
-    requires may { StandsFor (keeps M.stands) kept.old (MayCome (timed (octets_of network.now frame.now)) moment link) }
-    requires as_sent { signal_of (octets_of network.now frame.now) ≡ timed (octets_of network.now frame.now) }
-    ensures { (octets : List ℕ) × AreOctetsOf (timed (octets_of network.now frame.now)) octets
-        × ((other : NetworkValue) (device : DeviceOf) → HasHeard (keeps M.stands) other device moment link octets result kept.old kept.new) }
-{
-    match frame {
-        Timed::Made(vl, cycle) => {
-            made.write(network, *vl, *cycle);
-            kept.hear(moment, link, made.as_slice())
-        }
-        Timed::Sent(octets) => kept.hear(moment, link, octets.as_slice()),
-    }
-}
-
-/// What becomes of what is on a wire, at the device that it comes to.
-fn hear_signal<M: Machine + Drop>(
-    kept: &mut Kept<M>,
-    network: &Network,
-    moment: Moment,
-    link: LinkId,
-    signal: &Signal,
-    made: &mut MadeFrame,
-) -> Arrival
-    requires range { IsInRange network.now }
-    requires may { StandsFor (keeps M.stands) kept.old (MayCome (signal_as network.now signal.now) moment link) }
-    requires as_sent { IsAsSent network.now signal.now }
-    ensures { (octets : List ℕ) × AreOctetsOf (signal_as network.now signal.now) octets
-        × ((other : NetworkValue) (device : DeviceOf) → HasHeard (keeps M.stands) other device moment link octets result kept.old kept.new) }
-{
-    match signal {
-        Signal::Control(frame) => {
-            let mut octets = [0; PCF_LENGTH];
-            encode(frame, &mut octets);
-            kept.hear(moment, link, &octets)
-        }
-        Signal::Timed(frame) => hear_timed(kept, network, moment, link, frame, made),
-        Signal::Octets(octets) => kept.hear(moment, link, octets.as_slice()),
-    }
-}
-
-/// What the record of it says.
-fn kind_of(place: Place, arrival: &Arrival) -> Kind
-    ensures { body_of result
-        ≡ arrival_body (record { 0 = place.device }) (record { 0 = place.link }) place.cause arrival.now }
-{
-    let device = DeviceId(place.device);
-    let link = LinkId(place.link);
-    let cause = place.cause;
-    match arrival {
-        Arrival::Dropped(reason) => Kind::Dropped {
-            device,
-            link,
-            cause,
-            reason: *reason,
-        },
-        Arrival::Waits(frame, _)
-        | Arrival::Passes(frame, _)
-        | Arrival::PassesAndWaits(frame, _, _) => Kind::Arrived {
-            device,
-            link,
-            cause,
-            clock: frame.clock,
-        },
-        Arrival::Accepted(vl, cycle) => Kind::Accepted {
-            device,
-            link,
-            cause,
-            vl: *vl,
-            cycle: *cycle,
-        },
-        Arrival::Delivered(vl, cycle) => Kind::Delivered {
-            device,
-            link,
-            cause,
-            vl: *vl,
-            cycle: *cycle,
-        },
-    }
-}
-
-/// The frame of the record.
-fn frame_of(arrival: &Arrival) -> Option<Pcf>
-    ensures { result ≡ frame_kept arrival.now }
-{
-    match arrival {
-        Arrival::Waits(frame, _)
-        | Arrival::Passes(frame, _)
-        | Arrival::PassesAndWaits(frame, _, _) => Some(*frame),
-        Arrival::Dropped(_) | Arrival::Accepted(_, _) | Arrival::Delivered(_, _) => None,
-    }
-}
-
-/// The octets of what was on the wire, where they were those of a frame of the schedule.
-fn timed_of(signal: Signal) -> Option<Timed>
-    ensures { result ≡ timed_in signal }
-{
-    match signal {
-        Signal::Control(_) => None,
-        Signal::Timed(octets) => Some(octets),
-        Signal::Octets(given) => Some(Timed::Sent(given)),
-    }
-}
-
-/// The octets of the record.
-fn octets_for(arrival: &Arrival, signal: Signal) -> Option<Timed>
-    ensures { result ≡ octets_kept arrival.now signal }
-{
-    match arrival {
-        Arrival::Accepted(_, _) | Arrival::Delivered(_, _) => timed_of(signal),
-        Arrival::Dropped(_)
-        | Arrival::Waits(_, _)
-        | Arrival::Passes(_, _)
-        | Arrival::PassesAndWaits(_, _, _) => None,
-    }
-}
-
-/// The record of what becomes of what was on the wire.
-fn arrived(place: Place, arrival: &Arrival, signal: Signal) -> Settled
-    ensures { result ≡ arrived place arrival.now signal }
-{
-    let octets = octets_for(arrival, signal);
-    let frame = frame_of(arrival);
-    let kind = kind_of(place, arrival);
-    Settled {
-        body: Body { kind },
-        frame,
-        octets,
-    }
-}
+use world_state::hearing::{arrived, hear_signal, take_wire};
+use world_state::settled::put_in;
 
 impl<C: Clock, M: Machine + Drop> State<C, M> {
     /// What is on a wire and the first of all that is under way arrives: its device hears it.

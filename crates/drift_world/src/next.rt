@@ -1,18 +1,17 @@
-ghost use Rattle.std.specs.Prelude.{◌≡◌, ◌↔◌, ◌⊎◌, ℕ, ◌+◌, ◌*◌, ◌≤◌, ◌<◌, ◌^◌, ◌∷◌, ◌++◌, [], List, IsTrue, length, Some, IfOk, IfSome, IfNone, OnOk, OnErr, pos, ◌<ℤ◌, true, false};
-ghost use Rattle.std.specs.VecDeque.{deque_capacity, deque_len};
+ghost use Rattle.std.specs.Prelude.{◌≡◌, ◌+◌, ◌*◌, ◌≤◌, ◌<◌, ◌^◌, ◌∷◌, ◌++◌, [], List, IsTrue, length, Some, IfOk, IfSome, IfNone, OnOk, pos, ◌<ℤ◌, true, false};
 ghost use Rattle.net_plan.specs.Ranges.{IsInRange};
 ghost use Rattle.run_law.specs.declared.note.Note.{Note as NoteOf};
 ghost use Rattle.run_law.specs.runs.DueRecords.{IsScenarioRun};
 ghost use Rattle.run_law.specs.scenario.Scenarios.{Scenario};
 
-use crate::OutOfMemory;
-use crate::bodies::{Body, Given, Kind};
-use crate::settled::is_before;
 use crate::source::{Source, own_numbers};
 use crate::state::State;
 use drift_clock::Clock;
 use net_plan::Network;
 use run_law::Machine;
+use world_state::OutOfMemory;
+use world_state::bodies::{Body, Given, Kind};
+use world_state::settled::is_before;
 
 /// The last time of a run.
 const LAST: u64 = 1 << 60;
@@ -29,8 +28,8 @@ pub enum Turn {
 }
 
 impl<C: Clock, M: Machine + Drop> State<C, M> {
-    ghost use Rattle.drift_world.specs.Keeping.{keeps};
-    ghost use Rattle.drift_world.specs.Giving.{ArrivedAt, changed_device};
+    ghost use Rattle.world_state.specs.Keeping.{keeps};
+    ghost use Rattle.world_state.specs.Giving.{ArrivedAt, changed_device};
     ghost use Rattle.drift_world.specs.declared.state.State.{State as StateOf};
     ghost use Rattle.drift_world.specs.Nearing.{IsLess, Nears};
     ghost use Rattle.drift_world.specs.Sound.{IsSized};
@@ -38,7 +37,8 @@ impl<C: Clock, M: Machine + Drop> State<C, M> {
     ghost use Rattle.drift_world.specs.Stepping.{ChangesOnly, IsRunning};
     ghost use Rattle.drift_world.specs.Turns.{GivesAt, HasCome, HasRoom, IsForemost, IsStep, PassSays, IsAfter, IsNow, IsThere, IsWhole, IsWithin, SettledFirst, SourceFirst, TurnSays, given_in, source_place};
     ghost use Rattle.drift_world.specs.Running.{given_by};
-    ghost use Rattle.drift_world.specs.Views.{settled_at, world_of};
+    ghost use Rattle.drift_world.specs.Views.{world_of};
+    ghost use Rattle.world_state.specs.Views.{settled_at};
     ghost use Rattle.drift_world.specs.Wells.{IsWell};
     ghost use Rattle.run_law.specs.records.Order.{IsBefore};
     ghost use Rattle.run_law.specs.records.Ranks.{place_of};

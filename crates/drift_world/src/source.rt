@@ -1,12 +1,8 @@
-ghost use Rattle.std.specs.Prelude.{◌≡◌, ℕ, ◌⊎◌, ◌+◌, ◌*◌, ◌≤◌, ◌<◌, ◌^◌, ◌∷◌, [], List, true, length, Some, IfSome, IfNone, slice_get, All, Option};
-ghost use Rattle.due_queue.specs.declared.Entry.{Entry};
-ghost use Rattle.run_law.specs.records.Order.{IsBefore, IsIn};
+ghost use Rattle.std.specs.Prelude.{◌≡◌, ℕ, ◌+◌, ◌≤◌, ◌<◌, ◌^◌, Some, IfSome, IfNone, Option};
 ghost use Rattle.due_timers.specs.Times.{IsFirst as IsFirstDue};
 ghost use Rattle.std.specs.Option.{option_map};
 ghost use Rattle.drift_world.specs.Turns.{own_numbers};
 
-use crate::contents::Waits;
-use crate::settled::{MOST, numbers};
 use crate::state::State;
 use arrayvec::ArrayVec;
 use drift_clock::Clock;
@@ -14,6 +10,8 @@ use due_queue::Place;
 use due_timers::Due;
 use net_plan::{DeviceId, Network};
 use run_law::Machine;
+use world_state::contents::Waits;
+use world_state::settled::{MOST, numbers};
 
 /// The rank of what arrives, among all of one instant.
 pub const ARRIVING: u8 = 2;
@@ -22,7 +20,7 @@ pub const ARRIVING: u8 = 2;
 pub const LEAVING: u8 = 8;
 
 /// What comes first of all that is under way: at the present instant, or later.
-#[derive(Clone, Copy, Debug)]
+#[derive(Clone, Copy)]
 pub enum Source {
     /// The outcomes of the events of the instant are to be settled.
     Events,

@@ -1,4 +1,4 @@
-ghost use Rattle.std.specs.Prelude.{◌≡◌, ◌↔◌, ◌^◌, ◌≤◌, ◌<◌, [], ◌∷◌, List, ℕ, true, false, length, Some, slice_get, if◌then◌else◌, pos, unsigned_abs, ◌++◌, ◌+◌, IfOk, OnOk, OnErr, IfSome, IfNone, None, All, Option, vec_len, vec_capacity};
+ghost use Rattle.std.specs.Prelude.{◌≡◌, ◌↔◌, ◌^◌, ◌≤◌, ◌<◌, [], ◌∷◌, List, ℕ, true, false, length, Some, slice_get, if◌then◌else◌, pos, unsigned_abs, ◌++◌, ◌+◌, IfOk, OnOk, OnErr, IfSome, None, Option};
 ghost use Rattle.std.specs.VecDeque.{deque_capacity, deque_len};
 ghost use Rattle.due_queue.specs.Places.{IsFirst, numbers_of};
 ghost use Rattle.net_plan.specs.Ranges.{IsInRange};
@@ -7,17 +7,6 @@ ghost use Rattle.net_plan.specs.declared.network.Network.{Network};
 ghost use Rattle.run_law.specs.declared.note.Note.{Note};
 ghost use Rattle.run_law.specs.scenario.Scenarios.{Scenario};
 
-use crate::OutOfMemory;
-use crate::applying::{
-    befall_machines, breaks_on, drop_waiting, ends, keep_befallen, set_broken, set_rate, set_way,
-};
-use crate::bodies::{Body, Kind};
-use crate::contents::{Befallen, Content, Holding, Settled, Waits, WayState};
-use crate::event_notes::EventNote;
-use crate::frames::MadeFrame;
-use crate::kept::Kept;
-use crate::leaving::{departed, is_parent, take_port};
-use crate::settled::{put_in, put_some};
 use drift_clock::Clock;
 use due_queue::{Place, UnderWay};
 use due_timers::Timers;
@@ -27,6 +16,17 @@ use run_law::{Machine, NoteBody};
 use std::collections::VecDeque;
 use sync_state::State as DeviceState;
 use tte_units::Units;
+use world_state::OutOfMemory;
+use world_state::applying::{
+    befall_machines, breaks_on, drop_waiting, ends, keep_befallen, set_broken, set_rate, set_way,
+};
+use world_state::bodies::{Body, Kind};
+use world_state::contents::{Befallen, Content, Holding, Settled, Waits, WayState};
+use world_state::event_notes::EventNote;
+use world_state::frames::MadeFrame;
+use world_state::kept::Kept;
+use world_state::leaving::{departed, is_parent, take_port};
+use world_state::settled::{put_in, put_some};
 
 /// The parts of a world that change.
 #[derive(Drop)]
@@ -70,26 +70,30 @@ pub struct State<C: Clock, M: Machine + Drop> {
 }
 
 impl<C: Clock, M: Machine + Drop> State<C, M> {
-    ghost use Rattle.drift_world.specs.Views.{settled_at, with_first, world_of};
+    ghost use Rattle.drift_world.specs.Views.{with_first, world_of};
+    ghost use Rattle.world_state.specs.Views.{settled_at};
     ghost use Rattle.run_law.specs.records.Happenings.{happenings};
     ghost use Rattle.run_law.specs.records.Ranks.{place_of};
     ghost use Rattle.world_law.specs.source.First.{NoSourceBefore};
-    ghost use Rattle.drift_world.specs.Sound.{AreBelow, AreUnderWay, IsSized, IsSound};
+    ghost use Rattle.drift_world.specs.Sound.{IsSized, IsSound};
+    ghost use Rattle.world_state.specs.Sound.{AreBelow, AreUnderWay};
     ghost use Rattle.drift_world.specs.Stepping.{ChangesOnly};
-    ghost use Rattle.drift_world.specs.Leaving.{departure_in, port_entry};
-    ghost use Rattle.drift_world.specs.Keeping.{keeps};
+    ghost use Rattle.world_state.specs.Leaving.{departure_in, port_entry};
+    ghost use Rattle.world_state.specs.Keeping.{keeps};
     ghost use Rattle.drift_world.specs.Showing.{IsOf};
-    ghost use Rattle.drift_world.specs.Giving.{CameBy, HasItsOctets, IsGiver, IsGivenOut, IsPutOn, IsYoung, MayBeGiven, giver_of, wire_entry};
-    ghost use Rattle.drift_world.specs.declared.giving.Giving.{Giving as GivingValue};
+    ghost use Rattle.drift_world.specs.Giving.{IsGiver, IsGivenOut};
+    ghost use Rattle.world_state.specs.Giving.{CameBy, HasItsOctets, IsPutOn, IsYoung, MayBeGiven, giver_of, wire_entry};
+    ghost use Rattle.world_state.specs.declared.giving.Giving.{Giving as GivingValue};
     ghost use Rattle.tte_units.specs.Amount.{amount, units_of};
     ghost use Rattle.run_law.specs.scenario.Devices.{is_parent_of};
-    ghost use Rattle.world_law.specs.world.Steps.{ComesFirst, FitsWorld, NothingBefore, StandsBehind};
+    ghost use Rattle.world_law.specs.world.Moves.{ComesFirst, NothingBefore, StandsBehind};
+    ghost use Rattle.world_steps.specs.Steps.{FitsWorld};
     ghost use Rattle.world_law.specs.source.Agreeing.{scenario};
     ghost use Rattle.world_law.specs.source.Applying.{note_of_event};
-    ghost use Rattle.drift_world.specs.Applying.{IsElsewhere, IsShown, SetsShort, clock_after};
+    ghost use Rattle.world_state.specs.Applying.{IsElsewhere, IsShown, SetsShort, clock_after};
     ghost use Rattle.drift_world.specs.Following.{Follows};
     ghost use Rattle.run_law.specs.records.Order.{IsIn};
-    ghost use Rattle.drift_world.specs.declared.contents.Waits.{Waits as WaitsValue};
+    ghost use Rattle.world_state.specs.declared.contents.Waits.{Waits as WaitsValue};
     ghost use Rattle.net_plan.specs.Belonging.{IsOfNetwork};
     ghost use Rattle.net_plan.specs.declared.event.Event.{Event as EventValue};
     ghost use Rattle.net_plan.specs.declared.ids.DeviceId.{DeviceId as DeviceOf};

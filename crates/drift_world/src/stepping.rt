@@ -1,13 +1,13 @@
 ghost use Rattle.std.specs.Prelude.{OnOk};
 ghost use Rattle.net_plan.specs.Ranges.{IsInRange};
 
-use crate::OutOfMemory;
-use crate::contents::Waits;
 use crate::state::State;
 use drift_clock::Clock;
 use due_queue::Place;
 use net_plan::{DeviceId, Network};
 use run_law::Machine;
+use world_state::OutOfMemory;
+use world_state::contents::Waits;
 
 impl<C: Clock, M: Machine + Drop> State<C, M> {
     ghost use Rattle.drift_world.specs.Nearing.{IsLess};

@@ -8,10 +8,7 @@ ghost use Rattle.run_law.specs.scenario.Hypothesis.{IsWithinHypothesis};
 ghost use Rattle.tte_units.specs.Amount.{amount, units_of};
 ghost use Rattle.world_law.specs.source.Agreeing.{scenario};
 
-use crate::OutOfMemory;
 use crate::begin::fresh_state;
-use crate::bodies::Given;
-use crate::event_notes::EventNote;
 use crate::local::local_of;
 use crate::state::State;
 use drift_clock::Clock;
@@ -21,6 +18,9 @@ use schedule_tables::Accepted;
 use std::alloc::Global;
 use std::marker::Model;
 use tte_units::Units;
+use world_state::OutOfMemory;
+use world_state::bodies::Given;
+use world_state::event_notes::EventNote;
 
 /// The record that is given, if one is.
 fn noted(next: Result<Option<Given>, OutOfMemory>) -> Result<Option<Note>, OutOfMemory>
@@ -42,7 +42,7 @@ pub struct World<'a, C: Clock, M: Machine + Drop> {
 
 impl<'a, C: Clock, M: Machine + Drop> Model for World<'a, C, M> {
     ghost use Rattle.world_law.specs.world.World.{World};
-    ghost use Rattle.drift_world.specs.declared.kept.Kept.{Kept};
+    ghost use Rattle.world_state.specs.declared.kept.Kept.{Kept};
 
     ghost Value = { World C (Kept M) };
 

@@ -1,11 +1,2 @@
-pub mod Puts
-pub mod FormLemmas
-pub mod Numbers
 pub mod TopAnswers
-pub mod Octets
-pub mod OneAnswers
-pub mod frames
-pub mod networks
-pub mod traces
-pub mod storms
 pub mod reports

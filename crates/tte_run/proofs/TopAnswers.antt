@@ -4,26 +4,26 @@ use Rattle.std.specs.Prelude.{◌≢◌, IfSome, Option}
 use Rattle.net_plan.specs.Bounds.{BetaIsUnique}
 use Rattle.net_plan.specs.declared.network.Network.{Network}
 use Rattle.schedule_checker.specs.Refusals.{RefusalIsOne}
-use Rattle.tte_run.specs.networks.Accepting.{IsNetworkAnswer, MeansAccepted}
-use Rattle.tte_run.specs.Putting.{Shown}
-use Rattle.tte_run.specs.Answering.{Answer, ForOctets, Gives, GivesOne, Answers, AnswersOne, IsDone}
-use Rattle.tte_run.specs.networks.Checking.{IsAcceptance, IsCheckAnswer}
-use Rattle.tte_run.specs.Forms.{IsFormInRange, form_of}
-use Rattle.tte_run.specs.frames.Answer.{show_answer}
+use Rattle.tte_forms.specs.networks.Accepting.{IsNetworkAnswer, MeansAccepted}
+use Rattle.tte_forms.specs.Putting.{Shown}
+use Rattle.tte_forms.specs.Answering.{Answer, ForOctets, Gives, GivesOne, Answers, AnswersOne, IsDone}
+use Rattle.tte_forms.specs.networks.Checking.{IsAcceptance, IsCheckAnswer}
+use Rattle.tte_forms.specs.Forms.{IsFormInRange, form_of}
+use Rattle.tte_forms.specs.frames.Answer.{show_answer}
 use Rattle.tte_run.specs.Top.{AnswerIsOne, AnswersWords, ForSecond, IsFormAnswer, Completes}
-use Rattle.tte_run.specs.declared.form.Form.{Form}
-use Rattle.tte_run.specs.declared.form.Form.TheVariants.{Show, Check, Run, Storm, Audit}
-use Rattle.tte_run.specs.declared.status.Status.{Status}
-use Rattle.tte_run.specs.declared.status.Status.TheVariants.{Done, ReadFault, Usage, WriteFault}
-use Rattle.tte_run.proofs.networks.Answers.{accepted_alone, network_answer_one, acceptance_one}
-use Rattle.tte_run.proofs.Octets.{for_more}
-use Rattle.tte_run.proofs.OneAnswers.{one_given}
-use Rattle.tte_run.proofs.traces.Completes.{run_one, run_whole}
-use Rattle.tte_run.proofs.frames.Answers.{shown_whole}
-use Rattle.tte_run.proofs.FormLemmas.{form_in_range}
+use Rattle.tte_forms.specs.declared.form.Form.{Form}
+use Rattle.tte_forms.specs.declared.form.Form.TheVariants.{Show, Check, Run, Storm, Audit}
+use Rattle.tte_forms.specs.declared.status.Status.{Status}
+use Rattle.tte_forms.specs.declared.status.Status.TheVariants.{Done, ReadFault, Usage, WriteFault}
+use Rattle.tte_forms.proofs.networks.Answers.{accepted_alone, network_answer_one, acceptance_one}
+use Rattle.tte_forms.proofs.Octets.{for_more}
+use Rattle.tte_forms.proofs.OneAnswers.{one_given}
+use Rattle.tte_traces.proofs.Completes.{run_one, run_whole}
+use Rattle.tte_forms.proofs.frames.Answers.{shown_whole}
+use Rattle.tte_forms.proofs.FormLemmas.{form_in_range}
 use Rattle.tte_run.proofs.reports.Answers.{audit_one, audit_whole}
-use Rattle.tte_run.proofs.storms.OneAnswer.{storm_one}
-use Rattle.tte_run.specs.storms.Answer.{IsStormAnswer}
+use Rattle.tte_storms.proofs.OneAnswer.{storm_one}
+use Rattle.tte_storms.specs.Answer.{IsStormAnswer}
 
 -- a status of such a call is not that of usage
 pub no_usage : (Is : Status → Type 0) (status : Status) → (Is Usage → ⊥) → Is status → status ≢ Usage

@@ -1,11 +1,2 @@
-pub mod StatusNumber
-pub mod Faults
-pub mod Putting
-pub mod Answering
-pub mod Forms
 pub mod Top
-pub mod frames
-pub mod networks
-pub mod traces
-pub mod storms
 pub mod reports

@@ -3,25 +3,26 @@ use Rattle.std.specs.Prelude.{◌≡◌, ◌≢◌, ◌⊎◌, IfSome, ℕ, ◌�
 use Rattle.pcf_values.specs.declared.pcf.Pcf.{Pcf}
 use Rattle.pcf_codec.specs.Sequence.{SpellsAll}
 use Rattle.tte_audit.specs.Answers.{IsAudited}
-use Rattle.tte_run.specs.Putting.{Shown}
+use Rattle.tte_forms.specs.Putting.{Shown}
 use Rattle.net_plan.specs.declared.event.Event.{Event}
 use Rattle.net_plan.specs.declared.network.Network.{Network}
-use Rattle.tte_run.specs.networks.Accepting.{IsNetworkAnswer, MeansAccepted}
-use Rattle.tte_run.specs.Answering.{Answer, ForOctets, Gives, GivesOne, IsDone, line_answer}
-use Rattle.tte_run.specs.networks.Checking.{IsCheckAnswer}
+use Rattle.tte_forms.specs.networks.Accepting.{IsNetworkAnswer, MeansAccepted}
+use Rattle.tte_forms.specs.Answering.{Answer, ForOctets, Gives, GivesOne, IsDone, line_answer}
+use Rattle.tte_forms.specs.networks.Checking.{IsCheckAnswer}
 use Rattle.tte_run.specs.reports.Answer.{IsAuditAnswer, report_limit}
 use Rattle.tte_run.specs.reports.Safely.{AuditsSafely}
-use Rattle.tte_run.specs.traces.Answer.{IsRunAnswer}
-use Rattle.tte_run.specs.traces.Safely.{WritesSafely}
-use Rattle.tte_run.specs.storms.Answer.{IsStormAnswer}
-use Rattle.tte_run.specs.storms.Safely.{SummarisesSafely}
-use Rattle.tte_run.specs.frames.Answer.{show_answer, file_limit}
-use Rattle.tte_run.specs.Forms.{form_of}
-use Rattle.tte_run.specs.traces.Lines.{AreAdmitted, HaveEnded, behind_lines}
-use Rattle.tte_run.specs.declared.form.Form.{Form}
-use Rattle.tte_run.specs.declared.form.Form.TheVariants.{Show, Check, Run, Storm, Audit}
-use Rattle.tte_run.specs.declared.status.Status.{Status}
-use Rattle.tte_run.specs.declared.status.Status.TheVariants.{Usage}
+use Rattle.tte_traces.specs.Answer.{IsRunAnswer}
+use Rattle.tte_traces.specs.Safely.{WritesSafely}
+use Rattle.tte_storms.specs.Answer.{IsStormAnswer}
+use Rattle.tte_storms.specs.Safely.{SummarisesSafely}
+use Rattle.tte_forms.specs.frames.Answer.{show_answer, file_limit}
+use Rattle.tte_forms.specs.Forms.{form_of}
+use Rattle.exact_runs.specs.Records.{HaveEnded}
+use Rattle.tte_traces.specs.Lines.{AreAdmitted, behind_lines}
+use Rattle.tte_forms.specs.declared.form.Form.{Form}
+use Rattle.tte_forms.specs.declared.form.Form.TheVariants.{Show, Check, Run, Storm, Audit}
+use Rattle.tte_forms.specs.declared.status.Status.{Status}
+use Rattle.tte_forms.specs.declared.status.Status.TheVariants.{Usage}
 
 -- the line for words of no form
 abbrev pub usage_line : List ℕ

@@ -1,8 +1,8 @@
 ghost use Rattle.std.specs.Prelude.{◌≡◌, ◌⊎◌, ◌≤◌, length};
-ghost use Rattle.tte_run.specs.Answering.{ForOctets, Gives, GivesOne, line_answer};
-ghost use Rattle.tte_run.specs.Faults.{HasCause, IsWanted, PutFailed, ReadFailed};
-ghost use Rattle.tte_run.specs.Putting.{Over};
-ghost use Rattle.tte_run.specs.networks.Accepting.{IsNetworkAnswer};
+ghost use Rattle.tte_forms.specs.Answering.{ForOctets, Gives, GivesOne, line_answer};
+ghost use Rattle.tte_forms.specs.Faults.{HasCause, IsWanted, PutFailed, ReadFailed};
+ghost use Rattle.tte_forms.specs.Putting.{Over};
+ghost use Rattle.tte_forms.specs.networks.Accepting.{IsNetworkAnswer};
 ghost use Rattle.tte_run.specs.reports.Answer.{IsAuditAnswer, IsAuditStatus, report_limit, report_refused_answer};
 ghost use Rattle.tte_run.specs.reports.AuditLine.{record_refusal_line};
 ghost use Rattle.tte_run.specs.reports.Reading.{ReadsReport, TakesReport};
@@ -10,14 +10,12 @@ ghost use Rattle.tte_run.specs.reports.Safely.{AuditsSafely};
 
 mod audit_line;
 
-use crate::Status;
-use crate::accepting::{accept, put_no_network};
-use crate::put_line::{end_with, put_last};
 use audit_line::{make_audited_line, make_lack_line, make_record_refusal_line};
 use schedule_checker::refusal_is_one;
 use schedule_tables::Accepted;
 use std::alloc::Global;
 use tte_audit::{AuditRefusal, audit};
+use tte_forms::{Status, accept, end_with, put_last, put_no_network};
 use tte_io::{LineText, ReadAll, Sink, Source, read_all};
 
 /// How many octets a report has at most.

@@ -1,19 +1,20 @@
 ghost use Rattle.std.specs.Prelude.{◌≡◌, ◌⊎◌};
-ghost use Rattle.tte_run.specs.Answering.{Gives};
-ghost use Rattle.tte_run.specs.Faults.{HasCause, IsWanted, PutFailed, ReadFailed};
-ghost use Rattle.tte_run.specs.Forms.{form_of};
-ghost use Rattle.tte_run.specs.Putting.{Over};
+ghost use Rattle.tte_forms.specs.Answering.{Gives};
+ghost use Rattle.tte_forms.specs.Faults.{HasCause, IsWanted, PutFailed, ReadFailed};
+ghost use Rattle.tte_forms.specs.Forms.{form_of};
+ghost use Rattle.tte_forms.specs.Putting.{Over};
 ghost use Rattle.tte_run.specs.reports.Reading.{ReadsReport};
-ghost use Rattle.tte_run.specs.traces.Streaming.{RunStops, RunTakesLittle};
+ghost use Rattle.tte_traces.specs.Streaming.{RunStops, RunTakesLittle};
 ghost use Rattle.tte_run.specs.Top.{AnswerIsOne, AnswersSafely, AnswersWords, Completes, FailsToRead, TakesSecond, usage_answer};
 
-use crate::form::{Form, read_form};
-use crate::put_line::put_last;
-use crate::{Status, Words, audit_report, check_network, run_trace, show, storm_run};
+use crate::audit_report;
 use net_plan::beta_is_unique;
 use schedule_checker::refusal_is_one;
 use std::alloc::Global;
+use tte_forms::{Form, Status, Words, check_network, put_last, read_form, show};
 use tte_io::{Sink, Source};
+use tte_storms::storm_run;
+use tte_traces::run_trace;
 
 const USAGE: &str =
     "usage: tte show FILE | check NETWORK | run NETWORK TRACE | storm NETWORK SEED CYCLES | audit NETWORK REPORT\n";

@@ -1,4 +1,5 @@
 pub mod lists
+pub mod frames
 pub mod rows
 pub mod devices
 pub mod acts
@@ -6,8 +7,3 @@ pub mod growing
 pub mod runs
 pub mod giving
 pub mod putting
-pub mod acting
-pub mod steps
-pub mod befalling
-pub mod hearing
-pub mod ripening

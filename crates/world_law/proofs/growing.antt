@@ -3,7 +3,5 @@ pub mod Openings
 pub mod Growing
 pub mod Spans
 pub mod Few
-pub mod FromZero
 pub mod FewRows
 pub mod Acts
-pub mod Repeating

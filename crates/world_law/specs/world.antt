@@ -1,9 +1,5 @@
--- What a world keeps, and its steps.
+-- What a world keeps, and what its steps are made of.
 pub mod World
-pub mod Steps
 pub mod Calls
-pub mod Arriving
-pub mod Ripening
-pub mod Acting
-pub mod Repeating
-pub mod Befalling
+pub mod Moves
+pub mod Outcomes

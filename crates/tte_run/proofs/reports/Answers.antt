@@ -11,15 +11,15 @@ use Rattle.tte_audit.specs.Laws.{HasOneAnswer}
 use Rattle.tte_audit.specs.Named.{IsNamed}
 use Rattle.tte_audit.specs.declared.refusal.AuditRefusal.{AuditRefusal}
 use Rattle.tte_audit.specs.declared.refusal.AuditRefusal.TheVariants as refusals
-use Rattle.tte_run.specs.Answering.{Answer, Ends, Gives, GivesOne, IsDone}
-use Rattle.tte_run.specs.Putting.{Shown}
-use Rattle.tte_run.specs.declared.status.Status.{Status}
-use Rattle.tte_run.specs.declared.status.Status.TheVariants.{ReadFault, WriteFault, OutOfMemory, TooLong}
-use Rattle.tte_run.specs.networks.Accepting.{IsNetworkAnswer, MeansAccepted, too_long_answer}
+use Rattle.tte_forms.specs.Answering.{Answer, Ends, Gives, GivesOne, IsDone}
+use Rattle.tte_forms.specs.Putting.{Shown}
+use Rattle.tte_forms.specs.declared.status.Status.{Status}
+use Rattle.tte_forms.specs.declared.status.Status.TheVariants.{ReadFault, WriteFault, OutOfMemory, TooLong}
+use Rattle.tte_forms.specs.networks.Accepting.{IsNetworkAnswer, MeansAccepted, too_long_answer}
 use Rattle.tte_run.specs.reports.Answer.{FailsAudit, IsAuditAnswer, PassesAudit, audited_answer, report_limit, report_refused_answer}
-use Rattle.tte_run.proofs.OneAnswers.{cut_given, none_put, one_given}
-use Rattle.tte_run.proofs.Puts.{Ends-gives, PutsLines-none}
-use Rattle.tte_run.proofs.networks.Answers.{accepted_alone, network_answer_one}
+use Rattle.tte_forms.proofs.OneAnswers.{cut_given, none_put, one_given}
+use Rattle.tte_forms.proofs.Puts.{Ends-gives, PutsLines-none}
+use Rattle.tte_forms.proofs.networks.Answers.{accepted_alone, network_answer_one}
 
 -- ---- the answer is one
 

@@ -10,18 +10,18 @@ use Rattle.tte_audit.specs.Named.{IsNamed}
 use Rattle.tte_audit.specs.Report.{events_of}
 use Rattle.tte_audit.specs.declared.refusal.AuditRefusal.{AuditRefusal}
 use Rattle.tte_audit.specs.declared.refusal.AuditRefusal.TheVariants as refusals
-use Rattle.tte_run.specs.Answering.{Answer, ForOctets, GivesOne}
-use Rattle.tte_run.specs.Putting.{Shown}
-use Rattle.tte_run.specs.declared.status.Status.{Status}
-use Rattle.tte_run.specs.declared.status.Status.TheVariants.{Done}
-use Rattle.tte_run.specs.networks.Accepting.{IsNetworkAnswer, MeansAccepted}
+use Rattle.tte_forms.specs.Answering.{Answer, ForOctets, GivesOne}
+use Rattle.tte_forms.specs.Putting.{Shown}
+use Rattle.tte_forms.specs.declared.status.Status.{Status}
+use Rattle.tte_forms.specs.declared.status.Status.TheVariants.{Done}
+use Rattle.tte_forms.specs.networks.Accepting.{IsNetworkAnswer, MeansAccepted}
 use Rattle.tte_run.specs.reports.Answer.{IsAuditAnswer, PassesAudit, report_refused_answer}
 use Rattle.tte_run.specs.reports.Safely.{AuditsSafely, ReportsSafeRun}
-use Rattle.tte_run.proofs.Octets.{for_more}
+use Rattle.tte_forms.proofs.Octets.{for_more}
 use Rattle.tte_run.proofs.reports.Answers.{kept_apart}
 use Rattle.tte_run.proofs.reports.Sources.{GivesNetworkAudit}
 use Rattle.tte_run.proofs.reports.Under.{report_ends, report_under}
-use Rattle.tte_run.proofs.traces.Safely.{exact_begins, exact_laws}
+use Rattle.exact_runs.proofs.Clocks.{exact_begins, exact_laws}
 
 safe_run : (octets report : List ℕ) (network : Network) (count : ℕ) → MeansAccepted octets network → PassesAudit network report count
     → ReportsSafeRun octets report

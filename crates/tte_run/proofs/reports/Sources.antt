@@ -3,16 +3,16 @@ use Rattle.std.proofs.Common.{ℕ, ◌<◌, List, Option, length}
 use Rattle.std.specs.Prelude.{IfSome}
 use Rattle.net_plan.specs.declared.network.Network.{Network}
 use Rattle.schedule_checker.specs.Refusals.{RefusalIsOne}
-use Rattle.tte_run.specs.Answering.{Ends, ForOctets, Gives, GivesOne}
-use Rattle.tte_run.specs.Putting.{Shown}
-use Rattle.tte_run.specs.declared.accepting.NoNetwork.{NoNetwork}
-use Rattle.tte_run.specs.declared.status.Status.{Status}
-use Rattle.tte_run.specs.declared.status.Status.TheVariants.{TooLong}
-use Rattle.tte_run.specs.networks.Accepting.{IsNetworkAnswer, MeansAccepted}
-use Rattle.tte_run.specs.networks.NoNetworks.{IsNoNetwork, no_network_answer}
+use Rattle.tte_forms.specs.Answering.{Ends, ForOctets, Gives, GivesOne}
+use Rattle.tte_forms.specs.Putting.{Shown}
+use Rattle.tte_forms.specs.declared.accepting.NoNetwork.{NoNetwork}
+use Rattle.tte_forms.specs.declared.status.Status.{Status}
+use Rattle.tte_forms.specs.declared.status.Status.TheVariants.{TooLong}
+use Rattle.tte_forms.specs.networks.Accepting.{IsNetworkAnswer, MeansAccepted}
+use Rattle.tte_forms.specs.networks.NoNetworks.{IsNoNetwork, no_network_answer}
 use Rattle.tte_run.specs.reports.Answer.{IsAuditAnswer, report_limit}
-use Rattle.tte_run.proofs.Octets.{for_all, for_more, for_too_many}
-use Rattle.tte_run.proofs.networks.Answers.{accepted_network, no_network}
+use Rattle.tte_forms.proofs.Octets.{for_all, for_more, for_too_many}
+use Rattle.tte_forms.proofs.networks.Answers.{accepted_network, no_network}
 use Rattle.tte_run.proofs.reports.Answers.{long_given}
 
 -- one of the answers for an accepted network under the octets of a report was given

@@ -6,10 +6,10 @@ use Rattle.tte_audit.specs.Answers.{IsAudited, IsRefusedBy}
 use Rattle.tte_audit.specs.Laws.{IsOfReport}
 use Rattle.tte_audit.specs.declared.refusal.AuditRefusal.{AuditRefusal}
 use Rattle.tte_audit.specs.declared.refusal.AuditRefusal.TheVariants as refusals
-use Rattle.tte_run.specs.Answering.{Answer, line_answer}
-use Rattle.tte_run.specs.declared.status.Status.{Status}
-use Rattle.tte_run.specs.declared.status.Status.TheVariants.{Done, Usage, FrameRefused, NetworkRefused, TraceRefused, OutsideHypothesis, ReadFault, WriteFault, OutOfMemory, TooLong, AuditRefused}
-use Rattle.tte_run.specs.networks.Accepting.{too_long_answer}
+use Rattle.tte_forms.specs.Answering.{Answer, line_answer}
+use Rattle.tte_forms.specs.declared.status.Status.{Status}
+use Rattle.tte_forms.specs.declared.status.Status.TheVariants.{Done, Usage, FrameRefused, NetworkRefused, TraceRefused, OutsideHypothesis, ReadFault, WriteFault, OutOfMemory, TooLong, AuditRefused}
+use Rattle.tte_forms.specs.networks.Accepting.{too_long_answer}
 use Rattle.tte_run.specs.reports.AuditLine.{audited_line, lack_line, record_refusal_line}
 
 -- how many octets a report has at most

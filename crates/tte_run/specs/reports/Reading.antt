@@ -2,9 +2,9 @@
 use Rattle.std.specs.Prelude.{◌≡◌, ◌⊎◌, ℕ, List, Option}
 use Rattle.std.specs.Io.KnownBytes.{IsAtEnd}
 use Rattle.tte_io.specs.Whole.{TakesSome}
-use Rattle.tte_run.specs.declared.status.Status.{Status}
-use Rattle.tte_run.specs.declared.status.Status.TheVariants.{Done, AuditRefused}
-use Rattle.tte_run.specs.traces.Streaming.{ForAccepted}
+use Rattle.tte_forms.specs.declared.status.Status.{Status}
+use Rattle.tte_forms.specs.declared.status.Status.TheVariants.{Done, AuditRefused}
+use Rattle.tte_traces.specs.Streaming.{ForAccepted}
 
 -- octets of a report were taken; where it was judged, by this status, they are all
 pub record TakesReport (left after : Option (List ℕ)) (status : Status) : Type 0 where

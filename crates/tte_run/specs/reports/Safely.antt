@@ -7,10 +7,10 @@ use Rattle.report_text.specs.NoteLine.{report_of}
 use Rattle.run_law.specs.declared.note.Note.{Note}
 use Rattle.safe_runs.specs.Headline.{IsWholeRun}
 use Rattle.tte_audit.specs.Report.{events_of}
-use Rattle.tte_run.specs.Answering.{ForOctets}
-use Rattle.tte_run.specs.declared.status.Status.{Status}
-use Rattle.tte_run.specs.declared.status.Status.TheVariants.{Done}
-use Rattle.tte_run.specs.networks.Accepting.{MeansAccepted}
+use Rattle.tte_forms.specs.Answering.{ForOctets}
+use Rattle.tte_forms.specs.declared.status.Status.{Status}
+use Rattle.tte_forms.specs.declared.status.Status.TheVariants.{Done}
+use Rattle.tte_forms.specs.networks.Accepting.{MeansAccepted}
 
 -- the octets are the report of the run of the accepted network under the events that its own records tell, up to their
 -- end; it goes well up to there

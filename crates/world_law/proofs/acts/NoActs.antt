@@ -54,7 +54,7 @@ use Rattle.world_law.specs.device.Left.{HasDone, HasSent, HasTaskBy, IsLeft}
 use Rattle.world_law.specs.device.Own.{moves}
 use Rattle.world_law.specs.device.Takings.{frames_taken}
 use Rattle.world_law.specs.source.Sources.{IsActing}
-use Rattle.world_law.specs.world.Steps.{NothingBefore, NothingComesBefore}
+use Rattle.world_law.specs.world.Moves.{NothingBefore, NothingComesBefore}
 use Rattle.world_law.specs.world.World.{AreOfNetwork, HaveBefallen, IsHeld, IsKept, Stands, World, act_place, hidden, hidden_body, is_turning}
 
 -- ---- records behind the acts of their instant, which leave the device at rest, do not change its points

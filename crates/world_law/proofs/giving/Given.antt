@@ -45,7 +45,7 @@ use Rattle.world_law.specs.device.Left.{IsLeft}
 use Rattle.world_law.specs.device.Takings.{frames_taken}
 use Rattle.world_law.specs.source.First.{NoSourceBefore}
 use Rattle.world_law.specs.source.Sources.{IsSource}
-use Rattle.world_law.specs.world.Steps.{AreAwaited, AreGiven, ArePut, AreTaken, GivenStep, named}
+use Rattle.world_law.specs.world.Moves.{AreAwaited, AreGiven, ArePut, AreTaken, GivenStep, named}
 use Rattle.world_law.specs.world.World.{AreAtPorts, AreOfNetwork, AreOnWires, AreSettled, AreStored, AreUntold, AreWaiting, AtPort, Befell, IsTurnedOnBy, HaveBefallen, IsActedUpTo, IsAwaitedFor, IsHeld, IsJustTold, IsKept, OnWire, Waiting, act_place, clock_place, hidden, hidden_body, none_yet, note_of, port_place, ripe_place, wire_place}
 
 -- ---- events so far

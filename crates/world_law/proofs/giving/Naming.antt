@@ -35,7 +35,7 @@ use Rattle.sync_state.specs.declared.state.State.{State}
 use Rattle.tte_units.specs.Amount.{amount}
 use Rattle.tte_units.specs.declared.units.Units.{Units}
 use Rattle.world_law.proofs.lists.Orders.{before_is}
-use Rattle.world_law.specs.world.Steps.{follows, is_corrected, named, named_body}
+use Rattle.world_law.specs.world.Moves.{follows, is_corrected, named, named_body}
 use Rattle.world_law.specs.world.World.{hidden, hidden_body, none_yet}
 
 -- ---- a device is told the time but once at an instant

@@ -8,7 +8,7 @@ use Rattle.net_plan.specs.declared.ids.VlId.{VlId}
 use Rattle.run_law.specs.records.Happenings.{Happening}
 use Rattle.run_law.specs.records.Order.{IsIn}
 use Rattle.run_law.specs.timed.Dispatching.{is_accepted}
-use Rattle.world_law.specs.world.Steps.{AreTaken}
+use Rattle.world_law.specs.world.Moves.{AreTaken}
 use Rattle.world_law.specs.world.World.{AreStored, IsStored, Stored, last_taking}
 
 last_more : {X : Type 0} (o : Option X) (xs ys : List X) → last_or o (xs ++ ys) ≡ last_or (last_or o xs) ys

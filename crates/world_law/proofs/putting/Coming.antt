@@ -20,7 +20,7 @@ use Rattle.world_law.proofs.putting.Moving.{IsMoving, out_moves, stays}
 use Rattle.world_law.proofs.putting.StandsOn.{source_told}
 use Rattle.world_law.proofs.runs.SourcesBack.{no_higher}
 use Rattle.world_law.specs.source.Sources.{IsRipening, IsSource}
-use Rattle.world_law.specs.world.Steps.{IsWithout, StandsBehind}
+use Rattle.world_law.specs.world.Moves.{IsWithout, StandsBehind}
 use Rattle.world_law.specs.world.World.{AreAtPorts, AreOfNetwork, AreOnWires, AreSettled, AreWaiting, AtPort, HasTurnedOn, IsHeld, IsKept, OnWire, Stands, Waiting, World, act_place, clock_place, hidden, none_yet, port_place, ripe_place, wire_place}
 
 -- what is before the cursor stays so

@@ -16,7 +16,7 @@ use Rattle.world_law.proofs.giving.GivenParts.{taken_on, up_to_place}
 use Rattle.world_law.proofs.runs.SourcesBack.{source_back}
 use Rattle.world_law.specs.source.First.{NoSourceBefore}
 use Rattle.world_law.specs.source.Sources.{IsOwnSource, IsSource}
-use Rattle.world_law.specs.world.Steps.{IsWithout}
+use Rattle.world_law.specs.world.Moves.{IsWithout}
 use Rattle.world_law.specs.world.World.{AreAtPorts, AreOnWires, AreSettled, AreWaiting, AtPort, HasTurnedOn, IsForward, IsHeld, IsKept, IsOut, OnWire, Waiting, act_place, port_place, ripe_place, wire_place}
 
 -- what a step that works off the source at this place of the instant starts from

@@ -26,7 +26,7 @@ use Rattle.world_law.proofs.putting.HiddenLists.{map_parts, split_hidden}
 use Rattle.world_law.proofs.putting.Idle.{numbered_prefix}
 use Rattle.world_law.proofs.putting.Placing.{before_it, put_at}
 use Rattle.world_law.proofs.putting.StandsOn.{in_mapped}
-use Rattle.world_law.specs.world.Steps.{ArePutIn, IsPutIn, settled_as}
+use Rattle.world_law.specs.world.Moves.{ArePutIn, IsPutIn, settled_as}
 use Rattle.world_law.specs.world.World.{hidden, hidden_body, none_yet}
 
 -- ---- what is hidden keeps its place towards a record whose cause is given

@@ -17,7 +17,7 @@ use Rattle.world_law.proofs.putting.Moving.{IsMoving, stays}
 use Rattle.world_law.proofs.runs.SourcesBack.{no_higher}
 use Rattle.world_law.specs.source.First.{NoSourceBefore}
 use Rattle.world_law.specs.source.Sources.{IsSource}
-use Rattle.world_law.specs.world.Steps.{ComesFirst, StandsBehind}
+use Rattle.world_law.specs.world.Moves.{ComesFirst, StandsBehind}
 use Rattle.world_law.specs.world.World.{AreAtPorts, AreOfNetwork, AreOnWires, AreSettled, AreUntold, AreWaiting, AtPort, IsHeld, OnWire, Stands, Waiting, World, clock_place, hidden, hidden_body, none_yet}
 
 -- ---- what is hidden keeps its rank

@@ -31,7 +31,7 @@ use Rattle.tte_units.specs.Amount.{amount}
 use Rattle.tte_units.specs.OctetTime.{octet_time}
 use Rattle.tte_units.specs.declared.speed.Speed.TheVariants.{Gbit1, Mbit100}
 use Rattle.tte_units.specs.declared.speed.Speed.{Speed}
-use Rattle.world_law.proofs.ripening.Masters.{ends_differ}
+use Rattle.world_law.proofs.frames.Masters.{ends_differ}
 use Rattle.world_law.proofs.rows.Apart.{precise, row_apart}
 use Rattle.world_law.proofs.rows.Dispatching.{IsLawful}
 use Rattle.world_law.proofs.rows.Periods.{occur_together}

@@ -28,7 +28,7 @@ use Rattle.world_law.proofs.runs.SourcesBack.{arrives_later}
 use Rattle.world_law.specs.device.Left.{HasDone, HasSent, HasTaskBy, IsLeft}
 use Rattle.world_law.specs.device.Own.{moves}
 use Rattle.world_law.specs.source.Sources.{IsRipening, IsActing, IsSource}
-use Rattle.world_law.specs.world.Steps.{NothingBefore}
+use Rattle.world_law.specs.world.Moves.{NothingBefore}
 use Rattle.world_law.specs.world.World.{IsWaitingFor, Stands, Waiting, World, ripe_place, act_place, clock_place, HaveBefallen, IsAtRest}
 
 -- a reading comes to a value but once

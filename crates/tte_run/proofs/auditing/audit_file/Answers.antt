@@ -1,9 +1,9 @@
 use Rattle.std.proofs.Common.{ℕ, List, Err, ap, ◌∙◌, inl, inr, refl, subst}
-use Rattle.tte_run.specs.Answering.{GivesOne}
-use Rattle.tte_run.specs.Putting.{shown_by}
-use Rattle.tte_run.specs.declared.status.Status.TheVariants.{OutOfMemory, ReadFault}
+use Rattle.tte_forms.specs.Answering.{GivesOne}
+use Rattle.tte_forms.specs.Putting.{shown_by}
+use Rattle.tte_forms.specs.declared.status.Status.TheVariants.{OutOfMemory, ReadFault}
 use Rattle.tte_run.specs.reports.Answer.{IsAuditAnswer}
-use Rattle.tte_run.proofs.Octets.{for_all, for_read}
+use Rattle.tte_forms.proofs.Octets.{for_all, for_read}
 use Rattle.tte_run.proofs.reports.Answers.{unput_given}
 use Rattle.tte_run.proofs.reports.Sources.{audit_long}
 use Rattle.tte_run.proofs.auditing.audit_file.Goals as goal

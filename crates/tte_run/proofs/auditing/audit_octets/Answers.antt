@@ -1,7 +1,7 @@
 use Rattle.std.proofs.Common.{◌≡◌, ℕ, List, [], ◌∷◌, ◌∙◌, subst}
-use Rattle.tte_run.specs.Answering.{Answer, Gives}
-use Rattle.tte_run.specs.Putting.{shown_by}
-use Rattle.tte_run.specs.declared.status.Status.TheVariants.{Done}
+use Rattle.tte_forms.specs.Answering.{Answer, Gives}
+use Rattle.tte_forms.specs.Putting.{shown_by}
+use Rattle.tte_forms.specs.declared.status.Status.TheVariants.{Done}
 use Rattle.tte_run.specs.reports.AuditLine.{audited_line}
 use Rattle.tte_run.proofs.reports.Answers.{audited_given, refused_given}
 use Rattle.tte_run.proofs.auditing.audit_octets.Goals as goal

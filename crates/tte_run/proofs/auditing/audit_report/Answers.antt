@@ -1,5 +1,5 @@
 use Rattle.std.proofs.Common.{inr}
-use Rattle.tte_run.specs.Putting.{shown_by}
+use Rattle.tte_forms.specs.Putting.{shown_by}
 use Rattle.tte_run.proofs.reports.Safely.{audited_safely}
 use Rattle.tte_run.proofs.reports.Sources.{audit_accepted, audit_refused}
 use Rattle.tte_run.proofs.auditing.audit_report.Goals as goal

@@ -1,9 +1,9 @@
 use Rattle.std.proofs.Common.{◌≡◌, ℕ, List, ◌∙◌, sym, subst}
 use Rattle.tte_audit.specs.declared.refusal.AuditRefusal.{AuditRefusal}
-use Rattle.tte_run.specs.Answering.{Gives, line_answer}
-use Rattle.tte_run.specs.Putting.{Shown, shown_by}
-use Rattle.tte_run.specs.declared.status.Status.{Status}
-use Rattle.tte_run.specs.declared.status.Status.TheVariants.{AuditRefused}
+use Rattle.tte_forms.specs.Answering.{Gives, line_answer}
+use Rattle.tte_forms.specs.Putting.{Shown, shown_by}
+use Rattle.tte_forms.specs.declared.status.Status.{Status}
+use Rattle.tte_forms.specs.declared.status.Status.TheVariants.{AuditRefused}
 use Rattle.tte_run.specs.reports.Answer.{report_refused_answer}
 use Rattle.tte_run.specs.reports.AuditLine.{lack_line}
 use Rattle.tte_run.proofs.auditing.put_report_refusal.Goals as goal

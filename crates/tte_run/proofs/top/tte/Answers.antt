@@ -1,14 +1,14 @@
 use Rattle.std.proofs.Common.{◌≡◌, ◌⊎◌, ℕ, List, Option, Some, None, inl, inr, subst, rules}
-use Rattle.tte_run.specs.Forms.{form_of}
-use Rattle.tte_run.specs.frames.Answer.{IsShowStatus}
-use Rattle.tte_run.specs.networks.Checking.{IsCheckStatus}
-use Rattle.tte_run.specs.traces.Answer.{IsRunStatus}
+use Rattle.tte_forms.specs.Forms.{form_of}
+use Rattle.tte_forms.specs.frames.Answer.{IsShowStatus}
+use Rattle.tte_forms.specs.networks.Checking.{IsCheckStatus}
+use Rattle.tte_traces.specs.Answer.{IsRunStatus}
 use Rattle.tte_run.specs.reports.Answer.{IsAuditStatus}
-use Rattle.tte_run.specs.Putting.{Shown, shown_by}
+use Rattle.tte_forms.specs.Putting.{Shown, shown_by}
 use Rattle.tte_run.specs.Top.{AnswersWords, Completes}
-use Rattle.tte_run.specs.declared.form.Form.{Form}
-use Rattle.tte_run.specs.declared.form.Form.TheVariants.{Show, Check, Run, Storm, Audit}
-use Rattle.tte_run.specs.declared.status.Status.{Status}
+use Rattle.tte_forms.specs.declared.form.Form.{Form}
+use Rattle.tte_forms.specs.declared.form.Form.TheVariants.{Show, Check, Run, Storm, Audit}
+use Rattle.tte_forms.specs.declared.status.Status.{Status}
 use Rattle.tte_run.proofs.TopAnswers.{no_usage, shown-form, completes-show, completes-check, completes-run, completes-storm, completes-audit}
 use Rattle.tte_run.proofs.top.tte.Goals as goal
 

@@ -9,15 +9,15 @@ use Rattle.run_law.specs.records.Order.{behind}
 use Rattle.run_law.specs.scenario.Scenarios.{Scenario}
 use Rattle.drift_world.proofs.Turning.{comes_first, is_at, rekeyed_step, runs_on}
 use Rattle.drift_world.proofs.state.State.act.Goals as goal
-use Rattle.drift_world.specs.Keeping.{keeps}
+use Rattle.world_state.specs.Keeping.{keeps}
 use Rattle.drift_world.specs.Turns.{HasRoom, IsForemost, SourceFirst}
 use Rattle.drift_world.specs.Views.{world_of}
 use Rattle.drift_world.specs.Wells.{IsWell}
-use Rattle.drift_world.specs.declared.kept.Kept.{Kept}
+use Rattle.world_state.specs.declared.kept.Kept.{Kept}
 use Rattle.drift_world.specs.declared.source.Source.TheVariants.{Act}
 use Rattle.drift_world.specs.declared.state.State.{State}
 use Rattle.world_law.proofs.giving.Given.{some_same}
-use Rattle.world_law.specs.world.Steps.{ComesFirst, StandsBehind}
+use Rattle.world_law.specs.world.Moves.{ComesFirst, StandsBehind}
 use Rattle.world_law.specs.world.World.{Stands, act_place}
 use Rattle.drift_world.proofs.Nearings.{act_less, on_ok}
 

@@ -3,13 +3,11 @@ use Rattle.std.proofs.lemmas.Option.{slice_get_read}
 use Rattle.run_law.specs.declared.steps.Moment.{Moment}
 use Rattle.drift_world.proofs.ActSteps.{acted_once, asked_to_act, never_broken, octets_then, proper_at, row_within, settles_from}
 use Rattle.drift_world.proofs.Showings.{shows_of}
-use Rattle.drift_world.proofs.Swaps.{is_set}
-use Rattle.drift_world.specs.Keeping.{keeps}
-use Rattle.drift_world.specs.declared.kept.Kept.{Kept}
+use Rattle.world_state.proofs.Swaps.{is_set}
+use Rattle.world_state.specs.Keeping.{keeps}
+use Rattle.world_state.specs.declared.kept.Kept.{Kept}
 use Rattle.world_law.proofs.giving.Given.{some_same}
-use Rattle.world_law.specs.world.Acting.{HasActed}
-use Rattle.world_law.specs.world.Calls.{moment_of}
-use Rattle.world_law.specs.world.Steps.{IsStateOf}
+use Rattle.world_law.specs.world.Calls.{HasActed, moment_of, IsStateOf}
 use Rattle.drift_world.proofs.state.State.act_once.Goals as goal
 
 pub act-requires : goal.act-requires

@@ -14,15 +14,17 @@ use Rattle.drift_world.proofs.Beginnings.{found}
 use Rattle.drift_world.proofs.Elsewhere.{clock_elsewhere, waits_elsewhere}
 use Rattle.drift_world.proofs.Fitting.{AreApart, apart_kept, below_more, ways_short}
 use Rattle.drift_world.proofs.TurnedOn.{turned_on_is}
-use Rattle.drift_world.specs.Keeping.{keeps}
+use Rattle.world_state.specs.Keeping.{keeps}
 use Rattle.run_law.specs.records.Order.{IsIn}
-use Rattle.drift_world.specs.declared.contents.Waits.{Waits}
-use Rattle.drift_world.specs.Views.{befell_as, waiting_as, way_as, world_of}
-use Rattle.world_law.proofs.steps.Applied.{applied_step}
-use Rattle.world_law.proofs.steps.AppliedParts.{broken_more}
+use Rattle.world_state.specs.declared.contents.Waits.{Waits}
+use Rattle.drift_world.specs.Views.{world_of}
+use Rattle.world_state.specs.Views.{befell_as, waiting_as, way_as}
+use Rattle.world_steps.proofs.steps.Applied.{applied_step}
+use Rattle.world_steps.proofs.steps.AppliedParts.{broken_more}
 use Rattle.world_law.specs.source.Agreeing.{scenario}
 use Rattle.world_law.specs.source.Applying.{note_of_event}
-use Rattle.world_law.specs.world.Steps.{FitsWorld, also_befell, ends_world}
+use Rattle.world_steps.specs.Steps.{FitsWorld}
+use Rattle.world_law.specs.world.Outcomes.{also_befell, ends_world}
 use Rattle.world_law.specs.world.World.{Befell, Stands, World}
 use Rattle.drift_world.proofs.state.State.apply.Goals as goal
 

@@ -8,7 +8,7 @@ use Rattle.net_plan.specs.declared.network.Network.{Network}
 use Rattle.run_law.specs.scenario.Devices.{is_parent_of}
 use Rattle.drift_world.proofs.Fits.{have_octets, left_octets}
 use Rattle.drift_world.proofs.Showings.{departure_is, way_by}
-use Rattle.drift_world.specs.Leaving.{port_entry}
+use Rattle.world_state.specs.Leaving.{port_entry}
 use Rattle.world_law.proofs.giving.Given.{some_same}
 use Rattle.world_law.specs.world.World.{WayNow}
 use Rattle.drift_world.proofs.state.State.departure.Goals as goal

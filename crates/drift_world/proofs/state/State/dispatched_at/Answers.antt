@@ -7,8 +7,8 @@ use Rattle.run_law.specs.scenario.Devices.{is_parent_of}
 use Rattle.schedule_tables.proofs.EntryLemmas.{one_entry}
 use Rattle.schedule_tables.specs.declared.entry.Entry.{Entry}
 use Rattle.drift_world.proofs.Showings.{way_by}
-use Rattle.drift_world.specs.Acting.{IsDispatched, IsHand, dispatched_by}
-use Rattle.drift_world.specs.declared.contents.Holding.{Holding}
+use Rattle.world_state.specs.Acting.{IsDispatched, IsHand, dispatched_by}
+use Rattle.world_state.specs.declared.contents.Holding.{Holding}
 use Rattle.world_law.specs.world.World.{WayNow}
 use Rattle.drift_world.proofs.state.State.dispatched_at.Goals as goal
 

@@ -8,14 +8,15 @@ use Rattle.run_law.specs.records.Ranks.{place_of}
 use Rattle.tte_units.specs.Amount.{units_of}
 use Rattle.drift_world.proofs.Gave.{changes_since, popped_world, sound_same, unchanged}
 use Rattle.drift_world.proofs.MayGive.{low_now, may_be_given}
-use Rattle.drift_world.specs.Giving.{HasItsOctets, changed_device}
-use Rattle.drift_world.specs.Keeping.{keeps}
+use Rattle.world_state.specs.Giving.{HasItsOctets, changed_device}
+use Rattle.world_state.specs.Keeping.{keeps}
 use Rattle.drift_world.specs.Stepping.{ChangesOnly}
-use Rattle.drift_world.specs.Views.{settled_at, world_of}
-use Rattle.drift_world.specs.declared.contents.Settled.{Settled}
+use Rattle.drift_world.specs.Views.{world_of}
+use Rattle.world_state.specs.Views.{settled_at}
+use Rattle.world_state.specs.declared.contents.Settled.{Settled}
 use Rattle.drift_world.specs.declared.state.State.{State}
 use Rattle.world_law.specs.source.First.{NoSourceBefore}
-use Rattle.world_law.specs.world.Steps.{StandsBehind}
+use Rattle.world_law.specs.world.Moves.{StandsBehind}
 use Rattle.world_law.specs.world.World.{Stands, World, note_of}
 use Rattle.drift_world.proofs.state.State.give.Goals as goal
 

@@ -6,16 +6,18 @@ use Rattle.run_law.specs.records.Order.{behind}
 use Rattle.run_law.specs.records.Ranks.{place_of}
 use Rattle.drift_world.proofs.Gave.{from_ports, from_wire, settled_has, waits_apart, waits_below, waits_elsewhere, waits_more, wire_is, wire_sound}
 use Rattle.drift_world.proofs.Givings.{given_on, named_all}
-use Rattle.drift_world.specs.Giving.{HasItsOctets, IsGivenOut, IsPutOn, changed_device, wire_entry}
-use Rattle.drift_world.specs.Keeping.{keeps}
-use Rattle.drift_world.specs.Naming.{named_settled}
+use Rattle.drift_world.specs.Giving.{IsGivenOut}
+use Rattle.world_state.specs.Giving.{HasItsOctets, IsPutOn, changed_device, wire_entry}
+use Rattle.world_state.specs.Keeping.{keeps}
+use Rattle.world_state.specs.Naming.{named_settled}
 use Rattle.drift_world.specs.Sound.{IsSound}
 use Rattle.drift_world.specs.Stepping.{ChangesOnly}
-use Rattle.drift_world.specs.Storing.{stored_by}
-use Rattle.drift_world.specs.Views.{at_port, on_wire, settled_at, stored_as, waiting_as, with_first, world_of}
-use Rattle.drift_world.specs.declared.contents.Settled.{Settled}
+use Rattle.world_state.specs.Storing.{stored_by}
+use Rattle.drift_world.specs.Views.{with_first, world_of}
+use Rattle.world_state.specs.Views.{at_port, on_wire, settled_at, stored_as, waiting_as}
+use Rattle.world_state.specs.declared.contents.Settled.{Settled}
 use Rattle.drift_world.specs.declared.state.State.{State}
-use Rattle.world_law.specs.world.Steps.{StandsBehind}
+use Rattle.world_law.specs.world.Moves.{StandsBehind}
 use Rattle.world_law.specs.world.World.{note_of}
 use Rattle.drift_world.proofs.state.State.give_first.Goals as goal
 

@@ -4,8 +4,8 @@ use Rattle.run_law.specs.declared.note.NoteBody.{NoteBody}
 use Rattle.tte_units.specs.Amount.{units_of}
 use Rattle.drift_world.proofs.Timings.{unchanged}
 use Rattle.drift_world.proofs.Turning.{gives_first, runs_on, sound_so}
-use Rattle.drift_world.specs.Giving.{changed_device}
-use Rattle.drift_world.specs.Keeping.{keeps}
+use Rattle.world_state.specs.Giving.{changed_device}
+use Rattle.world_state.specs.Keeping.{keeps}
 use Rattle.drift_world.specs.Sound.{IsSound}
 use Rattle.drift_world.specs.Stepping.{ChangesOnly}
 use Rattle.drift_world.specs.Views.{world_of}

@@ -4,14 +4,14 @@ use Rattle.std.proofs.lemmas.List.Sorted.{length_permutation}
 use Rattle.std.proofs.lemmas.Option.{slice_get_read}
 use Rattle.net_plan.specs.declared.ids.DeviceId.{DeviceId}
 use Rattle.net_plan.specs.declared.network.Network.{Network}
-use Rattle.drift_world.specs.Keeping.{keeps}
-use Rattle.drift_world.specs.Places.{IsPutAt}
-use Rattle.drift_world.specs.declared.contents.Settled.{Settled}
+use Rattle.world_state.specs.Keeping.{keeps}
+use Rattle.world_state.specs.Places.{IsPutAt}
+use Rattle.world_state.specs.declared.contents.Settled.{Settled}
 use Rattle.world_law.proofs.giving.Given.{some_same}
-use Rattle.drift_world.proofs.Befalls.{set_here}
+use Rattle.world_state.proofs.Befalls.{set_here}
 use Rattle.drift_world.proofs.Fits.{all_put, below_without, have_octets}
 use Rattle.drift_world.proofs.Hears.{as_sent, heard_octets, heard_stands, may_come, moment_is, set_aside}
-use Rattle.drift_world.proofs.UnderWays.{sound_without}
+use Rattle.world_state.proofs.UnderWays.{sound_without}
 use Rattle.drift_world.proofs.state.State.hear_first.Goals as goal
 
 pub hear_signal-arrival-requires-clause-may : goal.hear_signal-arrival-requires-clause-may

@@ -3,9 +3,9 @@ use Rattle.std.proofs.lemmas.Option.{slice_get_read}
 use Rattle.run_law.specs.declared.steps.Moment.{Moment}
 use Rattle.run_law.specs.machines.Calls.{HasDue}
 use Rattle.run_law.specs.machines.Tasks.{reading_for}
-use Rattle.drift_world.proofs.Acts.{none_due, some_due}
-use Rattle.drift_world.specs.Keeping.{keeps}
-use Rattle.drift_world.specs.declared.kept.Kept.{Kept}
+use Rattle.world_state.proofs.Acts.{none_due, some_due}
+use Rattle.world_state.specs.Keeping.{keeps}
+use Rattle.world_state.specs.declared.kept.Kept.{Kept}
 use Rattle.world_law.proofs.giving.Given.{some_same}
 use Rattle.drift_world.proofs.state.State.is_due.Goals as goal
 

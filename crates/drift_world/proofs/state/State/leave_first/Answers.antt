@@ -7,21 +7,24 @@ use Rattle.due_queue.specs.Places.{numbers_of}
 use Rattle.run_law.specs.records.Happenings.{happenings}
 use Rattle.run_law.specs.records.Order.{behind}
 use Rattle.run_law.specs.scenario.Scenarios.{is_broken}
-use Rattle.drift_world.specs.Keeping.{keeps}
+use Rattle.world_state.specs.Keeping.{keeps}
 use Rattle.drift_world.proofs.Alike.{with_wires}
 use Rattle.drift_world.proofs.Fits.{all_put_some, below_without, have_octets, if_some}
 use Rattle.drift_world.proofs.HiddenCauses.{settled_in_order}
 use Rattle.drift_world.proofs.Puts.{departed_is, frame_of_port, some_put_in}
 use Rattle.drift_world.proofs.Showings.{shows_of}
-use Rattle.drift_world.proofs.UnderWays.{ports_without, sound_without, wires_stay}
-use Rattle.drift_world.specs.Leaving.{port_entry}
-use Rattle.drift_world.specs.Places.{IsSomePut}
-use Rattle.drift_world.specs.Views.{at_port, on_wire, settled_at, world_of}
-use Rattle.drift_world.specs.declared.contents.Content.TheVariants.{Port}
-use Rattle.drift_world.specs.declared.contents.Content.{Content}
-use Rattle.drift_world.specs.declared.contents.Settled.{Settled}
-use Rattle.world_law.proofs.steps.LeftSteps.{left_step}
-use Rattle.world_law.specs.world.Steps.{ComesFirst, StandsBehind, departure_body, departure_now}
+use Rattle.world_state.proofs.UnderWays.{ports_without, sound_without, wires_stay}
+use Rattle.world_state.specs.Leaving.{port_entry}
+use Rattle.world_state.specs.Places.{IsSomePut}
+use Rattle.drift_world.specs.Views.{world_of}
+use Rattle.world_state.specs.Views.{at_port, on_wire, settled_at}
+use Rattle.world_state.specs.declared.contents.Content.TheVariants.{Port}
+use Rattle.world_state.specs.declared.contents.Content.{Content}
+use Rattle.world_state.specs.declared.contents.Settled.{Settled}
+use Rattle.world_steps.proofs.steps.LeftSteps.{left_step}
+use Rattle.world_law.specs.world.Moves.{ComesFirst, StandsBehind}
+use Rattle.world_law.specs.world.Outcomes.{departure_body}
+use Rattle.world_steps.specs.Steps.{departure_now}
 use Rattle.world_law.specs.world.World.{World}
 use Rattle.drift_world.proofs.state.State.leave_first.Goals as goal
 

@@ -1,10 +1,10 @@
 use Rattle.std.proofs.Common.{◌≡◌, ℕ, ◌+◌, List, [], ◌++◌, Ok, ap, append-nil, arith, refl, subst, sym, ◌∙◌}
 use Rattle.drift_world.proofs.Turning.{after_then}
 use Rattle.run_law.specs.declared.note.Note.{Note}
-use Rattle.drift_world.specs.Keeping.{keeps}
+use Rattle.world_state.specs.Keeping.{keeps}
 use Rattle.drift_world.specs.Nearing.{Nears}
 use Rattle.drift_world.specs.Turns.{IsWhole, TurnSays, given_in}
-use Rattle.drift_world.specs.declared.memory.OutOfMemory.{OutOfMemory}
+use Rattle.world_state.specs.declared.memory.OutOfMemory.{OutOfMemory}
 use Rattle.drift_world.specs.declared.next.Turn.{Turn}
 use Rattle.world_law.specs.world.World.{Stands}
 use Rattle.drift_world.specs.Views.{world_of}

@@ -5,8 +5,8 @@ use Rattle.std.proofs.lemmas.Option.{slice_get_read}
 use Rattle.net_plan.specs.declared.ids.DeviceId.{DeviceId}
 use Rattle.net_plan.specs.declared.network.Network.{Network}
 use Rattle.drift_world.proofs.Timings.{IsLow, acts_timed, not_past, ripe_timed, set_other, set_same}
-use Rattle.drift_world.specs.Timing.{IsLeastPoint, IsTimeFor}
-use Rattle.drift_world.specs.declared.contents.Waits.{Waits}
+use Rattle.world_state.specs.Timing.{IsLeastPoint, IsTimeFor}
+use Rattle.world_state.specs.declared.contents.Waits.{Waits}
 use Rattle.world_law.proofs.giving.Given.{some_same}
 use Rattle.drift_world.proofs.state.State.rekey.Given.{Over}
 use Rattle.drift_world.proofs.state.State.rekey.Goals as goal

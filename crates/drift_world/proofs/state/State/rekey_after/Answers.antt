@@ -2,8 +2,8 @@ use Rattle.std.proofs.Common.{◌≡◌, ap, arith, refl, subst, sym, ◌∙◌,
 use Rattle.run_law.specs.declared.note.NoteBody.{NoteBody}
 use Rattle.drift_world.proofs.Timings.{aside, rekeyed}
 use Rattle.drift_world.proofs.Said.{far_kind}
-use Rattle.drift_world.specs.Bodies.{body_of}
-use Rattle.drift_world.specs.Giving.{ArrivedAt, changed_device}
+use Rattle.world_state.specs.Bodies.{body_of}
+use Rattle.world_state.specs.Giving.{ArrivedAt, changed_device}
 use Rattle.drift_world.specs.Stepping.{ChangesOnly}
 use Rattle.drift_world.proofs.state.State.rekey_after.Goals as goal
 

@@ -1,7 +1,7 @@
 use Rattle.std.proofs.Common.{List, length, subst}
 use Rattle.drift_world.proofs.Ripes.{first_ripe, none_ripe}
-use Rattle.drift_world.specs.Ripening.{IsFirstReached}
-use Rattle.drift_world.specs.declared.contents.Waits.{Waits}
+use Rattle.world_state.specs.Ripening.{IsFirstReached}
+use Rattle.world_state.specs.declared.contents.Waits.{Waits}
 use Rattle.drift_world.proofs.state.State.ripe_index.Goals as goal
 
 pub returns-clause-some : goal.returns-clause-some

@@ -6,8 +6,8 @@ use Rattle.drift_world.proofs.state.State.ripen.Goals as goal
 use Rattle.std.specs.Prelude.{◌≤ℤ◌}
 use Rattle.std.proofs.lemmas.Option.{slice_get_within}
 use Rattle.drift_world.specs.Stepping.{IsAt}
-use Rattle.drift_world.specs.Views.{waiting_as}
-use Rattle.drift_world.specs.declared.contents.Waits.{Waits}
+use Rattle.world_state.specs.Views.{waiting_as}
+use Rattle.world_state.specs.declared.contents.Waits.{Waits}
 use Rattle.world_law.proofs.giving.Given.{some_same}
 use Rattle.world_law.specs.world.World.{ripe_place}
 use Rattle.drift_world.proofs.Nearings.{ripened_less}

@@ -3,12 +3,12 @@ use Rattle.std.specs.Vec.{with_item}
 use Rattle.std.proofs.lemmas.Option.{slice_get_read}
 use Rattle.run_law.specs.declared.steps.Moment.{Moment}
 use Rattle.drift_world.proofs.Ripenings.{StandsAfter, asked, below_taken, device_in, low, moment_by, moment_is, octets_fit, others_wait, ripened, still_apart}
-use Rattle.drift_world.proofs.Swaps.{at_in, is_set, taken}
-use Rattle.drift_world.specs.Keeping.{keeps}
-use Rattle.drift_world.specs.declared.contents.Waits.{Waits}
+use Rattle.world_state.proofs.Swaps.{at_in, is_set, taken}
+use Rattle.world_state.specs.Keeping.{keeps}
+use Rattle.world_state.specs.declared.contents.Waits.{Waits}
 use Rattle.drift_world.specs.declared.state.State.{State}
 use Rattle.world_law.proofs.giving.Given.{some_same}
-use Rattle.world_law.specs.world.Ripening.{HasRipened}
+use Rattle.world_steps.specs.Ripening.{HasRipened}
 use Rattle.drift_world.proofs.state.State.ripen_first.Goals as goal
 
 pub reading_of-reading-requires-clause-there : goal.reading_of-reading-requires-clause-there

@@ -1,7 +1,7 @@
 use Rattle.std.proofs.Common.{ap, subst, sym}
 use Rattle.drift_world.proofs.Turning.{either_end, plain_step}
 use Rattle.drift_world.proofs.state.State.settle.Goals as goal
-use Rattle.drift_world.specs.Keeping.{keeps}
+use Rattle.world_state.specs.Keeping.{keeps}
 use Rattle.drift_world.specs.Views.{world_of}
 use Rattle.drift_world.specs.declared.state.State.{State}
 use Rattle.world_law.specs.world.World.{Stands, World}

@@ -3,9 +3,9 @@ use Rattle.drift_world.specs.declared.source.Source.TheVariants.{Clock}
 use Rattle.drift_world.specs.declared.state.State.{State}
 use Rattle.drift_world.proofs.Turning.{comes_first, plain_step}
 use Rattle.drift_world.proofs.state.State.show.Goals as goal
-use Rattle.drift_world.specs.Keeping.{keeps}
+use Rattle.world_state.specs.Keeping.{keeps}
 use Rattle.drift_world.specs.Views.{world_of}
-use Rattle.world_law.specs.world.Steps.{ComesFirst}
+use Rattle.world_law.specs.world.Moves.{ComesFirst}
 use Rattle.world_law.specs.world.World.{clock_place}
 use Rattle.drift_world.proofs.Nearings.{shown_less}
 use Rattle.std.proofs.Common.{◌<◌, length}

@@ -1,10 +1,10 @@
 use Rattle.std.proofs.Common.{[], refl, subst, arith}
 use Rattle.drift_world.proofs.Nearings.{less_nears}
 use Rattle.drift_world.proofs.Turning.{none_given, none_settled, now_so, same_records}
-use Rattle.drift_world.specs.Keeping.{keeps}
+use Rattle.world_state.specs.Keeping.{keeps}
 use Rattle.drift_world.specs.Turns.{SourceFirst}
 use Rattle.drift_world.specs.Views.{world_of}
-use Rattle.drift_world.specs.declared.memory.OutOfMemory.{OutOfMemory}
+use Rattle.world_state.specs.declared.memory.OutOfMemory.{OutOfMemory}
 use Rattle.drift_world.proofs.state.State.take_turn.Goals as goal
 
 pub pass_on-requires-clause-empty : goal.pass_on-requires-clause-empty

@@ -1,9 +1,9 @@
 use Rattle.std.proofs.Common.{[], arith, refl, sym, ◌∙◌}
 use Rattle.drift_world.proofs.Nearings.{nears_then}
 use Rattle.drift_world.proofs.Turning.{after_then, roomier, same_records, says_then}
-use Rattle.drift_world.specs.Keeping.{keeps}
+use Rattle.world_state.specs.Keeping.{keeps}
 use Rattle.drift_world.specs.Views.{world_of}
-use Rattle.drift_world.specs.declared.memory.OutOfMemory.{OutOfMemory}
+use Rattle.world_state.specs.declared.memory.OutOfMemory.{OutOfMemory}
 use Rattle.drift_world.proofs.state.State.turn.Goals as goal
 
 pub returns-in-Err : goal.returns-in-Err

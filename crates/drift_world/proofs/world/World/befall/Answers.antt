@@ -11,12 +11,12 @@ use Rattle.drift_world.proofs.Onwards.{befalls}
 use Rattle.drift_world.proofs.Shortness.{sets_short}
 use Rattle.drift_world.proofs.Timings.{unmoved}
 use Rattle.drift_world.proofs.Wells.{sound_timers}
-use Rattle.drift_world.specs.Keeping.{keeps}
+use Rattle.world_state.specs.Keeping.{keeps}
 use Rattle.drift_world.specs.Running.{StandsUnder, behind_events, reading_of}
 use Rattle.drift_world.specs.Sound.{IsSound}
 use Rattle.drift_world.specs.Sourcing.{AreTimed}
 use Rattle.drift_world.specs.Views.{world_of}
-use Rattle.drift_world.specs.declared.kept.Kept.{Kept}
+use Rattle.world_state.specs.declared.kept.Kept.{Kept}
 use Rattle.drift_world.specs.declared.state.State.{State}
 use Rattle.world_law.specs.source.Agreeing.{scenario}
 use Rattle.world_law.specs.world.World.{Stands, World}

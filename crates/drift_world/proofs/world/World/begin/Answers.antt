@@ -9,7 +9,7 @@ use Rattle.drift_world.specs.Beginning.{AreFresh, IsFirstState}
 use Rattle.drift_world.specs.Running.{StandsUnder, reading_of}
 use Rattle.drift_world.specs.Sourcing.{AreTimed}
 use Rattle.drift_world.specs.Views.{world_of}
-use Rattle.drift_world.specs.declared.kept.Kept.{Kept}
+use Rattle.world_state.specs.declared.kept.Kept.{Kept}
 use Rattle.world_law.specs.source.Agreeing.{scenario}
 use Rattle.world_law.specs.world.World.{World}
 use Rattle.drift_world.proofs.world.World.begin.Given as given

@@ -3,7 +3,7 @@ use Rattle.std.proofs.lemmas.Int.{ints}
 use Rattle.tte_units.specs.Amount.{amount}
 use Rattle.drift_world.proofs.Locals.{clock_stepped, local_is}
 use Rattle.drift_world.specs.Locals.{IsComplete}
-use Rattle.drift_world.specs.declared.kept.Kept.{Kept}
+use Rattle.world_state.specs.declared.kept.Kept.{Kept}
 use Rattle.world_law.proofs.giving.Given.{some_same}
 use Rattle.world_law.specs.world.World.{World}
 use Rattle.drift_world.proofs.world.World.local.Goals as goal

@@ -4,7 +4,7 @@ use Rattle.run_law.specs.declared.note.Note.{Note}
 use Rattle.safe_runs.specs.Headline.{IsSafeFront}
 use Rattle.tte_units.specs.Amount.{amount, units_of}
 use Rattle.drift_world.specs.Running.{Reaches, StandsUnder, given_by, left_of}
-use Rattle.drift_world.specs.declared.memory.OutOfMemory.{OutOfMemory}
+use Rattle.world_state.specs.declared.memory.OutOfMemory.{OutOfMemory}
 use Rattle.drift_world.proofs.world.World.next.Goals as goal
 
 pub returns-clause-stands : goal.returns-clause-stands

@@ -8,10 +8,10 @@ use Rattle.safe_runs.proofs.Clocked.{before}
 use Rattle.safe_runs.specs.Headline.{IsSafeFront}
 use Rattle.safe_runs.specs.Under.{IsUnder}
 use Rattle.tte_units.specs.Amount.{amount}
-use Rattle.drift_world.specs.Keeping.{keeps}
+use Rattle.world_state.specs.Keeping.{keeps}
 use Rattle.drift_world.specs.Running.{StandsUnder, given_by, reading_of}
 use Rattle.drift_world.specs.Views.{world_of}
-use Rattle.drift_world.specs.declared.kept.Kept.{Kept}
+use Rattle.world_state.specs.declared.kept.Kept.{Kept}
 use Rattle.world_law.specs.source.Agreeing.{scenario}
 use Rattle.world_law.specs.world.World.{Stands, World}
 use Rattle.drift_world.proofs.world.World.next_given.Given as given

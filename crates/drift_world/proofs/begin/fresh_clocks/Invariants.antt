@@ -1,6 +1,0 @@
-use Rattle.std.proofs.Common.{◌≡◌, replicate}
-use Rattle.tte_units.specs.Amount.{amount}
-use Rattle.drift_world.proofs.begin.fresh_clocks.Given as goal
-
-abbrev pub invariant-loop : goal.invariant-loop
-invariant-loop g l = l.clocks.items ≡ replicate l.index (g.C.Clock.fresh (amount l.fn.network.grain))

@@ -1,0 +1,4 @@
+pub mod Clocks
+pub mod Events
+pub mod Worlds
+pub mod Given

@@ -1,0 +1,24 @@
+use Rattle.std.proofs.Common.{◌≡◌, subst, ℤ, ℕ, pos, List, ◌∷◌, [], ap, ◌∙◌, arith}
+use Rattle.std.proofs.lemmas.Int.{ints}
+use Rattle.net_plan.specs.Bounds.{IsBeta, gamma_of}
+use Rattle.net_plan.specs.declared.network.Network.{Network}
+use Rattle.tte_forms.specs.Answering.{Answer, Gives}
+use Rattle.tte_forms.specs.networks.NetworkLine.{acceptance_line}
+use Rattle.tte_forms.specs.Putting.{shown_by}
+use Rattle.tte_forms.specs.declared.status.Status.TheVariants.{Done}
+use Rattle.tte_forms.proofs.networks.Answers.{acceptance}
+use Rattle.tte_forms.proofs.checking.put_acceptance.Goals as goal
+
+pub returns-clause-gives : goal.returns-clause-gives
+returns-clause-gives g c =
+    let shown = shown_by g.K.Sink in
+    let n = c.args.accepted.now in
+    let beta = c.amount.result in
+    let is : IsBeta n (pos beta) =
+    subst (λ (z : ℤ). IsBeta n z) c.amount.ensures.whole (subst (λ (m : Network). IsBeta m c.beta.result.0) c.network-network.ensures.value c.beta.ensures) in
+    let gamma : c.amount-2.result ≡ gamma_of n = omega (arith, ints, c.amount-2.ensures.whole, c.gamma.ensures) ∙ ap gamma_of c.network-network.ensures.value in
+    let line : c.as_slice.result.now ≡ acceptance_line beta (gamma_of n) =
+    c.as_slice.ensures ∙ c.make_acceptance_line.ensures ∙ ap (acceptance_line beta) gamma in
+    acceptance c.beta_is_unique.ensures n beta c.put_last.result (shown c.args.out.now) (shown c.put_last.new.out) is
+    (subst (λ (bytes : List ℕ). let a : Answer = record { status = Done; lines = bytes ∷ [] } in Gives a c.put_last.result (shown c.args.out.now)
+    (shown c.put_last.new.out)) line c.put_last.ensures.gives)

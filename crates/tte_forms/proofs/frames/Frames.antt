@@ -1,0 +1,88 @@
+-- The answer for the frames of a file, frame by frame.
+use Rattle.std.proofs.Common.{◌≡◌, ℕ, zero, suc, ◌+◌, ◌-◌, ◌<◌, ◌≤◌, List, [], ◌∷◌, ◌++◌, Result, Ok, Err, refl, sym, ap, subst, ◌∙◌, inl, inr, arith, append_assoc}
+use Rattle.std.proofs.lemmas.List.{append-nil}
+use Rattle.pcf_values.specs.declared.pcf.Pcf.{Pcf}
+use Rattle.pcf_codec.specs.declared.refusal.PcfRefusal.{PcfRefusal}
+use Rattle.pcf_codec.specs.Decoding.{decoded}
+use Rattle.tte_forms.specs.frames.FrameLine.{frame_line, refusal_line}
+use Rattle.tte_forms.specs.Putting.{Shown, PutsLines}
+use Rattle.tte_forms.specs.Answering.{Answer, Ends, Gives, with_line}
+use Rattle.tte_forms.specs.frames.Answer.{frame_at, frames_answer, judgement_of}
+use Rattle.tte_forms.specs.declared.status.Status.{Status}
+use Rattle.tte_forms.specs.declared.status.Status.TheVariants.{Done, FrameRefused, WriteFault}
+use Rattle.tte_io.specs.Faults.{next_count}
+use Rattle.tte_io.specs.Told.{AppendsFront}
+use Rattle.std.specs.Io.KnownBytes.{Appends}
+use Rattle.tte_forms.proofs.Puts.{PutsLines-none, PutsLines-more, PutsLines-fails, PutsLines-append, PutsSome-behind, WriteFails-behind, Ends-gives}
+
+-- an answer behind some lines
+abbrev pub behind : List (List ℕ) → Answer → Answer
+behind lines a = record { status = a.status; lines = lines ++ a.lines }
+
+pub next_frame : (k n : ℕ) (octets : List ℕ) → k < n → frames_answer k (n - k) octets ≡ judgement_of (k + 1) (decoded (frame_at k octets))
+    (frames_answer (k + 1) (n - (k + 1)) octets)
+unfolding frames_answer
+next_frame k n octets h = let more : n - k ≡ suc (n - (k + 1)) = omega arith in rw more refl
+
+pub no_frame : (k : ℕ) (octets : List ℕ) (n : ℕ) → n ≡ 0 → frames_answer k n octets ≡ record { status = Done; lines = [] }
+unfolding frames_answer
+no_frame k octets zero e = refl
+no_frame k octets (suc n) e = absurd (omega arith)
+
+-- the lines of the first k of n frames were put, and the rest of the answer is still to come
+pub record IsShown (n k : ℕ) (octets : List ℕ) (old now : Shown) : Type 0 where
+  pub done : List (List ℕ)
+  pub puts : PutsLines done old now
+  pub rest : frames_answer 0 n octets ≡ behind done (frames_answer k (n - k) octets)
+
+pub IsShown-none : (n : ℕ) (octets : List ℕ) (s : Shown) → IsShown n 0 octets s s
+IsShown-none n octets s = record { done = []; puts = PutsLines-none s; rest = ap (λ (m : ℕ). frames_answer 0 m octets) (omega arith) }
+
+pub IsShown-more : (n k : ℕ) (octets : List ℕ) (p : Pcf) (old now new : Shown) → IsShown n k octets old now → k < n → decoded (frame_at k octets) ≡ Ok p
+    → Appends now.written new.written (frame_line (k + 1) p) → new.puts ≡ next_count now.puts → IsShown n (k + 1) octets old new
+IsShown-more n k octets p old now new s lt d w c = record {
+  done = s.done ++ frame_line (k + 1) p ∷ [];
+  puts = PutsLines-more s.done (frame_line (k + 1) p) old now new s.puts w c;
+  rest =
+      s.rest
+      ∙ ap (behind s.done) (next_frame k n octets lt ∙ ap (λ (r : Result Pcf PcfRefusal). judgement_of (k + 1) r (frames_answer (k + 1) (n - (k + 1)) octets))
+      d)
+      ∙ sym (ap (λ (ls : List (List ℕ)). record { status = (frames_answer (k + 1) (n - (k + 1)) octets).status; lines = ls })
+      (append_assoc s.done (frame_line (k + 1) p ∷ []) (frames_answer (k + 1) (n - (k + 1)) octets).lines));
+}
+
+-- all frames were shown
+pub IsShown-all : (n k : ℕ) (octets : List ℕ) (status : Status) (old now new : Shown) → IsShown n k octets old now → n ≤ k → Ends Done status now new
+    → Gives (frames_answer 0 n octets) status old new
+IsShown-all n k octets status old now new s le ends =
+    let whole : frames_answer 0 n octets ≡ record { status = Done; lines = s.done } =
+    s.rest ∙ ap (behind s.done) (no_frame k octets (n - k) (omega arith)) ∙ ap (λ (ls : List (List ℕ)). record { status = Done; lines = ls })
+    (append-nil s.done) in
+    subst (λ (a : Answer). Gives a status old new) (sym whole) (Ends-gives s.done Done status old now new s.puts ends)
+
+-- the put of a frame's line failed
+pub IsShown-fails : (n k : ℕ) (octets : List ℕ) (p : Pcf) (old now new : Shown) → IsShown n k octets old now → k < n → decoded (frame_at k octets) ≡ Ok p
+    → AppendsFront now.written new.written (frame_line (k + 1) p) → new.puts ≡ next_count now.puts → Gives (frames_answer 0 n octets) WriteFault old new
+IsShown-fails n k octets p old now new s lt d w c =
+    let rest = frames_answer (k + 1) (n - (k + 1)) octets in
+    let whole : frames_answer 0 n octets ≡ behind s.done (with_line (frame_line (k + 1) p) rest) =
+    s.rest ∙ ap (behind s.done) (next_frame k n octets lt ∙ ap (λ (r : Result Pcf PcfRefusal). judgement_of (k + 1) r rest) d) in
+    subst (λ (a : Answer). Gives a WriteFault old new) (sym whole)
+    (inr (inl (refl, inl (PutsLines-fails s.done (frame_line (k + 1) p) rest.lines old now new s.puts w c))))
+
+-- an answer's lines behind those that were put
+pub Gives-behind : (lines : List (List ℕ)) (a : Answer) (status : Status) (old now new : Shown) → PutsLines lines old now → Gives a status now new
+    → Gives (behind lines a) status old new
+Gives-behind lines a status old now new p (inl g) = inl (g.0, PutsLines-append lines a.lines old now new p g.1, g.2)
+Gives-behind lines a status old now new p (inr (inl g)) = inr (inl (g.0, WriteFails-behind lines a.lines old now new p g.1))
+Gives-behind lines a status old now new p (inr (inr g)) = inr (inr (g.0, PutsSome-behind lines a.lines old now new p g.1))
+
+-- a frame is refused
+pub IsShown-refused : (n k : ℕ) (octets : List ℕ) (e : PcfRefusal) (status : Status) (old now new : Shown) → IsShown n k octets old now → k < n
+    → decoded (frame_at k octets) ≡ Err e
+    → Gives (record { status = FrameRefused; lines = refusal_line (k + 1) e ∷ [] }) status now new → Gives (frames_answer 0 n octets) status old new
+IsShown-refused n k octets e status old now new s lt d g =
+    let rest = frames_answer (k + 1) (n - (k + 1)) octets in
+    let whole : frames_answer 0 n octets ≡ behind s.done (record { status = FrameRefused; lines = refusal_line (k + 1) e ∷ [] }) =
+    s.rest ∙ ap (behind s.done) (next_frame k n octets lt ∙ ap (λ (r : Result Pcf PcfRefusal). judgement_of (k + 1) r rest) d) in
+    subst (λ (a : Answer). Gives a status old new) (sym whole) (Gives-behind s.done _ status old now new s.puts g)

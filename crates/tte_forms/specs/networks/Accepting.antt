@@ -1,0 +1,50 @@
+-- How a network file is judged.
+use Rattle.std.specs.Prelude.{◌≡◌, ◌⊎◌, ℕ, ◌<◌, ◌≤◌, List, [], length, Ok, Err}
+use Rattle.net_file.specs.Schema.{network_read}
+use Rattle.net_file.specs.declared.refusal.FileRefusal.{FileRefusal}
+use Rattle.net_plan.specs.declared.network.Network.{Network}
+use Rattle.schedule_checker.specs.Refusals.{TellsFirstBroken}
+use Rattle.schedule_checker.specs.declared.refusal.RuleBroken.{RuleBroken}
+use Rattle.schedule_tables.specs.Rules.{KeepsRules}
+use Rattle.tte_forms.specs.Answering.{Answer, line_answer}
+use Rattle.tte_forms.specs.networks.NetworkLine.{file_reason, rule_reason, network_refusal_line}
+use Rattle.tte_forms.specs.frames.Answer.{file_limit}
+use Rattle.tte_forms.specs.declared.status.Status.TheVariants.{NetworkRefused, TooLong}
+
+-- the file is longer than files may be
+abbrev pub IsTooLong : List ℕ → Type 0
+IsTooLong octets = file_limit < length octets
+
+-- the octets mean no network, by this first fault
+pub record MeansNoNetwork (octets : List ℕ) (refusal : FileRefusal) : Type 0 where
+  pub fits : length octets ≤ file_limit
+  pub read : network_read octets ≡ Err refusal
+
+-- the octets mean a network that breaks this rule first
+pub record MeansUnfit (octets : List ℕ) (told : RuleBroken) : Type 0 where
+  pub network : Network
+  pub fits : length octets ≤ file_limit
+  pub read : network_read octets ≡ Ok network
+  pub first : TellsFirstBroken network told
+
+-- the octets mean this network, and it keeps all rules
+pub record MeansAccepted (octets : List ℕ) (network : Network) : Type 0 where
+  pub fits : length octets ≤ file_limit
+  pub read : network_read octets ≡ Ok network
+  pub rules : KeepsRules network
+
+-- the answer for a file that is too long
+abbrev pub too_long_answer : Answer
+too_long_answer = record { status = TooLong; lines = [] }
+
+-- the answer for a network that is refused for this reason
+abbrev pub refused_answer : List ℕ → Answer
+refused_answer reason = line_answer NetworkRefused (network_refusal_line reason)
+
+-- the answer for the octets of a network file, where that for an accepted network is given
+abbrev pub IsNetworkAnswer : (Network → Answer → Type 0) → List ℕ → Answer → Type 0
+IsNetworkAnswer IsAnswerFor octets a =
+    (IsTooLong octets × (a ≡ too_long_answer))
+    ⊎ ((refusal : FileRefusal) × MeansNoNetwork octets refusal × (a ≡ refused_answer (file_reason refusal)))
+    ⊎ ((told : RuleBroken) × MeansUnfit octets told × (a ≡ refused_answer (rule_reason told)))
+    ⊎ ((network : Network) × MeansAccepted octets network × IsAnswerFor network a)

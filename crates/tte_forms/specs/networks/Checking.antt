@@ -1,0 +1,33 @@
+-- What `check` answers for the octets of a network file.
+use Rattle.std.specs.Prelude.{◌≡◌, ℕ, pos, List, [], ◌∷◌}
+use Rattle.net_plan.specs.Bounds.{IsBeta, gamma_of}
+use Rattle.net_plan.specs.declared.network.Network.{Network}
+use Rattle.tte_forms.specs.networks.Accepting.{IsNetworkAnswer}
+use Rattle.tte_forms.specs.Answering.{Answer}
+use Rattle.tte_forms.specs.networks.NetworkLine.{acceptance_line}
+use Rattle.tte_forms.specs.declared.status.Status.{Status}
+use Rattle.tte_forms.specs.declared.status.Status.TheVariants.{Done, Usage, FrameRefused, NetworkRefused, TraceRefused, OutsideHypothesis, ReadFault, WriteFault, OutOfMemory, TooLong, AuditRefused}
+
+-- an accepted network is answered with its beta and its gamma
+pub record IsAcceptance (network : Network) (a : Answer) : Type 0 where
+  pub beta : ℕ
+  pub is : IsBeta network (pos beta)
+  pub answer : a ≡ record { status = Done; lines = acceptance_line beta (gamma_of network) ∷ [] }
+
+-- the answer for the octets of a network file
+abbrev pub IsCheckAnswer : List ℕ → Answer → Type 0
+IsCheckAnswer octets a = IsNetworkAnswer IsAcceptance octets a
+
+-- the statuses of `check`
+abbrev pub IsCheckStatus : Status → Type 0
+IsCheckStatus Done = Unit {0}
+IsCheckStatus Usage = ⊥
+IsCheckStatus FrameRefused = ⊥
+IsCheckStatus NetworkRefused = Unit {0}
+IsCheckStatus TraceRefused = ⊥
+IsCheckStatus OutsideHypothesis = ⊥
+IsCheckStatus ReadFault = Unit {0}
+IsCheckStatus WriteFault = Unit {0}
+IsCheckStatus OutOfMemory = Unit {0}
+IsCheckStatus TooLong = Unit {0}
+IsCheckStatus AuditRefused = ⊥

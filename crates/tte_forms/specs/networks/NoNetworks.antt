@@ -1,0 +1,24 @@
+-- What is answered where there is no accepted network.
+use Rattle.std.specs.Prelude.{ℕ, List, []}
+use Rattle.tte_forms.specs.networks.Accepting.{IsTooLong, MeansNoNetwork, MeansUnfit, too_long_answer, refused_answer}
+use Rattle.tte_forms.specs.Answering.{Answer}
+use Rattle.tte_forms.specs.networks.NetworkLine.{file_reason, rule_reason}
+use Rattle.tte_forms.specs.declared.accepting.NoNetwork.{NoNetwork}
+use Rattle.tte_forms.specs.declared.accepting.NoNetwork.TheVariants as causes
+use Rattle.tte_forms.specs.declared.status.Status.TheVariants.{ReadFault, OutOfMemory}
+
+-- the octets give no accepted network, for this cause; a read may fail and memory may run out at any
+abbrev pub IsNoNetwork : List ℕ → NoNetwork → Type 0
+IsNoNetwork octets causes.ReadFault = Unit {0}
+IsNoNetwork octets causes.TooLong = IsTooLong octets
+IsNoNetwork octets causes.OutOfMemory = Unit {0}
+IsNoNetwork octets (causes.File refusal) = MeansNoNetwork octets refusal
+IsNoNetwork octets (causes.Rule told) = MeansUnfit octets told
+
+-- what is answered
+abbrev pub no_network_answer : NoNetwork → Answer
+no_network_answer causes.ReadFault = record { status = ReadFault; lines = [] }
+no_network_answer causes.TooLong = too_long_answer
+no_network_answer causes.OutOfMemory = record { status = OutOfMemory; lines = [] }
+no_network_answer (causes.File refusal) = refused_answer (file_reason refusal)
+no_network_answer (causes.Rule told) = refused_answer (rule_reason told)

@@ -1,0 +1,19 @@
+//! What the commands of the program share: the words and their forms, the status and the last line, and how a file
+//! gives an accepted network; and the two commands over one file, which show its frames or check its network.
+#![tactic(auto)]
+
+mod accepting;
+mod checking;
+mod form;
+mod put_line;
+mod showing;
+mod status;
+mod words;
+
+pub use accepting::{NoNetwork, accept, put_no_network};
+pub use checking::check_network;
+pub use form::{Form, read_form};
+pub use put_line::{end_with, put_last};
+pub use showing::{show, show_law};
+pub use status::Status;
+pub use words::Words;

@@ -1,5 +1,0 @@
-use Rattle.tte_run.proofs.frames.Answers.{shows_frames}
-use Rattle.tte_run.proofs.showing.show_law.Goals as goal
-
-pub returns : goal.returns
-returns c = shows_frames

@@ -1,9 +1,0 @@
--- What is answered where a trace is refused.
-use Rattle.std.specs.Prelude.{ℕ}
-use Rattle.tte_run.specs.Answering.{Answer}
-use Rattle.tte_run.specs.traces.FaultLine.{fault_status, fault_lines}
-use Rattle.tte_run.specs.declared.trace.fault.TraceFault.{TraceFault}
-
--- the answer about the fault at this line alone
-abbrev pub fault_answer : ℕ → TraceFault → Answer
-fault_answer number fault = record { status = fault_status fault; lines = fault_lines number fault }

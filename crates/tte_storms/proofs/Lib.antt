@@ -1,0 +1,9 @@
+pub mod Ends
+pub mod OneAnswer
+pub mod Lasting
+pub mod Locals
+pub mod Given
+pub mod Settled
+pub mod Seeing
+pub mod Stormed
+pub mod Summed

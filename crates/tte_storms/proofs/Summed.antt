@@ -1,0 +1,279 @@
+-- The summary of a storm's run, and its lines.
+use Rattle.std.proofs.Common.{◌≡◌, ℕ, ◌+◌, ◌^◌, ◌≤◌, ℤ, pos, ◌+ℤ◌, ◌≤ℤ◌, FitsSigned, to_z, of_z, rules, List, [], ◌∷◌, ◌++◌, length, length-append, append_assoc, Option, Some, Result, Ok, Err, inl, inr, refl, sym, ap, subst, ◌∙◌, arith}
+use Rattle.std.specs.Int.{w64, w128}
+use Rattle.std.specs.Io.KnownBytes.{Appends}
+use Rattle.std.specs.Prelude.{OnOk, slice_get}
+use Rattle.std.proofs.lemmas.Int.{ints, to_z-of_z}
+use Rattle.std.proofs.lemmas.List.{append-nil}
+use Rattle.drift_clock.specs.Segment.{fresh_segment, stepped_segment, segment_reading}
+use Rattle.net_plan.specs.Ranges.{IsInRange}
+use Rattle.net_plan.specs.declared.network.Network.{Network}
+use Rattle.run_law.specs.device.LocalClocks.{local}
+use Rattle.run_law.specs.records.Happenings.{Happening, happenings, time_of}
+use Rattle.run_law.specs.records.Order.{IsIn}
+use Rattle.run_law.specs.scenario.Scenarios.{Scenario}
+use Rattle.safe_runs.proofs.Clocked.{ended}
+use Rattle.safe_runs.specs.Headline.{IsWholeRun}
+use Rattle.safe_runs.specs.Under.{IsUnder}
+use Rattle.schedule_checker.specs.Refusals.{RefusalIsOne}
+use Rattle.schedule_tables.specs.Rules.{KeepsRules}
+use Rattle.storm.proofs.Storms.{storms_within}
+use Rattle.storm_summary.proofs.Spreads.{within_precision}
+use Rattle.storm_summary.specs.Counting.{counts_of}
+use Rattle.storm_summary.specs.Lines.{lines_of}
+use Rattle.storm_summary.specs.Spread.{IsGreatestSpread}
+use Rattle.storm_summary.specs.declared.counts.Counts.{Counts}
+use Rattle.storm_summary.specs.declared.summary.Summary.{Summary}
+use Rattle.tte_io.specs.Faults.{next_count}
+use Rattle.tte_io.specs.Told.{AppendsFront}
+use Rattle.tte_forms.proofs.Octets.{for_more}
+use Rattle.tte_forms.proofs.OneAnswers.{none_put, one_given}
+use Rattle.tte_forms.proofs.Puts.{Ends-gives, PutsLines-fails, PutsLines-more, PutsLines-none}
+use Rattle.tte_forms.proofs.networks.Answers.{accepted_network, no_network}
+use Rattle.tte_storms.proofs.OneAnswer.{storm_answer_one}
+use Rattle.exact_runs.proofs.Clocks.{exact_begins, exact_laws}
+use Rattle.tte_forms.specs.Answering.{Answer, AnswersOne, Ends, ForOctets, Gives, GivesOne}
+use Rattle.tte_forms.specs.Putting.{PutsLines, Shown, WriteFails}
+use Rattle.tte_forms.specs.declared.accepting.NoNetwork.{NoNetwork}
+use Rattle.tte_forms.specs.declared.status.Status.{Status}
+use Rattle.tte_forms.specs.declared.status.Status.TheVariants.{Done, Usage, FrameRefused, NetworkRefused, TraceRefused, OutsideHypothesis, ReadFault, WriteFault, OutOfMemory, TooLong, AuditRefused}
+use Rattle.tte_storms.specs.declared.counting.Seen.{Seen}
+use Rattle.tte_forms.specs.networks.Accepting.{IsNetworkAnswer, MeansAccepted}
+use Rattle.tte_forms.specs.networks.NoNetworks.{IsNoNetwork, no_network_answer}
+use Rattle.tte_storms.specs.Answer.{IsStormAnswer, exact_scenario}
+use Rattle.tte_storms.specs.Safely.{PutsSafeSummary, PutsSummarySafely, SummarisesSafely}
+use Rattle.tte_storms.specs.Steps.{EndsStorm, HasStormed, Summarises}
+use Rattle.tte_units.specs.Amount.{amount}
+use Rattle.tte_units.specs.declared.units.Units.{Units}
+
+-- so many of the lines were put
+pub record HasPutLines (lines : List (List ℕ)) (count : ℕ) (old new : Shown) : Type 0 where
+  pub done : List (List ℕ)
+  pub left : List (List ℕ)
+  pub order : lines ≡ done ++ left
+  pub counted : length done ≡ count
+  pub puts : PutsLines done old new
+
+pub lines_none : (lines : List (List ℕ)) (s : Shown) → HasPutLines lines 0 s s
+lines_none lines s = record { done = []; left = lines; order = refl; counted = refl; puts = PutsLines-none s }
+
+-- the next of them
+next_line : (done left : List (List ℕ)) (line : List ℕ) → slice_get (done ++ left) (length done) ≡ Some line → (rest : List (List ℕ)) × (left ≡ line ∷ rest)
+next_line [] [] line is = absurd cc
+next_line [] (l ∷ left) line is = (left, let same : l ≡ line = cc in ap (λ (x : List ℕ). x ∷ left) same)
+next_line (d ∷ done) left line is = next_line done left line is
+
+next_of : (lines : List (List ℕ)) (count : ℕ) (old new : Shown) (line : List ℕ) (h : HasPutLines lines count old new) → slice_get lines count ≡ Some line
+    → (rest : List (List ℕ)) × (lines ≡ h.done ++ line ∷ rest)
+next_of lines count old new line h is =
+    let next =
+    next_line h.done h.left line
+    (ap (λ (l : List (List ℕ)). slice_get l (length h.done)) (sym h.order) ∙ ap (λ (n : ℕ). slice_get lines n) h.counted ∙ is) in
+    (next.0, h.order ∙ ap (λ (l : List (List ℕ)). h.done ++ l) next.1)
+
+pub lines_more : (lines : List (List ℕ)) (count : ℕ) (old now new : Shown) (line : List ℕ) → HasPutLines lines count old now → slice_get lines count ≡ Some line
+    → Appends now.written new.written line → new.puts ≡ next_count now.puts → HasPutLines lines (count + 1) old new
+lines_more lines count old now new line h is written puts =
+    let next = next_of lines count old now line h is in
+    let long = length-append h.done (line ∷ []) in
+    let counted = h.counted in
+    record {
+      done = h.done ++ line ∷ [];
+      left = next.0;
+      order = next.1 ∙ sym (append_assoc h.done (line ∷ []) next.0);
+      counted = omega (arith, long, counted);
+      puts = PutsLines-more h.done line old now new h.puts written puts;
+    }
+
+pub lines_fail : (lines : List (List ℕ)) (count : ℕ) (old now new : Shown) (line : List ℕ) → HasPutLines lines count old now → slice_get lines count ≡ Some line
+    → AppendsFront now.written new.written line → new.puts ≡ next_count now.puts
+    → Gives (record { status = Done; lines = lines }) WriteFault old new
+lines_fail lines count old now new line h is front puts =
+    let next = next_of lines count old now line h is in
+    inr (inl (
+      refl,
+      subst (λ (l : List (List ℕ)). WriteFails l old new) (sym next.1)
+          (inl (PutsLines-fails h.done line next.0 old now new h.puts front puts)),
+    ))
+
+none_left : (done left : List (List ℕ)) → length (done ++ left) ≡ length done → left ≡ []
+none_left done [] is = refl
+none_left done (l ∷ left) is = absurd (let long = length-append done (l ∷ left) in omega (arith, long, is))
+
+pub lines_all : (lines : List (List ℕ)) (count : ℕ) (status : Status) (old now new : Shown) → HasPutLines lines count old now → length lines ≡ count
+    → Ends Done status now new → Gives (record { status = Done; lines = lines }) status old new
+lines_all lines count status old now new h all ends =
+    let none = none_left h.done h.left (ap (λ (l : List (List ℕ)). length l) (sym h.order) ∙ all ∙ sym h.counted) in
+    let whole : lines ≡ h.done = h.order ∙ ap (λ (l : List (List ℕ)). h.done ++ l) none ∙ append-nil h.done in
+    Ends-gives lines Done status old now new (subst (λ (l : List (List ℕ)). PutsLines l old now) (sym whole) h.puts) ends
+
+-- ---- what the summary tells
+
+-- so far apart as nothing at least
+not_below : (s : Scenario) (hs : List Happening) (spread : Units) → IsGreatestSpread s hs spread → pos 0 ≤ℤ spread.0
+not_below s hs spread g = elim g.reached [
+  | inl none ↦ omega (arith, ints, none)
+  | inr seen ↦
+      let pair = seen.apart_then in
+      let here = local s hs pair.ahead (time_of seen.seen_at) in
+      g.bound (pos 0) (record {
+        seen_at = seen.seen_at;
+        there = seen.there;
+        correction = seen.correction;
+        apart_then = record {
+          ahead = pair.ahead;
+          behind = pair.ahead;
+          ahead_there = pair.ahead_there;
+          behind_there = pair.ahead_there;
+          ahead_in_step = pair.ahead_in_step;
+          behind_in_step = pair.ahead_in_step;
+          is = omega (arith, ints);
+        };
+      })
+]
+
+-- the run goes well, and the spread is at most the precision
+pub record IsFine (network : Network) (seed cycles : ℕ) (seen : Seen) (h : HasStormed network seed cycles seen) : Type 0 where
+  pub run : IsWholeRun fresh_segment stepped_segment segment_reading network h.events h.notes
+  pub least : pos 0 ≤ℤ seen.spread
+  pub within : seen.spread ≤ℤ network.precision.0
+  pub small : network.precision.0 ≤ℤ pos (2 ^ 40)
+
+pub is_fine : (network : Network) (seed cycles : ℕ) (seen : Seen) (h : HasStormed network seed cycles seen) → cycles ≤ 100000 → IsInRange network
+    → KeepsRules network → IsFine network seed cycles seen h
+is_fine network seed cycles seen h few range rules =
+    let under : IsUnder network h.events = record {
+      range = range;
+      rules = rules;
+      of_network = h.of_network;
+      times = h.range;
+      within = storms_within network seed cycles h.events few h.storm.each;
+    } in
+    let run =
+    ended fresh_segment stepped_segment segment_reading exact_laws exact_begins network h.events h.records.0 h.notes under h.records.1 h.records.2 in
+    let s = exact_scenario network h.events in
+    let hs = happenings network h.notes in
+    let precision = range.precision.least in
+    let bounded : (g : Happening) → IsIn g hs → time_of g ≤ amount run.end = λ g i.
+    elim (run.run.within g i) [ inl lt ↦ omega (arith, lt) | inr bad ↦ absurd bad.1 ] in
+    record {
+      run = run;
+      least = not_below s hs (record { 0 = seen.spread }) h.widest;
+      within = within_precision s hs (amount run.end) (record { 0 = seen.spread }) (omega (arith, ints, precision)) bounded run.well.safe.precision h.widest;
+      small = range.precision.most;
+    }
+
+pub sums_up : (network : Network) (seed cycles : ℕ) (seen : Seen) (h : HasStormed network seed cycles seen) → IsFine network seed cycles seen h
+    → (summary : Summary) → summary.seed ≡ seed → summary.cycles ≡ cycles → summary.counts ≡ seen.tally → summary.spread.0 ≡ seen.spread
+    → summary.precision ≡ network.precision → Summarises network seed cycles summary
+sums_up network seed cycles seen h fine summary of_seed of_cycles of_counts of_spread of_precision =
+    let made : ℕ → ℕ → Counts → Units → Units → Summary = λ a b c d e. record { seed = a; cycles = b; counts = c; spread = d; precision = e } in
+    let spread : Units = record { 0 = seen.spread } in
+    record {
+      events = h.events;
+      storm = h.storm;
+      notes = h.notes;
+      records = h.records;
+      run = fine.run;
+      spread = spread;
+      widest = h.widest;
+      within = fine.within;
+      is =
+          ap (λ k. made k summary.cycles summary.counts summary.spread summary.precision) of_seed
+          ∙ ap (λ k. made seed k summary.counts summary.spread summary.precision) of_cycles
+          ∙ ap (λ (k : Counts). made seed cycles k summary.spread summary.precision) (of_counts ∙ h.tallied)
+          ∙ ap (λ (z : ℤ). made seed cycles (counts_of h.notes) (record { 0 = z }) summary.precision) of_spread
+          ∙ ap (made seed cycles (counts_of h.notes) spread) of_precision;
+    }
+
+-- ---- the numbers as they are kept
+
+pub spread_fits : (z : ℤ) → pos 0 ≤ℤ z → z ≤ℤ pos (2 ^ 40) → FitsSigned w128 z × FitsSigned w64 z
+spread_fits z least most = (search rules, search rules)
+
+pub plus_fits : (z : ℤ) → pos 0 ≤ℤ z → z ≤ℤ pos (2 ^ 60) → FitsSigned w64 z × FitsSigned w64 (z +ℤ pos 1)
+plus_fits z least most = (search rules, search rules)
+
+pub plus_is : (z : ℤ) → pos 0 ≤ℤ z → z ≤ℤ pos (2 ^ 60) → to_z w64 (of_z w64 (to_z w64 (of_z w64 z) +ℤ pos 1)) ≡ (z +ℤ pos 1)
+plus_is z least most =
+    let fits = plus_fits z least most in
+    ap (λ x. to_z w64 (of_z w64 (x +ℤ pos 1))) (to_z-of_z w64 z fits.0) ∙ to_z-of_z w64 (z +ℤ pos 1) fits.1
+
+pub on_ok_more : {T E : Type 0} (r : Result T E) (P Q : Type 0) → (P → Q) → OnOk r P → OnOk r Q
+on_ok_more (Ok t) P Q f p = f p
+on_ok_more (Err e) P Q f p = tt {0}
+
+-- ---- the answer
+
+pub storm_given : (seed cycles : ℕ) (network : Network) (status : Status) (old new : Shown) → cycles ≤ 100000 → KeepsRules network
+    → EndsStorm network seed cycles status old new → GivesOne (IsStormAnswer seed cycles network) status old new
+storm_given seed cycles network status old new few rules (inl (summary, sums, gives)) =
+    let answer : Summary → Answer = λ s. record { status = Done; lines = lines_of s } in
+    let is : IsStormAnswer seed cycles network (answer summary) = record {
+      events = sums.events;
+      storm = sums.storm;
+      notes = sums.notes;
+      records = sums.records;
+      spread = sums.spread;
+      widest = sums.widest;
+      answer = ap answer sums.is;
+    } in
+    one_given (IsStormAnswer seed cycles network) (answer summary) status old new is
+    (λ b h. storm_answer_one seed cycles network few rules b (answer summary) h is) gives
+storm_given seed cycles network status old new few rules (inr (memory, same)) =
+    inr (inr (inr memory, λ a h. none_put a.lines old new (subst (PutsLines [] old) (sym same) (PutsLines-none old))))
+
+whole_summary : (seed cycles : ℕ) (octets : List ℕ) (network : Network) (old new : Shown) → MeansAccepted octets network
+    → EndsStorm network seed cycles Done old new → PutsSafeSummary seed cycles octets old new
+whole_summary seed cycles octets network old new m (inl (summary, sums, inl gives)) = record {
+  network = network;
+  accepted = m;
+  events = sums.events;
+  storm = sums.storm;
+  notes = sums.notes;
+  run = sums.run;
+  spread = sums.spread;
+  widest = sums.widest;
+  within = sums.within;
+  puts = subst (λ (s : Summary). PutsLines (lines_of s) old new) sums.is gives.1;
+}
+whole_summary seed cycles octets network old new m (inl (summary, sums, inr (inl failed))) = absurd (let e = failed.0 in cc)
+whole_summary seed cycles octets network old new m (inl (summary, sums, inr (inr (inl read, some)))) = absurd cc
+whole_summary seed cycles octets network old new m (inl (summary, sums, inr (inr (inr memory, some)))) = absurd cc
+whole_summary seed cycles octets network old new m (inr (memory, same)) = absurd cc
+
+safely : (seed cycles : ℕ) (octets : List ℕ) (network : Network) (status : Status) (old new : Shown) → MeansAccepted octets network
+    → EndsStorm network seed cycles status old new → PutsSummarySafely seed cycles status octets old new
+safely seed cycles octets network Done old new m ends = whole_summary seed cycles octets network old new m ends
+safely seed cycles octets network Usage old new m ends = tt
+safely seed cycles octets network FrameRefused old new m ends = tt
+safely seed cycles octets network NetworkRefused old new m ends = tt
+safely seed cycles octets network TraceRefused old new m ends = tt
+safely seed cycles octets network OutsideHypothesis old new m ends = tt
+safely seed cycles octets network ReadFault old new m ends = tt
+safely seed cycles octets network WriteFault old new m ends = tt
+safely seed cycles octets network OutOfMemory old new m ends = tt
+safely seed cycles octets network TooLong old new m ends = tt
+safely seed cycles octets network AuditRefused old new m ends = tt
+
+pub storm_accepted : (seed cycles : ℕ) (left : Option (List ℕ)) (network : Network) (status : Status) (old new : Shown) → cycles ≤ 100000
+    → ForOctets left (λ octets. MeansAccepted octets network) → EndsStorm network seed cycles status old new
+    → AnswersOne (IsNetworkAnswer (IsStormAnswer seed cycles)) left status old new
+storm_accepted seed cycles left network status old new few means ends =
+    for_more left (λ octets. MeansAccepted octets network) (λ octets. GivesOne (IsNetworkAnswer (IsStormAnswer seed cycles) octets) status old new)
+    (λ octets m. accepted_network (IsStormAnswer seed cycles) octets network status old new m
+    (storm_given seed cycles network status old new few m.rules ends)) means
+
+pub storm_refused : (seed cycles : ℕ) → RefusalIsOne → (left : Option (List ℕ)) (cause : NoNetwork) (status : Status) (old new : Shown)
+    → ForOctets left (λ octets. IsNoNetwork octets cause) → Gives (no_network_answer cause) status old new
+    → AnswersOne (IsNetworkAnswer (IsStormAnswer seed cycles)) left status old new
+storm_refused seed cycles one left cause status old new none gives =
+    for_more left (λ octets. IsNoNetwork octets cause) (λ octets. GivesOne (IsNetworkAnswer (IsStormAnswer seed cycles) octets) status old new)
+    (λ octets h. no_network one (IsStormAnswer seed cycles) octets cause status old new h gives) none
+
+pub storm_safely : (seed cycles : ℕ) (left : Option (List ℕ)) (network : Network) (status : Status) (old new : Shown)
+    → ForOctets left (λ octets. MeansAccepted octets network) → EndsStorm network seed cycles status old new
+    → SummarisesSafely seed cycles left status old new
+storm_safely seed cycles left network status old new means ends =
+    for_more left (λ octets. MeansAccepted octets network) (λ octets. PutsSummarySafely seed cycles status octets old new)
+    (λ octets m. safely seed cycles octets network status old new m ends) means

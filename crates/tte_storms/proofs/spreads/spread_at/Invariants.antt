@@ -1,0 +1,17 @@
+use Rattle.std.proofs.Common.{List}
+use Rattle.std.specs.Prelude.{IfSome}
+use Rattle.drift_world.specs.Locals.{IsWide}
+use Rattle.net_plan.specs.declared.event.Event.{Event as EventValue}
+use Rattle.run_law.specs.declared.note.Note.{Note as NoteValue}
+use Rattle.run_law.specs.records.Happenings.{happenings}
+use Rattle.tte_storms.specs.Answer.{exact_scenario}
+use Rattle.tte_storms.specs.Spreads.{AreEnds, IsCompleteExact}
+use Rattle.tte_units.specs.Amount.{amount}
+use Rattle.tte_storms.proofs.spreads.spread_at.Given as goal
+
+abbrev pub invariant-devices : goal.invariant-devices
+invariant-devices l = record {
+  ends : (events : List EventValue) (notes : List NoteValue) → IsCompleteExact l.network l.world (amount l.t) events notes
+      → AreEnds (exact_scenario l.network events) (happenings l.network notes) (amount l.t) l.device l.ends;
+  wide : IfSome l.ends (λ e. IsWide e.least × IsWide e.greatest);
+}

@@ -1,0 +1,11 @@
+use Rattle.std.proofs.Common.{◌≡◌}
+use Rattle.storm_summary.specs.Lines.{lines_of}
+use Rattle.tte_storms.proofs.Summed.{HasPutLines}
+use Rattle.tte_forms.specs.Putting.{shown_by}
+use Rattle.tte_storms.proofs.summing.put_summary.Given as goal
+
+abbrev pub invariant-lines : goal.invariant-lines
+invariant-lines g l = record {
+  puts : HasPutLines (lines_of l.summary) l.number (shown_by g.K.Sink l.fn.out) (shown_by g.K.Sink l.out);
+  quiet : g.K.Sink.faults l.out ≡ g.K.Sink.faults l.fn.out;
+}

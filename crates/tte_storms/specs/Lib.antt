@@ -1,0 +1,5 @@
+pub mod Answer
+pub mod Safely
+pub mod Spreads
+pub mod Counts
+pub mod Steps

@@ -1,0 +1,41 @@
+-- What `storm` writes is the summary of a run that is safe.
+use Rattle.std.specs.Prelude.{ℕ, ◌≤ℤ◌, List, Option}
+use Rattle.drift_clock.specs.Segment.{fresh_segment, stepped_segment, segment_reading}
+use Rattle.net_plan.specs.declared.event.Event.{Event}
+use Rattle.net_plan.specs.declared.network.Network.{Network}
+use Rattle.run_law.specs.declared.note.Note.{Note}
+use Rattle.safe_runs.specs.Headline.{IsWholeRun}
+use Rattle.storm.specs.Events.{IsStorm}
+use Rattle.storm_summary.specs.Counting.{counts_of}
+use Rattle.storm_summary.specs.Lines.{summary_lines}
+use Rattle.tte_forms.specs.Answering.{ForOctets}
+use Rattle.tte_forms.specs.Putting.{PutsLines, Shown}
+use Rattle.tte_forms.specs.declared.status.Status.{Status}
+use Rattle.tte_forms.specs.declared.status.Status.TheVariants.{Done}
+use Rattle.tte_forms.specs.networks.Accepting.{MeansAccepted}
+use Rattle.tte_storms.specs.Answer.{IsWidest}
+use Rattle.tte_units.specs.declared.units.Units.{Units}
+
+-- the lines put are the summary of the run of the accepted network under the storm's events, up to their end; it goes
+-- well up to there, and local clocks are seen at most the precision apart
+pub record PutsSafeSummary (seed cycles : ℕ) (octets : List ℕ) (old new : Shown) : Type 0 where
+  pub network : Network
+  pub accepted : MeansAccepted octets network
+  pub events : List Event
+  pub storm : IsStorm network seed cycles events
+  pub notes : List Note
+  pub run : IsWholeRun fresh_segment stepped_segment segment_reading network events notes
+  pub spread : Units
+  pub widest : IsWidest network events notes spread
+  pub within : spread.0 ≤ℤ network.precision.0
+  pub puts : PutsLines (summary_lines seed cycles (counts_of notes) spread network.precision) old new
+
+-- what was put under the status is the summary of a run that goes well
+abbrev pub PutsSummarySafely : ℕ → ℕ → Status → List ℕ → Shown → Shown → Type 0
+PutsSummarySafely seed cycles Done octets old new = PutsSafeSummary seed cycles octets old new
+PutsSummarySafely seed cycles other octets old new = Unit {0}
+
+-- for the octets of a network file, where this tells them, what was put is so
+abbrev pub SummarisesSafely : ℕ → ℕ → Option (List ℕ) → Status → Shown → Shown → Type 0
+SummarisesSafely seed cycles first status old new =
+    ForOctets first (λ octets. PutsSummarySafely seed cycles status octets old new)

@@ -1,0 +1,72 @@
+ghost use Rattle.std.specs.Prelude.{◌≡◌, ◌≤◌, IfOk};
+ghost use Rattle.net_plan.specs.Ranges.{IsInRange};
+ghost use Rattle.storm_summary.specs.Lines.{lines_of};
+ghost use Rattle.tte_forms.specs.Answering.{Gives};
+ghost use Rattle.tte_forms.specs.Faults.{IsWanted, PutFailed};
+ghost use Rattle.tte_forms.specs.Putting.{Over};
+ghost use Rattle.tte_storms.specs.Steps.{HasStormed, Summarises};
+
+use crate::counting::Seen;
+use crate::steps::Storming;
+use drift_world::OutOfMemory;
+use schedule_tables::Accepted;
+use std::alloc::Global;
+use storm_summary::{LINES, Summary};
+use tte_forms::{Status, end_with};
+use tte_io::{LineText, Sink};
+use tte_units::Units;
+
+/// The summary of the run of a network under the storm of the seed over 1 to 100,000 cycles.
+///
+/// The error is that memory ran out.
+pub(crate) fn summary_of(
+    alloc: Global,
+    accepted: &Accepted,
+    seed: u64,
+    cycles: u32,
+) -> Result<Summary, OutOfMemory>
+    requires least { 1 ≤ cycles }
+    requires most { cycles ≤ 100000 }
+    ensures { IfOk result (Summarises accepted.now seed cycles) }
+{
+    match Storming::begin(alloc, accepted, seed, cycles) {
+        Ok(mut storming) => match storming.finish() {
+            Ok(()) => Ok(told(accepted, seed, cycles, storming.seen())),
+            Err(error) => Err(error),
+        },
+        Err(error) => Err(error),
+    }
+}
+
+/// The summary of what was seen of the whole run. The spread is at most the precision.
+fn told(accepted: &Accepted, seed: u64, cycles: u32, seen: &Seen) -> Summary
+    requires stormed { HasStormed accepted.now seed cycles seen.now }
+    requires most { cycles ≤ 100000 }
+    ensures { Summarises accepted.now seed cycles result }
+{
+    let precision = accepted.network().precision;
+    Summary {
+        seed,
+        cycles,
+        counts: seen.tally.counts(),
+        spread: Units(seen.spread as i64),
+        precision,
+    }
+}
+
+/// Puts the lines of a summary, and passes them on.
+pub(crate) fn put_summary<K: Sink>(summary: &Summary, out: &mut K) -> Status
+    ensures gives { Over K.Sink out.old out.new
+        (Gives (record { status = Status.Done; lines = lines_of summary.now }) result) }
+    ensures status { IsWanted Status.Done result (PutFailed K.Sink out.old out.new) }
+{
+    let mut line = LineText::new();
+    'lines: for number in 0..LINES {
+        summary.make_line(&mut line, number);
+        match out.put(line.as_slice()) {
+            Ok(()) => (),
+            Err(_) => return Status::WriteFault,
+        }
+    }
+    end_with(Status::Done, out)
+}

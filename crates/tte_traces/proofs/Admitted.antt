@@ -1,0 +1,141 @@
+-- The events admitted from the octets of a trace.
+use Rattle.std.proofs.Common.{◌≡◌, ℕ, ◌≤◌, List, [], ◌∷◌, ◌++◌, length, ℤ, pos, negsuc, ◌≤ℤ◌, ◌<ℤ◌, unsigned_abs, refl, sym, ap, subst, ◌∙◌, arith, append_assoc, length-append}
+use Rattle.std.proofs.lemmas.Int.{ints}
+use Rattle.std.proofs.lemmas.List.{append-nil}
+use Rattle.std.proofs.lemmas.List.Quantifiers.{Any-push}
+use Rattle.drift_world.specs.Running.{last_time}
+use Rattle.net_plan.specs.declared.event.Event.{Event}
+use Rattle.net_plan.specs.declared.event.What.TheVariants.{End}
+use Rattle.net_plan.specs.declared.network.Network.{Network}
+use Rattle.run_law.specs.scenario.Hypothesis.{IsWithinHypothesis}
+use Rattle.run_law.specs.runs.DueRecords.{EndsAt}
+use Rattle.run_law.specs.declared.outside.Outside.TheVariants.{Order}
+use Rattle.trace_text.specs.EventReading.{event_read}
+use Rattle.tte_io.specs.Line.{first_line}
+use Rattle.exact_runs.specs.Records.{HaveEnded}
+use Rattle.tte_traces.specs.Lines.{AreAdmitted, IsAdmitted, behind_lines}
+use Rattle.tte_units.specs.Amount.{amount}
+use Rattle.tte_units.specs.declared.units.Units.{Units}
+use Rattle.trace_text.proofs.ReadTimes.{event_time}
+use Rattle.tte_traces.proofs.EventOrder.{AreInOrder, IsInOrder}
+use Rattle.tte_traces.proofs.Faults.{one_event}
+use Rattle.exact_runs.proofs.Events.{parted, last_is}
+
+-- ---- no events
+
+no_part : {X : Type 0} (ps qs : List X) (x : X) → [] ≡ ps ++ x ∷ qs → ⊥
+no_part [] qs x e = cc
+no_part (p ∷ ps) qs x e = cc
+
+pub admitted_none : (network : Network) (octets : List ℕ) → AreAdmitted network octets []
+admitted_none network octets before behind event e = absurd (no_part before behind event e)
+
+-- the first of them are admitted
+pub front_admitted : (network : Network) (octets : List ℕ) (events : List Event) (event : Event) (others : List Event)
+    → AreAdmitted network octets (events ++ event ∷ others) → AreAdmitted network octets (events ++ event ∷ [])
+front_admitted network octets events event others all before behind e is =
+    all before (behind ++ others) e
+    (sym (append_assoc events (event ∷ []) others) ∙ ap (λ (l : List Event). l ++ others) is ∙ append_assoc before (e ∷ behind) others)
+
+-- ---- their order
+
+pub not_less : (a b : ℤ) → (b <ℤ a → ⊥) → a ≤ℤ b
+not_less a b not = grind (arith, ints)
+
+pub sizes : (a b : ℤ) → pos 0 ≤ℤ a → a ≤ℤ b → unsigned_abs a ≤ unsigned_abs b
+sizes (pos m) (pos n) begun le = omega (arith, ints)
+sizes (negsuc m) b begun le = absurd (omega (arith, ints))
+sizes (pos m) (negsuc n) begun le = absurd (omega (arith, ints))
+
+-- an event within the hypothesis is no earlier than the last before it
+no_earlier : (network : Network) (front : List Event) (last event : Event) → IsWithinHypothesis network (front ++ last ∷ []) event → last.time.0 ≤ℤ event.time.0
+no_earlier network front last event within =
+    not_less last.time.0 event.time.0 (λ less. within Order (record { front = front; last = last; order = refl; later = less }))
+
+admitted_begun : (network : Network) (before : List Event) (rest : List ℕ) (event : Event) → IsAdmitted network before rest event → pos 0 ≤ℤ event.time.0
+admitted_begun network before rest event a = let time = event_time network (first_line rest) event a.has.read in time.least
+
+in_order_from : (network : Network) (octets : List ℕ) (front events : List Event) (last : Event) → pos 0 ≤ℤ last.time.0
+    → AreAdmitted network octets ((front ++ last ∷ []) ++ events) → IsInOrder (amount last.time) events
+in_order_from network octets front [] last begun all = tt
+in_order_from network octets front (e ∷ es) last begun all =
+    let a = all (front ++ last ∷ []) es e refl in
+    let next = admitted_begun network (front ++ last ∷ []) (behind_lines (length (front ++ last ∷ [])) octets) e a in
+    let joined = sym (append_assoc (front ++ last ∷ []) (e ∷ []) es) in (
+      next,
+      sizes last.time.0 e.time.0 begun (no_earlier network front last e a.within),
+      in_order_from network octets (front ++ last ∷ []) es e next
+          (subst (AreAdmitted network octets) joined all),
+    )
+
+in_order : (network : Network) (octets : List ℕ) (events : List Event) → AreAdmitted network octets events → IsInOrder 0 events
+in_order network octets [] all = tt
+in_order network octets (e ∷ es) all =
+    let begun = admitted_begun network [] octets e (all [] es e refl) in
+    (begun, omega arith, in_order_from network octets [] es e begun all)
+
+-- ---- their end
+
+-- no event is admitted behind the end
+end_is_last : (network : Network) (octets : List ℕ) (front behind : List Event) (end : Event) → end.what ≡ End
+    → AreAdmitted network octets (front ++ end ∷ behind) → end.time ≡ last_time (front ++ end ∷ behind)
+end_is_last network octets front [] end is all = sym (last_is front end)
+end_is_last network octets front (e ∷ es) end is all =
+    let a = all (front ++ end ∷ []) es e (sym (append_assoc front (end ∷ []) (e ∷ es))) in
+    absurd (a.has.is_open.unended (Any-push (λ (d : Event). d.what ≡ End) front end is))
+
+-- admitted events are in order, and only the last is the end
+pub admitted_in_order : (network : Network) (octets : List ℕ) (events : List Event) → AreAdmitted network octets events → AreInOrder events
+admitted_in_order network octets events all = record {
+  order = in_order network octets events all;
+  last = λ time ends.
+      let end : Event = record { time = time; what = End } in
+      let p = parted events end ends in
+      end_is_last network octets p.0 p.1 end refl (subst (AreAdmitted network octets) p.2 all) ∙ ap last_time (sym p.2);
+}
+
+-- events that end have an end
+pub have_ended : (events : List Event) (time : Units) → EndsAt events time → HaveEnded events
+have_ended events time (k, lt, at) = (k, record { time = time; what = End }, lt, at, refl)
+
+-- ---- events admitted from the same octets
+
+-- no event is admitted behind these
+abbrev pub IsStopped : Network → List ℕ → List Event → Type 0
+IsStopped network octets events = (event : Event) → IsAdmitted network events (behind_lines (length events) octets) event → ⊥
+
+one_more : {X : Type 0} (x y : X) (xs ys : List X) → x ≡ y → xs ≡ ys → x ∷ xs ≡ y ∷ ys
+one_more x y xs ys e f = cc
+
+front_from : (network : Network) (octets : List ℕ) (before es fs : List Event) → AreAdmitted network octets (before ++ es)
+    → AreAdmitted network octets (before ++ fs) → IsStopped network octets (before ++ fs)
+    → (more : List Event) × (fs ≡ es ++ more)
+front_from network octets before [] fs a b stop = (fs, refl)
+front_from network octets before (e ∷ es) [] a b stop = absurd (subst (IsStopped network octets) (append-nil before) stop e (a before es e refl))
+front_from network octets before (e ∷ es) (f ∷ fs) a b stop =
+    let same : f ≡ e =
+    one_event (event_read network (first_line (behind_lines (length before) octets))) f e (b before fs f refl).has.read (a before es e refl).has.read in
+    let joined : before ++ f ∷ fs ≡ (before ++ e ∷ []) ++ fs = ap (λ (t : Event). before ++ t ∷ fs) same ∙ sym (append_assoc before (e ∷ []) fs) in
+    let left = subst (AreAdmitted network octets) (sym (append_assoc before (e ∷ []) es)) a in
+    let right = subst (AreAdmitted network octets) joined b in
+    let r = front_from network octets (before ++ e ∷ []) es fs left right (subst (IsStopped network octets) joined stop) in
+    (r.0, one_more f e fs (es ++ r.0) same r.1)
+
+-- the events admitted so far are the first of all those that are
+pub admitted_one : (network : Network) (octets : List ℕ) (events all : List Event) → AreAdmitted network octets events → AreAdmitted network octets all
+    → IsStopped network octets all
+    → (more : List Event) × (all ≡ events ++ more)
+admitted_one network octets events all a b stop = front_from network octets [] events all a b stop
+
+fronts : {X : Type 0} (xs ys more rest : List X) → ys ≡ xs ++ more → xs ≡ ys ++ rest → xs ≡ ys
+fronts xs ys [] rest a b = sym (a ∙ append-nil xs)
+fronts xs ys (m ∷ more) rest a b = absurd (omega (arith, ap length a, length-append xs (m ∷ more), ap length b, length-append ys rest))
+
+-- where none is admitted behind either, they are the same
+pub stopped_one : (network : Network) (octets : List ℕ) (events others : List Event) → AreAdmitted network octets events → IsStopped network octets events
+    → AreAdmitted network octets others → IsStopped network octets others
+    → events ≡ others
+stopped_one network octets events others a stop b halt =
+    let more = admitted_one network octets events others a b halt in
+    let rest = admitted_one network octets others events b a stop in
+    fronts events others more.0 rest.0 more.1 rest.1

@@ -1,0 +1,263 @@
+-- One more event of a trace that is taken line by line.
+use Rattle.std.proofs.Common.{◌≡◌, ◌≢◌, ◌⊎◌, ◌↔◌, ℕ, ◌+◌, ◌^◌, ◌<◌, ◌≤◌, suc, Bool, true, false, List, [], ◌∷◌, ◌++◌, length, Option, Some, None, Result, Ok, Err, inl, inr, refl, sym, ap, subst, ◌∙◌, arith, length-append, append-nil}
+use Rattle.std.specs.Prelude.{IfErr, IfOk, IfSome, ◌==◌, if◌then◌else◌}
+use denote.Bor.{Bor}
+use Rattle.fault_hypothesis.proofs.Befalling.{any_last, any_none, any_parts, stands_where}
+use Rattle.fault_hypothesis.specs.Watching.{Watches}
+use Rattle.fault_hypothesis.specs.declared.watch.Watch.{Watch}
+use Rattle.net_plan.specs.declared.event.Event.{Event}
+use Rattle.net_plan.specs.declared.event.What.TheVariants.{End}
+use Rattle.net_plan.specs.declared.network.Network.{Network}
+use Rattle.schedule_tables.specs.declared.accepted.Accepted.{Accepted}
+use Rattle.trace_text.specs.EventReading.{event_read}
+use Rattle.net_plan.specs.Belonging.{IsOfNetwork}
+use Rattle.trace_text.specs.Ranges.{IsEventInRange}
+use Rattle.trace_text.specs.Steps.{Read}
+use Rattle.tte_io.proofs.FirstLine.{first_line-append, behind_line-append, first_line-too_long}
+use Rattle.tte_io.specs.Line.{lf, line_limit, ahead_limit, IsUnbroken, first_line, behind_line}
+use Rattle.tte_io.specs.NextLine.{NextLine}
+use Rattle.tte_io.specs.Outcome.{Outcome, TellsOutcome}
+use Rattle.tte_io.specs.ReaderState.{LineReaderState, pending}
+use Rattle.tte_io.specs.declared.lines.LineTaken.{LineTaken}
+use Rattle.tte_io.specs.declared.lines.LineTaken.TheVariants as found
+use Rattle.tte_traces.specs.Following.{Follows, GoesOn, IsFound, IsRefused, Judges, JudgesSo, Reads, ReadsOn, TakesFew}
+use Rattle.exact_runs.specs.Records.{HaveEnded}
+use Rattle.tte_traces.specs.Lines.{AreAdmitted, IsAdmitted, IsFault, behind_lines}
+use Rattle.tte_traces.specs.declared.fault.TraceFault.{TraceFault}
+use Rattle.tte_traces.specs.declared.fault.TraceStop.{TraceStop}
+use Rattle.tte_traces.specs.declared.fault.TraceStop.TheVariants as stops
+use Rattle.tte_traces.specs.declared.lines.Trace.{Trace}
+
+-- a trace without events has not ended
+pub none_ended : HaveEnded [] → ⊥
+none_ended ended = any_none (λ (e : Event). e.what ≡ End) ended
+
+-- so many lines and one more
+pub behind_one : (n m : ℕ) (octets : List ℕ) → m ≡ n + 1 → behind_lines m octets ≡ behind_line (behind_lines n octets)
+behind_one n m octets e = let s : m ≡ suc n = omega (arith, e) in ap (λ (k : ℕ). behind_lines k octets) s
+
+pub behind_more : (events : List Event) (event : Event) (octets : List ℕ)
+    → behind_lines (length (events ++ event ∷ [])) octets ≡ behind_line (behind_lines (length events) octets)
+behind_more events event octets = behind_one (length events) (length (events ++ event ∷ [])) octets (length-append events (event ∷ []))
+
+-- one more event is admitted
+pub more_admitted : (network : Network) (octets : List ℕ) (events : List Event) (event : Event) → AreAdmitted network octets events
+    → IsAdmitted network events (behind_lines (length events) octets) event → AreAdmitted network octets (events ++ event ∷ [])
+more_admitted network octets events event all here before behind e order =
+    elim (stands_where events event before e behind order) [
+      | inl s ↦ all before s.rest e s.whole
+      | inr s ↦ rw (s.before_is, s.same) here
+    ]
+
+-- one more event behind those that have no end
+pub more_ended : (events : List Event) (event : Event) → (HaveEnded events → ⊥) → (event.what ≡ End) ↔ HaveEnded (events ++ event ∷ [])
+more_ended events event unended = (
+  λ e. any_last (λ (x : Event). x.what ≡ End) events event e,
+  λ h. elim (any_parts (λ (x : Event). x.what ≡ End) events event h) [ inl a ↦ absurd (unended a) | inr e ↦ e ],
+)
+
+-- the event of a line, over one network and one text
+pub event_as : (network at : Network) (line shown : List ℕ) (text : Option (List ℕ)) (read : Read Event) → read ≡ event_read at shown → at ≡ network
+    → text ≡ Some shown → text ≡ Some line → event_read network line ≡ read
+event_as network at line shown text read is over is_shown is_line = cc
+
+-- a trace follows the events and one more
+pub more_followed : (network : Network) (events : List Event) (event : Event) (before after : Trace) → Follows network events before
+    → length events + 1 < 2 ^ 32 → after.accepted.now ≡ before.accepted.now → Watches network after.watch (events ++ event ∷ [])
+    → after.lines ≡ before.lines + 1 → (HaveEnded events → ⊥) → (after.ended ≡ true) ↔ (event.what ≡ End) → Follows network (events ++ event ∷ []) after
+more_followed network events event before after f number over watch lines unended ends =
+    let more = more_ended events event unended in
+    record {
+      over = over ∙ f.over;
+      watch = watch;
+      lines = omega (arith, lines, f.lines, length-append events (event ∷ []));
+      number = omega (arith, number, length-append events (event ∷ []));
+      ended = (λ t. more.0 (ends.0 t), λ h. ends.1 (more.1 h));
+    }
+
+-- a trace without events
+pub none_followed : (accepted : Bor Accepted) (watch : Watch) (reader : LineReaderState) → Watches accepted.now watch []
+    → Follows accepted.now [] (record { accepted = accepted; watch = watch; reader = reader; lines = 0; ended = false })
+none_followed accepted watch reader watches = record {
+  over = refl;
+  watch = watches;
+  lines = refl;
+  number = omega arith;
+  ended = (λ t. absurd cc, λ h. absurd (none_ended h));
+}
+
+-- octets behind a long line
+pub long_some : (rest : List ℕ) → line_limit < length (first_line rest) → rest ≢ []
+long_some rest long none = omega (arith, long, ap (λ (t : List ℕ). length (first_line t)) none)
+
+-- the reader is no part of what a trace knows of its events
+pub followed_with : (network : Network) (events : List Event) (trace : Trace) (reader : LineReaderState) → Follows network events trace
+    → Follows network events (record trace { reader = reader })
+followed_with network events trace reader f = record { over = f.over; watch = f.watch; lines = f.lines; number = f.number; ended = f.ended }
+
+-- what comes of told octets
+told_outcome : (before left : List ℕ) (after : LineReaderState) (left_before left_after : Option (List ℕ)) (result : Result LineTaken TraceStop)
+    → left_before ≡ Some left → TellsOutcome before left_before after left_after result
+    → (rest : List ℕ) × (left_after ≡ Some rest) × Outcome (before ++ left) result after (pending after ++ rest)
+told_outcome before left after None left_after result told o = absurd cc
+told_outcome before left after (Some l) None result told o = absurd o
+told_outcome before left after (Some l) (Some rest) result told o =
+    let same : l ≡ left = cc in
+    (rest, refl, subst (λ (t : List ℕ). Outcome (before ++ t) result after (pending after ++ rest)) same o)
+
+-- what is found in told octets
+found_of : (octets : List ℕ) (t : LineTaken) (after : LineReaderState) (rest : List ℕ) → Outcome {E = TraceStop} octets (Ok t) after rest
+    → IsFound octets t after
+found_of octets found.Whole after rest o = (o.0, o.1, o.2)
+found_of octets found.Long after rest o = o.0
+found_of octets found.End after rest o = o.0
+
+-- something is found in some octets, also where they are not told
+pub some_found : (before : List ℕ) (left : Option (List ℕ)) (after : LineReaderState) (left_after : Option (List ℕ)) (t : LineTaken)
+    → NextLine {E = TraceStop} before left after left_after (Ok t) → (rest : List ℕ) × IsFound rest t after
+some_found before left after left_after found.Whole n =
+    let text = n.answer.text in
+    let first : first_line (text ++ lf ∷ []) ≡ text = first_line-append text (lf ∷ []) n.answer.line.unbroken ∙ append-nil text in (
+      text ++ lf ∷ [],
+      (
+        λ none. omega (arith, ap length none, length-append text (lf ∷ [])),
+        omega (arith, ap length first, n.answer.line.within),
+        ap
+            (λ (r : LineReaderState). r.text) n.answer.reader ∙ ap (λ (l : List ℕ). Some l) (sym first),
+      ),
+    )
+some_found before left after left_after found.Long n = (pending after ++ [], first_line-too_long (pending after) [] n.answer.line)
+some_found before left after left_after found.End n = ([], refl)
+
+-- how a trace goes on, by how the events go on with what was found
+pub goes_on : (network : Network) (events : List Event) (rest : List ℕ) (event : Option Event) (trace : Trace) → Judges network events rest (Ok event) trace
+    → IfSome event (λ e. IsOfNetwork network e.what) → IfSome event IsEventInRange → GoesOn network events (Ok event) trace
+goes_on network events rest None trace j of_network range = (j.1, j.2)
+goes_on network events rest (Some event) trace j of_network range = record {
+  unended = j.0.has.is_open.unended;
+  of_network = of_network;
+  range = range;
+  within = j.0.within;
+  follows = j.1;
+}
+
+-- the same where the octets are told
+on_told : (network : Network) (octets : List ℕ) (events : List Event) (left : List ℕ) (old new : Trace) (reader : LineReaderState) (rest : List ℕ)
+    (t : LineTaken) (event : Option Event) → Reads network octets events old left
+    → Outcome {E = TraceStop} (pending old.reader ++ left) (Ok t) reader (pending reader ++ rest)
+    → Judges network events (pending old.reader ++ left) (Ok event) new → new.reader ≡ reader → ReadsOn network octets events (Ok event) new rest
+on_told network octets events left old new reader rest t None r o j same = (r.coming ∙ j.0, j.1)
+on_told network octets events left old new reader rest found.Whole (Some event) r o j same = record {
+  follows = j.1;
+  admitted = more_admitted network octets events event r.admitted (subst (λ (coming : List ℕ). IsAdmitted network events coming event) (sym r.coming) j.0);
+  coming = behind_more events event octets ∙ ap behind_line r.coming ∙ sym o.3 ∙ ap (λ (s : LineReaderState). pending s ++ rest) (sym same);
+}
+on_told network octets events left old new reader rest found.Long (Some event) r o j same = absurd (omega (arith, o.0, j.0.has.short))
+on_told network octets events left old new reader rest found.End (Some event) r o j same = absurd (j.0.has.is_open.some o.0)
+
+pub reads_on : (network : Network) (octets : List ℕ) (events : List Event) (left : List ℕ) (old new : Trace) (reader : LineReaderState)
+    (left_before left_after : Option (List ℕ)) (t : LineTaken) (event : Option Event) → left_before ≡ Some left → Reads network octets events old left
+    → TellsOutcome {E = TraceStop} (pending old.reader) left_before reader left_after (Ok t)
+    → ((rest : List ℕ) → IsFound rest t reader → Judges network events rest (Ok event) new) → new.reader ≡ reader
+    → (rest : List ℕ) × (left_after ≡ Some rest) × ReadsOn network octets events (Ok event) new rest
+reads_on network octets events left old new reader left_before left_after t event told r outcome judged same =
+    let o = told_outcome (pending old.reader) left reader left_before left_after (Ok t) told outcome in (
+      o.0,
+      o.1,
+      on_told network octets events left old new reader o.0 t event r o.2
+          (judged (pending old.reader ++ left) (found_of (pending old.reader ++ left) t reader (pending reader ++ o.0) o.2)) same,
+    )
+
+pub reads_fault : (network : Network) (octets : List ℕ) (events : List Event) (left : List ℕ) (old new : Trace) (reader : LineReaderState)
+    (left_before left_after : Option (List ℕ)) (t : LineTaken) (fault : TraceFault) → left_before ≡ Some left → Reads network octets events old left
+    → TellsOutcome {E = TraceStop} (pending old.reader) left_before reader left_after (Ok t)
+    → ((rest : List ℕ) → IsFound rest t reader → Judges network events rest (Err fault) new)
+    → (rest : List ℕ) × (left_after ≡ Some rest) × IsFault network events (behind_lines (length events) octets) fault
+reads_fault network octets events left old new reader left_before left_after t fault told r outcome judged =
+    let o = told_outcome (pending old.reader) left reader left_before left_after (Ok t) told outcome in
+    let j = judged (pending old.reader ++ left) (found_of (pending old.reader ++ left) t reader (pending reader ++ o.0) o.2) in
+    (o.0, o.1, subst (λ (coming : List ℕ). IsFault network events coming fault) (sym r.coming) j.0)
+
+-- how a trace goes on, by how it was judged
+pub goes_so : (network : Network) (events : List Event) (rest : List ℕ) (result : Result (Option Event) TraceStop) (trace : Trace)
+    → JudgesSo network events rest result trace → IfOk result (λ event. IfSome event (λ e. IsOfNetwork network e.what))
+    → IfOk result (λ event. IfSome event IsEventInRange) → GoesOn network events result trace
+goes_so network events rest (Ok event) trace j of_network range = goes_on network events rest event trace j of_network range
+goes_so network events rest (Err (stops.Fault fault)) trace j of_network range = j.1
+goes_so network events rest (Err stops.ReadFault) trace j of_network range = absurd j
+goes_so network events rest (Err stops.WriteFault) trace j of_network range = absurd j
+
+-- the same where the octets are told
+pub reads_so : (network : Network) (octets : List ℕ) (events : List Event) (left : List ℕ) (old new : Trace) (reader : LineReaderState)
+    (left_before left_after : Option (List ℕ)) (t : LineTaken) (result : Result (Option Event) TraceStop) → left_before ≡ Some left
+    → Reads network octets events old left → TellsOutcome {E = TraceStop} (pending old.reader) left_before reader left_after (Ok t)
+    → ((rest : List ℕ) → IsFound rest t reader → JudgesSo network events rest result new) → new.reader ≡ reader → IfErr result IsRefused
+    → (rest : List ℕ) × (left_after ≡ Some rest) × ReadsOn network octets events result new rest
+reads_so network octets events left old new reader left_before left_after t (Ok event) told r outcome judged same refused =
+    reads_on network octets events left old new reader left_before left_after t event told r outcome judged same
+reads_so network octets events left old new reader left_before left_after t (Err (stops.Fault fault)) told r outcome judged same refused =
+    reads_fault network octets events left old new reader left_before left_after t fault told r outcome judged
+reads_so network octets events left old new reader left_before left_after t (Err stops.ReadFault) told r outcome judged same refused =
+    let is : stops.ReadFault ≡ stops.Fault refused.0 = refused.1 in absurd cc
+reads_so network octets events left old new reader left_before left_after t (Err stops.WriteFault) told r outcome judged same refused =
+    let is : stops.WriteFault ≡ stops.Fault refused.0 = refused.1 in absurd cc
+
+-- a failed read leaves the trace where it stands, and so does failing to pass on before one
+pub reads_same : (network : Network) (octets : List ℕ) (events : List Event) (left : List ℕ) (old : Trace) (reader : LineReaderState)
+    (left_before left_after : Option (List ℕ)) (stop : TraceStop) → left_before ≡ Some left → Reads network octets events old left
+    → (stop ≡ stops.ReadFault) ⊎ (stop ≡ stops.WriteFault)
+    → NextLine {E = TraceStop} (pending old.reader) left_before reader left_after (Err stop)
+    → TellsOutcome {E = TraceStop} (pending old.reader) left_before reader left_after (Err stop)
+    → (rest : List ℕ) × (left_after ≡ Some rest) × ReadsOn network octets events (Err stop) (record old { reader = reader }) rest
+reads_same network octets events left old reader left_before left_after stop told r which n outcome =
+    let o = told_outcome (pending old.reader) left reader left_before left_after (Err stop) told outcome in
+    let unread : reader.ahead ≡ [] = ap (λ (s : LineReaderState). s.ahead) n.answer.reader in
+    let line : pending reader ≡ reader.kept = ap (λ (a : List ℕ). reader.kept ++ a) unread ∙ append-nil reader.kept in
+    let next = record old { reader = reader } in
+    let reads : Reads network octets events next o.0 =
+    record { follows = followed_with network events old reader r.follows; admitted = r.admitted; coming = r.coming ∙ sym o.2 } in
+    let P : TraceStop → Type 0 = λ s. ReadsOn network octets events (Err s) next o.0 in
+    let same : P stops.ReadFault = (reads, subst IsUnbroken (sym line) n.answer.line.unbroken) in
+    (o.0, o.1, elim which [ inl e ↦ subst P (sym e) same | inr e ↦ subst P (sym e) same ])
+
+-- the octets of the first line and those behind it
+line_length : (octets : List ℕ) → length (first_line octets) + length (behind_line octets) ≤ length octets
+line_length [] = omega arith
+line_length (x ∷ xs) =
+    elim (x == lf) as (λ (b : Bool). length (if b then [] else x ∷ first_line xs) + length (if b then xs else behind_line xs) ≤ length (x ∷ xs)) [
+      | true ↦ omega arith
+      | false ↦ omega (arith, line_length xs)
+    ]
+
+-- little more than the next line was taken
+few_told : (coming : List ℕ) (after : LineReaderState) (left : Option (List ℕ)) (rest before : List ℕ) (result : Result LineTaken TraceStop)
+    → NextLine before left after (Some rest) result → Outcome coming result after (pending after ++ rest) → length after.kept ≤ line_limit
+    → length after.ahead ≤ ahead_limit → length (behind_line coming) ≤ length rest + ahead_limit
+few_told coming after left rest before (Ok found.Whole) n o kept ahead =
+    let unkept : after.kept ≡ [] = ap (λ (r : LineReaderState). r.kept) n.answer.reader in
+    omega (arith, ap length o.3, ap length unkept, length-append (pending after) rest, length-append after.kept after.ahead, ahead)
+few_told coming after left rest before (Ok found.End) n o kept ahead = omega (arith, ap (λ (t : List ℕ). length (behind_line t)) o.0)
+few_told coming after left rest before (Ok found.Long) n o kept ahead =
+    omega (arith, o.0, ap length o.1, line_length coming, length-append (pending after) rest, length-append after.kept after.ahead, kept, ahead)
+few_told coming after left rest before (Err e) n o kept ahead =
+    let unread : after.ahead ≡ [] = ap (λ (r : LineReaderState). r.ahead) n.answer.reader in
+    let line : pending after ≡ after.kept = ap (λ (a : List ℕ). after.kept ++ a) unread ∙ append-nil after.kept in
+    let behind : behind_line coming ≡ behind_line rest =
+    ap behind_line (sym o ∙ ap (λ (p : List ℕ). p ++ rest) line) ∙ behind_line-append after.kept rest n.answer.line.unbroken in
+    omega (arith, ap length behind, line_length rest)
+
+pub takes_few : (octets : List ℕ) (lines : ℕ) (before left : List ℕ) (after : LineReaderState) (left_before left_after : Option (List ℕ))
+    (result : Result LineTaken TraceStop) → left_before ≡ Some left → behind_lines lines octets ≡ before ++ left
+    → NextLine before left_before after left_after result → TellsOutcome before left_before after left_after result → length after.kept ≤ line_limit
+    → length after.ahead ≤ ahead_limit → IfSome left_after (TakesFew octets lines)
+takes_few octets lines before left after left_before None result told coming n o kept ahead = tt
+takes_few octets lines before left after left_before (Some rest) result told coming n outcome kept ahead =
+    let o = told_outcome before left after left_before (Some rest) result told outcome in
+    let same : o.0 ≡ rest = let e = o.1 in cc in
+    let behind : behind_lines (lines + 1) octets ≡ behind_line (before ++ left) = behind_one lines (lines + 1) octets refl ∙ ap behind_line coming in
+    omega (
+      arith,
+      ap length behind,
+      few_told (before ++ left) after left_before rest before result n
+          (subst (λ (t : List ℕ). Outcome (before ++ left) result after (pending after ++ t)) same o.2) kept ahead,
+    )

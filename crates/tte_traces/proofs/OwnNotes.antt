@@ -1,0 +1,208 @@
+-- The devices, links and virtual links of a record of a run are the network's.
+use Rattle.std.proofs.Common.{◌≡◌, ℕ, ◌<◌, Bool, true, false, List, [], ◌∷◌, ◌++◌, length, Option, Some, None, option_map, append_assoc, inl, inr, refl, sym, ap, subst, ◌∙◌}
+use Rattle.std.proofs.lemmas.Bool.{cases_lt, eq-eqb}
+use Rattle.std.proofs.lemmas.Option.{slice_get_within}
+use Rattle.std.specs.Option.{IsSomeAnd, option_map_or}
+use Rattle.fault_hypothesis.specs.Watching.{AreOfNetwork as AreEventsOf}
+use Rattle.net_plan.specs.Belonging.{IsOfNetwork}
+use Rattle.net_plan.specs.Places.{device_at, link_at}
+use Rattle.net_plan.specs.Ranges.{IsInRange, IsLinkInRange}
+use Rattle.net_plan.specs.declared.event.What.{What}
+use Rattle.net_plan.specs.declared.ids.DeviceId.{DeviceId}
+use Rattle.net_plan.specs.declared.ids.LinkId.{LinkId}
+use Rattle.net_plan.specs.declared.ids.VlId.{VlId}
+use Rattle.net_plan.specs.declared.network.Network.{Network}
+use Rattle.net_plan.specs.declared.tables.Device.{Device}
+use Rattle.net_plan.specs.declared.tables.Link.{Link}
+use Rattle.net_plan.specs.declared.tables.Role.{Role}
+use Rattle.net_plan.specs.declared.tables.Way.TheVariants.{Up, Down}
+use Rattle.net_plan.specs.declared.tables.Way.{Way}
+use Rattle.report_text.specs.Ranges.{HasPassage, HasStream, IsBodyOf, IsNoteOf}
+use Rattle.run_law.proofs.law.FirstPlaces.{numbered_in}
+use Rattle.run_law.proofs.runs.NetworkRuns.{one_more}
+use Rattle.run_law.proofs.runs.Places.{in_left, in_right, parted}
+use Rattle.run_law.specs.control.Leaving.{Departs, Departure, Gives}
+use Rattle.run_law.specs.control.Wires.{Arrives, Signal}
+use Rattle.run_law.specs.declared.note.Note.{Note}
+use Rattle.run_law.specs.declared.note.NoteBody.TheVariants as kinds
+use Rattle.run_law.specs.declared.note.NoteBody.{NoteBody}
+use Rattle.run_law.specs.records.Happenings.{Happening, happening, happenings, time_of}
+use Rattle.run_law.specs.records.Order.{IsIn}
+use Rattle.run_law.specs.records.Ranks.{place_of}
+use Rattle.run_law.specs.runs.DueRecords.{IsArrivedRecord, IsCaused, IsDue, IsScenarioRun}
+use Rattle.run_law.specs.runs.Runs.{IsFounded}
+use Rattle.run_law.specs.scenario.Devices.{has_role}
+use Rattle.run_law.specs.scenario.Scenarios.{Scenario}
+use Rattle.run_law.specs.timed.Dispatching.{Dispatches}
+use Rattle.run_law.specs.timed.Receptions.{ArrivesAs}
+use Rattle.schedule_tables.proofs.EntryLemmas.{all_at}
+use Rattle.schedule_tables.specs.Entries.{IsEntry, source_by, source_of}
+use Rattle.schedule_tables.specs.declared.entry.Entry.{Entry}
+use Rattle.tte_units.specs.Amount.{amount}
+use Rattle.tte_units.specs.declared.units.Units.{Units}
+use Rattle.drift_world.proofs.Launches.{gives_in}
+use Rattle.world_steps.proofs.hearing.Receptions.{in_all, receiver_in}
+use Rattle.world_law.proofs.rows.Entered.{delivered_of, taken_at}
+use Rattle.world_law.specs.device.Own.{moves}
+use Rattle.world_law.specs.world.World.{AreOfNetwork}
+
+-- ---- links and devices
+
+link_in : (network : Network) (link : LinkId) (P : Link → Type 0) → IsSomeAnd (link_at network link) P → link.0 < length network.link
+link_in network link P some = by (link_at network link) refl some
+  where
+    by : (o : Option Link) → link_at network link ≡ o → IsSomeAnd o P → link.0 < length network.link
+    by None is some = absurd some
+    by (Some l) is some = slice_get_within network.link link.0 l is
+
+received_link : (network : Network) (way : Way) (link : LinkId) (device : DeviceId) (f : Link → DeviceId) → option_map f (link_at network link) ≡ Some device
+    → link.0 < length network.link
+received_link network way link device f e = by (link_at network link) refl e
+  where
+    by : (o : Option Link) → link_at network link ≡ o → option_map f o ≡ Some device → link.0 < length network.link
+    by None is e = absurd cc
+    by (Some l) is e = slice_get_within network.link link.0 l is
+
+-- a device in a role is the network's
+role_in : (network : Network) (kind : Role → Bool) (device : DeviceId) → has_role network kind device ≡ true → device.0 < length network.device
+role_in network kind device has = by (device_at network device) refl has
+  where
+    by : (o : Option Device) → device_at network device ≡ o → option_map_or (λ d. kind d.role) o false ≡ true → device.0 < length network.device
+    by None is has = absurd cc
+    by (Some d) is has = slice_get_within network.device device.0 d is
+
+-- where something arrives
+arrives_at : (s : Scenario) (h : Happening) (device : DeviceId) (link : LinkId) (t : ℕ) (signal : Signal) → IsInRange s.network
+    → Arrives s h device link t signal → HasPassage s.network device link
+arrives_at s h device link t signal range a =
+    (receiver_in s.network a.way link (link_at s.network link) device refl range a.receiver, received_link s.network a.way link device _ a.receiver)
+
+arrived_at : (s : Scenario) (hs : List Happening) (device : DeviceId) (t : ℕ) (link : LinkId) (cause clock : ℕ) → IsInRange s.network
+    → IsArrivedRecord s hs device t link cause clock → HasPassage s.network device link
+arrived_at s hs device t link cause clock range c = elim c.taken [
+  | inl w ↦ arrives_at s w.putting device link t w.signal range w.arrives
+  | inr (inl p) ↦ arrives_at s p.putting device link t p.signal range p.arrives
+  | inr (inr b) ↦ arrives_at s b.putting device link t b.signal range b.arrives
+]
+
+-- where a frame is given to a link
+gives_link : (network : Network) (body : NoteBody) (device : DeviceId) (link : LinkId) → Gives network body device link → link.0 < length network.link
+gives_link network (kinds.Sent master cycle) device link gives = link_in network link _ gives.1
+gives_link network (kinds.Compressed cm opened at cycle members verdict) device link gives = link_in network link _ gives.1
+gives_link network (kinds.Arrived relay from cause clock) device link gives =
+    elim gives.1.on [ inl up ↦ link_in network link _ up.1 | inr down ↦ link_in network link _ down.1 ]
+gives_link network (kinds.Event line what) device link gives = absurd gives
+gives_link network (kinds.Permanent d l cause point verdict) device link gives = absurd gives
+gives_link network (kinds.Corrected d cycle by adjustment) device link gives = absurd gives
+gives_link network (kinds.State d state cause why) device link gives = absurd gives
+gives_link network (kinds.Left d l cause clock) device link gives = absurd gives
+gives_link network (kinds.Lost d l cause) device link gives = absurd gives
+gives_link network (kinds.TtSent d l cause vl cycle) device link gives = absurd gives
+gives_link network (kinds.Accepted d l cause vl cycle) device link gives = absurd gives
+gives_link network (kinds.Delivered d l cause vl cycle) device link gives = absurd gives
+gives_link network (kinds.Dropped d l cause reason) device link gives = absurd gives
+gives_link network (kinds.Clock d reading adjustment state) device link gives = absurd gives
+
+departs_at : (s : Scenario) (hs : List Happening) (device : DeviceId) (t : ℕ) (link : LinkId) (cause : ℕ) (is : Departure) → IsInRange s.network
+    → Departs s hs device t link cause is → HasPassage s.network device link
+departs_at s hs device t link cause is range d =
+    (gives_in s.network d.giving.note.body device link range d.gives, gives_link s.network d.giving.note.body device link d.gives)
+
+source_by_in : (network : Network) (way : Way) (l : Link) → IsLinkInRange network l → (source_by way l).0 < length network.device
+source_by_in network Up l range = range.child
+source_by_in network Down l range = range.parent
+
+source_in : (network : Network) (place : ℕ) (entry : Entry) (device : DeviceId) → IsInRange network → IsEntry network place entry → source_of entry ≡ device
+    → device.0 < length network.device
+source_in network place entry device range is leaves =
+    subst (λ (d : DeviceId). d.0 < length network.device) leaves
+    (source_by_in network entry.row.way entry.link (in_all (IsLinkInRange network) network.link entry.row.link.0 entry.link range.links is.link))
+
+-- where a row's frame is dispatched
+dispatched_at : (s : Scenario) (hs : List Happening) (device : DeviceId) (t : ℕ) (link : LinkId) (cause : ℕ) (vl : VlId) (cycle : ℕ) → IsInRange s.network
+    → Dispatches s hs device t link cause vl cycle → HasStream s.network device link vl
+dispatched_at s hs device t link cause vl cycle range d =
+    let there : link.0 < length s.network.link =
+    subst (λ (l : LinkId). l.0 < length s.network.link) d.by (slice_get_within s.network.link d.entry.row.link.0 d.entry.link d.row.link) in
+    let stream : vl.0 < length s.network.vl =
+    subst (λ (v : VlId). v.0 < length s.network.vl) d.of_vl (slice_get_within s.network.vl d.entry.row.vl.0 d.entry.vl d.row.vl) in
+    (source_in s.network d.place d.entry device range d.row d.leaves, there, stream)
+
+-- ---- a record
+
+-- the record of a frame that was taken came in by a passage of the network
+arrival_at : (s : Scenario) (hs : List Happening) (device : DeviceId) (t : ℕ) (link : LinkId) (cause : ℕ) (is : _) → IsInRange s.network
+    → ArrivesAs s hs device t link cause is → HasPassage s.network device link
+arrival_at s hs device t link cause is range a = arrives_at s a.putting device link t a.signal range a.arrives
+
+-- what is permanent arrived
+permanent_at : (s : Scenario) (hs : List Happening) (h : Happening) (device : DeviceId) (link : LinkId) (cause clock : ℕ) → IsInRange s.network
+    → IsFounded place_of (IsDue s) hs → IsIn h hs → h.note.body ≡ kinds.Arrived device link cause clock → HasPassage s.network device link
+permanent_at s hs h device link cause clock range founded i is =
+    let at = parted h hs i in
+    let due = (founded at.0 at.1 h at.2).1 in
+    arrived_at s at.0 device (time_of h) link cause clock range (subst (IsCaused s at.0 h.note.time) is due.cause)
+
+body_of : (s : Scenario) (hs : List Happening) (time : Units) (body : NoteBody) → IsInRange s.network → AreEventsOf s.network s.events
+    → IsFounded place_of (IsDue s) hs → ((device : DeviceId) → moves device body ≡ true → device.0 < length s.network.device) → IsCaused s hs time body
+    → IsBodyOf s.network body
+body_of s hs time (kinds.Event line what) range all founded own c =
+    let mine : IsOfNetwork s.network c.event.what = all_at (λ e. IsOfNetwork s.network e.what) s.events c.before c.event all c.is in
+    subst (λ (w : What). IsOfNetwork s.network w) (sym c.same) mine
+body_of s hs time (kinds.Arrived device link cause clock) range all founded own c = arrived_at s hs device (amount time) link cause clock range c
+body_of s hs time (kinds.Permanent device link cause point verdict) range all founded own c =
+    let p = c.permanent in
+    permanent_at s hs p.arrival device link p.from p.clock range founded (numbered_in hs cause p.arrival p.there) p.arrived
+body_of s hs time (kinds.Compressed device opened at cycle members verdict) range all founded own c = role_in s.network _ device c.cm
+body_of s hs time (kinds.Sent device cycle) range all founded own c = role_in s.network _ device c.master
+body_of s hs time (kinds.Corrected device cycle by adjustment) range all founded own c = own device (eq-eqb device.0 device.0 refl)
+body_of s hs time (kinds.State device state cause why) range all founded own c = own device (eq-eqb device.0 device.0 refl)
+body_of s hs time (kinds.Left device link cause clock) range all founded own c = departs_at s hs device (amount time) link cause _ range c
+body_of s hs time (kinds.Lost device link cause) range all founded own (inl d) = departs_at s hs device (amount time) link cause _ range d
+body_of s hs time (kinds.Lost device link cause) range all founded own (inr (inl d)) =
+    let at = dispatched_at s hs device (amount time) link cause d.0 d.1 range d.2 in (at.0, at.1)
+body_of s hs time (kinds.Lost device link cause) range all founded own (inr (inr l)) = (
+  subst (λ (d : DeviceId). d.0 < length s.network.device) (sym l.by)
+      (in_all (IsLinkInRange s.network) s.network.link link.0 l.way range.links l.there).child,
+  slice_get_within s.network.link link.0 l.way l.there,
+)
+body_of s hs time (kinds.TtSent device link cause vl cycle) range all founded own c =
+    dispatched_at s hs device (amount time) link cause vl cycle range c.dispatches
+body_of s hs time (kinds.Accepted device link cause vl cycle) range all founded own c =
+    let at = arrival_at s hs device (amount time) link cause _ range c in
+    let it = taken_at s hs device (amount time) link cause vl cycle c in
+    let stream = subst (λ (v : VlId). v.0 < length s.network.vl) it.of_vl (slice_get_within s.network.vl it.entry.row.vl.0 it.entry.vl it.is.vl) in
+    (at.0, at.1, stream)
+body_of s hs time (kinds.Delivered device link cause vl cycle) range all founded own c =
+    let at = arrival_at s hs device (amount time) link cause _ range c in (at.0, at.1, delivered_of s hs device (amount time) link cause vl cycle c)
+body_of s hs time (kinds.Dropped device link cause reason) range all founded own (inl a) = arrival_at s hs device (amount time) link cause _ range a
+body_of s hs time (kinds.Dropped device link cause reason) range all founded own (inr (inl r)) =
+    let p = r.1.permanent in
+    permanent_at s hs p.arrival device link p.from p.clock range founded (numbered_in hs cause p.arrival p.there) p.arrived
+body_of s hs time (kinds.Dropped device link cause reason) range all founded own (inr (inr d)) =
+    departs_at s hs device (amount time) link cause _ range d.0
+body_of s hs time (kinds.Clock device reading adjustment state) range all founded own c = slice_get_within s.network.device device.0 c.is c.there
+
+-- the front of founded records is founded
+front_founded : (s : Scenario) (hs more : List Happening) → IsFounded place_of (IsDue s) (hs ++ more) → IsFounded place_of (IsDue s) hs
+front_founded s hs more founded ps qs x e = founded ps (qs ++ more) x (ap (λ (l : List Happening). l ++ more) e ∙ append_assoc ps (x ∷ qs) more)
+
+-- the last record of a run, of which no record moves a device that the network does not have
+pub note_of : (s : Scenario) (mark : List ℕ) (notes : List Note) (note : Note) (coming : List Happening) → IsInRange s.network
+    → AreEventsOf s.network s.events → IsScenarioRun s mark (notes ++ note ∷ [])
+    → AreOfNetwork s (happenings s.network (notes ++ note ∷ []) ++ coming) → IsNoteOf s.network note
+note_of s mark notes note coming range all run known =
+    let hs = happenings s.network notes in
+    let h = happening s.network hs note in
+    let whole = one_more s.network notes note in
+    let there : IsIn h (happenings s.network (notes ++ note ∷ [])) =
+    subst (λ (l : List Happening). IsIn h l) (sym whole) (in_right h hs (h ∷ []) (inl refl)) in
+    let founded : IsFounded place_of (IsDue s) (hs ++ h ∷ []) = subst (IsFounded place_of (IsDue s)) whole run.founded in
+    let own : (device : DeviceId) → moves device note.body ≡ true → device.0 < length s.network.device = λ device moved.
+    elim (cases_lt device.0 (length s.network.device)) [
+      | inl lt ↦ lt
+      | inr ge ↦
+          let still = known.unmoved device ge h (in_left h (happenings s.network (notes ++ note ∷ [])) coming there) in
+          absurd (let bad : true ≡ false = sym moved ∙ still in cc)
+    ] in
+    body_of s hs note.time note.body range all (front_founded s hs (h ∷ []) founded) own (founded hs [] h refl).1.cause

@@ -1,0 +1,15 @@
+use Rattle.std.proofs.Common.{◌++◌, sym, ap}
+use Rattle.tte_io.specs.ReaderState.{LineReaderState, pending}
+use Rattle.tte_traces.proofs.Admitted.{admitted_none}
+use Rattle.tte_traces.proofs.Following.{none_followed}
+use Rattle.tte_traces.proofs.lines.Trace.new.Goals as goal
+
+pub returns-clause-follows : goal.returns-clause-follows
+returns-clause-follows c = none_followed c.args.accepted c.new.result c.new-2.result c.new.ensures
+
+pub returns-clause-reads : goal.returns-clause-reads
+returns-clause-reads c octets = record {
+  follows = none_followed c.args.accepted c.new.result c.new-2.result c.new.ensures;
+  admitted = admitted_none c.args.accepted.now octets;
+  coming = ap (λ (r : LineReaderState). pending r ++ octets) (sym c.new-2.ensures);
+}

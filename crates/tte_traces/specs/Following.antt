@@ -1,0 +1,99 @@
+-- How a trace that is taken line by line stands to the events that it gave.
+use Rattle.std.specs.Prelude.{◌≡◌, ◌≢◌, ◌↔◌, ℕ, ◌+◌, ◌^◌, ◌<◌, ◌≤◌, true, List, [], ◌∷◌, ◌++◌, length, Option, Some, None, IfSome, Result, Ok, Err}
+use Rattle.fault_hypothesis.specs.Watching.{Watches}
+use Rattle.net_plan.specs.declared.event.Event.{Event}
+use Rattle.net_plan.specs.declared.network.Network.{Network}
+use Rattle.run_law.specs.scenario.Hypothesis.{IsWithinHypothesis}
+use Rattle.net_plan.specs.Belonging.{IsOfNetwork}
+use Rattle.trace_text.specs.Ranges.{IsEventInRange}
+use Rattle.tte_io.specs.Line.{line_limit, ahead_limit, IsUnbroken, first_line}
+use Rattle.tte_io.specs.ReaderState.{LineReaderState, pending}
+use Rattle.tte_io.specs.declared.lines.LineTaken.{LineTaken}
+use Rattle.tte_io.specs.declared.lines.LineTaken.TheVariants as found
+use Rattle.exact_runs.specs.Records.{HaveEnded}
+use Rattle.tte_traces.specs.Lines.{AreAdmitted, IsAdmitted, IsFault, behind_lines}
+use Rattle.tte_traces.specs.declared.fault.TraceFault.{TraceFault}
+use Rattle.tte_traces.specs.declared.fault.TraceStop.{TraceStop}
+use Rattle.tte_traces.specs.declared.fault.TraceStop.TheVariants as stops
+use Rattle.tte_traces.specs.declared.lines.Trace.{Trace}
+
+-- the trace is over the network and gave these events, each from a line of its own
+pub record Follows (network : Network) (events : List Event) (trace : Trace) : Type 0 where
+  pub over : trace.accepted.now ≡ network
+  pub watch : Watches network trace.watch events
+  pub lines : trace.lines ≡ length events
+  pub number : length events < 2 ^ 32
+  pub ended : (trace.ended ≡ true) ↔ HaveEnded events
+
+-- beside that, the events are those of the first lines of the octets, and the trace stands behind these lines,
+-- where so many octets are left in its source
+pub record Reads (network : Network) (octets : List ℕ) (events : List Event) (trace : Trace)
+    (left : List ℕ) : Type 0 where
+  pub follows : Follows network events trace
+  pub admitted : AreAdmitted network octets events
+  pub coming : behind_lines (length events) octets ≡ pending trace.reader ++ left
+
+-- the trace gives one more event
+pub record GivesEvent (network : Network) (before : List Event) (event : Event) (trace : Trace) : Type 0 where
+  pub unended : HaveEnded before → ⊥
+  pub of_network : IsOfNetwork network event.what
+  pub range : IsEventInRange event
+  pub within : IsWithinHypothesis network before event
+  pub follows : Follows network (before ++ event ∷ []) trace
+
+-- what comes of a trace that gave these events, by the answer of a call
+abbrev pub GoesOn : Network → List Event → Result (Option Event) TraceStop → Trace → Type 0
+GoesOn network events (Ok (Some event)) trace = GivesEvent network events event trace
+GoesOn network events (Ok None) trace = HaveEnded events × Follows network events trace
+GoesOn network events (Err _) trace = Follows network events trace
+
+-- the same where the octets of the trace are told; after a failed read, or where nothing could be passed on before one,
+-- no line stands whole in those taken behind the events' lines
+abbrev pub ReadsOn : Network → List ℕ → List Event → Result (Option Event) TraceStop → Trace → List ℕ → Type 0
+ReadsOn network octets events (Ok (Some event)) trace left = Reads network octets (events ++ event ∷ []) trace left
+ReadsOn network octets events (Ok None) trace left = (behind_lines (length events) octets ≡ []) × HaveEnded events
+ReadsOn network octets events (Err stops.ReadFault) trace left =
+    Reads network octets events trace left × IsUnbroken (pending trace.reader)
+ReadsOn network octets events (Err stops.WriteFault) trace left =
+    Reads network octets events trace left × IsUnbroken (pending trace.reader)
+ReadsOn network octets events (Err (stops.Fault fault)) trace left =
+    IsFault network events (behind_lines (length events) octets) fault
+
+-- of the octets behind these lines and the next one at most so many were taken as are read ahead
+abbrev pub TakesFew : List ℕ → ℕ → List ℕ → Type 0
+TakesFew octets lines left = length (behind_lines (lines + 1) octets) ≤ length left + ahead_limit
+
+-- what a reader of lines found at the front of these octets
+abbrev pub IsFound : List ℕ → LineTaken → LineReaderState → Type 0
+IsFound rest found.Whole reader =
+    (rest ≢ []) × (length (first_line rest) ≤ line_limit) × (reader.text ≡ Some (first_line rest))
+IsFound rest found.Long reader = line_limit < length (first_line rest)
+IsFound rest found.End reader = rest ≡ []
+
+-- how the events go on with what was found there
+abbrev pub Judges : Network → List Event → List ℕ → Result (Option Event) TraceFault → Trace → Type 0
+Judges network events rest (Ok (Some event)) trace =
+    IsAdmitted network events rest event × Follows network (events ++ event ∷ []) trace
+Judges network events rest (Ok None) trace = (rest ≡ []) × HaveEnded events × Follows network events trace
+Judges network events rest (Err fault) trace = IsFault network events rest fault × Follows network events trace
+
+-- the same, where a refusal is a stop
+abbrev pub JudgesSo : Network → List Event → List ℕ → Result (Option Event) TraceStop → Trace → Type 0
+JudgesSo network events rest (Ok event) trace = Judges network events rest (Ok event) trace
+JudgesSo network events rest (Err (stops.Fault fault)) trace = Judges network events rest (Err fault) trace
+JudgesSo network events rest (Err stops.ReadFault) trace = ⊥
+JudgesSo network events rest (Err stops.WriteFault) trace = ⊥
+
+-- the trace is refused
+abbrev pub IsRefused : TraceStop → Type 0
+IsRefused stop = (fault : TraceFault) × (stop ≡ stops.Fault fault)
+
+-- a call for the next event takes it from the octets that are told, and takes few more
+pub record TakesNext (trace : Trace) (left : Option (List ℕ)) (result : Result (Option Event) TraceStop) (next : Trace)
+    (after : Option (List ℕ)) : Type 0 where
+  pub reads : (network : Network) (octets : List ℕ) (events : List Event) (ahead : List ℕ) → left ≡ Some ahead
+      → Reads network octets events trace ahead
+      → (rest : List ℕ) × (after ≡ Some rest) × ReadsOn network octets events result next rest
+  pub few : (network : Network) (octets : List ℕ) (events : List Event) (ahead : List ℕ) → left ≡ Some ahead
+      → Reads network octets events trace ahead
+      → IfSome after (TakesFew octets (length events))

@@ -1,0 +1,9 @@
+pub mod Lines
+pub mod Following
+pub mod FaultLine
+pub mod Refusing
+pub mod Records
+pub mod Streaming
+pub mod Steps
+pub mod Answer
+pub mod Safely

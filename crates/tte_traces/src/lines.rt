@@ -1,0 +1,159 @@
+ghost use Rattle.std.specs.Prelude.{◌≡◌, ◌≢◌, ◌↔◌, ◌<◌, ◌≤◌, ℕ, List, [], ◌∷◌, ◌++◌, length, Some, Ok, Err, IfErr, IfOk, IfSome, IsNone, IsSome, IsTrue, MatchOption, MatchResult, OnOk};
+ghost use Rattle.net_plan.specs.Ranges.{IsInRange};
+ghost use Rattle.net_plan.specs.declared.event.Event.{Event as EventValue};
+ghost use Rattle.net_plan.specs.declared.network.Network.{Network as NetworkValue};
+ghost use Rattle.net_plan.specs.Belonging.{IsOfNetwork};
+ghost use Rattle.trace_text.specs.Ranges.{IsEventInRange};
+ghost use Rattle.tte_forms.specs.Faults.{PutFailed, ReadFailed};
+ghost use Rattle.tte_forms.specs.Putting.{IsPassedOn, Over, PutsNone, shown_by};
+ghost use Rattle.tte_traces.specs.Following.{Follows, GoesOn, IsFound, IsRefused, JudgesSo, Reads, TakesNext};
+ghost use Rattle.tte_traces.specs.Lines.{HasEvent, IsAdmitted, IsFault, IsOpen};
+
+use crate::fault::{TraceFault, TraceStop};
+use crate::reading::next_line;
+use fault_hypothesis::Watch;
+use net_plan::{Event, Network, What};
+use schedule_tables::Accepted;
+use trace_text::line;
+use tte_io::{LineReader, LineTaken, Sink, Source};
+
+/// A trace that is taken line by line: each line's event is admitted by the fault hypothesis, given
+/// those before it, or the trace is refused.
+#[derive(Drop)]
+pub struct Trace<'a> {
+    accepted: &'a Accepted,
+    watch: Watch<'a>,
+    reader: LineReader,
+    /// How many lines gave an event.
+    lines: u32,
+    /// Was the last of these the end?
+    ended: bool,
+}
+
+impl<'a> Trace<'a> {
+    /// A trace of which no line was taken.
+    pub fn new(accepted: &'a Accepted) -> Trace<'a>
+        ensures follows { Follows accepted.now [] result }
+        ensures reads { (octets : List ℕ) → Reads accepted.now octets [] result octets }
+    {
+        Trace {
+            accepted,
+            watch: Watch::new(accepted),
+            reader: LineReader::new(),
+            lines: 0,
+            ended: false,
+        }
+    }
+
+    /// The network.
+    pub fn network(&self) -> &'a Network
+        ensures value { result.now ≡ self.now.accepted.now }
+        ensures in_range { IsInRange result.now }
+    {
+        self.accepted.network()
+    }
+
+    /// How many lines gave an event.
+    pub fn lines(&self) -> u32
+        ensures { result ≡ self.now.lines }
+    {
+        self.lines
+    }
+
+    /// The event of the next line, or None where the trace has ended. Before a read it passes on all
+    /// that was put.
+    ///
+    /// After a failed read, and where passing on failed, the next call goes on where this one
+    /// stopped. After a fault of the trace no call is to follow.
+    pub fn next_event<B: Source, K: Sink>(
+        &mut self,
+        source: &mut B,
+        out: &mut K,
+    ) -> Result<Option<Event>, TraceStop>
+        ensures follows { (network : NetworkValue) (events : List EventValue) → Follows network events self.old
+            → GoesOn network events result self.new }
+
+        ensures takes { TakesNext self.old (B.left source.old) result self.new (B.left source.new) }
+
+        ensures never_falls { B.faults source.old ≤ B.faults source.new }
+        ensures unchanged { result ≢ Err TraceStop.ReadFault → B.faults source.new ≡ B.faults source.old }
+        ensures failed_rose { result ≡ Err TraceStop.ReadFault → ReadFailed B.Source source.old source.new }
+
+        ensures nothing_put { Over K.Sink out.old out.new PutsNone }
+        ensures passed { result ≡ Err TraceStop.ReadFault → IsPassedOn (shown_by K.Sink out.new) }
+        ensures quiet { result ≢ Err TraceStop.WriteFault → K.faults out.new ≡ K.faults out.old }
+        ensures unpassed { result ≡ Err TraceStop.WriteFault → PutFailed K.Sink out.old out.new }
+    {
+        match next_line(&mut self.reader, source, out) {
+            Ok(found) => self.judge(found),
+            Err(stop) => Err(stop),
+        }
+    }
+
+    /// The event of what was found, or None at the end of a trace that has ended.
+    fn judge(&mut self, found: LineTaken) -> Result<Option<Event>, TraceStop>
+        requires { found ≡ LineTaken.Whole → IsSome self.old.reader.text }
+        ensures judged { (network : NetworkValue) (events : List EventValue) (rest : List ℕ)
+            → Follows network events self.old → IsFound rest found self.old.reader
+            → JudgesSo network events rest result self.new }
+        ensures refused { IfErr result IsRefused }
+        ensures of_network { IfOk result (λ event. IfSome event (λ e. IsOfNetwork self.old.accepted.now e.what)) }
+        ensures range { IfOk result (λ event. IfSome event IsEventInRange) }
+        ensures reader { self.new.reader ≡ self.old.reader }
+    {
+        match found {
+            LineTaken::Whole => self.take_line(),
+            LineTaken::Long => match self.fault_of_line() {
+                Some(fault) => Err(TraceStop::Fault(fault)),
+                None => Err(TraceStop::Fault(TraceFault::Long)),
+            },
+            LineTaken::End if self.ended => Ok(None),
+            LineTaken::End => Err(TraceStop::Fault(TraceFault::Missing)),
+        }
+    }
+
+    /// Why no further line may come, if that is so.
+    fn fault_of_line(&self) -> Option<TraceFault>
+        ensures fault { (network : NetworkValue) (events : List EventValue) (rest : List ℕ)
+            → Follows network events self.now → rest ≢ []
+            → MatchOption result (IsOpen events rest) (IsFault network events rest) }
+        ensures room { IsNone result → self.now.lines < u32.MAX }
+    {
+        if self.lines == u32::MAX {
+            Some(TraceFault::TooMany)
+        } else if self.ended {
+            Some(TraceFault::After)
+        } else {
+            None
+        }
+    }
+
+    /// The event of the line that was read, which is admitted.
+    fn take_line(&mut self) -> Result<Option<Event>, TraceStop>
+        requires { IsSome self.old.reader.text }
+        ensures judged { (network : NetworkValue) (events : List EventValue) (rest : List ℕ)
+            → Follows network events self.old → IsFound rest LineTaken.Whole self.old.reader
+            → JudgesSo network events rest result self.new }
+        ensures refused { IfErr result IsRefused }
+        ensures of_network { IfOk result (λ event. IfSome event (λ e. IsOfNetwork self.old.accepted.now e.what)) }
+        ensures range { IfOk result (λ event. IfSome event IsEventInRange) }
+        ensures reader { self.new.reader ≡ self.old.reader }
+    {
+        match self.fault_of_line() {
+            Some(fault) => return Err(TraceStop::Fault(fault)),
+            None => (),
+        }
+        let network = self.accepted.network();
+        let event = match line(network, self.reader.text()) {
+            Ok(event) => event,
+            Err(refusal) => return Err(TraceStop::Fault(TraceFault::Line(refusal))),
+        };
+        match self.watch.admit(&event) {
+            Ok(()) => (),
+            Err(outside) => return Err(TraceStop::Fault(TraceFault::Event(outside))),
+        }
+        self.lines += 1;
+        self.ended = matches!(event.what, What::End);
+        Ok(Some(event))
+    }
+}

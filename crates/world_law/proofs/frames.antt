@@ -1,0 +1,3 @@
+-- What a frame can be that waits, or that comes up from below.
+pub mod Proper
+pub mod Masters

@@ -1,0 +1,288 @@
+-- A frame that comes up from below is that of one master, where octets are sent by end systems alone.
+use Rattle.std.proofs.Common.{◌≡◌, ◌⊎◌, IsSomeAnd, ℕ, zero, suc, ◌^◌, ◌≤◌, Bool, true, false, not, ◌&&◌, ◌==◌, if◌then◌else◌, List, [], ◌∷◌, ◌++◌, length, slice_get, Option, Some, None, Ok, option_and_then, option_map, inl, inr, refl, sym, ap, subst, ◌∙◌, arith}
+use Rattle.std.specs.Prelude.{is_some, unwrap_or}
+use Rattle.std.specs.Option.{option_map_or}
+use Rattle.std.proofs.lemmas.Bool.{both_ways, cases_Bool, eq-eqb, eqb-true}
+use Rattle.std.proofs.lemmas.List.{length-append}
+use Rattle.net_plan.proofs.Shape.{rules_give_trees}
+use Rattle.net_plan.proofs.Trees.{at_known, closed, opened}
+use Rattle.net_plan.specs.Paths.{IsPath, IsTree, IsUplink}
+use Rattle.net_plan.specs.Places.{device_at, link_at, is_end_system, is_master, IsDeviceOf, IsSwitchOf}
+use Rattle.net_plan.specs.Ranges.{IsDeviceInRange, IsInRange}
+use Rattle.net_plan.specs.declared.event.Event.{Event}
+use Rattle.net_plan.specs.declared.event.What.TheVariants.{Send}
+use Rattle.net_plan.specs.declared.ids.DeviceId.{DeviceId}
+use Rattle.net_plan.specs.declared.ids.LinkId.{LinkId}
+use Rattle.net_plan.specs.declared.network.Network.{Network}
+use Rattle.net_plan.specs.declared.tables.Device.{Device}
+use Rattle.net_plan.specs.declared.tables.Link.{Link}
+use Rattle.net_plan.specs.declared.tables.Way.{Way}
+use Rattle.net_plan.specs.declared.tables.Way.TheVariants.{Up, Down}
+use Rattle.pcf_values.specs.declared.channel.Channel.{Channel}
+use Rattle.pcf_values.specs.declared.members.Members.{Members}
+use Rattle.pcf_values.specs.declared.pcf.Pcf.{Pcf}
+use Rattle.run_law.proofs.law.FirstPlaces.{founded_at, front_founded, numbered_in}
+use Rattle.run_law.specs.control.Arrivals.{are_others, is_of_other_member}
+use Rattle.run_law.specs.control.Leaving.{Gives}
+use Rattle.run_law.specs.control.Wires.{Launch, control, launched, signal_of, timed}
+use Rattle.run_law.specs.declared.note.NoteBody.{NoteBody}
+use Rattle.run_law.specs.declared.note.NoteBody.TheVariants as kinds
+use Rattle.run_law.specs.device.Standpoints.{standpoint}
+use Rattle.run_law.specs.machines.Calls.{IsOfMaster, IsOneMaster}
+use Rattle.run_law.specs.records.Happenings.{Happening, frame_by, time_of, with_clock}
+use Rattle.run_law.specs.records.Order.{IsIn}
+use Rattle.run_law.specs.records.Ranks.{place_of}
+use Rattle.run_law.specs.runs.DueRecords.{IsCaused, IsDue}
+use Rattle.run_law.specs.runs.Runs.{IsFounded}
+use Rattle.run_law.specs.scenario.Devices.{IsParentOf, has_role, is_end, is_parent_of, member_of}
+use Rattle.run_law.specs.scenario.Scenarios.{Scenario}
+use Rattle.run_law.specs.scenario.Ways.{is_cut, way_from}
+use Rattle.schedule_tables.proofs.EntryLemmas.{all_at}
+use Rattle.schedule_tables.proofs.Margins.{shape_rules}
+use Rattle.schedule_tables.specs.Entries.{target_by}
+use Rattle.schedule_tables.specs.Rules.{KeepsRules}
+use Rattle.schedule_tables.specs.declared.rule.Rule.TheVariants.{Joints}
+use Rattle.world_law.proofs.giving.Given.{some_same}
+use Rattle.world_law.specs.world.World.{IsFromEnd}
+use Rattle.world_law.proofs.frames.Proper.{has_come, is_sound, received}
+
+-- octets are sent by end systems alone
+abbrev pub AreSentByEnds : Scenario → Type 0
+AreSentByEnds s = (i : ℕ) (e : Event) (link : LinkId) (octets : List ℕ) → slice_get s.events i ≡ Some e → e.what ≡ Send link octets → IsFromEnd s.network link
+
+-- ---- the two ends of a link
+
+no_path : (network : Network) (channel : Channel) (device : DeviceId) (link : LinkId) (l : Link) → IsTree network → link_at network link ≡ Some l
+    → l.parent ≡ device → IsUplink network channel device link → (links : List LinkId) → IsPath network channel device links → ⊥
+no_path network channel device link l tree at turns up [] path = tree.root channel device link path up
+no_path network channel device link l tree at turns up (k ∷ ks) path =
+    let first = opened (λ (x : Link). (x.child ≡ device) × IsSwitchOf network channel x.parent × IsPath network channel x.parent ks) (link_at network k) path in
+    let here : IsUplink network channel device k = closed (λ (x : Link). (x.child ≡ device) × IsSwitchOf network channel x.parent) (link_at network k) first.0
+    first.1 (first.2.0, first.2.1) in
+    let one = tree.one_uplink channel device k link here up in
+    let same : first.0 ≡ l = some_same first.0 l (link_at network k) first.1 (subst (λ (m : LinkId). link_at network m ≡ Some l) (sym one) at) in
+    let parent : first.0.parent ≡ device = ap (λ (x : Link). x.parent) same ∙ turns in
+    no_path network channel device link l tree at turns up ks (subst (λ (d : DeviceId). IsPath network channel d ks) parent first.2.2)
+
+-- the ends of a link are two devices
+pub ends_differ : (network : Network) (link : LinkId) (l : Link) → KeepsRules network → link_at network link ≡ Some l → l.child ≡ l.parent → ⊥
+ends_differ network link l keeps at same =
+    let joint = keeps Joints link.0 l at in
+    let tree = rules_give_trees network (shape_rules network keeps) in
+    let up : IsUplink network joint.0 l.parent link = closed (λ (x : Link). (x.child ≡ l.parent) × IsSwitchOf network joint.0 x.parent) (link_at network link) l
+    at (same, joint.1) in
+    let switch = opened (λ (d : Device). d.channel ≡ Some joint.0) (device_at network l.parent) joint.1 in
+    let member : IsDeviceOf network joint.0 l.parent = closed (λ (d : Device). (is_end_system d.role ≡ true) ⊎ (d.channel ≡ Some joint.0))
+    (device_at network l.parent) switch.0 switch.1 (inr switch.2) in
+    let path = tree.reach joint.0 l.parent member in
+    no_path network joint.0 l.parent link l tree at refl up path.0 path.2
+
+-- ---- masters
+
+master_member : (network : Network) (device : DeviceId) → IsInRange network → has_role network is_master device ≡ true → (m : ℕ)
+    × (member_of network device ≡ Some m)
+master_member network device range role = by (device_at network device) refl role
+  where
+    some_of : (o : Option ℕ) → is_some o ≡ true → (m : ℕ) × (o ≡ Some m)
+    some_of None e = absurd cc
+    some_of (Some m) e = (m, refl)
+
+    by : (o : Option Device) → device_at network device ≡ o → option_map_or (λ d. is_master d.role) o false ≡ true → (m : ℕ)
+        × (member_of network device ≡ Some m)
+    by None at e = absurd cc
+    by (Some d) at e =
+        let known : IsDeviceInRange d = all_at IsDeviceInRange network.device device.0 d range.devices at in
+        let m = some_of d.member (known.masters ∙ e) in
+        (m.0, ap (λ (o : Option Device). option_and_then (λ x. x.member) o) at ∙ m.1)
+
+one_of : (network : Network) (device : DeviceId) (m : ℕ) (members : Members) → member_of network device ≡ Some m → members.0 ≡ 2 ^ m
+    → IsOneMaster network members
+one_of network device m members at is = (device, subst (λ (o : Option ℕ). IsSomeAnd o (λ member. members.0 ≡ 2 ^ member)) (sym at) is)
+
+not_others : (o : Option ℕ) (members : Members) → are_others o members ≡ false → (m : ℕ) × (o ≡ Some m) × (members.0 ≡ 2 ^ m)
+not_others None members e = absurd cc
+not_others (Some m) members e = (m, refl, by (members.0 == 2 ^ m) refl e)
+  where
+    by : (b : Bool) → (members.0 == 2 ^ m) ≡ b → not b ≡ false → members.0 ≡ 2 ^ m
+    by true at e = eqb-true members.0 (2 ^ m) at
+    by false at e = absurd cc
+
+-- from an end system the frame's members are its bit
+end_member : (network : Network) (device : DeviceId) (link : LinkId) (members : Members) (joint : Link) → link_at network link ≡ Some joint
+    → joint.parent ≡ device
+    → is_end network joint.child ≡ true → is_of_other_member network device link members ≡ false
+    → (m : ℕ) × (member_of network joint.child ≡ Some m) × (members.0 ≡ 2 ^ m)
+end_member network device link members joint at parent end_is sound =
+    let flags : (((joint.parent.0 == device.0) && is_end network joint.child) && are_others (member_of network joint.child) members) ≡ false =
+    sym (ap (λ (o : Option Link). option_map_or (λ l. l.parent.0 == device.0 && is_end network l.child && are_others (member_of network l.child) members) o
+    false) at) ∙ sound in
+    let own : (joint.parent.0 == device.0) ≡ true = eq-eqb joint.parent.0 device.0 (ap (λ (d : DeviceId). d.0) parent) in
+    not_others (member_of network joint.child) members
+    (sym (ap (λ (b : Bool). (b && is_end network joint.child) && are_others (member_of network joint.child) members) own
+    ∙ ap (λ (b : Bool). b && are_others (member_of network joint.child) members) end_is) ∙ flags)
+
+-- ---- a frame that a switch sends up
+
+launch_link : (a b : Launch) → Some a ≡ Some b → (a.link ≡ b.link) × (a.way ≡ b.way)
+launch_link a b e = let same : a ≡ b = cc in (ap (λ (l : Launch). l.link) same, ap (λ (l : Launch). l.way) same)
+
+not_timed : (octets : List ℕ) (came : Pcf) → timed octets ≡ control (Ok came) → ⊥
+not_timed octets came e = cc
+
+signals : (a b : Launch) → Some a ≡ Some b → a.signal ≡ b.signal
+signals a b e = let same : a ≡ b = cc in ap (λ (l : Launch). l.signal) same
+
+-- what put a frame on a link, as it came: a device gave it, or octets were sent
+data IsPutBy (s : Scenario) (h : Happening) (link : LinkId) (way : Way) : NoteBody → Type 0 where
+  leaving : (device : DeviceId) (cause clock : ℕ) → way ≡ way_from s.network device link → IsPutBy s h link way (kinds.Left device link cause clock)
+  sending : (line : ℕ) (octets : List ℕ) → way ≡ Up → IsPutBy s h link way (kinds.Event line (Send link octets))
+
+put_by : (s : Scenario) (h : Happening) (t : ℕ) (link : LinkId) (way : Way) (came : Pcf) (body : NoteBody)
+    → launched s h t body ≡ Some (record { link = link; way = way; signal = control (Ok came) }) → IsPutBy s h link way body
+put_by s h t link way came (kinds.Left device by cause clock) e = by_frame h.frame e
+  where
+    by_frame : (o : Option Pcf)
+        → option_map (λ (f : Pcf). let l : Launch = record { link = by; way = way_from s.network device by; signal = control (Ok f) } in l) o
+        ≡ Some (record { link = link; way = way; signal = control (Ok came) }) → IsPutBy s h link way (kinds.Left device by cause clock)
+    by_frame None e = absurd cc
+    by_frame (Some f) e =
+        let same = launch_link _ _ e in
+        subst (λ (l : LinkId). IsPutBy s h link way (kinds.Left device l cause clock)) (sym same.0)
+        (IsPutBy.leaving device cause clock (sym same.1 ∙ ap (way_from s.network device) same.0))
+put_by s h t link way came (kinds.TtSent device by cause vl cycle) e = absurd (not_timed h.octets came (signals _ _ e))
+put_by s h t link way came (kinds.Event line (Send by octets)) e = by_cut (is_cut s by Up t) e
+  where
+    by_cut : (b : Bool) → (if b then None else Some (let l : Launch = record { link = by; way = Up; signal = signal_of octets } in l))
+        ≡ Some (record { link = link; way = way; signal = control (Ok came) }) → IsPutBy s h link way (kinds.Event line (Send by octets))
+    by_cut true e = absurd cc
+    by_cut false e =
+        let same = launch_link _ _ e in
+        subst (λ (l : LinkId). IsPutBy s h link way (kinds.Event line (Send l octets))) (sym same.0) (IsPutBy.sending line octets (sym same.1))
+put_by s h t link way came other e = absurd cc
+
+up_only : (b : Bool) → Up ≡ (if b then Down else Up) → b ≡ false
+up_only true e = absurd cc
+up_only false e = refl
+
+parent_true : (device : DeviceId) (o : Option Link) → IsSomeAnd o (λ l. l.parent ≡ device) → option_map_or (λ l. l.parent.0 == device.0) o false ≡ true
+parent_true device None h = absurd h
+parent_true device (Some l) h = eq-eqb l.parent.0 device.0 (ap (λ (d : DeviceId). d.0) h)
+
+given_by : (s : Scenario) (g : Happening) (front : List Happening) (device : DeviceId) (link : LinkId) (frame : Pcf) (body : NoteBody) → IsInRange s.network
+    → IsCaused s front g.note.time body → g.frame ≡ frame_by s.network front body → g.frame ≡ Some frame → Gives s.network body device link
+    → is_parent_of s.network device link ≡ false
+    → g.note.body ≡ body
+    → ((by : DeviceId × LinkId) (of_cause of_clock : ℕ) (f : Pcf) → g.note.body ≡ kinds.Arrived by.0 by.1 of_cause of_clock → g.frame ≡ Some f
+    → IsParentOf s.network by.0 by.1 → IsOneMaster s.network f.members)
+    → IsOneMaster s.network frame.members
+given_by s g front device link frame (kinds.Sent master cycle) range c made of gives below is rest =
+    let m = master_member s.network master range c.master in
+    let dispatched = Rattle.run_law.specs.records.Frames.dispatched_frame s.network master cycle in
+    let same : frame ≡ dispatched = some_same frame dispatched g.frame of made in
+    one_of s.network master m.0 frame.members m.1
+    (ap (λ (f : Pcf). f.members.0) same ∙ ap (λ (o : Option ℕ). 2 ^ unwrap_or o 0) m.1)
+given_by s g front device link frame (kinds.Compressed cm opened at cycle of_masters verdict) range c made of gives below is rest =
+    absurd (both_ways (is_parent_of s.network device link) below (parent_true device (link_at s.network link) gives.1))
+given_by s g front device link frame (kinds.Arrived relay by cause clock) range c made of gives below is rest =
+    elim gives.1.on [
+      | inl up ↦ rest (relay, by) cause clock frame is of (subst (λ (d : DeviceId). IsParentOf s.network d by) gives.0 up.0)
+      | inr down ↦ absurd (both_ways (is_parent_of s.network device link) below (parent_true device (link_at s.network link) down.1))
+    ]
+given_by s g front device link frame other range c made of gives below is rest = absurd gives
+
+from_put : (s : Scenario) (link : LinkId) (way : Way) (came : Pcf) (body : NoteBody) (h : Happening) (front : List Happening) → IsInRange s.network
+    → IsCaused s front h.note.time body → h.frame ≡ frame_by s.network front body → h.frame ≡ Some came → IsFounded place_of (IsDue s) front
+    → IsPutBy s h link way body → way ≡ Up → ((line : ℕ) (octets : List ℕ) → body ≡ kinds.Event line (Send link octets) → ⊥)
+    → ((g : Happening) (by : DeviceId × LinkId) (of_cause of_clock : ℕ) (f : Pcf) → IsIn g front → g.note.body ≡ kinds.Arrived by.0 by.1 of_cause of_clock
+    → g.frame ≡ Some f
+    → IsParentOf s.network by.0 by.1 → IsOneMaster s.network f.members)
+    → IsOneMaster s.network came.members
+from_put s link way came body h front range c made of founded (IsPutBy.leaving device cause clock w) upward never rest =
+    let g = c.giving in
+    let inside = numbered_in front cause g c.there in
+    let at = founded_at s front g founded inside in
+    let below = up_only (is_parent_of s.network device link) (sym upward ∙ w) in
+    let whole : h.frame ≡ Some (with_clock clock c.frame) =
+    made ∙ ap (λ (o : Option Happening). option_map (with_clock clock) (option_and_then (λ x. x.frame) o)) c.there
+    ∙ ap (option_map (with_clock clock)) c.of_frame in
+    let same : came ≡ with_clock clock c.frame = some_same came (with_clock clock c.frame) h.frame of whole in
+    subst (λ (f : Pcf). IsOneMaster s.network f.members) (sym same)
+    (given_by s g at.front device link c.frame g.note.body range at.due.cause (ap (λ (x : Happening). x.frame) at.due.same) c.of_frame c.gives below refl
+    (λ by of_cause of_clock f is of_f parent. rest g by of_cause of_clock f inside is of_f parent))
+from_put s link way came body h front range c made of founded (IsPutBy.sending line octets w) upward never rest = absurd (never line octets refl)
+
+-- of the records up to so many: what comes up is of one master
+pub one_master : (n : ℕ) (s : Scenario) (hs : List Happening) (arrival : Happening) (device : DeviceId) (link : LinkId) (cause clock : ℕ) (frame : Pcf)
+    → length hs ≤ n
+    → IsInRange s.network → KeepsRules s.network → AreSentByEnds s → IsFounded place_of (IsDue s) hs → IsIn arrival hs
+    → arrival.note.body ≡ kinds.Arrived device link cause clock → arrival.frame ≡ Some frame → IsParentOf s.network device link
+    → IsOneMaster s.network frame.members
+one_master zero s [] arrival device link cause clock frame le range keeps ends founded i body of parent = absurd i
+one_master zero s (h ∷ hs) arrival device link cause clock frame le range keeps ends founded i body of parent = absurd (omega (arith, le))
+one_master (suc n) s hs arrival device link cause clock frame le range keeps ends founded i body of parent =
+    let network = s.network in
+    let c = has_come s hs arrival device link cause clock frame founded i body of in
+    let sound = is_sound network device link (standpoint s c.front device (time_of arrival)) c.so.came frame c.so.taken in
+    let v = received network device link c.so.arrives.way c.so.arrives.receiver in
+    let joint = v.joint in
+    let is_parent : joint.parent ≡ device = at_known (λ (l : Link). l.parent ≡ device) (link_at network link) joint v.there parent in
+    elim (cases_Bool (is_end network joint.child)) [
+      | inl end_is ↦
+          let m = end_member network device link frame.members joint v.there is_parent end_is sound.member in
+          one_of network joint.child m.0 frame.members m.1 m.2
+      | inr switch ↦
+          let upward : c.so.arrives.way ≡ Up = by_way joint device is_parent (λ same. ends_differ network link joint keeps v.there same) c.so.arrives.way v.is
+          in
+          let whole : hs ≡ c.front ++ arrival ∷ c.rest = c.whole in
+          let before : IsFounded place_of (IsDue s) c.front = front_founded place_of (IsDue s) c.front (arrival ∷ c.rest)
+          (subst (λ (l : List Happening). IsFounded place_of (IsDue s) l) whole founded) in
+          let long : length hs ≡ length (c.front ++ arrival ∷ c.rest) = ap length whole in
+          let more = length-append c.front (arrival ∷ c.rest) in
+          let tail : length (arrival ∷ c.rest) ≡ suc (length c.rest) = refl in
+          let put = founded_at s c.front c.so.putting before (numbered_in c.front cause c.so.putting c.so.there) in
+          let members : IsOneMaster network c.so.came.members → IsOneMaster network frame.members = λ one. subst (IsOneMaster network) (sym sound.members) one
+          in
+          members (from_put s link c.so.arrives.way c.so.came c.so.putting.note.body c.so.putting put.front range put.due.cause
+          (ap (λ (h : Happening). h.frame) put.due.same) c.of_frame put.founded
+          (put_by s c.so.putting (time_of c.so.putting) link c.so.arrives.way c.so.came c.so.putting.note.body c.so.arrives.put) upward
+          (λ line octets it_is. both_ways (is_end network joint.child) switch
+          (at_known (λ (l : Link). is_end network l.child ≡ true) (link_at network link) joint v.there
+          (sent_end c.so.putting put.front put.due.cause line octets it_is)))
+          (λ g by of_cause of_clock f g_in g_body g_frame at_parent.
+          one_master n s put.front g by.0 by.1 of_cause of_clock f
+          (let l : length c.front ≡ length (put.front ++ c.so.putting ∷ put.rest) = ap length put.whole in
+          let m = length-append put.front (c.so.putting ∷ put.rest) in
+          let k : length (c.so.putting ∷ put.rest) ≡ suc (length put.rest) = refl in
+          omega (arith, l, m, k, long, more, tail, le)) range keeps ends put.founded g_in g_body g_frame at_parent))
+    ]
+  where
+    by_way : (joint : Link) (device : DeviceId) → joint.parent ≡ device → (joint.child ≡ joint.parent → ⊥) → (way : Way) → target_by way joint ≡ device
+        → way ≡ Up
+    by_way joint device parent differ Up is = refl
+    by_way joint device parent differ Down is = absurd (differ (is ∙ sym parent))
+
+    sent_end : (h : Happening) (front : List Happening) → IsCaused s front h.note.time h.note.body → (line : ℕ) (octets : List ℕ)
+        → h.note.body ≡ kinds.Event line (Send link octets)
+        → IsFromEnd s.network link
+    sent_end h front c line octets is =
+        let e = subst (λ (b : NoteBody). IsCaused s front h.note.time b) is c in
+        ends e.before e.event link octets e.is (sym e.same)
+
+-- so what waits is of one master, where it came from below; from an end system, of that
+pub of_master : (s : Scenario) (hs : List Happening) (arrival : Happening) (device : DeviceId) (link : LinkId) (cause clock : ℕ) (frame : Pcf)
+    → IsInRange s.network → KeepsRules s.network → AreSentByEnds s → IsFounded place_of (IsDue s) hs → IsIn arrival hs
+    → arrival.note.body ≡ kinds.Arrived device link cause clock → arrival.frame ≡ Some frame → IsParentOf s.network device link
+    → IsOfMaster s.network device link frame.members
+of_master s hs arrival device link cause clock frame range keeps ends founded i body of parent =
+    let network = s.network in
+    let c = has_come s hs arrival device link cause clock frame founded i body of in
+    let sound = is_sound network device link (standpoint s c.front device (time_of arrival)) c.so.came frame c.so.taken in
+    record {
+      one = one_master (length hs) s hs arrival device link cause clock frame (omega arith) range keeps ends founded i body of parent;
+      own = λ child is_child end_is.
+          let joint = opened (λ (l : Link). l.parent ≡ device) (link_at network link) parent in
+          let same : joint.0.child ≡ child = at_known (λ (l : Link). l.child ≡ child) (link_at network link) joint.0 joint.1 is_child in
+          let m = end_member network device link frame.members joint.0 joint.1 joint.2 (subst (λ (d : DeviceId). is_end network d ≡ true) (sym same) end_is)
+          sound.member in
+          subst (λ (o : Option ℕ). IsSomeAnd o (λ member. frame.members.0 ≡ 2 ^ member)) (sym (ap (member_of network) (sym same) ∙ m.1)) m.2;
+    }

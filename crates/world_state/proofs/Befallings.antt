@@ -1,0 +1,205 @@
+-- What comes of the events of an instant is settled: the world stands again.
+use Rattle.std.proofs.Common.{◌≡◌, ◌↔◌, ℕ, zero, suc, ◌+◌, ◌≤◌, ◌<◌, Bool, true, false, if◌then◌else◌, List, [], ◌∷◌, ◌++◌, length, map, take, get_or, Option, Some, None, slice_get, option_and_then, inl, inr, refl, sym, ap, subst, ◌∙◌, arith}
+use Rattle.std.specs.List.{filter_map}
+use Rattle.std.proofs.lemmas.List.Sorted.{IsPermutation-sym}
+use Rattle.std.proofs.lemmas.Option.{get_or_from_slice_get, slice_get-get_or, slice_get_within}
+use Rattle.due_queue.proofs.Bags.{in_permuted}
+use Rattle.due_queue.specs.declared.Entry.{Entry}
+use Rattle.net_plan.specs.Places.{link_at}
+use Rattle.net_plan.specs.declared.event.What.TheVariants as events
+use Rattle.net_plan.specs.declared.event.What.{What}
+use Rattle.net_plan.specs.declared.ids.LinkId.{LinkId}
+use Rattle.net_plan.specs.declared.network.Network.{Network}
+use Rattle.net_plan.specs.declared.tables.Link.{Link}
+use Rattle.run_law.specs.records.Order.{IsIn}
+use Rattle.net_plan.specs.Ranges.{IsInRange, IsLinkInRange}
+use Rattle.run_law.specs.control.Wires.{signal_of, time_on_port}
+use Rattle.std.specs.Prelude.{IfSome}
+use Rattle.world_state.proofs.Apart.{ports_kept}
+use Rattle.world_state.proofs.Made.{in_all}
+use Rattle.world_state.proofs.UnderWays.{some_is, sound_with}
+use Rattle.world_state.specs.Sound.{AreBelow, AreUnderWay, rank_of}
+use Rattle.world_state.specs.Views.{at_port, befell_as}
+use Rattle.world_state.specs.declared.contents.Content.TheVariants.{Wire}
+use Rattle.world_state.specs.declared.contents.Signal.TheVariants as signals
+use Rattle.world_law.specs.world.World.{AreInOrder, AtPort}
+use Rattle.world_state.specs.Befalling.{AreSettledBy, entry_of, record_of, sent_up}
+use Rattle.world_state.specs.Giving.{IsPutOn}
+use Rattle.world_state.specs.Places.{IsSomePut}
+use Rattle.world_state.specs.declared.contents.Befallen.{Befallen}
+use Rattle.world_state.specs.declared.contents.Content.{Content}
+use Rattle.world_state.specs.declared.contents.Settled.{Settled}
+use Rattle.world_state.specs.declared.contents.WayState.{WayState}
+
+-- ---- a step of the loop
+
+module _ (network : Network) (broken : List Bool) (ups : List WayState) (time : ℕ) where
+  pub settled_more : (befell : List Befallen) (b : Befallen) (old mid new : List Settled) (before between after : List (Entry Content))
+      → AreSettledBy network broken ups time befell old mid before between → IsSomePut (record_of network broken ups b.number b.what) mid new
+      → IsPutOn (entry_of network ups time b.number b.what) between after
+      → AreSettledBy network broken ups time (befell ++ b ∷ []) old new before after
+  settled_more [] b old mid new before between after are one put = (
+    new,
+    after,
+    subst (λ (l : List Settled). IsSomePut (record_of network broken ups b.number b.what) l new) are.0 one,
+    subst (λ (l : List (Entry Content)). IsPutOn (entry_of network ups time b.number b.what) l after) are.1 put,
+    (refl, refl),
+  )
+  settled_more (f ∷ befell) b old mid new before between after are one put =
+      (are.0, are.1, are.2, are.3, settled_more befell b are.0 mid new are.1 between after are.4 one put)
+
+  -- one more is worked off
+  pub take_next : (xs : List Befallen) (i : ℕ) (d : Befallen) → i < length xs → take (suc i) xs ≡ take i xs ++ get_or xs i d ∷ []
+  take_next [] i d lt = absurd (omega (arith, lt))
+  take_next (x ∷ xs) zero d lt = refl
+  take_next (x ∷ xs) (suc i) d lt = ap (λ (l : List Befallen). x ∷ l) (take_next xs i d (omega (arith, lt)))
+
+same_at : {X : Type 0} (xs : List X) (i : ℕ) (a b : X) → i < length xs → a ≡ get_or xs i a → b ≡ get_or xs i b → a ≡ b
+same_at xs i a b lt is also = is ∙ sym (also ∙ get_or_from_slice_get xs i (get_or xs i a) b (slice_get-get_or xs i a lt))
+
+-- the loop goes on
+pub loop_step : (network : Network) (broken : List Bool) (ups : List WayState) (time : ℕ) (xs ys : List Befallen) (i : ℕ) (b m : Befallen) (what : What)
+    (old mid new : List Settled) (before between after : List (Entry Content)) (one : Option Settled) (put : Option (Entry Content))
+    → length ys ≡ length xs → i < length xs → ((k : ℕ) (d : Befallen) → i ≤ k → get_or ys k d ≡ get_or xs k d) → b ≡ get_or ys i b → m ≡ get_or ys i m
+    → what ≡ m.what → AreSettledBy network broken ups time (take i xs) old mid before between
+    → one ≡ record_of network broken ups b.number what → IsSomePut one mid new → put ≡ entry_of network ups time b.number what → IsPutOn put between after
+    → AreSettledBy network broken ups time (take (i + 1) xs) old new before after
+loop_step network broken ups time xs ys i b m what old mid new before between after one put long lt agree is also of are one_is settles put_is puts =
+    let same : m ≡ b = same_at ys i m b (omega (arith, long, lt)) also is in
+    let whats : what ≡ b.what = of ∙ ap (λ (x : Befallen). x.what) same in
+    let next : i + 1 ≡ suc i = omega arith in
+    let at : get_or xs i b ≡ b = sym (agree i b (omega arith)) ∙ sym is in
+    subst (λ (l : List Befallen). AreSettledBy network broken ups time l old new before after)
+    (sym (ap (λ (n : ℕ). take n xs) next ∙ take_next network broken ups time xs i b lt ∙ ap (λ (y : Befallen). take i xs ++ y ∷ []) at))
+    (settled_more network broken ups time (take i xs) b old mid new before between after are
+    (subst (λ (o : Option Settled). IsSomePut o mid new) (one_is ∙ ap (record_of network broken ups b.number) whats) settles)
+    (subst (λ (o : Option (Entry Content)). IsPutOn o between after) (put_is ∙ ap (entry_of network ups time b.number) whats) puts))
+
+-- ---- what an event puts under way
+
+abbrev up_entry : Network → ℕ → ℕ → LinkId → List ℕ → Link → WayState → Entry Content
+up_entry network time number link octets l w = record {
+  place = record {
+    at = time + time_on_port network link (signal_of octets) + w.delay;
+    rank = 2;
+    device = l.parent.0;
+    link = link.0;
+    cause = number;
+  };
+  content = Wire (signals.Octets octets);
+}
+
+pub is_mapped : {X Y : Type 0} (f : X → Y) (xs : List X) (x : X) → IsIn x xs → IsIn (f x) (map f xs)
+is_mapped f [] x i = absurd i
+is_mapped f (y ∷ xs) x (inl e) = inl (ap f e)
+is_mapped f (y ∷ xs) x (inr i) = inr (is_mapped f xs x i)
+
+-- it is on a wire, of its record, by a link of the network
+record IsSendOf (network : Network) (number : ℕ) (e : Entry Content) : Type 0 where
+  rank : e.place.rank ≡ 2
+  kind : rank_of e.content ≡ 2
+  device : e.place.device < length network.device
+  link : e.place.link < length network.link
+  cause : e.place.cause ≡ number
+  none : at_port e ≡ None
+
+module _ (network : Network) (range : IsInRange network) (ups : List WayState) (time number : ℕ) where
+  sent_is : (link : LinkId) (octets : List ℕ) (l : Link) (w : WayState) (cut : Bool) (e : Entry Content) → slice_get network.link link.0 ≡ Some l → w.cut ≡ cut
+      → sent_up network time number link octets l w ≡ Some e → IsSendOf network number e
+  sent_is link octets l w true e found is sent =
+      absurd (let bad : None ≡ Some e = sym (ap (λ (b : Bool). if b then None else Some (up_entry network time number link octets l w)) is) ∙ sent in cc)
+  sent_is link octets l w false e found is sent =
+      let same : up_entry network time number link octets l w ≡ e =
+      some_is _ _ (sym (ap (λ (b : Bool). if b then None else Some (up_entry network time number link octets l w)) is) ∙ sent) in
+      subst (IsSendOf network number) same
+      (record {
+        rank = refl;
+        kind = refl;
+        device = (in_all (IsLinkInRange network) network.link link.0 l range.links found).parent;
+        link = slice_get_within network.link link.0 l found;
+        cause = refl;
+        none = refl;
+      })
+
+  by_way : (link : LinkId) (octets : List ℕ) (l : Link) (o : Option WayState) (e : Entry Content) → slice_get network.link link.0 ≡ Some l
+      → option_and_then (sent_up network time number link octets l) o ≡ Some e → IsSendOf network number e
+  by_way link octets l None e found sent = absurd cc
+  by_way link octets l (Some w) e found sent = sent_is link octets l w w.cut e found refl sent
+
+  by_link : (link : LinkId) (octets : List ℕ) (o : Option Link) (e : Entry Content) → link_at network link ≡ o
+      → option_and_then (λ l. option_and_then (sent_up network time number link octets l) (slice_get ups link.0)) o ≡ Some e → IsSendOf network number e
+  by_link link octets None e found sent = absurd cc
+  by_link link octets (Some l) e found sent = by_way link octets l (slice_get ups link.0) e found sent
+
+  send_of : (what : What) (e : Entry Content) → entry_of network ups time number what ≡ Some e → IsSendOf network number e
+  send_of (events.Send link octets) e sent = by_link link octets (link_at network link) e refl sent
+  send_of other e sent = absurd cc
+
+  if_send : (o : Option (Entry Content)) → ((e : Entry Content) → o ≡ Some e → IsSendOf network number e) → IfSome o (λ one. at_port one ≡ None)
+  if_send None is = tt
+  if_send (Some e) is = (is e refl).none
+
+-- nothing under way is of the record of this number on a wire
+abbrev pub IsFreshOf : List (Entry Content) → ℕ → Type 0
+IsFreshOf entries number = (d : Entry Content) → IsIn d entries → d.place.rank ≡ 2 → d.place.cause ≡ number → ⊥
+
+module _ (network : Network) (range : IsInRange network) (broken : List Bool) (ups : List WayState) (time given : ℕ) where
+  -- one is put under way
+  put_sound : (number : ℕ) (o : Option (Entry Content)) (old new : List (Entry Content))
+      → ((e : Entry Content) → o ≡ Some e → IsSendOf network number e) → IsPutOn o old new → AreUnderWay network old → AreBelow given old → number < given
+      → IsFreshOf old number → AreUnderWay network new × AreBelow given new
+  put_sound number None old new of put are below lt fresh = (subst (AreUnderWay network) (sym put) are, subst (AreBelow given) (sym put) below)
+  put_sound number (Some e) old new of put are below lt fresh =
+      let it = of e refl in (
+        sound_with network old new e are put (it.rank ∙ sym it.kind) it.device it.link
+            (λ d there same. fresh d there (ap (λ (l : List ℕ). get_or l 1 0) same ∙ it.rank) (ap (λ (l : List ℕ). get_or l 4 0) same ∙ it.cause)),
+        λ d there. elim (in_permuted new (e ∷ old) d (IsPermutation-sym _ _ put) there) [
+          | inl is ↦ subst (λ (n : ℕ). n < given) (sym (ap (λ (x : Entry Content). x.place.cause) is ∙ it.cause)) lt
+          | inr rest ↦ below d rest
+        ],
+      )
+
+  put_fresh : (number other : ℕ) (o : Option (Entry Content)) (old new : List (Entry Content))
+      → ((e : Entry Content) → o ≡ Some e → IsSendOf network number e) → IsPutOn o old new → number < other → IsFreshOf old other → IsFreshOf new other
+  put_fresh number other None old new of put lt fresh = subst (λ (l : List (Entry Content)). IsFreshOf l other) (sym put) fresh
+  put_fresh number other (Some e) old new of put lt fresh = λ d there rank cause.
+      elim (in_permuted new (e ∷ old) d (IsPermutation-sym _ _ put) there) [
+        | inl is ↦ let own = ap (λ (x : Entry Content). x.place.cause) is ∙ (of e refl).cause in omega (arith, own, cause, lt)
+        | inr rest ↦ fresh d rest rank cause
+      ]
+
+  pub sound_settled : (befell : List Befallen) (old new : List Settled) (before after : List (Entry Content))
+      → AreSettledBy network broken ups time befell old new before after → AreUnderWay network before → AreBelow given before
+      → AreInOrder (map befell_as befell) → ((b : Befallen) → IsIn b befell → b.number < given) → ((b : Befallen) → IsIn b befell → IsFreshOf before b.number)
+      → AreUnderWay network after × AreBelow given after
+  sound_settled [] old new before after so are below order lt fresh =
+      (subst (AreUnderWay network) (sym so.1) are, subst (AreBelow given) (sym so.1) below)
+  sound_settled (b ∷ befell) old new before after (mid, between, one, put, rest) are below order lt fresh =
+      let of = send_of network range ups time b.number b.what in
+      let step = put_sound b.number _ before between of put are below (lt b (inl refl)) (fresh b (inl refl)) in
+      sound_settled befell mid new between after rest step.0 step.1 order.1 (λ c i. lt c (inr i))
+      (λ c i. put_fresh b.number c.number _ before between of put (order.0 (befell_as c) (is_mapped befell_as befell c i)) (fresh c (inr i)))
+
+  -- and nothing at the ports changes
+  pub ports_settled : (befell : List Befallen) (old new : List Settled) (before after : List (Entry Content))
+      → AreSettledBy network broken ups time befell old new before after
+      → (y : AtPort) → IsIn y (filter_map at_port after) ↔ IsIn y (filter_map at_port before)
+  ports_settled [] old new before after so y = (
+    λ there. subst (λ (l : List (Entry Content)). IsIn y (filter_map at_port l)) so.1 there,
+    λ there. subst (λ (l : List (Entry Content)). IsIn y (filter_map at_port l)) (sym so.1) there,
+  )
+  ports_settled (b ∷ befell) old new before after (mid, between, one, put, rest) y =
+      let more = ports_settled befell mid new between after rest y in
+      let here = ports_kept (entry_of network ups time b.number b.what) before between
+      (if_send network range ups time b.number _ (send_of network range ups time b.number b.what)) put y in
+      (λ there. here.0 (more.0 there), λ there. more.1 (here.1 there))
+
+-- the same of lists that are the same
+pub settled_with : (network : Network) (broken own : List Bool) (ups ways : List WayState) (time : ℕ) (befell : List Befallen) (old was new : List Settled)
+    (before first after : List (Entry Content)) → broken ≡ own → ups ≡ ways → old ≡ was → before ≡ first
+    → AreSettledBy network broken ups time befell old new before after → AreSettledBy network own ways time befell was new first after
+settled_with network broken own ups ways time befell old was new before first after a b c d so =
+    subst (λ (l : List Bool). AreSettledBy network l ways time befell was new first after) a
+    (subst (λ (l : List WayState). AreSettledBy network broken l time befell was new first after) b
+    (subst (λ (l : List Settled). AreSettledBy network broken ups time befell l new first after) c
+    (subst (λ (l : List (Entry Content)). AreSettledBy network broken ups time befell old new l after) d so)))

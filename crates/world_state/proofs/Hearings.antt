@@ -1,0 +1,59 @@
+-- What a device hears, as its machine asks for it.
+use Rattle.std.proofs.Common.{◌≡◌, ℕ, ◌≤◌, List, length, Bool, sym, ap, subst, ◌∙◌, arith, eq-eqb}
+use Rattle.std.specs.Prelude.{if◌then◌else◌, Ok, Result}
+use Rattle.net_plan.specs.Ranges.{IsInRange}
+use Rattle.net_plan.specs.declared.ids.VlId.{VlId}
+use Rattle.world_state.proofs.Made.{made_signal}
+use Rattle.world_state.specs.Views.{octets_of}
+use Rattle.world_state.specs.declared.contents.Timed.TheVariants.{Made}
+use Rattle.net_plan.specs.declared.ids.DeviceId.{DeviceId}
+use Rattle.net_plan.specs.declared.ids.LinkId.{LinkId}
+use Rattle.net_plan.specs.declared.network.Network.{Network}
+use Rattle.pcf_codec.specs.Decoding.{decoded}
+use Rattle.pcf_codec.specs.EtherType.{pcf_type}
+use Rattle.pcf_codec.specs.Fields.{field}
+use Rattle.pcf_codec.specs.Spelling.{Spells}
+use Rattle.pcf_codec.specs.declared.refusal.PcfRefusal.{PcfRefusal}
+use Rattle.pcf_values.specs.declared.pcf.Pcf.{Pcf}
+use Rattle.run_law.specs.control.Wires.{Signal, control, signal_of, timed}
+use Rattle.run_law.specs.declared.steps.Moment.{Moment}
+use Rattle.run_law.specs.machines.Calls.{MayHear, StandsFor}
+use Rattle.run_law.specs.machines.Nodes.{Node}
+use Rattle.world_state.specs.Hearing.{AreOctetsOf, MayCome}
+
+-- the octets of a control frame
+pub control_octets : (octets : List ℕ) (frame : Pcf) → Spells octets frame → decoded octets ≡ Ok frame → AreOctetsOf (control (Ok frame)) octets
+control_octets octets frame spells back = record {
+  is = ap (λ (b : Bool). if b then control (decoded octets) else timed octets) (eq-eqb (field 12 2 octets) pcf_type spells.ethertype)
+      ∙ ap (λ (r : Result Pcf PcfRefusal). control r) back;
+  least = subst (λ (n : ℕ). 60 ≤ n) (sym spells.size) (omega arith);
+  most = subst (λ (n : ℕ). n ≤ 1514) (sym spells.size) (omega arith);
+}
+
+-- so they may be heard
+pub may_hear : {M : Type 0} (stands : M → Network → DeviceId → Node → Type 0) (machine : M) (signal : Signal) (moment : Moment) (link : LinkId) (octets : List ℕ)
+    → StandsFor stands machine (MayCome signal moment link) → AreOctetsOf signal octets
+    → StandsFor stands machine (λ network device node. MayHear network device node moment link octets)
+may_hear stands machine signal moment link octets may are =
+    let it = may in (
+      it.0,
+      it.1,
+      it.2,
+      it.3,
+      record { call = it.4.call; least = are.least; most = are.most; arrives = it.4.arrives octets are },
+    )
+
+-- the octets of a frame that its sender made
+pub made_are : (network : Network) (vl : VlId) (cycle : ℕ) (octets : List ℕ) → IsInRange network → octets ≡ octets_of network (Made vl cycle)
+    → 60 ≤ length octets → length octets ≤ 1514 → AreOctetsOf (timed (octets_of network (Made vl cycle))) octets
+made_are network vl cycle octets range is least most =
+    record { is = ap signal_of is ∙ made_signal network vl cycle range; least = least; most = most }
+
+-- octets that were sent as a frame of the schedule
+pub sent_octets : (given octets : List ℕ) → signal_of given ≡ timed given → octets ≡ given → 60 ≤ length octets → length octets ≤ 1514
+    → AreOctetsOf (timed given) octets
+sent_octets given octets plain is least most = record { is = ap signal_of is ∙ plain; least = least; most = most }
+
+-- octets as a broken master sent them
+pub given_octets : (given octets : List ℕ) → octets ≡ given → 60 ≤ length octets → length octets ≤ 1514 → AreOctetsOf (signal_of given) octets
+given_octets given octets is least most = record { is = ap signal_of is; least = least; most = most }

@@ -1,0 +1,32 @@
+-- Where no change of state follows a record, none is named by it.
+use Rattle.std.proofs.Common.{◌≡◌, ℕ, List, [], ◌∷◌, Bool, map, refl, ap, sym, ◌∙◌}
+use Rattle.std.specs.Prelude.{◌&&◌, ◌==◌, if◌then◌else◌}
+use Rattle.world_state.specs.Naming.{LeadsNowhere, named_settled}
+use Rattle.world_state.specs.declared.contents.Settled.{Settled}
+use Rattle.run_law.specs.declared.note.NoteBody.{NoteBody}
+use Rattle.run_law.specs.declared.note.NoteBody.TheVariants as kinds
+use Rattle.world_law.specs.world.Moves.{named_body}
+use Rattle.world_law.specs.world.World.{none_yet}
+
+same_body : (number : ℕ) (first : NoteBody) → LeadsNowhere first → (body : NoteBody) → named_body number first body ≡ body
+same_body number first nowhere (kinds.State device state cause why) =
+    ap (λ (b : Bool). kinds.State device state (if b && cause == none_yet then number else cause) why) (nowhere device why)
+same_body number first nowhere (kinds.Event line what) = refl
+same_body number first nowhere (kinds.Arrived device link cause clock) = refl
+same_body number first nowhere (kinds.Permanent device link cause point verdict) = refl
+same_body number first nowhere (kinds.Compressed device opened at cycle members verdict) = refl
+same_body number first nowhere (kinds.Sent device cycle) = refl
+same_body number first nowhere (kinds.Corrected device cycle by adjustment) = refl
+same_body number first nowhere (kinds.Left device link cause clock) = refl
+same_body number first nowhere (kinds.Lost device link cause) = refl
+same_body number first nowhere (kinds.TtSent device link cause vl cycle) = refl
+same_body number first nowhere (kinds.Accepted device link cause vl cycle) = refl
+same_body number first nowhere (kinds.Delivered device link cause vl cycle) = refl
+same_body number first nowhere (kinds.Dropped device link cause reason) = refl
+same_body number first nowhere (kinds.Clock device reading adjustment state) = refl
+
+pub none_named : (number : ℕ) (first : NoteBody) → LeadsNowhere first → (zs : List Settled) → zs ≡ map (named_settled number first) zs
+none_named number first nowhere [] = refl
+none_named number first nowhere (z ∷ zs) =
+    ap (λ body. record z { body = body } ∷ zs) (sym (same_body number first nowhere z.body))
+    ∙ ap (λ rest. named_settled number first z ∷ rest) (none_named number first nowhere zs)

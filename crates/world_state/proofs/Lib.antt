@@ -1,0 +1,15 @@
+pub mod Acts
+pub mod Apart
+pub mod Befallings
+pub mod Befalls
+pub mod Firsts
+pub mod Hearings
+pub mod Holdings
+pub mod LeastPoints
+pub mod Made
+pub mod Mapped
+pub mod Leading
+pub mod PutTo
+pub mod Ripes
+pub mod Swaps
+pub mod UnderWays

@@ -1,0 +1,81 @@
+-- A frame is given to one link more.
+use Rattle.std.proofs.Common.{◌≡◌, ℕ, ◌+◌, List, ◌∷◌, get_or, inl, inr, sym, ap, subst, ◌∙◌, arith}
+use Rattle.std.proofs.lemmas.Bool.{cases_lt}
+use Rattle.std.proofs.lemmas.List.Sorted.{IsPermutation-sym}
+use Rattle.std.specs.List.Sorted.{IsPermutation}
+use Rattle.due_queue.proofs.Bags.{in_permuted}
+use Rattle.due_queue.specs.declared.Entry.{Entry}
+use Rattle.net_plan.specs.declared.ids.LinkId.{LinkId}
+use Rattle.net_plan.specs.declared.network.Network.{Network}
+use Rattle.run_law.specs.control.Leaving.{Gives}
+use Rattle.run_law.specs.records.Order.{IsIn}
+use Rattle.run_law.specs.declared.note.NoteBody.{NoteBody}
+use Rattle.due_queue.specs.Places.{numbers_of}
+use Rattle.world_state.specs.Giving.{ArePutTo, entry_at_port, place_at_port}
+use Rattle.world_state.specs.Sound.{AreBelow}
+use Rattle.world_state.specs.declared.contents.Content.{Content}
+use Rattle.world_state.specs.declared.contents.WayState.{WayState}
+use Rattle.world_state.specs.declared.giving.Giving.{Giving}
+
+same_link : (link : LinkId) (i : ℕ) → link.0 ≡ i → link ≡ record { 0 = i }
+same_link link i same = ap (λ (n : ℕ). let l : LinkId = record { 0 = n } in l) same
+
+module _ (network : Network) (ups downs : List WayState) (body : NoteBody) (giving : Giving) (i : ℕ) (old mid : List (Entry Content))
+    (are : ArePutTo i network ups downs body giving old mid) where
+  -- it is given to the link
+  pub more_put : (new : List (Entry Content)) (entry : Entry Content) → entry ≡ entry_at_port network ups downs giving (record { 0 = i })
+      → Gives network body giving.device (record { 0 = i })
+      → IsPermutation (entry ∷ mid) new → ArePutTo (i + 1) network ups downs body giving old new
+  more_put new entry is given same =
+      record {
+        real = λ e there.
+            elim (in_permuted new (entry ∷ mid) e (IsPermutation-sym _ _ same) there) [
+              | inl own ↦ inr (record { 0 = i }, omega arith, given, own ∙ is)
+              | inr rest ↦
+                  elim (are.real e rest) [
+                    | inl before ↦ inl before
+                    | inr by ↦ let lt = by.1 in inr (by.0, omega (arith, lt), by.2, by.3)
+                  ]
+            ];
+        kept = λ e there. in_permuted (entry ∷ mid) new e same (inr (are.kept e there));
+        all = λ link lt gives.
+            elim (cases_lt link.0 i) [
+              | inl before ↦ in_permuted (entry ∷ mid) new _ same (inr (are.all link before gives))
+              | inr here ↦
+                  let own : link.0 ≡ i = omega (arith, lt, here) in
+                  in_permuted (entry ∷ mid) new _ same (inl (ap (entry_at_port network ups downs giving) (same_link link i own) ∙ sym is))
+            ];
+      }
+
+  -- it is not
+  pub none_put : (Gives network body giving.device (record { 0 = i }) → ⊥) → ArePutTo (i + 1) network ups downs body giving old mid
+  none_put not_given =
+      record {
+        real = λ e there.
+            elim (are.real e there) [
+              | inl before ↦ inl before
+              | inr by ↦ let lt = by.1 in inr (by.0, omega (arith, lt), by.2, by.3)
+            ];
+        kept = are.kept;
+        all = λ link lt gives.
+            elim (cases_lt link.0 i) [
+              | inl before ↦ are.all link before gives
+              | inr here ↦ let own : link.0 ≡ i = omega (arith, lt, here) in absurd
+                  (not_given (subst (Gives network body giving.device) (same_link link i own) gives))
+            ];
+      }
+
+  -- no other is at its place
+  pub apart_from : AreBelow giving.number old → (d : Entry Content) → IsIn d mid
+      → numbers_of d.place ≡ numbers_of (place_at_port network ups downs giving (record { 0 = i })) → ⊥
+  apart_from below d there same =
+      let at : (k : ℕ) → get_or (numbers_of d.place) k 0 ≡ get_or (numbers_of (place_at_port network ups downs giving (record { 0 = i }))) k 0
+      = λ k. ap (λ (l : List ℕ). get_or l k 0) same in
+      elim (are.real d there) [
+        | inl before ↦ let lt = below d before in let e : d.place.cause ≡ giving.number = at 4 in omega (arith, lt, e)
+        | inr by ↦
+            let lt = by.1 in
+            let e : d.place.link ≡ i = at 3 in
+            let own : d.place.link ≡ by.0.0 = ap (λ (x : Entry Content). x.place.link) by.3 in
+            omega (arith, lt, e, own)
+      ]

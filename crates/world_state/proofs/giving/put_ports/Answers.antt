@@ -1,0 +1,51 @@
+use Rattle.std.proofs.Common.{◌+◌, ◌∷◌, refl, rules, ap, arith, subst, sym, ◌∙◌}
+use Rattle.std.proofs.lemmas.Bool.{both_ways}
+use Rattle.due_queue.specs.declared.Entry.{Entry}
+use Rattle.due_queue.specs.declared.Place.{Place}
+use Rattle.world_state.proofs.PutTo.{apart_from, more_put, none_put}
+use Rattle.world_state.proofs.UnderWays.{sound_with}
+use Rattle.std.specs.List.Sorted.{IsPermutation}
+use Rattle.world_state.specs.Giving.{ArePutTo, entry_at_port, place_at_port}
+use Rattle.world_state.specs.Sound.{AreUnderWay}
+use Rattle.world_state.specs.declared.contents.Content.{Content}
+use Rattle.world_state.proofs.giving.put_ports.Goals as goal
+use Rattle.world_state.proofs.giving.put_ports.Goals.{then-gives, else-gives}
+
+pub loop-index-preserved : goal.loop-index-preserved
+loop-index-preserved c =
+    let a = c.args in
+    let i = c.loop-index.index in
+    let old = a.under_way.now.entries in
+    let mid = c.loop-index.under_way.entries in
+    let room = c.loop-index.invariant.0 in
+    let are = c.loop-index.invariant.1 in
+    let sound = c.loop-index.invariant.2 in
+    elim c.if-gives.branch [
+      | then-gives w ↦
+          let place = w.port_place-place.ensures in
+          let content = w.content_of.ensures in
+          let entry : Entry Content = record { place = w.port_place-place.result; content = w.content_of.result } in
+          let is = ap (λ (p : Place). let e : Entry Content = record { place = p; content = w.content_of.result } in e) place
+          ∙ ap (λ (k : Content). let e : Entry Content = record
+          { place = place_at_port a.network.now a.ups.now a.downs.now a.giving.now (record { 0 = i }); content = k } in e) content in
+          let more = w.put.ensures.room in
+          let then_room = ap (λ q. q.room) w.under_way-is in (
+            omega (arith, room, more, then_room),
+            subst (λ q. ArePutTo (i + 1) a.network.now a.ups.now a.downs.now a.body.now a.giving.now old q.entries) (sym w.under_way-is)
+                (more_put a.network.now a.ups.now a.downs.now a.body.now a.giving.now i old mid are w.put.new.self.entries entry is
+                (c.gives.ensures.0 w.if-gives.true) w.put.ensures.entries),
+            λ below was.
+                subst (λ q. AreUnderWay a.network.now q.entries) (sym w.under_way-is)
+                (sound_with a.network.now mid w.put.new.self.entries (entry_at_port a.network.now a.ups.now a.downs.now a.giving.now (record { 0 = i }))
+                (sound below was) (subst (λ x. IsPermutation (x ∷ mid) w.put.new.self.entries) is w.put.ensures.entries) refl c.requires.device (search rules)
+                (apart_from a.network.now a.ups.now a.downs.now a.body.now a.giving.now i old mid are below)),
+          )
+      | else-gives w ↦
+          let then_room = ap (λ q. q.room) w.under_way-is in (
+            omega (arith, room, then_room),
+            subst (λ q. ArePutTo (i + 1) a.network.now a.ups.now a.downs.now a.body.now a.giving.now old q.entries) (sym w.under_way-is)
+                (none_put a.network.now a.ups.now a.downs.now a.body.now a.giving.now i old mid are
+                (λ given. both_ways _ w.if-gives.false (c.gives.ensures.1 given))),
+            λ below was. subst (λ q. AreUnderWay a.network.now q.entries) (sym w.under_way-is) (sound below was),
+          )
+    ]

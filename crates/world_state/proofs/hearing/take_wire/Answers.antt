@@ -1,0 +1,17 @@
+use Rattle.std.proofs.Common.{◌∙◌, ap, inl, refl, sym}
+use Rattle.std.proofs.lemmas.List.Sorted.{IsPermutation-sym}
+use Rattle.due_queue.proofs.Bags.{in_permuted}
+use Rattle.due_queue.specs.declared.Place.{Place}
+use Rattle.world_state.proofs.Firsts.{in_words, one_first}
+use Rattle.world_state.proofs.hearing.take_wire.Goals as goal
+
+pub signal_in-requires : goal.signal_in-requires
+signal_in-requires c =
+    let first = c.in-Some.first in
+    let there = in_permuted _ _ first (IsPermutation-sym _ _ c.in-Some.ensures.entries) (inl refl) in
+    let same = one_first _ _ _ c.in-Some.ensures.first c.requires.first in
+    sym (c.requires.sound.1.kinds first there) ∙ ap (λ (p : Place). p.rank) same ∙ c.requires.wire
+
+pub returns : goal.returns
+returns c =
+    in_words _ _ c.in-Some.first c.args.place _ (one_first _ _ _ c.in-Some.ensures.first c.requires.first) c.signal_in.ensures c.in-Some.ensures.entries

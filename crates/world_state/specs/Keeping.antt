@@ -1,0 +1,17 @@
+-- What is kept of a device: its machine, or what it shows though it is broken.
+use Rattle.std.specs.Prelude.{◌≡◌, true, false}
+use Rattle.net_plan.specs.declared.ids.DeviceId.{DeviceId}
+use Rattle.net_plan.specs.declared.network.Network.{Network}
+use Rattle.run_law.specs.machines.Nodes.{Node}
+use Rattle.world_state.specs.declared.kept.Kept.TheVariants.{Sound, Out}
+use Rattle.world_state.specs.declared.kept.Kept.{Kept}
+
+-- the machine of a sound device
+abbrev pub sound_one : {M : Type 0} → M → Kept M
+sound_one machine = Sound machine
+
+-- it stands for the device: a sound one's machine does, and of a broken one the state and the adjustment are kept
+abbrev pub keeps : {M : Type 0} → (M → Network → DeviceId → Node → Type 0) → Kept M → Network → DeviceId → Node → Type 0
+keeps stands (Sound machine) network device node = stands machine network device node × (node.broken ≡ false)
+keeps stands (Out state adjustment) network device node =
+    (node.broken ≡ true) × (node.standing.state ≡ state) × (node.standing.adjustment ≡ adjustment)

@@ -1,0 +1,316 @@
+ghost use Rattle.std.specs.Prelude.{◌≡◌};
+ghost use Rattle.world_state.specs.Bodies.{body_of};
+
+use net_plan::{DeviceId, LinkId, VlId};
+use pcf_values::Members;
+use run_law::{Judgement, Note, NoteBody, Reason, Why};
+use std::marker::Model;
+use sync_state::State;
+use tte_units::Units;
+
+/// What a record says that a world settles: all that a record may say, but that an event befalls the network. It is
+/// small, so that it is moved at no cost. The fields are those of `NoteBody`.
+#[derive(Clone, Copy)]
+pub enum Kind {
+    /// A control frame arrives and is taken.
+    Arrived {
+        device: DeviceId,
+        link: LinkId,
+        cause: u64,
+        clock: u64,
+    },
+    /// A control frame is permanent.
+    Permanent {
+        device: DeviceId,
+        link: LinkId,
+        cause: u64,
+        point: Units,
+        verdict: Judgement,
+    },
+    /// A compression master sends the frame of a collection.
+    Compressed {
+        device: DeviceId,
+        opened: Units,
+        at: Units,
+        cycle: u32,
+        members: Members,
+        verdict: Judgement,
+    },
+    /// A master sends the control frame of a cycle.
+    Sent {
+        device: DeviceId,
+        cycle: u32,
+    },
+    /// A device corrects its clock.
+    Corrected {
+        device: DeviceId,
+        cycle: u32,
+        by: Units,
+        adjustment: Units,
+    },
+    /// A device changes its state.
+    State {
+        device: DeviceId,
+        state: State,
+        cause: u64,
+        why: Why,
+    },
+    /// A control frame leaves a device.
+    Left {
+        device: DeviceId,
+        link: LinkId,
+        cause: u64,
+        clock: u64,
+    },
+    /// A frame meets a cut way.
+    Lost {
+        device: DeviceId,
+        link: LinkId,
+        cause: u64,
+    },
+    /// A frame of the schedule is dispatched.
+    TtSent {
+        device: DeviceId,
+        link: LinkId,
+        cause: u64,
+        vl: VlId,
+        cycle: u32,
+    },
+    /// A switch takes a frame of the schedule.
+    Accepted {
+        device: DeviceId,
+        link: LinkId,
+        cause: u64,
+        vl: VlId,
+        cycle: u32,
+    },
+    /// An end system takes a frame of the schedule.
+    Delivered {
+        device: DeviceId,
+        link: LinkId,
+        cause: u64,
+        vl: VlId,
+        cycle: u32,
+    },
+    /// A frame is dropped.
+    Dropped {
+        device: DeviceId,
+        link: LinkId,
+        cause: u64,
+        reason: Reason,
+    },
+    /// A device's clock at the end of the run.
+    Clock {
+        device: DeviceId,
+        reading: Units,
+        adjustment: Units,
+        state: State,
+    },
+}
+
+/// What a settled record says, seen as the body of its record.
+#[derive(Drop)]
+pub struct Body {
+    /// The same, by its kind.
+    pub kind: Kind,
+}
+
+impl Model for Body {
+    ghost use Rattle.run_law.specs.declared.note.NoteBody.{NoteBody};
+
+    ghost Value = { NoteBody };
+
+    ghost use Rattle.world_state.specs.Bodies.{body_of};
+
+    ghost view = { λ b. body_of b.kind };
+}
+
+/// A record that a world gives, seen as the record. It is small: the record itself has room for the octets of an event.
+#[derive(Drop)]
+pub struct Given {
+    /// The number of the record, from 1 on.
+    pub number: u64,
+    /// Its time, in units of 2^-16 ns.
+    pub time: Units,
+    /// What it says.
+    pub body: Body,
+}
+
+impl Model for Given {
+    ghost use Rattle.run_law.specs.declared.note.Note.{Note};
+
+    ghost Value = { Note };
+
+    ghost view = { λ g. record { number = g.number; time = g.time; body = g.body } };
+}
+
+/// The body of its record.
+fn body_of(kind: Kind) -> NoteBody
+    ensures { result ≡ body_of kind }
+{
+    match kind {
+        Kind::Arrived {
+            device,
+            link,
+            cause,
+            clock,
+        } => NoteBody::Arrived {
+            device,
+            link,
+            cause,
+            clock,
+        },
+        Kind::Permanent {
+            device,
+            link,
+            cause,
+            point,
+            verdict,
+        } => NoteBody::Permanent {
+            device,
+            link,
+            cause,
+            point,
+            verdict,
+        },
+        Kind::Compressed {
+            device,
+            opened,
+            at,
+            cycle,
+            members,
+            verdict,
+        } => NoteBody::Compressed {
+            device,
+            opened,
+            at,
+            cycle,
+            members,
+            verdict,
+        },
+        Kind::Sent { device, cycle } => NoteBody::Sent { device, cycle },
+        Kind::Corrected {
+            device,
+            cycle,
+            by,
+            adjustment,
+        } => NoteBody::Corrected {
+            device,
+            cycle,
+            by,
+            adjustment,
+        },
+        Kind::State {
+            device,
+            state,
+            cause,
+            why,
+        } => NoteBody::State {
+            device,
+            state,
+            cause,
+            why,
+        },
+        Kind::Left {
+            device,
+            link,
+            cause,
+            clock,
+        } => NoteBody::Left {
+            device,
+            link,
+            cause,
+            clock,
+        },
+        Kind::Lost {
+            device,
+            link,
+            cause,
+        } => NoteBody::Lost {
+            device,
+            link,
+            cause,
+        },
+        Kind::TtSent {
+            device,
+            link,
+            cause,
+            vl,
+            cycle,
+        } => NoteBody::TtSent {
+            device,
+            link,
+            cause,
+            vl,
+            cycle,
+        },
+        Kind::Accepted {
+            device,
+            link,
+            cause,
+            vl,
+            cycle,
+        } => NoteBody::Accepted {
+            device,
+            link,
+            cause,
+            vl,
+            cycle,
+        },
+        Kind::Delivered {
+            device,
+            link,
+            cause,
+            vl,
+            cycle,
+        } => NoteBody::Delivered {
+            device,
+            link,
+            cause,
+            vl,
+            cycle,
+        },
+        Kind::Dropped {
+            device,
+            link,
+            cause,
+            reason,
+        } => NoteBody::Dropped {
+            device,
+            link,
+            cause,
+            reason,
+        },
+        Kind::Clock {
+            device,
+            reading,
+            adjustment,
+            state,
+        } => NoteBody::Clock {
+            device,
+            reading,
+            adjustment,
+            state,
+        },
+    }
+}
+
+impl Given {
+    /// What it says.
+    pub fn body(&self) -> &Body
+        ensures { result.now ≡ self.now.body }
+    {
+        &self.body
+    }
+
+    /// The record.
+    pub fn note(&self) -> Note
+        ensures { result ≡ self.now }
+    {
+        Note {
+            number: self.number,
+            time: self.time,
+            body: body_of(self.body.kind),
+        }
+    }
+}

@@ -1,0 +1,226 @@
+ghost use Rattle.std.specs.Prelude.{◌≡◌, ◌<◌, ◌↔◌, length, IsTrue, ◌≤◌, ◌^◌, ◌+◌, All, Some, IfSome, IfNone, OnOk, vec_len, vec_capacity};
+ghost use Rattle.net_plan.specs.Ranges.{IsInRange};
+ghost use Rattle.tte_units.specs.Amount.{amount};
+ghost use Rattle.net_plan.specs.Rules.{IsChildOf};
+ghost use Rattle.world_state.specs.Sound.{AreBelow, AreUnderWay};
+ghost use Rattle.world_state.specs.Giving.{ArePutTo, CameBy, IsYoung, awaited_by, place_at_port, with_one};
+ghost use Rattle.run_law.specs.control.Leaving.{Gives, Passes};
+ghost use Rattle.run_law.specs.scenario.Devices.{IsParentOf, is_relay};
+
+use crate::OutOfMemory;
+use crate::bodies::{Body, Kind};
+use crate::contents::{Content, Holding, Waits, WayState};
+use crate::waiting::{awaited, wait_for};
+use due_queue::{Place, UnderWay};
+use net_plan::{DeviceId, LinkId, Network, Role};
+use pcf_values::Pcf;
+
+/// Does the link lead from the device up to its parent?
+fn is_child(network: &Network, device: DeviceId, link: LinkId) -> bool
+    requires { link.0 < length network.now.link }
+    ensures { IsTrue result ↔ IsChildOf network.now device link }
+{
+    network.link.as_slice()[link.0 as usize].child == device
+}
+
+/// Is the device the parent of the link?
+fn is_above(network: &Network, device: DeviceId, link: LinkId) -> bool
+    requires { link.0 < length network.now.link }
+    ensures { IsTrue result ↔ IsParentOf network.now device link }
+{
+    network.link.as_slice()[link.0 as usize].parent == device
+}
+
+/// Is the device a relay?
+pub fn is_a_relay(network: &Network, device: DeviceId) -> bool
+    ensures { result ≡ is_relay network.now device }
+{
+    match network.device.as_slice().get(device.0 as usize) {
+        Some(found) => found.role == Role::Relay,
+        None => false,
+    }
+}
+
+/// Does the relay pass on by the link what came by another?
+fn passes(network: &Network, device: DeviceId, by: LinkId, link: LinkId) -> bool
+    requires by { by.0 < length network.now.link }
+    requires link { link.0 < length network.now.link }
+    ensures { IsTrue result ↔ Passes network.now device by link }
+{
+    is_a_relay(network, device)
+        && ((is_above(network, device, by) && is_child(network, device, link))
+            || (is_child(network, device, by) && is_above(network, device, link)))
+}
+
+/// Does the device give the frame of the record to the link?
+pub fn gives(network: &Network, body: &Body, device: DeviceId, link: LinkId) -> bool
+    requires link { link.0 < length network.now.link }
+    requires by { CameBy (length network.now.link) body.now }
+    ensures { IsTrue result ↔ Gives network.now body.now device link }
+{
+    match &body.kind {
+        Kind::Sent { device: master, .. } => {
+            device == *master && is_child(network, device, link)
+        }
+        Kind::Compressed { device: cm, .. } => device == *cm && is_above(network, device, link),
+        Kind::Arrived {
+            device: relay,
+            link: by,
+            ..
+        } => device == *relay && passes(network, device, *by, link),
+        _ => false,
+    }
+}
+
+/// A frame that a device gives to links: when, by which record, and what its clock reads.
+#[derive(Clone, Copy)]
+pub struct Giving {
+    /// The device that gives it.
+    pub device: DeviceId,
+    /// When, in units of 2^-16 ns.
+    pub time: u64,
+    /// The number of the record.
+    pub number: u64,
+    /// The frame.
+    pub frame: Pcf,
+    /// What the device's clock reads then.
+    pub reading: u64,
+    /// Is the device broken?
+    pub broken: bool,
+}
+
+/// The place of the frame at the port of the link.
+fn port_place(
+    network: &Network,
+    ups: &[WayState],
+    downs: &[WayState],
+    giving: &Giving,
+    link: LinkId,
+) -> Place
+    requires link { link.0 < length network.now.link }
+    requires ups { length ups.now ≡ length network.now.link }
+    requires downs { length downs.now ≡ length network.now.link }
+    requires up_holds { All (λ w. w.hold < 2 ^ 62) ups.now }
+    requires down_holds { All (λ w. w.hold < 2 ^ 62) downs.now }
+    requires time { giving.now.time ≤ 2 ^ 60 }
+    ensures { result ≡ place_at_port network.now ups.now downs.now giving.now link }
+{
+    let way = if is_above(network, giving.device, link) {
+        downs[link.0 as usize]
+    } else {
+        ups[link.0 as usize]
+    };
+    Place {
+        at: giving.time + way.hold,
+        rank: 8,
+        device: giving.device.0,
+        link: link.0,
+        cause: giving.number,
+    }
+}
+
+/// What is put to a port.
+fn content_of(giving: &Giving) -> Content
+    ensures { result ≡ Content.Port giving.now.frame giving.now.reading }
+{
+    Content::Port(giving.frame, giving.reading)
+}
+
+/// Puts the frame of a record to each port to which its device gives it.
+pub fn put_ports(
+    under_way: &mut UnderWay<Content>,
+    network: &Network,
+    ups: &[WayState],
+    downs: &[WayState],
+    body: &Body,
+    giving: &Giving,
+)
+    requires by { CameBy (length network.now.link) body.now }
+    requires few { length network.now.link < 2 ^ 32 }
+    requires ups { length ups.now ≡ length network.now.link }
+    requires downs { length downs.now ≡ length network.now.link }
+    requires up_holds { All (λ w. w.hold < 2 ^ 62) ups.now }
+    requires down_holds { All (λ w. w.hold < 2 ^ 62) downs.now }
+    requires time { giving.now.time ≤ 2 ^ 60 }
+    requires room { length network.now.link ≤ under_way.old.room }
+    requires device { giving.now.device.0 < length network.now.device }
+    ensures sound { AreBelow giving.now.number under_way.old.entries → AreUnderWay network.now under_way.old.entries
+        → AreUnderWay network.now under_way.new.entries }
+    ensures room { under_way.old.room ≤ under_way.new.room + length network.now.link }
+    ensures put { ArePutTo (length network.now.link) network.now ups.now downs.now body.now giving.now under_way.old.entries under_way.new.entries }
+{
+    for index in 0..network.link.as_slice().len() {
+        let link = LinkId(index as u32);
+        if gives(network, body, giving.device, link) {
+            let place = port_place(network, ups, downs, giving, link);
+            under_way.put(place, content_of(giving));
+        }
+    }
+}
+
+/// Gives a frame to the links to which its device gives it, or has it wait, where there is one.
+pub fn give_frame(
+    under_way: &mut UnderWay<Content>,
+    waiting: &mut Vec<Waits>,
+    network: &Network,
+    ups: &[WayState],
+    downs: &[WayState],
+    body: &Body,
+    giving: Option<Giving>,
+)
+    requires range { IsInRange network.now }
+    requires by { CameBy (length network.now.link) body.now }
+    requires young { IsYoung (amount network.now.dmax) body.now }
+    requires ups { length ups.now ≡ length network.now.link }
+    requires downs { length downs.now ≡ length network.now.link }
+    requires up_holds { All (λ w. w.hold < 2 ^ 62) ups.now }
+    requires down_holds { All (λ w. w.hold < 2 ^ 62) downs.now }
+    requires room { length network.now.link ≤ under_way.old.room }
+    requires capacity { vec_len waiting.old < vec_capacity waiting.old }
+    requires time { IfSome giving (λ g. g.time ≤ 2 ^ 60) }
+    requires device { IfSome giving (λ g. g.device.0 < length network.now.device) }
+    requires low { IfSome giving (λ g. g.reading ≤ 2 ^ 60 + 2 ^ 51) }
+    ensures sound { IfSome giving (λ g. AreBelow g.number under_way.old.entries → AreUnderWay network.now under_way.old.entries
+        → AreUnderWay network.now under_way.new.entries) }
+    ensures room { under_way.old.room ≤ under_way.new.room + length network.now.link }
+    ensures put { IfSome giving (λ g. ArePutTo (length network.now.link) network.now ups.now downs.now body.now g
+        under_way.old.entries under_way.new.entries) }
+    ensures waits { IfSome giving (λ g. waiting.new.items
+        ≡ with_one (awaited_by network.now g.broken body.now (Some g.frame) g.reading g.number) waiting.old.items) }
+    ensures none { IfNone giving (under_way.new.entries ≡ under_way.old.entries) }
+    ensures no_wait { IfNone giving (waiting.new.items ≡ waiting.old.items) }
+{
+    if let Some(giving) = giving {
+        put_ports(under_way, network, ups, downs, body, &giving);
+        let one = awaited(
+            network,
+            giving.broken,
+            body,
+            Some(giving.frame),
+            giving.reading,
+            giving.number,
+        );
+        wait_for(waiting, one);
+    }
+}
+
+/// Takes room for what a record may launch, and a switch take by it.
+pub fn make_room(
+    under_way: &mut UnderWay<Content>,
+    waiting: &mut Vec<Waits>,
+    stored: &mut Vec<Holding>,
+    network: &Network,
+) -> Result<(), OutOfMemory>
+    requires few { length network.now.link < 2 ^ 32 }
+    ensures entries { under_way.new.entries ≡ under_way.old.entries }
+    ensures waiting { waiting.new.items ≡ waiting.old.items }
+    ensures stored { stored.new.items ≡ stored.old.items }
+    ensures room { OnOk result (length network.now.link < under_way.new.room) }
+    ensures capacity { OnOk result (vec_len waiting.new < vec_capacity waiting.new) }
+    ensures free { OnOk result (vec_len stored.new < vec_capacity stored.new) }
+{
+    under_way.reserve(network.link.as_slice().len() + 1)?;
+    waiting.reserve(1)?;
+    stored.reserve(1)?;
+    Ok(())
+}

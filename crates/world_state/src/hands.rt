@@ -1,0 +1,91 @@
+ghost use Rattle.std.specs.Prelude.{◌≡◌, ◌≤◌, ◌<◌, ◌-◌, Some, vec_capacity};
+ghost use Rattle.world_state.specs.Acting.{IsHand, IsHeldIn, dispatched_by};
+
+use crate::bodies::{Body, Kind};
+use crate::contents::{Holding, Settled, Timed};
+use crate::outcomes::bare;
+use crate::packets::Packet;
+use net_plan::{DeviceId, VlId};
+use schedule_tables::Entry;
+
+/// The frame of a row that a device has at hand, and the number of the record by which a switch took it, or 0 at its
+/// sender.
+#[derive(Drop)]
+pub struct AtHand {
+    /// The number of that record, or 0.
+    pub cause: u64,
+    /// The frame's octets.
+    pub octets: Timed,
+}
+
+/// The same octets, in memory that was taken before.
+fn copied(octets: &Timed, room: &mut Vec<u8>) -> Timed
+    requires { 1514 ≤ vec_capacity room.old }
+    ensures { result ≡ octets.now }
+{
+    match octets {
+        Timed::Made(vl, cycle) => Timed::Made(*vl, *cycle),
+        Timed::Sent(given) => Timed::Sent(Packet::within(room, given.as_slice())),
+    }
+}
+
+/// The frame of the virtual link that the switch holds.
+fn held(stored: &[Holding], device: DeviceId, vl: VlId, room: &mut Vec<u8>) -> Option<AtHand>
+    requires { 1514 ≤ vec_capacity room.old }
+    ensures { IsHeldIn stored.now device vl result }
+{
+    let index = stored
+        .iter()
+        .position(|holding| holding.device == device && holding.vl == vl)?;
+    let holding = &stored[index];
+    Some(AtHand {
+        cause: holding.number,
+        octets: copied(&holding.octets, room),
+    })
+}
+
+/// The frame that the device has at hand.
+pub fn at_hand(
+    stored: &[Holding],
+    device: DeviceId,
+    entry: &Entry,
+    cycle: u32,
+    room: &mut Vec<u8>,
+) -> Option<AtHand>
+    requires { 1514 ≤ vec_capacity room.old }
+    ensures { IsHand stored.now device entry.now cycle result }
+{
+    if entry.vl.sender == device {
+        return Some(AtHand {
+            cause: 0,
+            octets: Timed::Made(entry.row.vl, cycle),
+        });
+    }
+    held(stored, device, entry.row.vl, room)
+}
+
+/// The record of its dispatch, where its way is cut or not.
+pub fn dispatched(cut: bool, device: DeviceId, entry: &Entry, cycle: u32, hand: AtHand) -> Settled
+    ensures { result ≡ dispatched_by cut device entry.now cycle hand }
+{
+    if cut {
+        return bare(Kind::Lost {
+            device,
+            link: entry.row.link,
+            cause: hand.cause,
+        });
+    }
+    Settled {
+        body: Body {
+            kind: Kind::TtSent {
+                device,
+                link: entry.row.link,
+                cause: hand.cause,
+                vl: entry.row.vl,
+                cycle,
+            },
+        },
+        frame: None,
+        octets: Some(hand.octets),
+    }
+}

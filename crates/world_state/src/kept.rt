@@ -1,0 +1,139 @@
+ghost use Rattle.std.specs.Prelude.{◌≡◌, Bool, true, map, IfOk, IfSome, IfNone};
+ghost use Rattle.net_plan.specs.declared.ids.DeviceId.{DeviceId};
+ghost use Rattle.net_plan.specs.declared.network.Network.{Network};
+ghost use Rattle.net_plan.specs.declared.event.What.TheVariants.{On, Break};
+ghost use Rattle.run_law.specs.machines.Calls.{MayAct, MayHear, StandsFor};
+ghost use Rattle.run_law.specs.machines.Nodes.{Node};
+ghost use Rattle.run_law.specs.machines.Tasks.{IsDueReading};
+ghost use Rattle.sync_state.specs.declared.state.State.TheVariants.{Off};
+ghost use Rattle.world_state.specs.Keeping.{keeps, sound_one};
+ghost use Rattle.world_law.specs.world.Calls.{HasActed, HasHeard, IsStateOf};
+ghost use Rattle.world_law.specs.world.Outcomes.{befallen_node};
+
+use crate::OutOfMemory;
+use net_plan::LinkId;
+use run_law::{Act, Arrival, Machine, Moment, Reason};
+use std::alloc::Global;
+use sync_state::State;
+use tte_units::Units;
+
+/// The machine of a device, or what a broken device still shows.
+#[derive(Drop)]
+pub enum Kept<M: Machine + Drop> {
+    /// The machine of a device that is not broken.
+    Sound(M),
+    /// The state and the adjustment in which a device broke.
+    Out(State, Units),
+}
+
+/// What a device shows of itself.
+#[derive(Clone, Copy)]
+pub struct Shown {
+    /// Its state.
+    pub state: State,
+    /// Its adjustment.
+    pub adjustment: Units,
+}
+
+impl<M: Machine + Drop> Kept<M> {
+    /// The device's state.
+    pub fn state(&self) -> State
+        ensures { (network : Network) (device : DeviceId) (node : Node) → keeps M.stands self.now network device node
+            → result ≡ node.standing.state }
+    {
+        match self {
+            Kept::Sound(machine) => machine.state(),
+            Kept::Out(state, _) => *state,
+        }
+    }
+
+    /// Its adjustment.
+    pub fn adjustment(&self) -> Units
+        ensures { (network : Network) (device : DeviceId) (node : Node) → keeps M.stands self.now network device node
+            → result ≡ node.standing.adjustment }
+    {
+        match self {
+            Kept::Sound(machine) => machine.adjustment(),
+            Kept::Out(_, adjustment) => *adjustment,
+        }
+    }
+
+    /// Both.
+    pub fn shown(&self) -> Shown
+        ensures { (network : Network) (device : DeviceId)
+            → IsStateOf (keeps M.stands) network device self.now result.state result.adjustment }
+    {
+        Shown {
+            state: self.state(),
+            adjustment: self.adjustment(),
+        }
+    }
+
+    /// The least reading at which it acts by itself. A broken device never does.
+    pub fn due(&self) -> Option<Units>
+        ensures { (network : Network) (device : DeviceId) (node : Node) → keeps M.stands self.now network device node
+            → IsDueReading network device node result }
+    {
+        match self {
+            Kept::Sound(machine) => machine.due(),
+            Kept::Out(_, _) => None,
+        }
+    }
+
+    /// Does the first of all that is due at the moment. Where it is None, the device is broken.
+    pub fn act(&mut self, moment: Moment) -> Option<Act>
+        requires { StandsFor (keeps M.stands) self.old (λ network device node. MayAct network device node moment) }
+        ensures acted { IfSome result (λ act. (network : Network) (device : DeviceId)
+            → HasActed (keeps M.stands) network device moment act self.old self.new) }
+        ensures none { IfNone result ((network : Network) (device : DeviceId) (node : Node)
+            → keeps M.stands self.old network device node → node.broken ≡ true) }
+    {
+        match self {
+            Kept::Sound(machine) => Some(machine.act(moment)),
+            Kept::Out(_, _) => None,
+        }
+    }
+
+    /// An event turns the device on, which is off, unless it is broken.
+    pub fn turn_on(&mut self)
+        ensures { (network : Network) (device : DeviceId) (node : Node) (on : Bool) → keeps M.stands self.old network device node
+            → node.standing.state ≡ Off → keeps M.stands self.new network device (befallen_node on (On device) device node) }
+    {
+        if let Kept::Sound(machine) = self {
+            machine.turn_on();
+        }
+    }
+
+    /// A frame of these octets, 60 to 1,514, comes to the device by a link. One that is broken drops it.
+    pub fn hear(&mut self, moment: Moment, link: LinkId, octets: &[u8]) -> Arrival
+        requires { StandsFor (keeps M.stands) self.old (λ network device node. MayHear network device node moment link octets.now) }
+        ensures { (network : Network) (device : DeviceId) → HasHeard (keeps M.stands) network device moment link octets.now result self.old self.new }
+    {
+        match self {
+            Kept::Sound(machine) => machine.hear(moment, link, octets),
+            Kept::Out(_, _) => Arrival::Dropped(Reason::Off),
+        }
+    }
+
+    /// The device breaks. Where it was turned on at this very instant it is off, as it was before.
+    pub fn break_down(&mut self, on: bool)
+        ensures { (network : Network) (device : DeviceId) (node : Node) → keeps M.stands self.old network device node
+            → keeps M.stands self.new network device (befallen_node on (Break device) device node) }
+    {
+        if let Kept::Sound(machine) = self {
+            let state = if on { State::Off } else { machine.state() };
+            let adjustment = machine.adjustment();
+            *self = Kept::Out(state, adjustment);
+        }
+    }
+}
+
+/// Machines of sound devices.
+pub fn all_kept<M: Machine + Drop>(
+    alloc: Global,
+    machines: Vec<M>,
+) -> Result<Vec<Kept<M>>, OutOfMemory>
+    ensures { IfOk result (λ kept. kept.items ≡ map sound_one machines.items) }
+{
+    Ok(machines.into_iter().map(Kept::Sound).collect(alloc)?)
+}

@@ -1,0 +1,113 @@
+ghost use Rattle.std.specs.Prelude.{◌≡◌, ◌∷◌, ◌<◌, length, IsPermutation, None};
+ghost use Rattle.due_queue.specs.Places.{IsFirst};
+ghost use Rattle.net_plan.specs.Ranges.{IsInRange};
+ghost use Rattle.net_plan.specs.declared.network.Network.{Network as NetworkValue};
+ghost use Rattle.run_law.specs.scenario.Devices.{is_parent_of};
+ghost use Rattle.run_law.specs.records.Happenings.{with_clock};
+ghost use Rattle.world_state.specs.Bodies.{body_of};
+ghost use Rattle.world_state.specs.Leaving.{departed, port_entry};
+ghost use Rattle.world_state.specs.Sound.{AreUnderWay, rank_of};
+
+use crate::bodies::{Body, Kind};
+use crate::contents::{Content, Settled};
+use due_queue::{Place, UnderWay};
+use net_plan::{DeviceId, LinkId, Network};
+use pcf_values::Pcf;
+use run_law::Reason;
+
+/// Takes the frame out that is at a port, and the first of all that is under way; and what its device's clock read
+/// when it gave the frame to the link.
+pub fn take_port(under_way: &mut UnderWay<Content>, place: Place) -> (Pcf, u64)
+    requires first { IsFirst under_way.old.entries place }
+    requires sound { (network : NetworkValue) × AreUnderWay network under_way.old.entries }
+    requires port { place.rank ≡ 8 }
+    ensures { IsPermutation under_way.old.entries
+        (record { place = place; content = Content.Port result.0 result.1 } ∷ under_way.new.entries) }
+{
+    let Some(first) = under_way.take_first() else {
+        unreachable!()
+    };
+    port_of(first.content)
+}
+
+/// What is at a port.
+fn port_of(content: Content) -> (Pcf, u64)
+    requires { rank_of content ≡ 8 }
+    ensures { content ≡ Content.Port result.0 result.1 }
+{
+    match content {
+        Content::Port(frame, given) => (frame, given),
+        Content::Wire(_) => unreachable!(),
+    }
+}
+
+/// The record of a frame at a port that leaves.
+pub fn departed(
+    network: &Network,
+    reading: u64,
+    cut: bool,
+    place: Place,
+    frame: Pcf,
+    given: u64,
+) -> Settled
+    requires { IsInRange network.now }
+    ensures { result ≡ departed network.now reading cut (port_entry place frame given) }
+{
+    let device = DeviceId(place.device);
+    let link = LinkId(place.link);
+    let cause = place.cause;
+    let clock = u128::from(frame.clock) + u128::from(reading.saturating_sub(given));
+    if clock > u128::from(network.dmax.amount()) {
+        return dropped(Kind::Dropped {
+            device,
+            link,
+            cause,
+            reason: Reason::Old,
+        });
+    }
+    if cut {
+        return dropped(Kind::Lost {
+            device,
+            link,
+            cause,
+        });
+    }
+    let clock = clock as u64;
+    Settled {
+        body: Body {
+            kind: Kind::Left {
+                device,
+                link,
+                cause,
+                clock,
+            },
+        },
+        frame: Some(with_clock(frame, clock)),
+        octets: None,
+    }
+}
+
+fn dropped(kind: Kind) -> Settled
+    ensures { result ≡ record { body = body_of kind; frame = None; octets = None } }
+{
+    Settled {
+        body: Body { kind },
+        frame: None,
+        octets: None,
+    }
+}
+
+/// The frame with this transparent clock.
+fn with_clock(frame: Pcf, clock: u64) -> Pcf
+    ensures { result ≡ with_clock clock frame }
+{
+    Pcf { clock, ..frame }
+}
+
+/// Is the device the parent of the link?
+pub fn is_parent(network: &Network, device: DeviceId, link: LinkId) -> bool
+    requires { link.0 < length network.now.link }
+    ensures { result ≡ is_parent_of network.now device link }
+{
+    network.link.as_slice()[link.0 as usize].parent == device
+}

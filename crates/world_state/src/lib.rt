@@ -1,0 +1,30 @@
+//! What a world holds: the parts of its state, and how each is made, kept and changed.
+#![tactic(auto)]
+
+pub mod applying;
+pub mod befalling;
+pub mod bodies;
+pub mod contents;
+pub mod event_notes;
+pub mod frames;
+pub mod fresh;
+pub mod giving;
+pub mod hands;
+pub mod hearing;
+pub mod kept;
+pub mod leaving;
+mod memory;
+pub mod naming;
+pub mod outcomes;
+pub mod packets;
+pub mod reached;
+pub mod ripening;
+pub mod sending;
+pub mod settled;
+pub mod storing;
+pub mod timing;
+pub mod waiting;
+
+pub use bodies::Given;
+pub use event_notes::EventNote;
+pub use memory::OutOfMemory;

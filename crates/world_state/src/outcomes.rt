@@ -1,0 +1,211 @@
+ghost use Rattle.std.specs.Prelude.{◌≡◌, ◌≤◌, ◌<◌, ◌+◌, ◌-◌, List, Some};
+ghost use Rattle.run_law.specs.records.Frames.{integration_frame, mac_of};
+ghost use Rattle.world_state.specs.Acting.{bare, clique_by, corrected_by, emitted_by, first_by, framed, joined_by, sent_by};
+ghost use Rattle.world_state.specs.Bodies.{body_of};
+ghost use Rattle.world_law.specs.world.Outcomes.{judged_as};
+ghost use Rattle.std.specs.VecDeque.{deque_capacity, deque_len};
+ghost use Rattle.net_plan.specs.declared.network.Network.{Network};
+ghost use Rattle.world_state.specs.Places.{IsSomePut};
+ghost use Rattle.world_state.specs.declared.contents.Settled.{Settled as SettledValue};
+
+use crate::bodies::{Body, Kind};
+use crate::contents::Settled;
+use crate::naming::NONE_YET;
+use crate::settled::put_some;
+use compression::Compressed;
+use net_plan::{DeviceId, Network};
+use pcf_values::{Mac, Members, Pcf, PcfKind};
+use run_law::{Judgement, Ripe, Why};
+use std::collections::VecDeque;
+use sync_state::{State, Verdict};
+use tte_units::Units;
+
+/// The records of an act, in their order: at most two.
+#[derive(Drop)]
+pub struct Outcomes {
+    /// The first, if there is one.
+    pub first: Option<Settled>,
+    /// The second, if there is one.
+    pub second: Option<Settled>,
+}
+
+/// A record that is of no frame.
+pub fn bare(kind: Kind) -> Settled
+    ensures { result ≡ bare (body_of kind) }
+{
+    Settled {
+        body: Body { kind },
+        frame: None,
+        octets: None,
+    }
+}
+
+/// A record of a control frame.
+fn framed(kind: Kind, frame: Pcf) -> Settled
+    ensures { result ≡ framed (body_of kind) frame }
+{
+    Settled {
+        body: Body { kind },
+        frame: Some(frame),
+        octets: None,
+    }
+}
+
+/// The record of a master's frame.
+pub fn sent(device: DeviceId, frame: Pcf) -> Outcomes
+    ensures { result ≡ sent_by device frame }
+{
+    let kind = Kind::Sent {
+        device,
+        cycle: frame.cycle,
+    };
+    Outcomes {
+        first: Some(framed(kind, frame)),
+        second: None,
+    }
+}
+
+/// The address of the device.
+fn address(network: &Network, device: DeviceId) -> Mac
+    ensures { result ≡ mac_of network.now device }
+{
+    match network.device.as_slice().get(device.0 as usize) {
+        Some(found) => found.mac,
+        None => Mac::from_number(0),
+    }
+}
+
+/// The integration frame of a device for a cycle and these members.
+fn integration_frame(network: &Network, device: DeviceId, cycle: u32, members: Members) -> Pcf
+    ensures { result ≡ integration_frame network.now device cycle members }
+{
+    Pcf {
+        destination: network.pcf_destination,
+        source: address(network, device),
+        cycle,
+        members,
+        priority: network.priority,
+        domain: network.domain,
+        kind: PcfKind::Integration,
+        clock: 0,
+    }
+}
+
+/// How a device judges a frame of its own.
+fn judged(heard: Ripe) -> Judgement
+    ensures { result ≡ judged_as heard }
+{
+    match heard {
+        Ripe::Opened => Judgement::Opened,
+        Ripe::Joined => Judgement::Joined,
+        Ripe::Repeat => Judgement::Repeat,
+        Ripe::Within => Judgement::Within,
+        Ripe::Outside => Judgement::Outside,
+        Ripe::Integrates => Judgement::Integrates,
+        Ripe::Ignored | Ripe::Dropped(_) => Judgement::Ignored,
+    }
+}
+
+/// The change of state of a device, where a frame of its own tells it the time.
+fn joined(device: DeviceId, heard: Ripe) -> Option<Settled>
+    ensures { result ≡ joined_by device heard }
+{
+    match heard {
+        Ripe::Integrates => Some(bare(Kind::State {
+            device,
+            state: State::Joining,
+            cause: NONE_YET,
+            why: Why::Frame,
+        })),
+        _ => None,
+    }
+}
+
+/// The records of the frame of a collection.
+pub fn emitted(network: &Network, device: DeviceId, sent: Compressed, heard: Ripe) -> Outcomes
+    ensures { result ≡ emitted_by network.now device sent heard }
+{
+    let kind = Kind::Compressed {
+        device,
+        opened: sent.opened,
+        at: sent.at,
+        cycle: sent.cycle,
+        members: sent.members,
+        verdict: judged(heard),
+    };
+    let frame = integration_frame(network, device, sent.cycle, sent.members);
+    Outcomes {
+        first: Some(framed(kind, frame)),
+        second: joined(device, heard),
+    }
+}
+
+/// The change of state of a joiner that corrects its clock.
+fn first_correction(device: DeviceId, was: State) -> Option<Settled>
+    ensures { result ≡ first_by device was }
+{
+    match was {
+        State::Joining => Some(bare(Kind::State {
+            device,
+            state: State::Synchronised,
+            cause: NONE_YET,
+            why: Why::Correction,
+        })),
+        State::Off | State::Integrating | State::Synchronised => None,
+    }
+}
+
+/// The record that a device is in a clique.
+fn clique(device: DeviceId, why: Why) -> Outcomes
+    ensures { result ≡ clique_by device why }
+{
+    Outcomes {
+        first: Some(bare(Kind::State {
+            device,
+            state: State::Integrating,
+            cause: 0,
+            why,
+        })),
+        second: None,
+    }
+}
+
+/// The records of a correction point of a device that was in this state, and has this adjustment then.
+pub fn corrected(
+    device: DeviceId,
+    was: State,
+    cycle: u32,
+    adjustment: Units,
+    verdict: Verdict,
+) -> Outcomes
+    ensures { result ≡ corrected_by device was cycle adjustment verdict }
+{
+    match verdict {
+        Verdict::Corrected(by) => Outcomes {
+            first: Some(bare(Kind::Corrected {
+                device,
+                cycle,
+                by,
+                adjustment,
+            })),
+            second: first_correction(device, was),
+        },
+        Verdict::SyncClique => clique(device, Why::SyncClique),
+        Verdict::AsyncClique => clique(device, Why::AsyncClique),
+        Verdict::Cleared => Outcomes {
+            first: None,
+            second: None,
+        },
+    }
+}
+
+/// Puts the records of an act in at their places.
+pub fn put_both(settled: &mut VecDeque<Settled>, outcomes: Outcomes)
+    requires { deque_len settled.old + 2 ≤ deque_capacity settled.old }
+    ensures { (mid : List SettledValue) × IsSomePut outcomes.first settled.old.items mid
+        × IsSomePut outcomes.second mid settled.new.items }
+{
+    let Outcomes { first, second } = outcomes;
+    put_some(settled, first);
+    put_some(settled, second);
+}

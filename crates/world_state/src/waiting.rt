@@ -1,0 +1,90 @@
+ghost use Rattle.std.specs.Prelude.{◌≡◌, ◌<◌, ◌≤◌, ◌^◌, ◌+◌, ◌++◌, ◌∷◌, [], length, vec_len, vec_capacity};
+ghost use Rattle.net_plan.specs.Ranges.{IsInRange};
+ghost use Rattle.tte_units.specs.Amount.{amount};
+ghost use Rattle.run_law.specs.control.Permanence.{waits_for};
+ghost use Rattle.world_state.specs.Giving.{CameBy, IsYoung, awaited_by, giver_of, with_one};
+
+use crate::bodies::{Body, Kind};
+use crate::contents::Waits;
+use crate::giving::is_a_relay;
+use crate::leaving::is_parent;
+use net_plan::{DeviceId, LinkId, Network};
+use pcf_values::Pcf;
+use transparent_clock::permanence;
+use tte_units::Units;
+
+/// Does the device wait for the permanence of what comes by the link?
+fn does_wait(network: &Network, device: DeviceId, link: LinkId) -> bool
+    requires { link.0 < length network.now.link }
+    ensures { result ≡ waits_for network.now device link }
+{
+    !is_a_relay(network, device) || !is_parent(network, device, link)
+}
+
+/// What waits by a record, where its device is broken or not and its clock reads this.
+pub fn awaited(
+    network: &Network,
+    broken: bool,
+    body: &Body,
+    frame: Option<Pcf>,
+    reading: u64,
+    number: u64,
+) -> Option<Waits>
+    requires range { IsInRange network.now }
+    requires by { CameBy (length network.now.link) body.now }
+    requires young { IsYoung (amount network.now.dmax) body.now }
+    requires low { reading ≤ 2 ^ 60 + 2 ^ 51 }
+    ensures { result ≡ awaited_by network.now broken body.now frame reading number }
+{
+    let Kind::Arrived {
+        device,
+        link,
+        clock,
+        ..
+    } = &body.kind
+    else {
+        return None;
+    };
+    if broken || !does_wait(network, *device, *link) {
+        return None;
+    }
+    let frame = frame?;
+    let point = permanence(Units::from_amount(reading), *clock, network.dmax);
+    Some(Waits {
+        device: *device,
+        link: *link,
+        cause: number,
+        frame,
+        point,
+    })
+}
+
+/// The device that gives the frame of a record to links, or waits for it.
+pub fn giver(body: &Body) -> Option<DeviceId>
+    ensures { result ≡ giver_of body.now }
+{
+    match &body.kind {
+        Kind::Sent { device, .. }
+        | Kind::Compressed { device, .. }
+        | Kind::Arrived { device, .. } => Some(*device),
+        _ => None,
+    }
+}
+
+/// Puts behind the others, where there is room.
+fn push_reserved(waiting: &mut Vec<Waits>, one: Waits)
+    requires { vec_len waiting.old < vec_capacity waiting.old }
+    ensures { waiting.new.items ≡ waiting.old.items ++ one ∷ [] }
+{
+    let _ = waiting.push(one);
+}
+
+/// It waits, where there is one.
+pub fn wait_for(waiting: &mut Vec<Waits>, one: Option<Waits>)
+    requires { vec_len waiting.old < vec_capacity waiting.old }
+    ensures { waiting.new.items ≡ with_one one waiting.old.items }
+{
+    if let Some(one) = one {
+        push_reserved(waiting, one);
+    }
+}

@@ -1,0 +1,6 @@
+pub mod growing
+pub mod acting
+pub mod steps
+pub mod befalling
+pub mod hearing
+pub mod ripening

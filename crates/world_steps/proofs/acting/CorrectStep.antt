@@ -1,0 +1,56 @@
+-- The step by which a device comes to its correction point, whatever it comes to: the instant is over for it.
+use Rattle.std.proofs.Common.{◌≡◌, ℕ, false, true, List, ap, ◌∙◌}
+use Rattle.net_plan.specs.declared.ids.DeviceId.{DeviceId}
+use Rattle.net_plan.specs.declared.network.Network.{Network}
+use Rattle.run_law.specs.declared.note.Note.{Note}
+use Rattle.run_law.specs.machines.Nodes.{Node}
+use Rattle.run_law.specs.records.Happenings.{Happening}
+use Rattle.run_law.specs.records.Order.{behind}
+use Rattle.run_law.specs.scenario.Scenarios.{Scenario}
+use Rattle.sync_state.specs.declared.answers.Verdict.TheVariants.{AsyncClique, Cleared, Corrected, SyncClique}
+use Rattle.sync_state.specs.declared.answers.Verdict.{Verdict}
+use Rattle.sync_state.specs.declared.state.State.TheVariants.{Integrating, Joining, Off, Synchronised}
+use Rattle.sync_state.specs.declared.state.State.{State}
+use Rattle.tte_units.specs.declared.units.Units.{Units}
+use Rattle.world_steps.proofs.acting.CorrectSteps.{IsCorrecting, alone_goes_by, cleared_goes_by, corrected_goes_by, outnumbered_goes_by}
+use Rattle.world_steps.proofs.acting.FirstStep.{first_goes_by}
+use Rattle.world_steps.proofs.acting.Kept.{may_act_now}
+use Rattle.world_steps.proofs.acting.Stage.{stage_of}
+use Rattle.world_law.proofs.acts.Acting.{point_number}
+use Rattle.world_law.specs.device.Left.{is_timed}
+use Rattle.world_law.specs.world.Moves.{StandsBehind}
+use Rattle.world_law.specs.world.World.{Stands, World, act_place}
+
+-- it had a next correction point
+was_timed : {C M : Type 0} (reading : C → ℕ → ℕ) (stands : M → Network → DeviceId → Node → Type 0) (s : Scenario) (world : World C M) (notes : List Note)
+    (old : Stands reading stands s world notes) (device : DeviceId) (machine after : M) (cycle : ℕ) (verdict : Verdict) (was : State) (adjustment : Units)
+    (machines : List M) (settled : List Happening)
+    → IsCorrecting reading stands s world notes old device machine after cycle verdict was adjustment machines settled → is_timed was ≡ true
+was_timed reading stands s world notes old device machine after cycle verdict was adjustment machines settled x =
+    let stage = stage_of reading stands s world notes old device machine x.of_it x.first x.there x.due in
+    let node = stage.0 in
+    let st = stage.1 in
+    let act = x.acted node st.is (may_act_now s device node world.now st.work.ready st.steady st.limit) st.task in
+    ap is_timed (x.stood node st.is).0 ∙ (point_number node.standing.state node.standing.number cycle act.1.0.pending.1.own).0
+
+pub correct_goes_by : {C M : Type 0} (reading : C → ℕ → ℕ) (stands : M → Network → DeviceId → Node → Type 0) (s : Scenario) (world : World C M)
+    (notes : List Note) (old : Stands reading stands s world notes) (device : DeviceId) (machine after : M) (cycle : ℕ) (verdict : Verdict) (was : State)
+    (adjustment : Units) (machines : List M) (settled : List Happening)
+    → IsCorrecting reading stands s world notes old device machine after cycle verdict was adjustment machines settled
+    → StandsBehind reading stands s (record world { early = false; machines = machines; settled = settled }) notes (behind (act_place world.now device))
+correct_goes_by reading stands s world notes old device machine after cycle Cleared was adjustment machines settled x =
+    cleared_goes_by reading stands s world notes old device machine after cycle was adjustment machines settled x
+correct_goes_by reading stands s world notes old device machine after cycle SyncClique was adjustment machines settled x =
+    alone_goes_by reading stands s world notes old device machine after cycle was adjustment machines settled x
+correct_goes_by reading stands s world notes old device machine after cycle AsyncClique was adjustment machines settled x =
+    outnumbered_goes_by reading stands s world notes old device machine after cycle was adjustment machines settled x
+correct_goes_by reading stands s world notes old device machine after cycle (Corrected by) Joining adjustment machines settled x =
+    first_goes_by reading stands s world notes old device machine after cycle by adjustment machines settled x
+correct_goes_by reading stands s world notes old device machine after cycle (Corrected by) Synchronised adjustment machines settled x =
+    corrected_goes_by reading stands s world notes old device machine after cycle by adjustment machines settled x
+correct_goes_by reading stands s world notes old device machine after cycle (Corrected by) Off adjustment machines settled x =
+    absurd (let bad : false ≡ true = was_timed reading stands s world notes old device machine after cycle (Corrected by) Off adjustment machines settled
+    x in cc)
+correct_goes_by reading stands s world notes old device machine after cycle (Corrected by) Integrating adjustment machines settled x =
+    absurd (let bad : false ≡ true = was_timed reading stands s world notes old device machine after cycle (Corrected by) Integrating adjustment machines
+    settled x in cc)

@@ -1,0 +1,372 @@
+-- A device that has come to its correction point: the instant is over for it.
+use Rattle.std.proofs.Common.{◌≡◌, ℕ, ◌+◌, ◌≤◌, ◌<◌, ℤ, pos, ◌+ℤ◌, ◌-ℤ◌, ◌<ℤ◌, ◌≤ℤ◌, Bool, true, false, if◌then◌else◌, List, [], ◌∷◌, ◌++◌, append_assoc, filter, Some, None, Contains, inl, inr, refl, sym, ap, subst, ◌∙◌, arith}
+use Rattle.std.proofs.lemmas.Bool.{both_ways, cases_Bool, cases_lt}
+use Rattle.std.proofs.lemmas.Int.{ints}
+use Rattle.std.proofs.lemmas.List.{append-nil}
+use Rattle.std.proofs.lemmas.List.Elements.{filter-append}
+use Rattle.compression.specs.Clusters.{AreClusters}
+use Rattle.compression.specs.declared.compressed.Compressed.{Compressed}
+use Rattle.membership.specs.Summary.{Summary}
+use Rattle.net_plan.specs.declared.ids.DeviceId.{DeviceId}
+use Rattle.net_plan.specs.declared.network.Network.{Network}
+use Rattle.run_law.proofs.runs.Places.{in_left, in_right}
+use Rattle.run_law.specs.control.Collections.{ends_stretch, observation_window}
+use Rattle.run_law.specs.control.Corrections.{recorded_cycle, integration_cycle}
+use Rattle.run_law.specs.declared.judgement.Why.TheVariants as whys
+use Rattle.run_law.specs.declared.judgement.Why.{Why}
+use Rattle.run_law.specs.declared.note.NoteBody.TheVariants as kinds
+use Rattle.run_law.specs.declared.note.NoteBody.{NoteBody}
+use Rattle.run_law.specs.declared.steps.Moment.{Moment}
+use Rattle.run_law.specs.device.LocalClocks.{changed_at}
+use Rattle.run_law.specs.device.States.{is_synchronised}
+use Rattle.run_law.specs.machines.Answers.{called, with_clique, with_corrected}
+use Rattle.run_law.specs.machines.Nodes.{ClockTask, Node, acting, correcting, dispatching, sending}
+use Rattle.run_law.specs.machines.Tasks.{IsDeedOf, IsWaiting, value_of}
+use Rattle.run_law.specs.records.Happenings.{Happening, earlier, time_of}
+use Rattle.run_law.specs.records.Order.{IsIn, NoneBefore}
+use Rattle.run_law.specs.records.Ranks.{place_of, rank}
+use Rattle.run_law.specs.scenario.Devices.{is_cm}
+use Rattle.run_law.specs.scenario.Scenarios.{Scenario, is_broken, is_turned_on_at}
+use Rattle.sync_state.specs.Calls.{adjustment_by, state_by}
+use Rattle.sync_state.specs.Standing.{point_in}
+use Rattle.sync_state.specs.declared.answers.Verdict.{Verdict}
+use Rattle.sync_state.specs.declared.state.State.TheVariants.{Integrating, Joining, Synchronised}
+use Rattle.sync_state.specs.declared.state.State.{State}
+use Rattle.tte_units.specs.declared.units.Units.{Units}
+use Rattle.world_steps.proofs.acting.GoesOn.{IsPutAs}
+use Rattle.world_steps.proofs.acting.Moves.{IsBase, IsCorrectedSo, changed_by, cliques, corrects, joiner_corrects, one_earlier}
+use Rattle.world_steps.proofs.acting.Over.{IsOver}
+use Rattle.world_steps.proofs.acting.Work.{IsAtWork}
+use Rattle.world_law.proofs.acts.Acted.{no_cluster}
+use Rattle.world_law.proofs.devices.Borne.{tell_alike, left_alike}
+use Rattle.world_law.proofs.devices.OwnRecords.{adjustment_still, change_still, cycle_still, integration_still, state_still}
+use Rattle.world_law.proofs.devices.Passes.{local_still, not_turned_on, started_still}
+use Rattle.world_law.proofs.devices.Plains.{changes_at_plain, plains_parts, told_by_others}
+use Rattle.world_law.proofs.runs.Foremost.{unmoved_by}
+use Rattle.world_law.specs.device.Deeds.{HasDoneFrom, HasSentFrom}
+use Rattle.world_law.specs.device.Left.{IsLeft}
+use Rattle.world_law.specs.device.Own.{IsStill, bears_on, borne, moves}
+use Rattle.world_law.specs.device.Plain.{plains}
+
+-- ---- where it stands at the next unit of time, without the record
+
+next_least : (b : Bool) (n : ℕ) → n ≤ (if b then n + 1 else n)
+next_least true n = omega arith
+next_least false n = omega arith
+
+pub still_now : (s : Scenario) (hs zs : List Happening) (now : ℕ) (device : DeviceId) (node : Node) → IsAtWork s hs zs now device node
+    → is_turned_on_at s device now ≡ false → IsStill (hs ++ zs) device now (now + 1)
+still_now s hs zs now device node w off h i from lt = unmoved_by s device now h.note.body off (w.still h i (omega (arith, from, lt)))
+
+pub base_then : (s : Scenario) (hs zs : List Happening) (now : ℕ) (device : DeviceId) (node : Node) → IsAtWork s hs zs now device node
+    → is_turned_on_at s device now ≡ false → is_broken s device (now + 1) ≡ is_broken s device now → IsBase s (hs ++ zs) device (now + 1) node
+base_then s hs zs now device node w off same =
+    let js = hs ++ zs in
+    let le : now ≤ now + 1 = omega arith in
+    let still = still_now s hs zs now device node w off in
+    let cycle = cycle_still js device now (now + 1) le still in
+    record {
+      plan = w.left.counted.plan;
+      state = w.left.state ∙ not_turned_on s js device now off ∙ sym (state_still s js device now (now + 1) le still);
+      adjustment = w.left.counted.adjustment ∙ sym (adjustment_still s js device now (now + 1) le still);
+      integrated = w.left.counted.integrated ∙ sym (integration_still js device now (now + 1) le still);
+      least = λ timed.
+          let number = w.left.counted.number timed in
+          let least = next_least (Rattle.run_law.specs.control.Corrections.has_cleared s js device now now) (recorded_cycle (earlier now js) device) in
+          omega (arith, number, least, cycle);
+      changed = w.left.counted.changed ∙ sym (local_still s js device now (now + 1) le still);
+      started = started_still js device now (now + 1) le still w.left.counted.started;
+      broken = w.left.counted.broken ∙ sym same;
+      points = w.left.points;
+    }
+
+-- ---- the record among those to come
+
+-- what does not move the device, and stands behind all frames of the instant, does not bear on it
+bears_none : (device : DeviceId) (body : NoteBody) → 5 ≤ rank body → moves device body ≡ false → bears_on device body ≡ false
+bears_none device (kinds.Permanent other link cause point verdict) late still = absurd (omega (arith, late))
+bears_none device (kinds.Compressed other opened at cycle members verdict) late still = absurd (omega (arith, late))
+bears_none device (kinds.Corrected other cycle by adjustment) late still = still
+bears_none device (kinds.State other state cause why) late still = still
+bears_none device other late still = refl
+
+pub none_bear : (s : Scenario) (hs front back : List Happening) (now : ℕ) (device : DeviceId) (node : Node) (w : Happening)
+    → IsAtWork s hs (front ++ back) now device node → is_turned_on_at s device now ≡ false → time_of w ≡ now → 5 ≤ rank w.note.body
+    → NoneBefore place_of back (place_of w) → (z : Happening) → IsIn z back → bears_on device z.note.body ≡ false
+none_bear s hs front back now device node w work off at late none z i =
+    let there = in_right z front back i in
+    let z_now = work.of_now z there in
+    bears_none device z.note.body (elim (cases_lt (rank z.note.body) 5) [
+      | inr ge ↦ ge
+      | inl lt ↦ absurd (none z i (inr (z_now.0 ∙ sym at, inl (omega (arith, lt, late)))))
+    ]) (unmoved_by s device now z.note.body off (work.still z (in_right z hs (front ++ back) there) z_now.0))
+
+pub filter_none : {X : Type 0} (q : X → Bool) (zs : List X) → ((z : X) → IsIn z zs → q z ≡ false) → filter q zs ≡ []
+filter_none q [] all = refl
+filter_none q (z ∷ zs) all = ap (λ (b : Bool). if b then z ∷ filter q zs else filter q zs) (all z (inl refl)) ∙ filter_none q zs (λ y i. all y (inr i))
+
+pub one_in : (q : Happening → Bool) (w : Happening) (back : List Happening) → filter q back ≡ [] → filter q (w ∷ back) ≡ filter q (w ∷ [])
+one_in q w back none = filter-append q (w ∷ []) back ∙ ap (λ (l : List Happening). filter q (w ∷ []) ++ l) none ∙ append-nil (filter q (w ∷ []))
+
+two_in : (q : Happening → Bool) (hs front back : List Happening) → filter q back ≡ [] → filter q (hs ++ (front ++ back)) ≡ filter q hs ++ filter q front
+two_in q hs front back none =
+    filter-append q hs (front ++ back)
+    ∙ ap (λ (l : List Happening). filter q hs ++ l) (filter-append q front back ∙ ap (λ (l : List Happening). filter q front ++ l) none
+    ∙ append-nil (filter q front))
+
+-- behind it nothing bears on the device, so it might stand at the end
+pub borne_in : (hs front back : List Happening) (device : DeviceId) (w : Happening) → ((z : Happening) → IsIn z back → bears_on device z.note.body ≡ false)
+    → borne device ((hs ++ (front ++ back)) ++ w ∷ []) ≡ borne device (hs ++ (front ++ w ∷ back))
+borne_in hs front back device w none =
+    let q = λ (h : Happening). bears_on device h.note.body in
+    let gone = filter_none q back none in
+    filter-append q (hs ++ (front ++ back)) (w ∷ [])
+    ∙ ap (λ (l : List Happening). l ++ filter q (w ∷ [])) (two_in q hs front back gone)
+    ∙ append_assoc (filter q hs) (filter q front) (filter q (w ∷ []))
+    ∙ sym (filter-append q hs (front ++ w ∷ back)
+    ∙ ap (λ (l : List Happening). filter q hs ++ l) (filter-append q front (w ∷ back) ∙ ap (λ (l : List Happening). filter q front ++ l)
+    (one_in q w back gone)))
+
+-- the same of two records
+pub borne_two : (hs front mid rest : List Happening) (device : DeviceId) (w f : Happening)
+    → ((z : Happening) → IsIn z (mid ++ rest) → bears_on device z.note.body ≡ false)
+    → borne device (((hs ++ (front ++ (mid ++ rest))) ++ w ∷ []) ++ f ∷ []) ≡ borne device (hs ++ (front ++ w ∷ (mid ++ f ∷ rest)))
+borne_two hs front mid rest device w f none =
+    let q = λ (h : Happening). bears_on device h.note.body in
+    let gone = filter_none q mid (λ z i. none z (in_left z mid rest i)) in
+    let left : filter q rest ≡ [] = filter_none q rest (λ z i. none z (in_right z mid rest i)) in
+    filter-append q ((hs ++ (front ++ (mid ++ rest))) ++ w ∷ []) (f ∷ [])
+    ∙ ap (λ (l : List Happening). l ++ filter q (f ∷ [])) (borne_in hs front (mid ++ rest) device w none
+    ∙ filter-append q hs (front ++ w ∷ (mid ++ rest))
+    ∙ ap (λ (l : List Happening). filter q hs ++ l) (filter-append q front (w ∷ (mid ++ rest))
+    ∙ ap (λ (l : List Happening). filter q front ++ l)
+    (one_in q w (mid ++ rest) (filter-append q mid rest ∙ ap (λ (l : List Happening). l ++ filter q rest) gone ∙ left))))
+    ∙ append_assoc (filter q hs) (filter q front ++ filter q (w ∷ [])) (filter q (f ∷ []))
+    ∙ ap (λ (l : List Happening). filter q hs ++ l) (append_assoc (filter q front) (filter q (w ∷ [])) (filter q (f ∷ [])))
+    ∙ sym (filter-append q hs (front ++ w ∷ (mid ++ f ∷ rest))
+    ∙ ap (λ (l : List Happening). filter q hs ++ l) (filter-append q front (w ∷ (mid ++ f ∷ rest))
+    ∙ ap (λ (l : List Happening). filter q front ++ l) (filter-append q (w ∷ []) (mid ++ f ∷ rest)
+    ∙ ap (λ (l : List Happening). filter q (w ∷ []) ++ l) (filter-append q mid (f ∷ rest) ∙ ap (λ (l : List Happening). l ++ filter q (f ∷ rest)) gone
+    ∙ one_in q f rest left))))
+
+-- the device stands by the records that bear on it, whatever their numbers
+pub moved_in : (s : Scenario) (xs ys gs : List Happening) (device : DeviceId) (u : ℕ) (node : Node) → borne device xs ≡ borne device ys → plains ys ≡ plains gs
+    → IsLeft s xs device u node → IsLeft s gs device u node
+moved_in s xs ys gs device u node same alike left = told_by_others s ys gs device u node alike (left_alike s xs ys device u node same left)
+
+pub change_in_it : (s : Scenario) (xs ys gs : List Happening) (device : DeviceId) (u : ℕ) → borne device xs ≡ borne device ys → plains ys ≡ plains gs
+    → changed_at xs device u ≡ changed_at gs device u
+change_in_it s xs ys gs device u same alike =
+    (tell_alike s xs ys device u same).change ∙ sym (changes_at_plain ys device u) ∙ ap (λ (l : List Happening). changed_at l device u) alike
+    ∙ changes_at_plain gs device u
+
+pub behind_given : (hs mid new : List Happening) → plains new ≡ plains mid → plains (hs ++ mid) ≡ plains (hs ++ new)
+behind_given hs mid new same = plains_parts hs mid ∙ ap (λ (l : List Happening). plains hs ++ l) (sym same) ∙ sym (plains_parts hs new)
+
+-- ---- what it has done and sent then
+
+pub left_called : (s : Scenario) (js : List Happening) (device : DeviceId) (u : ℕ) (node : Node) (moment : Moment) → IsLeft s js device u node
+    → IsLeft s js device u (called moment acting node)
+left_called s js device u node moment left = record {
+  counted = record {
+    plan = left.counted.plan;
+    adjustment = left.counted.adjustment;
+    integrated = left.counted.integrated;
+    number = left.counted.number;
+    changed = left.counted.changed;
+    heard = left.counted.heard;
+    started = left.counted.started;
+    broken = left.counted.broken;
+  };
+  state = left.state;
+  points = left.points;
+}
+
+pub none_in_it : {X : Type 0} (x : X) → Contains [] x → ⊥
+none_in_it x (k, lt, at) = absurd (omega (arith, lt))
+
+ahead_yet : (reading a changed v : ℤ) → changed ≡ (reading +ℤ a) → changed <ℤ v → reading <ℤ (v -ℤ a)
+ahead_yet reading a changed v is lt = omega (arith, ints, is, lt)
+
+-- it corrects its clock at the time: all counts from then on
+pub corrects_it : (network : Network) (reading : ℕ → ℕ) (device : DeviceId) (node : Node) (t : ℕ) (moment : Moment) (heard : Summary) (by : Units)
+    → moment.reading.0 ≡ pos (reading t)
+    → HasDoneFrom network reading device (called moment acting (with_corrected node moment heard by)) t (t + 1) (t + 1)
+corrects_it network reading device node t moment heard by reads = record {
+  undone = λ deed u x from lt.
+      let same : t ≡ x = omega (arith, from, lt) in
+      let here = subst (λ (z : ℤ). z <ℤ (value_of network deed -ℤ (node.standing.adjustment.0 +ℤ by.0))) reads
+      (ahead_yet moment.reading.0 (node.standing.adjustment.0 +ℤ by.0) _ (value_of network deed) refl u.ahead) in
+      subst (λ (n : ℕ). pos (reading n) <ℤ (value_of network deed -ℤ (node.standing.adjustment.0 +ℤ by.0))) same here;
+  done = λ deed there. absurd (none_in_it deed there);
+}
+
+kept_so : (s : Scenario) (device : DeviceId) (node : Node) (b : Bool) (now : ℕ) (sent : Compressed) (clusters : List _) (cluster : _)
+    → is_cm s.network device ≡ true
+    → AreClusters (observation_window s.network) (if b then node.points else []) clusters → Contains clusters cluster
+    → sent ≡ Rattle.compression.specs.Emission.compressed (observation_window s.network) (pos (Rattle.tte_units.specs.Amount.amount s.network.calc)) cluster
+    → (Contains (if b then node.emitted else []) sent → ⊥)
+    → ((c : Compressed) → IsWaiting s.network device node c → pos (s.reading device now) <ℤ c.at.0) → HasSentFrom s device node now (now + 1)
+    → (x : ℕ) → x < now + 1 → pos (s.reading device x) <ℤ sent.at.0
+kept_so s device node true now sent clusters cluster cm are there is not_yet none has x lt =
+    let waits : IsWaiting s.network device node sent = record {
+      cm = cm;
+      clusters = clusters;
+      are = are;
+      cluster = cluster;
+      there = there;
+      is = is;
+      not_yet = not_yet;
+    } in
+    elim (cases_lt x now) [
+      | inl before ↦ has.unsent sent waits x before
+      | inr ge ↦ let at : x ≡ now = omega (arith, ge, lt) in subst (λ (n : ℕ). pos (s.reading device n) <ℤ sent.at.0) (sym at) (none sent waits)
+    ]
+kept_so s device node false now sent clusters cluster cm are there is not_yet none has x lt =
+    absurd (no_cluster (observation_window s.network) clusters cluster are there)
+
+kept_sent : (s : Scenario) (device : DeviceId) (node : Node) (b : Bool) (now : ℕ) (sent : Compressed) → HasSentFrom s device node now (now + 1)
+    → Contains (if b then node.emitted else []) sent → (x : ℕ) × (x < now + 1) × (sent.at.0 ≤ℤ pos (s.reading device x))
+kept_sent s device node true now sent has there = has.sent sent there
+kept_sent s device node false now sent has there = absurd (none_in_it sent there)
+
+-- none of its frames is due, as those come before a correction
+pub corrected_sent : (s : Scenario) (device : DeviceId) (node : Node) (now : ℕ) (moment : Moment) (heard : Summary) (by : Units)
+    → HasSentFrom s device node now (now + 1) → ((c : Compressed) → IsWaiting s.network device node c → pos (s.reading device now) <ℤ c.at.0)
+    → HasSentFrom s device (called moment acting (with_corrected node moment heard by)) (now + 1) (now + 1)
+corrected_sent s device node now moment heard by has none = record {
+  unsent = λ c u x lt. kept_so s device node (is_synchronised node.standing.state) now c u.clusters u.cluster u.cm u.are u.there u.is u.not_yet none has x lt;
+  sent = λ c there. kept_sent s device node (is_synchronised node.standing.state) now c has there;
+}
+
+-- ---- it has corrected its clock
+
+pub corrected_over : (s : Scenario) (hs front back new : List Happening) (now : ℕ) (device : DeviceId) (node : Node) (w : Happening) (cycle : ℕ)
+    (by adjustment : Units) (moment : Moment) (heard : Summary)
+    → IsAtWork s hs (front ++ back) now device node → is_turned_on_at s device now ≡ false → is_turned_on_at s device (now + 1) ≡ false
+    → is_broken s device (now + 1) ≡ is_broken s device now → IsPutAs now front back new w → NoneBefore place_of back (place_of w)
+    → IsCorrectedSo s device (now + 1) node w cycle by adjustment moment → node.standing.state ≡ Synchronised
+    → ((c : Compressed) → IsWaiting s.network device node c → pos (s.reading device now) <ℤ c.at.0)
+    → IsOver s (hs ++ new) now device (called moment acting (with_corrected node moment heard by))
+corrected_over s hs front back new now device node w cycle by adjustment moment heard work off later same p none so synchronised quiet =
+    let after = called moment acting (with_corrected node moment heard by) in
+    let old = hs ++ (front ++ back) in
+    let base = base_then s hs (front ++ back) now device node work off same in
+    let five : 5 ≤ rank w.note.body = subst (λ (b : NoteBody). 5 ≤ rank b) (sym so.body) (omega arith) in
+    let bears = none_bear s hs front back now device node w work off p.at five none in
+    let borne_so = borne_in hs front back device w bears in
+    let alike = behind_given hs (front ++ w ∷ back) new p.same in
+    let changes : Rattle.run_law.specs.device.LocalClocks.changes_adjustment device w.note.body ≡ true =
+    ap (Rattle.run_law.specs.device.LocalClocks.changes_adjustment device) so.body ∙ Rattle.std.proofs.lemmas.Bool.eq-eqb device.0 device.0 refl in
+    let at : changed_at (hs ++ new) device (now + 1) ≡ now =
+    sym (change_in_it s (old ++ w ∷ []) (hs ++ (front ++ w ∷ back)) (hs ++ new) device (now + 1) borne_so alike)
+    ∙ ap (Rattle.world_law.specs.device.Told.change_in device) (one_earlier (now + 1) old w so.before)
+    ∙ changed_by device (earlier (now + 1) old) w changes ∙ p.at in
+    let reads : moment.reading.0 ≡ pos (s.reading device now) = so.reads ∙ ap (λ (n : ℕ). pos (s.reading device n)) p.at in
+    record {
+      left = left_called s (hs ++ new) device (now + 1) (with_corrected node moment heard by) moment
+          (moved_in s (old ++ w ∷ []) (hs ++ (front ++ w ∷ back)) (hs ++ new) device (now + 1) (with_corrected node moment heard by) borne_so alike
+          (corrects s old device (now + 1) node w cycle by adjustment moment heard so synchronised later base));
+      done = subst (λ (n : ℕ). HasDoneFrom s.network (s.reading device) device after n (now + 1) (now + 1)) (sym at)
+          (corrects_it s.network (s.reading device) device node now moment heard by reads);
+      sent = corrected_sent s device node now moment heard by work.sent quiet;
+    }
+
+-- ---- a joiner has its first correction
+
+pub joiner_over : (s : Scenario) (hs front mid rest new : List Happening) (now : ℕ) (device : DeviceId) (node : Node) (w f : Happening) (cycle cause : ℕ)
+    (by adjustment : Units) (moment : Moment) (heard : Summary)
+    → IsAtWork s hs (front ++ (mid ++ rest)) now device node → is_turned_on_at s device now ≡ false → is_turned_on_at s device (now + 1) ≡ false
+    → is_broken s device (now + 1) ≡ is_broken s device now → plains new ≡ plains (front ++ w ∷ (mid ++ f ∷ rest)) → time_of w ≡ now
+    → NoneBefore place_of (mid ++ rest) (place_of w)
+    → IsCorrectedSo s device (now + 1) node w cycle by adjustment moment → node.standing.state ≡ Joining
+    → f.note.body ≡ kinds.State device Synchronised cause whys.Correction → time_of f < now + 1
+    → ((c : Compressed) → IsWaiting s.network device node c → pos (s.reading device now) <ℤ c.at.0)
+    → IsOver s (hs ++ new) now device (called moment acting (with_corrected node moment heard by))
+joiner_over s hs front mid rest new now device node w f cycle cause by adjustment moment heard work off later same put at none so joining e lt quiet =
+    let after = called moment acting (with_corrected node moment heard by) in
+    let old = hs ++ (front ++ (mid ++ rest)) in
+    let whole = hs ++ (front ++ w ∷ (mid ++ f ∷ rest)) in
+    let base = base_then s hs (front ++ (mid ++ rest)) now device node work off same in
+    let five : 5 ≤ rank w.note.body = subst (λ (b : NoteBody). 5 ≤ rank b) (sym so.body) (omega arith) in
+    let bears = none_bear s hs front (mid ++ rest) now device node w work off at five none in
+    let borne_so = borne_two hs front mid rest device w f bears in
+    let alike = behind_given hs (front ++ w ∷ (mid ++ f ∷ rest)) new put in
+    let changes : Rattle.run_law.specs.device.LocalClocks.changes_adjustment device w.note.body ≡ true =
+    ap (Rattle.run_law.specs.device.LocalClocks.changes_adjustment device) so.body ∙ Rattle.std.proofs.lemmas.Bool.eq-eqb device.0 device.0 refl in
+    let no_change : Rattle.run_law.specs.device.LocalClocks.changes_adjustment device f.note.body ≡ false =
+    ap (Rattle.run_law.specs.device.LocalClocks.changes_adjustment device) e in
+    let changed : changed_at (hs ++ new) device (now + 1) ≡ now =
+    sym (change_in_it s ((old ++ w ∷ []) ++ f ∷ []) whole (hs ++ new) device (now + 1) borne_so alike)
+    ∙ ap (Rattle.world_law.specs.device.Told.change_in device) (one_earlier (now + 1) (old ++ w ∷ []) f lt)
+    ∙ ap (λ (l : List Happening). Rattle.std.specs.Option.option_map_or time_of (Rattle.std.specs.List.last_or None l) 0)
+    (Rattle.world_law.proofs.lists.Lists.filter_no (λ g. Rattle.run_law.specs.device.LocalClocks.changes_adjustment device g.note.body)
+    (earlier (now + 1) (old ++ w ∷ [])) f no_change)
+    ∙ ap (Rattle.world_law.specs.device.Told.change_in device) (one_earlier (now + 1) old w so.before)
+    ∙ changed_by device (earlier (now + 1) old) w changes ∙ at in
+    let reads : moment.reading.0 ≡ pos (s.reading device now) = so.reads ∙ ap (λ (n : ℕ). pos (s.reading device n)) at in
+    record {
+      left = left_called s (hs ++ new) device (now + 1) (with_corrected node moment heard by) moment
+          (moved_in s ((old ++ w ∷ []) ++ f ∷ []) whole (hs ++ new) device (now + 1) (with_corrected node moment heard by) borne_so alike
+          (joiner_corrects s old device (now + 1) node w f cycle cause by adjustment moment heard so joining later e lt base));
+      done = subst (λ (n : ℕ). HasDoneFrom s.network (s.reading device) device after n (now + 1) (now + 1)) (sym changed)
+          (corrects_it s.network (s.reading device) device node now moment heard by reads);
+      sent = corrected_sent s device node now moment heard by work.sent quiet;
+    }
+
+-- ---- it has found itself outside the others
+
+never_there : Integrating ≡ Synchronised → ⊥
+never_there e = cc
+
+none_next : (state : State) (number cycle : ℕ) → state ≡ Integrating → point_in state number ≡ Some cycle → ⊥
+none_next state number cycle is next = let bad : None ≡ Some cycle = sym (ap (λ (x : State). point_in x number) is) ∙ next in cc
+
+pub no_deed : (network : Network) (device : DeviceId) (node : Node) (deed : ClockTask) → node.standing.state ≡ Integrating → IsDeedOf network device node deed
+    → ⊥
+no_deed network device node (sending cycle) is own = never_there (sym is ∙ own.1)
+no_deed network device node (correcting cycle) is own = none_next node.standing.state node.standing.number cycle is own
+no_deed network device node (dispatching row cycle) is own = never_there (sym is ∙ own.0)
+
+pub clique_over : (s : Scenario) (hs front back new : List Happening) (now : ℕ) (device : DeviceId) (node : Node) (w : Happening) (cause : ℕ) (why : Why)
+    (moment : Moment) (heard : Summary) (verdict : Verdict)
+    → IsAtWork s hs (front ++ back) now device node → is_turned_on_at s device now ≡ false → is_turned_on_at s device (now + 1) ≡ false
+    → is_broken s device (now + 1) ≡ is_broken s device now → IsPutAs now front back new w → NoneBefore place_of back (place_of w)
+    → state_by node.standing.state verdict ≡ Integrating → adjustment_by node.standing.adjustment verdict ≡ node.standing.adjustment
+    → w.note.body ≡ kinds.State device Integrating cause why → ends_stretch device (kinds.State device Integrating cause why) ≡ true
+    → IsOver s (hs ++ new) now device (called moment acting (with_clique node heard verdict))
+clique_over s hs front back new now device node w cause why moment heard verdict work off later same p none lost kept e ends =
+    let after = called moment acting (with_clique node heard verdict) in
+    let old = hs ++ (front ++ back) in
+    let base = base_then s hs (front ++ back) now device node work off same in
+    let five : 5 ≤ rank w.note.body = subst (λ (b : NoteBody). 5 ≤ rank b) (sym e) (omega arith) in
+    let bears = none_bear s hs front back now device node w work off p.at five none in
+    let lt : time_of w < now + 1 = let at = p.at in omega (arith, at) in
+    let change : changed_at (hs ++ new) device (now + 1) ≡ changed_at old device now =
+    sym (change_in_it s (old ++ w ∷ []) (hs ++ (front ++ w ∷ back)) (hs ++ new) device (now + 1) (borne_in hs front back device w bears)
+    (behind_given hs (front ++ w ∷ back) new p.same))
+    ∙ ap (Rattle.world_law.specs.device.Told.change_in device) (one_earlier (now + 1) old w lt)
+    ∙ ap (λ (l : List Happening). Rattle.std.specs.Option.option_map_or time_of (Rattle.std.specs.List.last_or None l) 0)
+    (Rattle.world_law.proofs.lists.Lists.filter_no (λ g. Rattle.run_law.specs.device.LocalClocks.changes_adjustment device g.note.body)
+    (earlier (now + 1) old) w (ap (Rattle.run_law.specs.device.LocalClocks.changes_adjustment device) e))
+    ∙ change_still old device now (now + 1) (omega arith) (still_now s hs (front ++ back) now device node work off) in
+    record {
+      left = left_called s (hs ++ new) device (now + 1) (with_clique node heard verdict) moment
+          (moved_in s (old ++ w ∷ []) (hs ++ (front ++ w ∷ back)) (hs ++ new) device (now + 1) (with_clique node heard verdict)
+          (borne_in hs front back device w bears) (behind_given hs (front ++ w ∷ back) new p.same)
+          (cliques s old device (now + 1) node w cause why heard verdict lost kept e ends lt later base));
+      done = record {
+        undone = λ deed u x from lt. absurd (no_deed s.network device after deed lost u.own);
+        done = λ deed there.
+            let x = work.done.done deed there in (
+              x.0,
+              omega (arith, x.1, change),
+              x.2,
+              subst (λ (a : Units). (value_of s.network deed -ℤ a.0) ≤ℤ pos (s.reading device x.0)) (sym kept) x.3,
+            );
+      };
+      sent = record {
+        unsent = λ c u x lt. absurd (no_cluster (observation_window s.network) u.clusters u.cluster u.are u.there);
+        sent = λ c there. absurd (none_in_it c there);
+      };
+    }

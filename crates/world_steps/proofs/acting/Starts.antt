@@ -1,0 +1,135 @@
+-- A device that is kept and has something due at the present instant is at work.
+use Rattle.std.proofs.Common.{◌≡◌, ◌⊎◌, ℕ, ◌+◌, ◌≤◌, pos, ◌≤ℤ◌, List, [], ◌∷◌, ◌++◌, filter, None, inl, inr, refl, sym, ap, subst, ◌∙◌, arith}
+use Rattle.std.proofs.lemmas.List.{append-nil}
+use Rattle.compression.specs.declared.compressed.Compressed.{Compressed}
+use Rattle.net_plan.specs.declared.ids.DeviceId.{DeviceId}
+use Rattle.net_plan.specs.declared.network.Network.{Network}
+use Rattle.run_law.proofs.law.FirstPlaces.{in_filter}
+use Rattle.run_law.proofs.runs.Places.{parted}
+use Rattle.run_law.specs.declared.judgement.Judgement.{Judgement}
+use Rattle.run_law.specs.declared.note.NoteBody.TheVariants as kinds
+use Rattle.run_law.specs.declared.note.NoteBody.{NoteBody}
+use Rattle.run_law.specs.device.LocalClocks.{changed_at, changes_adjustment}
+use Rattle.run_law.specs.machines.Nodes.{Node, correcting, dispatching, sending}
+use Rattle.run_law.specs.machines.Tasks.{IsPending, Task, doing, emitting, reading_for}
+use Rattle.run_law.specs.records.Happenings.{Happening, earlier, time_of}
+use Rattle.run_law.specs.records.Order.{IsBefore, IsIn}
+use Rattle.run_law.specs.records.Ranks.{members_in, rank}
+use Rattle.run_law.specs.scenario.Scenarios.{Scenario}
+use Rattle.world_steps.proofs.acting.Work.{IsAtWork, at_correction, emits, not_over, own_judgement, reaches, sends}
+use Rattle.world_law.proofs.rows.Dispatching.{IsLawful, dispatches_so}
+use Rattle.world_law.proofs.runs.Agreement.{in_earlier, last_within}
+use Rattle.world_law.proofs.runs.SourcesBack.{dispatches_back, earlier_still}
+use Rattle.world_law.specs.device.Deeds.{HasDoneFrom, HasSentFrom}
+use Rattle.world_law.specs.device.Left.{HasTaskBy, IsLeft}
+use Rattle.world_law.specs.device.Plain.{plain_body}
+use Rattle.world_law.specs.device.Takings.{frames_taken}
+use Rattle.world_law.specs.source.Sources.{IsActing, IsOwnSource}
+use Rattle.world_law.specs.world.World.{AreSettled, IsKept, act_place}
+
+-- the last change before the next unit of time is not after this one
+pub changed_soon : (hs : List Happening) (device : DeviceId) (now : ℕ) → changed_at hs device (now + 1) ≤ now
+changed_soon hs device now =
+    last_within None (filter (λ h. changes_adjustment device h.note.body) (earlier (now + 1) hs)) now tt
+    (λ h i. let lt = in_earlier (now + 1) hs h (in_filter _ (earlier (now + 1) hs) h i) in omega (arith, lt))
+
+-- how a device stands that is kept, and has something due, is not that its instant is over
+pub up_now : {M : Type 0} (stands : M → Network → DeviceId → Node → Type 0) (s : Scenario) (hs coming : List Happening) (cursor : List ℕ) (now : ℕ)
+    (device : DeviceId) (machine : M) (k : IsKept stands s hs coming cursor now device machine) → HasTaskBy s device k.node now
+    → (k.up ≡ now) × (IsBefore (act_place now device) cursor → IsActing s hs now device → ⊥)
+up_now stands s hs coming cursor now device machine k due = elim k.acted [
+  | inl yet ↦ yet
+  | inr over ↦
+      absurd (not_over s (hs ++ coming) device now k.high k.node
+      (subst (λ (n : ℕ). HasDoneFrom s.network (s.reading device) device k.node (changed_at (hs ++ coming) device n) n k.high) over.0 k.done)
+      (subst (λ (n : ℕ). HasSentFrom s device k.node n k.high) over.0 k.sent)
+      (changed_soon (hs ++ coming) device now) due)
+]
+
+-- ---- own records
+
+pub plain_sent : (device : DeviceId) (cycle : ℕ) (body : NoteBody) → plain_body body ≡ kinds.Sent device cycle → body ≡ kinds.Sent device cycle
+plain_sent device cycle (kinds.State other state cause why) e = absurd cc
+plain_sent device cycle body e = e
+
+pub plain_compressed : (device : DeviceId) (c : Compressed) (verdict : Judgement) (body : NoteBody)
+    → plain_body body ≡ kinds.Compressed device c.opened c.at c.cycle c.members verdict → body ≡ kinds.Compressed device c.opened c.at c.cycle c.members verdict
+plain_compressed device c verdict (kinds.State other state cause why) e = absurd cc
+plain_compressed device c verdict body e = e
+
+-- no such record is to come where the acts of the device are neither worked off nor taken up
+pub none_of_it : (s : Scenario) (hs coming : List Happening) (mark cursor : List ℕ) (now : ℕ) (device : DeviceId) → AreSettled s hs coming mark cursor now
+    → (IsBefore (act_place now device) cursor → ⊥) → (act_place now device ≡ cursor → ⊥) → (z : Happening) → IsIn z coming → (body : NoteBody)
+    → z.note.body ≡ body → ((hs : List Happening) (t members : ℕ) (w : List ℕ) → IsOwnSource s hs t members body w → w ≡ t ∷ 4 ∷ device.0 ∷ []) → ⊥
+none_of_it s hs coming mark cursor now device are waits not_at z i body e source =
+    let split = parted z coming i in
+    let by = are.by split.0 split.1 z split.2 in
+    let at = are.of_now z i in
+    let own : by.0 ≡ time_of z ∷ 4 ∷ device.0 ∷ [] = source (hs ++ split.0) (time_of z) (members_in z) by.0
+    (subst (λ (b : NoteBody). IsOwnSource s (hs ++ split.0) (time_of z) (members_in z) b by.0) e by.1) in
+    let here : by.0 ≡ act_place now device = own ∙ ap (λ (n : ℕ). n ∷ 4 ∷ device.0 ∷ []) at in
+    elim by.3 [ inl before ↦ waits (subst (λ (q : List ℕ). IsBefore q cursor) here before) | inr up ↦ not_at (sym here ∙ up.0) ]
+
+-- ---- it is at work
+
+pub at_work : {M : Type 0} (stands : M → Network → DeviceId → Node → Type 0) (s : Scenario) (hs coming : List Happening) (cursor : List ℕ) (now : ℕ)
+    (device : DeviceId) (machine : M) (k : IsKept stands s hs coming cursor now device machine) → ((z : Happening) → IsIn z coming → time_of z ≡ now)
+    → ((h : Happening) → IsIn h (hs ++ coming) → time_of h ≤ now) → ((z : Happening) → IsIn z coming → 4 ≤ rank z.note.body)
+    → k.up ≡ now → IsAtWork s hs coming now device k.node
+at_work stands s hs coming cursor now device machine k of past late up =
+    let js = hs ++ coming in
+    let high : (k.high ≡ now) ⊎ (k.high ≡ now + 1) = elim k.doing [ inl e ↦ inl (e ∙ up) | inr d ↦ inr d.1 ] in
+    let few : k.high ≤ now + 1 = elim high [ inl e ↦ omega (arith, e) | inr e ↦ omega (arith, e) ] in
+    let done : HasDoneFrom s.network (s.reading device) device k.node (changed_at js device now) now k.high =
+    subst (λ (n : ℕ). HasDoneFrom s.network (s.reading device) device k.node (changed_at js device n) n k.high) up k.done in
+    record {
+      left = subst (λ (n : ℕ). IsLeft s js device n k.node) up k.left;
+      done = record {
+        undone = done.undone;
+        done = λ deed there. let x = done.done deed there in (x.0, x.1, omega (arith, x.2, few), x.3);
+      };
+      sent = record {
+        unsent = λ c w x lt. k.sent.unsent c w x (omega (arith, lt, up));
+        sent = λ c there. let x = k.sent.sent c there in (x.0, omega (arith, x.1, few), x.2);
+      };
+      ready = k.ready;
+      still = k.still up;
+      past = past;
+      of_now = λ z i. (of z i, late z i);
+      sound = k.sound;
+    }
+
+-- ---- its acts are not worked off
+
+-- a task that is due is an act
+pub task_acts : (s : Scenario) (hs coming : List Happening) (now : ℕ) (device : DeviceId) (node : Node) (task : Task) → IsLawful s (hs ++ coming) device
+    → node.taken ≡ frames_taken s (hs ++ coming) device
+    → IsAtWork s hs coming now device node → IsPending s.network device node task → reading_for s.network node task ≤ℤ pos (s.reading device now)
+    → IsActing s hs now device
+task_acts s hs coming now device node (emitting c) law taken w p due =
+    subst (λ (l : List Happening). IsActing s l now device) (append-nil hs)
+    (IsActing.emitting c (own_judgement s.network device node c) (emits s hs coming [] coming now device node c w refl p due))
+task_acts s hs coming now device node (doing (sending cycle)) law taken w p due =
+    subst (λ (l : List Happening). IsActing s l now device) (append-nil hs)
+    (IsActing.sending cycle (sends s hs coming [] now device node cycle w (λ z i. absurd i) p due))
+task_acts s hs coming now device node (doing (correcting cycle)) law taken w p due =
+    subst (λ (l : List Happening). IsActing s l now device) (append-nil hs)
+    (IsActing.correcting cycle (at_correction s hs coming [] now device node cycle w (λ z i. absurd i) p due))
+task_acts s hs coming now device node (doing (dispatching row cycle)) law taken w p due =
+    let frame = p.1.own.1 in
+    let d = dispatches_so s (hs ++ coming) device now node row cycle law w.past taken
+    (record { synchronised = sym w.left.state ∙ p.1.own.0; correct = w.sound })
+    frame (reaches s hs coming now device node (dispatching row cycle) w p.1 due) in
+    IsActing.dispatching frame.entry.row.link d.0 frame.entry.row.vl cycle
+    (dispatches_back s (hs ++ coming) hs now device frame.entry.row.link d.0 frame.entry.row.vl cycle
+    (earlier_still now hs coming (λ z i. let at = (w.of_now z i).0 in omega (arith, at))) d.2)
+
+-- so the acts of the device are not worked off
+pub acts_wait : {M : Type 0} (stands : M → Network → DeviceId → Node → Type 0) (s : Scenario) (hs coming : List Happening) (cursor : List ℕ) (now : ℕ)
+    (device : DeviceId) (machine : M) (k : IsKept stands s hs coming cursor now device machine) (task : Task) → IsLawful s (hs ++ coming) device
+    → ((z : Happening) → IsIn z coming → time_of z ≡ now)
+    → ((h : Happening) → IsIn h (hs ++ coming) → time_of h ≤ now) → ((z : Happening) → IsIn z coming → 4 ≤ rank z.note.body)
+    → IsPending s.network device k.node task → reading_for s.network k.node task ≤ℤ pos (s.reading device now) → IsBefore (act_place now device) cursor → ⊥
+acts_wait stands s hs coming cursor now device machine k task law of past late pending due b =
+    let up = up_now stands s hs coming cursor now device machine k (task, pending, due) in
+    up.1 b (task_acts s hs coming now device k.node task law k.taken (at_work stands s hs coming cursor now device machine k of past late up.0) pending due)

@@ -1,0 +1,37 @@
+-- Such records take no frame of the schedule.
+use Rattle.std.proofs.Common.{◌≡◌, ℕ, ℤ, ◌≤◌, true, List, [], ◌∷◌, ◌++◌, flat_map, inl, inr, refl, ap, ◌∙◌, ◌+ℤ◌, pos, arith}
+use Rattle.net_plan.specs.declared.ids.DeviceId.{DeviceId}
+use Rattle.run_law.specs.declared.note.NoteBody.TheVariants as notes
+use Rattle.run_law.specs.declared.note.NoteBody.{NoteBody}
+use Rattle.run_law.specs.device.LocalClocks.{local_before}
+use Rattle.run_law.specs.device.States.{adjustment_after}
+use Rattle.run_law.specs.records.Happenings.{Happening, time_of}
+use Rattle.run_law.specs.records.Order.{IsIn}
+use Rattle.run_law.specs.scenario.Scenarios.{Scenario}
+use Rattle.world_steps.proofs.befalling.Calm.{is_calm}
+use Rattle.world_law.proofs.runs.SourcesBack.{earlier_still}
+use Rattle.world_law.specs.device.Takings.{frames_taken, taken_in}
+
+calm_takes : (device : DeviceId) (at : ℤ) (body : NoteBody) → is_calm body ≡ true → taken_in device at body ≡ []
+calm_takes device at (notes.Lost other link cause) e = refl
+calm_takes device at (notes.State other state cause why) e = refl
+calm_takes device at other e = absurd cc
+
+-- a list of which a part gives nothing, and the other the same
+flat_calm : {X Y : Type 0} (f g : X → List Y) (hs zs : List X) → ((h : X) → IsIn h hs → f h ≡ g h) → ((z : X) → IsIn z zs → f z ≡ [])
+    → flat_map f (hs ++ zs) ≡ flat_map g hs
+flat_calm f g [] [] same none = refl
+flat_calm {X} {Y} f g [] (z ∷ zs) same none =
+    ap (λ (l : List Y). l ++ flat_map f zs) (none z (inl refl)) ∙ flat_calm f g [] zs same (λ y i. none y (inr i))
+flat_calm {X} {Y} f g (h ∷ hs) zs same none =
+    ap (λ (l : List Y). l ++ flat_map f (hs ++ zs)) (same h (inl refl)) ∙ ap (λ (l : List Y). g h ++ l) (flat_calm f g hs zs (λ y i. same y (inr i)) none)
+
+pub taken_calm : (s : Scenario) (hs zs : List Happening) (device : DeviceId) (now : ℕ) → ((h : Happening) → IsIn h hs → time_of h ≤ now)
+    → ((z : Happening) → IsIn z zs → now ≤ time_of z) → ((z : Happening) → IsIn z zs → is_calm z.note.body ≡ true)
+    → frames_taken s (hs ++ zs) device ≡ frames_taken s hs device
+taken_calm s hs zs device now past late calm =
+    flat_calm (λ (h : Happening). taken_in device (local_before s (hs ++ zs) device (time_of h)) h.note.body)
+    (λ (h : Happening). taken_in device (local_before s hs device (time_of h)) h.note.body) hs zs
+    (λ h i. ap (λ (l : List Happening). taken_in device (pos (s.reading device (time_of h)) +ℤ (adjustment_after s l device).0) h.note.body)
+    (earlier_still (time_of h) hs zs (λ z j. let a = past h i in let b = late z j in omega (arith, a, b))))
+    (λ z i. calm_takes device _ z.note.body (calm z i))

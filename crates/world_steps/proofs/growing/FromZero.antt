@@ -1,0 +1,189 @@
+-- No point that a compression master has collected lies before reading 0.
+use Rattle.std.proofs.Common.{◌≡◌, ℕ, zero, suc, ◌≤◌, pos, ◌≤ℤ◌, Bool, true, false, not, ◌==◌, if◌then◌else◌, List, [], ◌∷◌, ◌++◌, drop, length, Option, Some, None, Result, Ok, Err, inl, inr, refl, sym, subst, ◌∙◌, arith}
+use Rattle.std.specs.Prelude.{All, IfSome, filter_map, nat_lt}
+use Rattle.std.specs.List.{AllByRecursion, after_last, cons_option}
+use Rattle.std.proofs.lemmas.Bool.{cases_lt, lt-ltb}
+use Rattle.std.proofs.lemmas.Int.{ints}
+use Rattle.std.proofs.lemmas.List.Elements.{All-from_recursion}
+use Rattle.compression.specs.Clusters.{Point, point_at}
+use Rattle.net_plan.specs.Ranges.{IsInRange}
+use Rattle.net_plan.specs.declared.ids.DeviceId.{DeviceId}
+use Rattle.net_plan.specs.declared.ids.LinkId.{LinkId}
+use Rattle.net_plan.specs.declared.ids.VlId.{VlId}
+use Rattle.net_plan.specs.declared.network.Network.{Network}
+use Rattle.net_plan.specs.declared.tables.Way.TheVariants.{Down, Up}
+use Rattle.pcf_codec.specs.Fields.{field}
+use Rattle.pcf_codec.specs.declared.refusal.PcfRefusal.{PcfRefusal}
+use Rattle.pcf_values.specs.declared.pcf.Pcf.{Pcf}
+use Rattle.run_law.proofs.law.FirstPlaces.{founded_at, numbered_in}
+use Rattle.run_law.specs.control.Arrivals.{clock_on_arrival, control_arrival, frame_fault, frame_or_fault, is_cold_start, is_gate_shut, is_of_other_domain, is_of_other_member, point_on_arrival}
+use Rattle.run_law.specs.control.Collections.{ends_stretch, master_of, point_by, points_of}
+use Rattle.run_law.specs.control.Permanence.{IsPermanent}
+use Rattle.run_law.specs.control.Wires.{Signal, control, timed}
+use Rattle.run_law.specs.declared.judgement.Reason.TheVariants as reasons
+use Rattle.run_law.specs.declared.judgement.Reason.{Reason}
+use Rattle.run_law.specs.declared.note.NoteBody.TheVariants as notes
+use Rattle.run_law.specs.declared.note.NoteBody.{NoteBody}
+use Rattle.run_law.specs.declared.steps.Arrival.TheVariants as arrivals
+use Rattle.run_law.specs.declared.steps.Arrival.{Arrival}
+use Rattle.run_law.specs.device.Standpoints.{Standpoint, clock_of, cycle_at, standpoint}
+use Rattle.run_law.specs.device.States.{cycle_in}
+use Rattle.run_law.specs.machines.Nodes.{Node}
+use Rattle.run_law.specs.records.Happenings.{Happening, time_of, with_clock}
+use Rattle.run_law.specs.records.Order.{IsIn}
+use Rattle.run_law.specs.records.Ranks.{members_in, place_of}
+use Rattle.run_law.specs.runs.DueRecords.{IsArrivedRecord, IsCaused, IsDue}
+use Rattle.run_law.specs.runs.Runs.{IsFounded}
+use Rattle.run_law.specs.scenario.Devices.{is_end, is_parent_of, is_relay}
+use Rattle.run_law.specs.scenario.Scenarios.{Scenario}
+use Rattle.run_law.specs.timed.Arrivals.{entry_arrival, entry_entering, octets_fault, octets_or_fault, row_fault, taken_or_fault}
+use Rattle.run_law.specs.timed.Receptions.{arrival_of, last_taken}
+use Rattle.schedule_tables.specs.declared.entry.Entry.{Entry}
+use Rattle.transparent_clock.specs.Points.{point_of}
+use Rattle.tte_units.specs.Amount.{amount}
+use Rattle.tte_units.specs.declared.units.Units.{Units}
+use Rattle.world_law.proofs.acts.Ready.{natural}
+use Rattle.world_steps.proofs.hearing.OneMaster.{first_none}
+use Rattle.world_law.proofs.rows.Dispatching.{IsLawful}
+use Rattle.world_law.specs.device.Growing.{IsFromZero}
+use Rattle.world_law.specs.world.World.{IsKept}
+
+-- ---- the clock of a frame that is taken is at most dmax
+
+abbrev ClockWithin : ℕ → Arrival → Type 0
+ClockWithin most (arrivals.Waits frame point) = frame.clock ≤ most
+ClockWithin most (arrivals.Passes frame way) = frame.clock ≤ most
+ClockWithin most (arrivals.PassesAndWaits frame way point) = frame.clock ≤ most
+ClockWithin most other = Unit {0}
+
+frame_within : (network : Network) (device : DeviceId) (link : LinkId) (at : Standpoint) (frame : Pcf) (fault : Option Reason)
+    → (fault ≡ None → clock_on_arrival network link frame ≤ amount network.dmax)
+    → ClockWithin (amount network.dmax) (frame_or_fault network device link at frame fault)
+frame_within network device link at frame (Some reason) within = tt
+frame_within network device link at frame None within =
+    let clock = clock_on_arrival network link frame in
+    let f = with_clock clock frame in
+    let p = point_on_arrival network at clock in
+    elim (is_relay network device) as (λ (r : Bool). ClockWithin (amount network.dmax) (if r then (if is_parent_of network device link then arrivals.Passes f Up
+    else arrivals.PassesAndWaits f Down p) else arrivals.Waits f p)) [
+      | true ↦
+          elim (is_parent_of network device link) as (λ (b : Bool). ClockWithin (amount network.dmax) (if b then arrivals.Passes f Up
+          else arrivals.PassesAndWaits f Down p)) [ true ↦ within refl | false ↦ within refl ]
+      | false ↦ within refl
+    ]
+
+not_old : (most clock : ℕ) → nat_lt most clock ≡ false → clock ≤ most
+not_old most clock e = elim (cases_lt most clock) [ inl lt ↦ absurd (let bad : true ≡ false = sym (lt-ltb most clock lt) ∙ e in cc) | inr ge ↦ ge ]
+
+control_within : (network : Network) (device : DeviceId) (link : LinkId) (p : Standpoint) (came : Result Pcf PcfRefusal)
+    → ClockWithin (amount network.dmax) (control_arrival network device link p came)
+control_within network device link p (Err refusal) = tt
+control_within network device link p (Ok frame) =
+    let shut = is_gate_shut network device p in
+    let old = nat_lt (amount network.dmax) (clock_on_arrival network link frame) in
+    let own = is_of_other_member network device link frame.members in
+    let domain = is_of_other_domain network frame in
+    frame_within network device link p frame (frame_fault network device link p frame) (λ none.
+    let a = (first_none (not p.takes_part) reasons.Off ((is_cold_start frame.kind, reasons.ColdStart) ∷ (domain, reasons.Domain) ∷ (own, reasons.Member)
+    ∷ (old, reasons.Old) ∷ (shut, reasons.Gate) ∷ []) none).1 in
+    let b = (first_none (is_cold_start frame.kind) reasons.ColdStart ((domain, reasons.Domain) ∷ (own, reasons.Member) ∷ (old, reasons.Old)
+    ∷ (shut, reasons.Gate) ∷ []) a).1 in
+    let c = (first_none domain reasons.Domain ((own, reasons.Member) ∷ (old, reasons.Old) ∷ (shut, reasons.Gate) ∷ []) b).1 in
+    let d = (first_none own reasons.Member ((old, reasons.Old) ∷ (shut, reasons.Gate) ∷ []) c).1 in
+    not_old (amount network.dmax) (clock_on_arrival network link frame) (first_none old reasons.Old ((shut, reasons.Gate) ∷ []) d).0)
+
+row_within : (most : ℕ) (network : Network) (device : DeviceId) (at : Standpoint) (entry : Entry) (fault : Option Reason)
+    → ClockWithin most (taken_or_fault network device at entry fault)
+row_within most network device at entry (Some reason) = tt
+row_within most network device at entry None =
+    let c = cycle_at network (clock_of at) in
+    elim (is_end network device) as (λ (b : Bool). ClockWithin most (if b then arrivals.Delivered entry.row.vl c else arrivals.Accepted entry.row.vl c))
+    [ true ↦ tt | false ↦ tt ]
+
+entry_within : (most : ℕ) (network : Network) (device : DeviceId) (at : Standpoint) (size : ℕ) (last : VlId → Option ℕ) (entry : Option Entry)
+    → ClockWithin most (entry_arrival network device at size last entry)
+entry_within most network device at size last None = tt
+entry_within most network device at size last (Some entry) = row_within most network device at entry (row_fault network at entry size (last entry.row.vl))
+
+octets_within : (most : ℕ) (network : Network) (device : DeviceId) (link : LinkId) (at : Standpoint) (octets : List ℕ) (last : VlId → Option ℕ)
+    (fault : Option Reason) → ClockWithin most (octets_or_fault network device link at octets last fault)
+octets_within most network device link at octets last (Some reason) = tt
+octets_within most network device link at octets last None =
+    entry_within most network device at (length octets) last (entry_entering network device link (field 4 2 octets))
+
+arrival_within : (s : Scenario) (hs : List Happening) (device : DeviceId) (t : ℕ) (link : LinkId) (cause : ℕ) (signal : Signal)
+    → ClockWithin (amount s.network.dmax) (arrival_of s hs device t link cause signal)
+arrival_within s hs device t link cause (control frame) = control_within s.network device link (standpoint s hs device t) frame
+arrival_within s hs device t link cause (timed octets) =
+    octets_within (amount s.network.dmax) s.network device link (standpoint s hs device t) octets (last_taken hs device t link cause)
+    (octets_fault s.network (standpoint s hs device t) octets)
+
+pub arrived_clock : (s : Scenario) (hs : List Happening) (device : DeviceId) (t : ℕ) (link : LinkId) (cause clock : ℕ)
+    → IsArrivedRecord s hs device t link cause clock → clock ≤ amount s.network.dmax
+arrived_clock s hs device t link cause clock a =
+    let within : (signal : Signal) (is : Arrival) → is ≡ arrival_of s hs device t link cause signal → ClockWithin (amount s.network.dmax) is =
+    λ signal is e. subst (ClockWithin (amount s.network.dmax)) (sym e) (arrival_within s hs device t link cause signal) in
+    subst (λ (c : ℕ). c ≤ amount s.network.dmax) (sym a.shows)
+    (elim a.taken [
+      | inl waits ↦ within waits.signal (arrivals.Waits a.frame a.point) waits.becomes
+      | inr other ↦
+          elim other [
+            | inl passes ↦ within passes.signal (arrivals.Passes a.frame a.way) passes.becomes
+            | inr both ↦ within both.signal (arrivals.PassesAndWaits a.frame a.way a.point) both.becomes
+          ]
+    ])
+
+-- ---- so no point lies before reading 0
+
+point_natural : (reading clock : ℕ) (dmax point : Units) → point.0 ≡ point_of (pos reading) clock dmax.0 → clock ≤ amount dmax → pos 0 ≤ℤ dmax.0
+    → pos 0 ≤ℤ point.0
+point_natural reading clock dmax point at le some = let whole = natural dmax.0 some in omega (arith, ints, at, le, whole)
+
+-- nor was any frame permanent at a point before it
+pub permanent_natural : (s : Scenario) (hs : List Happening) (device : DeviceId) (t : ℕ) (link : LinkId) (cause : ℕ) (frame : Pcf) (point : Units)
+    → IsInRange s.network → IsFounded place_of (IsDue s) hs → IsPermanent s hs device t link cause frame point → pos 0 ≤ℤ point.0
+permanent_natural s hs device t link cause frame point range founded p =
+    let at = founded_at s hs p.arrival founded (numbered_in hs cause p.arrival p.there) in
+    let caused : IsCaused s at.front p.arrival.note.time (notes.Arrived device link p.from p.clock) = subst (IsCaused s at.front p.arrival.note.time) p.arrived
+    at.due.cause in
+    let least = range.dmax.least in
+    point_natural (s.reading device (time_of p.arrival)) p.clock s.network.dmax point p.at_point
+    (arrived_clock s at.front device (amount p.arrival.note.time) link p.from p.clock caused) (omega (arith, ints, least))
+
+by_record : (s : Scenario) (hs : List Happening) (device : DeviceId) (h : Happening) → IsInRange s.network → IsFounded place_of (IsDue s) hs → IsIn h hs
+    → (body : NoteBody) → h.note.body ≡ body → IfSome (point_by device h body) (λ p. pos 0 ≤ℤ p.reading)
+by_record s hs device h range founded i (notes.Permanent other link cause point verdict) is =
+    let at = founded_at s hs h founded i in
+    let caused : IsCaused s at.front h.note.time (notes.Permanent other link cause point verdict) = subst (IsCaused s at.front h.note.time) is at.due.cause in
+    let low = permanent_natural s at.front other (amount h.note.time) link cause caused.frame point range at.founded caused.permanent in
+    elim (device.0 == other.0) as (λ (b : Bool). IfSome (if b then Some (point_at point.0 (master_of (members_in h)) (cycle_in h)) else None)
+    (λ p. pos 0 ≤ℤ p.reading)) [ true ↦ low | false ↦ tt ]
+by_record s hs device h range founded i other is = tt
+
+consed : {Y : Type 0} (P : Y → Type 0) (o : Option Y) (ys : List Y) → IfSome o P → AllByRecursion P ys → AllByRecursion P (cons_option o ys)
+consed P None ys x all = all
+consed P (Some y) ys x all = (x, all)
+
+mapped : {X Y : Type 0} (f : X → Option Y) (P : Y → Type 0) (xs : List X) → ((x : X) → IsIn x xs → IfSome (f x) P) → AllByRecursion P (filter_map f xs)
+mapped f P [] each = tt
+mapped f P (x ∷ xs) each = consed P (f x) (filter_map f xs) (each x (inl refl)) (mapped f P xs (λ y i. each y (inr i)))
+
+in_drop : {X : Type 0} (n : ℕ) (xs : List X) (x : X) → IsIn x (drop n xs) → IsIn x xs
+in_drop zero xs x i = i
+in_drop (suc n) [] x i = i
+in_drop (suc n) (y ∷ ys) x i = inr (in_drop n ys x i)
+
+-- the points of a device, by records that are founded
+pub points_from_zero : (s : Scenario) (hs : List Happening) (device : DeviceId) → IsInRange s.network → IsFounded place_of (IsDue s) hs
+    → All (λ p. pos 0 ≤ℤ p.reading) (points_of hs device)
+points_from_zero s hs device range founded =
+    All-from_recursion (λ (p : Point). pos 0 ≤ℤ p.reading) (points_of hs device)
+    (mapped (λ h. point_by device h h.note.body) (λ (p : Point). pos 0 ≤ℤ p.reading) (after_last (λ h. ends_stretch device h.note.body) hs)
+    (λ h i. by_record s hs device h range founded (in_drop _ hs h i) h.note.body refl))
+
+-- and those of a node that a world keeps
+pub kept_from_zero : {M : Type 0} (stands : M → Network → DeviceId → Node → Type 0) (s : Scenario) (hs coming : List Happening) (cursor : List ℕ) (now : ℕ)
+    (device : DeviceId) (machine : M) (k : IsKept stands s hs coming cursor now device machine) → IsLawful s (hs ++ coming) device
+    → IsFromZero s.network device k.node
+kept_from_zero stands s hs coming cursor now device machine k law = λ cm.
+    subst (All (λ (p : Point). pos 0 ≤ℤ p.reading)) (sym (k.left.points cm)) (points_from_zero s (hs ++ coming) device law.range law.founded)

@@ -1,0 +1,85 @@
+-- A frame arrives: the world stands behind it, where its devices do.
+use Rattle.std.proofs.Common.{◌≡◌, ℕ, ◌+◌, ◌<◌, false, List, [], ◌∷◌, ◌++◌, Some, length, map, slice_get, inl, inr, refl, sym, ap, subst, ◌∙◌, arith}
+use Rattle.std.proofs.lemmas.List.{length-map}
+use Rattle.net_plan.specs.declared.ids.DeviceId.{DeviceId}
+use Rattle.net_plan.specs.declared.network.Network.{Network}
+use Rattle.world_law.proofs.runs.Worlds.{length_is}
+use Rattle.run_law.specs.declared.note.Note.{Note}
+use Rattle.run_law.specs.declared.steps.Arrival.{Arrival}
+use Rattle.run_law.specs.machines.Nodes.{Node}
+use Rattle.run_law.specs.records.Happenings.{Happening, happenings}
+use Rattle.run_law.specs.records.Order.{IsBefore, IsIn, behind}
+use Rattle.run_law.specs.records.Ranks.{rank}
+use Rattle.run_law.specs.scenario.Scenarios.{Scenario}
+use Rattle.run_law.specs.timed.Receptions.{arrival_of}
+use Rattle.world_steps.proofs.hearing.Putting.{IsHeardAs, IsReceived, least_rank, received}
+use Rattle.world_law.proofs.putting.Moving.{IsMoving, all_without, ports_move, waiting_moves, wires_move}
+use Rattle.world_law.proofs.putting.StandsOn.{comes_first, shown_still, stands_on, told_wires}
+use Rattle.world_law.specs.world.Outcomes.{arrival_body}
+use Rattle.world_law.specs.world.Moves.{ArePutIn, ComesFirst, IsPutIn, IsWithout, StandsBehind, settled_as}
+use Rattle.world_law.specs.world.World.{AreOfNetwork, AreSettled, IsHeld, OnWire, Stands, World, hidden, port_place, wire_place}
+
+-- where it arrives
+abbrev pub more_of : OnWire → List ℕ
+more_of e = e.device.0 ∷ e.link.0 ∷ e.cause ∷ []
+
+wire_at : (e : OnWire) (now : ℕ) → e.at ≡ now → wire_place e ≡ now ∷ 2 ∷ e.device.0 ∷ e.link.0 ∷ e.cause ∷ []
+wire_at e now at = ap (λ (t : ℕ). t ∷ 2 ∷ e.device.0 ∷ e.link.0 ∷ e.cause ∷ []) at
+
+longer_place : (now a b c : ℕ) → now ∷ 2 ∷ [] ≡ now ∷ 2 ∷ a ∷ b ∷ c ∷ [] → ⊥
+longer_place now a b c e = cc
+
+-- the frame is the first source
+pub arriving_first : {C M : Type 0} (reading : C → ℕ → ℕ) (stands : M → Network → DeviceId → Node → Type 0) (s : Scenario) (world : World C M)
+    (notes : List Note)
+    (e : OnWire) (old : Stands reading stands s world notes) → IsIn e world.wires → e.at ≡ world.now
+    → ComesFirst reading stands s world notes old (wire_place e)
+    → IsMoving s (happenings s.network notes) old.coming old.mark old.cursor world.now 2 (e.device.0 ∷ e.link.0 ∷ e.cause ∷ [])
+arriving_first reading stands s world notes e old i at first =
+    comes_first reading stands s world notes old 2 (e.device.0 ∷ e.link.0 ∷ e.cause ∷ []) (wire_place e) (λ seven. omega (arith, seven))
+    (longer_place world.now e.device.0 e.link.0 e.cause) (wire_at e world.now at) (old.wires.real e i).2 first
+
+-- the world stands behind it, where what is settled then and its devices do
+pub heard_behind : {C M : Type 0} (reading : C → ℕ → ℕ) (stands : M → Network → DeviceId → Node → Type 0) (s : Scenario) (world : World C M) (notes : List Note)
+    (e : OnWire) (machines : List M) (wires : List OnWire) (settled coming : List Happening) (old : Stands reading stands s world notes)
+    → IsIn e world.wires → e.at ≡ world.now → ComesFirst reading stands s world notes old (wire_place e)
+    → IsWithout wire_place (wire_place e) world.wires wires
+    → settled ≡ map (hidden (length notes)) coming → length coming ≡ length old.coming + 1
+    → AreSettled s (happenings s.network notes) coming old.mark (behind (world.now ∷ 2 ∷ e.device.0 ∷ e.link.0 ∷ e.cause ∷ [])) world.now
+    → AreOfNetwork s (happenings s.network notes ++ coming)
+    → ((device : DeviceId) → device.0 < length s.network.device → (machine : M) × (slice_get machines device.0 ≡ Some machine)
+    × IsHeld stands s (happenings s.network notes) coming (behind (world.now ∷ 2 ∷ e.device.0 ∷ e.link.0 ∷ e.cause ∷ [])) world.now device machine)
+    → StandsBehind reading stands s (record world { early = false; machines = machines; wires = wires; settled = settled }) notes (behind (wire_place e))
+heard_behind reading stands s world notes e machines wires settled coming old i at first without shows long are known devices =
+    let hs = happenings s.network notes in
+    let more = e.device.0 ∷ e.link.0 ∷ e.cause ∷ [] in
+    let here = world.now ∷ 2 ∷ more in
+    let place = wire_at e world.now at in
+    let m = arriving_first reading stands s world notes e old i at first in
+    let later : IsBefore (world.now ∷ 2 ∷ []) here = inr (refl, inr (refl, tt)) in
+    let same_length : length world.settled ≡ length old.coming = ap length old.settled ∙ length-map old.coming (hidden (length notes)) in
+    let room = first.room in
+    stands_on reading stands s world notes old 2 more (wire_place e) machines wires world.ports world.waiting settled coming world.shown m place shows
+    (omega (arith, long, same_length, room)) are known devices later
+    (wires_move s hs old.coming old.mark old.cursor world.now 2 more world.wires wires m (told_wires reading stands s world notes old 2 more m later)
+    (subst (λ (q : List ℕ). IsWithout wire_place q world.wires wires) place without))
+    (ports_move s hs old.coming old.mark old.cursor world.now 2 more world.ports world.ports m old.ports
+    (all_without port_place here world.ports (λ w same. (let eight : ◌≡◌ {A = ℕ} 8 2 = cc in omega (arith, eight)))))
+    (waiting_moves s hs old.coming old.mark old.cursor world.now 2 more world.waiting m (λ three. omega (arith, three)) old.waiting)
+    (shown_still reading stands s world notes old 2 more (omega arith) m)
+
+-- its record is put in
+pub heard_put : {C M : Type 0} (reading : C → ℕ → ℕ) (stands : M → Network → DeviceId → Node → Type 0) (s : Scenario) (world : World C M) (notes : List Note)
+    (e : OnWire) (settled : List Happening) (is : Arrival) (old : Stands reading stands s world notes)
+    → IsIn e world.wires → e.at ≡ world.now → ComesFirst reading stands s world notes old (wire_place e)
+    → IsHeardAs s (happenings s.network notes) old.coming world.now e is
+    → ((js : List Happening) → Rattle.std.proofs.Common.◌≤◌ (least_rank s.network e.device e.signal)
+    (rank (arrival_body e.device e.link e.cause (arrival_of s js e.device world.now e.link e.cause e.signal))))
+    → ArePutIn s.network (happenings s.network notes) world.now (arrival_body e.device e.link e.cause is ∷ []) world.settled settled
+    → IsReceived s (happenings s.network notes) old.coming old.mark old.cursor world.now (length notes) e is settled
+heard_put reading stands s world notes e settled is old i at first so least (mid, put, last) =
+    received s (happenings s.network notes) old.coming old.mark old.cursor world.now (length notes) e is world.settled settled
+    (arriving_first reading stands s world notes e old i at first) old.of_now old.run.founded (length_is s notes) (old.wires.real e i).0 at so least old.settled
+    (subst (λ (l : List Happening). IsPutIn (settled_as s.network (happenings s.network notes) world.now (arrival_body e.device e.link e.cause is))
+    world.settled l)
+    (sym last) put)

@@ -1,0 +1,347 @@
+-- A device after a frame that is permanent and tells it no time stands as the records leave it, with that of the frame put in.
+use Rattle.std.proofs.Common.{◌≡◌, IfSome, ℕ, ◌+◌, ◌≤◌, pos, ◌+ℤ◌, Bool, true, false, not, ◌&&◌, ◌||◌, ◌==◌, if◌then◌else◌, List, [], ◌∷◌, ◌++◌, Option, Some, None, filter, filter_map, option_map, option_to_list, refl, sym, ap, subst, ◌∙◌, append_assoc}
+use Rattle.std.specs.Prelude.{nat_lt}
+use Rattle.std.specs.List.{after_last}
+use Rattle.std.specs.Option.{option_map_or}
+use Rattle.std.proofs.lemmas.Bool.{eq-eqb, le-ltb}
+use Rattle.std.proofs.lemmas.List.{append-nil}
+use Rattle.std.proofs.lemmas.List.Elements.{filter-append}
+use Rattle.compression.specs.Clusters.{Point, point_at}
+use Rattle.membership.specs.Hearing.{Hearing}
+use Rattle.net_plan.specs.declared.ids.DeviceId.{DeviceId}
+use Rattle.net_plan.specs.declared.ids.LinkId.{LinkId}
+use Rattle.net_plan.specs.declared.network.Network.{Network}
+use Rattle.pcf_values.specs.declared.channel.Channel.{Channel}
+use Rattle.pcf_values.specs.declared.pcf.Pcf.{Pcf}
+use Rattle.run_law.specs.device.LocalClocks.{changed_at, changes_adjustment}
+use Rattle.run_law.specs.control.Collections.{ends_stretch, master_of, point_by, points_of}
+use Rattle.run_law.specs.control.Corrections.{has_cleared, heard_by, hearing_by, heard_since, recorded_cycle}
+use Rattle.run_law.specs.scenario.Devices.{channel_of_link, is_cm}
+use Rattle.run_law.specs.records.Happenings.{Happening, earlier, time_of}
+use Rattle.run_law.specs.records.Order.{IsIn}
+use Rattle.run_law.specs.records.Ranks.{members_in}
+use Rattle.run_law.specs.machines.Answers.{after_permanence, called, hearings}
+use Rattle.run_law.specs.machines.Nodes.{Node, Phase}
+use Rattle.run_law.specs.scenario.Scenarios.{Scenario, is_turned_on_at}
+use Rattle.run_law.specs.device.States.{adjustment_before, cycle_in}
+use Rattle.run_law.specs.declared.judgement.Judgement.TheVariants as judgements
+use Rattle.run_law.specs.declared.judgement.Judgement.{Judgement}
+use Rattle.run_law.specs.declared.note.NoteBody.TheVariants as kinds
+use Rattle.run_law.specs.declared.note.NoteBody.{NoteBody}
+use Rattle.run_law.specs.declared.steps.Moment.{Moment}
+use Rattle.run_law.specs.control.Permanence.{ripe_as}
+use Rattle.sync_state.specs.declared.state.State.TheVariants.{Integrating}
+use Rattle.tte_units.specs.declared.units.Units.{Units}
+use Rattle.world_law.proofs.devices.Borne.{cleared_alike, tell_owned}
+use Rattle.world_law.proofs.lists.Lists.{filter_same}
+use Rattle.world_steps.proofs.ripening.Merely.{IsMere, behind_rest, maps_one, maps_rest, mere_changes, mere_hears, mere_point, own_skip}
+use Rattle.world_law.specs.device.Left.{IsLeft, is_timed}
+use Rattle.world_law.specs.device.Own.{moves}
+use Rattle.world_law.specs.device.Told.{since_at}
+
+-- the device hears what the record has, or nothing
+abbrev pub heard_more : Network → DeviceId → Happening → Node → List Hearing
+heard_more network device w node = node.heard ++ option_to_list (hearing_by network device w w.note.body)
+
+-- the node with one more record that does not move it
+pub record IsGrown (s : Scenario) (device : DeviceId) (w : Happening) (node new : Node) : Type 0 where
+  pub standing : new.standing ≡ node.standing
+  pub changed : new.changed ≡ node.changed
+  pub broken : new.broken ≡ node.broken
+  pub heard : new.heard ≡ heard_more s.network device w node
+  pub points : is_cm s.network device ≡ true → new.points ≡ node.points ++ option_to_list (point_by device w w.note.body)
+
+-- the record is put in before those that are to come, which say nothing to the device but of its state
+pub record IsFirst (s : Scenario) (zs : List Happening) (device : DeviceId) (t : ℕ) (w : Happening) : Type 0 where
+  pub mere : (z : Happening) → IsIn z zs → IsMere device z.note.body
+  pub open_ : is_cm s.network device ≡ true → (z : Happening) → IsIn z zs → ends_stretch device z.note.body ≡ false
+  pub still : moves device w.note.body ≡ false
+  pub unchanged : changes_adjustment device w.note.body ≡ false
+  pub goes_on : ends_stretch device w.note.body ≡ false
+
+abbrev keep : Scenario → List Happening → DeviceId → ℕ → Happening → Bool
+keep s hs device t h = not (has_cleared s hs device t t) || has_cleared s hs device t (time_of h)
+
+changes_at : (device : DeviceId) (t : ℕ) (h : Happening) → changes_adjustment device h.note.body ≡ false
+    → (nat_lt (time_of h) t && changes_adjustment device h.note.body) ≡ false
+changes_at device t h e = Rattle.std.proofs.lemmas.Bool.and_right (nat_lt (time_of h) t) _ e
+
+filter_one : {X : Type 0} (q : X → Bool) (xs zs : List X) (w : X) → q w ≡ true → filter q ((xs ++ w ∷ []) ++ zs) ≡ (filter q xs ++ w ∷ []) ++ filter q zs
+filter_one {X} q xs zs w e =
+    filter-append q (xs ++ w ∷ []) zs
+    ∙ ap (λ (l : List X). l ++ filter q zs) (Rattle.world_law.proofs.lists.Lists.filter_yes q xs w e)
+
+pub heard_grown : (s : Scenario) (hs zs : List Happening) (device : DeviceId) (t : ℕ) (w : Happening) → IsFirst s zs device t w
+    → keep s (hs ++ zs) device t w ≡ true
+    → heard_since s (hs ++ w ∷ zs) device t ≡ heard_since s (hs ++ zs) device t ++ option_to_list (hearing_by s.network device w w.note.body)
+heard_grown s hs zs device t w first kept =
+    let f = λ (h : Happening). hearing_by s.network device h h.note.body in
+    let p = λ (h : Happening). nat_lt (time_of h) t && changes_adjustment device h.note.body in
+    let a = tell_owned s (hs ++ w ∷ zs) (hs ++ zs) device t (own_skip device t hs zs w first.still) in
+    let with_it = keep s (hs ++ w ∷ zs) device t in
+    let without = keep s (hs ++ zs) device t in
+    let same : (h : Happening) → with_it h ≡ without h = λ h.
+    ap (λ (b : Bool). not b || has_cleared s (hs ++ w ∷ zs) device t (time_of h)) (cleared_alike s _ _ device t t a)
+    ∙ ap (λ (b : Bool). not (has_cleared s (hs ++ zs) device t t) || b) (cleared_alike s _ _ device t (time_of h) a) in
+    let none : (h : Happening) → IsIn h zs → p h ≡ false = λ h i. changes_at device t h (mere_changes device h.note.body (first.mere h i)) in
+    let silent : (h : Happening) → IsIn h (filter without zs) → f h ≡ None = λ h i.
+    mere_hears s.network device h h.note.body (first.mere h (Rattle.run_law.proofs.law.FirstPlaces.in_filter without zs h i)) in
+    let base = after_last p hs in
+    let since : since_at device t (hs ++ w ∷ zs) ≡ (base ++ w ∷ []) ++ zs =
+    ap (after_last p) (sym (append_assoc hs (w ∷ []) zs))
+    ∙ behind_rest p (hs ++ w ∷ []) zs none
+    ∙ ap (λ (l : List Happening). l ++ zs) (Rattle.world_law.proofs.lists.Lists.behind_no p hs w (changes_at device t w first.unchanged)) in
+    let was : since_at device t (hs ++ zs) ≡ base ++ zs = behind_rest p hs zs none in
+    ap (filter_map f) (filter_same with_it without (since_at device t (hs ++ w ∷ zs)) (λ h i. same h))
+    ∙ ap (λ (l : List Happening). filter_map f (filter without l)) since
+    ∙ ap (filter_map f) (filter_one without base zs w kept)
+    ∙ maps_rest f (filter without base ++ w ∷ []) (filter without zs) silent
+    ∙ maps_one f (filter without base) w
+    ∙ ap (λ (l : List Hearing). l ++ option_to_list (f w)) (sym (maps_rest f (filter without base) (filter without zs) silent)
+    ∙ ap (filter_map f) (sym (filter-append without base zs)) ∙ ap (λ (l : List Happening). filter_map f (filter without l)) (sym was))
+
+pub points_grown : (s : Scenario) (hs zs : List Happening) (device : DeviceId) (t : ℕ) (w : Happening) → IsFirst s zs device t w → is_cm s.network device ≡ true
+    → points_of (hs ++ w ∷ zs) device ≡ points_of (hs ++ zs) device ++ option_to_list (point_by device w w.note.body)
+points_grown s hs zs device t w first cm =
+    let f = λ (h : Happening). point_by device h h.note.body in
+    let p = λ (h : Happening). ends_stretch device h.note.body in
+    let none : (h : Happening) → IsIn h zs → f h ≡ None = λ h i. mere_point device h h.note.body (first.mere h i) in
+    let base = after_last p hs in
+    ap (filter_map f) (ap (after_last p) (sym (append_assoc hs (w ∷ []) zs)) ∙ behind_rest p (hs ++ w ∷ []) zs (first.open_ cm)
+    ∙ ap (λ (l : List Happening). l ++ zs) (Rattle.world_law.proofs.lists.Lists.behind_no p hs w first.goes_on))
+    ∙ maps_rest f (base ++ w ∷ []) zs none
+    ∙ maps_one f base w
+    ∙ ap (λ (l : List Point). l ++ option_to_list (f w)) (sym (maps_rest f base zs none) ∙ ap (filter_map f) (sym (behind_rest p hs zs (first.open_ cm))))
+
+pub left_grown : (s : Scenario) (hs zs : List Happening) (device : DeviceId) (t : ℕ) (w : Happening) (node new : Node) → IsFirst s zs device t w
+    → (is_timed node.standing.state ≡ true → keep s (hs ++ zs) device t w ≡ true)
+    → IsGrown s device w node new → IsLeft s (hs ++ zs) device t node → IsLeft s (hs ++ w ∷ zs) device t new
+left_grown s hs zs device t w node new first kept grown left =
+    let a = tell_owned s (hs ++ zs) (hs ++ w ∷ zs) device t (sym (own_skip device t hs zs w first.still)) in
+    let timed_too : is_timed new.standing.state ≡ true → is_timed node.standing.state ≡ true = λ timed. ap (λ (x : _). is_timed x.state) (sym grown.standing)
+    ∙ timed in
+    record {
+      counted = record {
+        plan = ap (λ (x : _). x.plan) grown.standing ∙ left.counted.plan;
+        adjustment = ap (λ (x : _). x.adjustment) grown.standing ∙ left.counted.adjustment ∙ a.adjustment;
+        integrated = ap (λ (x : _). x.integrated) grown.standing ∙ left.counted.integrated ∙ a.integration;
+        number = λ timed.
+            ap (λ (x : _). x.number) grown.standing ∙ left.counted.number (timed_too timed)
+            ∙ ap (λ (b : Bool). if b then recorded_cycle (earlier t (hs ++ zs)) device + 1 else recorded_cycle (earlier t (hs ++ zs)) device)
+            (cleared_alike s _ _ device t t a)
+            ∙ ap (λ (n : ℕ). if has_cleared s (hs ++ w ∷ zs) device t t then n + 1 else n) a.cycle;
+        changed =
+            grown.changed ∙ left.counted.changed
+            ∙ ap (λ (n : ℕ). pos (s.reading device n) +ℤ (adjustment_before s (hs ++ zs) device t).0) a.change
+            ∙ ap (λ (u : Units). pos (s.reading device (changed_at (hs ++ w ∷ zs) device t)) +ℤ u.0) a.adjustment;
+        heard = λ timed.
+            grown.heard
+            ∙ ap (λ (l : List Hearing). l ++ option_to_list (hearing_by s.network device w w.note.body)) (left.counted.heard (timed_too timed))
+            ∙ sym (heard_grown s hs zs device t w first (kept (timed_too timed)));
+        started =
+            subst (λ (o : Option ℕ). IfSome o (λ cycle. cycle ≤ recorded_cycle (earlier t (hs ++ w ∷ zs)) device)) a.integration
+            (subst (λ (n : ℕ). IfSome (Rattle.run_law.specs.control.Corrections.integration_cycle (earlier t (hs ++ zs)) device) (λ cycle. cycle ≤ n)) a.cycle
+            left.counted.started);
+        broken = grown.broken ∙ left.counted.broken;
+      };
+      state = ap (λ (x : _). x.state) grown.standing ∙ left.state ∙ ap (λ x. if is_turned_on_at s device t then Integrating else x) a.state;
+      points = λ cm.
+          grown.points cm ∙ ap (λ (l : List Point). l ++ option_to_list (point_by device w w.note.body)) (left.points cm)
+          ∙ sym (points_grown s hs zs device t w first cm);
+    }
+
+-- at the time itself all is kept
+pub kept_at : (b : Bool) → (not b || b) ≡ true
+kept_at true = refl
+kept_at false = refl
+
+-- ---- what the machine makes of the frame
+
+-- how the verdict is, where the device collects, and where it does not
+abbrev pub IsByRole : Bool → Judgement → Type 0
+IsByRole true judgements.Opened = Unit {0}
+IsByRole true judgements.Joined = Unit {0}
+IsByRole true judgements.Repeat = Unit {0}
+IsByRole false judgements.Within = Unit {0}
+IsByRole false judgements.Outside = Unit {0}
+IsByRole false judgements.Ignored = Unit {0}
+IsByRole cm other = ⊥
+
+self : (device : DeviceId) → (device.0 == device.0) ≡ true
+self device = eq-eqb device.0 device.0 refl
+
+heard_so : (network : Network) (device : DeviceId) (link : LinkId) (cause : ℕ) (point : Units) (w : Happening) (frame : Pcf) (within : Bool)
+    → w.frame ≡ Some frame
+    → hearings (channel_of_link network link) frame.cycle frame.members point within
+    ≡ option_to_list (if device.0 == device.0 then option_map (λ channel. heard_by channel w point within) (channel_of_link network link) else None)
+heard_so network device link cause point w frame within of_frame =
+    let cycle : frame.cycle ≡ cycle_in w = sym (ap (λ (o : Option Pcf). option_map_or (λ f. f.cycle) o 0) of_frame) in
+    let members : frame.members.0 ≡ members_in w = sym (ap (λ (o : Option Pcf). option_map_or (λ f. f.members.0) o 0) of_frame) in
+    let make = λ (c m : ℕ). option_to_list (option_map (λ (k : Channel).
+    let h : Hearing = record { channel = k; frame = record { cycle = c; members = record { 0 = m }; point = point }; within = within } in h)
+    (channel_of_link network link)) in
+    ap (λ (c : ℕ). make c frame.members.0) cycle ∙ ap (make (cycle_in w)) members
+    ∙ ap (λ (b : Bool). option_to_list (if b then option_map (λ channel. heard_by channel w point within) (channel_of_link network link) else None))
+    (sym (self device))
+
+point_so : (device : DeviceId) (link : LinkId) (cause : ℕ) (point : Units) (w : Happening) (frame : Pcf) → w.frame ≡ Some frame
+    → point_at point.0 (master_of frame.members.0) frame.cycle ∷ []
+    ≡ option_to_list (if device.0 == device.0 then Some (point_at point.0 (master_of (members_in w)) (cycle_in w)) else None)
+point_so device link cause point w frame of_frame =
+    let cycle : frame.cycle ≡ cycle_in w = sym (ap (λ (o : Option Pcf). option_map_or (λ f. f.cycle) o 0) of_frame) in
+    let members : frame.members.0 ≡ members_in w = sym (ap (λ (o : Option Pcf). option_map_or (λ f. f.members.0) o 0) of_frame) in
+    ap (λ (c : ℕ). point_at point.0 (master_of frame.members.0) c ∷ []) cycle
+    ∙ ap (λ (m : ℕ). point_at point.0 (master_of m) (cycle_in w) ∷ []) members
+    ∙ ap (λ (b : Bool). option_to_list (if b then Some (point_at point.0 (master_of (members_in w)) (cycle_in w)) else None)) (sym (self device))
+
+-- what the call leaves as it was
+pub record IsSame (node new : Node) : Type 0 where
+  pub standing : new.standing ≡ node.standing
+  pub changed : new.changed ≡ node.changed
+  pub broken : new.broken ≡ node.broken
+  pub taken : new.taken ≡ node.taken
+  pub done : new.done ≡ node.done
+  pub emitted : new.emitted ≡ node.emitted
+
+not_joining : (b : Bool) → IsByRole b judgements.Integrates → ⊥
+not_joining true r = r
+not_joining false r = r
+
+pub same_by_role : (network : Network) (device : DeviceId) (node : Node) (moment : Moment) (phase : Phase) (link : LinkId) (point : Units) (frame : Pcf)
+    (cm : Bool)
+    (verdict : Judgement) → IsByRole cm verdict
+    → IsSame node (called moment phase (after_permanence node moment (channel_of_link network link) frame point (ripe_as verdict)))
+same_by_role network device node moment phase link point frame cm judgements.Integrates r = absurd (not_joining cm r)
+same_by_role network device node moment phase link point frame cm judgements.Opened r = record {
+  standing = refl;
+  changed = refl;
+  broken = refl;
+  taken = refl;
+  done = refl;
+  emitted = refl;
+}
+same_by_role network device node moment phase link point frame cm judgements.Joined r = record {
+  standing = refl;
+  changed = refl;
+  broken = refl;
+  taken = refl;
+  done = refl;
+  emitted = refl;
+}
+same_by_role network device node moment phase link point frame cm judgements.Repeat r = record {
+  standing = refl;
+  changed = refl;
+  broken = refl;
+  taken = refl;
+  done = refl;
+  emitted = refl;
+}
+same_by_role network device node moment phase link point frame cm judgements.Within r = record {
+  standing = refl;
+  changed = refl;
+  broken = refl;
+  taken = refl;
+  done = refl;
+  emitted = refl;
+}
+same_by_role network device node moment phase link point frame cm judgements.Outside r = record {
+  standing = refl;
+  changed = refl;
+  broken = refl;
+  taken = refl;
+  done = refl;
+  emitted = refl;
+}
+same_by_role network device node moment phase link point frame cm judgements.Ignored r = record {
+  standing = refl;
+  changed = refl;
+  broken = refl;
+  taken = refl;
+  done = refl;
+  emitted = refl;
+}
+
+-- its points, where it collects, and where it does not
+pub points_by_role : (network : Network) (device : DeviceId) (node : Node) (moment : Moment) (phase : Phase) (link : LinkId) (point : Units) (frame : Pcf)
+    (verdict : Judgement)
+    → IsByRole true verdict → (called moment phase (after_permanence node moment (channel_of_link network link) frame point (ripe_as verdict))).points
+    ≡ node.points ++ point_at point.0 (master_of frame.members.0) frame.cycle ∷ []
+points_by_role network device node moment phase link point frame judgements.Opened r = refl
+points_by_role network device node moment phase link point frame judgements.Joined r = refl
+points_by_role network device node moment phase link point frame judgements.Repeat r = refl
+points_by_role network device node moment phase link point frame other r = absurd r
+
+pub points_not : (network : Network) (device : DeviceId) (node : Node) (moment : Moment) (phase : Phase) (link : LinkId) (point : Units) (frame : Pcf)
+    (verdict : Judgement)
+    → IsByRole false verdict → (called moment phase (after_permanence node moment (channel_of_link network link) frame point (ripe_as verdict))).points ≡
+    node.points
+points_not network device node moment phase link point frame judgements.Within r = refl
+points_not network device node moment phase link point frame judgements.Outside r = refl
+points_not network device node moment phase link point frame judgements.Ignored r = refl
+points_not network device node moment phase link point frame other r = absurd r
+
+pub is_grown : (s : Scenario) (device : DeviceId) (node : Node) (moment : Moment) (phase : Phase) (w : Happening) (link : LinkId) (cause : ℕ) (point : Units)
+    (frame : Pcf)
+    (verdict : Judgement) → w.frame ≡ Some frame → w.note.body ≡ kinds.Permanent device link cause point verdict → IsByRole (is_cm s.network device) verdict
+    → IsGrown s device w node (called moment phase (after_permanence node moment (channel_of_link s.network link) frame point (ripe_as verdict)))
+is_grown s device node moment phase w link cause point frame verdict of_frame body role =
+    record {
+      standing = standing verdict role;
+      changed = changed verdict role;
+      broken = broken verdict role;
+      heard = heard verdict role ∙ ap (λ (b : NoteBody). node.heard ++ option_to_list (hearing_by s.network device w b)) (sym body);
+      points =
+          λ cm. points verdict (subst (λ (b : Bool). IsByRole b verdict) cm role) ∙ ap (λ (b : NoteBody). node.points ++ option_to_list (point_by device w b))
+          (sym body);
+    }
+  where
+    after : Judgement → Node
+    after v = called moment phase (after_permanence node moment (channel_of_link s.network link) frame point (ripe_as v))
+
+    not_it : (b : Bool) → IsByRole b judgements.Integrates → ⊥
+    not_it true r = r
+    not_it false r = r
+
+    standing : (v : Judgement) → IsByRole (is_cm s.network device) v → (after v).standing ≡ node.standing
+    standing judgements.Integrates r = absurd (not_it _ r)
+    standing judgements.Opened r = refl
+    standing judgements.Joined r = refl
+    standing judgements.Repeat r = refl
+    standing judgements.Within r = refl
+    standing judgements.Outside r = refl
+    standing judgements.Ignored r = refl
+
+    changed : (v : Judgement) → IsByRole (is_cm s.network device) v → (after v).changed ≡ node.changed
+    changed judgements.Integrates r = absurd (not_it _ r)
+    changed judgements.Opened r = refl
+    changed judgements.Joined r = refl
+    changed judgements.Repeat r = refl
+    changed judgements.Within r = refl
+    changed judgements.Outside r = refl
+    changed judgements.Ignored r = refl
+
+    broken : (v : Judgement) → IsByRole (is_cm s.network device) v → (after v).broken ≡ node.broken
+    broken judgements.Integrates r = absurd (not_it _ r)
+    broken judgements.Opened r = refl
+    broken judgements.Joined r = refl
+    broken judgements.Repeat r = refl
+    broken judgements.Within r = refl
+    broken judgements.Outside r = refl
+    broken judgements.Ignored r = refl
+
+    heard : (v : Judgement) → IsByRole (is_cm s.network device) v
+        → (after v).heard ≡ node.heard ++ option_to_list (hearing_by s.network device w (kinds.Permanent device link cause point v))
+    heard judgements.Integrates r = absurd (not_it _ r)
+    heard judgements.Opened r = sym (append-nil node.heard)
+    heard judgements.Joined r = sym (append-nil node.heard)
+    heard judgements.Repeat r = sym (append-nil node.heard)
+    heard judgements.Within r = ap (λ (l : List Hearing). node.heard ++ l) (heard_so s.network device link cause point w frame true of_frame)
+    heard judgements.Outside r = ap (λ (l : List Hearing). node.heard ++ l) (heard_so s.network device link cause point w frame false of_frame)
+    heard judgements.Ignored r = sym (append-nil node.heard)
+
+    points : (v : Judgement) → IsByRole true v → (after v).points ≡ node.points
+        ++ option_to_list (point_by device w (kinds.Permanent device link cause point v))
+    points judgements.Opened r = ap (λ (l : List Point). node.points ++ l) (point_so device link cause point w frame of_frame)
+    points judgements.Joined r = ap (λ (l : List Point). node.points ++ l) (point_so device link cause point w frame of_frame)
+    points judgements.Repeat r = ap (λ (l : List Point). node.points ++ l) (point_so device link cause point w frame of_frame)
+    points other r = absurd r

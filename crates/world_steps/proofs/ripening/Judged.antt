@@ -1,0 +1,322 @@
+-- What a device's machine makes of a frame that is permanent is what the records given say.
+use Rattle.std.proofs.Common.{◌≡◌, ℕ, ◌+◌, ◌-◌, ℤ, pos, ◌+ℤ◌, int_lt, int_le, Bool, true, false, ◌&&◌, ◌||◌, ◌==◌, if◌then◌else◌, List, [], ◌∷◌, ◌++◌, Option, Some, None, MatchBool, filter, filter_map, inl, inr, refl, sym, ap, subst, ◌∙◌, arith}
+use Rattle.std.specs.List.{after_last, last_or, list_any}
+use Rattle.std.specs.Option.{option_map_or}
+use Rattle.std.proofs.lemmas.Bool.{MatchBool-at_false, MatchBool-at_true, and_right, both_ways, cases_Bool, cases_lt, eq-eqb, eqb-true}
+use Rattle.std.proofs.lemmas.List.{append-nil}
+use Rattle.std.proofs.lemmas.List.Elements.{filter-append}
+use Rattle.compression.specs.Clusters.{Point, point_at}
+use Rattle.compression.specs.declared.taken.Taken.{Taken}
+use Rattle.compression.specs.declared.taken.Taken.TheVariants as takens
+use Rattle.net_plan.specs.declared.ids.DeviceId.{DeviceId}
+use Rattle.net_plan.specs.declared.network.Network.{Network}
+use Rattle.pcf_values.specs.declared.members.Members.{Members}
+use Rattle.pcf_values.specs.declared.pcf.Pcf.{Pcf}
+use Rattle.run_law.proofs.law.FirstPlaces.{in_filter, none_kept, numbered_front}
+use Rattle.run_law.proofs.runs.Places.{before_later, in_left, in_parts, in_right, parted}
+use Rattle.run_law.specs.control.Collections.{ends_stretch, master_of, observation_window, point_by, point_fault, points_of, ripe_by_role}
+use Rattle.run_law.specs.control.Corrections.{correction_value, has_cleared, is_integration_cycle, recorded_cycle}
+use Rattle.run_law.specs.control.Hearing.{heard_as, heard_by_schedule, heard_enough}
+use Rattle.run_law.specs.control.Permanence.{BecomesPermanent, IsCollectedOrDropped, IsJudgedBy, IsPermanenceOutcome, before_permanence, ripe_as}
+use Rattle.run_law.specs.declared.judgement.Reason.{Reason}
+use Rattle.run_law.specs.declared.steps.Ripe.TheVariants as ripe
+use Rattle.run_law.specs.declared.steps.Ripe.{Ripe}
+use Rattle.run_law.specs.device.LocalClocks.{changed_at, changes_adjustment}
+use Rattle.run_law.specs.device.States.{adjustment_after, adjustment_at_hearing, adjustment_before, has_joined_at, is_joined_by, state_after, state_at_hearing, state_before}
+use Rattle.run_law.specs.machines.Answers.{IsPermanenceOutcomeAt}
+use Rattle.run_law.specs.machines.Nodes.{Node}
+use Rattle.run_law.specs.records.Happenings.{Happening, earlier, time_of}
+use Rattle.run_law.specs.records.Order.{IsBefore, IsIn, is_before}
+use Rattle.run_law.specs.records.Ranks.{place_of}
+use Rattle.run_law.specs.scenario.Devices.{is_cm, plan_of}
+use Rattle.run_law.specs.scenario.Scenarios.{Scenario, is_turned_on_at}
+use Rattle.sync_state.specs.declared.plan.SyncPlan.{SyncPlan}
+use Rattle.sync_state.specs.declared.state.State.{State}
+use Rattle.sync_state.specs.declared.state.State.TheVariants.{Integrating, Joining, Off, Synchronised}
+use Rattle.tte_units.specs.Amount.{amount}
+use Rattle.tte_units.specs.declared.units.Units.{Units}
+use Rattle.world_law.proofs.devices.Passes.{not_turned_on}
+use Rattle.world_law.proofs.devices.Resting.{in_time_of}
+use Rattle.world_law.proofs.devices.TurnedOn.{all_up_to, next_is_up_to, quiet_changes, quiet_rest}
+use Rattle.world_law.proofs.lists.Orders.{before_is}
+use Rattle.world_steps.proofs.ripening.Awake.{any_in, both_are}
+use Rattle.world_steps.proofs.ripening.Coming.{IsLateKind, all_late, late_mere, rest_ends}
+use Rattle.world_steps.proofs.ripening.Hears.{all_kept, by_role, not_joined, not_joined_yet}
+use Rattle.world_steps.proofs.ripening.JustTold.{IsTold, adjustment_now, state_now}
+use Rattle.world_steps.proofs.ripening.Merely.{behind_rest, filter_rest, maps_rest, mere_changes, mere_point}
+use Rattle.world_steps.proofs.ripening.Ripens.{IsRipe, reach_now, ripe_more}
+use Rattle.world_law.proofs.runs.Foremost.{not_on_after}
+use Rattle.world_law.proofs.runs.SourcesBack.{earlier_still}
+use Rattle.world_law.specs.device.Left.{IsLeft, is_timed}
+use Rattle.world_law.specs.world.World.{IsAtRest, Waiting}
+
+-- ---- places as tests
+
+before_of : (p q : List ℕ) → is_before p q ≡ true → IsBefore p q
+before_of p [] e = absurd cc
+before_of [] (y ∷ ys) e = tt
+before_of (x ∷ xs) (y ∷ ys) e =
+    elim (cases_lt x y) [
+      | inl lt ↦ inl lt
+      | inr ge ↦
+          let not = Rattle.std.proofs.lemmas.Bool.le-ltb x y ge in
+          let parts = both_are (x == y) (is_before xs ys) (sym (ap (λ (b : Bool). b || (x == y && is_before xs ys)) not) ∙ e) in
+          inr (eqb-true x y parts.0, before_of xs ys parts.1)
+    ]
+
+not_before : (p q : List ℕ) → (IsBefore p q → ⊥) → is_before p q ≡ false
+not_before p q never = elim (cases_Bool (is_before p q)) [ inl yes_it ↦ absurd (never (before_of p q yes_it)) | inr no_it ↦ no_it ]
+
+-- the records given are all those before the place
+pub judged_all : (s : Scenario) (hs coming front : List Happening) (mark cursor : List ℕ) (now : ℕ) (e : Waiting) → IsRipe s hs coming mark cursor now e
+    → ((h : Happening) → IsIn h front → IsBefore (place_of h) (now ∷ 3 ∷ ripe_more e) → ⊥)
+    → before_permanence (hs ++ front) e.device now e.link e.cause e.frame e.point ≡ hs
+judged_all s hs coming front mark cursor now e r after =
+    let here = now ∷ 3 ∷ ripe_more e in
+    let q = λ (h : Happening). is_before (place_of h) (now ∷ 3 ∷ e.device.0 ∷ amount e.point ∷ e.frame.members.0 ∷ e.link.0 ∷ e.cause ∷ []) in
+    let given : filter q hs ≡ hs = all_kept q hs (λ h i. before_is (place_of h) here
+    (before_later (place_of h) here cursor (r.moving.ahead (place_of h) (r.run.within h i)) r.moving.waits)) in
+    let none : filter q front ≡ [] = none_kept q front (λ h i. not_before (place_of h) here (after h i)) in
+    filter-append q hs front ∙ ap (λ (l : List Happening). filter q hs ++ l) none ∙ append-nil (filter q hs) ∙ given
+
+-- ---- where the device stands as it hears
+
+pub record Hears (s : Scenario) (hs : List Happening) (device : DeviceId) (now : ℕ) (node : Node) : Type 0 where
+  pub state : node.standing.state ≡ state_at_hearing s hs device now
+  pub adjustment : node.standing.adjustment ≡ adjustment_at_hearing s hs device now
+  pub points : is_cm s.network device ≡ true → node.points ≡ points_of hs device
+
+pub judges_so : (s : Scenario) (hs : List Happening) (device : DeviceId) (now : ℕ) (node : Node) (frame : Pcf) (point : Units) (is : Ripe)
+    → Hears s hs device now node
+    → IsPermanenceOutcomeAt s.network device node frame point is → IsJudgedBy s hs device now frame point is
+judges_so s hs device now node frame point is hears so =
+    by_role s.network device _ _ node.points (points_of hs device) frame point.0 is hears.points
+    (subst (λ (a : Units). IsPermanenceOutcome s.network device (state_at_hearing s hs device now) a.0 node.points frame point.0 is) hears.adjustment
+    (subst (λ (x : State). IsPermanenceOutcome s.network device x node.standing.adjustment.0 node.points frame point.0 is) hears.state so))
+
+any_none : {X : Type 0} (q : X → Bool) (xs : List X) → ((x : X) → IsIn x xs → q x ≡ false) → list_any q xs ≡ false
+any_none q [] none = refl
+any_none q (x ∷ xs) none = ap (λ (c : Bool). c || list_any q xs) (none x (inl refl)) ∙ any_none q xs (λ y i. none y (inr i))
+
+-- the points are those of the records given
+pub points_given : (s : Scenario) (hs coming : List Happening) (device : DeviceId) → ((z : Happening) → IsIn z coming → IsLateKind z.note.body)
+    → ((z : Happening) → IsIn z coming → ends_stretch device z.note.body ≡ false) → points_of (hs ++ coming) device ≡ points_of hs device
+points_given s hs coming device late open_ =
+    ap (filter_map (λ h. point_by device h h.note.body)) (behind_rest (λ h. ends_stretch device h.note.body) hs coming open_)
+    ∙ maps_rest (λ h. point_by device h h.note.body) (after_last (λ h. ends_stretch device h.note.body) hs) coming
+    (λ z i. mere_point device z z.note.body (late_mere device z.note.body (late z i)))
+
+-- where no frame has told it the time
+pub hears_before : (s : Scenario) (hs coming : List Happening) (mark cursor : List ℕ) (now : ℕ) (e : Waiting) (node : Node)
+    → IsRipe s hs coming mark cursor now e
+    → IsLeft s (hs ++ coming) e.device now node
+    → ((h : Happening) → IsIn h (hs ++ coming) → time_of h ≡ now → IsAtRest s e.device now h.note.body) → Hears s hs e.device now node
+hears_before s hs coming mark cursor now e node r left still =
+    let device = e.device in
+    let same : earlier now (hs ++ coming) ≡ earlier now hs = earlier_still now hs coming (λ z i. let at = r.moving.are.of_now z i in omega (arith, at)) in
+    let late = all_late s hs coming mark cursor now (ripe_more e) r.moving r.run.within in
+    let none : has_joined_at hs device now ≡ false = any_none (λ h. time_of h == now && is_joined_by device h.note.body) hs (λ h i.
+    elim (cases_Bool (time_of h == now)) [
+      | inr other ↦ ap (λ (b : Bool). b && is_joined_by device h.note.body) other
+      | inl at ↦
+          ap (λ (b : Bool). b && is_joined_by device h.note.body) at
+          ∙ Rattle.world_law.proofs.devices.TurnedOn.quiet_joins device h.note.body
+          (quiet_rest s device now h.note.body (still h (in_left h hs coming i) (eqb-true (time_of h) now at)))
+    ]) in
+    record {
+      state =
+          left.state ∙ ap (λ (l : List Happening). if is_turned_on_at s device now then Integrating else state_after s l device) same
+          ∙ sym (not_joined s hs device now none);
+      adjustment =
+          left.counted.adjustment ∙ ap (λ (l : List Happening). adjustment_after s l device) same ∙ sym (not_joined_yet s hs device now none r.past);
+      points = λ cm.
+          left.points cm
+          ∙ points_given s hs coming device late
+          (λ z i. rest_ends s device now z.note.body (late z i) (still z (in_right z hs coming i) (r.moving.are.of_now z i)));
+    }
+
+-- all records are earlier than the next time
+pub all_earlier : (s : Scenario) (hs coming : List Happening) (mark cursor : List ℕ) (now : ℕ) (e : Waiting) → IsRipe s hs coming mark cursor now e
+    → earlier (now + 1) (hs ++ coming) ≡ hs ++ coming
+all_earlier s hs coming mark cursor now e r =
+    next_is_up_to now (hs ++ coming) ∙ all_up_to now (hs ++ coming) (λ h i. elim (in_parts h hs coming i) [
+      | inl given ↦ r.past h given
+      | inr more ↦ let at = r.moving.are.of_now h more in omega (arith, at)
+    ])
+
+-- where one has
+pub hears_told : (s : Scenario) (hs coming : List Happening) (mark cursor : List ℕ) (now : ℕ) (e : Waiting) (node : Node) → IsTold s hs coming mark cursor now e
+    → IsLeft s (hs ++ coming) e.device (now + 1) node → Hears s hs e.device now node
+hears_told s hs coming mark cursor now e node told left =
+    let r = told.ripe in
+    let whole = all_earlier s hs coming mark cursor now e r in
+    record {
+      state =
+          left.state ∙ not_turned_on s (hs ++ coming) e.device (now + 1) (not_on_after s mark now (now + 1) e.device r.befallen (omega arith))
+          ∙ ap (λ (l : List Happening). state_after s l e.device) whole ∙ state_now s hs coming mark cursor now e told;
+      adjustment = left.counted.adjustment ∙ ap (λ (l : List Happening). adjustment_after s l e.device) whole ∙ adjustment_now s hs coming mark cursor now e r;
+      points = λ cm. absurd (both_ways (is_cm s.network e.device) told.just.other cm);
+    }
+
+-- ---- what it may become
+
+abbrev pub IsKindOf : Bool → Ripe → Type 0
+IsKindOf true ripe.Opened = Unit {0}
+IsKindOf true ripe.Joined = Unit {0}
+IsKindOf true ripe.Repeat = Unit {0}
+IsKindOf true (ripe.Dropped reason) = Unit {0}
+IsKindOf false ripe.Within = Unit {0}
+IsKindOf false ripe.Outside = Unit {0}
+IsKindOf false ripe.Integrates = Unit {0}
+IsKindOf false ripe.Ignored = Unit {0}
+IsKindOf cm other = ⊥
+
+role_kind : (taken : Taken) → IsKindOf true (ripe_by_role taken)
+role_kind takens.Opened = tt
+role_kind takens.Joined = tt
+role_kind takens.Repeat = tt
+role_kind takens.OtherCycle = tt
+
+schedule_kind : (b : Bool) → IsKindOf false (ripe_as (heard_by_schedule b))
+schedule_kind true = tt
+schedule_kind false = tt
+
+enough_kind : (b : Bool) → IsKindOf false (ripe_as (heard_enough b))
+enough_kind true = tt
+enough_kind false = tt
+
+heard_kind : (plan : SyncPlan) (precision : ℤ) (state : State) (adjustment point : ℤ) (cycle : ℕ) (members : Members)
+    → IsKindOf false (ripe_as (heard_as plan precision state adjustment point cycle members))
+heard_kind plan precision Off adjustment point cycle members = tt
+heard_kind plan precision Integrating adjustment point cycle members = enough_kind _
+heard_kind plan precision Joining adjustment point cycle members = schedule_kind _
+heard_kind plan precision Synchronised adjustment point cycle members = schedule_kind _
+
+collected_kind : (network : Network) (points : List Point) (point : Point) (fault : Option Reason) (is : Ripe)
+    → IsCollectedOrDropped network points point fault is → IsKindOf true is
+collected_kind network points point (Some reason) is c = subst (IsKindOf true) (sym c) tt
+collected_kind network points point None is c = subst (IsKindOf true) (sym c.becomes) (role_kind c.taken)
+
+pub outcome_kind : (network : Network) (device : DeviceId) (state : State) (adjustment : ℤ) (points : List Point) (frame : Pcf) (point : ℤ) (is : Ripe)
+    → IsPermanenceOutcome network device state adjustment points frame point is → IsKindOf (is_cm network device) is
+outcome_kind network device state adjustment points frame point is so =
+    elim (cases_Bool (is_cm network device)) [
+      | inl cm ↦
+          subst (λ (b : Bool). IsKindOf b is) (sym cm)
+          (collected_kind network points (point_at point (master_of frame.members.0) frame.cycle) (point_fault network state adjustment point frame.cycle) is
+          (at_true (is_cm network device) _ _ cm so))
+      | inr other ↦
+          subst (λ (b : Bool). IsKindOf b is) (sym other)
+          (subst (IsKindOf false) (sym (at_false (is_cm network device) _ _ other so))
+          (heard_kind (plan_of network device) (observation_window network) state adjustment point frame.cycle frame.members))
+    ]
+  where
+    at_true : (b : Bool) (P Q : Type 0) → b ≡ true → MatchBool b P Q → P
+    at_true true P Q e m = m
+    at_true false P Q e m = absurd cc
+
+    at_false : (b : Bool) (P Q : Type 0) → b ≡ false → MatchBool b P Q → Q
+    at_false true P Q e m = absurd cc
+    at_false false P Q e m = m
+
+-- ---- so the record is due
+
+abbrev pub becomes_now : (s : Scenario) (hs coming front : List Happening) (mark cursor : List ℕ) (now : ℕ) (e : Waiting) (node : Node) (is : Ripe)
+    → IsRipe s hs coming mark cursor now e → ((h : Happening) → IsIn h front → IsBefore (place_of h) (now ∷ 3 ∷ ripe_more e) → ⊥) → Hears s hs e.device now node
+    → IsPermanenceOutcomeAt s.network e.device node e.frame e.point is → BecomesPermanent s (hs ++ front) e.device now e.link e.cause e.point is
+becomes_now s hs coming front mark cursor now e node is r after hears so = record {
+  frame = e.frame;
+  permanent = record {
+    arrival = r.it.arrival;
+    there = numbered_front hs front e.cause r.it.arrival r.it.there;
+    from = r.it.awaited.from;
+    clock = r.it.awaited.clock;
+    arrived = r.it.awaited.arrived;
+    of_frame = r.it.awaited.of_frame;
+    waits = r.it.awaited.waits;
+    at_point = r.it.awaited.at_point;
+    reached = reach_now s hs coming mark cursor now e r;
+    correct = r.sound;
+  };
+  becomes = subst (λ (l : List Happening). IsJudgedBy s l e.device now e.frame e.point is) (sym (judged_all s hs coming front mark cursor now e r after))
+      (judges_so s hs e.device now node e.frame e.point is hears so);
+}
+
+-- ---- what it has cleared does not count at the instant of a join
+
+pub last_behind : (xs ys : List Happening) (j : Happening) (o : Option Happening) → last_or o (xs ++ j ∷ ys) ≡ last_or (Some j) ys
+last_behind [] ys j o = refl
+last_behind (x ∷ xs) ys j o = last_behind xs ys j (Some x)
+
+last_time : (now : ℕ) (x : Happening) (ys : List Happening) → time_of x ≡ now → ((y : Happening) → IsIn y ys → time_of y ≡ now)
+    → option_map_or time_of (last_or (Some x) ys) 0 ≡ now
+last_time now x [] at all = at
+last_time now x (y ∷ ys) at all = last_time now y ys (all y (inl refl)) (λ z i. all z (inr i))
+
+changed_now : (s : Scenario) (hs coming : List Happening) (mark cursor : List ℕ) (now : ℕ) (e : Waiting) → IsRipe s hs coming mark cursor now e
+    → has_joined_at hs e.device now ≡ true → changed_at (hs ++ coming) e.device (now + 1) ≡ now
+changed_now s hs coming mark cursor now e r joined =
+    let device = e.device in
+    let p = λ (h : Happening). changes_adjustment device h.note.body in
+    let found = any_in (λ h. time_of h == now && is_joined_by device h.note.body) hs joined in
+    let j = found.0 in
+    let flags = both_are (time_of j == now) (is_joined_by device j.note.body) found.2 in
+    let j_now : time_of j ≡ now = eqb-true (time_of j) now flags.0 in
+    let at = parted j hs found.1 in
+    let late = all_late s hs coming mark cursor now (ripe_more e) r.moving r.run.within in
+    let rest : (y : Happening) → IsIn y (filter p at.1) → time_of y ≡ now = λ y i.
+    let inside = in_filter p at.1 y i in
+    let from = in_time_of s hs r.run.founded at.0 at.1 j at.2 y inside in
+    let to = r.past y (subst (λ (l : List Happening). IsIn y l) (sym at.2) (in_right y at.0 (j ∷ at.1) (inr inside))) in
+    omega (arith, from, to, j_now) in
+    let lists : filter p (earlier (now + 1) (hs ++ coming)) ≡ filter p at.0 ++ j ∷ filter p at.1 =
+    ap (filter p) (all_earlier s hs coming mark cursor now e r)
+    ∙ filter_rest p hs coming (λ h i. mere_changes device h.note.body (late_mere device h.note.body (late h i)))
+    ∙ ap (filter p) at.2 ∙ filter-append p at.0 (j ∷ at.1)
+    ∙ ap (λ (b : Bool). filter p at.0 ++ (if b then j ∷ filter p at.1 else filter p at.1)) (joined_changes device j.note.body flags.1) in
+    ap (λ (l : List Happening). option_map_or time_of (last_or None l) 0) lists
+    ∙ ap (λ (o : Option Happening). option_map_or time_of o 0) (last_behind (filter p at.0) (filter p at.1) j None)
+    ∙ last_time now j (filter p at.1) j_now rest
+  where
+    joined_changes : (device : DeviceId) (body : _) → is_joined_by device body ≡ true → changes_adjustment device body ≡ true
+    joined_changes device (Rattle.run_law.specs.declared.note.NoteBody.TheVariants.Corrected other cycle by adjustment) e = absurd cc
+    joined_changes device other e = e
+
+-- right after a change nothing has come to what its clock showed then, or to what lies before
+pub not_yet : (a v : ℤ) → (int_lt a v && int_le v a) ≡ false
+not_yet a v = elim (Rattle.world_law.proofs.lists.Orders.cases_int a v) [
+  | inl lt ↦ and_right _ _ (Rattle.compression.proofs.Held.int_le-false v a lt)
+  | inr ge ↦ Rattle.std.proofs.lemmas.Bool.and_left _ _ (Rattle.compression.proofs.Held.int_lt-false a v ge)
+]
+
+none_cleared : (s : Scenario) (hs : List Happening) (device : DeviceId) (now : ℕ) → changed_at hs device (now + 1) ≡ now
+    → has_cleared s hs device (now + 1) (now + 1) ≡ false
+none_cleared s hs device now at =
+    let v = correction_value s.network (recorded_cycle (earlier (now + 1) hs) device) in
+    let adjustment = adjustment_before s hs device (now + 1) in
+    let same : now + 1 - 1 ≡ now = omega arith in
+    and_right (is_integration_cycle (earlier (now + 1) hs) device) _
+    (ap (λ (n : ℕ). int_lt (pos (s.reading device n) +ℤ adjustment.0) v && int_le v (pos (s.reading device (now + 1 - 1)) +ℤ adjustment.0)) at
+    ∙ ap (λ (n : ℕ). int_lt (pos (s.reading device now) +ℤ adjustment.0) v && int_le v (pos (s.reading device n) +ℤ adjustment.0)) same
+    ∙ not_yet (pos (s.reading device now) +ℤ adjustment.0) v)
+
+-- a device that has a next correction point then was told the time
+pub timed_joined : (s : Scenario) (hs : List Happening) (device : DeviceId) (now : ℕ) (state : State) → state ≡ state_at_hearing s hs device now
+    → state_before s hs device now ≡ Integrating → is_timed state ≡ true → has_joined_at hs device now ≡ true
+timed_joined s hs device now state is looking timed =
+    elim (cases_Bool (has_joined_at hs device now)) [
+      | inl joined ↦ joined
+      | inr none ↦ absurd (both_ways (is_timed state)
+          (ap is_timed (is ∙ ap (λ (b : Bool). if b then Joining else state_before s hs device now) none ∙ looking)) timed)
+    ]
+
+pub cleared_told : (s : Scenario) (hs coming : List Happening) (mark cursor : List ℕ) (now : ℕ) (e : Waiting) (node : Node)
+    → IsTold s hs coming mark cursor now e
+    → Hears s hs e.device now node → is_timed node.standing.state ≡ true → has_cleared s (hs ++ coming) e.device (now + 1) (now + 1) ≡ false
+cleared_told s hs coming mark cursor now e node told hears timed =
+    let r = told.ripe in
+    let same : earlier now (hs ++ coming) ≡ earlier now hs = earlier_still now hs coming (λ z i. let at = r.moving.are.of_now z i in omega (arith, at)) in
+    let looking : state_before s hs e.device now ≡ Integrating =
+    sym (ap (λ (l : List Happening). if is_turned_on_at s e.device now then Integrating else state_after s l e.device) same) ∙ told.just.looking in
+    none_cleared s (hs ++ coming) e.device now
+    (changed_now s hs coming mark cursor now e r (timed_joined s hs e.device now node.standing.state hears.state looking timed))

@@ -1,0 +1,6 @@
+pub mod Steps
+pub mod Arriving
+pub mod Ripening
+pub mod Acting
+pub mod Repeating
+pub mod Befalling
