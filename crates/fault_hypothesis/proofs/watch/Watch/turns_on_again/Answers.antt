@@ -1,9 +1,18 @@
-use Rattle.std.proofs.Common.{◌≡◌, ◌∙◌, inl, inr, subst, sym}
+use Rattle.std.proofs.Common.{◌≡◌, ◌∙◌, Bool, true, false, inl, inr, subst, sym}
+use Rattle.net_plan.specs.declared.event.What.{What}
+use Rattle.net_plan.specs.declared.event.What.TheVariants as whats
+use Rattle.net_plan.specs.declared.ids.DeviceId.{DeviceId}
 use Rattle.net_plan.specs.declared.network.Network.{Network}
 use Rattle.run_law.specs.scenario.Faults.{BeginsOn, IsBroken, IsTurnedOn}
 use Rattle.net_plan.specs.Belonging.{IsOfNetwork}
 use Rattle.fault_hypothesis.proofs.watch.Watch.turns_on_again.Goals as goal
 use Rattle.fault_hypothesis.proofs.watch.Watch.turns_on_again.Goals.{then-begins_on, else-begins_on}
+
+same_device : (what : What) (one other : DeviceId) → what ≡ whats.On one → what ≡ whats.On other → one ≡ other
+same_device what one other a b = cc
+
+contrary : (test : Bool) → test ≡ true → test ≡ false → ⊥
+contrary test a b = absurd cc
 
 pub returns-then-is_turned_on : goal.returns-then-is_turned_on
 returns-then-is_turned_on c = λ network admitted w of_network.
@@ -26,18 +35,16 @@ returns-else-is_turned_on c = λ network admitted w of_network.
     let has = subst (IsOfNetwork network) c.in-On.is of_network in (
       λ t. record { device = c.in-On.device; what = c.in-On.is; known = inr (inr ((c.is_broken.ensures network admitted w).0 t)) },
       λ v.
-          let one : v.device ≡ c.in-On.device = cc in
+          let one = same_device _ v.device c.in-On.device v.what c.in-On.is in
           elim c.if-begins_on.branch [
-            | then-begins_on x ↦ let on = x.value-is in let off = c.if-is_turned_on.false in absurd cc
+            | then-begins_on x ↦ absurd (contrary _ (x.value-is ∙ x.if-begins_on.true) c.if-is_turned_on.false)
             | else-begins_on x ↦ elim v.known [
               | inl begins ↦
                   let yes = c.begins_on.ensures.1 (subst (λ (n : Network). BeginsOn n c.in-On.device) (sym same) (subst (BeginsOn network) one begins)) in
-                  let no = x.if-begins_on.false in
-                  absurd cc
+                  absurd (contrary _ yes x.if-begins_on.false)
               | inr (inl on) ↦
                   let yes = (x.is_turned_on.ensures network admitted w has).1 (subst (IsTurnedOn admitted) one on) in
-                  let no = sym x.value-is ∙ c.if-is_turned_on.false in
-                  absurd cc
+                  absurd (contrary _ yes (sym x.value-is ∙ c.if-is_turned_on.false))
               | inr (inr broken) ↦ (c.is_broken.ensures network admitted w).1 (subst (IsBroken admitted) one broken)
             ]
           ],
