@@ -41,7 +41,7 @@ pub struct Drops {
 
 impl Counts {
     /// The counts of no records.
-    pub(crate) const NONE: Counts = Counts {
+    pub const NONE: Counts = Counts {
         records: 0,
         compressed: 0,
         corrected: 0,

@@ -125,13 +125,7 @@ impl Intake {
 impl EnteringRow {
     /// Why a frame of so many octets is dropped, in this cycle and at this place of it, if it is: the
     /// first reason in this order.
-    pub fn fault(
-        &self,
-        size: usize,
-        cycle: u32,
-        place: Units,
-        last: Option<u32>,
-    ) -> Option<Reason>
+    pub fn fault(&self, size: usize, cycle: u32, place: Units, last: Option<u32>) -> Option<Reason>
         requires { 1 ≤ self.now.period }
         ensures { result ≡ fault_of self.now size cycle place.0 last }
     {

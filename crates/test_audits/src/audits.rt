@@ -1,10 +1,10 @@
 use crate::worked::worked;
-use tte_audit::{AuditRefusal, read_events};
 use net_plan::{LinkId, Way};
 use schedule_tables::Accepted;
 use std::alloc::Global;
 use std::process::Abort;
 use std::test::Fail;
+use tte_audit::{AuditRefusal, read_events};
 use tte_units::Units;
 
 /// A report, and how many records it has and when it ends, or how it is refused.

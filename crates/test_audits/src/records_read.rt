@@ -1,5 +1,4 @@
 use crate::worked::worked;
-use tte_audit::{keep_names_apart, note_line};
 use net_plan::{DeviceId, LinkId, Octets, VlId, Way, What};
 use pcf_values::Members;
 use run_law::{Judgement, Note, NoteBody, Reason, Why};
@@ -7,6 +6,7 @@ use schedule_tables::Accepted;
 use std::process::Abort;
 use std::test::Fail;
 use sync_state::State;
+use tte_audit::{keep_names_apart, note_line};
 use tte_units::{Ppb, Units};
 
 // Tries that the text is the line of this record.

@@ -1,9 +1,9 @@
 use crate::worked::worked;
-use tte_audit::{AuditRefusal, audit};
 use schedule_tables::Accepted;
 use std::alloc::Global;
 use std::process::Abort;
 use std::test::Fail;
+use tte_audit::{AuditRefusal, audit};
 use tte_units::Units;
 
 /// Audits the report, if it is not too long.

@@ -1,8 +1,8 @@
 use crate::worked::worked;
-use tte_audit::{keep_names_apart, note_line};
 use schedule_tables::Accepted;
 use std::process::Abort;
 use std::test::Fail;
+use tte_audit::{keep_names_apart, note_line};
 
 /// Tries that none of these is the line of a record.
 fn try_none(rt: &impl Abort, accepted: &Accepted, texts: &[&str]) {

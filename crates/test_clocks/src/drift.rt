@@ -1,6 +1,8 @@
 ghost use Rattle.std.specs.Prelude.{◌≤◌, ◌^◌, pos, ◌≤ℤ◌, unsigned_abs};
 
-use drift_clock::{Clock, SegmentClock, SteadyClock, clock_laws, segment_law, slip_law, steady_law};
+use drift_clock::{
+    Clock, SegmentClock, SteadyClock, clock_laws, segment_law, slip_law, steady_law,
+};
 use tte_units::{Ppb, Units};
 
 // What a clock with this rate from time 0 on reads after 1,500,000,000 units.

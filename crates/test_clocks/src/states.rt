@@ -1,9 +1,9 @@
 ghost use Rattle.std.specs.Prelude.{◌≡◌, ◌^◌, ◌≤ℤ◌, pos, neg_ℤ, IfSome};
 
-use sync_state::{Joined, State, Sync, SyncPlan, Verdict};
 use membership::{Heard, HeardFrame};
 use pcf_values::{Channel, Mac, Members, Pcf, PcfKind};
 use std::process::Abort;
+use sync_state::{Joined, State, Sync, SyncPlan, Verdict};
 use tte_units::Units;
 
 const PLAN: SyncPlan = SyncPlan {

@@ -1,5 +1,7 @@
 use crate::networks::MASTER;
-use clock_judge::{Moment, Point, Sending, coming_cycle, coming_point, next_sending, reaches, sends};
+use clock_judge::{
+    Moment, Point, Sending, coming_cycle, coming_point, next_sending, reaches, sends,
+};
 use device_rules::PointVerdict;
 use event_history::EventHistory;
 use membership::Heard;

@@ -1,5 +1,4 @@
 use crate::networks::MASTER;
-use unpaid_debts::{Debtor, Paid, Payments};
 use event_history::EventHistory;
 use kept_records::KeptRecords;
 use net_file::read_network;
@@ -8,6 +7,7 @@ use record_history::Standings;
 use record_places::Places;
 use run_law::NoteBody;
 use std::test::Fail;
+use unpaid_debts::{Debtor, Paid, Payments};
 
 #[test]
 fn a_record_pays_what_its_cause_brings(rt: HostRuntime) -> Result<(), Fail> {

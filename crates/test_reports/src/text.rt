@@ -4,10 +4,10 @@ ghost use Rattle.report_text.specs.Ranges.{IsBodyOf};
 
 mod network;
 
-use report_text::write;
 use net_plan::{Network, Way, What};
 use network::{C1, C1_A, C1_B, CA, CB, M1, M1_A, M1_B, M3, M4, M4_A, RA, RA_CA, V1, V2, half};
 use pcf_values::Members;
+use report_text::write;
 use run_law::{Judgement, Note, NoteBody, Reason, Why};
 use std::alloc::Global;
 use std::test::Fail;

@@ -2,13 +2,13 @@ ghost use Rattle.std.specs.Prelude.{◌≡◌, ◌^◌, [], IfOk};
 ghost use Rattle.net_plan.specs.NameText.{IsNameText};
 ghost use Rattle.net_plan.specs.Ranges.{IsDeviceInRange, IsInRange, IsWithin};
 
-use trace_text::{LineRefusal, event_text, line, print};
 use net_plan::{
     Device, DeviceId, Devices, Event, Link, LinkId, Links, Name, Network, Octets, Role, Rows,
     VirtualLinks, Way, What,
 };
 use pcf_values::{Channel, Mac};
 use std::alloc::{AllocError, Global};
+use trace_text::{LineRefusal, event_text, line, print};
 use tte_io::MemorySink;
 use tte_units::{Ppb, Speed, Units};
 

@@ -1,8 +1,7 @@
 use std::cell::Cell;
 use std::fmt::Display;
-use std::fs;
-use std::io;
 use std::test::Fail;
+use std::{fs, io};
 use tte_io::{LazyFile, PathText, Sink, SinkFailed, Source, SourceFailed, StdSink};
 
 #[test]

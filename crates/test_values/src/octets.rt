@@ -1,9 +1,9 @@
+use std::process::Abort;
+use std::test::Fail;
 use tte_io::{
     LineReader, LineTaken, MemorySink, MemorySource, ReadAll, Sink, Source, SourceFailed,
     SteadySource, read_all,
 };
-use std::process::Abort;
-use std::test::Fail;
 
 /// Reads at most four octets, and answers whether they are these.
 fn gives<S: Source>(source: &mut S, octets: &[u8]) -> Result<bool, SourceFailed> {

@@ -1,8 +1,8 @@
-use storm_summary::{Counts, Drops, LINES, Summary, Tally};
 use net_plan::{DeviceId, LinkId, VlId};
 use pcf_values::Members;
 use run_law::{Judgement, Note, NoteBody, Reason, Why};
 use std::test::Fail;
+use storm_summary::{Counts, Drops, LINES, Summary, Tally};
 use sync_state::State;
 use tte_io::LineText;
 use tte_units::Units;

@@ -15,7 +15,7 @@ pub struct Paid {
 
 impl Paid {
     /// Nothing is.
-    pub(crate) fn nothing() -> Paid
+    pub fn nothing() -> Paid
         ensures { result ≡ nothing }
     {
         Paid {

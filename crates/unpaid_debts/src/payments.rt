@@ -62,7 +62,7 @@ impl Payments {
     }
 
     /// What is paid of the debts that the record of this number brings.
-    pub(crate) fn of(&self, number: u64) -> Paid
+    pub fn of(&self, number: u64) -> Paid
         ensures { (hs : List Happening) (h : Happening) → ArePayments hs self.now → numbered hs number ≡ Some h
             → IsPaidSo hs number result }
     {
