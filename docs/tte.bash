@@ -1,0 +1,48 @@
+# shellcheck shell=bash
+# Completion of the words of tte for bash. Source this file: . docs/tte.bash
+
+# The forms of the usage line, and prove, which is the script's own.
+_tte_forms=(
+    'show FILE'
+    'check NETWORK'
+    'run NETWORK TRACE'
+    'storm NETWORK SEED CYCLES'
+    'audit NETWORK REPORT'
+    'prove'
+)
+
+# Offers the first words of the forms that begin with this.
+_tte_commands() {
+    mapfile -t COMPREPLY < <(compgen -W "${_tte_forms[*]%% *}" -- "$1")
+}
+
+# Offers the networks and directories that begin with this, or any file where there are none.
+_tte_networks() {
+    mapfile -t COMPREPLY < <({ compgen -f -X '!*.toml' -- "$1"; compgen -d -- "$1"; } | sort -u)
+    compopt -o filenames -o default 2>/dev/null
+}
+
+# Offers any file: bash itself does so where nothing else is offered.
+_tte_files() {
+    compopt -o default 2>/dev/null
+}
+
+# Offers what the form of the first word has at this place. A number is left alone.
+_tte() {
+    local word=${COMP_WORDS[COMP_CWORD]} form kinds
+    COMPREPLY=()
+    if [ "$COMP_CWORD" -eq 1 ]; then
+        _tte_commands "$word"
+        return
+    fi
+    for form in "${_tte_forms[@]}"; do
+        read -ra kinds <<<"$form"
+        [ "${kinds[0]}" = "${COMP_WORDS[1]}" ] || continue
+        case ${kinds[COMP_CWORD - 1]-} in
+            NETWORK) _tte_networks "$word" ;;
+            FILE | TRACE | REPORT) _tte_files ;;
+        esac
+    done
+}
+
+complete -F _tte tte ./tte
