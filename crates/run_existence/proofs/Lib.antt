@@ -1,0 +1,5 @@
+pub mod Sweep
+pub mod Times
+pub mod bounds
+pub mod decisions
+pub mod Existence

@@ -1,0 +1,187 @@
+-- What the tables have, and of what a record speaks.
+use Rattle.std.proofs.Common.{◌≡◌, ◌⊎◌, ℕ, ◌<◌, ◌≤◌, ◌==◌, ℤ, pos, negsuc, Bool, true, false, if◌then◌else◌, List, [], ◌∷◌, length, Option, Some, None, IsSomeAnd, slice_get, option_map, inl, inr, refl, sym, ap, ◌∙◌, arith, eqb-true, fold, Contains, option_and_then}
+use Rattle.std.proofs.lemmas.Option.{slice_get_within}
+use Rattle.std.specs.List.{cons_option, filter_map}
+use Rattle.std.specs.Option.{option_map_or}
+use Rattle.compression.specs.Clusters.{AreClusters, Cluster}
+use Rattle.net_plan.specs.Places.{device_at, link_at}
+use Rattle.net_plan.specs.declared.event.What.TheVariants as events
+use Rattle.net_plan.specs.declared.ids.DeviceId.{DeviceId}
+use Rattle.net_plan.specs.declared.ids.LinkId.{LinkId}
+use Rattle.net_plan.specs.declared.network.Network.{Network}
+use Rattle.net_plan.specs.declared.tables.Device.{Device}
+use Rattle.net_plan.specs.declared.tables.Link.{Link}
+use Rattle.net_plan.specs.declared.tables.Role.{Role}
+use Rattle.net_plan.specs.declared.tables.Way.TheVariants.{Down, Up}
+use Rattle.net_plan.specs.declared.tables.Way.{Way}
+use Rattle.run_law.proofs.law.FirstPlaces.{in_at}
+use Rattle.run_law.specs.control.Collections.{point_by}
+use Rattle.run_law.specs.control.Leaving.{Gives}
+use Rattle.run_law.specs.control.Wires.{Launch, launched}
+use Rattle.run_law.specs.declared.judgement.Judgement.TheVariants as judgements
+use Rattle.run_law.specs.declared.note.NoteBody.TheVariants as notes
+use Rattle.run_law.specs.declared.note.NoteBody.{NoteBody}
+use Rattle.run_law.specs.device.States.{is_joined_by, state_with}
+use Rattle.run_law.specs.records.Happenings.{Happening}
+use Rattle.run_law.specs.records.Order.{IsIn}
+use Rattle.run_law.specs.records.Ranks.{rank, sign}
+use Rattle.run_law.specs.scenario.Devices.{has_role, start_of}
+use Rattle.run_law.specs.scenario.Scenarios.{Scenario}
+use Rattle.run_law.specs.scenario.Ways.{receiver_of}
+use Rattle.schedule_tables.specs.Entries.{target_by, source_by}
+use Rattle.sync_state.specs.Standing.{point_in as point_by_state, state_at_start}
+use Rattle.sync_state.specs.declared.state.State.TheVariants.{Integrating, Joining, Off}
+use Rattle.sync_state.specs.declared.state.State.{State}
+use Rattle.run_existence.proofs.bounds.Weights.{device_in, ends, in_total, total}
+
+-- ---- what is in the tables
+
+pub device_there : (network : Network) (kind : Role → Bool) (device : DeviceId) → has_role network kind device ≡ true → device.0 < length network.device
+device_there network kind device e = by (device_at network device) refl e
+  where
+    by : (o : Option Device) → slice_get network.device device.0 ≡ o → option_map_or (λ d. kind d.role) o false ≡ true → device.0 < length network.device
+    by None there e = absurd cc
+    by (Some d) there e = slice_get_within network.device device.0 d there
+
+link_there : (network : Network) (link : LinkId) (P : Link → Type 0) → IsSomeAnd (link_at network link) P → link.0 < length network.link
+link_there network link P h = by (link_at network link) refl h
+  where
+    by : (o : Option Link) → slice_get network.link link.0 ≡ o → IsSomeAnd o P → link.0 < length network.link
+    by None there h = absurd h
+    by (Some l) there h = slice_get_within network.link link.0 l there
+
+pub record IsOnLink (network : Network) (device : DeviceId) (link : LinkId) : Type 0 where
+  pub link_in : link.0 < length network.link
+  pub device_in : device.0 ≤ total ends network.link
+
+end_of : (way : Way) (link : Link) (device : DeviceId) → target_by way link ≡ device → device.0 ≤ ends link
+unfolding ends
+end_of Up link device e = omega (arith, ap (λ (d : DeviceId). d.0) e)
+end_of Down link device e = omega (arith, ap (λ (d : DeviceId). d.0) e)
+
+pub received : (network : Network) (link : LinkId) (way : Way) (device : DeviceId) → receiver_of network link way ≡ Some device → IsOnLink network device link
+received network link way device e = by (link_at network link) refl e
+  where
+    by : (o : Option Link) → slice_get network.link link.0 ≡ o → option_map (target_by way) o ≡ Some device → IsOnLink network device link
+    by None there e = absurd cc
+    by (Some l) there e =
+        let same : target_by way l ≡ device = cc in
+        record {
+          link_in = slice_get_within network.link link.0 l there;
+          device_in = omega (arith, end_of way l device same, in_total ends network.link l (in_at network.link link.0 l there));
+        }
+
+-- ---- what a record is caused by
+
+pub record IsGiver (network : Network) (body : NoteBody) (device : DeviceId) (link : LinkId) : Type 0 where
+  pub device_is : device.0 ≡ device_in body
+  pub link_in : link.0 < length network.link
+  pub early : rank body ≤ 5
+
+pub giver : (network : Network) (body : NoteBody) (device : DeviceId) (link : LinkId) → Gives network body device link → IsGiver network body device link
+giver network (notes.Sent master cycle) device link g =
+    record { device_is = ap (λ (d : DeviceId). d.0) g.0; link_in = link_there network link _ g.1; early = omega arith }
+giver network (notes.Compressed cm opened at cycle members verdict) device link g =
+    record { device_is = ap (λ (d : DeviceId). d.0) g.0; link_in = link_there network link _ g.1; early = omega arith }
+giver network (notes.Arrived relay by cause clock) device link g =
+    record {
+      device_is = ap (λ (d : DeviceId). d.0) g.0;
+      link_in = elim g.1.on [ inl up ↦ link_there network link _ up.1 | inr down ↦ link_there network link _ down.1 ];
+      early = omega arith;
+    }
+giver network other device link g = absurd g
+
+pub launch_rank : (s : Scenario) (h : Happening) (t : ℕ) (body : NoteBody) (l : Launch) → launched s h t body ≡ Some l
+    → (rank body ≡ 1) ⊎ ((rank body ≡ 8) ⊎ (rank body ≡ 10))
+launch_rank s h t (notes.Left device link cause clock) l e = inr (inl refl)
+launch_rank s h t (notes.TtSent device link cause vl cycle) l e = inr (inr refl)
+launch_rank s h t (notes.Event line (events.Send link octets)) l e = inl refl
+launch_rank s h t other l e = absurd cc
+
+-- ---- devices of which there are records
+
+step : (device : DeviceId) (old : State) (body : NoteBody) → (state_with device old body ≡ old) ⊎ (device_in body ≡ device.0)
+step device old (notes.State other state cause why) = by (device.0 == other.0) refl
+  where
+    by : (b : Bool) → (device.0 == other.0) ≡ b → ((if b then state else old) ≡ old) ⊎ (other.0 ≡ device.0)
+    by true e = inr (sym (eqb-true device.0 other.0 e))
+    by false e = inl refl
+step device old (notes.Permanent other link cause point judgements.Integrates) = by (device.0 == other.0) refl
+  where
+    by : (b : Bool) → (device.0 == other.0) ≡ b → ((if b then Joining else old) ≡ old) ⊎ (other.0 ≡ device.0)
+    by true e = inr (sym (eqb-true device.0 other.0 e))
+    by false e = inl refl
+step device old (notes.Compressed other opened at cycle members judgements.Integrates) = by (device.0 == other.0) refl
+  where
+    by : (b : Bool) → (device.0 == other.0) ≡ b → ((if b then Joining else old) ≡ old) ⊎ (other.0 ≡ device.0)
+    by true e = inr (sym (eqb-true device.0 other.0 e))
+    by false e = inl refl
+step device old other = inl refl
+
+-- one of the records names the device
+unfoldable pub IsTouched : DeviceId → List Happening → Type 0
+IsTouched device hs = (h : Happening) × IsIn h hs × (device_in h.note.body ≡ device.0)
+
+-- a device's state is that of its start, or a record names the device
+pub touched : (device : DeviceId) (hs : List Happening) (old : State)
+    → (fold (λ state h. state_with device state h.note.body) old hs ≡ old) ⊎ IsTouched device hs
+unfolding IsTouched
+touched device [] old = inl refl
+touched device (h ∷ hs) old =
+    elim (step device old h.note.body) [
+      | inr named ↦ inr (h, inl refl, named)
+      | inl same ↦
+          elim (touched device hs (state_with device old h.note.body)) [
+            | inl e ↦ inl (e ∙ same)
+            | inr more ↦ inr (more.0, inr more.1, more.2)
+          ]
+    ]
+
+pub never_off : (on : Bool) (st : State) (n c : ℕ) → point_by_state (if on then Integrating else st) n ≡ Some c → st ≡ Off → ⊥
+never_off true st n c e off = cc
+never_off false Off n c e off = cc
+never_off false st n c e off = cc
+
+-- a device that begins on is one of the tables
+pub begins : (network : Network) (device : DeviceId) → (state_at_start (start_of network device) ≡ Off → ⊥) → device.0 < length network.device
+begins network device on = by (device_at network device) refl on
+  where
+    by : (o : Option Device) → slice_get network.device device.0 ≡ o → (state_at_start (option_and_then (λ d. d.start) o) ≡ Off → ⊥)
+        → device.0 < length network.device
+    by None there on = absurd (on refl)
+    by (Some d) there on = slice_get_within network.device device.0 d there
+
+-- what tells a device the time names it, and comes before masters send
+pub joined_device : (device : DeviceId) (body : NoteBody) → is_joined_by device body ≡ true → device_in body ≡ device.0
+joined_device device (notes.Permanent other link cause point judgements.Integrates) e = sym (eqb-true device.0 other.0 e)
+joined_device device (notes.Compressed other opened at cycle members judgements.Integrates) e = sym (eqb-true device.0 other.0 e)
+joined_device device other e = absurd cc
+
+pub joined_rank : (device : DeviceId) (body : NoteBody) → is_joined_by device body ≡ true → rank body < 5
+joined_rank device (notes.Permanent other link cause point judgements.Integrates) e = omega arith
+joined_rank device (notes.Compressed other opened at cycle members judgements.Integrates) e = omega arith
+joined_rank device other e = absurd cc
+
+pub source_end : (way : Way) (link : Link) (device : DeviceId) → source_by way link ≡ device → device.0 ≤ ends link
+unfolding ends
+source_end Up link device e = omega (arith, ap (λ (d : DeviceId). d.0) e)
+source_end Down link device e = omega (arith, ap (λ (d : DeviceId). d.0) e)
+
+-- a compressed frame's own record gives no point
+pub no_point : (device : DeviceId) (h : Happening) (body : NoteBody) → rank body ≡ 4 → point_by device h body ≡ None
+no_point device h (notes.Permanent other link cause point verdict) e = absurd (omega (arith, e))
+no_point device h other e = refl
+
+pub makes_none : {X Y : Type 0} (f : X → Option Y) (xs : List X) → ((x : X) → IsIn x xs → f x ≡ None) → filter_map f xs ≡ []
+makes_none f [] none = refl
+makes_none {X} {Y} f (x ∷ xs) none =
+    ap (λ (o : Option Y). cons_option o (filter_map f xs)) (none x (inl refl)) ∙ makes_none f xs (λ y i. none y (inr i))
+
+-- where there are no points, there are no clusters
+pub no_clusters : (ow : ℤ) (cs : List Cluster) (c : Cluster) → AreClusters ow [] cs → Contains cs c → ⊥
+no_clusters ow [] c are there = omega (arith, there.1)
+no_clusters ow (x ∷ cs) c are there = are
+
+pub signs : (z : ℤ) → sign z < 2
+signs (pos n) = omega arith
+signs (negsuc n) = omega arith

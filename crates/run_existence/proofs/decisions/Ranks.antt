@@ -1,0 +1,85 @@
+-- It is decided whether a record is due at a place.
+use Rattle.std.proofs.Common.{ℕ, ◌<◌, ◌≤◌, List, [], ◌∷◌, inl, inr, sym, subst, arith}
+use Rattle.std.proofs.lemmas.Bool.{cases_eq}
+use Rattle.run_law.proofs.scenario.Decisions.{IsDecided}
+use Rattle.run_law.specs.declared.note.NoteBody.TheVariants as notes
+use Rattle.run_law.specs.declared.note.NoteBody.{NoteBody}
+use Rattle.run_law.specs.records.Happenings.{Happening}
+use Rattle.run_law.specs.records.Ranks.{place_of, rank}
+use Rattle.run_law.specs.runs.DueRecords.{IsDue}
+use Rattle.run_law.specs.scenario.Scenarios.{Scenario}
+use Rattle.tte_units.specs.Amount.{amount}
+use Rattle.run_existence.proofs.Sweep.{HasDue}
+use Rattle.run_existence.proofs.decisions.Arrivals.{accepted_decided, arrived_decided, delivered_decided}
+use Rattle.run_existence.proofs.decisions.Corrections.{corrected_decided}
+use Rattle.run_existence.proofs.decisions.Departures.{left_decided}
+use Rattle.run_existence.proofs.decisions.Dispatches.{sent_decided, tt_sent_decided}
+use Rattle.run_existence.proofs.decisions.Emissions.{compressed_decided}
+use Rattle.run_existence.proofs.decisions.Events.{clock_decided, event_decided}
+use Rattle.run_existence.proofs.decisions.Losses.{drop_decided, lost_decided}
+use Rattle.run_existence.proofs.decisions.Permanence.{permanent_decided}
+use Rattle.run_existence.proofs.decisions.Places.{HasCaused, due_decided}
+use Rattle.run_existence.proofs.decisions.States.{state_decided}
+
+-- the ranks are those from 1 to 14
+pub record IsRank (r : ℕ) : Type 0 where
+  pub least : 1 ≤ r
+  pub below : r < 15
+
+pub is_rank : (body : NoteBody) → IsRank (rank body)
+is_rank (notes.Event line what) = record { least = omega arith; below = omega arith }
+is_rank (notes.Arrived device link cause clock) = record { least = omega arith; below = omega arith }
+is_rank (notes.Permanent device link cause point verdict) = record { least = omega arith; below = omega arith }
+is_rank (notes.Compressed device opened at cycle members verdict) = record { least = omega arith; below = omega arith }
+is_rank (notes.Sent device cycle) = record { least = omega arith; below = omega arith }
+is_rank (notes.Corrected device cycle by adjustment) = record { least = omega arith; below = omega arith }
+is_rank (notes.State device state cause why) = record { least = omega arith; below = omega arith }
+is_rank (notes.Left device link cause clock) = record { least = omega arith; below = omega arith }
+is_rank (notes.Lost device link cause) = record { least = omega arith; below = omega arith }
+is_rank (notes.TtSent device link cause vl cycle) = record { least = omega arith; below = omega arith }
+is_rank (notes.Accepted device link cause vl cycle) = record { least = omega arith; below = omega arith }
+is_rank (notes.Delivered device link cause vl cycle) = record { least = omega arith; below = omega arith }
+is_rank (notes.Dropped device link cause reason) = record { least = omega arith; below = omega arith }
+is_rank (notes.Clock device reading adjustment state) = record { least = omega arith; below = omega arith }
+
+module _ (s : Scenario) (hs : List Happening) (t : ℕ) (ks : List ℕ) where
+  abbrev AtRank : ℕ → Type 0
+  AtRank r = IsDecided (HasCaused s hs t r ks)
+
+  -- by this rank, or by those above it
+  at_rank : (r k : ℕ) → AtRank k → k ≤ r → (k < r → AtRank r) → AtRank r
+  at_rank r k here from above =
+      elim (cases_eq r k) [
+        | inl same ↦ subst AtRank (sym same) here
+        | inr other ↦ above (omega (arith, from, other))
+      ]
+
+  no_rank : (r : ℕ) → (IsRank r → ⊥) → AtRank r
+  no_rank r none = inr (λ has. none (subst IsRank has.1.ranked (is_rank has.0)))
+
+  by_rank : 1 ≤ amount s.network.cycle → (r : ℕ) → AtRank r
+  by_rank some r =
+      elim (cases_eq r 0) [
+        | inl zeroth ↦ no_rank r (λ is. let least = is.least in omega (arith, least, zeroth))
+        | inr other ↦
+            at_rank r 1 (event_decided s hs t ks) (omega (arith, other))
+            (λ a. at_rank r 2 (arrived_decided s hs t ks) (omega (arith, a))
+            (λ b. at_rank r 3 (permanent_decided s hs t ks) (omega (arith, b))
+            (λ c. at_rank r 4 (compressed_decided s hs t ks) (omega (arith, c))
+            (λ d. at_rank r 5 (sent_decided s hs t ks) (omega (arith, d))
+            (λ e. at_rank r 6 (corrected_decided s hs t ks) (omega (arith, e))
+            (λ f. at_rank r 7 (state_decided s hs t ks) (omega (arith, f))
+            (λ g. at_rank r 8 (left_decided s hs t ks) (omega (arith, g))
+            (λ h. at_rank r 9 (lost_decided s some hs t ks) (omega (arith, h))
+            (λ i. at_rank r 10 (tt_sent_decided s hs t ks) (omega (arith, i))
+            (λ j. at_rank r 11 (accepted_decided s hs t ks) (omega (arith, j))
+            (λ k. at_rank r 12 (delivered_decided s hs t ks) (omega (arith, k))
+            (λ l. at_rank r 13 (drop_decided s hs t ks) (omega (arith, l))
+            (λ m. at_rank r 14 (clock_decided s hs t ks) (omega (arith, m))
+            (λ n. no_rank r (λ is. let below = is.below in omega (arith, below, n))))))))))))))))
+      ]
+
+pub place_decided : (s : Scenario) → 1 ≤ amount s.network.cycle → (hs : List Happening) (p : List ℕ) → IsDecided (HasDue place_of (IsDue s) hs p)
+place_decided s some hs [] = inr (λ has. let is = has.2 in cc)
+place_decided s some hs (t ∷ []) = inr (λ has. let is = has.2 in cc)
+place_decided s some hs (t ∷ r ∷ ks) = due_decided s hs t r ks (by_rank s hs t ks some r)
