@@ -1,0 +1,5 @@
+pub mod Floors
+pub mod Stamped
+pub mod Traces
+pub mod Instants
+pub mod Order

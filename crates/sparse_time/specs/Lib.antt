@@ -1,0 +1,4 @@
+pub mod Granules
+pub mod Lines
+pub mod Stamps
+pub mod Laws
