@@ -1,18 +1,13 @@
 -- The octets that `encode` writes.
-use Rattle.std.proofs.Common.{◌≡◌, ℕ, zero, suc, ◌+◌, ◌<◌, ◌≤◌, ◌^◌, List, [], ◌∷◌, ◌++◌, drop, get_or, slice_set, replicate, refl, sym, ◌∙◌, ◌-◌, inl, inr, arith}
+use Rattle.std.proofs.Common.{◌≡◌, ℕ, zero, suc, ◌+◌, ◌<◌, ◌≤◌, ◌^◌, List, [], ◌++◌, drop, get_or, slice_set, length, replicate, refl, sym, ◌∙◌, ◌-◌, inl, inr, arith}
 use Rattle.std.proofs.lemmas.List.{get_or-drop}
 use borrow.Rule.Slice.PartMut.{put_mid, mid_of}
 use Rattle.byteorder.specs.Endian.{big_bytes}
 use Rattle.byteorder.specs.Numbers.{big_number-reads_back}
 use Rattle.pcf_values.specs.declared.pcf.Pcf.{Pcf}
+use Rattle.pcf_codec.specs.Encoded.{encoded}
 use Rattle.pcf_codec.specs.EtherType.{pcf_type}
-use Rattle.pcf_codec.specs.Spelling.{Spells, code_of, IsReserved, IsPadding}
-
--- the octets of the frame, field by field, in the order of their offsets
-abbrev pub encoded : Pcf → List ℕ
-encoded p =
-    big_bytes 6 p.destination ++ (big_bytes 6 p.source ++ (big_bytes 2 pcf_type ++ (big_bytes 4 p.cycle ++ (big_bytes 4 p.members.0
-    ++ (replicate 4 0 ++ (p.priority ∷ p.domain ∷ code_of p.kind ∷ (replicate 5 0 ++ (big_bytes 8 p.clock ++ replicate 18 0))))))))
+use Rattle.pcf_codec.specs.Spelling.{Spells, pcf_length, code_of, IsReserved, IsPadding}
 
 -- zeros, over which the fields are written one after another
 pub writes : (p : Pcf) (destination source kind : ℕ) (b1 b2 b3 b4 b5 b6 : List ℕ) → destination ≡ p.destination → source ≡ p.source → kind ≡ code_of p.kind
@@ -26,7 +21,13 @@ pub writes : (p : Pcf) (destination source kind : ℕ) (b1 b2 b3 b4 b5 b6 : List
     (slice_set (slice_set (slice_set (put_mid 18 42 (put_mid 14 46 (put_mid 12 48 (put_mid 6 54 b1 b2) b3) b4) b5) 26 p.priority) 27 p.domain) 28 kind))
     → put_mid 34 26 (slice_set (slice_set (slice_set (put_mid 18 42 (put_mid 14 46 (put_mid 12 48 (put_mid 6 54 b1 b2) b3) b4) b5) 26 p.priority) 27 p.domain)
     28 kind) b6 ≡ encoded p
+unfolding encoded
 writes p destination source kind b1 b2 b3 b4 b5 b6 d s k h1 h2 h3 h4 h5 h6 = rw (h6, h5, h4, h3, h2, h1, d, s, k) refl
+
+-- it has 60 octets
+pub encoded_length : (p : Pcf) → length (encoded p) ≡ pcf_length
+unfolding encoded
+encoded_length p = refl
 
 -- each field fits its octets
 pub record Fits (p : Pcf) : Type 0 where
@@ -49,14 +50,17 @@ zeros_at xs rest a n i e low high =
     rw k (sym (get_or-drop a xs (i - a) 0) ∙ there)
 
 reserved : (p : Pcf) (i : ℕ) → IsReserved i → get_or (encoded p) i 0 ≡ 0
+unfolding encoded
 reserved p i (inl h) = zeros_at (encoded p) _ 22 4 i refl h.0 (omega arith)
 reserved p i (inr h) = zeros_at (encoded p) _ 29 5 i refl h.0 (omega arith)
 
 pub padding : (p : Pcf) (i : ℕ) → IsPadding i → get_or (encoded p) i 0 ≡ 0
+unfolding encoded
 padding p i h = zeros_at (encoded p) [] 42 18 i refl h.0 h.1
 
 -- what is written spells the frame
 pub spells : (p : Pcf) → Fits p → Spells (encoded p) p
+unfolding encoded
 spells p f = record {
   size = refl;
   destination = big_number-reads_back 6 p.destination (drop 6 (encoded p)) f.destination;

@@ -1,6 +1,7 @@
 pub mod Fields
 pub mod EtherType
 pub mod Spelling
+pub mod Encoded
 pub mod Faults
 pub mod Decoding
 pub mod Sequence

@@ -1,5 +1,6 @@
 ghost use Rattle.std.specs.Prelude.{◌≡◌, ◌<◌, ◌≤◌, ◌+◌, ◌^◌, ℕ, length, slice_index, Ok};
 ghost use Rattle.pcf_codec.specs.Decoding.{decoded, zeros_read, kind_read};
+ghost use Rattle.pcf_codec.specs.Encoded.{encoded};
 ghost use Rattle.pcf_codec.specs.Spelling.{Spells, IsPadding, code_of};
 
 use crate::PcfRefusal;
@@ -78,6 +79,7 @@ fn kind_code(kind: PcfKind) -> u8
 
 /// Writes the octets that spell the frame, with zeros in the reserved octets and in the padding.
 pub fn encode(frame: &Pcf, octets: &mut [u8; PCF_LENGTH])
+    ensures exact { octets.new ≡ encoded frame.now }
     ensures spelling { Spells octets.new frame.now }
     ensures padding { (i : ℕ) → IsPadding i → slice_index octets.new i ≡ 0 }
     ensures round_trip { decoded octets.new ≡ Ok frame.now }

@@ -1,7 +1,8 @@
 use Rattle.std.proofs.Common.{◌≡◌, ℕ, List, sym, subst, slice_index, Ok, arith}
 use Rattle.pcf_codec.specs.Spelling.{Spells, IsPadding}
 use Rattle.pcf_codec.specs.Decoding.{decoded}
-use Rattle.pcf_codec.proofs.Encoding.{encoded, writes, Fits, spells, padding}
+use Rattle.pcf_codec.specs.Encoded.{encoded}
+use Rattle.pcf_codec.proofs.Encoding.{writes, Fits, spells, padding}
 use Rattle.pcf_codec.proofs.Outcomes.{spelt_read}
 use Rattle.pcf_codec.proofs.pcf.encode.Goals as goal
 
@@ -20,6 +21,7 @@ returns c =
       clock = omega arith;
     } in
     record {
+      exact = wrote;
       spelling = subst (λ (xs : List ℕ). Spells xs p) (sym wrote) (spells p fits);
       padding = subst (λ (xs : List ℕ). (i : ℕ) → IsPadding i → slice_index xs i ≡ 0) (sym wrote) (padding p);
       round_trip = subst (λ (xs : List ℕ). decoded xs ≡ Ok p) (sym wrote) (spelt_read (encoded p) p (spells p fits));
