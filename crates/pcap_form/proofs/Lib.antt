@@ -1,0 +1,4 @@
+pub mod Heads
+pub mod Packets
+pub mod Stamps
+pub mod Trips
