@@ -12,9 +12,8 @@ ghost use Rattle.run_law.specs.scenario.Devices.{is_end, member_of};
 ghost use Rattle.tte_units.specs.Amount.{amount};
 
 use crate::Standpoint;
-use crate::network::{
-    is_end, is_parent_of, is_relay, member_of, place_in_cycle, precision, wire_of,
-};
+use crate::network::{is_end, is_parent_of, is_relay, place_in_cycle, precision, wire_of};
+use made_frames::member_of;
 use membership::one;
 use net_plan::{DeviceId, LinkId, Network, Way};
 use pcf_codec::PcfRefusal;

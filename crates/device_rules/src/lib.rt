@@ -21,6 +21,6 @@ pub use entrances::{EnteringRow, Entrances};
 pub use heading::Heading;
 pub use hearing::heard_as;
 pub use leaving::{Departed, departure};
-pub use network::{is_cm, is_end, is_parent_of, is_relay, member_of, way_to};
+pub use network::{is_cm, is_end, is_parent_of, is_relay, way_to};
 pub use standpoint::Standpoint;
 pub use timed::TimedArrival;

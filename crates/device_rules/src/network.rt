@@ -1,12 +1,12 @@
 //! What the network says of a device and of its times.
 
-ghost use Rattle.std.specs.Prelude.{◌≡◌, ◌≤◌, ◌<◌, ◌+◌, ◌*◌, ◌^◌, ◌≤ℤ◌, pos, IfSome};
+ghost use Rattle.std.specs.Prelude.{◌≡◌, ◌≤◌, ◌<◌, ◌+◌, ◌*◌, ◌^◌, ◌≤ℤ◌, pos};
 ghost use Rattle.std.specs.Int.{int_div_euclid};
 ghost use Rattle.device_rules.specs.Widths.{IsLocal};
 ghost use Rattle.net_plan.specs.Ranges.{IsInRange};
 ghost use Rattle.run_law.specs.device.Standpoints.{cycle_at, offset_in_cycle};
 ghost use Rattle.run_law.specs.scenario.Devices.{expected_by, is_cm, is_cm_role, is_end, is_parent_of, is_relay};
-ghost use Rattle.run_law.specs.scenario.Devices.{is_relay_role, member_of, plan_of};
+ghost use Rattle.run_law.specs.scenario.Devices.{is_relay_role, plan_of};
 ghost use Rattle.run_law.specs.scenario.Ways.{way_to, wire_of};
 ghost use Rattle.sync_state.specs.Plan.{expected_at};
 ghost use Rattle.tte_units.specs.Amount.{amount};
@@ -58,18 +58,6 @@ pub fn is_end(network: &Network, device: DeviceId) -> bool
     match network.device.as_slice().get(device.0 as usize) {
         Some(found) => found.role.is_end_system(),
         None => false,
-    }
-}
-
-/// The member number of a master.
-pub fn member_of(network: &Network, device: DeviceId) -> Option<u32>
-    requires { IsInRange network.now }
-    ensures value { result ≡ member_of network.now device }
-    ensures small { IfSome result (λ member. member < 32) }
-{
-    match network.device.as_slice().get(device.0 as usize) {
-        Some(found) => found.member,
-        None => None,
     }
 }
 

@@ -3,17 +3,14 @@
 ghost use Rattle.std.specs.Prelude.{◌≡◌};
 ghost use Rattle.device_rules.specs.Headings.{heading_of};
 ghost use Rattle.kept_records.specs.Keeping.{kept_of, kept_of_event, sending_of, tells_time};
-ghost use Rattle.net_plan.specs.Ranges.{IsInRange};
 ghost use Rattle.pcf_codec.specs.Decoding.{decoded};
-ghost use Rattle.run_law.specs.records.Frames.{dispatched_frame, integration_frame, mac_of};
 ghost use Rattle.run_law.specs.records.Happenings.{frame_in};
 
 use crate::{Kept, Sending};
-use device_rules::{Heading, member_of};
-use membership::one;
-use net_plan::{DeviceId, Network, Octets, What};
+use device_rules::Heading;
+use net_plan::{Octets, What};
 use pcf_codec::{decode, is_pcf};
-use pcf_values::{Mac, Members, Pcf, PcfKind};
+use pcf_values::Pcf;
 use run_law::{Judgement, NoteBody};
 
 /// What is kept of what a record says.
@@ -117,47 +114,4 @@ pub(crate) fn heading_of(octets: &Octets) -> Heading
     ensures { result ≡ heading_of octets.now }
 {
     Heading::of(octets.as_slice())
-}
-
-/// The address of the device.
-fn mac_of(network: &Network, device: DeviceId) -> Mac
-    ensures { result ≡ mac_of network.now device }
-{
-    match network.device.as_slice().get(device.0 as usize) {
-        Some(found) => found.mac,
-        None => Mac::from_number(0),
-    }
-}
-
-/// The integration frame of a device for a cycle and these members, with no delay so far.
-pub(crate) fn integration_frame(
-    network: &Network,
-    device: DeviceId,
-    cycle: u32,
-    members: Members,
-) -> Pcf
-    ensures { result ≡ integration_frame network.now device cycle members }
-{
-    Pcf {
-        destination: network.pcf_destination,
-        source: mac_of(network, device),
-        cycle,
-        members,
-        priority: network.priority,
-        domain: network.domain,
-        kind: PcfKind::Integration,
-        clock: 0,
-    }
-}
-
-/// The frame that a master sends in a cycle: its own bit is its members.
-pub(crate) fn dispatched_frame(network: &Network, device: DeviceId, cycle: u32) -> Pcf
-    requires { IsInRange network.now }
-    ensures { result ≡ dispatched_frame network.now device cycle }
-{
-    let member = match member_of(network, device) {
-        Some(member) => member,
-        None => 0,
-    };
-    integration_frame(network, device, cycle, one(member))
 }

@@ -11,6 +11,7 @@ ghost use Rattle.tte_units.specs.Amount.{amount};
 
 use crate::{KeptRecord, OutOfMemory, making};
 use device_rules::Heading;
+use made_frames::{dispatched_frame, integration_frame};
 use net_plan::{Network, VlId, What};
 use pcf_values::Pcf;
 use run_law::NoteBody;
@@ -103,15 +104,13 @@ impl KeptRecords {
                 what: What::Send(_, octets),
                 ..
             } => making::frame_in(octets),
-            NoteBody::Sent { device, cycle } => {
-                Some(making::dispatched_frame(network, *device, *cycle))
-            }
+            NoteBody::Sent { device, cycle } => { Some(dispatched_frame(network, *device, *cycle)) }
             NoteBody::Compressed {
                 device,
                 cycle,
                 members,
                 ..
-            } => Some(making::integration_frame(network, *device, *cycle, *members)),
+            } => Some(integration_frame(network, *device, *cycle, *members)),
             NoteBody::Left { cause, clock, .. } | NoteBody::Arrived { cause, clock, .. } => {
                 with_clock(*clock, self.frame_from(*cause))
             }

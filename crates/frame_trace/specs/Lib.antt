@@ -1,0 +1,3 @@
+pub mod RecordOctets
+pub mod Keeping
+pub mod Delivery
