@@ -1,0 +1,5 @@
+//! Tests of ballots.
+#![tactic(auto)]
+
+#[cfg(test)]
+mod ballots;

@@ -1,0 +1,38 @@
+-- The first of a list's entries that passes a test, where one alone does.
+use Rattle.std.proofs.Common.{◌≡◌, ◌&&◌, ◌||◌, ◌⊎◌, Bool, true, false, List, [], ◌∷◌, cond, find, Some, inl, inr, refl, sym, ap, ◌∙◌}
+use Rattle.run_law.specs.records.Order.{IsIn}
+
+pub both_true : (a b : Bool) → a ≡ true → b ≡ true → (a && b) ≡ true
+both_true true b e f = f
+both_true false b e f = absurd cc
+
+pub left_true : (a b : Bool) → (a && b) ≡ true → a ≡ true
+left_true true b e = refl
+left_true false b e = absurd cc
+
+pub right_true : (a b : Bool) → (a && b) ≡ true → b ≡ true
+right_true true b e = e
+right_true false b e = absurd cc
+
+pub or_right : (a b : Bool) → b ≡ true → (a || b) ≡ true
+or_right true b e = refl
+or_right false b e = e
+
+pub or_split : (a b : Bool) → (a || b) ≡ true → (a ≡ true) ⊎ (b ≡ true)
+or_split true b e = inl refl
+or_split false b e = inr e
+
+-- the one entry that passes is found
+pub find_one : {X : Type 0} (p : X → Bool) (xs : List X) (x : X) → IsIn x xs → p x ≡ true → ((y : X) → IsIn y xs → p y ≡ true → y ≡ x)
+    → find p xs ≡ Some x
+find_one p [] x at hit one = absurd at
+find_one {X} p (y ∷ xs) x at hit one =
+    by (p y) refl (λ there. find_one p xs x there hit (λ z is passes. one z (inr is) passes))
+  where
+    behind : (p y ≡ false) → IsIn x (y ∷ xs) → IsIn x xs
+    behind e (inl same) = let no : true ≡ false = sym hit ∙ (ap p same ∙ e) in absurd cc
+    behind e (inr there) = there
+
+    by : (b : Bool) → p y ≡ b → (IsIn x xs → find p xs ≡ Some x) → find p (y ∷ xs) ≡ Some x
+    by true e rest = ap (λ (b : Bool). cond b (Some y) (find p xs)) e ∙ ap Some (one y (inl refl) e)
+    by false e rest = ap (λ (b : Bool). cond b (Some y) (find p xs)) e ∙ rest (behind e at)

@@ -1,0 +1,4 @@
+pub mod Found
+pub mod Delivered
+pub mod Voted
+pub mod Outvoted

@@ -1,0 +1,3 @@
+pub mod Ballots
+pub mod Voting
+pub mod Outvoting
