@@ -115,6 +115,21 @@ fn a_whole_line_ahead_is_taken_without_a_read(rt: HostRuntime) -> Result<(), Fai
 }
 
 #[test]
+fn nothing_is_read_behind_the_end(rt: HostRuntime) -> Result<(), Fail> {
+    for text in [b"first\nlast".as_slice(), b"first\nlast\n"] {
+        let mut source = MemorySource::new(rt.alloc(), text, 16, &[3])?;
+        let mut reader = LineReader::new();
+        expect_line(&rt, &mut reader, &mut source, b"first");
+        expect_line(&rt, &mut reader, &mut source, b"last");
+        assert!(rt; reader.next_line(&mut source) == Ok(LineTaken::End));
+        assert!(rt; reader.next_line(&mut source) == Ok(LineTaken::End));
+        assert!(rt; reader.line_ahead() == Some(LineTaken::End));
+        assert!(rt; source.read(&mut [0; 2]) == Err(SourceFailed));
+    }
+    Ok(())
+}
+
+#[test]
 fn a_line_has_at_most_4096_octets(rt: HostRuntime) -> Result<(), Fail> {
     let letters = [b'a'; 4097];
     let mut reader = LineReader::new();
@@ -122,6 +137,7 @@ fn a_line_has_at_most_4096_octets(rt: HostRuntime) -> Result<(), Fail> {
     expect_line(&rt, &mut reader, &mut fits, &letters[..4096]);
     assert!(rt; reader.next_line(&mut fits) == Ok(LineTaken::End));
 
+    let mut reader = LineReader::new();
     let mut pieces = MemorySource::new(rt.alloc(), &letters, 1000, &[5])?;
     assert!(rt; reader.next_line(&mut pieces) == Err(SourceFailed));
     assert!(rt; reader.next_line(&mut pieces) == Ok(LineTaken::Long));

@@ -10,7 +10,7 @@ use Rattle.tte_io.specs.LinesGiven.{HasGiven, GivesInOrder}
 
 goes_on : (first : Option (List ℕ)) (given : List ℕ) (before : LineReaderState) (left : Option (List ℕ)) (after : LineReaderState)
     (left_after : Option (List ℕ)) (result : Result LineTaken SourceFailed) → HasGiven first given before left
-    → (n : NextLine (pending before) left after left_after result) → HasGiven first (given ++ n.given) after left_after
+    → (n : NextLine (pending before) before.ended left after left_after result) → HasGiven first (given ++ n.given) after left_after
 goes_on first given before left after left_after result h n =
     let more = n.earlier ++ n.last in
     record {

@@ -1,12 +1,12 @@
 -- A line in the making, and what comes of it.
-use Rattle.std.proofs.Common.{◌≡◌, ◌≢◌, ◌⊎◌, ℕ, ◌≤◌, List, [], ◌∷◌, ◌++◌, length, Option, Ok, Err, refl, sym, ap, subst, ◌∙◌, inl, inr, append_assoc, append-nil, arith}
+use Rattle.std.proofs.Common.{◌≡◌, ◌≢◌, ◌⊎◌, ℕ, ◌≤◌, Bool, true, false, List, [], ◌∷◌, ◌++◌, length, Option, Ok, Err, refl, sym, ap, subst, ◌∙◌, inl, inr, append_assoc, append-nil, arith}
 use Rattle.std.specs.Io.KnownBytes.{Consumes, IsAtEnd}
 use Rattle.std.proofs.KnownBytes.{Consumes-nil, Consumes-trans}
 use Rattle.tte_io.specs.declared.lines.LineTaken.{LineTaken}
 use Rattle.tte_io.specs.declared.lines.LineTaken.TheVariants.{Whole, Long, End}
 use Rattle.tte_io.specs.declared.lines.Progress.{Progress}
 use Rattle.tte_io.specs.declared.lines.Progress.TheVariants.{Unfinished, Taken, TooLong}
-use Rattle.tte_io.specs.ReaderState.{LineReaderState, pending}
+use Rattle.tte_io.specs.ReaderState.{LineReaderState, KeepsEnd, pending, at_end}
 use Rattle.tte_io.specs.declared.taking.Step.TheVariants as step
 use Rattle.tte_io.specs.Line.{lf, ahead_limit, IsLine, IsTooLong}
 use Rattle.tte_io.specs.NextLine.{NextLine}
@@ -85,109 +85,181 @@ making_advanced before left_before line ahead left line_after ahead_after m a = 
 }
 
 -- the line's LF came
-pub taken_at_lf : {E : Type 0} (before : List ℕ) (left_before : Option (List ℕ)) (line ahead : List ℕ) (left : Option (List ℕ))
-    (line_after ahead_after : List ℕ) → Making before left_before line ahead left
+pub taken_at_lf : {E : Type 0} (before : List ℕ) (had ended : Bool) (left_before : Option (List ℕ)) (line ahead : List ℕ) (left : Option (List ℕ))
+    (line_after ahead_after : List ℕ) → had ≡ false → ended ≡ false → Making before left_before line ahead left
     → Advances line ahead step.Ended line_after ahead_after
-    → NextLine {E = E} before left_before (reader_state (progress_after {E = E} (Ok Whole)) line_after ahead_after) left (Ok Whole)
-taken_at_lf before left_before line ahead left line_after ahead_after m a = record {
+    → NextLine {E = E} before had left_before (reader_state (progress_after {E = E} (Ok Whole)) line_after ahead_after ended) left (Ok Whole)
+taken_at_lf before had ended left_before line ahead left line_after ahead_after unended still m a = record {
   earlier = m.earlier;
   last = m.last;
   consumed = m.consumed;
   last_size = m.last_size;
-  needed = m.needed;
+  needed = λ some. (unended, m.needed some);
+  ends = λ is. absurd cc;
   given = line_after ++ lf ∷ [];
   nothing_lost = m.same ∙ a.1 ∙ sym (append_assoc line_after (lf ∷ []) ahead_after);
-  answer = record { text = line_after; line = a.0; ended = inl refl; reader = refl };
+  answer = record { text = line_after; line = a.0; ended = inl (refl, still); reader = refl };
 }
 
 -- it has passed its limit
-pub found_too_long : {E : Type 0} (before : List ℕ) (left_before : Option (List ℕ)) (line ahead : List ℕ) (left : Option (List ℕ))
-    (line_after ahead_after : List ℕ) → Making before left_before line ahead left
+pub found_too_long : {E : Type 0} (before : List ℕ) (had ended : Bool) (left_before : Option (List ℕ)) (line ahead : List ℕ) (left : Option (List ℕ))
+    (line_after ahead_after : List ℕ) → had ≡ false → ended ≡ false → Making before left_before line ahead left
     → Advances line ahead step.TooLong line_after ahead_after
-    → NextLine {E = E} before left_before (reader_state (progress_after {E = E} (Ok Long)) line_after ahead_after) left (Ok Long)
-found_too_long before left_before line ahead left line_after ahead_after m a =
+    → NextLine {E = E} before had left_before (reader_state (progress_after {E = E} (Ok Long)) line_after ahead_after ended) left (Ok Long)
+found_too_long before had ended left_before line ahead left line_after ahead_after unended still m a =
     let stays : line_after ++ ahead_after ≡ line ++ ahead = cc in
     record {
       earlier = m.earlier;
       last = m.last;
       consumed = m.consumed;
       last_size = m.last_size;
-      needed = m.needed;
+      needed = λ some. (unended, m.needed some);
+      ends = λ is. absurd cc;
       given = [];
       nothing_lost = m.same ∙ sym stays;
-      answer = record { none = refl; line = subst IsTooLong (sym stays) a.0; reader = refl };
+      answer = record { none = refl; line = subst IsTooLong (sym stays) a.0; reader = ap (reader_state TooLong line_after ahead_after) still };
     }
 
 -- the source has ended
-pub taken_at_end : {E : Type 0} (before : List ℕ) (left_before : Option (List ℕ)) (line ahead : List ℕ) (left : Option (List ℕ)) (taken : LineTaken)
-    → Making before left_before line ahead left → ahead ≡ [] → IsAtEnd left
+pub taken_at_end : {E : Type 0} (before : List ℕ) (had : Bool) (left_before : Option (List ℕ)) (line ahead : List ℕ) (left : Option (List ℕ))
+    (taken : LineTaken) → had ≡ false → Making before left_before line ahead left → ahead ≡ [] → IsAtEnd left
     → ((taken ≡ End) × (line ≡ [])) ⊎ ((taken ≡ Whole) × (line ≢ []))
-    → NextLine {E = E} before left_before (reader_state (progress_after {E = E} (Ok taken)) line ahead) left (Ok taken)
-taken_at_end {E} before left_before line ahead left taken m none end (inl h) =
-    let P = λ (t : LineTaken). NextLine {E = E} before left_before (reader_state (progress_after {E = E} (Ok t)) line ahead) left (Ok t) in
+    → NextLine {E = E} before had left_before (reader_state (progress_after {E = E} (Ok taken)) line ahead true) left (Ok taken)
+taken_at_end {E} before had left_before line ahead left taken unended m none end (inl h) =
+    let P = λ (t : LineTaken). NextLine {E = E} before had left_before (reader_state (progress_after {E = E} (Ok t)) line ahead true) left (Ok t) in
     subst P (sym h.0) (record {
       earlier = m.earlier;
       last = m.last;
       consumed = m.consumed;
       last_size = m.last_size;
-      needed = m.needed;
+      needed = λ some. (unended, m.needed some);
+      ends = λ is. absurd cc;
       given = [];
       nothing_lost = m.same;
-      answer = record { none = refl; reader = ap (λ (t : List ℕ). reader_state Unfinished t ahead) h.1 ∙ ap (reader_state Unfinished []) none; end = end };
+      answer = record {
+        none = refl;
+        reader = ap (λ (t : List ℕ). reader_state Unfinished t ahead true) h.1 ∙ ap (λ (t : List ℕ). reader_state Unfinished [] t true) none;
+        end = inr end;
+      };
     })
-taken_at_end {E} before left_before line ahead left taken m none end (inr h) =
-    let P = λ (t : LineTaken). NextLine {E = E} before left_before (reader_state (progress_after {E = E} (Ok t)) line ahead) left (Ok t) in
+taken_at_end {E} before had left_before line ahead left taken unended m none end (inr h) =
+    let P = λ (t : LineTaken). NextLine {E = E} before had left_before (reader_state (progress_after {E = E} (Ok t)) line ahead true) left (Ok t) in
     subst P (sym h.0) (record {
       earlier = m.earlier;
       last = m.last;
       consumed = m.consumed;
       last_size = m.last_size;
-      needed = m.needed;
+      needed = λ some. (unended, m.needed some);
+      ends = λ is. absurd cc;
       given = line;
       nothing_lost = m.same;
-      answer = record { text = line; line = m.is_line; ended = inr (refl, h.1, none, end); reader = refl };
+      answer = record { text = line; line = m.is_line; ended = inr (refl, h.1, none, refl, end); reader = refl };
     })
 
 -- a read failed
-pub kept_after_failure : {E : Type 0} (before : List ℕ) (left_before : Option (List ℕ)) (line ahead : List ℕ) (left : Option (List ℕ)) (e : E)
-    → Making before left_before line ahead left → ahead ≡ []
-    → NextLine before left_before (reader_state (progress_after (Err e)) line ahead) left (Err e)
-kept_after_failure before left_before line ahead left e m none = record {
+pub kept_after_failure : {E : Type 0} (before : List ℕ) (had ended : Bool) (left_before : Option (List ℕ)) (line ahead : List ℕ) (left : Option (List ℕ))
+    (e : E) → had ≡ false → ended ≡ false → Making before left_before line ahead left → ahead ≡ []
+    → NextLine before had left_before (reader_state (progress_after (Err e)) line ahead ended) left (Err e)
+kept_after_failure before had ended left_before line ahead left e unended still m none = record {
   earlier = m.earlier;
   last = m.last;
   consumed = m.consumed;
   last_size = m.last_size;
-  needed = m.needed;
+  needed = λ some. (unended, m.needed some);
+  ends = λ is. absurd cc;
   given = [];
   nothing_lost = m.same;
-  answer = record { none = refl; line = m.is_line; reader = ap (reader_state Unfinished line) none };
+  answer = record {
+    none = refl;
+    line = m.is_line;
+    reader = ap (λ (t : List ℕ). reader_state Unfinished line t ended) none ∙ ap (reader_state Unfinished line []) still;
+  };
 }
 
 -- a line that was too long stays too long, and nothing is read
-pub still_too_long : {E : Type 0} (line ahead : List ℕ) (left : Option (List ℕ)) → IsTooLong (line ++ ahead)
-    → NextLine {E = E} (line ++ ahead) left (reader_state TooLong line ahead) left (Ok Long)
-still_too_long line ahead left long = record {
+pub still_too_long : {E : Type 0} (line ahead : List ℕ) (ended : Bool) (left : Option (List ℕ)) → ended ≡ false → IsTooLong (line ++ ahead)
+    → NextLine {E = E} (line ++ ahead) ended left (reader_state TooLong line ahead ended) left (Ok Long)
+still_too_long line ahead ended left still long = record {
   earlier = [];
   last = [];
   consumed = Consumes-nil left;
   last_size = omega arith;
   needed = λ some. absurd (some refl);
+  ends = λ is. absurd cc;
   given = [];
   nothing_lost = append-nil (line ++ ahead);
-  answer = record { none = refl; line = long; reader = refl };
+  answer = record { none = refl; line = long; reader = ap (reader_state TooLong line ahead) still };
 }
 
+-- behind the end of the source there is no line, and nothing is read
+pub still_ended : {E : Type 0} (before : List ℕ) (ended : Bool) (left : Option (List ℕ)) (after : LineReaderState) → ended ≡ true → before ≡ []
+    → after ≡ at_end → NextLine {E = E} before ended left after left (Ok End)
+still_ended before ended left after had none is = record {
+  earlier = [];
+  last = [];
+  consumed = Consumes-nil left;
+  last_size = omega arith;
+  needed = λ some. absurd (some refl);
+  ends = λ _. tt {0};
+  given = [];
+  nothing_lost = append-nil before ∙ none ∙ sym (ap pending is);
+  answer = record { none = refl; reader = is; end = inl had };
+}
+
+-- too long a line is not behind the end
+pub long_unended : (line ahead : List ℕ) (ended : Bool) → IsTooLong (line ++ ahead) → KeepsEnd (reader_state TooLong line ahead ended) → ended ≡ false
+long_unended line ahead true long keeps = absurd (omega (arith, long.more, ap length (keeps refl)))
+long_unended line ahead false long keeps = refl
+
 -- the next line begins behind one that was taken
-pub making_next : (progress : Progress) (line ahead cleared : List ℕ) (now : LineReaderState) (left : Option (List ℕ))
-    → reader_state progress line ahead ≡ now → progress ≡ Taken → cleared ≡ [] → Making (pending now) left cleared ahead left
-making_next progress line ahead cleared now left same is none =
-    let pending_is : pending now ≡ ahead = sym (ap pending same) ∙ ap (λ (p : Progress). pending (reader_state p line ahead)) is in
+pub making_next : (progress : Progress) (line ahead : List ℕ) (ended : Bool) (cleared : List ℕ) (now : LineReaderState) (left : Option (List ℕ))
+    → reader_state progress line ahead ended ≡ now → progress ≡ Taken → cleared ≡ [] → Making (pending now) left cleared ahead left
+making_next progress line ahead ended cleared now left same is none =
+    let pending_is : pending now ≡ ahead = sym (ap pending same) ∙ ap (λ (p : Progress). pending (reader_state p line ahead ended)) is in
     let empty : IsLine [] = record { unbroken = λ k octet within. absurd (omega (arith, within)); within = omega arith } in
     rw (pending_is, none) (making_begun [] ahead left empty)
 
 -- an unfinished line goes on
-pub making_on : (progress : Progress) (line ahead : List ℕ) (now : LineReaderState) (left : Option (List ℕ))
-    → reader_state progress line ahead ≡ now → progress ≡ Unfinished → IsLine line → Making (pending now) left line ahead left
-making_on progress line ahead now left same is is_line =
-    let pending_is : pending now ≡ line ++ ahead = sym (ap pending same) ∙ ap (λ (p : Progress). pending (reader_state p line ahead)) is in
+pub making_on : (progress : Progress) (line ahead : List ℕ) (ended : Bool) (now : LineReaderState) (left : Option (List ℕ))
+    → reader_state progress line ahead ended ≡ now → progress ≡ Unfinished → IsLine line → Making (pending now) left line ahead left
+making_on progress line ahead ended now left same is is_line =
+    let pending_is : pending now ≡ line ++ ahead = sym (ap pending same) ∙ ap (λ (p : Progress). pending (reader_state p line ahead ended)) is in
     rw pending_is (making_begun line ahead left is_line)
+
+-- the line so far and what is ahead are of a reader, and where the end was found nothing is pending
+pub record MadeOf (now : LineReaderState) (line ahead : List ℕ) (ended : Bool) : Type 0 where
+  pub same : now.ended ≡ ended
+  pub none : ended ≡ true → (pending now ≡ []) × (line ≡ []) × (ahead ≡ [])
+
+none_before : (xs ys : List ℕ) → xs ++ ys ≡ [] → (xs ≡ []) × (ys ≡ [])
+none_before [] ys e = (refl, e)
+none_before (x ∷ xs) ys e = absurd cc
+
+pub made_next : (progress : Progress) (line ahead : List ℕ) (ended : Bool) (cleared : List ℕ) (now : LineReaderState)
+    → reader_state progress line ahead ended ≡ now → progress ≡ Taken → cleared ≡ [] → KeepsEnd (reader_state progress line ahead ended)
+    → MadeOf now cleared ahead ended
+made_next progress line ahead ended cleared now same is none keeps =
+    let now_is : reader_state Taken line ahead ended ≡ now = ap (λ (p : Progress). reader_state p line ahead ended) (sym is) ∙ same in
+    let end : ended ≡ true → ahead ≡ [] = subst (λ (p : Progress). KeepsEnd (reader_state p line ahead ended)) is keeps in
+    record {
+      same = sym (ap (λ (r : LineReaderState). r.ended) now_is);
+      none = λ on. (sym (ap pending now_is) ∙ end on, none, end on);
+    }
+
+pub made_on : (progress : Progress) (line ahead : List ℕ) (ended : Bool) (now : LineReaderState) → reader_state progress line ahead ended ≡ now
+    → progress ≡ Unfinished → KeepsEnd (reader_state progress line ahead ended) → MadeOf now line ahead ended
+made_on progress line ahead ended now same is keeps =
+    let now_is : reader_state Unfinished line ahead ended ≡ now = ap (λ (p : Progress). reader_state p line ahead ended) (sym is) ∙ same in
+    let end : ended ≡ true → line ++ ahead ≡ [] = subst (λ (p : Progress). KeepsEnd (reader_state p line ahead ended)) is keeps in
+    record {
+      same = sym (ap (λ (r : LineReaderState). r.ended) now_is);
+      none = λ on. (sym (ap pending now_is) ∙ end on, (none_before line ahead (end on)).0, (none_before line ahead (end on)).1);
+    }
+
+pub found_ended : {E : Type 0} (now : LineReaderState) (line ahead : List ℕ) (ended : Bool) (left : Option (List ℕ)) → MadeOf now line ahead ended
+    → ended ≡ true → NextLine {E = E} (pending now) now.ended left (reader_state Unfinished line ahead ended) left (Ok End)
+found_ended now line ahead ended left m on =
+    let none = m.none on in
+    still_ended (pending now) now.ended left (reader_state Unfinished line ahead ended) (m.same ∙ on) none.0
+    (ap (λ (t : List ℕ). reader_state Unfinished t ahead ended) none.1 ∙ ap (λ (t : List ℕ). reader_state Unfinished [] t ended) none.2
+    ∙ ap (reader_state Unfinished [] []) on)

@@ -21,7 +21,7 @@ pub record GivesInOrder : Type 0 where
   -- what a call gives comes behind that
   pub goes_on : (first : Option (List ℕ)) (given : List ℕ) (before : LineReaderState) (left : Option (List ℕ))
       (after : LineReaderState) (left_after : Option (List ℕ)) (result : Result LineTaken SourceFailed)
-      → HasGiven first given before left → (n : NextLine (pending before) left after left_after result)
+      → HasGiven first given before left → (n : NextLine (pending before) before.ended left after left_after result)
       → HasGiven first (given ++ n.given) after left_after
   -- where no line is unfinished, little more was read than given
   pub few_ahead : (first : Option (List ℕ)) (given : List ℕ) (reader : LineReaderState) (left : Option (List ℕ))

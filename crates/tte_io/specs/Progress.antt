@@ -1,16 +1,19 @@
 -- What a reader of lines shows of its two stores.
-use Rattle.std.specs.Prelude.{ℕ, List, [], Some, None, true, false, Result, Ok, Err}
+use Rattle.std.specs.Prelude.{ℕ, List, [], Some, None, Bool, true, false, Result, Ok, Err}
 use Rattle.tte_io.specs.declared.lines.LineTaken.{LineTaken}
 use Rattle.tte_io.specs.declared.lines.LineTaken.TheVariants as answer
 use Rattle.tte_io.specs.declared.lines.Progress.{Progress}
 use Rattle.tte_io.specs.declared.lines.Progress.TheVariants.{Unfinished, Taken, TooLong}
 use Rattle.tte_io.specs.ReaderState.{LineReaderState}
 
--- the reader, by how far the stored line has come and by the octets ahead
-abbrev pub reader_state : Progress → List ℕ → List ℕ → LineReaderState
-reader_state Unfinished line ahead = record { kept = line; ahead = ahead; text = None; long = false }
-reader_state Taken line ahead = record { kept = []; ahead = ahead; text = Some line; long = false }
-reader_state TooLong line ahead = record { kept = line; ahead = ahead; text = None; long = true }
+-- the reader, by how far the stored line has come, by the octets ahead, and by whether the end was found
+abbrev pub reader_state : Progress → List ℕ → List ℕ → Bool → LineReaderState
+reader_state Unfinished line ahead ended =
+    record { kept = line; ahead = ahead; text = None; long = false; ended = ended }
+reader_state Taken line ahead ended =
+    record { kept = []; ahead = ahead; text = Some line; long = false; ended = ended }
+reader_state TooLong line ahead ended =
+    record { kept = line; ahead = ahead; text = None; long = true; ended = ended }
 
 -- how far the stored line has come, by the answer of a call
 abbrev pub progress_after : {E : Type 0} → Result LineTaken E → Progress

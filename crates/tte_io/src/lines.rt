@@ -1,4 +1,4 @@
-ghost use Rattle.std.specs.Prelude.{◌≡◌, ◌≤◌, ◌<◌, ℕ, List, [], Option, Some, Ok, true, length, IfNone, IfSome, IsSome, OnOk, OnErr};
+ghost use Rattle.std.specs.Prelude.{◌≡◌, ◌≤◌, ◌<◌, ℕ, List, [], Option, Some, Ok, true, false, length, IfNone, IfSome, IsSome, OnOk, OnErr};
 ghost use Rattle.tte_io.specs.Faults.{Rose};
 
 use crate::ahead::Ahead;
@@ -31,20 +31,23 @@ pub struct LineReader {
     ahead: Ahead,
     line: LineText,
     progress: Progress,
+    /// Was the end of the source found? Then no more is read.
+    ended: bool,
 }
 
 impl Model for LineReader {
     ghost use Rattle.std.specs.Prelude.{◌≤◌, length};
     ghost use Rattle.tte_io.specs.Line.{IsLine, ahead_limit};
-    ghost use Rattle.tte_io.specs.ReaderState.{LineReaderState, KeepsLongLine};
+    ghost use Rattle.tte_io.specs.ReaderState.{LineReaderState, KeepsEnd, KeepsLongLine};
     ghost use Rattle.tte_io.specs.Progress.{reader_state};
 
     ghost Value = { LineReaderState };
 
-    ghost view = { λ r. reader_state r.progress r.line r.ahead };
+    ghost view = { λ r. reader_state r.progress r.line r.ahead r.ended };
 
     ghost invariant = { λ r. IsLine r.line × (length r.ahead ≤ ahead_limit)
-        × KeepsLongLine (reader_state r.progress r.line r.ahead) };
+        × KeepsLongLine (reader_state r.progress r.line r.ahead r.ended)
+        × KeepsEnd (reader_state r.progress r.line r.ahead r.ended) };
 }
 
 impl LineReader {
@@ -61,16 +64,19 @@ impl LineReader {
             ahead: Ahead::new(),
             line: LineText::new(),
             progress: Progress::Unfinished,
+            ended: false,
         }
     }
 
-    /// Takes the next line from the octets ahead, where they hold its end. It reads nothing.
+    /// Takes the next line from the octets ahead, where they hold its end. It reads nothing. Behind
+    /// the end of the source it answers `End`.
     ///
     /// None where more is to be read: all octets ahead are then of one line, which `next_line` takes.
     pub fn line_ahead(&mut self) -> Option<LineTaken>
         ensures found { IfSome result (λ found. (left : Option (List ℕ))
-            → NextLine {E = SourceFailed} (pending self.old) left self.new left (Ok found)) }
-        ensures none { IfNone result ((pending self.new ≡ pending self.old) × KeepsLine [] self.new) }
+            → NextLine {E = SourceFailed} (pending self.old) self.old.ended left self.new left (Ok found)) }
+        ensures none { IfNone result
+            ((self.old.ended ≡ false) × (pending self.new ≡ pending self.old) × KeepsLine [] self.new) }
         ensures stays_long { self.old.long ≡ true → (result ≡ Some LineTaken.Long) × (self.new ≡ self.old) }
         ensures kept_bound { length self.new.kept ≤ line_limit }
         ensures ahead_bound { length self.new.ahead ≤ ahead_limit }
@@ -81,6 +87,9 @@ impl LineReader {
             Progress::Unfinished => (),
         }
         self.progress = Progress::Unfinished;
+        if self.ended {
+            return Some(LineTaken::End);
+        }
         match advance(&mut self.ahead, &mut self.line) {
             Step::Ended => {
                 self.progress = Progress::Taken;
@@ -97,16 +106,21 @@ impl LineReader {
     /// Takes the next line. It reads only where no octet is ahead, and then into 4,096 octets.
     ///
     /// After a failed read, what was read and not given stays, and the next call goes on from it.
-    /// After `Long` each call answers `Long` and reads nothing.
+    /// After `Long` each call answers `Long` and reads nothing. Once a read gave nothing the source
+    /// has ended: what came before is the last line, and each call behind it answers `End` and reads
+    /// nothing.
     pub fn next_line<S: Source>(&mut self, source: &mut S) -> Result<LineTaken, SourceFailed>
         // What was read, what it gives by its answer, and what stays.
-        ensures next { NextLine (pending self.old) (S.left source.old) self.new (S.left source.new) result }
+        ensures next { NextLine (pending self.old) self.old.ended (S.left source.old)
+            self.new (S.left source.new) result }
 
         // The answer for octets that are told, which is one answer where no read fails.
-        ensures told { TellsOutcome (pending self.old) (S.left source.old) self.new (S.left source.new) result }
+        ensures told { TellsOutcome (pending self.old) self.old.ended (S.left source.old)
+            self.new (S.left source.new) result }
 
         ensures stays_long { self.old.long ≡ true
             → (result ≡ Ok LineTaken.Long) × (self.new ≡ self.old) × (source.new ≡ source.old) }
+        ensures stays_ended { self.old.ended ≡ true → (result ≡ Ok LineTaken.End) × (source.new ≡ source.old) }
         ensures kept_bound { length self.new.kept ≤ line_limit }
         ensures ahead_bound { length self.new.ahead ≤ ahead_limit }
 
@@ -120,7 +134,10 @@ impl LineReader {
             Progress::Unfinished => {}
         }
         self.progress = Progress::Unfinished;
-        let taken = take_line(&mut self.ahead, &mut self.line, source)?;
+        if self.ended {
+            return Ok(LineTaken::End);
+        }
+        let taken = take_line(&mut self.ahead, &mut self.line, &mut self.ended, source)?;
         self.progress = match taken {
             LineTaken::Whole => Progress::Taken,
             LineTaken::Long => Progress::TooLong,

@@ -1,4 +1,4 @@
-ghost use Rattle.std.specs.Prelude.{◌≡◌, ◌≢◌, ◌⊎◌, ◌≤◌, ◌+◌, ◌<◌, ℕ, List, [], ◌∷◌, ◌++◌, length, take, drop, IfSome, IfNone, OnOk, OnErr};
+ghost use Rattle.std.specs.Prelude.{◌≡◌, ◌≢◌, ◌⊎◌, ◌≤◌, ◌+◌, ◌<◌, ℕ, false, List, [], ◌∷◌, ◌++◌, length, take, drop, IfSome, IfNone, OnOk, OnErr};
 ghost use Rattle.tte_io.specs.Faults.{Rose};
 ghost use Rattle.tte_io.specs.NextLine.{NextLine};
 ghost use Rattle.tte_io.specs.Outcome.{TellsOutcome};
@@ -63,18 +63,20 @@ fn at_end(line: &LineText) -> LineTaken
     }
 }
 
-/// Goes on with a line, from the octets ahead and then from the source.
+/// Goes on with a line, from the octets ahead and then from the source, whose end was not found yet.
 pub(crate) fn take_line<S: Source>(
     ahead: &mut Ahead,
     line: &mut LineText,
+    ended: &mut bool,
     source: &mut S,
 ) -> Result<LineTaken, SourceFailed>
     requires line { IsLine line.old }
     requires bound { length ahead.old ≤ ahead_limit }
-    ensures next { NextLine (line.old ++ ahead.old) (S.left source.old)
-        (reader_state (progress_after result) line.new ahead.new) (S.left source.new) result }
-    ensures told { TellsOutcome (line.old ++ ahead.old) (S.left source.old)
-        (reader_state (progress_after result) line.new ahead.new) (S.left source.new) result }
+    requires unended { ended.old ≡ false }
+    ensures next { NextLine (line.old ++ ahead.old) false (S.left source.old)
+        (reader_state (progress_after result) line.new ahead.new ended.new) (S.left source.new) result }
+    ensures told { TellsOutcome (line.old ++ ahead.old) false (S.left source.old)
+        (reader_state (progress_after result) line.new ahead.new ended.new) (S.left source.new) result }
     ensures line { IsLine line.new }
     ensures bound { length ahead.new ≤ ahead_limit }
 
@@ -85,6 +87,7 @@ pub(crate) fn take_line<S: Source>(
     'reads: loop {
         ahead.fill(source)?;
         if ahead.is_empty() {
+            *ended = true;
             return Ok(at_end(line));
         }
         match advance(ahead, line) {

@@ -1,4 +1,4 @@
-use Rattle.std.proofs.Common.{◌≡◌, ◌≤◌, ◌-◌, ◌++◌, length}
+use Rattle.std.proofs.Common.{◌≡◌, ◌≤◌, ◌-◌, ◌++◌, false, length}
 use Rattle.tte_io.specs.Line.{line_limit, ahead_limit}
 use Rattle.tte_io.proofs.Making.{Making}
 use Rattle.tte_io.proofs.taking.take_line.Given as goal
@@ -7,6 +7,7 @@ abbrev pub invariant-reads : goal.invariant-reads
 invariant-reads g l = record {
   making : Making (l.fn.line ++ l.fn.ahead) (g.S.Source.left l.fn.source) l.line l.ahead (g.S.Source.left l.source);
   bound : length l.ahead ≤ ahead_limit;
+  unended : l.ended ≡ false;
   unchanged : g.S.Source.faults l.source ≡ g.S.Source.faults l.fn.source;
 }
 

@@ -3,22 +3,42 @@ use Rattle.tte_io.specs.declared.lines.LineTaken.TheVariants.{Long}
 use Rattle.tte_io.specs.declared.lines.Progress.{Progress}
 use Rattle.tte_io.specs.declared.lines.Progress.TheVariants.{TooLong}
 use Rattle.tte_io.specs.declared.ends.SourceFailed.{SourceFailed}
-use Rattle.tte_io.specs.ReaderState.{LineReaderState, KeepsLongLine, pending}
+use Rattle.tte_io.specs.ReaderState.{LineReaderState, KeepsEnd, KeepsLongLine, pending}
 use Rattle.tte_io.specs.NextLine.{NextLine}
 use Rattle.tte_io.specs.Progress.{reader_state}
-use Rattle.tte_io.proofs.Making.{still_too_long}
+use Rattle.tte_io.proofs.Making.{MadeOf, found_ended, long_unended, made_next, made_on, still_too_long}
 use Rattle.tte_io.proofs.Coming.{outcome_told}
 use Rattle.tte_io.proofs.lines.LineReader.next_line.Goals as goal
+use Rattle.tte_io.proofs.lines.LineReader.next_line.Goals.{in-Taken, in-Unfinished}
 
 pub returns-in-TooLong-clause-next : goal.returns-in-TooLong-clause-next
 returns-in-TooLong-clause-next g c =
     let r = c.self.inside in
     let left = g.S.Source.left c.args.source.now in
-    let is : reader_state TooLong r.line r.ahead ≡ c.args.self.now =
-    ap (λ (p : Progress). reader_state p r.line r.ahead) (sym c.in-TooLong.is) ∙ c.self.view_is in
-    let long : KeepsLongLine (reader_state TooLong r.line r.ahead) =
-    subst (λ (p : Progress). KeepsLongLine (reader_state p r.line r.ahead)) c.in-TooLong.is c.self.invariant.2 in
-    subst (λ (s : LineReaderState). NextLine {E = SourceFailed} (pending s) left s left (Ok Long)) is (still_too_long r.line r.ahead left (long refl))
+    let is : reader_state TooLong r.line r.ahead r.ended ≡ c.args.self.now =
+    ap (λ (p : Progress). reader_state p r.line r.ahead r.ended) (sym c.in-TooLong.is) ∙ c.self.view_is in
+    let long : KeepsLongLine (reader_state TooLong r.line r.ahead r.ended) =
+    subst (λ (p : Progress). KeepsLongLine (reader_state p r.line r.ahead r.ended)) c.in-TooLong.is c.self.invariant.2 in
+    let end : KeepsEnd (reader_state TooLong r.line r.ahead r.ended) =
+    subst (λ (p : Progress). KeepsEnd (reader_state p r.line r.ahead r.ended)) c.in-TooLong.is c.self.invariant.3 in
+    subst (λ (s : LineReaderState). NextLine {E = SourceFailed} (pending s) s.ended left s left (Ok Long)) is
+    (still_too_long r.line r.ahead r.ended left (long_unended r.line r.ahead r.ended (long refl) end) (long refl))
 
 pub returns-in-TooLong-clause-told : goal.returns-in-TooLong-clause-told
-returns-in-TooLong-clause-told g c = outcome_told _ _ _ _ _ (returns-in-TooLong-clause-next g c)
+returns-in-TooLong-clause-told g c = outcome_told _ _ _ _ _ _ (returns-in-TooLong-clause-next g c)
+
+pub returns-then-self-clause-next : goal.returns-then-self-clause-next
+returns-then-self-clause-next g c =
+    let r = c.self.inside in
+    let at = c.match-self.self-inside in
+    let made : MadeOf c.args.self.now at.line at.ahead at.ended =
+    elim c.match-self.branch [
+      | in-Taken w ↦
+          rw w.self-inside-is (made_next r.progress r.line r.ahead r.ended w.clear.new.self c.args.self.now c.self.view_is w.in-Taken.is w.clear.ensures
+          c.self.invariant.3)
+      | in-Unfinished w ↦ rw w.self-inside-is (made_on r.progress r.line r.ahead r.ended c.args.self.now c.self.view_is w.in-Unfinished.is c.self.invariant.3)
+    ] in
+    found_ended c.args.self.now at.line at.ahead at.ended (g.S.Source.left c.args.source.now) made c.if-self.true
+
+pub returns-then-self-clause-told : goal.returns-then-self-clause-told
+returns-then-self-clause-told g c = outcome_told _ _ _ _ _ _ (returns-then-self-clause-next g c)
