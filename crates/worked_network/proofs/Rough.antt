@@ -1,5 +1,9 @@
 -- The rough day of the worked network is one of which the laws on runs speak.
 use Rattle.std.proofs.Common.{◌≡◌, ℕ, ◌+◌, ◌*◌, ◌-◌, ◌^◌, pos, ◌≤◌, ◌<◌, true, refl, sym, ap, subst, ◌∙◌, inl, inr, arith, List, [], ◌∷◌, ◌++◌}
+use Rattle.drift_clock.proofs.Readings.{IsLawful as KeepsCounts, begins_at_zero, keeps_clock_laws}
+use Rattle.drift_clock.specs.Segment.{fresh_segment, segment_count, segment_reading, stepped_segment}
+use Rattle.drift_clock.specs.SegmentLaws.{advances, counts_time, keeps_count}
+use Rattle.net_plan.specs.Belonging.{IsOfNetwork}
 use Rattle.net_plan.specs.declared.event.Event.{Event}
 use Rattle.net_plan.specs.Places.{device_at, is_master}
 use Rattle.net_plan.specs.declared.event.What.TheVariants as events
@@ -12,14 +16,14 @@ use Rattle.tte_units.specs.Amount.{units_of}
 use Rattle.tte_units.specs.declared.units.Units.{Units}
 use Rattle.pcf_values.specs.declared.channel.Channel.{Channel}
 use Rattle.run_law.specs.law.FirstLaws.{IsEventInRange, IsLawful}
-use Rattle.run_law.specs.records.Order.{IsIn}
-use Rattle.run_law.specs.scenario.Faults.{Cuts, IsBroken, IsFaulty}
+use Rattle.run_law.specs.scenario.Faults.{IsBroken, IsFaulty}
 use Rattle.run_law.specs.scenario.Hypothesis.{AreWithinHypothesis, IsWithinHypothesis}
 use Rattle.run_law.specs.declared.outside.Outside.TheVariants.{Order, Late, Rate, Wire, Hold, Channel as OtherChannel, NotMaster, SecondBreak, TooFewMasters, NotBroken, NotOff}
 use Rattle.std.specs.Prelude.{◌<ℤ◌, IsSomeAnd}
-use Rattle.std.specs.Int.{abs_diff}
-use Rattle.std.proofs.Math.Nat.{sub_self}
+use Rattle.std.specs.List.{All}
 use Rattle.std.proofs.lemmas.Int.{ints}
+use Rattle.safe_runs.proofs.Lawful.{lawful}
+use Rattle.safe_runs.specs.Under.{IsUnder}
 use Rattle.worked_network.proofs.Accepted.{worked_keeps_rules}
 use Rattle.worked_network.proofs.InRange.{worked_in_range}
 use Rattle.worked_network.proofs.Lists.{all_each, le_by}
@@ -146,33 +150,35 @@ in_range : (t : ℕ) (what : What) → ((link : LinkId) (way : Way) (delay : Uni
     → IsEventInRange (record { time = units_of t; what = what })
 in_range t what no_hold = record { time = omega (arith, ints); hold = λ link way delay is. absurd (no_hold link way delay is) }
 
-cuts_one : (e : Event) (link : LinkId) → IsIn e rough_events → Cuts link e → link.0 < 12
-cuts_one e link (inl same) cuts =
-    let bad : events.Break (record { 0 = 3 }) ≡ events.Cut link cuts.0 = sym (ap (λ (x : Event). x.what) same) ∙ cuts.1 in
-    absurd cc
-cuts_one e link (inr (inl same)) cuts =
-    let is : events.Cut (record { 0 = 11 }) Up ≡ events.Cut link cuts.0 = sym (ap (λ (x : Event). x.what) same) ∙ cuts.1 in
-    let one : record { 0 = 11 } ≡ link = cc in
-    subst (λ (l : LinkId). l.0 < 12) one (le_by 12 12 refl)
-cuts_one e link (inr (inr (inl same))) cuts =
-    let bad : events.End ≡ events.Cut link cuts.0 = sym (ap (λ (x : Event). x.what) same) ∙ cuts.1 in
-    absurd cc
-cuts_one e link (inr (inr (inr none))) cuts = absurd none
+-- the events are of the network's devices and links
+of_network : All (λ e. IsOfNetwork worked e.what) rough_events
+of_network = all_each (λ e. IsOfNetwork worked e.what) rough_events (le_by 4 9 refl, (le_by 12 12 refl, (tt, tt)))
 
-no_difference : (x : ℕ) → abs_diff x x ≡ 0
-no_difference x = ap (λ (n : ℕ). n + n) (sub_self x)
-
-measures : (x : ℕ) → 10 ^ 9 * abs_diff x x ≤ 50000 * x + 2 * 1 * 10 ^ 9
-measures x = subst (λ (d : ℕ). 10 ^ 9 * d ≤ 50000 * x + 2 * 1 * 10 ^ 9) (sym (no_difference x)) (omega arith)
-
-pub rough_day_lawful : IsLawful rough_day
-rough_day_lawful = record {
+pub rough_day_under : IsUnder worked rough_events
+rough_day_under = record {
   range = worked_in_range;
   rules = worked_keeps_rules;
-  events = all_each IsEventInRange rough_events
+  of_network = of_network;
+  times = all_each IsEventInRange rough_events
       (in_range 131072000000 _ (λ link way delay is. cc), (in_range 200000000000 _ (λ link way delay is. cc), (in_range _ _ (λ link way delay is. cc), tt)));
-  named = cuts_one;
   within = all_within;
-  clocks = λ device. record { never_falls = λ s t le. le; drifts = λ s t le. measures (t - s) };
-  begins = λ device. refl;
 }
+
+-- ---- its clocks
+
+-- the program's clocks count exactly
+exact_steps : KeepsCounts fresh_segment stepped_segment segment_reading (λ c. c.grain) segment_count
+exact_steps = record {
+  has_grain = λ g. refl;
+  keeps_grain = λ c t r. refl;
+  reads_count = λ c t. refl;
+  counts_time = counts_time;
+  keeps_count = keeps_count;
+  drifts = advances;
+}
+
+pub rough_day_lawful : IsLawful rough_day
+rough_day_lawful =
+    lawful fresh_segment stepped_segment segment_reading
+    (keeps_clock_laws fresh_segment stepped_segment segment_reading (λ c. c.grain) segment_count exact_steps)
+    (begins_at_zero fresh_segment stepped_segment segment_reading (λ c. c.grain) segment_count exact_steps) worked rough_events rough_day_under

@@ -1,5 +1,6 @@
 -- A network with events that the laws on runs speak of.
 use Rattle.std.specs.Prelude.{ℕ, ◌-◌, ◌*◌, List, [], ◌∷◌, Option, Some, None, codes}
+use Rattle.drift_clock.specs.Segment.{fresh_segment, stepped_segment, segment_reading}
 use Rattle.net_plan.specs.declared.event.Event.{Event}
 use Rattle.net_plan.specs.declared.event.What.TheVariants.{Break, Cut, End}
 use Rattle.net_plan.specs.declared.network.Network.{Network}
@@ -13,6 +14,7 @@ use Rattle.net_plan.specs.declared.tables.Way.{Way}
 use Rattle.pcf_values.specs.declared.channel.Channel.TheVariants.{A, B}
 use Rattle.pcf_values.specs.declared.channel.Channel.{Channel}
 use Rattle.run_law.specs.scenario.Scenarios.{Scenario}
+use Rattle.safe_runs.specs.Under.{scenario_of}
 use Rattle.tte_units.specs.Amount.{units_of}
 use Rattle.tte_units.specs.declared.speed.Speed.TheVariants.{Mbit100}
 
@@ -118,6 +120,6 @@ rough_events =
     ∷ record { time = units_of (20 * 131072000000 - 1); what = End }
     ∷ []
 
--- the worked network under these events, with clocks that are exact
+-- the worked network under these events, with the clocks that the program gives its devices
 abbrev pub rough_day : Scenario
-rough_day = record { network = worked; reading = λ device t. t; events = rough_events }
+rough_day = scenario_of fresh_segment stepped_segment segment_reading worked rough_events

@@ -3,8 +3,9 @@
 
 ghost use Rattle.net_plan.specs.Ranges.{IsInRange};
 ghost use Rattle.run_law.specs.law.FirstLaws.{IsLawful};
+ghost use Rattle.safe_runs.specs.Under.{IsUnder};
 ghost use Rattle.schedule_tables.specs.Rules.{KeepsRules};
-ghost use Rattle.worked_network.specs.Worked.{rough_day, worked};
+ghost use Rattle.worked_network.specs.Worked.{rough_day, rough_events, worked};
 
 /// The worked network is in range, and keeps all rules.
 pub fn worked_is_accepted()
@@ -12,8 +13,10 @@ pub fn worked_is_accepted()
     ensures rules { KeepsRules worked }
 {}
 
-/// A day on which a master breaks and a link of a channel is cut meets what the laws on runs ask of a network, its
-/// events and its clocks.
+/// The events of a day on which a master breaks and a link of a channel is cut meet what the laws on the runs of the
+/// program ask of a network and its events; and the day, with the clocks of the program, meets what the laws on all runs
+/// ask of a network, its events and its clocks.
 pub fn rough_day_is_lawful()
-    ensures { IsLawful rough_day }
+    ensures under { IsUnder worked rough_events }
+    ensures lawful { IsLawful rough_day }
 {}
