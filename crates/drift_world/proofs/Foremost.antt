@@ -20,7 +20,6 @@ use Rattle.drift_world.specs.Sound.{IsSized}
 use Rattle.world_state.specs.Sound.{AreUnderWay, rank_of}
 use Rattle.drift_world.specs.Sourcing.{AreFirsts, AreNotBefore, AreTimed, HasNothingBefore, IsRipePlace, due_place}
 use Rattle.drift_world.specs.Stepping.{IsRunning}
-use Rattle.drift_world.specs.Views.{world_of}
 use Rattle.world_state.specs.Views.{at_port, on_wire, port_at, waiting_as, wire_at}
 use Rattle.world_state.specs.declared.contents.Content.TheVariants.{Wire, Port}
 use Rattle.world_state.specs.declared.contents.Content.{Content}

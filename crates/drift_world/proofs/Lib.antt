@@ -21,13 +21,17 @@ pub mod Givings
 pub mod Hears
 pub mod HiddenCauses
 pub mod Admitted
+pub mod Laters
 pub mod Launches
+pub mod LocalValues
 pub mod Locals
+pub mod LocalsBefore
 pub mod MayGive
 pub mod Nearings
 pub mod Offs
 pub mod Onwards
 pub mod Puts
+pub mod Retries
 pub mod Ripenings
 pub mod Ripes
 pub mod Sendings
@@ -43,3 +47,4 @@ pub mod Timings
 pub mod TurnedOn
 pub mod Turning
 pub mod Wells
+pub mod JustPut

@@ -64,7 +64,7 @@ no_later s t notes run h i = elim (run.within h i) [ inl lt ↦ omega (arith, lt
 
 -- ---- nothing is to come
 
-no_first : {M : Type 0} (coming : List M) → ((z : M) (rest : List M) → coming ≡ z ∷ rest → ⊥) → coming ≡ []
+pub no_first : {M : Type 0} (coming : List M) → ((z : M) (rest : List M) → coming ≡ z ∷ rest → ⊥) → coming ≡ []
 no_first [] none = refl
 no_first (z ∷ rest) none = absurd (none z rest refl)
 

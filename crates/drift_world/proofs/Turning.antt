@@ -353,6 +353,12 @@ says_then E old mid new until (Ok GoesOn) given ended says = (says.0, says.1 ∙
 says_then E old mid new until (Ok Ends) given ended says = λ is limit. says (ended ∙ is) limit
 says_then E old mid new until (Err e) given ended says = tt
 
+-- where it fails, the present time is that of the state before it
+pub err_then : {C M : Type 0} {T : Type 0} (E : Type 0) (old mid new : State C M) (result : Result T E) → mid.time ≡ old.time
+    → OnErr result (new.time ≡ mid.time) → OnErr result (new.time ≡ old.time)
+err_then E old mid new (Ok x) same err = tt
+err_then E old mid new (Err e) same err = err ∙ same
+
 -- some turns on from where the state was: nothing is given, and it is not yet the time
 pub record IsOnward {C M : Type 0} (last_step : C → ℕ) (reading : C → ℕ → ℕ) (stands : M → Network → DeviceId → Node → Type 0) (network : Network)
     (old new : State C M) (until : ℕ) : Type 0 where

@@ -2,6 +2,7 @@ pub mod Acting
 pub mod Beginning
 pub mod Following
 pub mod Giving
+pub mod Later
 pub mod Locals
 pub mod Nearing
 pub mod Ripening
@@ -13,3 +14,4 @@ pub mod Stepping
 pub mod Turns
 pub mod Views
 pub mod Wells
+pub mod Wires

@@ -1,11 +1,12 @@
 -- The local clock of a device, as a world shows it.
-use Rattle.std.specs.Prelude.{◌≡◌, ◌⊎◌, ℕ, ◌+◌, ◌^◌, ◌≤◌, ◌<◌, ℤ, pos, neg_ℤ, ◌+ℤ◌, ◌≤ℤ◌, Bool, true, false, List, [], ◌∷◌, slice_get, Option, Some, None, MatchOption}
+use Rattle.std.specs.Prelude.{◌≡◌, ◌⊎◌, ℕ, ◌+◌, ◌^◌, ◌≤◌, ◌<◌, ℤ, pos, neg_ℤ, ◌+ℤ◌, ◌≤ℤ◌, ◌<ℤ◌, Bool, true, false, List, [], ◌∷◌, slice_get, Option, Some, None, MatchOption}
+use Rattle.clock_correction.specs.Deviation.{IsSmall}
 use Rattle.net_plan.specs.declared.event.Event.{Event}
 use Rattle.net_plan.specs.declared.ids.DeviceId.{DeviceId}
 use Rattle.net_plan.specs.declared.network.Network.{Network}
 use Rattle.run_law.specs.declared.note.Note.{Note}
-use Rattle.run_law.specs.device.LocalClocks.{local}
-use Rattle.run_law.specs.law.Safety.{IsInStep}
+use Rattle.run_law.specs.device.LocalClocks.{local, local_before}
+use Rattle.run_law.specs.law.Safety.{IsInStep, IsInStepBefore}
 use Rattle.run_law.specs.machines.Nodes.{Node}
 use Rattle.run_law.specs.records.Happenings.{Happening, happenings}
 use Rattle.run_law.specs.records.Order.{IsBefore, IsIn}
@@ -67,6 +68,37 @@ pub record MayShow {C M : Type 0} (fresh : ℕ → C) (after_step : C → ℕ �
 abbrev pub IsLocalClock : Scenario → List Happening → DeviceId → ℕ → Option ℤ → Type 0
 IsLocalClock s hs device t shown =
     MatchOption shown (IsInStep s hs device t → ⊥) (λ l. IsInStep s hs device t × (l ≡ local s hs device t))
+
+-- some events and records leave the world where it stands, and nothing of the present instant but events is worked off
+pub record MayShowBefore {C M : Type 0} (fresh : ℕ → C) (after_step : C → ℕ → ℤ → C) (reading : C → ℕ → ℕ)
+    (stands : M → Network → DeviceId → Node → Type 0) (world : World C (Kept M)) : Type 0 where
+  pub events : List Event
+  pub notes : List Note
+  pub is : StandsUnder fresh after_step reading stands world.network world events notes
+  pub early : world.early ≡ true
+
+-- it is the device's local clock when something comes at the time, after the events of this time and before its other
+-- records, or None where the device is not correct and synchronised then
+abbrev pub IsLocalClockBefore : Scenario → List Happening → DeviceId → ℕ → Option ℤ → Type 0
+IsLocalClockBefore s hs device t shown =
+    MatchOption shown (IsInStepBefore s hs device t → ⊥) (λ l. IsInStepBefore s hs device t × (l ≡ local_before s hs device t))
+
+-- some events and records leave the world where it stands, and they are all of the run up to the time; or this is the
+-- present time, and nothing of it but events is worked off
+pub record MayShowAt {C M : Type 0} (fresh : ℕ → C) (after_step : C → ℕ → ℤ → C) (reading : C → ℕ → ℕ)
+    (stands : M → Network → DeviceId → Node → Type 0) (world : World C (Kept M)) (t : ℕ) : Type 0 where
+  pub may : MayShow fresh after_step reading stands world t
+      ⊎ ((t ≡ world.now) × MayShowBefore fresh after_step reading stands world)
+
+-- the adjustments of such machines lie strictly between -2^61 and 2^61
+abbrev pub AreSmall : {M : Type 0} → (M → Network → DeviceId → Node → Type 0) → Type 0
+AreSmall {M} stands = (machine : M) (network : Network) (device : DeviceId) (node : Node) → stands machine network device node
+    → IsSmall node.standing.adjustment.0
+
+-- a local value that a clock shows in a run: it has fewer than 64 bits
+pub record IsLocalValue (l : ℤ) : Type 0 where
+  pub low : neg_ℤ (pos (2 ^ 62)) <ℤ l
+  pub high : l <ℤ pos (2 ^ 62)
 
 -- a sum of two numbers of 64 bits
 pub record IsWide (l : ℤ) : Type 0 where

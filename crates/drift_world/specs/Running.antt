@@ -1,5 +1,5 @@
 -- The run that a world gives: where the events applied to it, and the records that it gave, leave it.
-use Rattle.std.specs.Prelude.{◌≡◌, ◌⊎◌, ℕ, ◌-◌, ◌^◌, ◌<◌, ℤ, pos, ◌≤ℤ◌, ◌<ℤ◌, true, false, List, [], ◌∷◌, length, slice_get, Option, Some, option_to_list, Result, Ok, Err, All}
+use Rattle.std.specs.Prelude.{◌≡◌, ◌⊎◌, ℕ, ◌-◌, ◌^◌, ◌≤◌, ◌<◌, ℤ, pos, ◌≤ℤ◌, ◌<ℤ◌, true, false, List, [], ◌∷◌, length, slice_get, Option, Some, option_to_list, Result, Ok, Err, MatchResult, IfNone, All}
 use Rattle.net_plan.specs.Belonging.{IsOfNetwork}
 use Rattle.net_plan.specs.declared.event.Event.{Event}
 use Rattle.net_plan.specs.declared.event.What.TheVariants.{Hold}
@@ -71,6 +71,21 @@ pub record HasReached {C M : Type 0} (old new : World C (Kept M)) (until : Units
 -- unless the end has come, or the time is past, it has
 abbrev pub Reaches : {C M : Type 0} → World C (Kept M) → World C (Kept M) → Units → Type 0
 Reaches old new until = old.ended ≡ false → pos old.now ≤ℤ until.0 → until.0 ≤ℤ pos (2 ^ 60) → HasReached old new until
+
+-- memory ran out on the way to the time. The world may have worked ahead, but is before the time still: it may be asked
+-- again for what comes before it. No event, no record and no end is lost
+pub record MayTryAgain {C M : Type 0} (old new : World C (Kept M)) (until : Units) : Type 0 where
+  pub same : new.network ≡ old.network
+  pub lines : new.lines ≡ old.lines
+  pub given : new.given ≡ old.given
+  pub ended : new.ended ≡ old.ended
+  pub later : old.now ≤ new.now
+  pub before : pos new.now <ℤ until.0
+
+-- how far a world came that was asked for the next record before the time: to the time, where none is due before it;
+-- and where memory ran out, not yet to it
+abbrev pub ComesUpTo : {C M E : Type 0} → World C (Kept M) → World C (Kept M) → Units → Result (Option Note) E → Type 0
+ComesUpTo old new until result = MatchResult result (λ next. IfNone next (Reaches old new until)) (λ _. MayTryAgain old new until)
 
 -- how many numbers are left for records
 abbrev pub left_of : {C M : Type 0} → World C (Kept M) → ℕ

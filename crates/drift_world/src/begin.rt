@@ -6,12 +6,12 @@ use crate::state::State;
 use drift_clock::Clock;
 use due_queue::UnderWay;
 use due_timers::Timers;
+use made_frames::MadeFrame;
 use net_plan::Network;
 use run_law::Machine;
 use std::alloc::Global;
 use std::collections::VecDeque;
 use world_state::OutOfMemory;
-use world_state::frames::MadeFrame;
 use world_state::fresh::{first_ways, fresh_clocks, none_broken};
 use world_state::kept::all_kept;
 

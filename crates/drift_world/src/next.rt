@@ -1,4 +1,4 @@
-ghost use Rattle.std.specs.Prelude.{◌≡◌, ◌+◌, ◌*◌, ◌≤◌, ◌<◌, ◌^◌, ◌∷◌, ◌++◌, [], List, IsTrue, length, Some, IfOk, IfSome, IfNone, OnOk, pos, ◌<ℤ◌, true, false};
+ghost use Rattle.std.specs.Prelude.{◌≡◌, ◌+◌, ◌*◌, ◌≤◌, ◌<◌, ◌^◌, ◌∷◌, ◌++◌, [], List, IsTrue, length, Some, IfOk, IfSome, IfNone, OnOk, OnErr, pos, ◌<ℤ◌, true, false};
 ghost use Rattle.net_plan.specs.Ranges.{IsInRange};
 ghost use Rattle.run_law.specs.declared.note.Note.{Note as NoteOf};
 ghost use Rattle.run_law.specs.runs.DueRecords.{IsScenarioRun};
@@ -48,6 +48,7 @@ impl<C: Clock, M: Machine + Drop> State<C, M> {
     /// The next record before a time, if one is due before it.
     ///
     /// Each turn that goes on comes nearer to the time: time passes, or there is less to work off at the instant.
+    /// On an error it is not the time yet.
     pub fn next(&mut self, network: &Network, until: u64) -> Result<Option<Given>, OutOfMemory>
         requires range { IsInRange network.now }
         requires well { IsWell C.last_step C.reading M.stands network.now self.old }
@@ -63,6 +64,7 @@ impl<C: Clock, M: Machine + Drop> State<C, M> {
         ensures reached { IfOk result (λ next. IfNone next (self.old.ended ≡ false → until ≤ 2 ^ 60 → HasCome self.new until)) }
         ensures before { IfOk result (λ next. IfSome next (λ note. (note.time ≡ units_of self.new.time) × (note.time.0 <ℤ pos until))) }
         ensures given { IfOk result (λ next. IfSome next (λ _. self.new.given ≡ self.old.given + 1)) }
+        ensures err { OnErr result (self.new.time < until) }
     {
         'turns: loop {
             match self.turn(network, until) {
@@ -89,6 +91,7 @@ impl<C: Clock, M: Machine + Drop> State<C, M> {
             → IfOk result (λ turn. IsWhole s notes until turn) }
         ensures says { IfOk result (λ turn. TurnSays self.old self.new until turn) }
         ensures nears { IfOk result (λ turn. Nears network.now until self.old self.new turn) }
+        ensures err { OnErr result (self.new.time ≡ self.old.time) }
     {
         if let Err(error) = self.make_places() {
             return Err(error);
@@ -112,6 +115,7 @@ impl<C: Clock, M: Machine + Drop> State<C, M> {
             → IfOk result (λ turn. IsWhole s notes until turn) }
         ensures says { IfOk result (λ turn. TurnSays self.old self.new until turn) }
         ensures nears { IfOk result (λ turn. Nears network.now until self.old self.new turn) }
+        ensures err { OnErr result (self.new.time ≡ self.old.time) }
     {
         let source = self.first_source(network, until);
         if self.has_first(&source) {
@@ -165,6 +169,7 @@ impl<C: Clock, M: Machine + Drop> State<C, M> {
         ensures stands { (s : Scenario) (notes : List NoteOf) → Stands C.reading (keeps M.stands) s (world_of network.now self.old) notes
             → Stands C.reading (keeps M.stands) s (world_of network.now self.new) (notes ++ given_in result) }
         ensures says { IfOk result (λ turn. GivesAt self.old self.new turn) }
+        ensures err { OnErr result (self.new.time ≡ self.old.time) }
     {
         match self.give(network) {
             Ok(note) => {

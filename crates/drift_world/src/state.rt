@@ -10,6 +10,7 @@ ghost use Rattle.run_law.specs.scenario.Scenarios.{Scenario};
 use drift_clock::Clock;
 use due_queue::{Place, UnderWay};
 use due_timers::Timers;
+use made_frames::MadeFrame;
 use net_plan::{DeviceId, Event, LinkId, Network, Way, What};
 use pcf_values::Pcf;
 use run_law::{Machine, NoteBody};
@@ -23,7 +24,6 @@ use world_state::applying::{
 use world_state::bodies::{Body, Kind};
 use world_state::contents::{Befallen, Content, Holding, Settled, Waits, WayState};
 use world_state::event_notes::EventNote;
-use world_state::frames::MadeFrame;
 use world_state::kept::Kept;
 use world_state::leaving::{departed, is_parent, take_port};
 use world_state::settled::{put_in, put_some};

@@ -1,4 +1,4 @@
-ghost use Rattle.std.specs.Prelude.{true, ◌≡◌, ◌+◌, ◌<◌, ◌^◌, pos, ◌≤ℤ◌, ◌<ℤ◌, List, [], ◌∷◌, ◌++◌, IfOk, IfSome, IfNone, OnErr, length};
+ghost use Rattle.std.specs.Prelude.{true, ◌≡◌, ◌+◌, ◌<◌, ◌^◌, pos, ◌≤ℤ◌, ◌<ℤ◌, List, [], ◌∷◌, ◌++◌, IfOk, IfSome, IfNone, MatchResult, OnErr, length};
 ghost use Rattle.net_plan.specs.declared.event.Event.{Event as EventValue};
 ghost use Rattle.net_plan.specs.declared.network.Network.{Network};
 ghost use Rattle.run_law.specs.declared.note.Note.{Note as NoteValue};
@@ -7,6 +7,8 @@ ghost use Rattle.run_law.specs.runs.DueRecords.{IsRunOf};
 ghost use Rattle.run_law.specs.scenario.Hypothesis.{IsWithinHypothesis};
 ghost use Rattle.tte_units.specs.Amount.{amount, units_of};
 ghost use Rattle.world_law.specs.source.Agreeing.{scenario};
+
+mod on_wire;
 
 use crate::begin::fresh_state;
 use crate::local::local_of;
@@ -57,8 +59,9 @@ impl<'a, C: Clock, M: Machine + Drop> Model for World<'a, C, M> {
 impl<'a, C: Clock, M: Machine + Drop> World<'a, C, M> {
     ghost use Rattle.safe_runs.specs.Headline.{IsSafeFront};
     ghost use Rattle.drift_world.specs.Beginning.{AreFresh};
-    ghost use Rattle.drift_world.specs.Locals.{IsComplete, IsLocalClock, IsWide, MayShow};
-    ghost use Rattle.drift_world.specs.Running.{HoldsATime, IsOpenTo, MayBefall, Reaches, StandsUnder, behind_events, event_note, given_by, left_of, reading_of};
+    ghost use Rattle.drift_world.specs.Locals.{AreSmall, IsComplete, IsLocalClock, IsLocalClockBefore, IsLocalValue, IsWide, MayShow, MayShowAt, MayShowBefore};
+    ghost use Rattle.drift_world.specs.Later.{ComesBehind, IsAtTime, IsOpenFrom, MayApply, MayApplyAgain, bounded};
+    ghost use Rattle.drift_world.specs.Running.{ComesUpTo, HoldsATime, IsOpenTo, MayBefall, StandsUnder, behind_events, event_note, given_by, left_of, reading_of};
 
     /// The world of a network at time 0: nothing has befallen it, and its machines have just begun.
     pub fn begin(
@@ -112,29 +115,34 @@ impl<'a, C: Clock, M: Machine + Drop> World<'a, C, M> {
         Ok(note)
     }
 
-    /// The event of this line befalls the network, at the present time. Its record is answered.
+    /// The event of this line befalls the network, at its time, before which no record is left. Its record is answered.
     ///
-    /// The lines count the events from 1. The event is within the fault hypothesis after those applied, and comes before
-    /// the end. A hold that it sets is a time from 0 on. On an error nothing has changed.
+    /// The lines count the events from 1. The event is within the fault hypothesis after those applied, comes before the
+    /// end, and is not past. A hold that it sets is a time from 0 on. On an error it has not befallen the network, and
+    /// may be applied again.
     pub fn apply(&mut self, line: u64, event: &Event) -> Result<Note, OutOfMemory>
         requires line { line ≡ self.old.lines + 1 }
-        requires now { IsOpenTo self.old event.now }
-        requires within { MayBefall C.fresh C.after_step C.reading M.stands self.old event.now }
+        requires open { IsOpenFrom self.old event.now }
+        requires may { MayApply C.fresh C.after_step C.reading M.stands self.old event.now }
         requires hold { HoldsATime event.now.what }
         ensures stands { (network : Network) (events : List EventValue) (notes : List NoteValue)
-            → StandsUnder C.fresh C.after_step C.reading M.stands network self.old events notes
-            → IsWithinHypothesis network events event.now
-            → IfOk result (λ note. StandsUnder C.fresh C.after_step C.reading M.stands network self.new (events ++ event.now ∷ [])
-            (notes ++ note ∷ [])) }
+            → ComesBehind C.fresh C.after_step C.reading M.stands network self.old events notes event.now
+            → MatchResult result (λ note. StandsUnder C.fresh C.after_step C.reading M.stands network self.new
+            (events ++ event.now ∷ []) (notes ++ note ∷ []))
+            (λ _. StandsUnder C.fresh C.after_step C.reading M.stands network self.new events notes) }
         ensures run { (network : Network) (events : List EventValue) (notes : List NoteValue)
-            → StandsUnder C.fresh C.after_step C.reading M.stands network self.old events notes
-            → IsWithinHypothesis network events event.now
-            → IfOk result (λ note. IsRunOf network (reading_of C.fresh C.after_step C.reading network (events ++ event.now ∷ []))
-            (events ++ event.now ∷ []) (behind_events self.old.now) (notes ++ note ∷ [])) }
+            → ComesBehind C.fresh C.after_step C.reading M.stands network self.old events notes event.now
+            → IfOk result (λ note. IsRunOf network
+            (reading_of C.fresh C.after_step C.reading network (events ++ event.now ∷ [])) (events ++ event.now ∷ [])
+            (behind_events (amount event.now.time)) (notes ++ note ∷ [])) }
         ensures note { IfOk result (λ note. note ≡ event_note (self.old.given + 1) line event.now) }
-        ensures still { (self.new.now ≡ self.old.now) × (self.new.early ≡ self.old.early) }
-        ensures err { OnErr result (self.new ≡ self.old) }
+        ensures at { IfOk result (λ _. IsAtTime self.new event.now.time) }
+        ensures err { OnErr result (MayApplyAgain self.old self.new event.now.time) }
     {
+        match self.next_given(event.time) {
+            Ok(_) => {}
+            Err(error) => return Err(error),
+        }
         match self.befall(line, event) {
             Ok(given) => Ok(given.note()),
             Err(error) => Err(error),
@@ -145,7 +153,8 @@ impl<'a, C: Clock, M: Machine + Drop> World<'a, C, M> {
     /// the records given are the run up to the time, and in the first 2^20 cycles this run is safe.
     ///
     /// Where it is None, and the end has not come, the world comes to this time. After the end the time is at most the
-    /// one behind it. On an error no record is lost: those to come are the same.
+    /// one behind it. On an error no record is lost: those to come are the same. The world may have worked ahead, but is
+    /// before the time still, and may be asked again.
     ///
     /// The answer is small, and seen as the record that it stands for.
     pub fn next_given(&mut self, until: Units) -> Result<Option<Given>, OutOfMemory>
@@ -159,7 +168,7 @@ impl<'a, C: Clock, M: Machine + Drop> World<'a, C, M> {
             → pos self.old.now <ℤ until.0
             → IfOk result (λ next. IfNone next
             (IsSafeFront C.fresh C.after_step C.reading network events (amount until) notes)) }
-        ensures reached { IfOk result (λ next. IfNone next (Reaches self.old self.new until)) }
+        ensures reached { ComesUpTo self.old self.new until result }
         ensures before { IfOk result (λ next. IfSome next (λ note. (note.time ≡ units_of self.new.now) × (note.time.0 <ℤ until.0))) }
         ensures fewer { IfOk result (λ next. IfSome next (λ _. left_of self.new < left_of self.old)) }
     {
@@ -169,14 +178,29 @@ impl<'a, C: Clock, M: Machine + Drop> World<'a, C, M> {
         self.state.next(self.accepted.network(), until.amount())
     }
 
+    /// The time up to which records are asked for: after the end it is at most the one behind it.
+    fn bounded(&self, until: Units) -> Units
+        ensures is { result ≡ bounded self.now until }
+        ensures most { result.0 ≤ℤ until.0 }
+        ensures ended { self.now.ended ≡ true → result.0 ≤ℤ pos (self.now.now + 1) }
+        ensures later { pos self.now.now <ℤ until.0 → pos self.now.now <ℤ result.0 }
+    {
+        let behind = Units::from_amount(self.state.time + 1);
+        if self.state.ended && behind.0 < until.0 {
+            behind
+        } else {
+            until
+        }
+    }
+
     /// The next record before a time, which is at most 2^60 + 1. It is None exactly where none is due before it: then
-    /// the records given are the run up to the time, and in the first 2^20 cycles this run is safe.
+    /// the records given are the run up to the time, and in the first 2^20 cycles this run is safe. After the end
+    /// nothing later than it is due, so that the time is at most the one behind the end.
     ///
-    /// Where it is None, and the end has not come, the world comes to this time. After the end the time is at most the
-    /// one behind it. On an error no record is lost: those to come are the same.
+    /// Where it is None, and the end has not come, the world comes to this time. On an error no record is lost: those
+    /// to come are the same. The world may have worked ahead, but is before the time still, and may be asked again.
     pub fn next(&mut self, until: Units) -> Result<Option<Note>, OutOfMemory>
         requires limit { until.0 ≤ℤ pos (2 ^ 60 + 1) }
-        requires ended { self.old.ended ≡ true → until.0 ≤ℤ pos (self.old.now + 1) }
         ensures stands { (network : Network) (events : List EventValue) (notes : List NoteValue)
             → StandsUnder C.fresh C.after_step C.reading M.stands network self.old events notes
             → StandsUnder C.fresh C.after_step C.reading M.stands network self.new events (notes ++ given_by result) }
@@ -184,12 +208,13 @@ impl<'a, C: Clock, M: Machine + Drop> World<'a, C, M> {
             → StandsUnder C.fresh C.after_step C.reading M.stands network self.old events notes
             → pos self.old.now <ℤ until.0
             → IfOk result (λ next. IfNone next
-            (IsSafeFront C.fresh C.after_step C.reading network events (amount until) notes)) }
-        ensures reached { IfOk result (λ next. IfNone next (Reaches self.old self.new until)) }
+            (IsSafeFront C.fresh C.after_step C.reading network events (amount (bounded self.old until)) notes)) }
+        ensures reached { ComesUpTo self.old self.new (bounded self.old until) result }
         ensures before { IfOk result (λ next. IfSome next (λ note. (note.time ≡ units_of self.new.now) × (note.time.0 <ℤ until.0))) }
         ensures fewer { IfOk result (λ next. IfSome next (λ _. left_of self.new < left_of self.old)) }
     {
-        noted(self.next_given(until))
+        let time = self.bounded(until);
+        noted(self.next_given(time))
     }
 
     /// A device's local clock at a time: its reading and its adjustment by all records up to the time, in units of
@@ -209,5 +234,43 @@ impl<'a, C: Clock, M: Machine + Drop> World<'a, C, M> {
         ensures range { IfSome result IsWide }
     {
         local_of(&self.state, self.accepted.network(), device, t)
+    }
+
+    /// A device's local clock at a time, in units of 2^-16 ns. Where the records given are all of the run up to the time,
+    /// it is that of `local`; where this is the present time, and nothing of it but events is worked off, that of
+    /// `local_before`.
+    pub fn local_at(&self, device: DeviceId, t: Units) -> Option<i128>
+        requires there { device.0 < length self.now.network.device }
+        requires begun { pos 0 ≤ℤ t.0 }
+        requires limit { t.0 ≤ℤ pos (2 ^ 60) }
+        requires may { MayShowAt C.fresh C.after_step C.reading M.stands self.now (amount t) }
+        ensures local { (network : Network) (events : List EventValue) (notes : List NoteValue)
+            → IsComplete C.fresh C.after_step C.reading M.stands network self.now (amount t) events notes
+            → IsLocalClock (scenario network (reading_of C.fresh C.after_step C.reading network events) events)
+            (happenings network notes) device (amount t) result }
+        ensures before { (network : Network) (events : List EventValue) (notes : List NoteValue)
+            → StandsUnder C.fresh C.after_step C.reading M.stands network self.now events notes
+            → (amount t ≡ self.now.now) × (self.now.early ≡ true)
+            → IsLocalClockBefore (scenario network (reading_of C.fresh C.after_step C.reading network events) events)
+            (happenings network notes) device (amount t) result }
+        ensures small { AreSmall M.stands → IfSome result IsLocalValue }
+    {
+        local_of(&self.state, self.accepted.network(), device, t)
+    }
+
+    /// A device's local clock at the present time, right after an event and before the records of this time: its
+    /// reading, and its adjustment by the records of earlier times, in units of 2^-16 ns. It is None exactly where the
+    /// events so far broke the device, or it is not synchronised by these events and the records of earlier times.
+    pub fn local_before(&self, device: DeviceId) -> Option<i128>
+        requires there { device.0 < length self.now.network.device }
+        requires before { MayShowBefore C.fresh C.after_step C.reading M.stands self.now }
+        ensures local { (network : Network) (events : List EventValue) (notes : List NoteValue)
+            → StandsUnder C.fresh C.after_step C.reading M.stands network self.now events notes → self.now.early ≡ true
+            → IsLocalClockBefore (scenario network (reading_of C.fresh C.after_step C.reading network events) events)
+            (happenings network notes) device self.now.now result }
+        ensures range { IfSome result IsWide }
+    {
+        let now = Units::from_amount(self.state.time);
+        local_of(&self.state, self.accepted.network(), device, now)
     }
 }

@@ -1,3 +1,4 @@
 pub mod Bags
 pub mod Orders
 pub mod Slots
+pub mod Finding

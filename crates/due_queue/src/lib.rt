@@ -5,6 +5,7 @@ ghost use Rattle.std.specs.Prelude.{◌≡◌, ◌∷◌, [], ◌+◌, ◌≤◌
 ghost use Rattle.std.specs.BinaryHeap.{heap_capacity, heap_items, heap_len, KeepsHeap};
 ghost use Rattle.due_queue.specs.Queues.{reversed};
 ghost use Rattle.due_queue.specs.Places.{IsFirst, numbers_of};
+ghost use Rattle.due_queue.specs.Finding.{HoldsAt, HoldsNoneAt, IsSlotFor, NoSlotFor};
 
 use slab::Slab;
 use std::alloc::{AllocError, Global};
@@ -70,6 +71,20 @@ fn push_reserved(heap: &mut BinaryHeap<Reverse<Slotted>>, item: Reverse<Slotted>
     let _ = heap.push(item);
 }
 
+/// The slot of the first of these places that has the rank and the cause.
+fn slot_for(places: &[Reverse<Slotted>], rank: u8, cause: u64) -> Option<usize>
+    ensures found { IfSome result (IsSlotFor places.now rank cause) }
+    ensures none { IfNone result (NoSlotFor places.now rank cause) }
+{
+    'places: for slotted in places {
+        let place = &slotted.0.place;
+        if place.cause == cause && place.rank == rank {
+            return Some(slotted.0.slot);
+        }
+    }
+    None
+}
+
 impl<T> UnderWay<T> {
     /// Nothing is under way.
     pub fn new(alloc: Global) -> UnderWay<T>
@@ -130,6 +145,19 @@ impl<T> UnderWay<T> {
     {
         match self.heap.peek() {
             Some(first) => Some(first.0.place),
+            None => None,
+        }
+    }
+
+    /// What is due at a place of this rank and this cause. It is None exactly where nothing is.
+    ///
+    /// It looks through all places.
+    pub fn find(&self, rank: u8, cause: u64) -> Option<&T>
+        ensures found { IfSome result (λ content. HoldsAt self.now.entries rank cause content.now) }
+        ensures none { IfNone result (HoldsNoneAt self.now.entries rank cause) }
+    {
+        match slot_for(self.heap.as_slice(), rank, cause) {
+            Some(slot) => self.contents.get(slot),
             None => None,
         }
     }

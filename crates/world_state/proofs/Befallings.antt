@@ -16,7 +16,7 @@ use Rattle.net_plan.specs.Ranges.{IsInRange, IsLinkInRange}
 use Rattle.run_law.specs.control.Wires.{signal_of, time_on_port}
 use Rattle.std.specs.Prelude.{IfSome}
 use Rattle.world_state.proofs.Apart.{ports_kept}
-use Rattle.world_state.proofs.Made.{in_all}
+use Rattle.made_frames.proofs.Made.{in_all}
 use Rattle.world_state.proofs.UnderWays.{some_is, sound_with}
 use Rattle.world_state.specs.Sound.{AreBelow, AreUnderWay, rank_of}
 use Rattle.world_state.specs.Views.{at_port, befell_as}

@@ -1,71 +1,28 @@
--- The frames that senders make.
-use Rattle.std.proofs.Common.{◌≡◌, ℕ, ◌+◌, ◌-◌, ◌<◌, ◌^◌, ◌==◌, Bool, false, List, [], ◌++◌, length, Option, Some, None, ap, refl, replicate, subst, sym, ◌∙◌, slice_get, drop, get_or, take, length-append, append_assoc, inl, inr, arith}
-use Rattle.std.specs.List.{All}
+-- The frames that senders make, on the wire.
+use Rattle.std.proofs.Common.{◌≡◌, ℕ, ◌+◌, ◌-◌, ◌<◌, ◌^◌, ◌==◌, false, List, ◌++◌, length, Option, Some, None, ap, refl, replicate, sym, ◌∙◌, slice_get, drop, length-append, append_assoc, arith}
 use Rattle.std.specs.Option.{option_map_or}
-use Rattle.std.specs.Prelude.{if◌then◌else◌}
-use Rattle.std.proofs.Math.Seq.{drop-append_seam, take-append-add}
+use Rattle.std.specs.Prelude.{Bool, if◌then◌else◌}
+use Rattle.std.proofs.Math.Seq.{drop-append_seam}
 use Rattle.std.proofs.lemmas.Bool.{ne_eqb}
-use Rattle.std.proofs.lemmas.List.{take-replicate}
-use Rattle.std.proofs.lemmas.Option.{get_or_from_slice_get, slice_get-get_or, slice_get_cases, slice_get_within}
 use Rattle.byteorder.specs.Endian.{big_bytes, big_number}
 use Rattle.byteorder.specs.Numbers.{big_number-reads_back, length-bytes_high_first}
-use Rattle.net_plan.specs.Padding.{padded}
 use Rattle.net_plan.specs.Ranges.{IsInRange, IsVlInRange}
 use Rattle.net_plan.specs.declared.ids.VlId.{VlId}
 use Rattle.net_plan.specs.declared.network.Network.{Network}
 use Rattle.net_plan.specs.declared.tables.VirtualLink.{VirtualLink}
+use Rattle.made_frames.proofs.Made.{in_all, made_is}
 use Rattle.pcf_codec.specs.EtherType.{pcf_type}
 use Rattle.pcf_codec.specs.Decoding.{decoded}
 use Rattle.pcf_codec.specs.Fields.{field}
 use Rattle.run_law.specs.control.Wires.{control, signal_of, timed}
 use Rattle.run_law.specs.records.Frames.{mac_of, tt_frame, tt_frame_by}
-use Rattle.world_state.specs.Frames.{head_of}
 use Rattle.world_state.specs.Views.{octets_of}
 use Rattle.world_state.specs.declared.contents.Timed.TheVariants.{Made}
 
 -- of a virtual link of the network it is the frame of the law
-pub made_octets : (network : Network) (vl : VlId) (cycle : ℕ) → vl.0 < length network.vl → octets_of network (Made vl cycle) ≡ tt_frame network vl cycle
-made_octets network vl cycle lt =
-    elim (slice_get_cases network.vl vl.0).1 [
-      | inl found ↦
-          ap (λ (o : Option VirtualLink). option_map_or (λ v. tt_frame_by network v cycle) o (replicate 60 0)) found.2
-          ∙ sym (ap (λ (o : Option VirtualLink). option_map_or (λ v. tt_frame_by network v cycle) o []) found.2)
-      | inr past ↦ let ge = past.0 in absurd (omega (arith, lt, ge))
-    ]
-
--- how long the head is
-head_length : (network : Network) (vl : VirtualLink) (cycle : ℕ) → length (head_of network vl cycle) ≡ 18
-head_length network vl cycle =
-    let a = big_bytes 4 network.marker in
-    let b = big_bytes 2 vl.id in
-    let c = big_bytes 6 (mac_of network vl.sender) in
-    let d = big_bytes 2 vl.ethertype in
-    let e = big_bytes 4 cycle in
-    omega (
-      arith,
-      length-append a (b ++ (c ++ (d ++ e))),
-      length-append b (c ++ (d ++ e)),
-      length-append c (d ++ e),
-      length-append d e,
-      length-bytes_high_first 4 network.marker,
-      length-bytes_high_first 2 vl.id,
-      length-bytes_high_first 6 (mac_of network vl.sender),
-      length-bytes_high_first 2 vl.ethertype,
-      length-bytes_high_first 4 cycle,
-    )
-
--- the first octets of a longer frame are the frame
-pub front_made : (network : Network) (vl : VirtualLink) (cycle : ℕ) → IsVlInRange network vl
-    → take vl.length (padded 1514 (head_of network vl cycle)) ≡ tt_frame_by network vl cycle
-front_made network vl cycle range =
-    let head = head_of network vl cycle in
-    let long = head_length network vl cycle in
-    let least = range.length_least in
-    let most = range.length_most in
-    let size : vl.length ≡ length head + (vl.length - length head) = omega (arith, long, least) in
-    ap (λ (n : ℕ). take n (head ++ replicate (1514 - length head) 0)) size
-    ∙ take-append-add head (replicate (1514 - length head) 0) (vl.length - length head)
-    ∙ ap (λ (l : List ℕ). head ++ l) (take-replicate (vl.length - length head) (1514 - length head) 0 (omega (arith, most)))
+pub made_octets : (network : Network) (vl : VlId) (cycle : ℕ) → vl.0 < length network.vl
+    → octets_of network (Made vl cycle) ≡ tt_frame network vl cycle
+made_octets network vl cycle lt = made_is network vl cycle lt
 
 -- ---- its EtherType
 
@@ -101,9 +58,6 @@ type_shown network vl cycle less =
     ∙ sym (append_assoc (a ++ b) c (d ++ (e ++ rest))) in
     ap (field 12 2) split ∙ read_behind front (e ++ rest) 12 2 vl.ethertype size (omega (arith, less))
 
-pub in_all : {X : Type 0} (P : X → Type 0) (xs : List X) (i : ℕ) (x : X) → All P xs → slice_get xs i ≡ Some x → P x
-in_all P xs i x all e = subst P (get_or_from_slice_get xs i x x e) (all i x (slice_get_within xs i x e))
-
 -- octets with another EtherType are no protocol control frame
 pub plain_signal : (octets : List ℕ) → (field 12 2 octets == pcf_type) ≡ false → signal_of octets ≡ timed octets
 plain_signal octets other = ap (λ (b : Bool). if b then control (decoded octets) else timed octets) other
@@ -125,27 +79,3 @@ pub made_signal : (network : Network) (vl : VlId) (cycle : ℕ) → IsInRange ne
     → signal_of (octets_of network (Made vl cycle)) ≡ timed (octets_of network (Made vl cycle))
 made_signal network vl cycle range =
     plain_signal (octets_of network (Made vl cycle)) (made_type network vl cycle (replicate 60 0) range refl)
-
--- ---- as it is written
-
-pub made_found : (network : Network) (vl : VlId) (cycle : ℕ) (found : VirtualLink) (octets head : List ℕ) → slice_get network.vl vl.0 ≡ Some found
-    → IsInRange network → head ≡ head_of network found cycle → octets ≡ padded 1514 head → take found.length octets ≡ octets_of network (Made vl cycle)
-made_found network vl cycle found octets head there range is padded_so =
-    ap (take found.length) (padded_so ∙ ap (padded 1514) is)
-    ∙ front_made network found cycle (in_all (IsVlInRange network) network.vl vl.0 found range.vls there)
-    ∙ sym (ap (λ (o : Option VirtualLink). option_map_or (λ v. tt_frame_by network v cycle) o (replicate 60 0)) there)
-
--- behind the head stand zeros
-pub zeros_behind : (octets head : List ℕ) → length head ≡ 18 → octets ≡ padded 1514 head → drop 18 octets ≡ replicate 1496 0
-zeros_behind octets head long padded_so =
-    ap (drop 18) padded_so ∙ ap (λ (n : ℕ). drop n (padded 1514 head)) (sym long) ∙ drop-append_seam head (replicate (1514 - length head) 0)
-    ∙ ap (λ (n : ℕ). replicate (1514 - n) 0) long
-
-pub made_none : (network : Network) (vl : VlId) (cycle : ℕ) (octets : List ℕ) → slice_get network.vl vl.0 ≡ None → octets ≡ padded 1514 []
-    → take 60 octets ≡ octets_of network (Made vl cycle)
-made_none network vl cycle octets none padded_so =
-    ap (take 60) padded_so ∙ take-replicate 60 1514 0 (omega arith)
-    ∙ sym (ap (λ (o : Option VirtualLink). option_map_or (λ v. tt_frame_by network v cycle) o (replicate 60 0)) none)
-
-pub found_at : {X : Type 0} (xs : List X) (i : ℕ) (x : X) → i < length xs → ((d : X) → x ≡ get_or xs i d) → slice_get xs i ≡ Some x
-found_at xs i x lt is = slice_get-get_or xs i x lt ∙ ap Some (sym (is x))

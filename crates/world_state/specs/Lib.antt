@@ -3,7 +3,6 @@ pub mod Applying
 pub mod Befalling
 pub mod Beginning
 pub mod Bodies
-pub mod Frames
 pub mod Giving
 pub mod Happenings
 pub mod Hearing

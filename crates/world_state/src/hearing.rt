@@ -15,9 +15,9 @@ ghost use Rattle.world_law.specs.world.Outcomes.{arrival_body};
 
 use crate::bodies::{Body, Kind};
 use crate::contents::{Content, Settled, Signal, Timed};
-use crate::frames::MadeFrame;
 use crate::kept::Kept;
 use due_queue::{Place, UnderWay};
+use made_frames::MadeFrame;
 use net_plan::{DeviceId, LinkId, Network};
 use pcf_codec::{PCF_LENGTH, encode};
 use pcf_values::Pcf;

@@ -6,7 +6,6 @@ pub mod befalling;
 pub mod bodies;
 pub mod contents;
 pub mod event_notes;
-pub mod frames;
 pub mod fresh;
 pub mod giving;
 pub mod hands;

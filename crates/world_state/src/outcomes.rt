@@ -1,5 +1,4 @@
 ghost use Rattle.std.specs.Prelude.{◌≡◌, ◌≤◌, ◌<◌, ◌+◌, ◌-◌, List, Some};
-ghost use Rattle.run_law.specs.records.Frames.{integration_frame, mac_of};
 ghost use Rattle.world_state.specs.Acting.{bare, clique_by, corrected_by, emitted_by, first_by, framed, joined_by, sent_by};
 ghost use Rattle.world_state.specs.Bodies.{body_of};
 ghost use Rattle.world_law.specs.world.Outcomes.{judged_as};
@@ -13,8 +12,9 @@ use crate::contents::Settled;
 use crate::naming::NONE_YET;
 use crate::settled::put_some;
 use compression::Compressed;
+use made_frames::integration_frame;
 use net_plan::{DeviceId, Network};
-use pcf_values::{Mac, Members, Pcf, PcfKind};
+use pcf_values::Pcf;
 use run_law::{Judgement, Ripe, Why};
 use std::collections::VecDeque;
 use sync_state::{State, Verdict};
@@ -62,32 +62,6 @@ pub fn sent(device: DeviceId, frame: Pcf) -> Outcomes
     Outcomes {
         first: Some(framed(kind, frame)),
         second: None,
-    }
-}
-
-/// The address of the device.
-fn address(network: &Network, device: DeviceId) -> Mac
-    ensures { result ≡ mac_of network.now device }
-{
-    match network.device.as_slice().get(device.0 as usize) {
-        Some(found) => found.mac,
-        None => Mac::from_number(0),
-    }
-}
-
-/// The integration frame of a device for a cycle and these members.
-fn integration_frame(network: &Network, device: DeviceId, cycle: u32, members: Members) -> Pcf
-    ensures { result ≡ integration_frame network.now device cycle members }
-{
-    Pcf {
-        destination: network.pcf_destination,
-        source: address(network, device),
-        cycle,
-        members,
-        priority: network.priority,
-        domain: network.domain,
-        kind: PcfKind::Integration,
-        clock: 0,
     }
 }
 

@@ -75,3 +75,6 @@ returns-in-Err-clause-well g c =
           (λ s notes old. subst (λ (v : World _ _). Stands g.C.Clock.reading (keeps g.M.Machine.stands) s v notes) (sym E.err) old);
       timed = unchanged g.C.Clock.reading g.M.Machine.stands c.args.network.now w c.give.new.self r.well.timed E.unmoved (ap (λ (t : State _ _). t.timers) E.same);
     }
+
+pub returns-in-Err-clause-err : goal.returns-in-Err-clause-err
+returns-in-Err-clause-err g c = ap (λ (t : State _ _). t.time) c.in-Err.ensures.same

@@ -44,6 +44,7 @@ returns-in-Ok g c =
       says = (omega (arith, time, early), step.given);
       nears = less_nears g.C.Clock.last_step g.C.Clock.reading g.M.Machine.stands c.args.network.now c.args.until c.args.self.now c.work_off.new.self step.well
           step.time c.in-Ok.ensures.less;
+      err = tt;
     }
 
 pub returns-in-Err : goal.returns-in-Err
@@ -56,4 +57,5 @@ returns-in-Err g c =
       whole = λ s notes old. tt;
       says = tt;
       nears = tt;
+      err = step.time;
     }

@@ -1,6 +1,6 @@
 use Rattle.std.proofs.Common.{[], arith, refl, sym, ◌∙◌}
 use Rattle.drift_world.proofs.Nearings.{nears_then}
-use Rattle.drift_world.proofs.Turning.{after_then, roomier, same_records, says_then}
+use Rattle.drift_world.proofs.Turning.{after_then, err_then, roomier, same_records, says_then}
 use Rattle.world_state.specs.Keeping.{keeps}
 use Rattle.drift_world.specs.Views.{world_of}
 use Rattle.world_state.specs.declared.memory.OutOfMemory.{OutOfMemory}
@@ -17,6 +17,7 @@ returns-in-Err g c =
       whole = λ s notes is. tt;
       says = tt;
       nears = tt;
+      err = step.time;
     }
 
 pub take_turn-requires : goal.take_turn-requires
@@ -49,4 +50,5 @@ returns g c =
           turn.says;
       nears = nears_then OutOfMemory c.args.network.now c.args.until c.args.self.now c.make_places.new.self c.take_turn.new.self c.take_turn.result
           made.same turn.nears;
+      err = err_then OutOfMemory c.args.self.now c.make_places.new.self c.take_turn.new.self c.take_turn.result step.time turn.err;
     }

@@ -1,11 +1,21 @@
-use Rattle.std.proofs.Common.{◌++◌, ◌<◌, ◌≡◌, ◌<ℤ◌, Option, Result, sym, subst}
+use Rattle.std.proofs.Common.{◌++◌, ◌<◌, ◌≡◌, ◌<ℤ◌, ◌≤ℤ◌, ℕ, ℤ, Option, Some, None, Result, Ok, Err, sym, subst, arith}
 use Rattle.std.specs.Prelude.{IfNone, IfOk, IfSome}
+use Rattle.std.proofs.lemmas.Int.{ints}
 use Rattle.run_law.specs.declared.note.Note.{Note}
 use Rattle.safe_runs.specs.Headline.{IsSafeFront}
 use Rattle.tte_units.specs.Amount.{amount, units_of}
-use Rattle.drift_world.specs.Running.{Reaches, StandsUnder, given_by, left_of}
+use Rattle.tte_units.specs.declared.units.Units.{Units}
+use Rattle.drift_world.specs.Running.{ComesUpTo, StandsUnder, given_by, left_of}
 use Rattle.world_state.specs.declared.memory.OutOfMemory.{OutOfMemory}
 use Rattle.drift_world.proofs.world.World.next.Goals as goal
+
+-- what is before a time is before a later one
+before_too : {E : Type 0} (r : Result (Option Note) E) (now : ℕ) (t until : ℤ) → t ≤ℤ until
+    → IfOk r (λ next. IfSome next (λ note. (note.time ≡ units_of now) × (note.time.0 <ℤ t)))
+    → IfOk r (λ next. IfSome next (λ note. (note.time ≡ units_of now) × (note.time.0 <ℤ until)))
+before_too (Ok None) now t until le is = tt
+before_too (Ok (Some note)) now t until le is = let lt = is.1 in (is.0, omega (arith, ints, lt, le))
+before_too (Err e) now t until le is = tt
 
 pub returns-clause-stands : goal.returns-clause-stands
 returns-clause-stands g c = λ network events notes under.
@@ -16,19 +26,23 @@ returns-clause-stands g c = λ network events notes under.
 pub returns-clause-complete : goal.returns-clause-complete
 returns-clause-complete g c = λ network events notes under lt.
     let K = g.C.Clock in
-    subst (λ (r : Result (Option Note) OutOfMemory). IfOk r (λ next. IfNone next
-    (IsSafeFront K.fresh K.after_step K.reading network events (amount c.args.until) notes))) (sym c.noted.ensures)
-    (c.next_given.ensures.complete network events notes under lt)
+    let Whole = λ (u : Units) (r : Result (Option Note) OutOfMemory). IfOk r (λ next. IfNone next
+    (IsSafeFront K.fresh K.after_step K.reading network events (amount u) notes)) in
+    subst (λ (u : Units). Whole u c.noted.result) c.bounded-time.ensures.is
+    (subst (Whole c.bounded-time.result) (sym c.noted.ensures)
+    (c.next_given.ensures.complete network events notes under (c.bounded-time.ensures.later lt)))
 
 pub returns-clause-reached : goal.returns-clause-reached
 returns-clause-reached g c =
-    subst (λ (r : Result (Option Note) OutOfMemory). IfOk r (λ next. IfNone next (Reaches c.args.self.now c.next_given.new.self c.args.until)))
-    (sym c.noted.ensures) c.next_given.ensures.reached
+    subst (λ (u : Units). ComesUpTo c.args.self.now c.next_given.new.self u c.noted.result) c.bounded-time.ensures.is
+    (subst (λ (r : Result (Option Note) OutOfMemory). ComesUpTo c.args.self.now c.next_given.new.self c.bounded-time.result r)
+    (sym c.noted.ensures) c.next_given.ensures.reached)
 
 pub returns-clause-before : goal.returns-clause-before
 returns-clause-before g c =
     subst (λ (r : Result (Option Note) OutOfMemory). IfOk r (λ next. IfSome next
-    (λ note. (note.time ≡ units_of c.next_given.new.self.now) × (note.time.0 <ℤ c.args.until.0)))) (sym c.noted.ensures) c.next_given.ensures.before
+    (λ note. (note.time ≡ units_of c.next_given.new.self.now) × (note.time.0 <ℤ c.args.until.0)))) (sym c.noted.ensures)
+    (before_too c.next_given.result c.next_given.new.self.now c.bounded-time.result.0 c.args.until.0 c.bounded-time.ensures.most c.next_given.ensures.before)
 
 pub returns-clause-fewer : goal.returns-clause-fewer
 returns-clause-fewer g c =

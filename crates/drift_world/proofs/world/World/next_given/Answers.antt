@@ -1,15 +1,18 @@
-use Rattle.std.proofs.Common.{◌≡◌, ℕ, ◌++◌, ◌∷◌, [], sym, ap, subst, ◌∙◌, arith, slice_get}
+use Rattle.std.proofs.Common.{◌≡◌, ℕ, List, ◌++◌, ◌∷◌, [], sym, ap, subst, ◌∙◌, arith, slice_get}
 use Rattle.std.specs.Prelude.{IfNone, IfOk, Option, Some, None, Result, Ok, Err}
 use Rattle.std.proofs.lemmas.Int.{ints}
 use Rattle.net_plan.specs.declared.network.Network.{Network}
+use Rattle.run_law.specs.declared.note.Note.{Note}
 use Rattle.run_law.specs.runs.DueRecords.{IsRunOf, IsScenarioRun}
+use Rattle.run_law.specs.scenario.Scenarios.{Scenario}
 use Rattle.drift_clock.proofs.Readings.{IsLawful, begins_at_zero, keeps_clock_laws}
 use Rattle.safe_runs.proofs.Clocked.{before}
 use Rattle.safe_runs.specs.Headline.{IsSafeFront}
 use Rattle.safe_runs.specs.Under.{IsUnder}
 use Rattle.tte_units.specs.Amount.{amount}
 use Rattle.world_state.specs.Keeping.{keeps}
-use Rattle.drift_world.specs.Running.{StandsUnder, given_by, reading_of}
+use Rattle.drift_world.proofs.Retries.{comes_up_to}
+use Rattle.drift_world.specs.Running.{ComesUpTo, StandsUnder, given_by, reading_of}
 use Rattle.drift_world.specs.Views.{world_of}
 use Rattle.world_state.specs.declared.kept.Kept.{Kept}
 use Rattle.world_law.specs.source.Agreeing.{scenario}
@@ -81,3 +84,16 @@ returns-clause-complete g c = λ network events notes under lt.
     (before K.fresh K.after_step K.reading
     (keeps_clock_laws K.fresh K.after_step K.reading K.grain_of K.count (lawful g))
     (begins_at_zero K.fresh K.after_step K.reading K.grain_of K.count (lawful g)) network events (amount c.args.until) notes admitted) whole
+
+pub returns-clause-reached : goal.returns-clause-reached
+returns-clause-reached g c =
+    let K = g.C.Clock in
+    let S = g.M.Machine.stands in
+    let own = c.self.inside.accepted.now in
+    let state = c.self.inside.state in
+    let new = c.next.new.self in
+    let Steps = λ (n : Network). (s : Scenario) (notes : List Note) → Stands K.reading (keeps S) s (world_of n state) notes
+    → Stands K.reading (keeps S) s (world_of n new) (notes ++ given_by c.next.result) in
+    subst (λ (w : World _ (Kept _)). ComesUpTo w (world_of own new) c.args.until c.next.result) c.self.view_is
+    (comes_up_to K.reading S own state new _ c.next.result c.args.until c.amount.result c.amount.ensures.whole c.next.ensures.after
+    c.self.invariant.running (subst Steps c.network.ensures.value c.next.ensures.stands) c.next.ensures.reached c.next.ensures.err)

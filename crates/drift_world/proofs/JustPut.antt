@@ -1,0 +1,161 @@
+-- What a record of the present instant put on a wire is there still.
+use Rattle.std.proofs.Common.{◌≡◌, ℕ, zero, suc, ◌+◌, ◌<◌, ◌≤◌, true, List, [], ◌∷◌, length, Option, Some, None, option_map, inl, inr, refl, sym, ap, subst, ◌∙◌, arith, ℤ, Bor}
+use Rattle.std.specs.Option.{option_copied}
+use Rattle.std.specs.Prelude.{IfNone, IfSome, slice_get}
+use Rattle.std.specs.List.{filter_map}
+use Rattle.drift_world.specs.Running.{StandsUnder, reading_of}
+use Rattle.drift_world.specs.Views.{world_of}
+use Rattle.drift_world.specs.Wires.{IsOfNow, IsOnOwnLink, on_wire_in, put_by}
+use Rattle.drift_world.specs.declared.state.State.{State}
+use Rattle.due_queue.proofs.Bags.{given_of, is_given}
+use Rattle.due_queue.specs.Finding.{HoldsAt, HoldsNoneAt, IsPlaceFor}
+use Rattle.due_queue.specs.declared.Entry.{Entry}
+use Rattle.due_queue.specs.declared.Place.{Place}
+use Rattle.net_plan.specs.declared.event.Event.{Event}
+use Rattle.net_plan.specs.declared.ids.DeviceId.{DeviceId}
+use Rattle.net_plan.specs.declared.network.Network.{Network}
+use Rattle.net_plan.specs.declared.tables.Link.{Link}
+use Rattle.run_law.proofs.law.FirstPlaces.{numbered_in}
+use Rattle.run_law.specs.control.Wires.{Arrives, Launch, Signal, launched, time_on_port}
+use Rattle.run_law.specs.declared.note.Note.{Note}
+use Rattle.run_law.specs.machines.Nodes.{Node}
+use Rattle.run_law.specs.records.Happenings.{Happening, happenings, numbered, time_of}
+use Rattle.run_law.specs.records.Order.{IsBefore, IsIn}
+use Rattle.run_law.specs.records.Ranks.{place_of, rank}
+use Rattle.run_law.specs.scenario.Scenarios.{Scenario}
+use Rattle.run_law.specs.scenario.Ways.{delay_at, receiver_of}
+use Rattle.schedule_tables.specs.Entries.{target_by}
+use Rattle.world_law.proofs.giving.Given.{some_same}
+use Rattle.world_law.specs.source.Agreeing.{scenario}
+use Rattle.world_law.specs.source.Sources.{IsArriving}
+use Rattle.world_law.specs.world.World.{OnWire, Stands, wire_place}
+use Rattle.world_state.specs.Keeping.{keeps}
+use Rattle.world_state.specs.Sound.{AreUnderWay, rank_of}
+use Rattle.world_state.specs.Views.{on_wire, signal_as, wire_at}
+use Rattle.world_state.specs.declared.contents.Content.TheVariants.{Wire, Port}
+use Rattle.world_state.specs.declared.contents.Content.{Content}
+use Rattle.world_state.specs.declared.contents.Signal.{Signal as Sent}
+use Rattle.world_state.specs.declared.kept.Kept.{Kept}
+
+-- ---- what is found
+
+-- what has the rank of a wire is on one
+wired : (content : Content) → rank_of content ≡ 2 → (signal : Sent) × (content ≡ Wire signal)
+wired (Wire signal) is = (signal, refl)
+wired (Port frame reading) is = absurd (omega (arith, is))
+
+-- and what is on a wire has its rank, and its cause
+of_wire : (network : Network) (place : Place) (content : Content) (e : OnWire) → wire_at network place content ≡ Some e
+    → (rank_of content ≡ 2) × (e.cause ≡ place.cause)
+of_wire network place (Wire signal) e is = (refl, sym (ap (λ (w : OnWire). w.cause) (one is)))
+  where
+    one : {x y : OnWire} → Some x ≡ Some y → x ≡ y
+    one same = cc
+of_wire network place (Port frame reading) e is = absurd cc
+
+-- a record behind those of the events of its time is not before them
+not_early : (h : Happening) (now : ℕ) → time_of h ≡ now → 2 < rank h.note.body → IsBefore (place_of h) (now ∷ 2 ∷ []) → ⊥
+not_early h now at behind (inl lt) = omega (arith, at, lt)
+not_early h now at behind (inr (same, inl lt)) = omega (arith, behind, lt)
+not_early h now at behind (inr (same, inr (rank_is, none))) = absurd none
+
+-- a place of a later time is not before the next time
+not_soon : (t now : ℕ) (more : List ℕ) → now + 1 ≤ t → IsBefore (t ∷ 2 ∷ more) ((now + 1) ∷ []) → ⊥
+not_soon t now more late (inl lt) = omega (arith, late, lt)
+not_soon t now more late (inr (same, none)) = absurd none
+
+at_place : {X : Type 0} (xs : List X) (i : ℕ) → i < length xs → (x : X) × (slice_get xs i ≡ Some x)
+at_place [] i lt = absurd (omega (arith, lt))
+at_place (x ∷ xs) zero lt = (x, refl)
+at_place (x ∷ xs) (suc i) lt = at_place xs i (omega (arith, lt))
+
+received : (network : Network) (launch : Launch) → launch.link.0 < length network.link
+    → (device : DeviceId) × (receiver_of network launch.link launch.way ≡ Some device)
+received network launch lt =
+    let there = at_place network.link launch.link.0 lt in
+    (target_by launch.way there.0, ap (option_map (target_by launch.way)) there.1)
+
+module _ {C M : Type 0} (reading : C → ℕ → ℕ) (stands : Kept M → Network → DeviceId → Node → Type 0) (s : Scenario) (network : Network)
+    (state : State C M) (notes : List Note) (is : Stands reading stands s (world_of network state) notes)
+    (under_way : AreUnderWay network state.under_way.entries) (number : ℕ) (h : Happening)
+    (of : IsOfNow (happenings s.network notes) state.time number h) where
+  -- what is found is what the record put there
+  found_is : (content : Content) → HoldsAt state.under_way.entries 2 number content
+      → (signal : Sent) × (content ≡ Wire signal) × (Some (signal_as network signal) ≡ put_by s h)
+  found_is content holds =
+      let e = holds.entry in
+      let wire = wired e.content (sym (under_way.kinds e holds.there) ∙ holds.fits.0) in
+      let w : OnWire = record {
+        at = e.place.at;
+        device = record { 0 = e.place.device };
+        link = record { 0 = e.place.link };
+        cause = e.place.cause;
+        signal = signal_as network wire.0;
+      } in
+      let there = is_given (on_wire network) state.under_way.entries e w holds.there (ap (wire_at network e.place) wire.1) in
+      let real = (is.wires.real w there).0 in
+      let own : real.putting ≡ h =
+      some_same real.putting h _ real.there (ap (numbered (happenings s.network notes)) holds.fits.1 ∙ of.there) in
+      let put : put_by s real.putting ≡ Some (signal_as network wire.0) = ap (option_map (λ (l : Launch). l.signal)) real.arrives.put in
+      (wire.0, sym holds.is ∙ wire.1, sym put ∙ ap (put_by s) own)
+
+  -- and where it put some there, something is found
+  some_found : (launch : Launch) → launched s h (time_of h) h.note.body ≡ Some launch → launch.link.0 < length s.network.link
+      → HoldsNoneAt state.under_way.entries 2 number → ⊥
+  some_found launch put within none =
+      let to = received s.network launch within in
+      let t = time_of h + time_on_port s.network launch.link launch.signal + delay_at s launch.link launch.way (time_of h) in
+      let arrives : Arrives s h to.0 launch.link t launch.signal = record { way = launch.way; put = put; receiver = to.1; at = refl } in
+      let arriving : IsArriving s (happenings s.network notes) t to.0 launch.link number =
+      record { putting = h; there = of.there; signal = launch.signal; arrives = arrives } in
+      let later = is.forward launch.link launch.way to.0 (time_of h) to.1 in
+      let now = of.at in
+      let first = is.ahead (place_of h) (is.run.within h (numbered_in (happenings s.network notes) number h of.there)) in
+      let w = is.wires.all t to.0 launch.link number arriving
+      (λ pending same. not_early h state.time of.at of.behind (is.untold.early pending (place_of h) first))
+      (λ before. not_soon t state.time (to.0.0 ∷ launch.link.0 ∷ number ∷ []) (omega (arith, later, now))
+      (is.not_later (t ∷ 2 ∷ to.0.0 ∷ launch.link.0 ∷ number ∷ []) before)) in
+      let given = given_of (on_wire network) state.under_way.entries w.0 w.1 in
+      let wire = of_wire network given.0.place given.0.content w.0 given.2 in
+      none given.0 given.1 (under_way.kinds given.0 given.1 ∙ wire.0, sym wire.1 ∙ cause_of w.0 t to.0 launch.link.0 w.2)
+    where
+      cause_of : (e : OnWire) (t : ℕ) (device : DeviceId) (link : ℕ) → wire_place e ≡ t ∷ 2 ∷ device.0 ∷ link ∷ number ∷ [] → e.cause ≡ number
+      cause_of e t device link same = cc
+
+  none_put : (launch : Option Launch) → launched s h (time_of h) h.note.body ≡ launch → IfSome launch (λ l. l.link.0 < length s.network.link)
+      → HoldsNoneAt state.under_way.entries 2 number → None ≡ option_map (λ (l : Launch). l.signal) launch
+  none_put None put own none = refl
+  none_put (Some launch) put own none = absurd (some_found launch put own none)
+
+  -- what is found on a wire is what the record put there
+  pub just_put : (found : Option Content) → IfSome found (HoldsAt state.under_way.entries 2 number) → IfNone found (HoldsNoneAt state.under_way.entries 2 number)
+      → IsOnOwnLink s h → option_map (signal_as network) (on_wire_in found) ≡ put_by s h
+  just_put None some none own = none_put (launched s h (time_of h) h.note.body) refl own none
+  just_put (Some content) some none own =
+      let it = found_is content some in
+      ap (λ (c : Content). option_map (signal_as network) (on_wire_in (Some c))) it.1 ∙ it.2
+
+-- ---- as a world shows it
+
+copied_some : {T : Type 0} (P : T → Type 0) (found : Option (Bor T)) → IfSome found (λ c. P c.now) → IfSome (option_copied found) P
+copied_some P None h = tt
+copied_some P (Some c) h = h
+
+copied_none : {T : Type 0} (X : Type 0) (found : Option (Bor T)) → IfNone found X → IfNone (option_copied found) X
+copied_none X None h = h
+copied_none X (Some c) h = tt
+
+-- what a world finds on a wire is what the record put there
+pub shown_put : {C M : Type 0} (fresh : ℕ → C) (after_step : C → ℕ → ℤ → C) (reading : C → ℕ → ℕ)
+    (stands : M → Network → DeviceId → Node → Type 0) (own network : Network) (state : State C M) (events : List Event) (notes : List Note) (number : ℕ)
+    (h : Happening) → AreUnderWay own state.under_way.entries → StandsUnder fresh after_step reading stands network (world_of own state) events notes
+    → IsOfNow (happenings network notes) state.time number h
+    → IsOnOwnLink (scenario network (reading_of fresh after_step reading network events) events) h → (found : Option (Bor Content))
+    → IfSome found (λ c. HoldsAt state.under_way.entries 2 number c.now) → IfNone found (HoldsNoneAt state.under_way.entries 2 number)
+    → (result : Option (Bor Sent)) → option_copied result ≡ on_wire_in (option_copied found)
+    → option_map (signal_as network) (option_copied result) ≡ put_by (scenario network (reading_of fresh after_step reading network events) events) h
+shown_put fresh after_step reading stands own network state events notes number h under_way st of within found some none result is =
+    let s = scenario network (reading_of fresh after_step reading network events) events in
+    let put = just_put reading (keeps stands) s own state notes st.is under_way number h of (option_copied found)
+    (copied_some (HoldsAt state.under_way.entries 2 number) found some) (copied_none (HoldsNoneAt state.under_way.entries 2 number) found none) within in
+    ap (λ (n : Network). option_map (signal_as n) (option_copied result)) (sym st.is.same) ∙ ap (option_map (signal_as own)) is ∙ put

@@ -1,0 +1,146 @@
+-- An event of a later time befalls a world, where no record before it is left.
+use Rattle.std.proofs.Common.{◌≡◌, ℕ, ◌*◌, ◌^◌, ◌≤◌, ℤ, pos, negsuc, ◌≤ℤ◌, ◌<ℤ◌, unsigned_abs, List, [], ◌∷◌, ◌++◌, Option, Some, None, append-nil, inl, inr, refl, sym, ap, subst, ◌∙◌, arith}
+use Rattle.std.specs.Prelude.{IfNone, IfSome, option_to_list}
+use Rattle.std.proofs.lemmas.Bool.{cases_lt, false_from_ne_true, true≢false}
+use Rattle.std.proofs.lemmas.Int.{ints}
+use Rattle.net_plan.specs.Ranges.{IsInRange}
+use Rattle.net_plan.specs.declared.event.Event.{Event}
+use Rattle.net_plan.specs.declared.ids.DeviceId.{DeviceId}
+use Rattle.net_plan.specs.declared.network.Network.{Network}
+use Rattle.run_law.proofs.runs.NetworkRuns.{one_more}
+use Rattle.run_law.proofs.runs.Places.{never_self}
+use Rattle.run_law.specs.declared.note.Note.{Note}
+use Rattle.run_law.specs.declared.outside.Outside.TheVariants.{Late}
+use Rattle.run_law.specs.machines.Nodes.{Node}
+use Rattle.run_law.specs.records.Happenings.{happening, happenings}
+use Rattle.run_law.specs.records.Order.{IsBefore}
+use Rattle.run_law.specs.records.Ranks.{place_of}
+use Rattle.run_law.specs.runs.DueRecords.{IsScenarioRun}
+use Rattle.run_law.specs.scenario.Hypothesis.{IsWithinHypothesis}
+use Rattle.run_law.specs.scenario.Scenarios.{Scenario}
+use Rattle.tte_units.specs.Amount.{amount, units_of}
+use Rattle.tte_units.specs.declared.units.Units.{Units}
+use Rattle.drift_world.specs.Later.{ComesBehind, IsOpenFrom, MayApplyAgain}
+use Rattle.drift_world.specs.Running.{HasReached, IsOpenTo, Reaches, StandsUnder}
+use Rattle.world_law.specs.world.World.{World}
+use Rattle.world_state.specs.declared.kept.Kept.{Kept}
+
+-- ---- times
+
+-- a time from 0 on is its amount
+whole_time : (time : ℤ) → pos 0 ≤ℤ time → time ≡ pos (unsigned_abs time)
+whole_time (pos n) begun = refl
+whole_time (negsuc n) begun = absurd (omega (arith, ints, begun))
+
+at_most : (time : ℤ) (n : ℕ) → (pos n <ℤ time → ⊥) → time ≤ℤ pos n
+at_most (pos m) n not = grind (arith, ints)
+at_most (negsuc m) n not = omega (arith, ints)
+
+-- an event within the hypothesis is in the range of times
+pub time_limit : (network : Network) (events : List Event) (event : Event) → IsInRange network → IsWithinHypothesis network events event
+    → event.time.0 ≤ℤ pos (2 ^ 60)
+time_limit network events event range within =
+    let late = at_most event.time.0 (2 ^ 20 * amount network.cycle) (within Late) in
+    let least = range.cycle.least in
+    let most = range.cycle.most in
+    let is = whole_time network.cycle.0 (omega (arith, ints, least)) in
+    let few : amount network.cycle ≤ 2 ^ 40 = omega (arith, ints, most, is) in
+    omega (arith, ints, late, few)
+
+-- ---- no record is left
+
+-- none that is before the mark follows the run up to it
+none_earlier : (s : Scenario) (mark later : List ℕ) (notes : List Note) (note : Note) → IsScenarioRun s mark notes
+    → IsScenarioRun s later (notes ++ note ∷ []) → IsBefore (place_of (happening s.network (happenings s.network notes) note)) mark → ⊥
+none_earlier s mark later notes note whole more before =
+    let hs = happenings s.network notes in
+    let h = happening s.network hs note in
+    let last = more.founded hs [] h (one_more s.network notes note) in
+    let other = whole.full hs [] h (sym (append-nil hs)) last.0 (λ g none. absurd none) last.1 before in
+    never_self (place_of h) (subst (λ (p : List ℕ). IsBefore p (place_of h)) other.2 (last.0 other.0 other.1))
+
+module _ {C M : Type 0} (fresh : ℕ → C) (after_step : C → ℕ → ℤ → C) (reading : C → ℕ → ℕ)
+    (stands : M → Network → DeviceId → Node → Type 0) (network : Network) (old mid : World C (Kept M)) (events : List Event)
+    (notes : List Note) (event : Event) (comes : ComesBehind fresh after_step reading stands network old events notes event)
+    (opens : IsOpenFrom old event) where
+  time_is : event.time.0 ≡ pos (amount event.time)
+  time_is = let not_past = opens.time in whole_time event.time.0 (omega (arith, ints, not_past))
+
+  -- so none was given
+  none_due : (o : Option Note) → StandsUnder fresh after_step reading stands network mid events (notes ++ option_to_list o)
+      → IfSome o (λ note. (note.time ≡ units_of mid.now) × (note.time.0 <ℤ event.time.0)) → o ≡ None
+  none_due None more before = refl
+  none_due (Some note) more before =
+      let lt = before.1 in
+      let time = time_is in
+      let at : note.time.0 ≡ pos mid.now = ap (λ (u : Units). u.0) before.0 in
+      let amount_is : amount note.time ≡ mid.now = ap amount before.0 in
+      elim (cases_lt old.now (amount event.time)) [
+        | inl later ↦ absurd (none_earlier _ _ _ notes note (comes.none_left (omega (arith, ints, later, time))) more.is.run
+            (inl (omega (arith, ints, lt, time, at, amount_is))))
+        | inr now ↦ absurd (none_earlier _ _ _ notes note comes.is.is.run more.is.run
+            (comes.is.is.of_now _ (inl (omega (arith, ints, lt, time, at, amount_is, now)))))
+      ]
+
+  module _ (o : Option Note) (more : StandsUnder fresh after_step reading stands network mid events (notes ++ option_to_list o))
+      (before : IfSome o (λ note. (note.time ≡ units_of mid.now) × (note.time.0 <ℤ event.time.0)))
+      (reached : IfNone o (Reaches old mid event.time)) where
+    -- the same events and records leave the world there
+    pub stands_there : StandsUnder fresh after_step reading stands network mid events notes
+    stands_there = subst (λ (l : List Note). StandsUnder fresh after_step reading stands network mid events l)
+        (ap (λ (p : Option Note). notes ++ option_to_list p) (none_due o more before) ∙ append-nil notes) more
+
+    -- the world has come to the time of the event
+    pub has_reached : HasReached old mid event.time
+    has_reached =
+        let R : Option Note → Type 0 = λ p. IfNone p (Reaches old mid event.time) in
+        let reaches : Reaches old mid event.time = subst R (none_due o more before) reached in
+        reaches opens.unended opens.time (time_limit network events event comes.is.is.range comes.within)
+
+    -- the event may befall it
+    pub open_there : IsOpenTo mid event
+    open_there =
+        let there = has_reached in
+        let time = time_is in
+        let a = comes.is.is in
+        let b = stands_there.is in
+        record {
+          time = sym there.time;
+          early = there.early (elim (cases_lt old.now (amount event.time)) [
+            | inl later ↦ inl (omega (arith, ints, later, time))
+            | inr now ↦ inr (opens.early (let not_past = opens.time in omega (arith, ints, now, time, not_past)))
+          ]);
+          unended = false_from_ne_true mid.ended
+              (λ ended. true≢false (sym ((a.ended (units_of mid.now)).0 ((b.ended (units_of mid.now)).1 (ended, refl))).0 ∙ opens.unended));
+        }
+
+    pub lines_there : mid.lines ≡ old.lines
+    lines_there = stands_there.is.lines ∙ sym comes.is.is.lines
+
+    pub given_there : mid.given ≡ old.given
+    given_there = stands_there.is.given ∙ sym comes.is.is.given
+
+    pub network_there : mid.network ≡ old.network
+    network_there = stands_there.is.same ∙ sym comes.is.is.same
+
+    pub later_there : old.now ≤ mid.now
+    later_there = let there = has_reached in let now = there.time in let not_past = opens.time in omega (arith, ints, now, not_past)
+
+    -- its time is that of the event
+    pub now_there : mid.now ≡ amount event.time
+    now_there = let there = has_reached in ap unsigned_abs there.time
+
+    -- memory ran out there
+    pub again_there : MayApplyAgain old mid event.time
+    again_there =
+        let there = has_reached in
+        let now = there.time in
+        record {
+          same = network_there;
+          lines = lines_there;
+          given = given_there;
+          ended = open_there.unended ∙ sym opens.unended;
+          later = later_there;
+          not_past = omega (arith, ints, now);
+          early = λ at. open_there.early;
+        }

@@ -1,0 +1,98 @@
+-- The values that local clocks show, where the machines' adjustments are small.
+use Rattle.std.proofs.Common.{◌≡◌, ℕ, ◌+◌, ◌^◌, ◌≤◌, ◌<◌, ℤ, Bool, true, false, List, length, Option, inl, inr, refl, sym, ap, subst, ◌∙◌, arith}
+use Rattle.std.specs.Prelude.{IfSome}
+use Rattle.std.proofs.lemmas.Int.{ints}
+use Rattle.clock_correction.specs.Deviation.{IsSmall}
+use Rattle.drift_world.proofs.Agreements.{reads_value}
+use Rattle.net_plan.specs.declared.event.Event.{Event}
+use Rattle.net_plan.specs.declared.ids.DeviceId.{DeviceId}
+use Rattle.net_plan.specs.declared.network.Network.{Network}
+use Rattle.run_law.specs.declared.note.Note.{Note}
+use Rattle.run_law.specs.machines.Nodes.{Node}
+use Rattle.run_law.specs.records.Happenings.{Happening, happenings}
+use Rattle.run_law.specs.scenario.Scenarios.{Scenario, is_broken}
+use Rattle.sync_state.specs.declared.state.State.TheVariants as states
+use Rattle.sync_state.specs.declared.state.State.{State as DeviceState}
+use Rattle.tte_units.specs.declared.units.Units.{Units}
+use Rattle.world_state.specs.Keeping.{keeps}
+use Rattle.world_state.specs.declared.kept.Kept.TheVariants.{Sound, Out}
+use Rattle.world_state.specs.declared.kept.Kept.{Kept}
+use Rattle.drift_world.specs.Locals.{AreSmall, IsComplete, IsLocalValue, Shows, local_shown}
+use Rattle.drift_world.specs.Running.{clock_of, reading_of}
+use Rattle.drift_world.specs.Views.{world_of}
+use Rattle.drift_world.specs.declared.state.State.{State}
+use Rattle.world_law.proofs.giving.Given.{no_later_breaks, some_same}
+use Rattle.world_law.specs.world.World.{HaveBefallen, IsHeld, Stands}
+
+-- the machine of a sound device has a small adjustment
+small_kept : {M : Type 0} (stands : M → Network → DeviceId → Node → Type 0) → AreSmall stands → (kept : Kept M) (network : Network)
+    (device : DeviceId) (node : Node) → keeps stands kept network device node → node.broken ≡ false → IsSmall node.standing.adjustment.0
+small_kept stands small (Sound machine) network device node is sound = small machine network device node is.0
+small_kept stands small (Out state adjustment) network device node is sound = let no : true ≡ false = sym is.0 ∙ sound in absurd cc
+
+-- a sum of a reading of a run and a small adjustment is a local value
+shown_small : (broken : Bool) (state : DeviceState) (reading : ℕ) (adjustment : Units) → reading ≤ 2 ^ 60 + 2 ^ 51
+    → (broken ≡ false → IsSmall adjustment.0) → IfSome (local_shown broken state reading adjustment) IsLocalValue
+shown_small true state reading adjustment low small = tt
+shown_small false states.Synchronised reading adjustment low small =
+    let is = small refl in
+    let least = is.0 in
+    let most = is.1 in
+    record { low = omega (arith, ints, low, least); high = omega (arith, ints, low, most) }
+shown_small false states.Off reading adjustment low small = tt
+shown_small false states.Integrating reading adjustment low small = tt
+shown_small false states.Joining reading adjustment low small = tt
+
+-- what is kept of a device stands for a node of it, with a small adjustment unless it is broken
+small_held : {M : Type 0} (stands : M → Network → DeviceId → Node → Type 0) → AreSmall stands → (s : Scenario) (hs coming : List Happening)
+    (mark cursor : List ℕ) (now : ℕ) (device : DeviceId) (kept : Kept M) → HaveBefallen s mark now
+    → IsHeld (keeps stands) s hs coming cursor now device kept
+    → (node : Node) × keeps stands kept s.network device node × (is_broken s device now ≡ false → IsSmall node.standing.adjustment.0)
+small_held stands small s hs coming mark cursor now device kept befallen (inl k) =
+    let later : now ≤ k.up = elim k.acted [ inl yet ↦ (let at = yet.0 in omega (arith, at)) | inr over ↦ (let at = over.0 in omega (arith, at)) ] in (
+      k.node,
+      k.is,
+      λ sound.
+          small_kept stands small kept s.network device k.node k.is (k.left.counted.broken ∙ no_later_breaks s mark now k.up device befallen later ∙ sound),
+    )
+small_held stands small s hs coming mark cursor now device kept befallen (inr k) =
+    (k.node, k.is, λ sound. (let no : true ≡ false = sym k.broken ∙ sound in absurd cc))
+
+pub local_value : {C M : Type 0} (reading : C → ℕ → ℕ) (stands : M → Network → DeviceId → Node → Type 0) → AreSmall stands → (s : Scenario)
+    (own : Network) (state : State C M) (notes : List Note) (device : DeviceId) (t : ℕ) (shown : Option ℤ)
+    → Stands reading (keeps stands) s (world_of own state) notes → device.0 < length own.device → t ≤ 2 ^ 60
+    → (shows : Shows reading stands state device t shown) → reading shows.clock t ≡ s.reading device t → IfSome shown IsLocalValue
+local_value reading stands small s own state notes device t shown old lt limit shows reads =
+    let hs = happenings s.network notes in
+    let now = state.time in
+    let there : device.0 < length s.network.device = subst (λ (n : Network). device.0 < length n.device) old.same lt in
+    let held = old.devices device there in
+    let same : held.0 ≡ shows.kept = some_same held.0 shows.kept _ held.1 shows.kept_is in
+    let node = small_held stands small s hs old.coming old.mark old.cursor now device held.0 old.befallen held.2 in
+    let is = shows.is s.network node.0 (subst (λ (k : Kept _). keeps stands k s.network device node.0) same node.1) in
+    let broken : is_broken s device now ≡ shows.broken = some_same _ _ _ (old.broken device there) shows.broken_is in
+    let low = (old.steady device).low t limit in
+    subst (λ (o : Option ℤ). IfSome o IsLocalValue) (sym is)
+    (shown_small shows.broken node.0.standing.state (reading shows.clock t) node.0.standing.adjustment
+    (subst (λ (n : ℕ). n ≤ 2 ^ 60 + 2 ^ 51) (sym reads) low) (λ sound. node.2 (broken ∙ sound)))
+
+-- what the clock of a device reads at a time up to which the records are all of the run
+pub complete_reads : {C M : Type 0} (fresh : ℕ → C) (after_step : C → ℕ → ℤ → C) (reading : C → ℕ → ℕ)
+    (stands : M → Network → DeviceId → Node → Type 0) (own : Network) (state : State C M) (t : ℕ) (events : List Event) (notes : List Note)
+    (device : DeviceId) (shown : Option ℤ) → device.0 < length own.device
+    → IsComplete fresh after_step reading stands own (world_of own state) t events notes → (shows : Shows reading stands state device t shown)
+    → reading shows.clock t ≡ reading_of fresh after_step reading own events device t
+complete_reads fresh after_step reading stands own state t events notes device shown lt complete shows =
+    let clock : shows.clock ≡ clock_of fresh after_step own events device = some_same _ _ _ shows.clock_is (complete.is.clocks device lt) in
+    ap (λ c. reading c t) clock ∙ sym (reads_value fresh after_step reading own events device t complete.past)
+
+-- what it reads at the present time
+pub now_reads : {C M : Type 0} (reading : C → ℕ → ℕ) (stands : M → Network → DeviceId → Node → Type 0) (s : Scenario) (own : Network)
+    (state : State C M) (notes : List Note) (device : DeviceId) (t : ℕ) (shown : Option ℤ)
+    → Stands reading (keeps stands) s (world_of own state) notes → device.0 < length own.device → t ≡ state.time
+    → (shows : Shows reading stands state device t shown) → reading shows.clock t ≡ s.reading device t
+now_reads reading stands s own state notes device t shown old lt at shows =
+    let there : device.0 < length s.network.device = subst (λ (n : Network). device.0 < length n.device) old.same lt in
+    let own_clock = old.clocks device there in
+    let clock : own_clock.0 ≡ shows.clock = some_same _ _ _ own_clock.1 shows.clock_is in
+    ap (λ c. reading c t) (sym clock) ∙ sym (own_clock.2 t (omega (arith, at)))

@@ -1,0 +1,96 @@
+use Rattle.std.proofs.Common.{ℕ, ◌<◌, ◌≤◌, ◌^◌, ◌∙◌, length, inl, inr, sym, ap, subst, arith}
+use Rattle.std.proofs.lemmas.Int.{ints}
+use Rattle.run_law.specs.records.Happenings.{happenings}
+use Rattle.schedule_tables.proofs.EntryLemmas.{all_at}
+use Rattle.tte_units.specs.Amount.{amount}
+use Rattle.drift_world.proofs.LocalValues.{complete_reads, local_value, now_reads}
+use Rattle.drift_world.proofs.Locals.{clock_stepped, local_is}
+use Rattle.drift_world.proofs.LocalsBefore.{local_is_before}
+use Rattle.drift_world.specs.Locals.{IsComplete, IsLocalClockBefore}
+use Rattle.drift_world.specs.Running.{StandsUnder, reading_of}
+use Rattle.world_state.specs.Keeping.{keeps}
+use Rattle.world_state.specs.declared.kept.Kept.{Kept}
+use Rattle.world_law.proofs.giving.Given.{some_same}
+use Rattle.world_law.specs.source.Agreeing.{scenario}
+use Rattle.world_law.specs.world.World.{Stands, World}
+use Rattle.drift_world.proofs.world.World.local_at.Given as given
+use Rattle.drift_world.proofs.world.World.local_at.Goals as goal
+
+pub local_of-requires-clause-stepped : goal.local_of-requires-clause-stepped
+local_of-requires-clause-stepped g c = λ clock found.
+    let K = g.C.Clock in
+    let world = c.args.self.now in
+    let network = world.network in
+    let device = c.args.device in
+    let state = c.self.inside.state in
+    let begun = c.requires.begun in
+    elim c.requires.may.may [
+      | inl may ↦
+          let was = may.is.is.clocks device c.requires.there in
+          let viewed = ap (λ (w : World _ (Kept _)). Rattle.std.specs.List.slice_get w.clocks device.0) c.self.view_is in
+          let same = some_same _ _ _ found (viewed ∙ was) in
+          let least = clock_stepped K.fresh K.after_step K.last_step g.met.C.Clock.begins_unstepped g.met.C.Clock.steps_by network may.events device
+          (amount c.args.t) may.is.past in
+          let le : K.last_step clock ≤ amount c.args.t = subst (λ k. K.last_step k ≤ amount c.args.t) (sym same) least in
+          omega (arith, ints, le, begun)
+      | inr now ↦
+          let least = all_at (λ k. K.last_step k ≤ state.time) state.clocks.items device.0 clock c.self.invariant.sound.sized.stepped found in
+          let at = now.0 ∙ sym (ap (λ (w : World _ (Kept _)). w.now) c.self.view_is) in
+          omega (arith, ints, least, at, begun)
+    ]
+
+-- the device is one of the network
+there : (g : given.Over) (c : goal.After-local_of g) → c.args.device.0 < length c.self.inside.accepted.now.device
+there g c = subst (λ (w : World _ (Kept _)). c.args.device.0 < length w.network.device) (sym c.self.view_is) c.requires.there
+
+pub returns-clause-local : goal.returns-clause-local
+returns-clause-local g c = λ network events notes complete.
+    let K = g.C.Clock in
+    let own = c.self.inside.accepted.now in
+    local_is K.fresh K.after_step K.reading g.M.Machine.stands own network c.self.inside.state (amount c.args.t) events notes c.args.device c.local_of.result
+    (there g c)
+    (subst (λ (w : World _ (Kept _)). IsComplete K.fresh K.after_step K.reading g.M.Machine.stands network w (amount c.args.t) events notes) (sym c.self.view_is)
+    complete)
+    c.local_of.ensures.shows
+
+pub returns-clause-before : goal.returns-clause-before
+returns-clause-before g c = λ network events notes under now.
+    let K = g.C.Clock in
+    let S = g.M.Machine.stands in
+    let own = c.self.inside.accepted.now in
+    let state = c.self.inside.state in
+    let s = scenario network (reading_of K.fresh K.after_step K.reading network events) events in
+    let viewed = ap (λ (w : World _ (Kept _)). w.now) c.self.view_is in
+    subst (λ (n : ℕ). IsLocalClockBefore s (happenings network notes) c.args.device n c.local_of.result) (viewed ∙ sym now.0)
+    (local_is_before K.reading S s own state notes c.args.device (amount c.args.t) c.local_of.result
+    (subst (λ (w : World _ (Kept _)). Stands K.reading (keeps S) s w notes) (sym c.self.view_is) under.is)
+    (ap (λ (w : World _ (Kept _)). w.early) c.self.view_is ∙ now.1) (there g c) (now.0 ∙ sym viewed)
+    c.local_of.ensures.shows)
+
+pub returns-clause-small : goal.returns-clause-small
+returns-clause-small g c = λ small.
+    let K = g.C.Clock in
+    let S = g.M.Machine.stands in
+    let own = c.self.inside.accepted.now in
+    let state = c.self.inside.state in
+    let shows = c.local_of.ensures.shows in
+    let begun = c.requires.begun in
+    let most = c.requires.limit in
+    let limit : amount c.args.t ≤ 2 ^ 60 = omega (arith, ints, begun, most) in
+    elim c.requires.may.may [
+      | inl may ↦
+          let complete = subst (λ (w : World _ (Kept _)). IsComplete K.fresh K.after_step K.reading S w.network w (amount c.args.t) may.events may.notes)
+          (sym c.self.view_is) may.is in
+          local_value K.reading S small (scenario own (reading_of K.fresh K.after_step K.reading own may.events) may.events) own state may.notes
+          c.args.device (amount c.args.t) c.local_of.result complete.is.is (there g c) limit shows
+          (complete_reads K.fresh K.after_step K.reading S own state (amount c.args.t) may.events may.notes c.args.device c.local_of.result (there g c) complete
+          shows)
+      | inr now ↦
+          let may = now.1 in
+          let under = subst (λ (w : World _ (Kept _)). StandsUnder K.fresh K.after_step K.reading S w.network w may.events may.notes) (sym c.self.view_is) may.is
+          in
+          let s = scenario own (reading_of K.fresh K.after_step K.reading own may.events) may.events in
+          local_value K.reading S small s own state may.notes c.args.device (amount c.args.t) c.local_of.result under.is (there g c) limit shows
+          (now_reads K.reading S s own state may.notes c.args.device (amount c.args.t) c.local_of.result under.is (there g c)
+          (now.0 ∙ sym (ap (λ (w : World _ (Kept _)). w.now) c.self.view_is)) shows)
+    ]

@@ -1,0 +1,37 @@
+use Rattle.std.proofs.Common.{ℕ, ◌<◌, ◌≤◌, ◌∙◌, length, sym, ap, subst, arith}
+use Rattle.std.proofs.lemmas.Int.{ints}
+use Rattle.run_law.specs.records.Happenings.{happenings}
+use Rattle.schedule_tables.proofs.EntryLemmas.{all_at}
+use Rattle.tte_units.specs.Amount.{amount}
+use Rattle.drift_world.proofs.LocalsBefore.{local_is_before}
+use Rattle.drift_world.specs.Locals.{IsLocalClockBefore}
+use Rattle.drift_world.specs.Running.{reading_of}
+use Rattle.world_state.specs.Keeping.{keeps}
+use Rattle.world_state.specs.declared.kept.Kept.{Kept}
+use Rattle.world_law.specs.source.Agreeing.{scenario}
+use Rattle.world_law.specs.world.World.{Stands, World}
+use Rattle.drift_world.proofs.world.World.local_before.Goals as goal
+
+pub local_of-requires-clause-stepped : goal.local_of-requires-clause-stepped
+local_of-requires-clause-stepped g c = λ clock found.
+    let K = g.C.Clock in
+    let state = c.self.inside.state in
+    let least = all_at (λ k. K.last_step k ≤ state.time) state.clocks.items c.args.device.0 clock c.self.invariant.sound.sized.stepped found in
+    let is = c.from_amount-now.ensures.whole in
+    omega (arith, ints, least, is)
+
+pub returns-clause-local : goal.returns-clause-local
+returns-clause-local g c = λ network events notes under early.
+    let K = g.C.Clock in
+    let S = g.M.Machine.stands in
+    let own = c.self.inside.accepted.now in
+    let state = c.self.inside.state in
+    let s = scenario network (reading_of K.fresh K.after_step K.reading network events) events in
+    subst (λ (n : ℕ). IsLocalClockBefore s (happenings network notes) c.args.device n c.local_of.result)
+    (ap (λ (w : World _ (Kept _)). w.now) c.self.view_is)
+    (local_is_before K.reading S s own state notes c.args.device (amount c.from_amount-now.result) c.local_of.result
+    (subst (λ (w : World _ (Kept _)). Stands K.reading (keeps S) s w notes) (sym c.self.view_is) under.is)
+    (ap (λ (w : World _ (Kept _)). w.early) c.self.view_is ∙ early)
+    (subst (λ (w : World _ (Kept _)). c.args.device.0 < length w.network.device) (sym c.self.view_is) c.requires.there)
+    (ap amount c.from_amount-now.ensures.value)
+    c.local_of.ensures.shows)

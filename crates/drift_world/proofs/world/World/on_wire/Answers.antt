@@ -1,0 +1,18 @@
+use Rattle.std.proofs.Common.{subst, sym, ap}
+use Rattle.drift_world.proofs.JustPut.{shown_put}
+use Rattle.drift_world.specs.Running.{StandsUnder}
+use Rattle.drift_world.specs.Wires.{IsOfNow}
+use Rattle.run_law.specs.records.Happenings.{happenings}
+use Rattle.world_law.specs.world.World.{World}
+use Rattle.world_state.specs.declared.kept.Kept.{Kept}
+use Rattle.drift_world.proofs.world.World.on_wire.Goals as goal
+
+pub returns : goal.returns
+returns g c = λ network events notes h stands of within.
+    let K = g.C.Clock in
+    let own = c.self.inside.accepted.now in
+    let state = c.self.inside.state in
+    shown_put K.fresh K.after_step K.reading g.M.Machine.stands own network state events notes c.args.number h c.self.invariant.sound.under_way
+    (subst (λ (w : World _ (Kept _)). StandsUnder K.fresh K.after_step K.reading g.M.Machine.stands network w events notes) (sym c.self.view_is) stands)
+    (subst (λ (w : World _ (Kept _)). IsOfNow (happenings network notes) w.now c.args.number h) (sym c.self.view_is) of) within c.find.result
+    c.find.ensures.found c.find.ensures.none c.signal_in.result c.signal_in.ensures
