@@ -1,0 +1,106 @@
+-- Where the records stand that a world gives one after another.
+use Rattle.std.proofs.Common.{◌≡◌, ℕ, suc, ◌≤◌, ◌<◌, pos, ◌+ℤ◌, ◌<ℤ◌, true, false, List, [], ◌∷◌, ◌++◌, length-append, Some, slice_get, inl, inr, refl, sym, ap, subst, arith}
+use Rattle.std.proofs.lemmas.Bool.{cases_Bool, cases_lt}
+use Rattle.std.proofs.lemmas.Int.{ints}
+use Rattle.std.proofs.lemmas.List.{append-nil}
+use Rattle.drift_world.specs.Running.{left_of}
+use Rattle.exact_runs.specs.Records.{AreRecordsBefore, clock_reading}
+use Rattle.exact_runs.specs.Worlds.{ExactWorld, StandsExact}
+use Rattle.net_plan.specs.declared.event.Event.{Event}
+use Rattle.net_plan.specs.declared.network.Network.{Network}
+use Rattle.run_law.proofs.runs.NetworkRuns.{one_more}
+use Rattle.run_law.proofs.runs.Places.{never_self}
+use Rattle.run_law.specs.declared.note.Note.{Note}
+use Rattle.run_law.specs.records.Happenings.{Happening, happening, happenings, time_of}
+use Rattle.run_law.specs.records.Order.{IsBefore, IsIn}
+use Rattle.run_law.specs.records.Ranks.{place_of}
+use Rattle.run_law.specs.runs.DueRecords.{IsScenarioRun}
+use Rattle.run_law.specs.scenario.Scenarios.{Scenario}
+use Rattle.tte_units.specs.Amount.{amount, units_of}
+use Rattle.tte_units.specs.declared.units.Units.{Units}
+use Rattle.world_law.specs.source.Agreeing.{scenario}
+
+-- the last record with its frame
+abbrev pub last_of : Network → List Note → Note → Happening
+last_of network notes note = happening network (happenings network notes) note
+
+-- ---- where the next record stands
+
+-- it is not before a mark up to which the records are the run
+not_marked : (s : Scenario) (notes : List Note) (note : Note) (mark later : List ℕ) → IsScenarioRun s mark notes → IsScenarioRun s later (notes ++ note ∷ [])
+    → IsBefore (place_of (last_of s.network notes note)) mark → ⊥
+not_marked s notes note mark later run more before =
+    let hs = happenings s.network notes in
+    let y = last_of s.network notes note in
+    let founded = more.founded hs [] y (one_more s.network notes note) in
+    let other = run.full hs [] y (sym (append-nil hs)) founded.0 (λ h i. absurd i) founded.1 before in
+    never_self (place_of y) (subst (λ (p : List ℕ). IsBefore p (place_of y)) other.2 (founded.0 other.0 other.1))
+
+-- so it is not before the world's time
+pub given_from : (network : Network) (events : List Event) (notes : List Note) (note : Note) (world next : ExactWorld) → StandsExact network world events notes
+    → StandsExact network next events (notes ++ note ∷ []) → world.now ≤ amount note.time
+given_from network events notes note world next a b = elim (cases_lt (amount note.time) world.now) [
+  | inl lt ↦
+      let s = scenario network (clock_reading network events) events in
+      let y = last_of network notes note in
+      absurd (not_marked s notes note a.is.mark b.is.mark a.is.run b.is.run (a.is.of_now (place_of y) (inl lt)))
+  | inr le ↦ le
+]
+
+-- nor before a time up to which the records are all
+pub given_behind : (network : Network) (events : List Event) (notes : List Note) (note : Note) (next : ExactWorld) (time : ℕ)
+    → AreRecordsBefore network events (time ∷ []) notes → StandsExact network next events (notes ++ note ∷ []) → time ≤ amount note.time
+given_behind network events notes note next time all b = elim (cases_lt (amount note.time) time) [
+  | inl lt ↦ absurd (not_marked (scenario network (clock_reading network events) events) notes note (time ∷ []) b.is.mark all b.is.run (inl lt))
+  | inr le ↦ le
+]
+
+-- no record is later than the world's time
+pub none_behind : (network : Network) (events : List Event) (notes : List Note) (world : ExactWorld) → StandsExact network world events notes → (h : Happening)
+    → IsIn h (happenings network notes) → time_of h ≤ world.now
+none_behind network events notes world a h i = elim (a.is.not_later (place_of h) (a.is.ahead (place_of h) (a.is.run.within h i))) [
+  | inl lt ↦ omega (arith, lt)
+  | inr bad ↦ absurd bad.1
+]
+
+-- a record that is given before the time behind the world's is of the world's time
+pub stays_now : (network : Network) (events : List Event) (notes : List Note) (note : Note) (world next : ExactWorld) (until : Units)
+    → StandsExact network world events notes → StandsExact network next events (notes ++ note ∷ []) → note.time ≡ units_of next.now
+    → pos next.now <ℤ until.0 → until.0 ≡ pos world.now +ℤ pos 1 → next.now ≡ world.now
+stays_now network events notes note world next until a b at lt after =
+    let now : amount note.time ≡ next.now = ap amount at in
+    let first = given_from network events notes note world next a b in
+    omega (arith, ints, now, first, lt, after)
+
+-- ---- the end
+
+-- after the end the time stays
+pub end_stays : (network : Network) (world next : ExactWorld) (events : List Event) (notes others : List Note) → StandsExact network world events notes
+    → StandsExact network next events others → world.ended ≡ true → (next.ended ≡ true) × (next.now ≡ world.now)
+end_stays network world next events notes others a b ended =
+    let at = (b.is.ended (units_of world.now)).0 ((a.is.ended (units_of world.now)).1 (ended, refl)) in (at.0, omega (arith, ints, at.1))
+
+pub unended_before : (network : Network) (events : List Event) (notes others : List Note) (world next : ExactWorld) → StandsExact network world events notes
+    → StandsExact network next events others → next.ended ≡ false → world.ended ≡ false
+unended_before network events notes others world next a b open_ = elim (cases_Bool world.ended) [
+  | inl ended ↦ let over = (end_stays network world next events notes others a b ended).0 in absurd cc
+  | inr still ↦ still
+]
+
+-- ---- numbers
+
+-- more records leave fewer numbers
+pub fewer : (network : Network) (events others : List Event) (notes more : List Note) (note : Note) (world next : ExactWorld)
+    → StandsExact network world events notes → StandsExact network next others ((notes ++ note ∷ []) ++ more) → left_of next < left_of world
+fewer network events others notes more note world next a b =
+    let room = b.is.room in
+    let old = a.is.given in
+    let new = b.is.given in
+    let longer = length-append (notes ++ note ∷ []) more in
+    let long = length-append notes (note ∷ []) in
+    omega (arith, room, old, new, longer, long)
+
+pub in_slice : {X : Type 0} (x : X) (xs : List X) → IsIn x xs → (i : ℕ) × (slice_get xs i ≡ Some x)
+in_slice x [] i = absurd i
+in_slice x (y ∷ ys) (inl same) = (0, ap Some (sym same))
+in_slice x (y ∷ ys) (inr more) = let at = in_slice x ys more in (suc at.0, at.1)

@@ -1,0 +1,4 @@
+pub mod Sources
+pub mod Observing
+pub mod Seeing
+pub mod Driving

@@ -1,0 +1,21 @@
+ghost use Rattle.std.specs.Prelude.{◌≡◌, true, [], IfOk};
+ghost use Rattle.exact_runs.specs.Worlds.{StandsExact};
+
+use device_machines::machines_of;
+use drift_world::{OutOfMemory, World};
+use exact_runs::ExactWorld;
+use schedule_tables::Accepted;
+use std::alloc::Global;
+
+/// The world of a network at time 0, which nothing has befallen.
+///
+/// The error is that memory ran out.
+pub fn begin_world<'a>(alloc: Global, accepted: &'a Accepted) -> Result<ExactWorld<'a>, OutOfMemory>
+    ensures stands { IfOk result (λ world. StandsExact accepted.now world [] []) }
+    ensures fresh { IfOk result (λ world. (world.now ≡ 0) × (world.early ≡ true)) }
+{
+    let Ok(machines) = machines_of(alloc, accepted) else {
+        return Err(OutOfMemory);
+    };
+    World::begin(alloc, accepted, machines)
+}

@@ -1,0 +1,64 @@
+ghost use Rattle.std.specs.Prelude.{◌≡◌, true, [], None};
+ghost use Rattle.exact_runs.specs.Worlds.{StandsExact};
+ghost use Rattle.net_plan.specs.Ranges.{IsInRange};
+ghost use Rattle.world_drive.specs.Driving.{Drives};
+ghost use Rattle.world_drive.specs.Observing.{start_by, told_by};
+
+use crate::observing::{Cut, Observer};
+use crate::seeing::{next_unit, see_event, see_until};
+use crate::sources::Events;
+use exact_runs::ExactWorld;
+use net_plan::Network;
+use tte_io::Sink;
+use tte_units::Units;
+
+/// How a drive ended.
+#[derive(Drop)]
+pub enum Drove<S> {
+    /// All events befell the world, and all records of its run were seen.
+    All,
+    /// The source stopped for the cause, and all records up to that of the last event were seen.
+    Stopped(S),
+    /// What was to be put could not be, or memory ran out.
+    Cut(Cut),
+}
+
+/// Lets the events of a source, which takes them from `from`, befall a world that nothing has befallen. An observer
+/// sees them and all records of the run.
+pub fn drive<B, K: Sink, S, E: Events<B, K, S>, O: Observer<K>>(
+    source: &mut E,
+    from: &mut B,
+    world: &mut ExactWorld<'_>,
+    network: &Network,
+    observer: &mut O,
+    out: &mut K,
+) -> Drove<S>
+    requires in_range { IsInRange network.now }
+    requires world { StandsExact network.now world.old [] [] }
+    requires fresh { (world.old.now ≡ 0) × (world.old.early ≡ true) }
+    requires source { E.gave network.now from.old source.old [] from.old source.old }
+    requires observer { O.sees network.now [] [] None (start_by K.Sink out.old observer.old) (told_by K.Sink out.old) observer.old }
+    ensures { Drives K.Sink E.gave E.ended E.stopped O.sees O.stops network.now from.old source.old result
+        from.new source.new world.new observer.old observer.new out.old out.new }
+{
+    let mut time = Units(0);
+    let mut line: u64 = 0;
+    'events: loop {
+        match source.next_event(from, out) {
+            Ok(Some(event)) => {
+                line += 1;
+                match see_event(world, network, line, &event, observer, out) {
+                    Ok(()) => time = event.time,
+                    Err(cut) => return Drove::Cut(cut),
+                }
+            }
+            Ok(None) => {
+                return match see_until(world, network, next_unit(time), observer, out) {
+                    Ok(()) => Drove::All,
+                    Err(cut) => Drove::Cut(cut),
+                };
+            }
+            Err(stop) => return Drove::Stopped(stop),
+        }
+    }
+}
